@@ -1,0 +1,5 @@
+pub mod FieldsLemmas
+pub mod Forms
+pub mod OptionWords
+pub mod Named
+pub mod OneLine

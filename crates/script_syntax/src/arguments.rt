@@ -1,0 +1,239 @@
+// What stands behind the first word of a line.
+ghost use Rattle.std.specs.Prelude.{◌≡◌, ◌∷◌, ◌++◌, IfOk, IfErr, codes};
+ghost use Rattle.script_syntax.specs.declared.keyword.Keyword.TheVariants as keyword;
+ghost use Rattle.script_syntax.specs.Syntax.{Reads};
+ghost use Rattle.script_syntax.specs.Fields.{Fields, fields_of};
+
+use crate::parts::{file_of, name_of, three_words, vars_of, word_of};
+use crate::{Command, LineRefusal};
+use line_parts::{cut_word, is_same, number};
+use span_types::ByteList;
+use std::alloc::Global;
+
+/// `NAME BYTES`
+pub fn text_of(alloc: Global, args: &[u8]) -> Result<Command, LineRefusal>
+    ensures ok { IfOk result (λ command. Reads (codes "text " ++ args.now) command) }
+    ensures syntax { IfErr result (λ why. why ≡ LineRefusal.Syntax → Fields (fields_of keyword.Text) args.now → ⊥) }
+{
+    let Some((name, bytes)) = cut_word(args) else {
+        return Err(LineRefusal::Syntax);
+    };
+    let name = name_of(alloc, name)?;
+    let bytes = ByteList::new(alloc, bytes)?;
+    Ok(Command::Text { name, bytes })
+}
+
+/// `NAME FORMULA`
+pub fn query_of(alloc: Global, args: &[u8]) -> Result<Command, LineRefusal>
+    ensures ok { IfOk result (λ command. Reads (codes "query " ++ args.now) command) }
+    ensures syntax { IfErr result (λ why. why ≡ LineRefusal.Syntax → Fields (fields_of keyword.Query) args.now → ⊥) }
+{
+    let Some((name, formula)) = cut_word(args) else {
+        return Err(LineRefusal::Syntax);
+    };
+    let name = name_of(alloc, name)?;
+    let formula = ByteList::new(alloc, formula)?;
+    Ok(Command::Query { name, formula })
+}
+
+/// `NAME FILE`
+pub fn load_of(alloc: Global, args: &[u8]) -> Result<Command, LineRefusal>
+    ensures ok { IfOk result (λ command. Reads (codes "load " ++ args.now) command) }
+    ensures syntax { IfErr result (λ why. why ≡ LineRefusal.Syntax → Fields (fields_of keyword.Load) args.now → ⊥) }
+{
+    let Some((name, file)) = cut_word(args) else {
+        return Err(LineRefusal::Syntax);
+    };
+    let name = name_of(alloc, name)?;
+    let file = file_of(alloc, file)?;
+    Ok(Command::LoadFile { name, file })
+}
+
+/// `NAME = EXPR`
+pub fn let_of(alloc: Global, args: &[u8]) -> Result<Command, LineRefusal>
+    ensures ok { IfOk result (λ command. Reads (codes "let " ++ args.now) command) }
+    ensures syntax { IfErr result (λ why. why ≡ LineRefusal.Syntax → Fields (fields_of keyword.Let) args.now → ⊥) }
+{
+    let Some((name, sign, expr)) = three_words(args) else {
+        return Err(LineRefusal::Syntax);
+    };
+    if !is_same(sign, b"=") {
+        return Err(LineRefusal::Syntax);
+    }
+    let name = name_of(alloc, name)?;
+    let expr = ByteList::new(alloc, expr)?;
+    Ok(Command::LetDoc { name, expr })
+}
+
+/// `NAME NUM NUM`
+pub fn show_of(alloc: Global, args: &[u8]) -> Result<Command, LineRefusal>
+    ensures ok { IfOk result (λ command. Reads (codes "show " ++ args.now) command) }
+    ensures syntax { IfErr result (λ why. why ≡ LineRefusal.Syntax → Fields (fields_of keyword.Show) args.now → ⊥) }
+{
+    let Some((name, from, to)) = three_words(args) else {
+        return Err(LineRefusal::Syntax);
+    };
+    let Some(from) = number(from) else {
+        return Err(LineRefusal::Syntax);
+    };
+    let Some(to) = number(to) else {
+        return Err(LineRefusal::Syntax);
+    };
+    let name = name_of(alloc, name)?;
+    Ok(Command::Show { name, from, to })
+}
+
+/// `NAME NAME`
+pub fn test_of(alloc: Global, args: &[u8]) -> Result<Command, LineRefusal>
+    ensures ok { IfOk result (λ command. Reads (codes "test " ++ args.now) command) }
+    ensures syntax { IfErr result (λ why. why ≡ LineRefusal.Syntax → Fields (fields_of keyword.Test) args.now → ⊥) }
+{
+    let Some((query, name)) = cut_word(args) else {
+        return Err(LineRefusal::Syntax);
+    };
+    let query = name_of(alloc, query)?;
+    let name = name_of(alloc, name)?;
+    Ok(Command::Nonempty { query, name })
+}
+
+/// `NAME NAME WORD`
+pub fn has_of(alloc: Global, args: &[u8]) -> Result<Command, LineRefusal>
+    ensures ok { IfOk result (λ command. Reads (codes "has " ++ args.now) command) }
+    ensures syntax { IfErr result (λ why. why ≡ LineRefusal.Syntax → Fields (fields_of keyword.Has) args.now → ⊥) }
+{
+    let Some((query, name, tuple)) = three_words(args) else {
+        return Err(LineRefusal::Syntax);
+    };
+    let query = name_of(alloc, query)?;
+    let name = name_of(alloc, name)?;
+    let tuple = word_of(alloc, tuple)?;
+    Ok(Command::Has { query, name, tuple })
+}
+
+/// `NAME NAME NAME`
+pub fn union_of(alloc: Global, args: &[u8]) -> Result<Command, LineRefusal>
+    ensures ok { IfOk result (λ command. Reads (codes "union " ++ args.now) command) }
+    ensures syntax { IfErr result (λ why. why ≡ LineRefusal.Syntax → Fields (fields_of keyword.Union) args.now → ⊥) }
+{
+    let Some((name, left, right)) = three_words(args) else {
+        return Err(LineRefusal::Syntax);
+    };
+    let name = name_of(alloc, name)?;
+    let left = name_of(alloc, left)?;
+    let right = name_of(alloc, right)?;
+    Ok(Command::UnionQuery { name, left, right })
+}
+
+/// `NAME NAME NAME`
+pub fn join_of(alloc: Global, args: &[u8]) -> Result<Command, LineRefusal>
+    ensures ok { IfOk result (λ command. Reads (codes "join " ++ args.now) command) }
+    ensures syntax { IfErr result (λ why. why ≡ LineRefusal.Syntax → Fields (fields_of keyword.Join) args.now → ⊥) }
+{
+    let Some((name, left, right)) = three_words(args) else {
+        return Err(LineRefusal::Syntax);
+    };
+    let name = name_of(alloc, name)?;
+    let left = name_of(alloc, left)?;
+    let right = name_of(alloc, right)?;
+    Ok(Command::JoinQuery { name, left, right })
+}
+
+/// `NAME NAME VARS`
+pub fn project_of(alloc: Global, args: &[u8]) -> Result<Command, LineRefusal>
+    ensures ok { IfOk result (λ command. Reads (codes "project " ++ args.now) command) }
+    ensures syntax { IfErr result (λ why. why ≡ LineRefusal.Syntax → Fields (fields_of keyword.Project) args.now → ⊥) }
+{
+    let Some((name, source, keep)) = three_words(args) else {
+        return Err(LineRefusal::Syntax);
+    };
+    let name = name_of(alloc, name)?;
+    let source = name_of(alloc, source)?;
+    let keep = vars_of(alloc, keep)?;
+    Ok(Command::ProjectQuery { name, source, keep })
+}
+
+/// `NAME`
+pub fn drop_of(alloc: Global, args: &[u8]) -> Result<Command, LineRefusal>
+    ensures ok { IfOk result (λ command. Reads (codes "drop " ++ args.now) command) }
+    ensures syntax { IfErr result (λ why. why ≡ LineRefusal.Syntax → Fields (fields_of keyword.Drop) args.now → ⊥) }
+{
+    let name = name_of(alloc, args)?;
+    Ok(Command::DropDoc { name })
+}
+
+/// `NAME`
+pub fn unquery_of(alloc: Global, args: &[u8]) -> Result<Command, LineRefusal>
+    ensures ok { IfOk result (λ command. Reads (codes "unquery " ++ args.now) command) }
+    ensures syntax { IfErr result (λ why. why ≡ LineRefusal.Syntax → Fields (fields_of keyword.Unquery) args.now → ⊥) }
+{
+    let name = name_of(alloc, args)?;
+    Ok(Command::Unquery { name })
+}
+
+/// `NAME`
+pub fn mark_of(alloc: Global, args: &[u8]) -> Result<Command, LineRefusal>
+    ensures ok { IfOk result (λ command. Reads (codes "mark " ++ args.now) command) }
+    ensures syntax { IfErr result (λ why. why ≡ LineRefusal.Syntax → Fields (fields_of keyword.Mark) args.now → ⊥) }
+{
+    let name = name_of(alloc, args)?;
+    Ok(Command::MarkDocs { name })
+}
+
+/// `NAME`
+pub fn unmark_of(alloc: Global, args: &[u8]) -> Result<Command, LineRefusal>
+    ensures ok { IfOk result (λ command. Reads (codes "unmark " ++ args.now) command) }
+    ensures syntax { IfErr result (λ why. why ≡ LineRefusal.Syntax → Fields (fields_of keyword.Unmark) args.now → ⊥) }
+{
+    let name = name_of(alloc, args)?;
+    Ok(Command::UnmarkDocs { name })
+}
+
+/// `NAME`
+pub fn back_of(alloc: Global, args: &[u8]) -> Result<Command, LineRefusal>
+    ensures ok { IfOk result (λ command. Reads (codes "back " ++ args.now) command) }
+    ensures syntax { IfErr result (λ why. why ≡ LineRefusal.Syntax → Fields (fields_of keyword.Back) args.now → ⊥) }
+{
+    let name = name_of(alloc, args)?;
+    Ok(Command::BackDocs { name })
+}
+
+/// `FILE`
+pub fn save_of(alloc: Global, args: &[u8]) -> Result<Command, LineRefusal>
+    ensures ok { IfOk result (λ command. Reads (codes "save " ++ args.now) command) }
+    ensures syntax { IfErr result (λ why. why ≡ LineRefusal.Syntax → Fields (fields_of keyword.Save) args.now → ⊥) }
+{
+    let file = file_of(alloc, args)?;
+    Ok(Command::SaveFile { file })
+}
+
+/// `FILE`
+pub fn open_of(alloc: Global, args: &[u8]) -> Result<Command, LineRefusal>
+    ensures ok { IfOk result (λ command. Reads (codes "open " ++ args.now) command) }
+    ensures syntax { IfErr result (λ why. why ≡ LineRefusal.Syntax → Fields (fields_of keyword.Open) args.now → ⊥) }
+{
+    let file = file_of(alloc, args)?;
+    Ok(Command::OpenFile { file })
+}
+
+/// `NAME NAME NAME NAME`
+pub fn replace_of(alloc: Global, args: &[u8]) -> Result<Command, LineRefusal>
+    ensures ok { IfOk result (λ command. Reads (codes "replace " ++ args.now) command) }
+    ensures syntax { IfErr result (λ why. why ≡ LineRefusal.Syntax → Fields (fields_of keyword.Replace) args.now → ⊥) }
+{
+    let Some((name, query, rest)) = three_words(args) else {
+        return Err(LineRefusal::Syntax);
+    };
+    let Some((source, by)) = cut_word(rest) else {
+        return Err(LineRefusal::Syntax);
+    };
+    let name = name_of(alloc, name)?;
+    let query = name_of(alloc, query)?;
+    let source = name_of(alloc, source)?;
+    let by = name_of(alloc, by)?;
+    Ok(Command::ReplaceDoc {
+        name,
+        query,
+        source,
+        by,
+    })
+}

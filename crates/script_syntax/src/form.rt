@@ -1,0 +1,121 @@
+// What a line may ask for.
+use span_types::{ByteList, Name};
+
+/// A line of a script, read. Names and bytes are kept as they stand in the line.
+#[derive(Drop)]
+pub enum Command {
+    /// An empty line, or a comment: a line that begins with `#`.
+    Nothing,
+    /// `text NAME BYTES`: the document gets these bytes.
+    Text {
+        name: Name,
+        bytes: ByteList,
+    },
+    /// `load NAME FILE`: the document gets the bytes of the file.
+    LoadFile {
+        name: Name,
+        file: ByteList,
+    },
+    /// `let NAME = EXPR`: the document gets the value of the expression, which is any bytes here.
+    LetDoc {
+        name: Name,
+        expr: ByteList,
+    },
+    /// `drop NAME`: takes the document out.
+    DropDoc {
+        name: Name,
+    },
+    /// `names`: lists the documents.
+    Names,
+    /// `show NAME NUM NUM`: the bytes from position `from` up to position `to`, which is not
+    /// part of them. Positions count from 1.
+    Show {
+        name: Name,
+        from: u64,
+        to: u64,
+    },
+    /// `query NAME FORMULA`: registers a query.
+    Query {
+        name: Name,
+        formula: ByteList,
+    },
+    /// `unquery NAME`: takes the query out.
+    Unquery {
+        name: Name,
+    },
+    /// `list NAME NAME`, then perhaps `after WORD`, then perhaps `limit NUM`: answers of a query
+    /// on a document, those after a tuple, at most `limit` of them. The limit is 1 to 10,000, and
+    /// 100 where the line has none.
+    List {
+        query: Name,
+        name: Name,
+        after: Option<ByteList>,
+        limit: u16,
+    },
+    /// `test NAME NAME`: whether a query has an answer on a document.
+    Nonempty {
+        query: Name,
+        name: Name,
+    },
+    /// `has NAME NAME WORD`: whether a query has this answer on a document.
+    Has {
+        query: Name,
+        name: Name,
+        tuple: ByteList,
+    },
+    /// `save FILE`: writes an image of all documents.
+    SaveFile {
+        file: ByteList,
+    },
+    /// `open FILE`: reads an image in place of all documents.
+    OpenFile {
+        file: ByteList,
+    },
+    /// `union NAME NAME NAME`: registers the union of two queries.
+    UnionQuery {
+        name: Name,
+        left: Name,
+        right: Name,
+    },
+    /// `join NAME NAME NAME`: registers the natural join of two queries.
+    JoinQuery {
+        name: Name,
+        left: Name,
+        right: Name,
+    },
+    /// `project NAME NAME VARS`: registers a query that keeps some variables of another. `keep`
+    /// is `()`, or one or more names with a comma between each two.
+    ProjectQuery {
+        name: Name,
+        source: Name,
+        keep: ByteList,
+    },
+    /// `listall NAME`, then perhaps `limit NUM`: the answers of a query on each document, with
+    /// the limit of `List`.
+    ListAll {
+        query: Name,
+        limit: u16,
+    },
+    /// `replace NAME NAME NAME NAME`: the document `name` gets the text of `source`, in which the
+    /// text of `by` stands for the spans that the query chooses.
+    ReplaceDoc {
+        name: Name,
+        query: Name,
+        source: Name,
+        by: Name,
+    },
+    /// `mark NAME`: keeps the documents as a version.
+    MarkDocs {
+        name: Name,
+    },
+    /// `unmark NAME`: takes the version out.
+    UnmarkDocs {
+        name: Name,
+    },
+    /// `back NAME`: makes the documents those of the version.
+    BackDocs {
+        name: Name,
+    },
+    /// `compact`: drops what no document and no version reaches.
+    Compact,
+}

@@ -1,0 +1,102 @@
+// The words that lines begin with.
+ghost use Rattle.std.specs.Prelude.{◌≡◌};
+ghost use Rattle.std.specs.Str.{bytes_eq};
+ghost use Rattle.script_syntax.specs.Fields.{keyword_named, word_of};
+
+/// The first word of a line.
+#[derive(Clone, Copy, Debug, PartialEq, Eq)]
+pub enum Keyword {
+    Text,
+    Load,
+    Let,
+    Drop,
+    Names,
+    Show,
+    Query,
+    Unquery,
+    List,
+    Test,
+    Has,
+    Save,
+    Open,
+    Union,
+    Join,
+    Project,
+    Listall,
+    Replace,
+    Mark,
+    Unmark,
+    Back,
+    Compact,
+}
+
+const KEYWORDS: [Keyword; 22] = [
+    Keyword::Text,
+    Keyword::Load,
+    Keyword::Let,
+    Keyword::Drop,
+    Keyword::Names,
+    Keyword::Show,
+    Keyword::Query,
+    Keyword::Unquery,
+    Keyword::List,
+    Keyword::Test,
+    Keyword::Has,
+    Keyword::Save,
+    Keyword::Open,
+    Keyword::Union,
+    Keyword::Join,
+    Keyword::Project,
+    Keyword::Listall,
+    Keyword::Replace,
+    Keyword::Mark,
+    Keyword::Unmark,
+    Keyword::Back,
+    Keyword::Compact,
+];
+
+/// How a keyword is spelled.
+fn text_of_keyword(keyword: Keyword) -> &'static [u8]
+    ensures { result.now ≡ word_of keyword }
+{
+    match keyword {
+        Keyword::Text => b"text",
+        Keyword::Load => b"load",
+        Keyword::Let => b"let",
+        Keyword::Drop => b"drop",
+        Keyword::Names => b"names",
+        Keyword::Show => b"show",
+        Keyword::Query => b"query",
+        Keyword::Unquery => b"unquery",
+        Keyword::List => b"list",
+        Keyword::Test => b"test",
+        Keyword::Has => b"has",
+        Keyword::Save => b"save",
+        Keyword::Open => b"open",
+        Keyword::Union => b"union",
+        Keyword::Join => b"join",
+        Keyword::Project => b"project",
+        Keyword::Listall => b"listall",
+        Keyword::Replace => b"replace",
+        Keyword::Mark => b"mark",
+        Keyword::Unmark => b"unmark",
+        Keyword::Back => b"back",
+        Keyword::Compact => b"compact",
+    }
+}
+
+fn is_spelled(keyword: Keyword, word: &[u8]) -> bool
+    ensures { result ≡ bytes_eq (word_of keyword) word.now }
+{
+    text_of_keyword(keyword) == word
+}
+
+/// The keyword that is spelled so.
+pub fn keyword_of(word: &[u8]) -> Option<Keyword>
+    ensures { result ≡ keyword_named word.now }
+{
+    KEYWORDS
+        .iter()
+        .copied()
+        .find(|keyword| is_spelled(*keyword, word))
+}

@@ -1,0 +1,118 @@
+// The options of `list` and `listall`.
+ghost use Rattle.std.specs.Prelude.{◌≡◌, ◌≢◌, ◌∷◌, ◌++◌, ◌≤◌, ℕ, All, IfOk, IfErr, MatchOption, Option, List, codes};
+ghost use Rattle.std.specs.Fmt.{decimal};
+ghost use Rattle.line_parts.specs.Numbers.{IsNum};
+ghost use Rattle.line_parts.specs.NameList.{IsName};
+ghost use Rattle.script_syntax.specs.declared.keyword.Keyword.TheVariants as keyword;
+ghost use Rattle.script_syntax.specs.Syntax.{IsLimit, IsAfter, IsWord, Reads, after_words, limit_words, spaced};
+ghost use Rattle.script_syntax.specs.Fields.{Fields, Fits, Limited, Paged, fields_of};
+
+use crate::parts::{name_of, word_of};
+use crate::{Command, LineRefusal};
+use line_parts::{cut_word, is_same, number};
+use span_types::{ByteList, Name};
+use std::alloc::Global;
+
+const DEFAULT_LIMIT: u16 = 100;
+
+const MAX_LIMIT: u64 = 10_000;
+
+/// `limit NUM`
+fn limit_of(options: &[u8]) -> Option<u16>
+    ensures { MatchOption result ((n : ℕ) → 1 ≤ n → n ≤ 10000 → options.now ≡ codes "limit " ++ decimal n → ⊥)
+        (λ n. (1 ≤ n) × (n ≤ 10000) × (options.now ≡ codes "limit " ++ decimal n)) }
+{
+    let (word, digits) = cut_word(options)?;
+    if !is_same(word, b"limit") {
+        return None;
+    }
+    let limit = number(digits)?;
+    if limit == 0 {
+        return None;
+    }
+    if limit > MAX_LIMIT {
+        return None;
+    }
+    Some(limit as u16)
+}
+
+/// A word, and `limit NUM` behind it where it stands.
+fn limited(text: &[u8]) -> Option<(&[u8], u16)>
+    ensures { MatchOption result ((word : List ℕ) (given : Option ℕ) (limit : ℕ) → All (λ b. b ≢ 32) word → IsLimit given limit → text.now ≡ spaced word (limit_words given) → ⊥)
+        (λ p. All (λ b. b ≢ 32) p.0.now × (given : Option ℕ) × IsLimit given p.1 × (text.now ≡ spaced p.0.now (limit_words given))) }
+{
+    let Some((word, options)) = cut_word(text) else {
+        return Some((text, DEFAULT_LIMIT));
+    };
+    let limit = limit_of(options)?;
+    Some((word, limit))
+}
+
+/// `NAME limit NUM`, the option where it stands.
+pub fn listall_of(alloc: Global, args: &[u8]) -> Result<Command, LineRefusal>
+    ensures ok { IfOk result (λ command. Reads (codes "listall " ++ args.now) command) }
+    ensures syntax { IfErr result (λ why. why ≡ LineRefusal.Syntax → Fields (fields_of keyword.Listall) args.now → ⊥) }
+{
+    let Some((query, limit)) = limited(args) else {
+        return Err(LineRefusal::Syntax);
+    };
+    let query = name_of(alloc, query)?;
+    Ok(Command::ListAll { query, limit })
+}
+
+/// What stands behind the query of `list`.
+#[derive(Drop)]
+struct Page {
+    name: Name,
+    after: Option<ByteList>,
+    limit: u16,
+}
+
+/// `NAME after WORD limit NUM`, the options where they stand.
+fn page_of(alloc: Global, text: &[u8]) -> Result<Page, LineRefusal>
+    ensures ok { IfOk result (λ page. IsName page.name × IsAfter page.after × (given : Option ℕ) × IsLimit given page.limit
+        × (text.now ≡ spaced page.name (after_words page.after ++ limit_words given))) }
+    ensures syntax { IfErr result (λ why. why ≡ LineRefusal.Syntax → Fits Paged text.now → ⊥) }
+{
+    if let Some((name, limit)) = limited(text) {
+        let name = name_of(alloc, name)?;
+        return Ok(Page {
+            name,
+            after: None,
+            limit,
+        });
+    }
+    let Some((name, options)) = cut_word(text) else {
+        return Err(LineRefusal::Syntax);
+    };
+    let Some((word, more)) = cut_word(options) else {
+        return Err(LineRefusal::Syntax);
+    };
+    if !is_same(word, b"after") {
+        return Err(LineRefusal::Syntax);
+    }
+    let Some((tuple, limit)) = limited(more) else {
+        return Err(LineRefusal::Syntax);
+    };
+    let name = name_of(alloc, name)?;
+    let after = Some(word_of(alloc, tuple)?);
+    Ok(Page { name, after, limit })
+}
+
+/// `NAME NAME after WORD limit NUM`, the options where they stand.
+pub fn list_of(alloc: Global, args: &[u8]) -> Result<Command, LineRefusal>
+    ensures ok { IfOk result (λ command. Reads (codes "list " ++ args.now) command) }
+    ensures syntax { IfErr result (λ why. why ≡ LineRefusal.Syntax → Fields (fields_of keyword.List) args.now → ⊥) }
+{
+    let Some((query, rest)) = cut_word(args) else {
+        return Err(LineRefusal::Syntax);
+    };
+    let query = name_of(alloc, query)?;
+    let Page { name, after, limit } = page_of(alloc, rest)?;
+    Ok(Command::List {
+        query,
+        name,
+        after,
+        limit,
+    })
+}
