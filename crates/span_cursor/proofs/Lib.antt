@@ -1,0 +1,5 @@
+pub mod EntryLemmas
+pub mod TupleLemmas
+pub mod SpanLemmas
+pub mod ReadLemmas
+pub mod PrintLemmas
