@@ -1,0 +1,58 @@
+// Pieces of lines, put behind a line that has begun.
+ghost use Rattle.std.specs.Prelude.{◌≡◌, ◌++◌, ◌∷◌, ◌<◌, [], OnOk, OnErr};
+ghost use Rattle.std.specs.Fmt.{decimal};
+ghost use Rattle.report_text.specs.Reply.{hex_digit, quoted, shown_byte};
+
+use itoa::Buffer;
+use span_types::NoMemory;
+use std::alloc::AllocError;
+
+/// A number in decimal digits without a leading zero.
+pub fn push_number(number: u64, into: &mut Vec<u8>) -> Result<(), AllocError>
+    ensures { OnOk result (into.new.items ≡ into.old.items ++ decimal number) }
+{
+    into.extend_from_slice(Buffer::new().format(number).as_bytes())
+}
+
+/// A byte between quotes.
+fn push_shown(b: u8, into: &mut Vec<u8>) -> Result<(), AllocError>
+    ensures { OnOk result (into.new.items ≡ into.old.items ++ shown_byte b) }
+{
+    match b {
+        b'"' => into.extend_from_slice(b"\\\""),
+        b'\\' => into.extend_from_slice(b"\\\\"),
+        b' '..=b'~' => Ok(into.push(b)?),
+        _ => into.extend_from_slice(&[b'\\', b'x', hex_digit_of(b / 16), hex_digit_of(b % 16)]),
+    }
+}
+
+/// A lower-case hexadecimal digit.
+fn hex_digit_of(d: u8) -> u8
+    requires { d < 16 }
+    ensures { result ≡ hex_digit d }
+{
+    if d < 10 { b'0' + d } else { b'a' - 10 + d }
+}
+
+/// Bytes in quotes.
+pub fn push_quoted(bytes: &[u8], into: &mut Vec<u8>) -> Result<(), AllocError>
+    ensures { OnOk result (into.new.items ≡ into.old.items ++ quoted bytes.now) }
+{
+    into.push(b'"')?;
+    for b in bytes {
+        push_shown(*b, into)?;
+    }
+    into.push(b'"')?;
+    Ok(())
+}
+
+/// Puts a whole line behind others, or nothing of it.
+pub fn push_line(line: &[u8], into: &mut Vec<u8>) -> Result<(), NoMemory>
+    ensures ok { OnOk result (into.new.items ≡ into.old.items ++ line.now) }
+    ensures unchanged { OnErr result (into.new.items ≡ into.old.items) }
+{
+    match into.extend_from_slice(line) {
+        Ok(()) => Ok(()),
+        Err(_) => Err(NoMemory),
+    }
+}

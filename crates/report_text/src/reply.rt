@@ -1,0 +1,151 @@
+// The lines of replies.
+ghost use Rattle.std.specs.Prelude.{◌≡◌, ◌++◌, ◌∷◌, [], IfOk, OnOk, OnErr};
+ghost use Rattle.report_text.specs.Reply.{doc_text, name_text, opened_text, query_text, saved_text, shown_text};
+
+use crate::pieces::{push_line, push_number, push_quoted};
+use span_types::{Name, NoMemory, Vars};
+use std::alloc::Global;
+
+fn doc_line_of(alloc: Global, name: &Name, len: u64, head: &[u8]) -> Result<Vec<u8>, NoMemory>
+    ensures { IfOk result (λ line. line.items ≡ doc_text name.now len head.now) }
+{
+    let mut line = Vec::new(alloc);
+    line.extend_from_slice(b"ok ")?;
+    line.extend_from_slice(name.bytes())?;
+    line.push(b' ')?;
+    push_number(len, &mut line)?;
+    line.push(b' ')?;
+    push_quoted(head, &mut line)?;
+    line.push(b'\n')?;
+    Ok(line)
+}
+
+/// Puts `ok NAME LEN "HEAD"` and a newline behind `into`. Where memory runs out, `into` is as before.
+/// The head's bytes are escaped as [`shown_line`] says.
+pub fn doc_line(
+    alloc: Global,
+    name: &Name,
+    len: u64,
+    head: &[u8],
+    into: &mut Vec<u8>,
+) -> Result<(), NoMemory>
+    ensures ok { OnOk result (into.new.items ≡ into.old.items ++ doc_text name.now len head.now) }
+    ensures unchanged { OnErr result (into.new.items ≡ into.old.items) }
+{
+    let line = doc_line_of(alloc, name, len, head)?;
+    push_line(&line, into)?;
+    Ok(())
+}
+
+fn name_line_of(alloc: Global, name: &Name, len: u64) -> Result<Vec<u8>, NoMemory>
+    ensures { IfOk result (λ line. line.items ≡ name_text name.now len) }
+{
+    let mut line = name.bytes().to_vec(alloc)?;
+    line.push(b' ')?;
+    push_number(len, &mut line)?;
+    line.push(b'\n')?;
+    Ok(line)
+}
+
+/// Puts `NAME LEN` and a newline behind `into`. Where memory runs out, `into` is as before.
+pub fn name_line(alloc: Global, name: &Name, len: u64, into: &mut Vec<u8>) -> Result<(), NoMemory>
+    ensures ok { OnOk result (into.new.items ≡ into.old.items ++ name_text name.now len) }
+    ensures unchanged { OnErr result (into.new.items ≡ into.old.items) }
+{
+    let line = name_line_of(alloc, name, len)?;
+    push_line(&line, into)?;
+    Ok(())
+}
+
+fn shown_line_of(alloc: Global, bytes: &[u8]) -> Result<Vec<u8>, NoMemory>
+    ensures { IfOk result (λ line. line.items ≡ shown_text bytes.now) }
+{
+    let mut line = Vec::new(alloc);
+    push_quoted(bytes, &mut line)?;
+    line.push(b'\n')?;
+    Ok(line)
+}
+
+/// Puts `"BYTES"` and a newline behind `into`. Where memory runs out, `into` is as before.
+/// Between the quotes `"` is `\"`, the backslash is `\\`, any other byte from 0x20 to 0x7E stands
+/// for itself, and any other is `\x` and two lower-case hexadecimal digits.
+pub fn shown_line(alloc: Global, bytes: &[u8], into: &mut Vec<u8>) -> Result<(), NoMemory>
+    ensures ok { OnOk result (into.new.items ≡ into.old.items ++ shown_text bytes.now) }
+    ensures unchanged { OnErr result (into.new.items ≡ into.old.items) }
+{
+    let line = shown_line_of(alloc, bytes)?;
+    push_line(&line, into)?;
+    Ok(())
+}
+
+fn query_line_of(alloc: Global, name: &Name, vars: &Vars) -> Result<Vec<u8>, NoMemory>
+    ensures { IfOk result (λ line. line.items ≡ query_text name.now vars.now) }
+{
+    let mut line = Vec::new(alloc);
+    line.extend_from_slice(b"ok ")?;
+    line.extend_from_slice(name.bytes())?;
+    for v in 0..vars.count() {
+        line.push(b' ')?;
+        line.extend_from_slice(vars.name(v).bytes())?;
+    }
+    line.push(b'\n')?;
+    Ok(line)
+}
+
+/// Puts `ok NAME`, a space and the name of each variable in number order, and a newline behind
+/// `into`. Where memory runs out, `into` is as before.
+pub fn query_line(
+    alloc: Global,
+    name: &Name,
+    vars: &Vars,
+    into: &mut Vec<u8>,
+) -> Result<(), NoMemory>
+    ensures ok { OnOk result (into.new.items ≡ into.old.items ++ query_text name.now vars.now) }
+    ensures unchanged { OnErr result (into.new.items ≡ into.old.items) }
+{
+    let line = query_line_of(alloc, name, vars)?;
+    push_line(&line, into)?;
+    Ok(())
+}
+
+fn saved_line_of(alloc: Global, docs: u64, nodes: u64) -> Result<Vec<u8>, NoMemory>
+    ensures { IfOk result (λ line. line.items ≡ saved_text docs nodes) }
+{
+    let mut line = Vec::new(alloc);
+    line.extend_from_slice(b"ok ")?;
+    push_number(docs, &mut line)?;
+    line.push(b' ')?;
+    push_number(nodes, &mut line)?;
+    line.push(b'\n')?;
+    Ok(line)
+}
+
+/// Puts `ok DOCS NODES` and a newline behind `into`. Where memory runs out, `into` is as before.
+pub fn saved_line(alloc: Global, docs: u64, nodes: u64, into: &mut Vec<u8>) -> Result<(), NoMemory>
+    ensures ok { OnOk result (into.new.items ≡ into.old.items ++ saved_text docs nodes) }
+    ensures unchanged { OnErr result (into.new.items ≡ into.old.items) }
+{
+    let line = saved_line_of(alloc, docs, nodes)?;
+    push_line(&line, into)?;
+    Ok(())
+}
+
+fn opened_line_of(alloc: Global, docs: u64) -> Result<Vec<u8>, NoMemory>
+    ensures { IfOk result (λ line. line.items ≡ opened_text docs) }
+{
+    let mut line = Vec::new(alloc);
+    line.extend_from_slice(b"ok ")?;
+    push_number(docs, &mut line)?;
+    line.push(b'\n')?;
+    Ok(line)
+}
+
+/// Puts `ok DOCS` and a newline behind `into`. Where memory runs out, `into` is as before.
+pub fn opened_line(alloc: Global, docs: u64, into: &mut Vec<u8>) -> Result<(), NoMemory>
+    ensures ok { OnOk result (into.new.items ≡ into.old.items ++ opened_text docs) }
+    ensures unchanged { OnErr result (into.new.items ≡ into.old.items) }
+{
+    let line = opened_line_of(alloc, docs)?;
+    push_line(&line, into)?;
+    Ok(())
+}
