@@ -1,0 +1,12 @@
+pub mod Ranges
+pub mod Walk
+pub mod Sums
+pub mod Words
+pub mod Enters
+pub mod Compose
+pub mod Decompose
+pub mod Fault
+pub mod FitsWords
+pub mod Texts
+pub mod BothWays
+pub mod Tuples

@@ -1,0 +1,65 @@
+-- Functions from positions to marks, and their sums.
+use Rattle.std.proofs.Common.{◌≡◌, ℕ, ◌+◌, ◌<◌, nat_lt, ◌⊎◌, inl, inr, sym, ap, ◌∙◌, arith, if◌then◌else◌}
+use Rattle.std.proofs.lemmas.Bool.Decides.{nat_tests}
+use Rattle.span_types.specs.Marks.{at_place}
+
+pub record IsZero (u : ℕ → ℕ) : Type 0 where
+  pub at : (p : ℕ) → u p ≡ 0
+
+pub record IsSum (u v w : ℕ → ℕ) : Type 0 where
+  pub at : (p : ℕ) → u p ≡ v p + w p
+
+-- zero outside two positions
+pub record IsInside (i j : ℕ) (u : ℕ → ℕ) : Type 0 where
+  pub below : (p : ℕ) → p < i → u p ≡ 0
+  pub above : (p : ℕ) → j < p → u p ≡ 0
+
+abbrev pub zeros : ℕ → ℕ
+zeros p = 0
+
+pub zeros_path : (u : ℕ → ℕ) → IsZero u → u ≡ zeros
+zeros_path u z = λ i p. z.at p i
+
+pub at_same : (i x : ℕ) → at_place i x i ≡ x
+at_same i x = grind (arith, nat_tests)
+
+pub at_other : (i x p : ℕ) → (p ≡ i → ⊥) → at_place i x p ≡ 0
+at_other i x p n = grind (arith, nat_tests)
+
+-- the marks before a position, and one at it
+abbrev pub front : (ℕ → ℕ) → ℕ → ℕ → ℕ → ℕ
+front u m x p = if nat_lt p m then u p else at_place m x p
+
+-- the marks after a position, and one at it
+abbrev pub back : (ℕ → ℕ) → ℕ → ℕ → ℕ → ℕ
+back u m x p = if nat_lt m p then u p else at_place m x p
+
+pub front_before : (u : ℕ → ℕ) (m x p : ℕ) → p < m → front u m x p ≡ u p
+front_before u m x p h = grind (arith, nat_tests)
+
+pub front_at : (u : ℕ → ℕ) (m x : ℕ) → front u m x m ≡ x
+front_at u m x = grind (arith, nat_tests)
+
+pub front_after : (u : ℕ → ℕ) (m x p : ℕ) → m < p → front u m x p ≡ 0
+front_after u m x p h = grind (arith, nat_tests)
+
+pub back_before : (u : ℕ → ℕ) (m x p : ℕ) → p < m → back u m x p ≡ 0
+back_before u m x p h = grind (arith, nat_tests)
+
+pub back_at : (u : ℕ → ℕ) (m x : ℕ) → back u m x m ≡ x
+back_at u m x = grind (arith, nat_tests)
+
+pub back_after : (u : ℕ → ℕ) (m x p : ℕ) → m < p → back u m x p ≡ u p
+back_after u m x p h = grind (arith, nat_tests)
+
+-- below, at or above
+pub three : (p m : ℕ) → (p < m) ⊎ ((p ≡ m) ⊎ (m < p))
+three p m = grind arith
+
+pub front_back : (u : ℕ → ℕ) (m x y : ℕ) → u m ≡ x + y → IsSum u (front u m x) (back u m y)
+front_back u m x y e = record { at = λ p. ⊎_elim_three u m x y e p (three p m) }
+  where
+    ⊎_elim_three : (u : ℕ → ℕ) (m x y : ℕ) → u m ≡ x + y → (p : ℕ) → (p < m) ⊎ ((p ≡ m) ⊎ (m < p)) → u p ≡ front u m x p + back u m y p
+    ⊎_elim_three u m x y e p (inl h) = omega (arith, front_before u m x p h, back_before u m y p h)
+    ⊎_elim_three u m x y e p (inr (inl h)) = ap u h ∙ e ∙ (omega (arith, front_at u m x, back_at u m y)) ∙ sym (ap (λ q. front u m x q + back u m y q) h)
+    ⊎_elim_three u m x y e p (inr (inr h)) = omega (arith, front_after u m x p h, back_after u m y p h)
