@@ -1,0 +1,11 @@
+pub mod Size
+pub mod Following
+pub mod Adding
+pub mod Strict
+pub mod Weights
+pub mod Making
+pub mod Outlines
+pub mod Mapped
+pub mod Letters
+pub mod Built
+pub mod Accepting

@@ -1,0 +1,3 @@
+pub mod Automaton
+pub mod Occurrences
+pub mod Parts

@@ -1,0 +1,102 @@
+//! Position automata of formulas: automata that read a mark before each byte of a text (Glushkov 1961; Florenzano et al., PODS 2018).
+#![tactic(auto)]
+
+ghost use Rattle.std.specs.Prelude.{◌≡◌, Bool, List, IfOk};
+ghost use Rattle.span_types.specs.FormulaTree.{Set, tree_of};
+ghost use Rattle.marker_nfa.specs.Occurrences.{AcceptsAnswersOf, IsPositionAutomaton, IsWithinLimits};
+
+pub mod edges;
+pub mod lists;
+pub mod nfa;
+pub mod outline;
+pub mod parts;
+
+use edges::edges_of;
+pub use nfa::{Edge, End, Nfa};
+use outline::outline_of;
+use parts::variables_of;
+use span_types::{Formula, NoMemory};
+use std::alloc::Global;
+
+/// The position automaton of a formula. Its states past the start are the occurrences of byte sets, from the left.
+///
+/// It takes time and memory in proportion to its edges, of which there may be 256 between two states, one for each mark.
+///
+/// # Errors
+///
+/// `NoMemory` where memory for the automaton wasn't found.
+pub fn of_formula(alloc: Global, formula: &Formula) -> Result<Nfa, NoMemory>
+    requires { IsWithinLimits (tree_of formula.now) }
+    ensures parts { IfOk result (IsPositionAutomaton (tree_of formula.now)) }
+    ensures accepts { IfOk result (AcceptsAnswersOf (tree_of formula.now)) }
+{
+    let outline = outline_of(alloc, formula)?;
+    let edges = edges_of(alloc, &outline.letters, &outline.hops)?;
+    Ok(Nfa::from_lists(
+        outline.letters.len() as u16 + 1,
+        variables_of(formula),
+        edges,
+        outline.ends,
+    ))
+}
+
+#[cfg(test)]
+mod tests {
+    use super::*;
+    use span_types::ByteSet;
+    use std::test::Fail;
+
+    fn letter(byte: u8) -> Formula
+        ensures { (members : List Bool) × (tree_of result ≡ Set members) }
+    {
+        let mut letters = ByteSet::empty();
+        letters.insert(byte);
+        Formula::Set(letters)
+    }
+
+    fn boxed(alloc: Global, formula: Formula) -> Result<Box<Formula>, NoMemory>
+        ensures { IfOk result (λ place. place.value ≡ formula) }
+    {
+        Ok(Box::new(alloc, formula)?)
+    }
+
+    fn has_edge(nfa: &Nfa, from: u16, mark: u16, byte: u8, to: u16) -> bool {
+        nfa.edges().iter().any(|e| e.from == from
+            && e.mark == mark
+            && e.letters.contains(byte)
+            && e.to == to)
+    }
+
+    #[test]
+    fn a_capture_before_a_letter(rt: HostRuntime) -> Result<(), Fail> {
+        let alloc = rt.alloc();
+        let inner = boxed(alloc, letter(b'a'))?;
+        let left = boxed(alloc, Formula::Capture(0, inner))?;
+        let right = boxed(alloc, letter(b'b'))?;
+        let nfa = of_formula(alloc, &Formula::Cat(left, right))?;
+        assert_eq!(rt; nfa.states(), 3);
+        assert_eq!(rt; nfa.variables(), 1);
+        assert_eq!(rt; nfa.edges().len(), 2);
+        assert!(rt; has_edge(&nfa, 0, 1, b'a', 1));
+        assert!(rt; has_edge(&nfa, 1, 2, b'b', 2));
+        assert_eq!(rt; nfa.ends(), [End { state: 2, mark: 0 }].as_slice());
+        Ok(())
+    }
+
+    #[test]
+    fn a_captured_star(rt: HostRuntime) -> Result<(), Fail> {
+        let alloc = rt.alloc();
+        let inner = boxed(alloc, letter(b'a'))?;
+        let star = boxed(alloc, Formula::Star(inner))?;
+        let made = of_formula(alloc, &Formula::Capture(0, star))?;
+        let states = made.states();
+        let nfa = Nfa::of_parts(alloc, states, made.variables(), made.edges(), made.ends())?;
+        assert_eq!(rt; nfa.states(), 2);
+        assert_eq!(rt; nfa.edges().len(), 2);
+        assert!(rt; has_edge(&nfa, 0, 1, b'a', 1));
+        assert!(rt; has_edge(&nfa, 1, 0, b'a', 1));
+        let ends = [End { state: 0, mark: 3 }, End { state: 1, mark: 2 }];
+        assert_eq!(rt; nfa.ends(), ends.as_slice());
+        Ok(())
+    }
+}
