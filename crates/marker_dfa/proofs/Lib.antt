@@ -1,0 +1,12 @@
+pub mod Lists
+pub mod Filling
+pub mod Splitting
+pub mod Bits
+pub mod Finding
+pub mod Tracks
+pub mod Leaving
+pub mod Growing
+pub mod RowsGrow
+pub mod Refused
+pub mod Pigeons
+pub mod Glue

@@ -1,0 +1,42 @@
+-- More numbers than places don't fit.
+use Rattle.std.proofs.Common.{◌≡◌, ℕ, zero, suc, ◌+◌, ◌<◌, ◌≤◌, ◌==◌, Bool, true, false, ◌⊎◌, inl, inr, refl, sym, ap, ◌∙◌, arith, if◌then◌else◌}
+use Rattle.std.proofs.lemmas.Bool.Decides.{eqb_tells}
+
+pub no_fit : (n : ℕ) (f : ℕ → ℕ) → ((i : ℕ) → i ≤ n → f i < n) → ((i j : ℕ) → i ≤ n → j ≤ n → f i ≡ f j → i ≡ j) → ⊥
+no_fit zero f small one = let l : f 0 < 0 = small 0 (omega arith) in omega (arith, l)
+no_fit (suc n) f small one = no_fit n (λ i. if f i == n then f (suc n) else f i) small' one'
+  where
+    is_last : (i : ℕ) → f i == n ≡ true → (if f i == n then f (suc n) else f i) ≡ f (suc n)
+    is_last i e = ap (λ b. if b then f (suc n) else f i) e
+
+    is_other : (i : ℕ) → f i == n ≡ false → (if f i == n then f (suc n) else f i) ≡ f i
+    is_other i e = ap (λ b. if b then f (suc n) else f i) e
+
+    top : (i : ℕ) → i ≤ n → f i ≡ f (suc n) → ⊥
+    top i le e = let q : i ≡ suc n = one i (suc n) (omega (arith, le)) (omega arith) e in omega (arith, q, le)
+
+    below : (x : ℕ) → x < suc n → (x ≡ n → ⊥) → x < n
+    below x l ne = go (cases x l)
+      where
+        cases : (x : ℕ) → x < suc n → (x < n) ⊎ (x ≡ n)
+        cases x l = grind arith
+
+        go : (x < n) ⊎ (x ≡ n) → x < n
+        go (inl k) = k
+        go (inr e) = absurd (ne e)
+
+    small_by : (i : ℕ) → i ≤ n → ((f i == n ≡ true) × (f i ≡ n)) ⊎ ((f i == n ≡ false) × (f i ≡ n → ⊥)) → (if f i == n then f (suc n) else f i) < n
+    small_by i le (inl e) = let k = below (f (suc n)) (small (suc n) (omega arith)) (λ q. top i le (e.1 ∙ sym q)) in omega (arith, k, is_last i e.0)
+    small_by i le (inr e) = let k = below (f i) (small i (omega (arith, le))) e.1 in omega (arith, k, is_other i e.0)
+
+    small' : (i : ℕ) → i ≤ n → (if f i == n then f (suc n) else f i) < n
+    small' i le = small_by i le (eqb_tells (f i) n)
+
+    one_by : (i j : ℕ) → i ≤ n → j ≤ n → (if f i == n then f (suc n) else f i) ≡ (if f j == n then f (suc n) else f j) → ((f i == n ≡ true) × (f i ≡ n)) ⊎ ((f i == n ≡ false) × (f i ≡ n → ⊥)) → ((f j == n ≡ true) × (f j ≡ n)) ⊎ ((f j == n ≡ false) × (f j ≡ n → ⊥)) → i ≡ j
+    one_by i j li lj e (inl x) (inl y) = one i j (omega (arith, li)) (omega (arith, lj)) (x.1 ∙ sym y.1)
+    one_by i j li lj e (inl x) (inr y) = absurd (top j lj (sym (sym (is_last i x.0) ∙ e ∙ is_other j y.0)))
+    one_by i j li lj e (inr x) (inl y) = absurd (top i li (sym (is_other i x.0) ∙ e ∙ is_last j y.0))
+    one_by i j li lj e (inr x) (inr y) = one i j (omega (arith, li)) (omega (arith, lj)) (sym (is_other i x.0) ∙ e ∙ is_other j y.0)
+
+    one' : (i j : ℕ) → i ≤ n → j ≤ n → (if f i == n then f (suc n) else f i) ≡ (if f j == n then f (suc n) else f j) → i ≡ j
+    one' i j li lj e = one_by i j li lj e (eqb_tells (f i) n) (eqb_tells (f j) n)

@@ -1,0 +1,14 @@
+use Rattle.std.proofs.Common.{◌≡◌, ◌+◌, ◌<◌, ◌≤◌, ◌++◌, ◌∷◌, [], ℕ, List, Bool, Some, ap, sym, subst, refl, ◌∙◌, arith, length, Contains, slice_get, slice_index_or, get_or, true, false}
+use Rattle.std.proofs.lemmas.Option.{slice_get-get_or}
+use Rattle.std.proofs.lemmas.List.Elements.{Contains-get_or}
+use Rattle.marker_dfa.proofs.RowsGrow.{rows_more, rows_start}
+use Rattle.marker_dfa.proofs.subsets.rows_of.Goals as goal
+
+pub rows-init : goal.rows-init
+rows-init c = rw (c.in_ok-sets.ensures, c.new-rows.ensures.items) (rows_start c.args.nfa.now c.args.bytes.now c.requires.has_start)
+
+pub rows-preserved : goal.rows-preserved
+rows-preserved c =
+    let lt : length c.rows.rows.items < length c.rows.sets.items = omega (arith, c.rows-test.true, c.len.ensures, c.len-in-rows.ensures, c.rows.rows.ok.0, c.rows.sets.ok.0) in
+    let e : c.len-in-rows-2.result ≡ length c.rows.rows.items = omega (arith, c.len-in-rows-2.ensures, c.rows.rows.ok.0) in
+    rw (c.in_ok-push.ensures.items) (rows_more c.args.nfa.now c.args.bytes.now _ _ _ c.in_ok-row.row c.rows.invariant lt c.in_ok-row.ensures.found c.in_ok-row.ensures.extends (λ x h. c.in_ok-row.ensures.row x (ap (slice_get c.rows.sets.items) e ∙ h)))

@@ -1,0 +1,4 @@
+pub mod Subsets
+pub mod Deterministic
+pub mod Refusals
+pub mod Making

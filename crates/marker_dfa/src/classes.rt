@@ -1,0 +1,128 @@
+//! Classes of bytes that no byte set of an automaton tells apart.
+
+ghost use Rattle.std.specs.Prelude.{◌≡◌, ◌+◌, ◌≤◌, ℕ, Contains, Some, length, slice_get, IfOk, OnOk};
+ghost use Rattle.std.specs.Bool.{OnTrue};
+ghost use Rattle.marker_nfa.specs.declared.nfa.Edge.{Edge};
+ghost use Rattle.marker_dfa.specs.Making.{AreClasses, GoesWith, IsFiner, IsFit, IsSplitUpTo};
+
+use marker_nfa::Nfa;
+use span_types::{ByteSet, NoMemory};
+use std::alloc::Global;
+
+/// The class of each byte, and the first byte of each class.
+#[derive(Drop)]
+pub struct ByteClasses {
+    pub of: Vec<u8>,
+    pub firsts: Vec<u8>,
+}
+
+/// One class of all bytes.
+fn one_class(alloc: Global) -> Result<ByteClasses, NoMemory>
+    ensures { IfOk result AreClasses }
+{
+    Ok(ByteClasses {
+        of: vec![in alloc; 0; 256]?,
+        firsts: vec![in alloc; 0; 1]?,
+    })
+}
+
+/// Whether the byte set has each byte exactly where it has the first one of its class.
+fn fits(classes: &ByteClasses, letters: &ByteSet) -> bool
+    requires { AreClasses classes.now }
+    ensures size { length letters.now ≡ 256 }
+    ensures fit { OnTrue result (IsFit classes.now letters.now) }
+{
+    for byte in 0..256u16 {
+        let first = classes.firsts[classes.of[byte as usize] as usize];
+        if letters.contains(byte as u8) != letters.contains(first) {
+            return false;
+        }
+    }
+    true
+}
+
+/// Whether two bytes have one class, and the byte set has both or none.
+fn goes_with(classes: &ByteClasses, letters: &ByteSet, byte: u8, first: u8) -> bool
+    requires { AreClasses classes.now }
+    ensures { OnTrue result (GoesWith classes.now letters.now byte first) }
+{
+    classes.of[byte as usize] == classes.of[first as usize]
+        && letters.contains(byte) == letters.contains(first)
+}
+
+/// The place of the first byte that goes with a byte, or the number of first bytes.
+fn place_among(classes: &ByteClasses, letters: &ByteSet, firsts: &[u8], byte: u8) -> usize
+    requires { AreClasses classes.now }
+    ensures within { result ≤ length firsts.now }
+    ensures goes { (f : ℕ) → slice_get firsts.now result ≡ Some f → GoesWith classes.now letters.now byte f }
+{
+    for (place, first) in firsts.iter().enumerate() {
+        if goes_with(classes, letters, byte, *first) {
+            return place;
+        }
+    }
+    firsts.len()
+}
+
+/// Puts the next byte into its class, which may be new.
+fn put_byte(
+    split: &mut ByteClasses,
+    classes: &ByteClasses,
+    letters: &ByteSet,
+    byte: u8,
+) -> Result<(), NoMemory>
+    requires classes { AreClasses classes.now }
+    requires so_far { IsSplitUpTo classes.now letters.now byte split.old }
+    ensures { OnOk result (IsSplitUpTo classes.now letters.now (byte + 1) split.new) }
+{
+    let place = place_among(classes, letters, &split.firsts, byte);
+    split.of.push(place as u8)?;
+    if place < split.firsts.len() {
+        return Ok(());
+    }
+    split.firsts.push(byte)?;
+    Ok(())
+}
+
+/// The classes, cut where the byte set has some bytes of a class and lacks others.
+fn split(alloc: Global, classes: &ByteClasses, letters: &ByteSet) -> Result<ByteClasses, NoMemory>
+    requires classes { AreClasses classes.now }
+    requires size { length letters.now ≡ 256 }
+    ensures classes { IfOk result AreClasses }
+    ensures fit { IfOk result (λ s. IsFit s letters.now) }
+    ensures finer { IfOk result (IsFiner classes.now) }
+{
+    let mut split = ByteClasses {
+        of: Vec::new(alloc),
+        firsts: Vec::new(alloc),
+    };
+    for byte in 0..256u16 {
+        put_byte(&mut split, classes, letters, byte as u8)?;
+    }
+    Ok(split)
+}
+
+/// The classes, cut where a byte set needs it.
+fn fitted(alloc: Global, classes: ByteClasses, letters: &ByteSet) -> Result<ByteClasses, NoMemory>
+    requires { AreClasses classes }
+    ensures classes { IfOk result AreClasses }
+    ensures fit { IfOk result (λ s. IsFit s letters.now) }
+    ensures finer { IfOk result (IsFiner classes) }
+{
+    if fits(&classes, letters) {
+        return Ok(classes);
+    }
+    split(alloc, &classes, letters)
+}
+
+/// Classes such that the letters of an edge have all bytes of a class or none.
+pub fn classes_of(alloc: Global, nfa: &Nfa) -> Result<ByteClasses, NoMemory>
+    ensures classes { IfOk result AreClasses }
+    ensures fit { IfOk result (λ s. (e : Edge) → Contains nfa.now.edges e → IsFit s e.letters) }
+{
+    let mut classes = one_class(alloc)?;
+    for edge in nfa.edges() {
+        classes = fitted(alloc, classes, &edge.letters)?;
+    }
+    Ok(classes)
+}

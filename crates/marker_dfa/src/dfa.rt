@@ -1,0 +1,119 @@
+//! Automata with at most one next state for each mark and byte.
+
+ghost use Rattle.std.specs.Prelude.{◌≡◌, ◌<◌, ◌+◌, Option, Some};
+ghost use Rattle.marker_dfa.specs.Deterministic.{DeterministicAutomaton, IsDeterministic, IsWide, cell_of, ends_of, find_target, marks_of, next_of, states_of};
+
+use std::marker::Model;
+
+/// The marks that lead on, falling, and where each leads.
+#[derive(Drop)]
+pub struct Cell {
+    pub(crate) marks: Vec<u16>,
+    pub(crate) targets: Vec<u8>,
+}
+
+impl Cell {
+    /// Where a mark leads.
+    fn target(&self, mark: u16) -> Option<u8>
+        ensures { result ≡ find_target self.now.marks.items self.now.targets.items mark }
+    {
+        for (place, other) in self.marks.iter().enumerate() {
+            if *other == mark {
+                return self.targets.get(place).copied();
+            }
+        }
+        None
+    }
+}
+
+/// What follows a state, for each class of bytes, and the marks with which a text may end.
+#[derive(Drop)]
+pub struct Row {
+    pub(crate) cells: Vec<Cell>,
+    pub(crate) ends: Vec<u16>,
+}
+
+/// A deterministic automaton over marked texts: at each position it reads a mark and then a byte, and past the last byte
+/// a mark alone. State 0 is the start. Each text that it accepts has the marks of a tuple of its variables.
+///
+/// Bytes that it never tells apart share a class, and a state keeps one list of marks for each class.
+#[derive(Drop)]
+pub struct Dfa {
+    variables: u8,
+    classes: Vec<u8>,
+    rows: Vec<Row>,
+}
+
+impl Model for Dfa {
+    ghost use Rattle.marker_dfa.specs.Deterministic.{DeterministicAutomaton, IsDeterministic, IsWide};
+
+    ghost Value = { DeterministicAutomaton };
+
+    ghost view = { λ a. record { variables = a.variables; classes = a.classes.items; rows = a.rows.items } };
+
+    ghost invariant = { λ a. IsDeterministic (record { variables = a.variables; classes = a.classes.items; rows = a.rows.items }) × IsWide (record { variables = a.variables; classes = a.classes.items; rows = a.rows.items }) };
+}
+
+impl Dfa {
+    /// The automaton with these rows.
+    pub(crate) fn from_rows(variables: u8, classes: Vec<u8>, rows: Vec<Row>) -> Dfa
+        requires deterministic { IsDeterministic (record { variables = variables; classes = classes.items; rows = rows.items }) }
+        requires wide { IsWide (record { variables = variables; classes = classes.items; rows = rows.items }) }
+        ensures { result ≡ record { variables = variables; classes = classes.items; rows = rows.items } }
+    {
+        Dfa {
+            variables,
+            classes,
+            rows,
+        }
+    }
+
+    /// The number of states, 1 to 128.
+    pub fn states(&self) -> u8
+        ensures value { result ≡ states_of self.now }
+        ensures automaton { IsDeterministic self.now }
+    {
+        self.rows.len() as u8
+    }
+
+    /// The number of variables, at most 8.
+    pub fn variables(&self) -> u8
+        ensures value { result ≡ self.now.variables }
+        ensures automaton { IsDeterministic self.now }
+    {
+        self.variables
+    }
+
+    /// The state after a mark and a byte, if there is one. It takes one step for each mark that leads on.
+    pub fn next(&self, state: u8, mark: u16, byte: u8) -> Option<u8>
+        requires { state < states_of self.now }
+        ensures { result ≡ next_of self.now state mark byte }
+    {
+        self.cell(state, byte).target(mark)
+    }
+
+    /// The marks that lead on from a state with a byte, falling.
+    pub fn marks(&self, state: u8, byte: u8) -> &[u16]
+        requires { state < states_of self.now }
+        ensures { result.now ≡ marks_of self.now state byte }
+    {
+        &self.cell(state, byte).marks
+    }
+
+    /// The marks with which a text may end in a state, falling.
+    pub fn ends(&self, state: u8) -> &[u16]
+        requires { state < states_of self.now }
+        ensures { result.now ≡ ends_of self.now state }
+    {
+        &self.rows[state as usize].ends
+    }
+
+    /// The cell of a state and a byte.
+    fn cell(&self, state: u8, byte: u8) -> &Cell
+        requires { state < states_of self.now }
+        ensures { cell_of self.now state byte ≡ Some result.now }
+    {
+        let class = self.classes[byte as usize];
+        &self.rows[state as usize].cells[class as usize]
+    }
+}

@@ -1,0 +1,78 @@
+//! Sets of states.
+
+ghost use Rattle.std.specs.Prelude.{◌≡◌, ◌<◌, ◌↔◌, ℕ, Bool, false, true, List, IsFalse, replicate, slice_set, slice_index_or, length, IfOk, IsTrue, Contains};
+ghost use Rattle.marker_dfa.specs.Subsets.{IsIn};
+
+use span_types::NoMemory;
+use std::alloc::Global;
+use std::marker::Model;
+
+/// A set of states. Contracts see it as one truth value for each state.
+#[derive(Drop)]
+pub struct StateSet {
+    members: Vec<bool>,
+}
+
+impl Model for StateSet {
+    ghost use Rattle.std.specs.Prelude.{List, Bool};
+
+    ghost Value = { List Bool };
+
+    ghost view = { λ s. s.members.items };
+}
+
+impl StateSet {
+    /// The set with no member, of so many states.
+    pub fn empty(alloc: Global, states: u16) -> Result<StateSet, NoMemory>
+        ensures { IfOk result (λ s. s ≡ replicate states false) }
+    {
+        Ok(StateSet {
+            members: vec![in alloc; false; states as usize]?,
+        })
+    }
+
+    /// The same set, in memory of its own.
+    pub fn copy(&self, alloc: Global) -> Result<StateSet, NoMemory>
+        ensures { IfOk result (λ s. s ≡ self.now) }
+    {
+        Ok(StateSet {
+            members: self.members.as_slice().to_vec(alloc)?,
+        })
+    }
+
+    /// Puts a state into the set.
+    pub fn insert(&mut self, state: u16)
+        requires { state < length self.old }
+        ensures { self.new ≡ slice_set self.old state true }
+    {
+        self.members[state as usize] = true;
+    }
+
+    /// Whether a state is in the set.
+    pub fn contains(&self, state: u16) -> bool
+        requires { state < length self.now }
+        ensures { result ≡ slice_index_or self.now state false }
+    {
+        self.members[state as usize]
+    }
+
+    /// Whether the set has a member.
+    pub fn has_some(&self) -> bool
+        ensures yes { IsTrue result → (p : ℕ) × IsIn self.now p }
+        ensures none { IsFalse result → (p : ℕ) → IsIn self.now p → ⊥ }
+    {
+        for member in &self.members {
+            if *member {
+                return true;
+            }
+        }
+        false
+    }
+
+    /// Whether two sets have the same members.
+    pub fn same(&self, other: &StateSet) -> bool
+        ensures { IsTrue result ↔ self.now ≡ other.now }
+    {
+        self.members == other.members
+    }
+}

@@ -1,0 +1,160 @@
+//! The reached sets of states, found from the start on.
+
+ghost use Rattle.std.specs.Prelude.{◌≡◌, ◌<◌, ◌≤◌, ◌++◌, ◌∷◌, [], List, Bool, length, Some, slice_get, vec_len, IfOk};
+ghost use Rattle.marker_nfa.specs.Automaton.{IsAutomaton};
+ghost use Rattle.marker_dfa.specs.Subsets.{AreTooMany, IsReached, start_set};
+ghost use Rattle.marker_dfa.specs.Making.{AreAllRows, AreBySource, AreCells, AreExits, AreFound, Extends, HasNoRoom, IsCell, IsPlaced, IsRow};
+ghost use Rattle.marker_dfa.specs.Refusals.{IfTooMany};
+
+use crate::buckets::Buckets;
+use crate::dfa::{Cell, Row};
+use crate::exits::{Exits, by_source, ends_of_set, exits_of, targets_of};
+use crate::refusal::DfaRefusal;
+use crate::states::StateSet;
+use marker_nfa::Nfa;
+use span_types::NoMemory;
+use std::alloc::Global;
+
+/// The greatest number of states.
+const LIMIT: usize = 128;
+
+/// The place of a set, which is put last where it is new.
+fn place_of(sets: &mut Vec<StateSet>, set: StateSet) -> Result<u8, DfaRefusal>
+    requires few { vec_len sets.old ≤ 128 }
+    ensures placed { IfOk result (λ q. IsPlaced sets.old.items sets.new.items set q) }
+    ensures few { vec_len sets.new ≤ 128 }
+    ensures refused { IfTooMany result (HasNoRoom sets.old.items set) }
+{
+    for (place, other) in sets.iter().enumerate() {
+        if other.same(&set) {
+            return Ok(place as u8);
+        }
+    }
+    let place = sets.len();
+    if place == LIMIT {
+        return Err(DfaRefusal::TooManyStates);
+    }
+    sets.push(set)?;
+    Ok(place as u8)
+}
+
+impl Cell {
+    /// Puts a mark and its target last.
+    fn push(&mut self, mark: u16, target: u8) -> Result<(), NoMemory>
+        ensures marks { IfOk result (λ _. self.new.marks.items ≡ self.old.marks.items ++ mark ∷ []) }
+        ensures targets { IfOk result (λ _. self.new.targets.items ≡ self.old.targets.items ++ target ∷ []) }
+    {
+        self.marks.push(mark)?;
+        self.targets.push(target)?;
+        Ok(())
+    }
+}
+
+/// The marks that lead on from a set with one byte, and where to.
+fn cell_of(
+    alloc: Global,
+    nfa: &Nfa,
+    exits: &Exits,
+    byte: u8,
+    sets: &mut Vec<StateSet>,
+) -> Result<Cell, DfaRefusal>
+    requires automaton { IsAutomaton nfa.now }
+    requires exits { AreExits nfa.now exits.now }
+    requires reached { IsReached nfa.now exits.now.from }
+    requires found { AreFound nfa.now sets.old.items }
+    ensures found { IfOk result (λ _. AreFound nfa.now sets.new.items) }
+    ensures extends { IfOk result (λ _. Extends sets.old.items sets.new.items) }
+    ensures cell { IfOk result (λ c. IsCell nfa.now sets.new.items exits.now.from byte c.marks.items c.targets.items) }
+    ensures refused { IfTooMany result (AreTooMany nfa.now) }
+{
+    let mut cell = Cell {
+        marks: Vec::new(alloc),
+        targets: Vec::new(alloc),
+    };
+    for mark in &exits.marks {
+        let to = targets_of(alloc, nfa, exits.by_mark.get(*mark as usize), byte)?;
+        if to.has_some() {
+            let target = place_of(sets, to)?;
+            cell.push(*mark, target)?;
+        }
+    }
+    Ok(cell)
+}
+
+/// The cells of a set, one for each of the bytes.
+fn cells_of(
+    alloc: Global,
+    nfa: &Nfa,
+    exits: &Exits,
+    bytes: &[u8],
+    sets: &mut Vec<StateSet>,
+) -> Result<Vec<Cell>, DfaRefusal>
+    requires automaton { IsAutomaton nfa.now }
+    requires exits { AreExits nfa.now exits.now }
+    requires reached { IsReached nfa.now exits.now.from }
+    requires found { AreFound nfa.now sets.old.items }
+    ensures found { IfOk result (λ _. AreFound nfa.now sets.new.items) }
+    ensures extends { IfOk result (λ _. Extends sets.old.items sets.new.items) }
+    ensures cells { IfOk result (λ cells. AreCells nfa.now sets.new.items exits.now.from bytes.now (length bytes.now) cells.items) }
+    ensures refused { IfTooMany result (AreTooMany nfa.now) }
+{
+    let mut cells = Vec::new(alloc);
+    for byte in bytes {
+        let cell = cell_of(alloc, nfa, exits, *byte, sets)?;
+        cells.push(cell)?;
+    }
+    Ok(cells)
+}
+
+/// The row of the set at a place.
+fn row_of(
+    alloc: Global,
+    nfa: &Nfa,
+    sources: &Buckets,
+    bytes: &[u8],
+    place: usize,
+    sets: &mut Vec<StateSet>,
+) -> Result<Row, DfaRefusal>
+    requires automaton { IsAutomaton nfa.now }
+    requires sources { AreBySource nfa.now sources.now }
+    requires place { place < vec_len sets.old }
+    requires found { AreFound nfa.now sets.old.items }
+    ensures found { IfOk result (λ _. AreFound nfa.now sets.new.items) }
+    ensures extends { IfOk result (λ _. Extends sets.old.items sets.new.items) }
+    ensures row { IfOk result (λ r. (x : List Bool) → slice_get sets.old.items place ≡ Some x → IsRow nfa.now sets.new.items x bytes.now r) }
+    ensures refused { IfTooMany result (AreTooMany nfa.now) }
+{
+    let from = sets[place].copy(alloc)?;
+    let ends = ends_of_set(alloc, nfa, &from)?;
+    let exits = exits_of(alloc, nfa, sources, from)?;
+    let cells = cells_of(alloc, nfa, &exits, bytes, sets)?;
+    Ok(Row { cells, ends })
+}
+
+/// The start's set, alone in a list.
+fn start_sets(alloc: Global, nfa: &Nfa) -> Result<Vec<StateSet>, NoMemory>
+    requires { IsAutomaton nfa.now }
+    ensures { IfOk result (λ sets. sets.items ≡ start_set nfa.now.states ∷ []) }
+{
+    let mut start = StateSet::empty(alloc, nfa.states())?;
+    start.insert(0);
+    let mut sets = Vec::new(alloc);
+    sets.push(start)?;
+    Ok(sets)
+}
+
+/// The rows of all reached sets, with a cell for each of the bytes.
+pub fn rows_of(alloc: Global, nfa: &Nfa, bytes: &[u8]) -> Result<Vec<Row>, DfaRefusal>
+    requires { IsAutomaton nfa.now }
+    ensures rows { IfOk result (λ rows. AreAllRows nfa.now bytes.now rows.items) }
+    ensures refused { IfTooMany result (AreTooMany nfa.now) }
+{
+    let sources = by_source(alloc, nfa)?;
+    let mut sets = start_sets(alloc, nfa)?;
+    let mut rows = Vec::new(alloc);
+    'rows: while rows.len() < sets.len() {
+        let row = row_of(alloc, nfa, &sources, bytes, rows.len(), &mut sets)?;
+        rows.push(row)?;
+    }
+    Ok(rows)
+}
