@@ -1,0 +1,11 @@
+pub mod Complete
+pub mod Sound
+pub mod Chains
+pub mod Moves
+pub mod Bytes
+pub mod Reading
+pub mod Below
+pub mod Least
+pub mod Judged
+pub mod Numbers
+pub mod Outcomes

@@ -1,0 +1,68 @@
+//! What a formula text gives: a formula with its names, or the first refusal.
+ghost use Rattle.std.specs.Prelude.{◌≡◌, ◌≤◌, ℕ, List, length};
+ghost use Rattle.formula_syntax.specs.View.{IsRead, IsReadIn, IsCopy};
+ghost use Rattle.formula_syntax.specs.FormulaOf.{Says};
+
+use crate::fault::{check, sets_of};
+use crate::reader::{Found, Stop, read_all};
+use crate::refusal::FormulaRefusal;
+use span_types::{Formula, Name, Vars};
+use std::alloc::Global;
+
+/// The formula of a text, and the names of its variables, which are numbered by first appearance from the left. Chains nest to the right.
+///
+/// It takes time linear in the length of the text, but for the copies of at most eight names. The recursions over the formula are as deep as its text is long, at most 2,048.
+///
+/// # Errors
+///
+/// The first refusal of `FormulaRefusal` that holds, and `NoMemory`.
+pub fn read(alloc: Global, text: &[u8]) -> Result<(Formula, Vars), FormulaRefusal>
+    ensures { Says result text.now }
+{
+    if text.len() > 2048 {
+        return Err(FormulaRefusal::TooLong {
+            len: text.len() as u64,
+        });
+    }
+    match read_all(alloc, text) {
+        Ok(found) => judge(alloc, found),
+        Err(Stop::Bad) => Err(FormulaRefusal::BadText),
+        Err(Stop::OutOfMemory) => Err(FormulaRefusal::NoMemory),
+    }
+}
+
+/// Looks at the limits and the rule, in their order, for what was found in a text.
+fn judge(alloc: Global, found: Found) -> Result<(Formula, Vars), FormulaRefusal>
+    requires { IsRead found }
+    ensures { (s : List ℕ) → length s ≤ 2048 → IsReadIn s found → Says result s }
+{
+    let Found {
+        formula,
+        vars,
+        crowded,
+        deepest,
+    } = found;
+    if deepest > 64 {
+        return Err(FormulaRefusal::TooDeep);
+    }
+    if sets_of(&formula) > 512 {
+        return Err(FormulaRefusal::TooManyPositions);
+    }
+    if crowded {
+        return Err(FormulaRefusal::TooManyVariables);
+    }
+    match check(&formula).fault {
+        Some(v) => Err(not_functional(alloc, vars.name(v))),
+        None => Ok((formula, vars)),
+    }
+}
+
+/// The refusal at a variable.
+fn not_functional(alloc: Global, name: &Name) -> FormulaRefusal
+    ensures { IsCopy result name.now }
+{
+    match name.copy(alloc) {
+        Ok(name) => FormulaRefusal::NotFunctional { name },
+        Err(_) => FormulaRefusal::NoMemory,
+    }
+}
