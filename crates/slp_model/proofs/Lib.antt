@@ -1,0 +1,4 @@
+pub mod TreeLemmas
+pub mod NodesLemmas
+pub mod JoinLemmas
+pub mod ShapeLemmas
