@@ -1,0 +1,99 @@
+-- A store with one more node, and what its facts tell.
+use Rattle.std.proofs.Common.{◌≡◌, ◌≢◌, ℕ, ◌+◌, ◌<◌, ◌≤◌, ◌^◌, ◌⊎◌, inl, inr, List, [], ◌∷◌, ◌++◌, length, get_or, slice_get, Some, refl, ap, sym, subst, ◌∙◌, arith, length-append}
+use Rattle.std.proofs.Common.{Bool, true, false, zero, suc}
+use Rattle.std.specs.List.{IsDistinct, AllByRecursion}
+use Rattle.std.proofs.lemmas.Bool.{cases_lt}
+use Rattle.std.proofs.lemmas.Option.{slice_get_within, get_or_from_slice_get, slice_get-get_or}
+use Rattle.std.proofs.lemmas.List.{get_or_push, get_or_append_left}
+use Rattle.slp_model.specs.declared.Node.{Node}
+use Rattle.slp_model.specs.Tree.{Tree, leaves, height, IsBalanced}
+use Rattle.slp_model.specs.Nodes.{tree, trees, node_tree, IsSound, IsBelow, Grows, pair_count}
+use Rattle.span_types.specs.Fibonacci.{fibonacci, height_limit}
+use Rattle.slp_model.proofs.TreeLemmas.{height-most, height-enough, height-by_leaves}
+use Rattle.slp_model.proofs.NodesLemmas.{slice_get-push, tree-append, tree-push, tree-at, IsSound-push, Grows-none, Grows-push}
+use Rattle.node_store.specs.declared.Facts.{Facts}
+use Rattle.node_store.specs.Stored.{IsFactsOf, IsStored, IsNext, IsKept}
+
+pub IsStored-push : (ns : List Node) (fs : List Facts) (n : Node) (f : Facts) → IsStored ns fs → IsNext ns n f → IsStored (ns ++ n ∷ []) (fs ++ f ∷ [])
+IsStored-push ns fs n f s x = record {
+  sound = IsSound-push ns n s.sound x.below x.balanced x.short;
+  as_long = omega (arith, length-append ns (n ∷ []), length-append fs (f ∷ []), s.as_long);
+  facts_are = facts;
+}
+  where
+    facts : (i : ℕ) (g : Facts) → slice_get (fs ++ f ∷ []) i ≡ Some g → IsFactsOf (ns ++ n ∷ []) i g
+    facts i g h =
+        let within : i < length (fs ++ f ∷ []) = slice_get_within (fs ++ f ∷ []) i g h in
+        let here : get_or (fs ++ f ∷ []) i g ≡ g = get_or_from_slice_get (fs ++ f ∷ []) i g g h in
+        elim (cases_lt i (length fs)) [
+          | inl lt ↦
+              let old : slice_get fs i ≡ Some g = slice_get-get_or fs i g lt ∙ ap Some (sym (get_or_append_left fs (f ∷ []) g i lt) ∙ here) in
+              let inside : i < length ns = omega (arith, s.as_long) in
+              let same : tree (ns ++ n ∷ []) i ≡ tree ns i = tree-append ns (n ∷ []) i inside in
+              let known : IsFactsOf ns i g = s.facts_are i g old in
+              record { len = known.len ∙ ap leaves (sym same); height_is = known.height_is ∙ ap height (sym same) }
+          | inr ge ↦
+              let e : length ns ≡ i = omega (arith, length-append fs (f ∷ []), s.as_long) in
+              let e2 : length fs ≡ i = omega (arith, s.as_long) in
+              let new : f ≡ g = sym (get_or_push fs f g i e2) ∙ here in
+              let top : tree (ns ++ n ∷ []) i ≡ node_tree (trees ns) n = subst (λ k. tree (ns ++ n ∷ []) k ≡ node_tree (trees ns) n) e (tree-push ns n) in
+              record { len = ap (λ y. y.len) (sym new) ∙ (x.len ∙ ap leaves (sym top)); height_is = ap (λ y. y.height) (sym new) ∙ (x.height_is ∙ ap height (sym top)) }
+        ]
+
+-- a node that is there, before or after it was added last
+pub tree-kept : (ns : List Node) (n : Node) (i : ℕ) → IsSound ns → slice_get (ns ++ n ∷ []) i ≡ Some n → tree (ns ++ n ∷ []) i ≡ node_tree (trees ns) n
+tree-kept ns n i s h = elim (slice_get-push ns n n i h) [
+  | inl old ↦ tree-append ns (n ∷ []) i old.0 ∙ tree-at ns i n old.1 (s.children i n old.1)
+  | inr new ↦ subst (λ k. tree (ns ++ n ∷ []) k ≡ node_tree (trees ns) n) (sym new.0) (tree-push ns n)
+]
+
+pub kept-grows : (old new : List Node) (n : Node) (p q : ℕ) → IsKept old new n → pair_count (n ∷ []) + p ≤ q → Grows old new p q
+kept-grows old new n p q kept paid = elim kept [
+  | inl same ↦ subst (λ x. Grows old x p q) (sym same) (Grows-none old p q (omega arith))
+  | inr more ↦ subst (λ x. Grows old x p q) (sym more.0) (Grows-push old n p q paid)
+]
+
+-- a height of t, bounded by the bytes of t
+pub record IsHeightOf (t : Tree) (h : ℕ) : Type 0 where
+  pub enough : fibonacci (h + 2) ≤ leaves t
+  pub limit : h ≤ height_limit (leaves t)
+  pub low : h ≤ 68
+
+-- what holds of each element holds at each place
+all-at : {K : Type 0} (P : K → Type 0) (xs : List K) (j : ℕ) (n : K) → AllByRecursion P xs → slice_get xs j ≡ Some n → P n
+all-at P [] j n h e = cc
+all-at P (x ∷ xs) zero n h e = let s : x ≡ n = cc in subst P s h.0
+all-at P (x ∷ xs) (suc j) n h e = all-at P xs j n h.1 e
+
+-- two places with equal elements are one, where the test finds each element equal to itself
+pub distinct-at : {K : Type 0} (eq : K → K → Bool) → ((x : K) → eq x x ≡ true) → (ns : List K) → IsDistinct eq ns → (i j : ℕ) (n : K) → slice_get ns i ≡ Some n → slice_get ns j ≡ Some n → i ≡ j
+unfolding IsDistinct
+distinct-at eq same [] d i j n p q = cc
+distinct-at eq same (x ∷ xs) d zero zero n p q = refl
+distinct-at eq same (x ∷ xs) d zero (suc j) n p q = let s : x ≡ n = cc in let f : eq x n ≡ false = all-at (λ y. eq x y ≡ false) xs j n d.0 q in let t : eq x n ≡ true = subst (λ y. eq x y ≡ true) s (same x) in cc
+distinct-at eq same (x ∷ xs) d (suc i) zero n p q = let s : x ≡ n = cc in let f : eq x n ≡ false = all-at (λ y. eq x y ≡ false) xs i n d.0 p in let t : eq x n ≡ true = subst (λ y. eq x y ≡ true) s (same x) in cc
+distinct-at eq same (x ∷ xs) d (suc i) (suc j) n p q = ap suc (distinct-at eq same xs d.1 i j n p q)
+
+-- a node that was added to distinct nodes wasn't among them
+pub new-added : {K : Type 0} (eq : K → K → Bool) → ((x : K) → eq x x ≡ true) → (ns : List K) (n : K) → IsDistinct eq (ns ++ n ∷ []) → (i : ℕ) → slice_get ns i ≢ Some n
+new-added eq same ns n d i h =
+    let within : i < length ns = slice_get_within ns i n h in
+    let longer : i < length (ns ++ n ∷ []) = omega (arith, length-append ns (n ∷ [])) in
+    let last : length ns < length (ns ++ n ∷ []) = omega (arith, length-append ns (n ∷ [])) in
+    let at : slice_get (ns ++ n ∷ []) i ≡ Some n = slice_get-get_or (ns ++ n ∷ []) i n longer ∙ ap Some (get_or_append_left ns (n ∷ []) n i within ∙ get_or_from_slice_get ns i n n h) in
+    let top : slice_get (ns ++ n ∷ []) (length ns) ≡ Some n = slice_get-get_or (ns ++ n ∷ []) (length ns) n last ∙ ap Some (get_or_push ns n n (length ns) refl) in
+    let e : i ≡ length ns = distinct-at eq same (ns ++ n ∷ []) d i (length ns) n at top in
+    omega arith
+
+-- a height at a place, with what the tree has of bytes
+pub facts-height : (ns : List Node) (fs : List Facts) (i : ℕ) (f : Facts) → IsStored ns fs → i < length ns → f ≡ get_or fs i f → IsHeightOf (tree ns i) f.height
+facts-height ns fs i f s h e =
+    let inside : i < length fs = omega (arith, s.as_long) in
+    let at : slice_get fs i ≡ Some f = slice_get-get_or fs i f inside ∙ ap Some (sym e) in
+    let is : f.height ≡ height (tree ns i) = (s.facts_are i f at).height_is in
+    let bal : IsBalanced (tree ns i) = s.sound.balanced i h in
+    record {
+      enough = subst (λ g. fibonacci (g + 2) ≤ leaves (tree ns i)) (sym is) (height-enough (tree ns i) bal);
+      limit = omega (arith, is, height-by_leaves (tree ns i) bal);
+      low = omega (arith, is, height-most (tree ns i) bal (s.sound.short i h));
+    }

@@ -1,0 +1,229 @@
+//! Nodes kept once each, with the length and the height of the text below them.
+#![tactic(auto)]
+
+ghost use Rattle.std.specs.Prelude.{◌≡◌, ◌+◌, ◌^◌, ◌<◌, ◌≤◌, [], length, slice_get, IfSome, IfOk, OnErr, Some};
+ghost use Rattle.span_types.specs.Fibonacci.{fibonacci, height_limit};
+ghost use Rattle.slp_model.specs.Tree.{Fork, Leaf, leaves, height, IsNear, IsBalanced};
+ghost use Rattle.slp_model.specs.Nodes.{tree, trees, node_tree, Grows, IsNodeAt};
+ghost use Rattle.node_store.specs.Stored.{IsNext, IsKept, AreDistinct};
+
+mod hints;
+
+use hints::Hints;
+use indexmap::IndexSet;
+pub use slp_model::{Node, NodeId};
+use span_types::{NoMemory, Steps};
+use std::alloc::Global;
+use std::marker::Model;
+use std::sync::ledger::Ledger;
+
+/// What is known of a node without a look at the nodes below it.
+#[derive(Clone, Copy, Debug)]
+pub(crate) struct Facts {
+    pub(crate) len: u64,
+    pub(crate) height: u8,
+}
+
+/// The nodes of a straight-line program in the order in which they came, each once. A child comes
+/// before its parent, and nodes never change.
+#[derive(Drop)]
+pub struct Store {
+    nodes: IndexSet<Node>,
+    facts: Vec<Facts>,
+    hints: Hints,
+}
+
+impl Model for Store {
+    ghost use Rattle.std.specs.Prelude.{List};
+    ghost use Rattle.slp_model.specs.declared.Node.{Node};
+
+    ghost Value = { List Node };
+
+    ghost use Rattle.node_store.specs.Stored.{IsStored};
+
+    ghost view = { λ s. s.nodes.keys };
+
+    ghost invariant = { λ s. IsStored s.nodes.keys s.facts.items };
+}
+
+impl Store {
+    /// No nodes.
+    pub fn new(alloc: Global) -> Store
+        ensures { result ≡ [] }
+    {
+        Store {
+            nodes: IndexSet::new(alloc),
+            facts: Vec::new(alloc),
+            hints: Hints::new(alloc),
+        }
+    }
+
+    /// How many nodes there are.
+    pub fn count(&self) -> usize
+        ensures count { result ≡ length self.now }
+        ensures distinct { AreDistinct self.now }
+    {
+        self.nodes.len()
+    }
+
+    /// The node with this id. It takes constant time, as do `len`, `height` and `children`.
+    pub fn node(&self, id: NodeId) -> Node
+        requires { id.index < length self.now }
+        ensures node { slice_get self.now id.index ≡ Some result }
+        ensures tree { IsNodeAt self.now id.index result }
+        ensures balanced { IsBalanced (tree self.now id.index) }
+    {
+        self.nodes.as_slice()[id.index]
+    }
+
+    /// How many bytes the node's text has, at most 2^48.
+    pub fn len(&self, id: NodeId) -> u64
+        requires { id.index < length self.now }
+        ensures len { result ≡ leaves (tree self.now id.index) }
+        ensures short { result ≤ 2 ^ 48 }
+        ensures balanced { IsBalanced (tree self.now id.index) }
+    {
+        self.facts[id.index].len
+    }
+
+    /// The height of the node's tree: 0 for a byte, and for a pair one more than the higher of its
+    /// children. A node of n bytes has height at most H(n), so at most 68.
+    pub fn height(&self, id: NodeId) -> u8
+        requires { id.index < length self.now }
+        ensures height { result ≡ height (tree self.now id.index) }
+        ensures enough { fibonacci (result + 2) ≤ leaves (tree self.now id.index) }
+        ensures limit { result ≤ height_limit (leaves (tree self.now id.index)) }
+        ensures low { result ≤ 68 }
+        ensures balanced { IsBalanced (tree self.now id.index) }
+    {
+        self.facts[id.index].height
+    }
+
+    /// The two children of a node that isn't a byte.
+    pub fn children(&self, id: NodeId) -> (NodeId, NodeId)
+        requires live { id.index < length self.now }
+        requires high { 0 < height (tree self.now id.index) }
+        ensures node { slice_get self.now id.index ≡ Some (Node.Pair result.0 result.1) }
+        ensures tree { tree self.now id.index ≡ Fork (tree self.now result.0.index) (tree self.now result.1.index) }
+        ensures left { result.0.index < id.index }
+        ensures right { result.1.index < id.index }
+        ensures balanced { IsBalanced (Fork (tree self.now result.0.index) (tree self.now result.1.index)) }
+    {
+        match self.node(id) {
+            Node::Pair(left, right) => (left, right),
+            Node::Byte(_) => unreachable!(),
+        }
+    }
+
+    /// The id of the byte's node, which is added last where it isn't there.
+    pub fn byte(&mut self, b: u8) -> Result<NodeId, NoMemory>
+        ensures grows { Grows self.old self.new 0 0 }
+        ensures kept { IsKept self.old self.new (Node.Byte b) }
+        ensures node { IfOk result (λ id. slice_get self.new id.index ≡ Some (Node.Byte b)) }
+        ensures live { IfOk result (λ id. id.index < length self.new) }
+        ensures tree { IfOk result (λ id. tree self.new id.index ≡ Leaf b) }
+        ensures err { OnErr result (self.new ≡ self.old) }
+    {
+        let node = Node::Byte(b);
+        if let Some(id) = self.found(node) {
+            return Ok(id);
+        }
+        let facts = Facts { len: 1, height: 0 };
+        self.intern(node, facts)
+    }
+
+    /// The id of the pair, which is added last where it isn't there. It is one step, and takes
+    /// constant time but where the store grows.
+    ///
+    /// The children's heights differ by at most one, and the text has at most 2^48 bytes.
+    pub fn pair<L: Ledger>(
+        &mut self,
+        left: NodeId,
+        right: NodeId,
+        pairs: &mut Steps<L>,
+    ) -> Result<NodeId, NoMemory>
+        requires left { left.index < length self.old }
+        requires right { right.index < length self.old }
+        requires near { IsNear (height (tree self.old left.index)) (height (tree self.old right.index)) }
+        requires short { leaves (tree self.old left.index) + leaves (tree self.old right.index) ≤ 2 ^ 48 }
+        ensures grows { Grows self.old self.new pairs.old pairs.new }
+        ensures kept { IsKept self.old self.new (Node.Pair left right) }
+        ensures node { IfOk result (λ id. slice_get self.new id.index ≡ Some (Node.Pair left right)) }
+        ensures live { IfOk result (λ id. id.index < length self.new) }
+        ensures tree { IfOk result (λ id. tree self.new id.index ≡ Fork (tree self.old left.index) (tree self.old right.index)) }
+        ensures err { OnErr result (self.new ≡ self.old) }
+        ensures step { pairs.new ≡ pairs.old + 1 }
+    {
+        pairs.tick();
+        let node = Node::Pair(left, right);
+        if let Some(id) = self.found(node) {
+            return Ok(id);
+        }
+        let facts = Facts {
+            len: self.len(left) + self.len(right),
+            height: self.height(left).max(self.height(right)) + 1,
+        };
+        self.intern(node, facts)
+    }
+
+    // The id of the node, where it is noted.
+    fn found(&self, node: Node) -> Option<NodeId>
+        ensures live { IfSome result (λ id. id.index < length self.now) }
+        ensures node { IfSome result (λ id. slice_get self.now id.index ≡ Some node) }
+        ensures tree { IfSome result (λ id. tree self.now id.index ≡ node_tree (trees self.now) node) }
+    {
+        let index = self.hints.guess(node)?;
+        let nodes = self.nodes.as_slice();
+        if index < nodes.len() && nodes[index] == node {
+            return Some(NodeId { index });
+        }
+        None
+    }
+
+    // The id of the node, whose facts are these.
+    fn intern(&mut self, node: Node, facts: Facts) -> Result<NodeId, NoMemory>
+        requires { IsNext self.old node facts }
+        ensures kept { IsKept self.old self.new node }
+        ensures node { IfOk result (λ id. slice_get self.new id.index ≡ Some node) }
+        ensures live { IfOk result (λ id. id.index < length self.new) }
+        ensures tree { IfOk result (λ id. tree self.new id.index ≡ node_tree (trees self.old) node) }
+        ensures err { OnErr result (self.new ≡ self.old) }
+    {
+        self.facts.reserve(1).map_err(|_| NoMemory)?;
+        let (index, added) = self.nodes.insert_full(node).map_err(|_| NoMemory)?;
+        self.hints.note(node, index);
+        if added {
+            self.facts.push_reserved(facts);
+        }
+        Ok(NodeId { index })
+    }
+}
+
+#[cfg(test)]
+mod tests {
+    use super::*;
+    use std::marker::Brand;
+    use std::process::Abort;
+    use std::sync::ledger::Blank;
+    use std::test::Fail;
+
+    #[test]
+    fn a_pair_of_bytes(rt: HostRuntime) -> Result<(), Fail> {
+        let alloc = rt.alloc();
+        paired::<Brand>(&rt, alloc, Blank::new(1))
+    }
+
+    fn paired<L: Ledger>(rt: &impl Abort, alloc: Global, blank: Blank) -> Result<(), Fail>
+        requires name { blank.name ≡ L.name }
+        requires parts { blank.parts ≡ L.parts }
+        requires some { 0 < L.parts }
+    {
+        let mut pairs = Steps::<L>::new(blank);
+        let mut store = Store::new(alloc);
+        let a = store.byte(b'a')?;
+        assert!(rt; a.index < store.count() && store.len(a) == 1);
+        let twice = store.pair(a, a, &mut pairs)?;
+        assert_eq!(rt; store.node(twice), Node::Pair(a, a));
+        Ok(())
+    }
+}
