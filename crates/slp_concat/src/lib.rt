@@ -1,0 +1,119 @@
+//! Joins the texts of two roots, and keeps trees balanced (concatenation of height-balanced trees;
+//! for straight-line programs see W. Rytter, Theoretical Computer Science 302, 2003).
+#![tactic(auto)]
+
+ghost use Rattle.std.specs.Prelude.{◌≡◌, ◌+◌, ◌^◌, ◌<◌, ◌≤◌, length, IfOk};
+ghost use Rattle.slp_model.specs.Tree.{leaves, height, root_leaves, IsNear, IsBalanced};
+ghost use Rattle.slp_model.specs.Nodes.{tree, root_tree, Grows, IsLive};
+ghost use Rattle.slp_model.specs.Join.{join, join_roots, join_cost, root_cost, IsJoinedRoot};
+
+mod pairs;
+mod settle;
+
+use node_store::{NodeId, Store};
+use settle::{settle_left, settle_right};
+use span_types::{NoMemory, Steps};
+use std::sync::ledger::Ledger;
+
+/// A root of the text of `left` followed by that of `right`, with the tree `join_roots`.
+///
+/// Both are live, and the joined text has at most 2^48 bytes. With heights g and h the result has
+/// height max(g, h) or one more, and at most 3·|g-h| + 1 pair calls are made. With an empty side
+/// the other side is the result, and none is made. After NoMemory the store may have more nodes.
+pub fn concat<L: Ledger>(
+    store: &mut Store,
+    left: Option<NodeId>,
+    right: Option<NodeId>,
+    pairs: &mut Steps<L>,
+) -> Result<Option<NodeId>, NoMemory>
+    requires left { IsLive store.old left }
+    requires right { IsLive store.old right }
+    requires short { root_leaves (root_tree store.old left) + root_leaves (root_tree store.old right) ≤ 2 ^ 48 }
+    ensures grows { Grows store.old store.new pairs.old pairs.new }
+    ensures live { IfOk result (λ root. IsLive store.new root) }
+    ensures tree { IfOk result (λ root. root_tree store.new root ≡ join_roots (root_tree store.old left) (root_tree store.old right)) }
+    ensures joined { IfOk result (λ root. IsJoinedRoot (root_tree store.old left) (root_tree store.old right) (root_tree store.new root)) }
+    ensures cost { pairs.new ≤ pairs.old + root_cost (root_tree store.old left) (root_tree store.old right) }
+{
+    match (left, right) {
+        (Some(a), Some(b)) => {
+            let id = join(store, a, b, pairs)?;
+            Ok(Some(id))
+        }
+        (Some(a), None) => Ok(Some(a)),
+        (None, root) => Ok(root),
+    }
+}
+
+/// The node of the joined text of two nodes, with their `join` as its tree.
+///
+/// Near trees make a pair, in one step. Else the lower one is joined to the facing child of the
+/// higher one, and the result is put beside the other child, by a rotation where it is two higher
+/// than that. So two trees of heights g and h take at most 3·|g-h| + 1 steps, and at most 205.
+pub fn join<L: Ledger>(
+    store: &mut Store,
+    a: NodeId,
+    b: NodeId,
+    pairs: &mut Steps<L>,
+) -> Result<NodeId, NoMemory>
+    requires a { a.index < length store.old }
+    requires b { b.index < length store.old }
+    requires short { leaves (tree store.old a.index) + leaves (tree store.old b.index) ≤ 2 ^ 48 }
+    ensures grows { Grows store.old store.new pairs.old pairs.new }
+    ensures live { IfOk result (λ id. id.index < length store.new) }
+    ensures tree { IfOk result (λ id. tree store.new id.index ≡ join (tree store.old a.index) (tree store.old b.index)) }
+    ensures balanced { IsBalanced (tree store.old a.index) × IsBalanced (tree store.old b.index) }
+    ensures near { IsNear (height (tree store.old a.index)) (height (tree store.old b.index)) → pairs.new ≡ pairs.old + 1 }
+    ensures low { join_cost (height (tree store.old a.index)) (height (tree store.old b.index)) ≤ 205 }
+    ensures cost { pairs.new ≤ pairs.old + join_cost (height (tree store.old a.index)) (height (tree store.old b.index)) }
+{
+    let g = store.height(a);
+    let h = store.height(b);
+    if g > h + 1 {
+        let (left, c) = store.children(a);
+        let t = join(store, c, b, pairs)?;
+        return settle_right(store, left, t, pairs);
+    }
+    if h > g + 1 {
+        let (c, right) = store.children(b);
+        let t = join(store, a, c, pairs)?;
+        return settle_left(store, t, right, pairs);
+    }
+    store.pair(a, b, pairs)
+}
+
+#[cfg(test)]
+mod tests {
+    use super::*;
+    use node_store::Node;
+    use std::alloc::Global;
+    use std::marker::Brand;
+    use std::process::Abort;
+    use std::sync::ledger::Blank;
+    use std::test::Fail;
+
+    #[test]
+    fn two_bytes_joined(rt: HostRuntime) -> Result<(), Fail> {
+        let alloc = rt.alloc();
+        joined::<Brand>(&rt, alloc, Blank::new(1))
+    }
+
+    fn joined<L: Ledger>(rt: &impl Abort, alloc: Global, blank: Blank) -> Result<(), Fail>
+        requires name { blank.name ≡ L.name }
+        requires parts { blank.parts ≡ L.parts }
+        requires some { 0 < L.parts }
+    {
+        let mut pairs = Steps::<L>::new(blank);
+        let mut store = Store::new(alloc);
+        let a = store.byte(b'a')?;
+        assert!(rt; a.index < store.count() && store.len(a) == 1);
+        let twice = join(&mut store, a, a, &mut pairs)?;
+        assert_eq!(rt; store.node(twice), Node::Pair(a, a));
+        assert!(rt; a.index < store.count() && store.len(a) == 1);
+        assert_eq!(rt;
+            concat(&mut store, Some(a), Some(a), &mut pairs)?,
+            Some(twice)
+        );
+        Ok(())
+    }
+}
