@@ -1,0 +1,5 @@
+pub mod Counters
+pub mod CounterLemmas
+pub mod StackLemmas
+pub mod GatherLemmas
+pub mod BlockLemmas

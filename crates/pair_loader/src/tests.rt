@@ -1,0 +1,97 @@
+//! The loader's trees of short texts.
+ghost use Rattle.std.specs.Prelude.{◌≡◌, ◌<◌};
+
+use super::*;
+use node_store::Node;
+use std::marker::Brand;
+use std::process::Abort;
+use std::sync::ledger::Blank;
+use std::test::Fail;
+
+#[test]
+fn trees_of_texts(rt: HostRuntime) -> Result<(), Fail> {
+    let alloc = rt.alloc();
+    texts::<Brand>(&rt, alloc, Blank::new(1))
+}
+
+// Five pieces, one, and two with an empty one between, each with the nodes after each piece.
+#[test]
+fn trees_of_pieces(rt: HostRuntime) -> Result<(), Fail> {
+    let alloc = rt.alloc();
+    pieces::<Brand>(
+        &rt,
+        alloc,
+        &[1, 2, 3, 4, 5],
+        &[1, 3, 4, 7, 8],
+        Blank::new(1),
+    )?;
+    pieces::<Brand>(&rt, alloc, &[5], &[8], Blank::new(1))?;
+    pieces::<Brand>(&rt, alloc, &[2, 2, 5], &[3, 3, 8], Blank::new(1))
+}
+
+fn texts<L: Ledger>(rt: &impl Abort, alloc: Global, blank: Blank) -> Result<(), Fail>
+    requires name { blank.name ≡ L.name }
+    requires parts { blank.parts ≡ L.parts }
+    requires some { 0 < L.parts }
+{
+    let mut pairs = Steps::<L>::new(blank);
+    let mut store = Store::new(alloc);
+    assert_eq!(rt; load(alloc, &mut store, b"", &mut pairs)?, None);
+    let root = load(alloc, &mut store, b"abcde", &mut pairs)?;
+    check_abcde(rt, &store, root);
+    let mut store = Store::new(alloc);
+    let Some(id) = load(alloc, &mut store, b"abracadabra", &mut pairs)? else {
+        return Ok(assert!(rt; false));
+    };
+    assert_eq!(rt; (store.height(id), store.count()), (4, 15));
+    Ok(())
+}
+
+fn pieces<L: Ledger>(
+    rt: &impl Abort,
+    alloc: Global,
+    ends: &[usize],
+    counts: &[usize],
+    blank: Blank,
+) -> Result<(), Fail>
+    requires name { blank.name ≡ L.name }
+    requires parts { blank.parts ≡ L.parts }
+    requires some { 0 < L.parts }
+{
+    let mut pairs = Steps::<L>::new(blank);
+    let mut store = Store::new(alloc);
+    let mut loader = Loader::new(alloc)?;
+    let text: &[u8] = b"abcde";
+    let mut start = 0;
+    for (&end, &count) in ends.iter().zip(counts) {
+        assert!(rt; start <= end && end <= text.len());
+        loader.feed(&mut store, &text[start..end], &mut pairs)?;
+        assert_eq!(rt; store.count(), count);
+        start = end;
+    }
+    let root = loader.finish(&mut store, &mut pairs)?;
+    check_abcde(rt, &store, root);
+    Ok(())
+}
+
+// Pair(Pair(a, b), Pair(Pair(c, d), e)), beside the block of `abcd`.
+fn check_abcde(rt: &impl Abort, store: &Store, root: Option<NodeId>) {
+    let pair = |left, right| Node::Pair(NodeId { index: left }, NodeId { index: right });
+    let nodes = [
+        Node::Byte(b'a'),
+        Node::Byte(b'b'),
+        pair(0, 1),
+        Node::Byte(b'c'),
+        Node::Byte(b'd'),
+        pair(3, 4),
+        pair(2, 5),
+        Node::Byte(b'e'),
+        pair(5, 7),
+        pair(2, 8),
+    ];
+    assert_eq!(rt; root, Some(NodeId { index: 9 }));
+    assert_eq!(rt; store.count(), 10);
+    for (index, node) in nodes.iter().enumerate() {
+        assert_eq!(rt; store.node(NodeId { index }), *node);
+    }
+}
