@@ -1,0 +1,141 @@
+//! Documents by name, each with the root of its text, in the order in which their names came.
+#![tactic(auto)]
+
+ghost use Rattle.std.specs.Prelude.{◌≡◌, ◌<◌, ◌≤◌, [], length, slice_get, ok_or, Some, None, IsSome, IfOk, OnOk, OnErr};
+ghost use Rattle.doc_book.specs.Docs.{AreDistinctNames, put, root_of, taken_out, with_root};
+
+use indexmap::IndexMap;
+use slp_model::NodeId;
+use span_types::{Name, NoMemory};
+use std::alloc::Global;
+use std::marker::Model;
+use thiserror::Error;
+
+/// Why a document is not found.
+#[derive(Clone, Copy, Debug, PartialEq, Eq, Drop, Error)]
+pub enum Missing {
+    /// No document has the name.
+    #[error("no document has this name")]
+    NoSuchDocument,
+}
+
+/// A document.
+#[derive(Drop)]
+pub struct Doc {
+    /// Its name.
+    pub name: Name,
+    /// The node that derives its text, or `None` for the empty text.
+    pub root: Option<NodeId>,
+}
+
+/// Documents with distinct names, in the order in which the names came. Contracts see them as a
+/// list. A look-up by name takes expected constant time.
+#[derive(Drop)]
+pub struct Docs {
+    by_name: IndexMap<Vec<u8>, Doc>,
+}
+
+impl Model for Docs {
+    ghost use Rattle.std.specs.Prelude.{List};
+    ghost use Rattle.indexmap.specs.IndexMap.{values};
+    ghost use Rattle.doc_book.specs.declared.Doc.{Doc};
+    ghost use Rattle.doc_book.specs.Named.{AreNamed};
+
+    ghost Value = { List Doc };
+
+    ghost view = { λ d. values d.by_name };
+
+    ghost invariant = { λ d. AreNamed d.by_name.entries };
+}
+
+impl Docs {
+    /// No documents.
+    pub fn new(alloc: Global) -> Docs
+        ensures { result ≡ [] }
+    {
+        Docs {
+            by_name: IndexMap::new(alloc),
+        }
+    }
+
+    /// Gives the name this root. A present name keeps its place, and a new one goes last. Where
+    /// memory runs out, the documents are as before. Takes expected constant time.
+    pub fn set(&mut self, alloc: Global, name: Name, root: Option<NodeId>) -> Result<(), NoMemory>
+        ensures ok { OnOk result (self.new ≡ put self.old name root) }
+        ensures err { OnErr result (self.new ≡ self.old) }
+    {
+        let key = name.bytes().to_vec(alloc)?;
+        match self.by_name.insert(key, Doc { name, root }) {
+            Ok(_) => Ok(()),
+            Err(_) => Err(NoMemory),
+        }
+    }
+
+    /// The root of the document with this name, or `NoSuchDocument` exactly where there is none.
+    pub fn get(&self, name: &[u8]) -> Result<Option<NodeId>, Missing>
+        ensures { result ≡ ok_or (root_of self.now name.now) Missing.NoSuchDocument }
+    {
+        match self.by_name.get(name) {
+            Some(doc) => Ok(doc.root),
+            None => Err(Missing::NoSuchDocument),
+        }
+    }
+
+    /// Takes the document with this name out, and the rest close up. It is refused exactly where
+    /// there is none, and the documents are then as before. Takes time linear in their number.
+    pub fn take_out(&mut self, name: &[u8]) -> Result<(), Missing>
+        ensures ok { OnOk result (IsSome (root_of self.old name.now)) }
+        ensures rest { self.new ≡ taken_out self.old name.now }
+        ensures err { OnErr result (root_of self.old name.now ≡ None) }
+        ensures same { OnErr result (self.new ≡ self.old) }
+    {
+        match self.by_name.shift_remove(name) {
+            Some(_) => Ok(()),
+            None => Err(Missing::NoSuchDocument),
+        }
+    }
+
+    /// How many documents there are.
+    pub fn count(&self) -> usize
+        ensures count { result ≡ length self.now }
+        ensures distinct { AreDistinctNames self.now }
+    {
+        self.by_name.len()
+    }
+
+    /// The name and the root of the document at this place. Places count from 0.
+    pub fn at(&self, place: usize) -> (&Name, Option<NodeId>)
+        requires { place < length self.now }
+        ensures { slice_get self.now place ≡ Some (record { name = result.0.now; root = result.1 }) }
+    {
+        match self.by_name.get_index(place) {
+            Some((_, doc)) => (&doc.name, doc.root),
+            None => unreachable!(),
+        }
+    }
+
+    /// Gives the document at this place another root. Takes no memory.
+    pub fn set_root(&mut self, place: usize, root: Option<NodeId>)
+        requires { place < length self.old }
+        ensures { self.new ≡ with_root self.old place root }
+    {
+        if let Some(doc) = self.by_name.get_index_mut(place) {
+            doc.root = root;
+        }
+    }
+
+    /// The same names and roots in the same order. Takes time linear in their number.
+    pub fn copy(&self, alloc: Global) -> Result<Docs, NoMemory>
+        ensures { IfOk result (λ copy. copy ≡ self.now) }
+    {
+        let mut copy = Docs::new(alloc);
+        for place in 0..self.count() {
+            let (name, root) = self.at(place);
+            copy.set(alloc, name.copy(alloc)?, root)?;
+        }
+        Ok(copy)
+    }
+}
+
+#[cfg(test)]
+mod tests;
