@@ -1,0 +1,6 @@
+pub mod Causes
+pub mod Files
+pub mod Injection
+pub mod Memory
+pub mod Outside
+pub mod Told

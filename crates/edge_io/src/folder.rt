@@ -1,0 +1,95 @@
+// The trusted edge: files named from the current folder.
+ghost use Rattle.std.specs.Prelude.{◌≡◌, None};
+ghost use Rattle.std.specs.Io.{ReadsAtMost};
+
+use crate::{Shelf, ShelfRefusal, WriteRefusal};
+use std::io::{ErrorKind, Read, Seek, SeekFrom};
+use std::marker::Model;
+use std::rt::Files;
+use std::{fs, io, str};
+
+/// A shelf over files named from the current folder. It tells nothing of their content. A name with `/` is a path; one
+/// that names a folder, or isn't text, is a fault. A read takes a system call to open the file, one to seek and one to read.
+#[derive(Drop)]
+pub struct DirShelf<'a, R> {
+    rt: &'a R,
+    faults: u64,
+    wants: u64,
+}
+
+impl<'a, R> Model for DirShelf<'a, R> {
+    ghost use Rattle.edge_io.specs.Outside.{FolderCounts};
+
+    ghost Value = { FolderCounts };
+
+    ghost view = { λ s. record { faults = s.faults; wants = s.wants } };
+}
+
+impl<'a, R: Files + AllocGlobal> DirShelf<'a, R> {
+    /// The shelf of the current folder, which hasn't failed yet.
+    pub fn new(rt: &'a R) -> DirShelf<'a, R>
+        ensures { result ≡ record { faults = 0; wants = 0 } }
+    {
+        DirShelf {
+            rt,
+            faults: 0,
+            wants: 0,
+        }
+    }
+}
+
+fn text_of(name: &[u8]) -> io::Result<&str> {
+    str::from_utf8(name).map_err(|_| io::Error::from(ErrorKind::InvalidInput))
+}
+
+fn read_file<R: Files>(rt: &R, name: &[u8], from: u64, into: &mut [u8]) -> io::Result<usize>
+    ensures { ReadsAtMost result into.new }
+{
+    let mut file = fs::open(rt, text_of(name)?)?;
+    file.seek(SeekFrom::Start(from))?;
+    file.read(into)
+}
+
+fn write_file<R: Files>(rt: &R, name: &[u8], bytes: &[u8]) -> io::Result<()> {
+    fs::write(rt, text_of(name)?, bytes)
+}
+
+impl<'a, R: Files + AllocGlobal> Shelf for DirShelf<'a, R> {
+    ghost files = { λ _. None };
+
+    ghost faults = { λ s. s.faults };
+
+    ghost wants = { λ s. s.wants };
+
+    fn read_at(&mut self, name: &[u8], from: u64, into: &mut [u8]) -> Result<usize, ShelfRefusal> {
+        let error = match read_file(self.rt, name, from, into) {
+            Ok(count) => return Ok(count),
+            Err(error) => error,
+        };
+        match error.kind() {
+            // A path below a plain file names no file either.
+            ErrorKind::NotFound | ErrorKind::NotADirectory => Err(ShelfRefusal::Absent),
+            ErrorKind::OutOfMemory => {
+                self.wants = self.wants.saturating_add(1);
+                Err(ShelfRefusal::NoMemory)
+            }
+            _ => {
+                self.faults = self.faults.saturating_add(1);
+                Err(ShelfRefusal::Failed)
+            }
+        }
+    }
+
+    fn put(&mut self, name: &[u8], bytes: &[u8]) -> Result<(), WriteRefusal> {
+        let error = match write_file(self.rt, name, bytes) {
+            Ok(()) => return Ok(()),
+            Err(error) => error,
+        };
+        if error.kind() == ErrorKind::OutOfMemory {
+            self.wants = self.wants.saturating_add(1);
+            return Err(WriteRefusal::NoMemory);
+        }
+        self.faults = self.faults.saturating_add(1);
+        Err(WriteRefusal::Failed)
+    }
+}

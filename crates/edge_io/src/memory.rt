@@ -1,0 +1,242 @@
+// A source, a sink and a shelf in memory that move at most `piece` bytes a call, and fail at stated calls.
+ghost use Rattle.std.specs.Prelude.{◌≡◌, ◌≤◌, ◌<◌, ◌↔◌, ◌≢◌, [], Some, None, length, take, option_map, IsTrue, IsErr, IsErrOf, IfOk, IfErr, OnOk, OnErr};
+ghost use Rattle.std.specs.Io.{ReadsAtMost};
+ghost use Rattle.std.specs.Io.KnownBytes.{ReadConsumes, WriteAppends};
+ghost use Rattle.edge_io.specs.Causes.{HasCause, HasWriteCause, HasShelfCause};
+ghost use Rattle.edge_io.specs.Files.{HasPiece, KeepsOthers, file_of, put_file};
+ghost use Rattle.edge_io.specs.Injection.{fresh, fails_next, after_call};
+ghost use Rattle.edge_io.specs.Told.{told};
+
+use crate::front::copy_front;
+use crate::injection::FaultPlan;
+use crate::kept::KeptFiles;
+use crate::{Failed, Shelf, ShelfRefusal, Sink, Source, WriteRefusal};
+use std::alloc::Global;
+use std::marker::Model;
+
+/// A source over bytes in memory. It tells the bytes that are left.
+#[derive(Drop)]
+pub struct MemSource {
+    bytes: Vec<u8>,
+    place: usize,
+    piece: usize,
+    plan: FaultPlan,
+}
+
+impl Model for MemSource {
+    ghost use Rattle.std.specs.Prelude.{◌≤◌, ◌<◌, length, drop};
+    ghost use Rattle.edge_io.specs.Memory.{MemInput};
+
+    ghost Value = { MemInput };
+
+    ghost view = { λ s. record { left = drop s.place s.bytes.items; piece = s.piece; injection = s.plan } };
+
+    ghost invariant = { λ s. (s.place ≤ length s.bytes.items) × (0 < s.piece) };
+}
+
+impl MemSource {
+    /// A source that gives at most `piece` bytes a call and fails at the calls with these numbers, counted from 1.
+    pub fn new(bytes: Vec<u8>, piece: usize, failing: Vec<u64>) -> MemSource
+        requires { 0 < piece }
+        ensures { result ≡ record { left = bytes.items; piece = piece; injection = fresh failing.items } }
+    {
+        MemSource {
+            bytes,
+            place: 0,
+            piece,
+            plan: FaultPlan::new(failing),
+        }
+    }
+}
+
+impl Source for MemSource {
+    ghost left = { λ s. Some s.left };
+
+    ghost faults = { λ s. s.injection.faults };
+
+    fn read(&mut self, into: &mut [u8]) -> Result<usize, Failed>
+        requires { 0 < length into.old }
+        ensures bound { ReadsAtMost result into.new }
+        ensures bytes { ReadConsumes (Some self.old.left) (Some self.new.left) result into.new }
+        ensures cause { HasCause self.old.injection.faults self.new.injection.faults result }
+        ensures piece { IfOk result (λ n. n ≤ self.old.piece) }
+        ensures failing { IsErr result ↔ IsTrue (fails_next self.old.injection) }
+        ensures injection { self.new.injection ≡ after_call self.old.injection }
+        ensures same { self.new.piece ≡ self.old.piece }
+    {
+        if self.plan.next_fails() {
+            return Err(Failed);
+        }
+        let rest = &self.bytes[self.place..];
+        let count = copy_front(&rest[..rest.len().min(self.piece)], into);
+        self.place += count;
+        Ok(count)
+    }
+}
+
+/// A sink into memory. It tells the bytes that were written.
+#[derive(Drop)]
+pub struct MemSink {
+    bytes: Vec<u8>,
+    piece: usize,
+    plan: FaultPlan,
+    wants: u64,
+}
+
+impl Model for MemSink {
+    ghost use Rattle.std.specs.Prelude.{◌<◌};
+    ghost use Rattle.edge_io.specs.Memory.{MemOutput};
+
+    ghost Value = { MemOutput };
+
+    ghost view = { λ s. record { written = s.bytes.items; piece = s.piece; injection = s.plan; wants = s.wants } };
+
+    ghost invariant = { λ s. 0 < s.piece };
+}
+
+impl MemSink {
+    /// A sink that takes at most `piece` bytes a call and fails at the calls with these numbers, counted from 1.
+    pub fn new(alloc: Global, piece: usize, failing: Vec<u64>) -> MemSink
+        requires { 0 < piece }
+        ensures { result ≡ record { written = []; piece = piece; injection = fresh failing.items; wants = 0 } }
+    {
+        MemSink {
+            bytes: Vec::new(alloc),
+            piece,
+            plan: FaultPlan::new(failing),
+            wants: 0,
+        }
+    }
+
+    /// The bytes that were written.
+    pub fn written(&self) -> &[u8]
+        ensures { result.now ≡ self.now.written }
+    {
+        &self.bytes
+    }
+}
+
+impl Sink for MemSink {
+    ghost written = { λ s. Some s.written };
+
+    ghost faults = { λ s. s.injection.faults };
+
+    ghost wants = { λ s. s.wants };
+
+    fn write(&mut self, piece: &[u8]) -> Result<usize, WriteRefusal>
+        requires { 0 < length piece.now }
+        ensures some { IfOk result (λ n. 0 < n) }
+        ensures bound { IfOk result (λ n. n ≤ length piece.now) }
+        ensures bytes { WriteAppends (Some self.old.written) (Some self.new.written) result piece.now }
+        ensures cause { HasWriteCause self.old.injection.faults self.new.injection.faults self.old.wants self.new.wants result }
+        ensures piece { IfOk result (λ n. n ≤ self.old.piece) }
+        ensures failing { IsErrOf result WriteRefusal.Failed ↔ IsTrue (fails_next self.old.injection) }
+        ensures injection { self.new.injection ≡ after_call self.old.injection }
+        ensures wants { OnOk result (self.new.wants ≡ self.old.wants) }
+        ensures same { self.new.piece ≡ self.old.piece }
+    {
+        if self.plan.next_fails() {
+            return Err(WriteRefusal::Failed);
+        }
+        let count = piece.len().min(self.piece);
+        if self.bytes.extend_from_slice(&piece[..count]).is_err() {
+            self.wants = self.wants.saturating_add(1);
+            return Err(WriteRefusal::NoMemory);
+        }
+        Ok(count)
+    }
+}
+
+/// A shelf in memory. It tells its files. Where a name is given twice at first, its first entry counts.
+#[derive(Drop)]
+pub struct MemShelf {
+    files: KeptFiles,
+    piece: usize,
+    plan: FaultPlan,
+    wants: u64,
+}
+
+impl Model for MemShelf {
+    ghost use Rattle.std.specs.Prelude.{◌<◌};
+    ghost use Rattle.edge_io.specs.Memory.{MemFiles};
+
+    ghost Value = { MemFiles };
+
+    ghost view = { λ s. record { files = s.files; piece = s.piece; injection = s.plan; wants = s.wants } };
+
+    ghost invariant = { λ s. 0 < s.piece };
+}
+
+impl MemShelf {
+    /// A shelf whose reads give at most `piece` bytes. It fails at the calls with these numbers, counted from 1 over
+    /// reads and puts together.
+    pub fn new(files: Vec<(Vec<u8>, Vec<u8>)>, piece: usize, failing: Vec<u64>) -> MemShelf
+        requires { 0 < piece }
+        ensures { result ≡ record { files = told files.items; piece = piece; injection = fresh failing.items; wants = 0 } }
+    {
+        MemShelf {
+            files: KeptFiles::new(files),
+            piece,
+            plan: FaultPlan::new(failing),
+            wants: 0,
+        }
+    }
+
+    /// The bytes of the file with this name.
+    pub fn file(&self, name: &[u8]) -> Option<&[u8]>
+        ensures { option_map (λ bytes. bytes.now) result ≡ file_of self.now.files name.now }
+    {
+        self.files.file(name)
+    }
+}
+
+impl Shelf for MemShelf {
+    ghost files = { λ s. Some s.files };
+
+    ghost faults = { λ s. s.injection.faults };
+
+    ghost wants = { λ s. s.wants };
+
+    fn read_at(&mut self, name: &[u8], from: u64, into: &mut [u8]) -> Result<usize, ShelfRefusal>
+        requires { 0 < length into.old }
+        ensures bound { ReadsAtMost result into.new }
+        ensures kept { self.new.files ≡ self.old.files }
+        ensures bytes { IfOk result (λ n. HasPiece self.old.files name.now from (take n into.new)) }
+        ensures absent { IfErr result (λ why. why ≡ ShelfRefusal.Absent → file_of self.old.files name.now ≡ None) }
+        ensures cause { HasShelfCause self.old.injection.faults self.new.injection.faults self.old.wants self.new.wants result }
+        ensures piece { IfOk result (λ n. n ≤ self.old.piece) }
+        ensures failing { IsErrOf result ShelfRefusal.Failed ↔ IsTrue (fails_next self.old.injection) }
+        ensures injection { self.new.injection ≡ after_call self.old.injection }
+        ensures no_want { result ≢ Err ShelfRefusal.NoMemory }
+        ensures same { (self.new.piece ≡ self.old.piece) × (self.new.wants ≡ self.old.wants) }
+    {
+        if self.plan.next_fails() {
+            return Err(ShelfRefusal::Failed);
+        }
+        match self.files.read_at(name, from, self.piece, into) {
+            Some(count) => Ok(count),
+            None => Err(ShelfRefusal::Absent),
+        }
+    }
+
+    fn put(&mut self, name: &[u8], bytes: &[u8]) -> Result<(), WriteRefusal>
+        ensures done { OnOk result (file_of self.new.files name.now ≡ Some bytes.now) }
+        ensures others { KeepsOthers (Some self.old.files) (Some self.new.files) name.now }
+        ensures whole { OnOk result (self.new.files ≡ put_file self.old.files name.now bytes.now) }
+        ensures refused { OnErr result (self.new.files ≡ self.old.files) }
+        ensures cause { HasWriteCause self.old.injection.faults self.new.injection.faults self.old.wants self.new.wants result }
+        ensures failing { IsErrOf result WriteRefusal.Failed ↔ IsTrue (fails_next self.old.injection) }
+        ensures injection { self.new.injection ≡ after_call self.old.injection }
+        ensures wants { OnOk result (self.new.wants ≡ self.old.wants) }
+        ensures same { self.new.piece ≡ self.old.piece }
+    {
+        if self.plan.next_fails() {
+            return Err(WriteRefusal::Failed);
+        }
+        if self.files.put(name, bytes).is_err() {
+            self.wants = self.wants.saturating_add(1);
+            return Err(WriteRefusal::NoMemory);
+        }
+        Ok(())
+    }
+}

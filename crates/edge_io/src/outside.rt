@@ -1,0 +1,98 @@
+// The trusted edge: a source over any reader of std, and a sink over any writer.
+ghost use Rattle.std.specs.Prelude.{◌≡◌};
+
+use crate::{Failed, Sink, Source, WriteRefusal};
+use std::io::{ErrorKind, Read, Write};
+use std::marker::Model;
+
+/// How often an interrupted call is repeated before it counts as a fault.
+const REPEATS: u32 = 1000;
+
+/// A source over a reader of std, such as standard input. It tells the bytes that are left where the reader does, which
+/// files and pipes don't.
+#[derive(Drop)]
+pub struct StdSource<R: Read> {
+    reader: R,
+    faults: u64,
+}
+
+impl<R: Read> Model for StdSource<R> {
+    ghost use Rattle.edge_io.specs.Outside.{ReaderInput};
+
+    ghost Value = { ReaderInput };
+
+    ghost view = { λ s. record { left = R.remaining s.reader; faults = s.faults } };
+}
+
+impl<R: Read> StdSource<R> {
+    /// A source over this reader, which hasn't failed yet.
+    pub fn new(reader: R) -> StdSource<R>
+        ensures { result ≡ record { left = R.remaining reader; faults = 0 } }
+    {
+        StdSource { reader, faults: 0 }
+    }
+}
+
+impl<R: Read> Source for StdSource<R> {
+    ghost left = { λ s. s.left };
+
+    ghost faults = { λ s. s.faults };
+
+    fn read(&mut self, into: &mut [u8]) -> Result<usize, Failed> {
+        for _ in 0..=REPEATS {
+            match self.reader.read(into) {
+                Ok(count) => return Ok(count),
+                Err(error) if error.kind() == ErrorKind::Interrupted => {}
+                Err(_) => break,
+            }
+        }
+        self.faults = self.faults.saturating_add(1);
+        Err(Failed)
+    }
+}
+
+/// A sink over a writer of std, such as standard output. It tells the bytes that were written where the writer does, which
+/// files and pipes don't. It never answers `NoMemory`.
+#[derive(Drop)]
+pub struct StdSink<W: Write> {
+    writer: W,
+    faults: u64,
+}
+
+impl<W: Write> Model for StdSink<W> {
+    ghost use Rattle.edge_io.specs.Outside.{WriterOutput};
+
+    ghost Value = { WriterOutput };
+
+    ghost view = { λ s. record { written = W.contents s.writer; faults = s.faults } };
+}
+
+impl<W: Write> StdSink<W> {
+    /// A sink over this writer, which hasn't failed yet.
+    pub fn new(writer: W) -> StdSink<W>
+        ensures { result ≡ record { written = W.contents writer; faults = 0 } }
+    {
+        StdSink { writer, faults: 0 }
+    }
+}
+
+impl<W: Write> Sink for StdSink<W> {
+    ghost written = { λ s. s.written };
+
+    ghost faults = { λ s. s.faults };
+
+    ghost wants = { λ _. 0 };
+
+    fn write(&mut self, piece: &[u8]) -> Result<usize, WriteRefusal> {
+        for _ in 0..=REPEATS {
+            match self.writer.write(piece) {
+                Ok(0) => break,
+                Ok(count) => return Ok(count),
+                Err(error) if error.kind() == ErrorKind::Interrupted => {}
+                Err(_) => break,
+            }
+        }
+        self.faults = self.faults.saturating_add(1);
+        Err(WriteRefusal::Failed)
+    }
+}
