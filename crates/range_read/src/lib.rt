@@ -1,0 +1,140 @@
+//! The bytes of a range of a text, read from its nodes in order.
+#![tactic(auto)]
+
+#[cfg(test)]
+mod tests;
+
+ghost use Rattle.std.specs.Prelude.{◌≡◌, ◌+◌, ◌-◌, ◌<◌, ◌≤◌, ◌∷◌, ◌++◌, length, take, drop, IfOk, vec_len, vec_capacity};
+ghost use Rattle.slp_model.specs.Tree.{text, height, leaves, root_text, root_leaves};
+ghost use Rattle.slp_model.specs.Nodes.{tree, root_tree, IsLive};
+ghost use Rattle.range_read.specs.Waiting.{IsTrail, trail_text};
+
+use node_store::{Node, NodeId, Store};
+use span_types::NoMemory;
+use std::alloc::Global;
+use std::marker::Model;
+
+/// The bytes of a range of a text, in order.
+///
+/// Contracts see it as the list of the bytes that are left. The nodes whose bytes are still to come stand on a trail, the
+/// next one last. Each is lower than those before it, so a place for each level of the text's tree is room enough.
+#[derive(Drop)]
+pub struct RangeBytes<'a> {
+    store: &'a Store,
+    trail: Vec<NodeId>,
+    left: u64,
+}
+
+impl<'a> Model for RangeBytes<'a> {
+    ghost use Rattle.std.specs.Prelude.{ℕ, ◌≤◌, List, length, take, vec_capacity};
+    ghost use Rattle.range_read.specs.Waiting.{IsTrail, trail_text};
+
+    ghost Value = { List ℕ };
+
+    ghost view = { λ r. take r.left (trail_text r.store.now r.trail.items) };
+
+    ghost invariant = { λ r. IsTrail r.store.now (vec_capacity r.trail) r.trail.items × (r.left ≤ length (trail_text r.store.now r.trail.items)) };
+}
+
+// Puts the part of a node's text behind its first `skip` bytes onto the trail.
+fn skip_onto(store: &Store, trail: &mut Vec<NodeId>, root: NodeId, skip: u64)
+    requires live { root.index < length store.now }
+    requires within { skip < leaves (tree store.now root.index) }
+    requires empty { vec_len trail.old ≡ 0 }
+    requires room { height (tree store.now root.index) < vec_capacity trail.old }
+    ensures text { trail_text store.now trail.new.items ≡ drop skip (text (tree store.now root.index)) }
+    ensures trail { IsTrail store.now (vec_capacity trail.new) trail.new.items }
+{
+    let mut id = root;
+    let mut skip = skip;
+    'down: while skip > 0 {
+        let (left, right) = store.children(id);
+        let len = store.len(left);
+        if skip < len {
+            trail.push_reserved(right);
+            id = left;
+        } else {
+            skip -= len;
+            id = right;
+        }
+    }
+    trail.push_reserved(id);
+}
+
+// The first byte of a node's text, whose other bytes are put onto the trail.
+fn first_byte(store: &Store, trail: &mut Vec<NodeId>, id: NodeId) -> u8
+    requires live { id.index < length store.now }
+    requires trail { IsTrail store.now (vec_capacity trail.old) trail.old.items }
+    requires room { height (tree store.now id.index) + length trail.old.items < vec_capacity trail.old }
+    ensures text { text (tree store.now id.index) ++ trail_text store.now trail.old.items ≡ result ∷ trail_text store.now trail.new.items }
+    ensures trail { IsTrail store.now (vec_capacity trail.new) trail.new.items }
+{
+    let mut id = id;
+    'down: loop {
+        match store.node(id) {
+            Node::Byte(byte) => return byte,
+            Node::Pair(left, right) => {
+                trail.push_reserved(right);
+                id = left;
+            }
+        }
+    }
+}
+
+impl<'a> RangeBytes<'a> {
+    /// The bytes at the positions `i` to `j - 1` of the root's text, whose positions are counted from 1. All the memory that
+    /// the walk needs is taken here. It takes time in proportion to the height of the text's tree.
+    pub fn new(
+        alloc: Global,
+        store: &'a Store,
+        root: Option<NodeId>,
+        i: u64,
+        j: u64,
+    ) -> Result<RangeBytes<'a>, NoMemory>
+        requires live { IsLive store.now root }
+        requires from { 1 ≤ i }
+        requires order { i ≤ j }
+        requires within { j ≤ root_leaves (root_tree store.now root) + 1 }
+        ensures { IfOk result (λ bytes. bytes ≡ take (j - i) (drop (i - 1) (root_text (root_tree store.now root)))) }
+    {
+        let id = match root {
+            Some(id) if i < j => id,
+            _ => {
+                return Ok(RangeBytes {
+                    store,
+                    trail: Vec::new(alloc),
+                    left: 0,
+                });
+            }
+        };
+        let levels = usize::from(store.height(id)) + 1;
+        let mut trail = Vec::with_capacity(alloc, levels)?;
+        skip_onto(store, &mut trail, id, i - 1);
+        Ok(RangeBytes {
+            store,
+            trail,
+            left: j - i,
+        })
+    }
+}
+
+impl<'a> Iterator for RangeBytes<'a> {
+    type Item = u8;
+
+    ghost use Rattle.std.specs.Iterator.{YieldsFirst, item_count};
+
+    ghost next_gives = { YieldsFirst (λ bytes. bytes) };
+
+    ghost remaining = { item_count (λ bytes. bytes) };
+
+    /// The next byte. It takes no memory, and over a walk constant time on average: each node is put onto the trail once.
+    fn next(&mut self) -> Option<u8> {
+        let store = self.store;
+        if self.left == 0 {
+            return None;
+        }
+        let id = self.trail.pop()?;
+        self.left -= 1;
+        Some(first_byte(store, &mut self.trail, id))
+    }
+}
