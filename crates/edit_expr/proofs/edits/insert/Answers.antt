@@ -1,0 +1,137 @@
+use Rattle.std.proofs.Common.{arith, sym, ap, ◌∙◌, ◌≡◌, ◌≤◌, ◌+◌, ◌-◌, ◌^◌, ◌++◌, length, take, drop, true, Ok, length-append}
+use Rattle.slp_model.specs.Nodes.{root_tree}
+use Rattle.slp_model.proofs.NodesLemmas.{Grows-none, Grows-trans}
+use Rattle.slp_model.proofs.TreeLemmas.{length-root_text}
+use Rattle.span_types.specs.Fibonacci.{height_limit}
+use Rattle.edit_expr.specs.Eval.{is_range}
+use Rattle.edit_expr.specs.Values.{text_at}
+use Rattle.edit_expr.proofs.CutLemmas.{range-end, cut-lengths, ranged-in}
+use Rattle.edit_expr.proofs.EvalLemmas.{fitting-fits, height-grows, leaves-grows, root_cost-most, text_at-grows}
+use Rattle.edit_expr.proofs.edits.insert.Goals as goal
+
+pub returns-then-not-is_within-clause-grows : goal.returns-then-not-is_within-clause-grows
+returns-then-not-is_within-clause-grows g c = Grows-none _ _ _ (omega arith)
+
+pub returns-then-sum-gt-LONGEST-clause-grows : goal.returns-then-sum-gt-LONGEST-clause-grows
+returns-then-sum-gt-LONGEST-clause-grows g c = Grows-none _ _ _ (omega arith)
+
+pub split-requires-clause-to : goal.split-requires-clause-to
+split-requires-clause-to g c =
+    omega (
+      arith,
+      range-end c.args.k c.args.k c.root_len-len.result (sym c.is_within.ensures ∙ c.if-not-is_within.false),
+      c.root_len-len.ensures.len,
+      length-root_text (root_tree c.args.store.now c.args.root),
+    )
+
+-- the rest: the part and what is behind the place
+
+pub concat-requires-clause-short : goal.concat-requires-clause-short
+concat-requires-clause-short g c =
+    let d = text_at c.args.store.now c.args.root in
+    let part = leaves-grows c.args.store.now c.split.new.store c.args.pairs.now c.split.new.pairs c.split.ensures.grows c.args.part c.requires.part in
+    let back : length (text_at c.split.new.store c.in_ok-front.back) ≡ length (drop (c.args.k - 1) d) = ap length c.in_ok-front.ensures.after in
+    omega (
+      arith,
+      part,
+      back,
+      cut-lengths (c.args.k - 1) d,
+      c.root_len-len.ensures.len,
+      c.root_len-more.ensures.len,
+      c.if-sum-gt-LONGEST.false,
+      length-root_text (root_tree c.args.store.now c.args.part),
+      length-root_text (root_tree c.split.new.store c.in_ok-front.back),
+    )
+
+pub returns-in_err-rest-clause-grows : goal.returns-in_err-rest-clause-grows
+returns-in_err-rest-clause-grows g c = Grows-trans _ _ _ _ _ _ c.split.ensures.grows c.concat.ensures.grows
+
+pub returns-in_err-rest-clause-cost : goal.returns-in_err-rest-clause-cost
+returns-in_err-rest-clause-cost g c n h m =
+    let low = c.root_len-len.ensures.low n h in
+    let part = height-grows c.args.store.now c.split.new.store c.args.pairs.now c.split.new.pairs c.split.ensures.grows c.args.part c.requires.part in
+    let rest = root_cost-most (root_tree c.split.new.store c.args.part) (root_tree c.split.new.store c.in_ok-front.back) (height_limit n)
+    (omega (arith, part, c.root_len-more.ensures.low n m)) (omega (arith, c.in_ok-front.ensures.high, low)) in
+    omega (arith, c.split.ensures.cost, low, c.concat.ensures.cost, rest)
+
+-- the whole: the front and the rest
+
+pub concat-requires-2-clause-short : goal.concat-requires-2-clause-short
+concat-requires-2-clause-short g c =
+    let d = text_at c.args.store.now c.args.root in
+    let e = text_at c.split.new.store c.args.part in
+    let part = leaves-grows c.args.store.now c.split.new.store c.args.pairs.now c.split.new.pairs c.split.ensures.grows c.args.part c.requires.part in
+    let kept = leaves-grows c.split.new.store c.concat.new.store c.split.new.pairs c.concat.new.pairs c.concat.ensures.grows c.in_ok-front.front c.in_ok-front.ensures.live.0 in
+    let front : length (text_at c.split.new.store c.in_ok-front.front) ≡ length (take (c.args.k - 1) d) = ap length c.in_ok-front.ensures.before in
+    let back : length (text_at c.split.new.store c.in_ok-front.back) ≡ length (drop (c.args.k - 1) d) = ap length c.in_ok-front.ensures.after in
+    let rest : length (text_at c.concat.new.store c.in_ok-rest.rest) ≡ length (e ++ text_at c.split.new.store c.in_ok-front.back) = ap length c.in_ok-rest.ensures.joined.joined in
+    omega (
+      arith,
+      part,
+      kept,
+      front,
+      back,
+      rest,
+      length-append e (text_at c.split.new.store c.in_ok-front.back),
+      cut-lengths (c.args.k - 1) d,
+      c.root_len-len.ensures.len,
+      c.root_len-more.ensures.len,
+      c.if-sum-gt-LONGEST.false,
+      length-root_text (root_tree c.args.store.now c.args.part),
+      length-root_text (root_tree c.split.new.store c.args.part),
+      length-root_text (root_tree c.split.new.store c.in_ok-front.front),
+      length-root_text (root_tree c.concat.new.store c.in_ok-rest.rest),
+    )
+
+pub returns-in_err-whole-clause-grows : goal.returns-in_err-whole-clause-grows
+returns-in_err-whole-clause-grows g c = Grows-trans _ _ _ _ _ _ (Grows-trans _ _ _ _ _ _ c.split.ensures.grows c.concat.ensures.grows) c.concat-2.ensures.grows
+
+pub returns-in_err-whole-clause-cost : goal.returns-in_err-whole-clause-cost
+returns-in_err-whole-clause-cost g c n h m =
+    let low = c.root_len-len.ensures.low n h in
+    let part = height-grows c.args.store.now c.split.new.store c.args.pairs.now c.split.new.pairs c.split.ensures.grows c.args.part c.requires.part in
+    let low_part = c.root_len-more.ensures.low n m in
+    let front = height-grows c.split.new.store c.concat.new.store c.split.new.pairs c.concat.new.pairs c.concat.ensures.grows c.in_ok-front.front c.in_ok-front.ensures.live.0 in
+    let rest = root_cost-most (root_tree c.split.new.store c.args.part) (root_tree c.split.new.store c.in_ok-front.back) (height_limit n)
+    (omega (arith, part, low_part)) (omega (arith, c.in_ok-front.ensures.high, low)) in
+    let whole = root_cost-most (root_tree c.concat.new.store c.in_ok-front.front) (root_tree c.concat.new.store c.in_ok-rest.rest) (height_limit n + 1)
+    (omega (arith, front, c.in_ok-front.ensures.low, low)) (omega (arith, c.in_ok-rest.ensures.joined.high, part, low_part, c.in_ok-front.ensures.high, low)) in
+    omega (arith, c.split.ensures.cost, low, c.concat.ensures.cost, rest, c.concat-2.ensures.cost, whole)
+
+pub returns-clause-grows : goal.returns-clause-grows
+returns-clause-grows g c = Grows-trans _ _ _ _ _ _ (Grows-trans _ _ _ _ _ _ c.split.ensures.grows c.concat.ensures.grows) c.concat-2.ensures.grows
+
+pub returns-clause-cost : goal.returns-clause-cost
+returns-clause-cost g c n h m =
+    let low = c.root_len-len.ensures.low n h in
+    let part = height-grows c.args.store.now c.split.new.store c.args.pairs.now c.split.new.pairs c.split.ensures.grows c.args.part c.requires.part in
+    let low_part = c.root_len-more.ensures.low n m in
+    let front = height-grows c.split.new.store c.concat.new.store c.split.new.pairs c.concat.new.pairs c.concat.ensures.grows c.in_ok-front.front c.in_ok-front.ensures.live.0 in
+    let rest = root_cost-most (root_tree c.split.new.store c.args.part) (root_tree c.split.new.store c.in_ok-front.back) (height_limit n)
+    (omega (arith, part, low_part)) (omega (arith, c.in_ok-front.ensures.high, low)) in
+    let whole = root_cost-most (root_tree c.concat.new.store c.in_ok-front.front) (root_tree c.concat.new.store c.in_ok-rest.rest) (height_limit n + 1)
+    (omega (arith, front, c.in_ok-front.ensures.low, low)) (omega (arith, c.in_ok-rest.ensures.joined.high, part, low_part, c.in_ok-front.ensures.high, low)) in
+    omega (arith, c.split.ensures.cost, low, c.concat.ensures.cost, rest, c.concat-2.ensures.cost, whole)
+
+pub returns-clause-value : goal.returns-clause-value
+returns-clause-value g c =
+    let within : is_range c.args.k c.args.k c.root_len-len.result ≡ true = sym c.is_within.ensures ∙ c.if-not-is_within.false in
+    let d = text_at c.args.store.now c.args.root in
+    let e = text_at c.args.store.now c.args.part in
+    let part : text_at c.split.new.store c.args.part ≡ e =
+    text_at-grows c.args.store.now c.split.new.store c.args.pairs.now c.split.new.pairs c.split.ensures.grows c.args.part c.requires.part in
+    let front : text_at c.concat.new.store c.in_ok-front.front ≡ take (c.args.k - 1) d =
+    text_at-grows c.split.new.store c.concat.new.store c.split.new.pairs c.concat.new.pairs c.concat.ensures.grows c.in_ok-front.front c.in_ok-front.ensures.live.0 ∙ c.in_ok-front.ensures.before in
+    let rest : text_at c.concat.new.store c.in_ok-rest.rest ≡ e ++ drop (c.args.k - 1) d = c.in_ok-rest.ensures.joined.joined ∙ (λ j. part j ++ c.in_ok-front.ensures.after j) in
+    let fits : length (take (c.args.k - 1) d ++ (e ++ drop (c.args.k - 1) d)) ≤ 2 ^ 48 =
+    omega (
+      arith,
+      length-append (take (c.args.k - 1) d) (e ++ drop (c.args.k - 1) d),
+      length-append e (drop (c.args.k - 1) d),
+      cut-lengths (c.args.k - 1) d,
+      c.root_len-len.ensures.len,
+      c.root_len-more.ensures.len,
+      c.if-sum-gt-LONGEST.false,
+    ) in
+    let whole = c.in_ok-whole.ensures.joined.joined ∙ (λ j. front j ++ rest j) in
+    (c.in_ok-whole.ensures.live, ranged-in c.args.k c.args.k c.root_len-len.result (length d) _ within c.root_len-len.ensures.len ∙ (fitting-fits _ fits ∙ ap (λ x. Ok x) (sym whole)))

@@ -1,0 +1,57 @@
+-- What the reader of expressions knows at the front of a text.
+use Rattle.std.specs.Prelude.{◌≡◌, ◌⊎◌, ℕ, ◌≤◌, ◌<◌, ◌^◌, false, List, [], ◌∷◌, codes, slice_get, Option}
+use Rattle.std.specs.List.{find}
+use Rattle.std.specs.Str.{bytes_eq}
+use Rattle.std.specs.Fmt.{decimal}
+use Rattle.std.specs.Option.{option_map_or}
+use Rattle.span_types.specs.Names.{is_later_byte}
+use Rattle.edit_expr.specs.declared.expr.Expr.{Expr}
+use Rattle.edit_expr.specs.declared.operation.Operation.{Operation}
+use Rattle.edit_expr.specs.declared.operation.Operation.TheVariants.{Concat, Extract, Delete, Insert, Copy}
+use Rattle.edit_expr.specs.Expressions.{AreTokens, IsWritable, nesting, tokens}
+
+-- the word of an operation
+abbrev pub word_of : Operation → List ℕ
+word_of Concat = codes "concat"
+word_of Extract = codes "extract"
+word_of Delete = codes "delete"
+word_of Insert = codes "insert"
+word_of Copy = codes "copy"
+
+-- the operation with this word
+abbrev pub operation_named : List ℕ → Option Operation
+operation_named word = find (λ o. bytes_eq (word_of o) word) (Concat ∷ Extract ∷ Delete ∷ Insert ∷ Copy ∷ [])
+
+-- the text goes on with no byte of a word
+abbrev pub IsWordEnd : List ℕ → Type 0
+IsWordEnd text = option_map_or is_later_byte (slice_get text 0) false ≡ false
+
+-- before `rest` the text is tokens, which are what `front` puts before others
+abbrev pub Begins : (List (List ℕ) → List (List ℕ)) → List ℕ → List ℕ → Type 0
+Begins front text rest = (others : List (List ℕ)) → AreTokens others rest → AreTokens (front others) text
+
+-- what may follow an expression or a number: the end, `,` or `)`
+abbrev pub IsClosing : List (List ℕ) → Type 0
+IsClosing [] = Unit {0}
+IsClosing (token ∷ tokens) = (token ≡ codes ",") ⊎ (token ≡ codes ")")
+
+-- an expression that can be written with at most this nesting
+abbrev pub Fits : ℕ → Expr → Type 0
+Fits depth e = IsWritable e × (nesting e ≤ depth)
+
+-- in the text the word of the operation and `(` stand before `inside`
+abbrev pub Opens : Operation → List ℕ → List ℕ → Type 0
+Opens operation text inside = Begins (λ others. word_of operation ∷ codes "(" ∷ others) text inside
+
+-- the text is the parts of the operation, each of at most this nesting and with `,` between each two, and others
+abbrev pub IsInside : Operation → ℕ → List (List ℕ) → List ℕ → Type 0
+IsInside Concat depth others text = (l : Expr) × (r : Expr) × Fits depth l × Fits depth r
+    × AreTokens (tokens l (codes "," ∷ tokens r others)) text
+IsInside Extract depth others text = (of : Expr) × (i : ℕ) × (j : ℕ) × Fits depth of × (i < 2 ^ 64) × (j < 2 ^ 64)
+    × AreTokens (tokens of (codes "," ∷ decimal i ∷ codes "," ∷ decimal j ∷ others)) text
+IsInside Delete depth others text = (of : Expr) × (i : ℕ) × (j : ℕ) × Fits depth of × (i < 2 ^ 64) × (j < 2 ^ 64)
+    × AreTokens (tokens of (codes "," ∷ decimal i ∷ codes "," ∷ decimal j ∷ others)) text
+IsInside Insert depth others text = (l : Expr) × (r : Expr) × (k : ℕ) × Fits depth l × Fits depth r × (k < 2 ^ 64)
+    × AreTokens (tokens l (codes "," ∷ tokens r (codes "," ∷ decimal k ∷ others))) text
+IsInside Copy depth others text = (of : Expr) × (i : ℕ) × (j : ℕ) × (k : ℕ) × Fits depth of × (i < 2 ^ 64) × (j < 2 ^ 64) × (k < 2 ^ 64)
+    × AreTokens (tokens of (codes "," ∷ decimal i ∷ codes "," ∷ decimal j ∷ codes "," ∷ decimal k ∷ others)) text

@@ -1,0 +1,166 @@
+//! The operations on roots.
+ghost use Rattle.std.specs.Prelude.{◌≡◌, ◌≤◌, ◌+◌, ◌*◌, ◌^◌, ℕ, length};
+ghost use Rattle.slp_model.specs.Tree.{root_height};
+ghost use Rattle.slp_model.specs.Nodes.{root_tree, Grows, IsLive};
+ghost use Rattle.span_types.specs.Fibonacci.{height_limit};
+ghost use Rattle.edit_expr.specs.Eval.{copied, deleted, extracted, inserted, is_range, joined};
+ghost use Rattle.edit_expr.specs.Values.{IsValue, text_at};
+
+use crate::EditRefusal;
+use node_store::Store;
+use slp_concat::concat;
+use slp_model::NodeId;
+use slp_split::{extract, split};
+use span_types::Steps;
+use std::sync::ledger::Ledger;
+
+/// The most bytes that a text has.
+const LONGEST: u64 = 1 << 48;
+
+/// The length of a root's text.
+pub(crate) fn root_len(store: &Store, root: Option<NodeId>) -> u64
+    requires { IsLive store.now root }
+    ensures len { result ≡ length (text_at store.now root) }
+    ensures short { result ≤ 2 ^ 48 }
+    ensures low { (n : ℕ) → length (text_at store.now root) ≤ n → root_height (root_tree store.now root) ≤ height_limit n }
+{
+    match root {
+        Some(id) => store.len(id),
+        None => 0,
+    }
+}
+
+/// Whether 1 ≤ first ≤ last ≤ len + 1.
+pub(crate) fn is_within(first: u64, last: u64, len: u64) -> bool
+    requires { len ≤ 2 ^ 48 }
+    ensures { result ≡ is_range first last len }
+{
+    1 <= first && first <= last && last <= len + 1
+}
+
+/// The second text behind the first. It is refused exactly where it is too long.
+pub(crate) fn join<L: Ledger>(
+    store: &mut Store,
+    left: Option<NodeId>,
+    right: Option<NodeId>,
+    pairs: &mut Steps<L>,
+) -> Result<Option<NodeId>, EditRefusal>
+    requires left { IsLive store.old left }
+    requires right { IsLive store.old right }
+    ensures grows { Grows store.old store.new pairs.old pairs.new }
+    ensures value { IsValue store.new result (joined (text_at store.old left) (text_at store.old right)) }
+    ensures cost { (n : ℕ) → length (text_at store.old left) ≤ n → length (text_at store.old right) ≤ n → pairs.new ≤ pairs.old + (3 * height_limit n + 1) }
+{
+    let first = root_len(store, left);
+    let second = root_len(store, right);
+    let len = first + second;
+    if len > LONGEST {
+        return Err(EditRefusal::TooLong { len });
+    }
+    let root = concat(store, left, right, pairs)?;
+    Ok(root)
+}
+
+/// Bytes `i` to `j - 1`. It is refused exactly where this is no range.
+pub(crate) fn cut_out<L: Ledger>(
+    store: &mut Store,
+    root: Option<NodeId>,
+    i: u64,
+    j: u64,
+    pairs: &mut Steps<L>,
+) -> Result<Option<NodeId>, EditRefusal>
+    requires { IsLive store.old root }
+    ensures grows { Grows store.old store.new pairs.old pairs.new }
+    ensures value { IsValue store.new result (extracted (text_at store.old root) i j) }
+    ensures cost { (n : ℕ) → length (text_at store.old root) ≤ n → pairs.new ≤ pairs.old + 20 * height_limit n }
+{
+    let len = root_len(store, root);
+    if !is_within(i, j, len) {
+        return Err(EditRefusal::OutOfRange {
+            first: i,
+            last: j,
+            len,
+        });
+    }
+    let part = extract(store, root, i, j, pairs)?;
+    Ok(part)
+}
+
+/// The text without bytes `i` to `j - 1`. It is refused exactly where this is no range.
+pub(crate) fn delete<L: Ledger>(
+    store: &mut Store,
+    root: Option<NodeId>,
+    i: u64,
+    j: u64,
+    pairs: &mut Steps<L>,
+) -> Result<Option<NodeId>, EditRefusal>
+    requires { IsLive store.old root }
+    ensures grows { Grows store.old store.new pairs.old pairs.new }
+    ensures value { IsValue store.new result (deleted (text_at store.old root) i j) }
+    ensures cost { (n : ℕ) → length (text_at store.old root) ≤ n → pairs.new ≤ pairs.old + (23 * height_limit n + 1) }
+{
+    let len = root_len(store, root);
+    if !is_within(i, j, len) {
+        return Err(EditRefusal::OutOfRange {
+            first: i,
+            last: j,
+            len,
+        });
+    }
+    let (before, after) = split(store, root, j, pairs)?;
+    let (front, _) = split(store, before, i, pairs)?;
+    let whole = concat(store, front, after, pairs)?;
+    Ok(whole)
+}
+
+/// The first `k - 1` bytes, then the part, then the rest. It is refused where `k` is no place of
+/// the text, and else where it is too long.
+pub(crate) fn insert<L: Ledger>(
+    store: &mut Store,
+    root: Option<NodeId>,
+    part: Option<NodeId>,
+    k: u64,
+    pairs: &mut Steps<L>,
+) -> Result<Option<NodeId>, EditRefusal>
+    requires root { IsLive store.old root }
+    requires part { IsLive store.old part }
+    ensures grows { Grows store.old store.new pairs.old pairs.new }
+    ensures value { IsValue store.new result (inserted (text_at store.old root) (text_at store.old part) k) }
+    ensures cost { (n : ℕ) → length (text_at store.old root) ≤ n → length (text_at store.old part) ≤ n → pairs.new ≤ pairs.old + (16 * height_limit n + 5) }
+{
+    let len = root_len(store, root);
+    if !is_within(k, k, len) {
+        return Err(EditRefusal::OutOfRange {
+            first: k,
+            last: k,
+            len,
+        });
+    }
+    let more = root_len(store, part);
+    let sum = len + more;
+    if sum > LONGEST {
+        return Err(EditRefusal::TooLong { len: sum });
+    }
+    let (front, back) = split(store, root, k, pairs)?;
+    let rest = concat(store, part, back, pairs)?;
+    let whole = concat(store, front, rest, pairs)?;
+    Ok(whole)
+}
+
+/// The text with bytes `i` to `j - 1` once more, before byte `k`.
+pub(crate) fn copy<L: Ledger>(
+    store: &mut Store,
+    root: Option<NodeId>,
+    i: u64,
+    j: u64,
+    k: u64,
+    pairs: &mut Steps<L>,
+) -> Result<Option<NodeId>, EditRefusal>
+    requires { IsLive store.old root }
+    ensures grows { Grows store.old store.new pairs.old pairs.new }
+    ensures value { IsValue store.new result (copied (text_at store.old root) i j k) }
+    ensures cost { (n : ℕ) → length (text_at store.old root) ≤ n → pairs.new ≤ pairs.old + (36 * height_limit n + 5) }
+{
+    let part = cut_out(store, root, i, j, pairs)?;
+    insert(store, root, part, k, pairs)
+}

@@ -1,0 +1,193 @@
+//! Expressions, read from the front of a text.
+ghost use Rattle.std.specs.Prelude.{◌≡◌, ◌⊎◌, ◌<◌, ◌≤◌, ◌+◌, ◌^◌, ◌∷◌, ◌++◌, List, ℕ, IfOk, IfErr, MatchResult, codes, true, false};
+ghost use Rattle.std.specs.Fmt.{decimal};
+ghost use Rattle.span_types.specs.Names.{is_name};
+ghost use Rattle.edit_expr.specs.Expressions.{AreTokens, ExprReads, tokens};
+ghost use Rattle.edit_expr.specs.Operations.{Begins, Fits, IsClosing, IsInside, Opens};
+ghost use Rattle.edit_expr.specs.declared.expr.Expr.{Expr};
+
+use crate::Expr;
+use crate::operation::{Operation, operation_of};
+use crate::tokens::{number_at, sign_at, trim, word_at};
+use span_types::{Name, NameRefusal};
+use std::alloc::Global;
+use thiserror::Error;
+
+/// The greatest nesting of an expression.
+const MAX_NESTING: u8 = 64;
+
+/// Why a text gives no expression.
+#[derive(Clone, Copy, Debug, PartialEq, Eq, Error)]
+pub enum ExprRefusal {
+    /// The text writes no expression, or one of nesting over 64.
+    #[error("not an editing expression")]
+    Syntax,
+    /// No memory was found.
+    #[error("no memory")]
+    NoMemory,
+}
+
+// What stands at the front of a text, and the text behind it.
+#[derive(Drop)]
+struct Front<'a> {
+    expr: Expr,
+    rest: &'a [u8],
+}
+
+/// The expression that a text writes, which is at most one.
+///
+/// It is a name, or `concat(E,E)`, `extract(E,I,J)`, `delete(E,I,J)`, `insert(E,E,K)` or
+/// `copy(E,I,J,K)` with expressions E and numbers below 2^64, nested at most 64 deep. Any number of
+/// spaces may stand before and behind each word, number and sign. A name that `(` does not follow
+/// is a document, also where it is the word of an operation.
+///
+/// It takes time linear in the text, memory for the expression alone, and a recursion as deep as
+/// the nesting.
+pub fn read(alloc: Global, text: &[u8]) -> Result<Expr, ExprRefusal>
+    ensures ok { IfOk result (λ expr. ExprReads text.now expr) }
+    ensures syntax { IfErr result (λ why. why ≡ ExprRefusal.Syntax → (expr : Expr) → ExprReads text.now expr → ⊥) }
+{
+    let front = expression(alloc, text, MAX_NESTING)?;
+    if !trim(front.rest).is_empty() {
+        return Err(ExprRefusal::Syntax);
+    }
+    Ok(front.expr)
+}
+
+// An expression of at most this nesting.
+#[cycle(exprs)]
+fn expression(alloc: Global, text: &[u8], depth: u8) -> Result<Front<'_>, ExprRefusal>
+    ensures ok { IfOk result (λ front. Fits depth front.expr × Begins (tokens front.expr) text.now front.rest.now) }
+    ensures exact { (e : Expr) (others : List (List ℕ)) → Fits depth e → IsClosing others → AreTokens (tokens e others) text.now
+        → MatchResult result (λ front. AreTokens others front.rest.now) (λ why. why ≡ ExprRefusal.NoMemory) }
+{
+    let (word, rest) = word_at(text);
+    let Some(inside) = sign_at(rest, b'(') else {
+        let expr = document(alloc, word)?;
+        return Ok(Front { expr, rest });
+    };
+    let Some(operation) = operation_of(word) else {
+        return Err(ExprRefusal::Syntax);
+    };
+    if depth == 0 {
+        return Err(ExprRefusal::Syntax);
+    }
+    let front = arguments(alloc, operation, inside, depth - 1)?;
+    let Some(rest) = sign_at(front.rest, b')') else {
+        return Err(ExprRefusal::Syntax);
+    };
+    Ok(Front {
+        expr: front.expr,
+        rest,
+    })
+}
+
+// The document with this name.
+fn document(alloc: Global, word: &[u8]) -> Result<Expr, ExprRefusal>
+    ensures ok { IfOk result (λ expr. (expr ≡ Expr.Doc word.now) × (is_name word.now ≡ true)) }
+    ensures syntax { IfErr result (λ why. (why ≡ ExprRefusal.NoMemory) ⊎ (is_name word.now ≡ false)) }
+{
+    match Name::new(alloc, word) {
+        Ok(name) => Ok(Expr::Doc(name)),
+        Err(NameRefusal::NotAName) => Err(ExprRefusal::Syntax),
+        Err(NameRefusal::NoMemory) => Err(ExprRefusal::NoMemory),
+    }
+}
+
+// The operation whose parts, of at most this nesting, are what stands between `(` and `)`.
+#[cycle(exprs)]
+fn arguments(
+    alloc: Global,
+    operation: Operation,
+    text: &[u8],
+    depth: u8,
+) -> Result<Front<'_>, ExprRefusal>
+    ensures ok { IfOk result (λ front. Fits (depth + 1) front.expr
+        × ((whole : List ℕ) → Opens operation whole text.now
+        → (others : List (List ℕ)) → AreTokens (codes ")" ∷ others) front.rest.now → AreTokens (tokens front.expr others) whole)) }
+    ensures exact { (others : List (List ℕ)) → IsClosing others → IsInside operation depth others text.now
+        → MatchResult result (λ front. AreTokens others front.rest.now) (λ why. why ≡ ExprRefusal.NoMemory) }
+{
+    match operation {
+        Operation::Concat => {
+            let (left, right, rest) = two(alloc, text, depth)?;
+            let expr = Expr::Concat(left, right);
+            Ok(Front { expr, rest })
+        }
+        Operation::Insert => {
+            let (into, what, rest) = two(alloc, text, depth)?;
+            let Some((k, rest)) = number_at(rest) else {
+                return Err(ExprRefusal::Syntax);
+            };
+            let expr = Expr::Insert(into, what, k);
+            Ok(Front { expr, rest })
+        }
+        Operation::Extract => {
+            let (from, i, j, rest) = range(alloc, text, depth)?;
+            let expr = Expr::Extract(from, i, j);
+            Ok(Front { expr, rest })
+        }
+        Operation::Delete => {
+            let (from, i, j, rest) = range(alloc, text, depth)?;
+            let expr = Expr::Delete(from, i, j);
+            Ok(Front { expr, rest })
+        }
+        Operation::Copy => {
+            let (from, i, j, rest) = range(alloc, text, depth)?;
+            let Some((k, rest)) = number_at(rest) else {
+                return Err(ExprRefusal::Syntax);
+            };
+            let expr = Expr::Copy(from, i, j, k);
+            Ok(Front { expr, rest })
+        }
+    }
+}
+
+// Two expressions with a comma between them.
+#[cycle(exprs)]
+fn two(alloc: Global, text: &[u8], depth: u8) -> Result<(Box<Expr>, Box<Expr>, &[u8]), ExprRefusal>
+    ensures ok { IfOk result (λ p. Fits depth p.0.value × Fits depth p.1.value
+        × Begins (λ others. tokens p.0.value (codes "," ∷ tokens p.1.value others)) text.now p.2.now) }
+    ensures exact { (l r : Expr) (others : List (List ℕ)) → Fits depth l → Fits depth r → IsClosing others
+        → AreTokens (tokens l (codes "," ∷ tokens r others)) text.now
+        → MatchResult result (λ p. AreTokens others p.2.now) (λ why. why ≡ ExprRefusal.NoMemory) }
+{
+    let left = expression(alloc, text, depth)?;
+    let Some(behind) = sign_at(left.rest, b',') else {
+        return Err(ExprRefusal::Syntax);
+    };
+    let right = expression(alloc, behind, depth)?;
+    Ok((
+        boxed(alloc, left.expr)?,
+        boxed(alloc, right.expr)?,
+        right.rest,
+    ))
+}
+
+// An expression and two numbers, with commas between them.
+#[cycle(exprs)]
+fn range(alloc: Global, text: &[u8], depth: u8) -> Result<(Box<Expr>, u64, u64, &[u8]), ExprRefusal>
+    ensures ok { IfOk result (λ p. Fits depth p.0.value × (p.1 < 2 ^ 64) × (p.2 < 2 ^ 64)
+        × Begins (λ others. tokens p.0.value (codes "," ∷ decimal p.1 ∷ codes "," ∷ decimal p.2 ∷ others)) text.now p.3.now) }
+    ensures exact { (e : Expr) (i j : ℕ) (others : List (List ℕ)) → Fits depth e → i < 2 ^ 64 → j < 2 ^ 64 → IsClosing others
+        → AreTokens (tokens e (codes "," ∷ decimal i ∷ codes "," ∷ decimal j ∷ others)) text.now
+        → MatchResult result (λ p. AreTokens others p.3.now) (λ why. why ≡ ExprRefusal.NoMemory) }
+{
+    let from = expression(alloc, text, depth)?;
+    let Some((i, rest)) = number_at(from.rest) else {
+        return Err(ExprRefusal::Syntax);
+    };
+    let Some((j, rest)) = number_at(rest) else {
+        return Err(ExprRefusal::Syntax);
+    };
+    Ok((boxed(alloc, from.expr)?, i, j, rest))
+}
+
+fn boxed(alloc: Global, expr: Expr) -> Result<Box<Expr>, ExprRefusal>
+    ensures { MatchResult result (λ part. part.value ≡ expr) (λ why. why ≡ ExprRefusal.NoMemory) }
+{
+    match Box::new(alloc, expr) {
+        Ok(part) => Ok(part),
+        Err(_) => Err(ExprRefusal::NoMemory),
+    }
+}
