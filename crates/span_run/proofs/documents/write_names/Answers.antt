@@ -1,0 +1,72 @@
+use Rattle.std.proofs.Common.{◌≡◌, ◌∙◌, ◌+◌, ◌++◌, ◌∷◌, [], List, ℕ, suc, sym, ap, subst, arith, codes}
+use Rattle.std.proofs.lemmas.Result.{err_from_is_err_and}
+use Rattle.std.proofs.lemmas.List.{append-nil}
+use Rattle.std.specs.Io.KnownBytes.{Appends}
+use Rattle.report_text.specs.Reply.{name_text}
+use Rattle.edit_expr.specs.Values.{plain, text_at}
+use Rattle.span_run.specs.Replies.{entry_text, names_text}
+use Rattle.span_run.specs.Step.{AppendsFront}
+use Rattle.span_run.proofs.Written.{IsListing, listing_goes_on, listing_waits, listing_stops}
+use Rattle.span_run.proofs.HeldLemmas.{live_at}
+use Rattle.span_run.proofs.CarryLemmas.{names_rest, names_rest-next, names_rest-end}
+use Rattle.span_run.proofs.documents.write_names.Goals as goal
+
+pub root_len-len-requires : goal.root_len-len-requires
+root_len-len-requires g c = live_at c.args.store.now c.args.docs.now c.loop-place.place (record { name = c.at-root.result.0.now; root = c.at-root.result.1 }) c.requires c.at-root.ensures
+
+pub returns-in_err-name_line-clause-stopped : goal.returns-in_err-name_line-clause-stopped
+returns-in_err-name_line-clause-stopped g c =
+    let p = err_from_is_err_and c.from_residual.result c.from_residual.ensures.1 in
+    rw (p.1) (listing_waits (g.K.Sink.written c.args.out.now) (g.K.Sink.written c.loop-place.out) (names_rest c.args.store.now c.args.docs.now c.loop-place.place) (names_text (plain c.args.store.now c.args.docs.now)) c.loop-place.invariant.so_far)
+
+pub returns-in_err-offer-clause-stopped : goal.returns-in_err-offer-clause-stopped
+returns-in_err-offer-clause-stopped g c =
+    let p = err_from_is_err_and c.from_residual-in_err-offer.result c.from_residual-in_err-offer.ensures.1 in
+    let ns = c.args.store.now in
+    let ds = c.args.docs.now in
+    let a = g.K.Sink.written c.args.out.now in
+    let b = g.K.Sink.written c.loop-place.out in
+    let d = g.K.Sink.written c.offer.new.out in
+    let name = c.at-root.result.0.now in
+    let root = c.at-root.result.1 in
+    let whole = names_text (plain ns ds) in
+    let rest = names_rest-next ns ds c.loop-place.place (record { name = name; root = root }) c.at-root.ensures in
+    let piece : c.deref.result.now ≡ entry_text (name, text_at ns root) =
+    c.deref.ensures.value ∙ c.in_ok-name_line.ensures.ok ∙ ap (λ (l : List ℕ). l ++ name_text name c.root_len-len.result) c.new-line.ensures.items ∙ ap (name_text name) c.root_len-len.ensures.len in
+    rw (p.1) (listing_stops a b d (entry_text (name, text_at ns root)) (names_rest ns ds (suc c.loop-place.place)) whole
+    (subst (λ (l : List ℕ). IsListing a b l whole) rest c.loop-place.invariant.so_far)
+    (subst (λ (l : List ℕ). AppendsFront b d l) piece c.in_err-offer.ensures.stopped))
+
+pub loop-place-preserved : goal.loop-place-preserved
+loop-place-preserved g c =
+    let ns = c.args.store.now in
+    let ds = c.args.docs.now in
+    let a = g.K.Sink.written c.args.out.now in
+    let b = g.K.Sink.written c.loop-place.out in
+    let d = g.K.Sink.written c.offer.new.out in
+    let name = c.at-root.result.0.now in
+    let root = c.at-root.result.1 in
+    let whole = names_text (plain ns ds) in
+    let rest = names_rest-next ns ds c.loop-place.place (record { name = name; root = root }) c.at-root.ensures in
+    let piece : c.deref.result.now ≡ entry_text (name, text_at ns root) =
+    c.deref.ensures.value ∙ c.in_ok-name_line.ensures.ok ∙ ap (λ (l : List ℕ). l ++ name_text name c.root_len-len.result) c.new-line.ensures.items ∙ ap (name_text name) c.root_len-len.ensures.len in
+    let next : suc c.loop-place.place ≡ c.loop-place.place + 1 = omega arith in
+    record {
+      so_far = subst (λ (k : ℕ). IsListing a d (names_rest ns ds k) whole) next (listing_goes_on a b d (entry_text (name, text_at ns root)) (names_rest ns ds (suc c.loop-place.place)) whole
+          (subst (λ (l : List ℕ). IsListing a b l whole) rest c.loop-place.invariant.so_far)
+          (subst (λ (l : List ℕ). Appends b d l) piece c.in_ok-offer.ensures.done));
+      later = omega (arith, c.loop-place.invariant.later, c.offer.ensures.later);
+    }
+
+pub returns-in_err-offer-2-clause-stopped : goal.returns-in_err-offer-2-clause-stopped
+returns-in_err-offer-2-clause-stopped g c =
+    let p = err_from_is_err_and c.from_residual-in_err-offer-2.result c.from_residual-in_err-offer-2.ensures.1 in
+    let ns = c.args.store.now in
+    let ds = c.args.docs.now in
+    let a = g.K.Sink.written c.args.out.now in
+    let b = g.K.Sink.written c.loop-place.out in
+    let end = codes "end" ++ 10 ∷ [] in
+    let whole = names_text (plain ns ds) in
+    let rest = names_rest-end ns ds c.loop-place.place (omega (arith, c.loop-place-test.false, c.count-place-end.ensures.count)) in
+    rw (p.1) (listing_stops a b (g.K.Sink.written c.offer-2.new.out) end [] whole
+    (subst (λ (l : List ℕ). IsListing a b l whole) (rest ∙ sym (append-nil end)) c.loop-place.invariant.so_far) c.in_err-offer-2.ensures.stopped)

@@ -1,0 +1,6 @@
+use Rattle.std.proofs.Common.{arith}
+use Rattle.span_run.proofs.HeldLemmas.{length-text_at}
+use Rattle.span_run.proofs.reading.bytes_between.Goals as goal
+
+pub new-requires-clause-within : goal.new-requires-clause-within
+new-requires-clause-within c = omega (arith, c.requires.last, length-text_at c.args.store.now c.args.root)

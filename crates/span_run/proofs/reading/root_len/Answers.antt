@@ -1,0 +1,8 @@
+use Rattle.std.proofs.Common.{◌≡◌, sym, ap, ◌∙◌, length, Some}
+use Rattle.edit_expr.specs.Values.{text_at}
+use Rattle.span_run.proofs.HeldLemmas.{length-text_at}
+use Rattle.span_run.proofs.reading.root_len.Goals as goal
+
+pub returns-in-Some-clause-len : goal.returns-in-Some-clause-len
+returns-in-Some-clause-len c =
+    c.len.ensures.len ∙ sym (length-text_at c.args.store.now (Some c.in-Some.id)) ∙ ap (λ r. length (text_at c.args.store.now r)) (sym c.in-Some.is)

@@ -1,0 +1,18 @@
+use Rattle.std.proofs.Common.{ℕ, ◌≡◌, ◌+◌, ◌-◌, ◌≤◌, ◌++◌, List, length}
+use Rattle.span_run.specs.Lines.{lines_of}
+use Rattle.span_run.specs.Runs.{outside}
+use Rattle.span_run.proofs.RunsLemmas.{IsAt}
+use Rattle.span_run.proofs.top.run_lines.Given as goal
+
+abbrev pub invariant-loop-rest : goal.invariant-loop-rest
+invariant-loop-rest g l = record {
+  at : IsAt (lines_of l.script) (lines_of l.rest) l.number l.refused l.session
+      (outside (g.K.Sink.written l.fn.out) (g.F.Shelf.files l.fn.shelf) l.fn.looks l.fn.pairs)
+      (outside (g.K.Sink.written l.out) (g.F.Shelf.files l.shelf) l.looks l.pairs);
+  few : l.number + length l.rest ≤ 1 + length l.script;
+  later : g.K.Sink.faults l.fn.out ≤ g.K.Sink.faults l.out;
+  same : l.places ≡ l.fn.places;
+}
+
+abbrev pub decreases-loop-rest : goal.decreases-loop-rest
+decreases-loop-rest g l = length l.rest

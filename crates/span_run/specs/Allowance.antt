@@ -1,0 +1,69 @@
+-- How many looks and pair calls a line may cost.
+use Rattle.std.specs.Prelude.{◌≡◌, ◌⊎◌, ℕ, ◌+◌, ◌*◌, ◌≤◌, List, length}
+use Rattle.span_types.specs.Fibonacci.{height_limit}
+use Rattle.script_syntax.specs.Syntax.{LineText}
+use Rattle.script_syntax.specs.declared.form.Command.{Command}
+use Rattle.script_syntax.specs.declared.form.Command.TheVariants.{Text, LetDoc}
+use Rattle.edit_expr.specs.declared.expr.Expr.{Expr}
+use Rattle.edit_expr.specs.Expressions.{ExprReads}
+use Rattle.edit_expr.specs.Eval.{greatest, operations}
+use Rattle.span_run.specs.State.{World}
+
+pub record Allowance : Type 0 where
+  pub looks : ℕ
+  pub pairs : ℕ
+
+abbrev pub no_steps : Allowance
+no_steps = record { looks = 0; pairs = 0 }
+
+abbrev pub both_of : Allowance → Allowance → Allowance
+both_of a b = record { looks = a.looks + b.looks; pairs = a.pairs + b.pairs }
+
+-- the pair calls of loading n bytes
+abbrev pub load_limit : ℕ → ℕ
+load_limit n = n + 4 * (height_limit n + 1)
+
+-- the pair calls of so many operations on texts of at most n bytes
+abbrev pub edit_limit : ℕ → ℕ → ℕ
+edit_limit count n = 48 * count * (height_limit n + 1)
+
+-- the allowance of a command, by its step
+abbrev pub IsAllowed : World → Command → Allowance → Type 0
+IsAllowed old (Text name bytes) a = a ≡ record { looks = 0; pairs = load_limit (length bytes) }
+IsAllowed old (LetDoc name expr) a = (((e : Expr) → ExprReads expr e → ⊥) × (a ≡ no_steps))
+    ⊎ ((e : Expr) × ExprReads expr e × (a ≡ record { looks = 0; pairs = edit_limit (operations e) (greatest old.state.documents e) }))
+IsAllowed old _ a = a ≡ no_steps
+
+-- the allowance of a line
+abbrev pub IsLineAllowed : World → List ℕ → Allowance → Type 0
+IsLineAllowed old line a = (((command : Command) → LineText line command → ⊥) × (a ≡ no_steps))
+    ⊎ ((command : Command) × LineText line command × IsAllowed old command a)
+
+-- the counters of looks and pair calls
+pub record Counters : Type 0 where
+  pub looks : ℕ
+  pub pairs : ℕ
+
+abbrev pub counters : ℕ → ℕ → Counters
+counters looks pairs = record { looks = looks; pairs = pairs }
+
+-- the counters rose by no more than the allowance
+pub record IsPaid (a : Allowance) (before after : Counters) : Type 0 where
+  pub looks : after.looks ≤ before.looks + a.looks
+  pub pairs : after.pairs ≤ before.pairs + a.pairs
+
+-- the counters rose by no more than the allowance of the command
+abbrev pub PaysFor : World → Command → Counters → Counters → Type 0
+PaysFor old command before after = (a : Allowance) × IsAllowed old command a × IsPaid a before after
+
+-- the same of a command that may have been stopped before it was begun
+abbrev pub PaysForPart : World → Command → Counters → Counters → Type 0
+PaysForPart old command before after = (a : Allowance) × ((a ≡ no_steps) ⊎ IsAllowed old command a) × IsPaid a before after
+
+-- the counters rose by no more than the allowance of the line
+abbrev pub Pays : World → List ℕ → Counters → Counters → Type 0
+Pays old line before after = (a : Allowance) × IsLineAllowed old line a × IsPaid a before after
+
+-- the same of a line that may have been stopped before it was begun
+abbrev pub PaysPart : World → List ℕ → Counters → Counters → Type 0
+PaysPart old line before after = (a : Allowance) × ((a ≡ no_steps) ⊎ IsLineAllowed old line a) × IsPaid a before after

@@ -1,0 +1,16 @@
+//! A script of commands over named texts, from its bytes to the bytes of its replies.
+#![tactic(auto)]
+
+mod answer;
+mod carry;
+mod documents;
+mod lines;
+mod offer;
+mod reading;
+mod session;
+mod told;
+mod top;
+
+pub use session::Session;
+pub use told::{Stop, Told};
+pub use top::{Status, run};

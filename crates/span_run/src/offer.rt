@@ -1,0 +1,28 @@
+//! Bytes are offered to a sink until it has taken all of them.
+ghost use Rattle.std.specs.Prelude.{◌≡◌, ◌≤◌, OnOk, OnErr, IfErr};
+ghost use Rattle.std.specs.Io.KnownBytes.{Appends};
+ghost use Rattle.edge_io.specs.Causes.{Rose};
+ghost use Rattle.span_run.specs.Step.{AppendsFront};
+ghost use Rattle.span_run.specs.declared.told.Stop.TheVariants as stop;
+
+use crate::told::Stop;
+use edge_io::{Sink, WriteRefusal};
+
+/// Writes a whole piece. A rest that wasn't taken is offered again.
+pub fn offer<K: Sink>(out: &mut K, piece: &[u8]) -> Result<(), Stop>
+    ensures done { OnOk result (Appends (K.written out.old) (K.written out.new) piece.now) }
+    ensures stopped { OnErr result (AppendsFront (K.written out.old) (K.written out.new) piece.now) }
+    ensures later { K.faults out.old ≤ K.faults out.new }
+    ensures fault { IfErr result (λ why. why ≡ Stop.OutFault → Rose (K.faults out.old) (K.faults out.new)) }
+    ensures shelf_fault { IfErr result (λ why. why ≡ Stop.ShelfFault → ⊥) }
+{
+    let mut done = 0;
+    while done < piece.len() {
+        match out.write(&piece[done..]) {
+            Ok(count) => done += count,
+            Err(WriteRefusal::Failed) => return Err(Stop::OutFault),
+            Err(WriteRefusal::NoMemory) => return Err(Stop::NoMemory),
+        }
+    }
+    Ok(())
+}

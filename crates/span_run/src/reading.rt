@@ -1,0 +1,63 @@
+//! Lengths and bytes of the texts in a store.
+ghost use Rattle.std.specs.Prelude.{◌≡◌, ◌≤◌, ◌+◌, ◌-◌, ◌^◌, length, take, drop, IfOk};
+ghost use Rattle.slp_model.specs.Nodes.{IsLive};
+ghost use Rattle.edit_expr.specs.Values.{text_at};
+ghost use Rattle.span_run.specs.Replies.{is_range};
+
+use node_store::Store;
+use range_read::RangeBytes;
+use slp_model::NodeId;
+use span_types::NoMemory;
+use std::alloc::Global;
+
+/// How many bytes of a text a reply shows.
+const HEAD: u64 = 32;
+
+/// The length of a root's text, in bytes.
+pub fn root_len(store: &Store, root: Option<NodeId>) -> u64
+    requires { IsLive store.now root }
+    ensures len { result ≡ length (text_at store.now root) }
+    ensures short { result ≤ 2 ^ 48 }
+{
+    match root {
+        None => 0,
+        Some(id) => store.len(id),
+    }
+}
+
+/// Whether 1 ≤ i ≤ j ≤ len+1.
+pub fn is_within(i: u64, j: u64, len: u64) -> bool
+    requires { len ≤ 2 ^ 48 }
+    ensures { result ≡ is_range i j len }
+{
+    1 <= i && i <= j && j <= len + 1
+}
+
+/// Bytes i to j-1 of a root's text.
+pub fn bytes_between(
+    alloc: Global,
+    store: &Store,
+    root: Option<NodeId>,
+    i: u64,
+    j: u64,
+) -> Result<Vec<u8>, NoMemory>
+    requires live { IsLive store.now root }
+    requires first { 1 ≤ i }
+    requires order { i ≤ j }
+    requires last { j ≤ length (text_at store.now root) + 1 }
+    ensures { IfOk result (λ bytes. bytes.items ≡ take (j - i) (drop (i - 1) (text_at store.now root))) }
+{
+    let range = RangeBytes::new(alloc, store, root, i, j)?;
+    let bytes = range.collect(alloc)?;
+    Ok(bytes)
+}
+
+/// The first 32 bytes of a root's text, or all of a shorter one.
+pub fn head_of(alloc: Global, store: &Store, root: Option<NodeId>) -> Result<Vec<u8>, NoMemory>
+    requires { IsLive store.now root }
+    ensures { IfOk result (λ head. head.items ≡ take 32 (text_at store.now root)) }
+{
+    let end = root_len(store, root).min(HEAD) + 1;
+    let head = bytes_between(alloc, store, root, 1, end)?;
+    Ok(head)
+}

@@ -1,0 +1,179 @@
+//! The top call: words and a script in, replies and a status out.
+ghost use Rattle.std.specs.Prelude.{◌≡◌, ◌⊎◌, ◌↔◌, ◌+◌, ◌^◌, ◌<◌, ◌≤◌, ◌||◌, true, false, IfOk, IfErr, IfSome, OnErr, OnOk, length};
+ghost use Rattle.std.specs.Io.KnownBytes.{Consumes, Keeps};
+ghost use Rattle.edge_io.specs.Causes.{Rose};
+ghost use Rattle.span_run.specs.Lines.{lines_of};
+ghost use Rattle.span_run.specs.Runs.{is_refused, outside, RunsAll, RunsFront};
+
+use crate::lines::next_line;
+use crate::session::Session;
+use crate::told::{Stop, Told};
+use edge_io::{Shelf, Sink, Source};
+use span_types::Steps;
+use std::alloc::Global;
+use std::sync::ledger::Ledger;
+use std::thread::Threads;
+use work_gate::Gate;
+
+/// The most bytes of a script.
+const MAX_SCRIPT: usize = 1 << 24;
+
+/// How a run ended. The program's exit status is the number of the status.
+#[derive(Clone, Copy, Debug, PartialEq, Eq)]
+pub enum Status {
+    /// 0: every line was executed, and none refused.
+    Done,
+    /// 1: every line was executed, and at least one refused.
+    SomeRefused,
+    /// 2: the words of the command line are refused. Nothing is read or written.
+    Usage,
+    /// 3: the source failed. Nothing is written.
+    ScriptFault,
+    /// 4: the sink failed.
+    OutFault,
+    /// 5: the shelf failed.
+    ShelfFault,
+    /// 6: no memory was found.
+    NoMemory,
+    /// 7: the script has more than 2^24 bytes. Nothing is written.
+    ScriptTooLong,
+}
+
+#[derive(Clone, Copy, Debug, PartialEq, Eq)]
+enum Unread {
+    Fault,
+    TooLong,
+    NoMemory,
+}
+
+/// All the bytes of a source, where they are at most 2^24.
+fn read_script<S: Source>(alloc: Global, script: &mut S) -> Result<Vec<u8>, Unread>
+    ensures all { IfOk result (λ bytes. IfSome (S.left script.old) (λ left. bytes.items ≡ left)) }
+    ensures short { IfOk result (λ bytes. length bytes.items ≤ 2 ^ 24) }
+    ensures too_long { IfErr result (λ why. why ≡ Unread.TooLong → IfSome (S.left script.old) (λ left. 2 ^ 24 < length left)) }
+    ensures later { S.faults script.old ≤ S.faults script.new }
+    ensures fault { IfErr result (λ why. why ≡ Unread.Fault → Rose (S.faults script.old) (S.faults script.new)) }
+{
+    let mut bytes = Vec::new(alloc);
+    let mut chunk = [0u8; 4096];
+    while bytes.len() <= MAX_SCRIPT {
+        let Ok(count) = script.read(&mut chunk) else {
+            return Err(Unread::Fault);
+        };
+        if count == 0 {
+            return Ok(bytes);
+        }
+        if bytes.extend_from_slice(&chunk[..count]).is_err() {
+            return Err(Unread::NoMemory);
+        }
+    }
+    Err(Unread::TooLong)
+}
+
+/// Whether a line was refused, in this one or before.
+fn with_refusal(before: bool, told: Told) -> bool
+    ensures { result ≡ (before || is_refused told) }
+{
+    before || matches!(told, Told::Refused)
+}
+
+/// Does the lines of a script in order, and answers whether one was refused.
+fn run_lines<R: Threads + Sync, K: Sink, F: Shelf, G: Gate, P: Ledger, T: Ledger, L: Ledger>(
+    rt: &R,
+    alloc: Global,
+    script: &[u8],
+    workers: u8,
+    out: &mut K,
+    shelf: &mut F,
+    gate: &G,
+    pairs: &mut Steps<P>,
+    places: &mut Steps<T>,
+    looks: &mut Steps<L>,
+) -> Result<bool, Stop>
+    requires least { 1 ≤ workers }
+    requires most { workers ≤ 64 }
+    ensures done { IfOk result (λ refused. RunsAll (lines_of script.now) refused (outside (K.written out.old) (F.files shelf.old) looks.old pairs.old) (outside (K.written out.new) (F.files shelf.new) looks.new pairs.new)) }
+    ensures stopped { OnErr result (RunsFront (lines_of script.now) (outside (K.written out.old) (F.files shelf.old) looks.old pairs.old) (outside (K.written out.new) (F.files shelf.new) looks.new pairs.new)) }
+    ensures later { K.faults out.old ≤ K.faults out.new }
+    ensures fault { IfErr result (λ why. why ≡ Stop.OutFault → Rose (K.faults out.old) (K.faults out.new)) }
+    ensures shelf { IfErr result (λ why. why ≡ Stop.ShelfFault → ⊥) }
+    ensures places { places.new ≡ places.old }
+{
+    let mut session = Session::new(alloc);
+    let mut rest = script;
+    let mut number = 1u64;
+    let mut refused = false;
+    while !rest.is_empty() {
+        let (line, after) = next_line(rest);
+        let told = session.line(
+            rt, number, line, workers, out, shelf, gate, pairs, places, looks,
+        )?;
+        refused = with_refusal(refused, told);
+        number += 1;
+        rest = after;
+    }
+    Ok(refused)
+}
+
+/// Runs a script over named texts: reads the words, then the whole script, then executes its lines in order. Each line of a
+/// reply is offered to the sink, with its newline, before the next one is computed. The first fault or want of memory ends
+/// the run.
+///
+/// The words are those after the program's own name; until there are options, each word is refused. `workers` threads
+/// and `places` serve queries, and the shelf serves files; no line that is built uses them. `pairs` counts the pairs of
+/// nodes that were asked for, and `looks` counts looks at tables.
+pub fn run<
+    R: Threads + Sync,
+    S: Source,
+    K: Sink,
+    F: Shelf,
+    G: Gate,
+    P: Ledger,
+    T: Ledger,
+    L: Ledger,
+>(
+    rt: &R,
+    alloc: Global,
+    words: &[String],
+    script: &mut S,
+    out: &mut K,
+    shelf: &mut F,
+    gate: &G,
+    pairs: &mut Steps<P>,
+    places: &mut Steps<T>,
+    looks: &mut Steps<L>,
+) -> Status
+    ensures usage { (result ≡ Status.Usage) ↔ (0 < length words.now) }
+    ensures done { result ≡ Status.Done → IfSome (S.left script.old) (λ bytes. RunsAll (lines_of bytes) false (outside (K.written out.old) (F.files shelf.old) looks.old pairs.old) (outside (K.written out.new) (F.files shelf.new) looks.new pairs.new)) }
+    ensures some_refused { result ≡ Status.SomeRefused → IfSome (S.left script.old) (λ bytes. RunsAll (lines_of bytes) true (outside (K.written out.old) (F.files shelf.old) looks.old pairs.old) (outside (K.written out.new) (F.files shelf.new) looks.new pairs.new)) }
+    ensures script_fault { result ≡ Status.ScriptFault → Rose (S.faults script.old) (S.faults script.new) }
+    ensures out_fault { result ≡ Status.OutFault → Rose (K.faults out.old) (K.faults out.new) }
+    ensures shelf_fault { result ≡ Status.ShelfFault → ⊥ }
+    ensures too_long { result ≡ Status.ScriptTooLong → IfSome (S.left script.old) (λ bytes. 2 ^ 24 < length bytes) }
+    ensures short { (result ≡ Status.Done) ⊎ (result ≡ Status.SomeRefused) ⊎ (result ≡ Status.OutFault) → IfSome (S.left script.old) (λ bytes. length bytes ≤ 2 ^ 24) }
+
+    // Nothing is written, and no file and no counter changes.
+    ensures nothing { (result ≡ Status.Usage) ⊎ (result ≡ Status.ScriptFault) ⊎ (result ≡ Status.ScriptTooLong) → outside (K.written out.new) (F.files shelf.new) looks.new pairs.new ≡ outside (K.written out.old) (F.files shelf.old) looks.old pairs.old }
+    ensures unread { result ≡ Status.NoMemory → IfSome (S.left script.old) (λ bytes. 2 ^ 24 < length bytes → outside (K.written out.new) (F.files shelf.new) looks.new pairs.new ≡ outside (K.written out.old) (F.files shelf.old) looks.old pairs.old) }
+
+    // What was written is a prefix of the whole output.
+    ensures front { (result ≡ Status.OutFault) ⊎ (result ≡ Status.NoMemory) → IfSome (S.left script.old) (λ bytes. RunsFront (lines_of bytes) (outside (K.written out.old) (F.files shelf.old) looks.old pairs.old) (outside (K.written out.new) (F.files shelf.new) looks.new pairs.new)) }
+    ensures places { places.new ≡ places.old }
+{
+    if !words.is_empty() {
+        return Status::Usage;
+    }
+    let bytes = match read_script(alloc, script) {
+        Ok(bytes) => bytes,
+        Err(Unread::Fault) => return Status::ScriptFault,
+        Err(Unread::TooLong) => return Status::ScriptTooLong,
+        Err(Unread::NoMemory) => return Status::NoMemory,
+    };
+    match run_lines(rt, alloc, &bytes, 1, out, shelf, gate, pairs, places, looks) {
+        Ok(false) => Status::Done,
+        Ok(true) => Status::SomeRefused,
+        Err(Stop::OutFault) => Status::OutFault,
+        Err(Stop::ShelfFault) => Status::ShelfFault,
+        Err(Stop::NoMemory) => Status::NoMemory,
+    }
+}
