@@ -1,0 +1,5 @@
+//! Worked scripts and injected faults as tests of the top call, over objects in memory.
+#![tactic(auto)]
+
+#[cfg(test)]
+mod tests;
