@@ -16,3 +16,5 @@ pub mod Rel
 pub mod Strict
 pub mod Laws
 pub mod Rows
+pub mod ByteWords
+pub mod ByteWordLaws

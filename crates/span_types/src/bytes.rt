@@ -5,10 +5,11 @@ use crate::refusal::NoMemory;
 use std::alloc::Global;
 use std::marker::Model;
 
-/// A set of bytes. Contracts see it as 256 truth values, one for each byte.
+/// A set of bytes, in 32 bytes. Contracts see it as 256 truth values, one for each byte.
 #[derive(Clone, Copy)]
 pub struct ByteSet {
-    members: [bool; 256],
+    // Byte b is bit b % 64 of word b / 64.
+    words: [u64; 4],
 }
 
 impl Model for ByteSet {
@@ -16,37 +17,46 @@ impl Model for ByteSet {
 
     ghost Value = { List Bool };
 
-    ghost view = { λ s. s.members };
+    ghost use Rattle.span_types.specs.ByteWords.{members, words_of, AreWords};
 
-    ghost inverse = { λ members. record { members = members } };
+    ghost view = { λ s. members s.words };
+
+    ghost invariant = { λ s. AreWords s.words };
+
+    ghost inverse = { λ v. record { words = words_of v } };
+
+    ghost use Rattle.span_types.specs.ByteWordLaws.{words_of-members};
+
+    ghost inverse_ok = { λ s h i. record { words = words_of-members s.words h i } };
 }
+
+const WORD_BITS: usize = 64;
 
 impl ByteSet {
     /// The set with no member.
     pub fn empty() -> ByteSet
         ensures { result ≡ replicate 256 false }
     {
-        ByteSet {
-            members: [false; 256],
-        }
+        ByteSet { words: [0; 4] }
     }
 
     /// Puts a byte into the set.
     pub fn insert(&mut self, b: u8)
         ensures { self.new ≡ slice_set self.old b true }
     {
-        self.members[b as usize] = true;
+        let byte = b as usize;
+        self.words[byte / WORD_BITS] |= 1 << (byte % WORD_BITS);
     }
 
     /// The set of the bytes that aren't in this one.
     pub fn complement(&self) -> ByteSet
         ensures { result ≡ map not self.now }
     {
-        let mut members = self.members;
-        for member in &mut members {
-            *member = !*member;
+        let mut words = self.words;
+        for word in &mut words {
+            *word = !*word;
         }
-        ByteSet { members }
+        ByteSet { words }
     }
 
     /// Whether a byte is in the set.
@@ -54,7 +64,8 @@ impl ByteSet {
         ensures value { result ≡ slice_index_or self.now b false }
         ensures all { length self.now ≡ 256 }
     {
-        self.members[b as usize]
+        let byte = b as usize;
+        self.words[byte / WORD_BITS] >> (byte % WORD_BITS) & 1 == 1
     }
 }
 
