@@ -1,5 +1,5 @@
 -- A store with one more node, and what its facts tell.
-use Rattle.std.proofs.Common.{◌≡◌, ◌≢◌, ℕ, ◌+◌, ◌<◌, ◌≤◌, ◌^◌, ◌⊎◌, inl, inr, List, [], ◌∷◌, ◌++◌, length, get_or, slice_get, Some, refl, ap, sym, subst, ◌∙◌, arith, length-append}
+use Rattle.std.proofs.Common.{◌≡◌, ◌≢◌, ℕ, ◌+◌, ◌<◌, ◌≤◌, inl, inr, List, [], ◌∷◌, ◌++◌, length, get_or, slice_get, Some, refl, ap, sym, subst, ◌∙◌, arith, length-append}
 use Rattle.std.proofs.Common.{Bool, true, false, zero, suc}
 use Rattle.std.specs.List.{IsDistinct, AllByRecursion}
 use Rattle.std.proofs.lemmas.Bool.{cases_lt}
@@ -7,16 +7,17 @@ use Rattle.std.proofs.lemmas.Option.{slice_get_within, get_or_from_slice_get, sl
 use Rattle.std.proofs.lemmas.List.{get_or_push, get_or_append_left}
 use Rattle.slp_model.specs.declared.Node.{Node}
 use Rattle.slp_model.specs.Tree.{Tree, leaves, height, IsBalanced}
-use Rattle.slp_model.specs.Nodes.{tree, trees, node_tree, IsSound, IsBelow, Grows, pair_count}
+use Rattle.slp_model.specs.Nodes.{tree, trees, node_tree, IsSound, Grows, pair_count}
 use Rattle.span_types.specs.Fibonacci.{fibonacci, height_limit}
 use Rattle.slp_model.proofs.TreeLemmas.{height-most, height-enough, height-by_leaves}
 use Rattle.slp_model.proofs.NodesLemmas.{slice_get-push, tree-append, tree-push, tree-at, IsSound-push, Grows-none, Grows-push}
 use Rattle.node_store.specs.declared.Facts.{Facts}
-use Rattle.node_store.specs.Stored.{IsFactsOf, IsStored, IsNext, IsKept}
+use Rattle.node_store.specs.Stored.{IsFactsOf, IsStored, IsNext, IsKept, IsOfByte}
 
 pub IsStored-push : (ns : List Node) (fs : List Facts) (n : Node) (f : Facts) → IsStored ns fs → IsNext ns n f → IsStored (ns ++ n ∷ []) (fs ++ f ∷ [])
 IsStored-push ns fs n f s x = record {
   sound = IsSound-push ns n s.sound x.below x.balanced x.short;
+  bytes = λ i m h. elim (slice_get-push ns n m i h) [ inl old ↦ s.bytes i m old.1 | inr new ↦ subst IsOfByte new.1 x.byte ];
   as_long = omega (arith, length-append ns (n ∷ []), length-append fs (f ∷ []), s.as_long);
   facts_are = facts;
 }

@@ -1,6 +1,7 @@
 -- What is true of the fields of each store.
-use Rattle.std.specs.Prelude.{◌≡◌, ◌≢◌, ℕ, ◌+◌, ◌^◌, ◌<◌, ◌≤◌, ◌⊎◌, List, [], ◌∷◌, ◌++◌, length, slice_get, Some}
+use Rattle.std.specs.Prelude.{◌≡◌, ◌≢◌, ℕ, ◌^◌, ◌<◌, ◌≤◌, ◌⊎◌, List, [], ◌∷◌, ◌++◌, length, slice_get, Some}
 use Rattle.slp_model.specs.declared.Node.{Node}
+use Rattle.slp_model.specs.declared.Node.TheVariants.{Byte, Pair}
 use Rattle.slp_model.specs.Tree.{leaves, height, IsBalanced}
 use Rattle.slp_model.specs.Nodes.{tree, trees, node_tree, IsSound, IsBelow}
 use Rattle.node_store.specs.declared.Facts.{Facts}
@@ -10,15 +11,26 @@ pub record IsFactsOf (ns : List Node) (i : ℕ) (f : Facts) : Type 0 where
   pub len : f.len ≡ leaves (tree ns i)
   pub height_is : f.height ≡ height (tree ns i)
 
+-- a byte is below 256
+abbrev pub IsOfByte : Node → Type 0
+IsOfByte (Byte b) = b < 256
+IsOfByte (Pair l r) = Unit {0}
+
+-- each byte among the nodes is below 256
+abbrev pub AreOfBytes : List Node → Type 0
+AreOfBytes ns = (i : ℕ) (n : Node) → slice_get ns i ≡ Some n → IsOfByte n
+
 -- the nodes are sound, and the facts are theirs
 pub record IsStored (ns : List Node) (facts : List Facts) : Type 0 where
   pub sound : IsSound ns
+  pub bytes : AreOfBytes ns
   pub as_long : length facts ≡ length ns
   pub facts_are : (i : ℕ) (f : Facts) → slice_get facts i ≡ Some f → IsFactsOf ns i f
 
 -- a node that may follow ns, with its facts
 pub record IsNext (ns : List Node) (n : Node) (f : Facts) : Type 0 where
   pub below : IsBelow (length ns) n
+  pub byte : IsOfByte n
   pub balanced : IsBalanced (node_tree (trees ns) n)
   pub len : f.len ≡ leaves (node_tree (trees ns) n)
   pub height_is : f.height ≡ height (node_tree (trees ns) n)

@@ -4,8 +4,8 @@
 ghost use Rattle.std.specs.Prelude.{◌≡◌, ◌+◌, ◌^◌, ◌<◌, ◌≤◌, [], length, slice_get, IfSome, IfOk, OnErr, Some};
 ghost use Rattle.span_types.specs.Fibonacci.{fibonacci, height_limit};
 ghost use Rattle.slp_model.specs.Tree.{Fork, Leaf, leaves, height, IsNear, IsBalanced};
-ghost use Rattle.slp_model.specs.Nodes.{tree, trees, node_tree, Grows, IsNodeAt};
-ghost use Rattle.node_store.specs.Stored.{IsNext, IsKept, AreDistinct};
+ghost use Rattle.slp_model.specs.Nodes.{tree, trees, node_tree, pair_count, Grows, IsNodeAt};
+ghost use Rattle.node_store.specs.Stored.{IsNext, IsKept, AreDistinct, AreOfBytes};
 
 mod hints;
 
@@ -58,10 +58,12 @@ impl Store {
         }
     }
 
-    /// How many nodes there are.
+    /// How many nodes there are: at most one for each byte, and the pairs.
     pub fn count(&self) -> usize
         ensures count { result ≡ length self.now }
         ensures distinct { AreDistinct self.now }
+        ensures bytes { AreOfBytes self.now }
+        ensures few { length self.now ≤ 256 + pair_count self.now }
     {
         self.nodes.len()
     }

@@ -1,4 +1,4 @@
-use Rattle.std.proofs.Common.{rules, arith, lit≤}
+use Rattle.std.proofs.Common.{arith}
 use Rattle.slp_model.specs.declared.Node.TheVariants.{Byte}
 use Rattle.slp_model.specs.Nodes.{pair_count}
 use Rattle.slp_model.proofs.NodesLemmas.{Grows-none}

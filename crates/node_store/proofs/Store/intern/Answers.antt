@@ -1,10 +1,8 @@
-use Rattle.std.proofs.Common.{rules, arith, ◌≡◌, ◌++◌, ◌∷◌, [], List, length, slice_get, Some, subst, sym, ◌∙◌}
+use Rattle.std.proofs.Common.{rules, arith, ◌≡◌, ◌++◌, ◌∷◌, [], slice_get, Some, subst}
 use Rattle.std.proofs.lemmas.Grind.{common_steps}
 use Rattle.slp_model.specs.declared.Node.{Node}
-use Rattle.slp_model.specs.Nodes.{tree, trees, node_tree}
 use Rattle.slp_model.proofs.NodesLemmas.{tree-at}
-use Rattle.node_store.specs.declared.Facts.{Facts}
-use Rattle.node_store.specs.Stored.{IsStored, IsNext}
+use Rattle.node_store.specs.Stored.{IsStored}
 use Rattle.std.proofs.Common.{inr, true}
 use Rattle.std.specs.List.{IsDistinct}
 use Rattle.slp_model.specs.contracts.NodePartialEq.TheImpl.{ghosts}

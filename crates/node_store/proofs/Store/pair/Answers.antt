@@ -1,7 +1,7 @@
-use Rattle.std.proofs.Common.{rules, arith, ◌≡◌, ◌+◌, ◌≤◌, ◌^◌, max, Fits, w8}
+use Rattle.std.proofs.Common.{arith, ◌≡◌, ◌+◌, max}
 use Rattle.slp_model.specs.declared.Node.TheVariants.{Pair}
 use Rattle.slp_model.specs.Tree.{leaves, height}
-use Rattle.slp_model.specs.Nodes.{tree, trees, node_tree, pair_count}
+use Rattle.slp_model.specs.Nodes.{tree, pair_count}
 use Rattle.slp_model.proofs.NodesLemmas.{Grows-none}
 use Rattle.node_store.proofs.StoredLemmas.{kept-grows}
 use Rattle.node_store.proofs.Store.pair.Goals as goal
@@ -13,6 +13,7 @@ intern-requires g c =
     let high : c.max.result + 1 ≡ max (height (tree c.args.self.now c.args.left.index)) (height (tree c.args.self.now c.args.right.index)) + 1 = omega (arith, c.max.ensures, c.height.ensures.height, c.height-2.ensures.height) in
     record {
       below = (c.requires.left, c.requires.right);
+      byte = tt;
       balanced = (c.requires.near, c.len.ensures.balanced, c.len-2.ensures.balanced);
       len = sum;
       height_is = high;
