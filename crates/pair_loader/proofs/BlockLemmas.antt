@@ -1,10 +1,10 @@
 -- The blocks of a loader, over a store that grows.
-use Rattle.std.proofs.Common.{◌≡◌, ℕ, ◌+◌, ◌<◌, ◌≤◌, ◌≢◌, List, [], ◌∷◌, ◌++◌, map, reverse, length, refl, ap, sym, subst, ◌∙◌, arith, All, Option, Some, None, get_or, take, append_assoc, length-append}
+use Rattle.std.proofs.Common.{◌≡◌, ℕ, ◌+◌, ◌<◌, ◌≢◌, List, [], ◌∷◌, ◌++◌, map, reverse, length, refl, ap, sym, subst, ◌∙◌, arith, All, Option, Some, None, length-append}
 use Rattle.std.proofs.lemmas.List.{map-append, reverse-append, get_or_append_left}
 use Rattle.std.proofs.lemmas.List.Elements.{All-head, All-tail}
 use Rattle.slp_model.specs.declared.NodeId.{NodeId}
 use Rattle.slp_model.specs.declared.Node.{Node}
-use Rattle.slp_model.specs.Tree.{Tree, Leaf, Fork, text, leaves, height, root_text, root_leaves}
+use Rattle.slp_model.specs.Tree.{Tree, Fork, text, leaves, height, root_text, root_leaves}
 use Rattle.slp_model.specs.Nodes.{tree, Grows}
 use Rattle.slp_model.specs.Join.{IsJoinedRoot}
 use Rattle.slp_model.proofs.TreeLemmas.{length-text, length-root_text}

@@ -1,8 +1,8 @@
 -- The cost of a loader's last joins.
-use Rattle.std.proofs.Common.{◌≡◌, ℕ, suc, ◌+◌, ◌*◌, ◌<◌, ◌≤◌, List, [], ◌∷◌, ◌++◌, length, Option, Some, None, arith, length-append}
+use Rattle.std.proofs.Common.{ℕ, ◌+◌, ◌*◌, ◌≤◌, List, [], ◌∷◌, length, Some, None, arith, length-append}
 use Rattle.span_types.specs.Fibonacci.{fibonacci, height_limit}
 use Rattle.span_types.proofs.LimitLemmas.{height_limit-right}
-use Rattle.slp_model.specs.Tree.{Tree, Leaf, Fork, text, leaves, height, IsBalanced}
+use Rattle.slp_model.specs.Tree.{Tree, Leaf, Fork, text, height, IsBalanced}
 use Rattle.slp_model.specs.Join.{join, IsJoined}
 use Rattle.slp_model.proofs.TreeLemmas.{length-text, height-enough}
 use Rattle.slp_model.proofs.JoinLemmas.{join-joined}

@@ -11,6 +11,12 @@ abbrev pub IsFull : Tree → Type 0
 IsFull (Leaf b) = Unit {0}
 IsFull (Fork l r) = (height l ≡ height r) × IsFull l × IsFull r
 
+-- a full tree of height h with the text s
+pub record IsBlock (h : ℕ) (s : List ℕ) (t : Tree) : Type 0 where
+  pub full : IsFull t
+  pub high : height t ≡ h
+  pub reads : text t ≡ s
+
 -- full trees, each higher than the one before, the first of height at least h
 abbrev pub AreRising : ℕ → List Tree → Type 0
 AreRising h [] = Unit {0}

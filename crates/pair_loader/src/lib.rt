@@ -9,22 +9,27 @@ ghost use Rattle.pair_loader.specs.Pending.{IsLoader, fed, pending_count};
 
 mod blocks;
 pub mod law;
+mod words;
 
-use blocks::{gather_blocks, push_bytes};
+use blocks::{gather_blocks, push_bytes, push_words};
 use node_store::{NodeId, Store};
 use span_types::{NoMemory, Steps};
 use std::alloc::Global;
 use std::marker::Model;
 use std::sync::ledger::Ledger;
+use words::Words;
 
 /// A text that is being loaded into a store.
 ///
 /// It keeps full blocks of bytes, at most one of each height, as nodes of the store: a block of
 /// height h has 2^h bytes. After a refusal it keeps none, and answers NoMemory to every call.
+/// From the first piece of 16,384 bytes on it also keeps 512 KB of guesses, where it gets this
+/// memory, by which most blocks of eight bytes are found without pair calls.
 #[derive(Drop)]
 pub struct Loader {
     // The highest block first.
     pending: Option<Vec<NodeId>>,
+    words: Words,
 }
 
 impl Model for Loader {
@@ -45,6 +50,7 @@ impl Loader {
         let blocks = Vec::with_capacity(alloc, MOST_BLOCKS).map_err(|_| NoMemory)?;
         Ok(Loader {
             pending: Some(blocks),
+            words: Words::new(alloc),
         })
     }
 
@@ -69,7 +75,11 @@ impl Loader {
         ensures cost { pairs.new + pending_count self.new ≤ pairs.old + pending_count self.old + length piece.now }
     {
         let mut blocks = self.pending.take().ok_or(NoMemory)?;
-        push_bytes(&mut blocks, store, piece, pairs)?;
+        if piece.len() < LONG_PIECE {
+            push_bytes(&mut blocks, store, piece, pairs)?;
+        } else {
+            push_words(&mut blocks, &mut self.words, store, piece, pairs)?;
+        }
         self.pending = Some(blocks);
         Ok(())
     }
@@ -98,6 +108,9 @@ impl Loader {
 
 // A text of at most 2^48 bytes has blocks of the heights 0 to 48.
 const MOST_BLOCKS: usize = 49;
+
+// From this length on a piece pays for the memory of the guesses.
+const LONG_PIECE: usize = 16_384;
 
 /// A root of the bytes, with the tree `shape`: a loader that is fed once.
 ///

@@ -29,6 +29,28 @@ fn trees_of_pieces(rt: HostRuntime) -> Result<(), Fail> {
     pieces::<Brand>(&rt, alloc, &[2, 2, 5], &[3, 3, 8], Blank::new(1))
 }
 
+// A text of 20,000 bytes, of whose words all but the first are found.
+#[test]
+fn tree_of_a_long_text(rt: HostRuntime) -> Result<(), Fail> {
+    let alloc = rt.alloc();
+    long_text::<Brand>(&rt, alloc, Blank::new(1))
+}
+
+fn long_text<L: Ledger>(rt: &impl Abort, alloc: Global, blank: Blank) -> Result<(), Fail>
+    requires name { blank.name ≡ L.name }
+    requires parts { blank.parts ≡ L.parts }
+    requires some { 0 < L.parts }
+{
+    let mut pairs = Steps::<L>::new(blank);
+    let mut store = Store::new(alloc);
+    let text = vec![in alloc; b'a'; 20_000]?;
+    let Some(id) = load(alloc, &mut store, text.as_slice(), &mut pairs)? else {
+        return Ok(assert!(rt; false));
+    };
+    assert_eq!(rt; (store.len(id), store.height(id)), (20_000, 15));
+    Ok(())
+}
+
 fn texts<L: Ledger>(rt: &impl Abort, alloc: Global, blank: Blank) -> Result<(), Fail>
     requires name { blank.name ≡ L.name }
     requires parts { blank.parts ≡ L.parts }

@@ -1,6 +1,6 @@
-use Rattle.std.proofs.Common.{rules, arith, ◌≡◌, ◌+◌, ◌≤◌, ◌<◌, ◌^◌, ◌++◌, ◌∷◌, length, sym, ap, subst, ◌∙◌, append_assoc}
+use Rattle.std.proofs.Common.{rules, arith, ◌≡◌, ◌+◌, ◌≤◌, ◌^◌, ◌++◌, ◌∷◌, length, sym, subst, append_assoc}
 use Rattle.std.proofs.lemmas.Result.{IfOk-equal}
-use Rattle.slp_model.specs.Tree.{Fork, text, leaves, height}
+use Rattle.slp_model.specs.Tree.{text, leaves, height}
 use Rattle.slp_model.specs.Nodes.{tree}
 use Rattle.slp_model.proofs.NodesLemmas.{Grows-trans, Grows-none}
 use Rattle.pair_loader.specs.Pending.{IsFull, AreRising, stack_of, stack_text, AreLive}

@@ -1,9 +1,9 @@
-use Rattle.std.proofs.Common.{rules, arith, ◌≡◌, ◌+◌, ◌*◌, ◌≤◌, ◌<◌, ◌^◌, length, Some, None, [], ap, sym, ◌∙◌, refl}
+use Rattle.std.proofs.Common.{rules, arith, ◌≡◌, ◌+◌, Some, [], ap, sym, ◌∙◌, refl}
 use Rattle.slp_model.specs.Tree.{leaves, root_leaves}
 use Rattle.slp_model.specs.Nodes.{tree, root_tree}
 use Rattle.slp_model.specs.Join.{join_roots}
 use Rattle.slp_model.proofs.NodesLemmas.{Grows-trans, Grows-none}
-use Rattle.pair_loader.specs.Pending.{stack_of, stack_text}
+use Rattle.pair_loader.specs.Pending.{stack_of}
 use Rattle.pair_loader.proofs.Counters.{gather, gather_cost}
 use Rattle.pair_loader.proofs.StackLemmas.{gather-shape}
 use Rattle.pair_loader.proofs.GatherLemmas.{gather-limit}

@@ -1,9 +1,9 @@
-use Rattle.std.proofs.Common.{rules, arith, ◌≡◌, ◌+◌, ◌≤◌, ◌<◌, ◌^◌, ◌++◌, ◌∷◌, [], length, take, get_or, ap, sym, ◌∙◌, append_assoc, append-nil, length-append}
+use Rattle.std.proofs.Common.{arith, ◌≡◌, ◌+◌, ◌<◌, ◌++◌, ◌∷◌, [], length, take, get_or, ap, sym, ◌∙◌, append_assoc, append-nil, length-append}
 use Rattle.std.proofs.lemmas.List.{take_more, length-take-le}
-use Rattle.slp_model.specs.Tree.{Leaf, text, leaves, height}
+use Rattle.slp_model.specs.Tree.{text}
 use Rattle.slp_model.specs.Nodes.{tree}
 use Rattle.slp_model.proofs.NodesLemmas.{Grows-trans, Grows-none}
-use Rattle.pair_loader.specs.Pending.{stack_of, stack_text, IsPending}
+use Rattle.pair_loader.specs.Pending.{stack_of, stack_text}
 use Rattle.pair_loader.proofs.BlockLemmas.{stack_of-grows, Grows-weaker}
 use Rattle.pair_loader.proofs.blocks.push_bytes.Goals as goal
 
