@@ -1,6 +1,7 @@
 -- Classes of bytes that are cut.
-use Rattle.std.proofs.Common.{◌≡◌, ℕ, zero, suc, ◌+◌, ◌<◌, ◌≤◌, ◌⊎◌, inl, inr, refl, sym, ap, subst, ◌∙◌, arith, Bool, false, List, [], ◌∷◌, ◌++◌, length, length-append, Some, slice_get, slice_index_or, get_or}
+use Rattle.std.proofs.Common.{◌≡◌, ℕ, zero, suc, ◌+◌, ◌<◌, ◌≤◌, ◌⊎◌, inl, inr, refl, sym, ap, subst, ◌∙◌, arith, Bool, false, List, [], ◌∷◌, ◌++◌, length, length-append, Some, Contains, slice_get, slice_index_or, get_or}
 use Rattle.std.proofs.lemmas.Option.{slice_get-get_or, get_or_from_slice_get}
+use Rattle.marker_nfa.specs.Automaton.{AreLettersOf}
 use Rattle.marker_nfa.specs.declared.nfa.Edge.{Edge}
 use Rattle.marker_dfa.specs.declared.classes.ByteClasses.{ByteClasses}
 use Rattle.marker_dfa.specs.Making.{AreClasses, GoesWith, IsFiner, IsFit, IsSplitUpTo}
@@ -114,17 +115,13 @@ split_finer classes s letters a h other fit = record { size = fit.size; same = �
         let at_first : slice_get classes.firsts.items class ≡ Some first = slice_get-get_or classes.firsts.items class 0 (a.within b class at_b) in
         fit.same b class first at_b at_first ∙ sym (fit.same f class first at_f at_first)
 
--- what holds while the first n edges are passed
-pub record FitsEdges (edges : List Edge) (n : ℕ) (classes : ByteClasses) : Type 0 where
+-- what holds while the first n byte sets are passed
+pub record FitsLetters (all : List (List Bool)) (n : ℕ) (classes : ByteClasses) : Type 0 where
   pub classes_are : AreClasses classes
-  pub fit : (j : ℕ) (e : Edge) → j < n → slice_get edges j ≡ Some e → IsFit classes e.letters
+  pub fit : (j : ℕ) (letters : List Bool) → j < n → slice_get all j ≡ Some letters → IsFit classes letters
 
-pub edges_more : (edges : List Edge) (n : ℕ) (old new : ByteClasses) (x : Edge) → FitsEdges edges n old → slice_get edges n ≡ Some x → AreClasses new → IsFit new x.letters → IsFiner old new → FitsEdges edges (n + 1) new
-edges_more edges n old new x h at a fit finer = record { classes_are = a; fit = λ j e l k. go j e k (before j n l) }
-  where
-    go : (j : ℕ) (e : Edge) → slice_get edges j ≡ Some e → (j < n) ⊎ (j ≡ n) → IsFit new e.letters
-    go j e k (inl l) = finer e.letters (h.fit j e l k)
-    go j e k (inr l) =
-        let s : Some x ≡ Some e = sym at ∙ ap (slice_get edges) (sym l) ∙ k in
-        let same : x ≡ e = cc in
-        subst (λ (z : Edge). IsFit new z.letters) same fit
+-- the byte sets of the edges fit, where all do
+pub edges_fit : (edges : List Edge) (all : List (List Bool)) (n : ℕ) (classes : ByteClasses) → AreLettersOf edges all → FitsLetters all n classes → length all ≤ n → (e : Edge) → Contains edges e → IsFit classes e.letters
+edges_fit edges all n classes among h le e c =
+    let k = among e c in
+    h.fit k.0 e.letters (omega (arith, k.1, le)) (slice_get-get_or all k.0 e.letters k.1 ∙ ap Some k.2)

@@ -121,8 +121,8 @@ pub fn classes_of(alloc: Global, nfa: &Nfa) -> Result<ByteClasses, NoMemory>
     ensures fit { IfOk result (λ s. (e : Edge) → Contains nfa.now.edges e → IsFit s e.letters) }
 {
     let mut classes = one_class(alloc)?;
-    for edge in nfa.edges() {
-        classes = fitted(alloc, classes, &edge.letters)?;
+    for letters in nfa.letters() {
+        classes = fitted(alloc, classes, letters)?;
     }
     Ok(classes)
 }

@@ -1,19 +1,18 @@
 -- The position automaton accepts what the formula does, and keeps what holds of every automaton.
-use Rattle.std.proofs.Common.{◌≡◌, ℕ, zero, suc, ◌+◌, ◌^◌, ◌<◌, ◌≤◌, ◌↔◌, ◌⊎◌, inl, inr, refl, sym, ap, subst, ◌∙◌, arith, Bool, true, false, List, [], ◌∷◌, length, map, max, nat_eq, Contains, slice_index_or}
+use Rattle.std.proofs.Common.{◌≡◌, ℕ, suc, ◌^◌, ◌<◌, ◌≤◌, ◌↔◌, ◌⊎◌, inl, inr, refl, sym, subst, arith, true, false, List, [], ◌∷◌, length, max, nat_eq}
 use Rattle.std.proofs.lemmas.Bool.Decides.{eqb_tells}
-use Rattle.span_types.specs.FormulaTree.{FormulaTree, Set, Empty, Cat, Alt, Star, Plus, Opt, Capture, Fun, sets, var_bound, has_var}
+use Rattle.span_types.specs.FormulaTree.{FormulaTree, Set, Empty, Cat, Alt, Star, Plus, Opt, Capture, Fun, var_bound, has_var}
 use Rattle.formula_law.specs.Accepts.{MarkedText, Reaches, Steps, Accepts}
 use Rattle.formula_law.specs.Law.{VarsBelow, IsTupleText, bytes_of}
-use Rattle.formula_law.specs.Positions.{HasSet, IsEdge, IsEnd, IsFirst, IsLast, IsFollow, IsNull}
+use Rattle.formula_law.specs.Positions.{HasSet, IsEdge, IsEnd}
 use Rattle.formula_law.proofs.Tuples.{accepts-tuples}
 use Rattle.marker_nfa.proofs.Mapped.{length_map}
 use Rattle.formula_law.proofs.Fault.{plain}
-use Rattle.marker_nfa.specs.Automaton.{Automaton, Moves, MayEnd, AcceptsText, IsMarked, IsWellmarked, IsAutomaton}
+use Rattle.marker_nfa.specs.Automaton.{Automaton, Moves, AcceptsText, IsMarked, IsAutomaton}
 use Rattle.marker_nfa.specs.Occurrences.{IsPositionAutomaton, IsWithinLimits, AcceptsAnswersOf}
 use Rattle.marker_nfa.specs.declared.nfa.Edge.{Edge}
-use Rattle.marker_nfa.specs.declared.nfa.End.{End}
 use Rattle.marker_nfa.proofs.Built.{edge_from, edge_to, end_state}
-use Rattle.marker_nfa.proofs.Weights.{weight, weight_below, null_le, first_le, last_le, follow_le}
+use Rattle.marker_nfa.proofs.Weights.{weight_below, null_le, first_le, last_le, follow_le}
 
 step_to : (f : FormulaTree) (a : Automaton) → IsPositionAutomaton f a → (o m b p : ℕ) → Moves a o m b p → Steps f o m b p
 step_to f a i o m b p s =

@@ -1,7 +1,6 @@
 -- Lists that gain elements.
-use Rattle.std.proofs.Common.{◌≡◌, ℕ, zero, suc, ◌+◌, ◌<◌, ◌≤◌, ◌↔◌, ◌⊎◌, inl, inr, refl, sym, ap, subst, ◌∙◌, arith, List, [], length, Contains, slice_index_or, get_or}
+use Rattle.std.proofs.Common.{◌≡◌, ℕ, ◌+◌, ◌<◌, ◌↔◌, ◌⊎◌, inl, inr, sym, ap, subst, ◌∙◌, arith, List, [], length, Contains, slice_index_or, get_or}
 use Rattle.std.proofs.lemmas.List.{get_or_default}
-use Rattle.std.proofs.lemmas.List.Elements.{Contains-get_or}
 use Rattle.marker_nfa.specs.Parts.{Adds}
 
 pub adds_more : {X : Type 0} (old mid new : List X) (P Q R : X → Type 0) → Adds old mid P → Adds mid new Q → ((m : X) → P m ⊎ Q m → R m) → ((m : X) → R m → P m ⊎ Q m) → Adds old new R

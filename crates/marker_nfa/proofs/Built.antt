@@ -1,7 +1,7 @@
 -- The automaton of a formula from its outline.
-use Rattle.std.proofs.Common.{◌≡◌, ◌≢◌, ℕ, zero, suc, ◌+◌, ◌-◌, ◌^◌, ◌<◌, ◌≤◌, ◌↔◌, ◌⊎◌, inl, inr, refl, sym, ap, subst, ◌∙◌, arith, Bool, true, false, List, [], ◌∷◌, length, map, Contains, AllPairs, slice_index_or}
+use Rattle.std.proofs.Common.{◌≡◌, ◌≢◌, ℕ, suc, ◌+◌, ◌-◌, ◌<◌, ◌↔◌, inl, inr, sym, ap, subst, ◌∙◌, arith, Bool, List, [], length, map, Contains, AllPairs, slice_index_or}
 use Rattle.span_types.specs.FormulaTree.{FormulaTree, sets, var_bound}
-use Rattle.formula_law.specs.Positions.{HasSet, IsFollow, IsFirst, IsLast, IsEdge, IsEnd}
+use Rattle.formula_law.specs.Positions.{HasSet, IsEdge, IsEnd}
 use Rattle.formula_law.proofs.Ranges.{InRange, first_range, last_range, follow_range}
 use Rattle.marker_nfa.specs.Automaton.{Automaton}
 use Rattle.marker_nfa.specs.Occurrences.{IsPositionAutomaton}
@@ -9,7 +9,7 @@ use Rattle.marker_nfa.specs.declared.nfa.Edge.{Edge}
 use Rattle.marker_nfa.specs.declared.nfa.End.{End}
 use Rattle.marker_nfa.specs.declared.lists.Hop.{Hop}
 use Rattle.marker_nfa.specs.declared.outline.Outline.{Outline}
-use Rattle.marker_nfa.specs.Parts.{IsOutline, LeadWithin, edge_of, letters_in}
+use Rattle.marker_nfa.specs.Parts.{IsOutline, LeadWithin, edge_of}
 use Rattle.marker_nfa.proofs.Making.{letters_length}
 use Rattle.marker_nfa.proofs.Mapped.{map_has, has_map, pairs_map}
 use Rattle.marker_nfa.proofs.Letters.{set_is, set_at}

@@ -1,7 +1,7 @@
 -- The hops of each form of formula, from those of its parts.
-use Rattle.std.proofs.Common.{◌≡◌, ℕ, ◌+◌, ◌↔◌, ◌⊎◌, inl, inr, refl, sym, ap, subst, ◌∙◌, arith, List, Contains, Bool, true, false, ◌&&◌}
-use Rattle.span_types.specs.FormulaTree.{FormulaTree, Set, Empty, Cat, Alt, Star, Plus, Opt, Capture, sets}
-use Rattle.formula_law.specs.Positions.{SumOf, Joins, IsNull, IsFirst, IsLast, IsFollow}
+use Rattle.std.proofs.Common.{◌≡◌, ℕ, ◌+◌, ◌⊎◌, inl, inr, refl, sym, subst, arith, List, Contains, Bool, true, false, ◌&&◌}
+use Rattle.span_types.specs.FormulaTree.{FormulaTree, Cat, Alt, Star, Plus, Opt, Capture, sets}
+use Rattle.formula_law.specs.Positions.{Joins, IsNull, IsFirst, IsLast}
 use Rattle.marker_nfa.specs.declared.nfa.End.{End}
 use Rattle.marker_nfa.specs.declared.lists.Hop.{Hop}
 use Rattle.marker_nfa.specs.declared.parts.Part.{Part}

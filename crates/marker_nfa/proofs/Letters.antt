@@ -1,10 +1,10 @@
 -- The byte set of an occurrence, by its place in the list of byte sets.
-use Rattle.std.proofs.Common.{◌≡◌, ℕ, zero, suc, ◌+◌, ◌-◌, ◌<◌, ◌≤◌, ◌↔◌, ◌⊎◌, inl, inr, refl, sym, ap, subst, ◌∙◌, arith, Bool, List, [], ◌∷◌, ◌++◌, length, slice_index_or, get_or}
+use Rattle.std.proofs.Common.{◌≡◌, ℕ, zero, suc, ◌+◌, ◌-◌, ◌<◌, ◌≤◌, ◌⊎◌, inl, inr, refl, sym, ap, subst, ◌∙◌, arith, Bool, List, [], ◌∷◌, ◌++◌, length, slice_index_or}
 use Rattle.span_types.specs.FormulaTree.{FormulaTree, Set, Empty, Cat, Alt, Star, Plus, Opt, Capture, sets}
 use Rattle.formula_law.specs.Positions.{HasSet}
 use Rattle.formula_law.proofs.Ranges.{InRange, set_range}
 use Rattle.marker_nfa.specs.Parts.{letters_in}
-use Rattle.marker_nfa.proofs.Making.{letters_length, length_both}
+use Rattle.marker_nfa.proofs.Making.{letters_length}
 
 get_left : {X : Type 0} (xs ys : List X) (k : ℕ) (d : X) → k < length xs → slice_index_or (xs ++ ys) k d ≡ slice_index_or xs k d
 get_left [] ys k d lt = absurd (omega (arith, lt))

@@ -1,13 +1,11 @@
 -- The parts of each form of formula, from those of its parts.
-use Rattle.std.proofs.Common.{◌≡◌, ℕ, zero, suc, ◌+◌, ◌*◌, ◌^◌, ◌<◌, ◌≤◌, ◌↔◌, ◌⊎◌, inl, inr, refl, sym, ap, subst, ◌∙◌, arith, List, [], ◌∷◌, length, Contains, Bool}
+use Rattle.std.proofs.Common.{◌≡◌, ℕ, ◌+◌, ◌*◌, ◌^◌, ◌<◌, ◌↔◌, ◌⊎◌, inl, inr, refl, sym, ap, subst, arith, List, [], ◌∷◌, length, Contains, Bool}
 use Rattle.span_types.specs.FormulaTree.{FormulaTree, Set, Empty, Cat, Alt, Star, Plus, Opt, Capture, sets}
-use Rattle.formula_law.specs.Positions.{SumOf, Joins, IsNull, IsFirst, IsLast, IsFollow}
+use Rattle.formula_law.specs.Positions.{SumOf, IsNull, IsFirst, IsLast}
 use Rattle.marker_nfa.specs.declared.nfa.End.{End}
-use Rattle.marker_nfa.specs.declared.lists.Hop.{Hop}
 use Rattle.marker_nfa.specs.declared.parts.Part.{Part}
-use Rattle.marker_nfa.specs.Parts.{Adds, IsPart, IsRaised, IsRaisedBy, IsHop, IsHopIn, IsFollowHop}
+use Rattle.marker_nfa.specs.Parts.{Adds, IsPart, IsRaised, IsRaisedBy}
 use Rattle.marker_nfa.specs.Parts.{letters_in}
-use Rattle.marker_nfa.proofs.Adding.{adds_more}
 use Rattle.std.proofs.Common.{◌++◌, Result, Ok, Err, IfOk}
 
 both : {A B C D : Type 0} → (A → C) → (B → D) → A ⊎ B → C ⊎ D

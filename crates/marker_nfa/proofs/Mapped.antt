@@ -1,6 +1,10 @@
 -- A list made from another, element by element.
-use Rattle.std.proofs.Common.{◌≡◌, ◌≢◌, ℕ, zero, suc, ◌+◌, ◌<◌, ◌≤◌, refl, ap, sym, ◌∙◌, arith, List, [], ◌∷◌, ◌++◌, length, map, take, get_or, Contains, AllPairs, slice_index_or}
+use Rattle.std.proofs.Common.{◌≡◌, ◌≢◌, ℕ, zero, suc, ◌+◌, ◌-◌, ◌<◌, refl, ap, sym, subst, ◌∙◌, arith, Bool, List, [], ◌∷◌, ◌++◌, length, map, take, get_or, Contains, AllPairs, slice_index_or}
 use Rattle.std.proofs.lemmas.List.Elements.{Contains-get_or}
+use Rattle.marker_nfa.specs.Automaton.{AreLettersOf}
+use Rattle.marker_nfa.specs.Parts.{LeadWithin, edge_of}
+use Rattle.marker_nfa.specs.declared.lists.Hop.{Hop}
+use Rattle.marker_nfa.specs.declared.nfa.Edge.{Edge}
 
 more : {X Y : Type 0} (f : X → Y) (xs : List X) (k : ℕ) (d : X) → k < length xs → map f (take (suc k) xs) ≡ map f (take k xs) ++ f (get_or xs k d) ∷ []
 more f [] k d lt = absurd (omega (arith, lt))
@@ -38,3 +42,10 @@ pairs_map f d xs same h i j e lt le q =
     let lj : j < length xs = omega (arith, le, len) in
     let li : i < length xs = omega (arith, lt, lj) in
     h i j d lt lj (same _ _ (sym (get_map f xs i d e li) ∙ q ∙ get_map f xs j d e lj))
+
+-- the letters of each edge are in the list from which they were taken
+pub letters_of_hops : (letters : List (List Bool)) (hops : List Hop) → LeadWithin (length letters) hops → AreLettersOf (map (edge_of letters) hops) letters
+letters_of_hops letters hops h e c =
+    let p = map_has (edge_of letters) (record { from = 0; mark = 0; to = 0 }) hops e c in
+    let w = h p.0 p.1 in
+    subst (λ (y : Edge). Contains letters y.letters) (sym p.2) (Contains-get_or letters (p.0.to - 1) [] (omega (arith, w.0, w.1)))

@@ -1,7 +1,7 @@
 -- The edges and ends of a formula from those of its part.
-use Rattle.std.proofs.Common.{◌≡◌, ℕ, ◌+◌, ◌<◌, ◌↔◌, ◌⊎◌, inl, inr, refl, sym, ap, subst, ◌∙◌, arith, List, [], length, Contains}
+use Rattle.std.proofs.Common.{◌≡◌, ℕ, ◌+◌, ◌<◌, ◌↔◌, ◌⊎◌, inl, inr, refl, sym, ap, subst, arith, List, [], Contains}
 use Rattle.span_types.specs.FormulaTree.{FormulaTree}
-use Rattle.formula_law.specs.Positions.{IsNull, IsFirst, IsLast, IsFollow, IsEdge, IsEnd}
+use Rattle.formula_law.specs.Positions.{IsNull, IsFirst, IsEdge, IsEnd}
 use Rattle.formula_law.proofs.Fault.{plain}
 use Rattle.marker_nfa.specs.Parts.{IsSmall}
 use Rattle.marker_nfa.specs.declared.nfa.End.{End}

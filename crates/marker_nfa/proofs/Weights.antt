@@ -1,15 +1,13 @@
 -- The greatest mark of a formula's variables, and parts of small formulas.
-use Rattle.std.proofs.Common.{◌≡◌, ℕ, zero, suc, ◌+◌, ◌*◌, ◌^◌, ◌<◌, ◌≤◌, Bool, true, false, ◌||◌, ◌==◌, ◌⊎◌, ◌↔◌, inl, inr, refl, sym, ap, subst, ◌∙◌, arith, if◌then◌else◌, pow-suc, eq-eqb, List, [], ◌∷◌, Contains, lit<, slice_index_or, Result, Ok, Err, IfOk}
+use Rattle.std.proofs.Common.{◌≡◌, ℕ, zero, suc, ◌+◌, ◌*◌, ◌^◌, ◌<◌, ◌≤◌, Bool, true, false, ◌||◌, ◌==◌, ◌⊎◌, inl, inr, refl, sym, ap, ◌∙◌, arith, if◌then◌else◌, pow-suc}
 use Rattle.std.proofs.lemmas.Bool.Decides.{eqb_tells}
 use Rattle.span_types.specs.FormulaTree.{FormulaTree, Set, Empty, Cat, Alt, Star, Plus, Opt, Capture, has_var, fault, sets}
-use Rattle.span_types.specs.Marks.{opening, closing}
 use Rattle.formula_law.specs.Law.{VarsBelow}
-use Rattle.formula_law.specs.Positions.{SumOf, Joins, IsNull, IsFirst, IsLast, IsFollow}
+use Rattle.formula_law.specs.Positions.{Joins, IsNull, IsFirst, IsLast, IsFollow}
 use Rattle.marker_nfa.specs.Parts.{IsSmall}
-use Rattle.marker_nfa.specs.declared.nfa.End.{End}
 use Rattle.marker_nfa.specs.declared.parts.Part.{Part}
 use Rattle.marker_nfa.specs.Parts.{IsPart, MayFollow, MayName, AreShortHops}
-use Rattle.formula_law.proofs.Ranges.{NoVars, or_left, or_right, first_zero, last_zero, follow_zero, null_zero}
+use Rattle.formula_law.proofs.Ranges.{NoVars, first_zero, last_zero, follow_zero, null_zero}
 use Rattle.formula_law.proofs.Fault.{first_none, Apart, Plain, plain}
 use Rattle.formula_law.proofs.FitsWords.{below_left, below_right, below_named, named_below}
 

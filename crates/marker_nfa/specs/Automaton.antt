@@ -1,5 +1,5 @@
 -- Automata that read a mark before each byte of a text, and a last mark after it.
-use Rattle.std.specs.Prelude.{◌≡◌, ℕ, ◌^◌, ◌<◌, ◌≤◌, true, false, List, Option, Contains, length, slice_index_or}
+use Rattle.std.specs.Prelude.{◌≡◌, ℕ, ◌^◌, ◌<◌, ◌≤◌, Bool, true, false, List, Option, Contains, length, slice_index_or}
 use Rattle.span_types.specs.declared.tuple.Span.{Span}
 use Rattle.span_types.specs.Marks.{Lies}
 use Rattle.span_types.specs.Places.{IsTuple}
@@ -23,6 +23,10 @@ pub record Moves (a : Automaton) (o m b p : ℕ) : Type 0 where
   pub mark : edge.mark ≡ m
   pub letter : slice_index_or edge.letters b false ≡ true
   pub to : edge.to ≡ p
+
+-- the byte set of each edge is in the list
+abbrev pub AreLettersOf : List Edge → List (List Bool) → Type 0
+AreLettersOf edges letters = (e : Edge) → Contains edges e → Contains letters e.letters
 
 -- a text may end in this state with this last mark
 abbrev pub MayEnd : Automaton → ℕ → ℕ → Type 0

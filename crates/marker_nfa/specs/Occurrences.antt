@@ -1,5 +1,5 @@
 -- The position automaton of a formula.
-use Rattle.std.specs.Prelude.{◌≡◌, ◌≢◌, ℕ, suc, ◌≤◌, ◌↔◌, AllPairs, Contains, length}
+use Rattle.std.specs.Prelude.{◌≡◌, ◌≢◌, suc, ◌≤◌, ◌↔◌, AllPairs, Contains, length}
 use Rattle.span_types.specs.FormulaTree.{FormulaTree, Fun, sets, var_bound}
 use Rattle.formula_law.specs.Accepts.{MarkedText}
 use Rattle.formula_law.specs.Law.{IsTupleText, bytes_of}

@@ -1,5 +1,5 @@
 -- What of a formula's automaton is known at one of its parts.
-use Rattle.std.specs.Prelude.{◌≡◌, ◌≢◌, ℕ, ◌+◌, ◌-◌, ◌*◌, ◌^◌, ◌<◌, ◌≤◌, ◌↔◌, ◌⊎◌, ◌++◌, ◌∷◌, [], Bool, true, false, List, length, slice_index_or, Contains, AllPairs}
+use Rattle.std.specs.Prelude.{◌≡◌, ◌≢◌, ℕ, ◌+◌, ◌-◌, ◌*◌, ◌^◌, ◌<◌, ◌≤◌, ◌↔◌, ◌⊎◌, ◌++◌, ◌∷◌, [], Bool, true, false, List, slice_index_or, Contains, AllPairs}
 use Rattle.span_types.specs.FormulaTree.{FormulaTree, Set, Empty, Cat, Alt, Star, Plus, Opt, Capture, Fun, has_var}
 use Rattle.formula_law.specs.Positions.{IsNull, IsFirst, IsLast, IsFollow, IsEdge, IsEnd, Joins}
 use Rattle.marker_nfa.specs.declared.nfa.End.{End}

@@ -21,6 +21,7 @@ use std::alloc::Global;
 /// The position automaton of a formula. Its states past the start are the occurrences of byte sets, from the left.
 ///
 /// It takes time and memory in proportion to its edges, of which there may be 256 between two states, one for each mark.
+/// The recursions over the formula are as deep as its tree, so at most as deep as its text is long.
 ///
 /// # Errors
 ///
@@ -37,6 +38,7 @@ pub fn of_formula(alloc: Global, formula: &Formula) -> Result<Nfa, NoMemory>
         variables_of(formula),
         edges,
         outline.ends,
+        outline.letters,
     ))
 }
 
@@ -80,6 +82,26 @@ mod tests {
         assert!(rt; has_edge(&nfa, 0, 1, b'a', 1));
         assert!(rt; has_edge(&nfa, 1, 2, b'b', 2));
         assert_eq!(rt; nfa.ends(), [End { state: 2, mark: 0 }].as_slice());
+        Ok(())
+    }
+
+    /// A letter under so many stars.
+    fn starred(alloc: Global, count: u16) -> Result<Formula, NoMemory>
+        ensures { IfOk result (λ f. IsWithinLimits (tree_of f)) }
+    {
+        let mut formula = letter(b'a');
+        for turn in 0..count {
+            formula = Formula::Star(boxed(alloc, formula)?);
+        }
+        Ok(formula)
+    }
+
+    /// A formula as deep as the longest text.
+    #[test]
+    fn many_stars(rt: HostRuntime) -> Result<(), Fail> {
+        let alloc = rt.alloc();
+        let nfa = of_formula(alloc, &starred(alloc, 2047)?)?;
+        assert_eq!(rt; nfa.edges().len(), 2);
         Ok(())
     }
 

@@ -35,20 +35,23 @@ pub struct Nfa {
     variables: u8,
     edges: Vec<Edge>,
     ends: Vec<End>,
+
+    // Among these are the byte sets of all edges.
+    letters: Vec<ByteSet>,
 }
 
 impl Model for Nfa {
-    ghost use Rattle.marker_nfa.specs.Automaton.{Automaton, IsAutomaton};
+    ghost use Rattle.marker_nfa.specs.Automaton.{Automaton, AreLettersOf, IsAutomaton};
 
     ghost Value = { Automaton };
 
     ghost view = { λ a. record { states = a.states; variables = a.variables; edges = a.edges.items; ends = a.ends.items } };
 
-    ghost invariant = { λ a. IsAutomaton (record { states = a.states; variables = a.variables; edges = a.edges.items; ends = a.ends.items }) };
+    ghost invariant = { λ a. IsAutomaton (record { states = a.states; variables = a.variables; edges = a.edges.items; ends = a.ends.items }) × AreLettersOf a.edges.items a.letters.items };
 }
 
 impl Nfa {
-    ghost use Rattle.marker_nfa.specs.Automaton.{IsAutomaton};
+    ghost use Rattle.marker_nfa.specs.Automaton.{AreLettersOf, IsAutomaton};
 
     /// The automaton with these parts.
     ///
@@ -65,14 +68,22 @@ impl Nfa {
         requires { IsAutomaton (record { states = states; variables = variables; edges = edges.now; ends = ends.now }) }
         ensures { IfOk result (λ a. a ≡ record { states = states; variables = variables; edges = edges.now; ends = ends.now }) }
     {
+        let letters = edges.iter().map(|edge| edge.letters).collect(alloc)?;
         let edges = edges.to_vec(alloc)?;
         let ends = ends.to_vec(alloc)?;
-        Ok(Nfa::from_lists(states, variables, edges, ends))
+        Ok(Nfa::from_lists(states, variables, edges, ends, letters))
     }
 
-    /// The automaton that takes these parts over.
-    pub(crate) fn from_lists(states: u16, variables: u8, edges: Vec<Edge>, ends: Vec<End>) -> Nfa
-        requires { IsAutomaton (record { states = states; variables = variables; edges = edges.items; ends = ends.items }) }
+    /// The automaton that takes these parts over, with byte sets among which are those of all edges.
+    pub(crate) fn from_lists(
+        states: u16,
+        variables: u8,
+        edges: Vec<Edge>,
+        ends: Vec<End>,
+        letters: Vec<ByteSet>,
+    ) -> Nfa
+        requires automaton { IsAutomaton (record { states = states; variables = variables; edges = edges.items; ends = ends.items }) }
+        requires letters { AreLettersOf edges.items letters.items }
         ensures { result ≡ record { states = states; variables = variables; edges = edges.items; ends = ends.items } }
     {
         Nfa {
@@ -80,6 +91,7 @@ impl Nfa {
             variables,
             edges,
             ends,
+            letters,
         }
     }
 
@@ -104,6 +116,13 @@ impl Nfa {
         ensures { result.now ≡ self.now.edges }
     {
         &self.edges
+    }
+
+    /// Byte sets among which are those of all edges. A formula's automaton has one for each of its states past the start.
+    pub fn letters(&self) -> &[ByteSet]
+        ensures { AreLettersOf self.now.edges result.now }
+    {
+        &self.letters
     }
 
     /// The ends, in no particular order.

@@ -1,9 +1,10 @@
 use Rattle.std.proofs.Common.{◌≡◌}
-use Rattle.marker_dfa.proofs.Splitting.{FitsEdges}
+use Rattle.marker_nfa.specs.Automaton.{AreLettersOf}
+use Rattle.marker_dfa.proofs.Splitting.{FitsLetters}
 use Rattle.marker_dfa.proofs.classes.classes_of.Given as goal
 
-abbrev pub invariant-loop-edge : goal.invariant-loop-edge
-invariant-loop-edge l = record {
-  items : l.edge-items ≡ l.nfa.edges;
-  fits : FitsEdges l.nfa.edges l.edge-index l.classes;
+abbrev pub invariant-loop-letters : goal.invariant-loop-letters
+invariant-loop-letters l = record {
+  among : AreLettersOf l.nfa.edges l.letters-items;
+  fits : FitsLetters l.letters-items l.letters-index l.classes;
 }

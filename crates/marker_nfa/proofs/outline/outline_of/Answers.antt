@@ -1,5 +1,5 @@
-use Rattle.std.proofs.Common.{◌≡◌, ◌+◌, ◌≤◌, ◌++◌, ℕ, ap, arith, length, List, Bool, [], refl}
-use Rattle.span_types.specs.FormulaTree.{tree_of, sets}
+use Rattle.std.proofs.Common.{arith}
+use Rattle.span_types.specs.FormulaTree.{tree_of}
 use Rattle.marker_nfa.proofs.Outlines.{first_short, edges_are, ends_are}
 use Rattle.marker_nfa.proofs.Following.{follow_added}
 use Rattle.marker_nfa.proofs.outline.outline_of.Goals as goal

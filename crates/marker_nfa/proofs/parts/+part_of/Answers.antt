@@ -1,12 +1,11 @@
-use Rattle.std.proofs.Common.{◌≡◌, ◌+◌, ◌<◌, ◌≤◌, ◌++◌, ℕ, suc, ap, sym, subst, ◌∙◌, arith, length, List, Bool, refl, true, false, ◌&&◌}
+use Rattle.std.proofs.Common.{◌≡◌, ◌+◌, ℕ, ap, arith, length, ◌&&◌}
 use Rattle.span_types.specs.FormulaTree.{FormulaTree, tree_of, sets, Cat, Alt, Star, Plus, Opt, Capture}
-use Rattle.marker_nfa.specs.Parts.{IsSmall}
 use Rattle.marker_nfa.proofs.Size.{tree_size}
 use Rattle.marker_nfa.specs.Parts.{IsPart}
 use Rattle.marker_nfa.specs.declared.parts.Part.{Part}
 use Rattle.marker_nfa.proofs.Weights.{cat_small_left, cat_small_right, alt_small_left, alt_small_right, star_small, plus_small, opt_small, capture_small, may_follow, may_star, may_plus, may_name}
-use Rattle.marker_nfa.proofs.Making.{next_place, if_ok_map, if_ok_any, part_of_plus}
-use Rattle.marker_nfa.proofs.Following.{cat_hops, alt_hops, star_hops, plus_hops, opt_hops, capture_hops, no_hops}
+use Rattle.marker_nfa.proofs.Making.{next_place, if_ok_map, if_ok_any}
+use Rattle.marker_nfa.proofs.Following.{cat_hops, alt_hops, star_hops, plus_hops, opt_hops, capture_hops}
 use Rattle.marker_nfa.specs.Parts.{AddsFollow, AddsUnless, IsHopIn}
 use Rattle.span_types.specs.declared.refusal.NoMemory.{NoMemory}
 use Rattle.marker_nfa.proofs.parts.+part_of.Goals as goal

@@ -1,4 +1,3 @@
-use Rattle.std.proofs.Common.{◌≡◌, ◌+◌, ◌<◌, ◌≤◌, ◌*◌, ◌^◌, ℕ, refl, arith}
 use Rattle.marker_nfa.proofs.Making.{part_of_alt}
 use Rattle.marker_nfa.proofs.parts.alt_part.Goals as goal
 

@@ -1,7 +1,5 @@
-use Rattle.std.proofs.Common.{◌≡◌, ◌+◌, ◌<◌, ◌≤◌, ◌*◌, ◌^◌, ℕ, refl, arith}
-use Rattle.marker_nfa.proofs.Adding.{from_none}
-use Rattle.marker_nfa.proofs.Weights.{four_le}
-use Rattle.marker_nfa.proofs.Making.{part_of_set, part_of_empty, part_of_cat, part_of_alt, part_of_star, part_of_opt, part_of_capture}
+use Rattle.std.proofs.Common.{refl}
+use Rattle.marker_nfa.proofs.Making.{part_of_star}
 use Rattle.marker_nfa.proofs.parts.star_part.Goals as goal
 
 pub push_joins-requires : goal.push_joins-requires

@@ -1,6 +1,5 @@
-use Rattle.std.proofs.Common.{◌≡◌, ◌≤◌, ℕ, ap, refl, arith}
-use Rattle.span_types.specs.FormulaTree.{tree_of, Cat, Capture, Star, Set}
-use Rattle.marker_nfa.specs.Occurrences.{IsWithinLimits}
+use Rattle.std.proofs.Common.{◌≡◌, ap, refl, arith}
+use Rattle.span_types.specs.FormulaTree.{tree_of, Star}
 use Rattle.marker_nfa.proofs.tests.a_captured_star.Goals as goal
 
 pub of_formula-requires : goal.of_formula-requires

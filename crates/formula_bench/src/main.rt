@@ -1,0 +1,137 @@
+//! Times the automata of the largest formulas within the limits. The figures go to standard error.
+#![tactic(auto)]
+
+use formula_syntax::read;
+use marker_dfa::determinise;
+use marker_nfa::of_formula;
+use std::alloc::{AllocError, Global};
+use std::io;
+use std::time::Instant;
+
+// Puts a text behind another so many times.
+fn repeat(out: &mut Vec<u8>, text: &[u8], times: u32) -> Result<(), AllocError> {
+    for _ in 0..times {
+        out.extend_from_slice(text)?;
+    }
+    Ok(())
+}
+
+// So many copies of a text, all eight variables with this between their braces, and the copies again.
+fn around(
+    alloc: Global,
+    side: &[u8],
+    times: u32,
+    inner: &[u8],
+    end: &[u8],
+) -> Result<Vec<u8>, AllocError> {
+    let mut text = Vec::new(alloc);
+    repeat(&mut text, side, times)?;
+    for name in b"stuvwxyz" {
+        text.push(b'$')?;
+        text.push(*name)?;
+        text.push(b'{')?;
+        text.extend_from_slice(inner)?;
+        text.extend_from_slice(end)?;
+    }
+    repeat(&mut text, side, times)?;
+    Ok(text)
+}
+
+// A text, and behind it another so many times.
+fn with_tail(alloc: Global, text: &[u8], tail: &[u8], times: u32) -> Result<Vec<u8>, AllocError> {
+    let mut out = Vec::new(alloc);
+    out.extend_from_slice(text)?;
+    repeat(&mut out, tail, times)?;
+    Ok(out)
+}
+
+// Sets in a group, and signs behind it.
+fn grouped(
+    alloc: Global,
+    side: &[u8],
+    times: u32,
+    signs: &[u8],
+    count: u32,
+) -> Result<Vec<u8>, AllocError> {
+    let mut text = Vec::new(alloc);
+    text.push(b'(')?;
+    repeat(&mut text, side, times)?;
+    text.push(b')')?;
+    repeat(&mut text, signs, count)?;
+    Ok(text)
+}
+
+// A star of 256 optional sets on either side of eight optional variables.
+fn between_stars(alloc: Global) -> Result<Vec<u8>, AllocError> {
+    let side = grouped(alloc, b".?", 256, b"*", 1)?;
+    around(alloc, &side, 1, b"", b"}?")
+}
+
+fn measure(rt: &HostRuntime, name: &str, text: Result<Vec<u8>, AllocError>) -> io::Result<()> {
+    match text {
+        Ok(text) => measure_text(rt, name, text.as_slice()),
+        Err(_) => Ok(()),
+    }
+}
+
+fn measure_text(rt: &HostRuntime, name: &str, text: &[u8]) -> io::Result<()> {
+    let alloc = rt.alloc();
+    let start = Instant::now(rt)?;
+    let Ok((formula, vars)) = read(alloc, text) else {
+        return eprintln!(rt; "{name}: refused");
+    };
+    let reading = start.elapsed(rt)?.as_micros();
+    let start = Instant::now(rt)?;
+    let Ok(nfa) = of_formula(alloc, &formula) else {
+        return eprintln!(rt; "{name}: no memory");
+    };
+    let making = start.elapsed(rt)?.as_micros();
+    let edges = nfa.edges().len();
+    let names = vars.count();
+    eprintln!(rt; "{name}: {names} variables, read in {reading} us, {edges} edges in {making} us")?;
+    let start = Instant::now(rt)?;
+    let dfa = determinise(alloc, &nfa);
+    let determinising = start.elapsed(rt)?.as_micros();
+    match dfa {
+        Ok(dfa) => {
+            let states = dfa.states();
+            eprintln!(rt; "  {states} states in {determinising} us")
+        }
+        Err(_) => eprintln!(rt; "  too many states in {determinising} us"),
+    }
+}
+
+fn main(rt: HostRuntime) -> io::Result<()> {
+    let alloc = rt.alloc();
+    measure(&rt, "2,047 stars", with_tail(alloc, b"a", b"*", 2047))?;
+    measure(
+        &rt,
+        "512 sets under 1,000 signs",
+        grouped(alloc, b"a", 512, b"*?", 500),
+    )?;
+    measure(
+        &rt,
+        "512 sets each optional, under 1,000 signs",
+        grouped(alloc, b"a?", 512, b"*?", 500),
+    )?;
+    measure(
+        &rt,
+        "8 optional variables between stars of 256 optional sets",
+        between_stars(alloc),
+    )?;
+    measure(
+        &rt,
+        "8 variables between stars",
+        around(alloc, b".*", 1, b".", b"}?"),
+    )?;
+    measure(
+        &rt,
+        "126 letters, 8 of them captured",
+        around(alloc, b"a", 59, b"a", b"}"),
+    )?;
+    measure(
+        &rt,
+        "126 letters, 8 of them captured or left out",
+        around(alloc, b"a", 59, b"a", b"}?"),
+    )
+}
