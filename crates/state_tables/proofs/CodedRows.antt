@@ -1,0 +1,119 @@
+-- What the two lists of a table give.
+use Rattle.std.proofs.Common.{zero, suc, ◌≡◌, ℕ, ◌-◌, ◌≤◌, Bool, true, false, ◌&&◌, nat_eq, refl, ap, sym, ◌∙◌, arith, inl, inr, ◌⊎◌, ◌≢◌, List, [], ◌∷◌, ◌++◌, length, map, get_or, Option, Some, None}
+use Rattle.std.specs.Option.{option_eq}
+use Rattle.std.specs.Cmp.Lexicographic.{pointwise}
+use Rattle.std.proofs.lemmas.Bool.{eq-eqb, eqb-true, cases_eq}
+use Rattle.std.specs.Option.{SomeIff}
+use Rattle.state_tables.specs.Table.{Row, unmarked_of, marked_of}
+use Rattle.state_tables.specs.Coded.{code_of, step_of, rows_of}
+use Rattle.std.specs.Hash.{u8, u128, slice}
+use Rattle.state_tables.specs.Same.{table_eq, table_writes}
+
+pub length-rows_of : (us ms : List ℕ) → length us ≡ length ms → length (rows_of us ms) ≡ length ms
+length-rows_of [] [] h = refl
+length-rows_of [] (m ∷ ms) h = absurd (omega arith)
+length-rows_of (u ∷ us) [] h = absurd (omega arith)
+length-rows_of (u ∷ us) (m ∷ ms) h = omega (arith, length-rows_of us ms (omega arith))
+
+pub unmarked_of-rows_of : (us ms : List ℕ) (p : ℕ) → length us ≡ length ms → unmarked_of (rows_of us ms) p ≡ step_of (get_or us p 0)
+unmarked_of-rows_of [] [] p h = refl
+unmarked_of-rows_of [] (m ∷ ms) p h = absurd (omega arith)
+unmarked_of-rows_of (u ∷ us) [] p h = absurd (omega arith)
+unmarked_of-rows_of (u ∷ us) (m ∷ ms) zero h = refl
+unmarked_of-rows_of (u ∷ us) (m ∷ ms) (suc p) h = unmarked_of-rows_of us ms p (omega arith)
+
+pub marked_of-rows_of : (us ms : List ℕ) (p : ℕ) → length us ≡ length ms → marked_of (rows_of us ms) p ≡ get_or ms p 0
+marked_of-rows_of [] [] p h = refl
+marked_of-rows_of [] (m ∷ ms) p h = absurd (omega arith)
+marked_of-rows_of (u ∷ us) [] p h = absurd (omega arith)
+marked_of-rows_of (u ∷ us) (m ∷ ms) zero h = refl
+marked_of-rows_of (u ∷ us) (m ∷ ms) (suc p) h = marked_of-rows_of us ms p (omega arith)
+
+pub rows_of-push : (us ms : List ℕ) (u m : ℕ) → length us ≡ length ms → rows_of (us ++ u ∷ []) (ms ++ m ∷ []) ≡ rows_of us ms ++ record { unmarked = step_of u; marked = m } ∷ []
+rows_of-push [] [] u m h = refl
+rows_of-push [] (n ∷ ms) u m h = absurd (omega arith)
+rows_of-push (v ∷ us) [] u m h = absurd (omega arith)
+rows_of-push (v ∷ us) (n ∷ ms) u m h = let make : Row = record { unmarked = step_of v; marked = n } in ap (λ t. make ∷ t) (rows_of-push us ms u m (omega arith))
+
+code_of-step_of : (u : ℕ) → code_of (step_of u) ≡ u
+code_of-step_of zero = refl
+code_of-step_of (suc q) = refl
+
+pub codes-rows_of : (us ms : List ℕ) → length us ≡ length ms → map (λ r. code_of r.unmarked) (rows_of us ms) ≡ us
+codes-rows_of [] [] h = refl
+codes-rows_of [] (m ∷ ms) h = absurd (omega arith)
+codes-rows_of (u ∷ us) [] h = absurd (omega arith)
+codes-rows_of (u ∷ us) (m ∷ ms) h =
+    let head : code_of (step_of u) ≡ u = code_of-step_of u in
+    let tail : map (λ r. code_of r.unmarked) (rows_of us ms) ≡ us = codes-rows_of us ms (omega arith) in
+    cc
+
+pub sets-rows_of : (us ms : List ℕ) → length us ≡ length ms → map (λ r. r.marked) (rows_of us ms) ≡ ms
+sets-rows_of [] [] h = refl
+sets-rows_of [] (m ∷ ms) h = absurd (omega arith)
+sets-rows_of (u ∷ us) [] h = absurd (omega arith)
+sets-rows_of (u ∷ us) (m ∷ ms) h = ap (λ t. m ∷ t) (sets-rows_of us ms (omega arith))
+
+apart-at : (u v : ℕ) (b : Bool) → nat_eq u v ≡ b → u ≢ v → b ≡ false
+apart-at u v true e ne = absurd (ne (eqb-true u v e))
+apart-at u v false e ne = refl
+
+apart : (u v : ℕ) → u ≢ v → nat_eq u v ≡ false
+apart u v ne = apart-at u v (nat_eq u v) refl ne
+
+same-successors : (u v : ℕ) → (u ≡ v) ⊎ (u ≢ v) → nat_eq u v ≡ nat_eq (suc u) (suc v)
+same-successors u v (inl e) = eq-eqb u v e ∙ sym (eq-eqb (suc u) (suc v) (ap suc e))
+same-successors u v (inr ne) = apart u v ne ∙ sym (apart (suc u) (suc v) (omega arith))
+
+steps-eq : (u v : ℕ) → option_eq nat_eq (step_of u) (step_of v) ≡ nat_eq u v
+steps-eq zero zero = refl
+steps-eq zero (suc v) = sym (apart 0 (suc v) (omega arith))
+steps-eq (suc u) zero = sym (apart (suc u) 0 (omega arith))
+steps-eq (suc u) (suc v) = same-successors u v (cases_eq u v)
+
+and-regroup : (a b c d : Bool) → ((a && b) && (c && d)) ≡ ((a && c) && (b && d))
+and-regroup true true c d = refl
+and-regroup true false true d = refl
+and-regroup true false false d = refl
+and-regroup false b c d = refl
+
+and-false : (a : Bool) → (a && false) ≡ false
+and-false true = refl
+and-false false = refl
+
+-- two tables are equal where their lists are
+pub table_eq-rows_of : (us ms vs ns : List ℕ) → length us ≡ length ms → length vs ≡ length ns
+    → (pointwise nat_eq us vs && pointwise nat_eq ms ns) ≡ table_eq (rows_of us ms) (rows_of vs ns)
+table_eq-rows_of [] [] [] [] h k = refl
+table_eq-rows_of [] [] (v ∷ vs) (n ∷ ns) h k = refl
+table_eq-rows_of (u ∷ us) (m ∷ ms) [] [] h k = refl
+table_eq-rows_of [] (m ∷ ms) vs ns h k = absurd (omega arith)
+table_eq-rows_of (u ∷ us) [] vs ns h k = absurd (omega arith)
+table_eq-rows_of us ms [] (n ∷ ns) h k = absurd (omega arith)
+table_eq-rows_of us ms (v ∷ vs) [] h k = absurd (omega arith)
+table_eq-rows_of (u ∷ us) (m ∷ ms) (v ∷ vs) (n ∷ ns) h k =
+    and-regroup (nat_eq u v) (pointwise nat_eq us vs) (nat_eq m n) (pointwise nat_eq ms ns)
+    ∙ ap (λ b. (b && nat_eq m n) && (pointwise nat_eq us vs && pointwise nat_eq ms ns)) (sym (steps-eq u v))
+    ∙ ap (λ b. (option_eq nat_eq (step_of u) (step_of v) && nat_eq m n) && b) (table_eq-rows_of us ms vs ns (omega arith) (omega arith))
+
+-- what is fed to a hasher
+pub writes-rows_of : (us ms : List ℕ) → length us ≡ length ms → slice u8 us ++ slice u128 ms ≡ table_writes (rows_of us ms)
+writes-rows_of us ms h = ap (λ x. slice u8 x ++ slice u128 ms) (sym (codes-rows_of us ms h)) ∙ ap (λ x. slice u8 (map (λ r. code_of r.unmarked) (rows_of us ms)) ++ slice u128 x) (sym (sets-rows_of us ms h))
+
+-- one less than the code, where it isn't 0
+pub step-checked : (u : ℕ) (r : Option ℕ) → SomeIff r (1 ≤ u) (u - 1) → r ≡ step_of u
+step-checked zero None h = refl
+step-checked zero (Some q) h = absurd (omega (arith, h.0))
+step-checked (suc u) None h = absurd (h (omega arith))
+step-checked (suc u) (Some q) h = ap Some (omega (arith, h.1))
+
+pub step_of-code_of : (o : Option ℕ) → step_of (code_of o) ≡ o
+step_of-code_of None = refl
+step_of-code_of (Some q) = refl
+
+-- a row is added
+pub rows_of-added : (us ms : List ℕ) (o : Option ℕ) (m : ℕ) (t : List Row) → length us ≡ length ms → rows_of us ms ≡ t
+    → rows_of (us ++ code_of o ∷ []) (ms ++ m ∷ []) ≡ t ++ record { unmarked = o; marked = m } ∷ []
+rows_of-added us ms o m t h e =
+    let make : Option ℕ → Row = λ u. record { unmarked = u; marked = m } in
+    rows_of-push us ms (code_of o) m h ∙ ap (λ x. x ++ make (step_of (code_of o)) ∷ []) e ∙ ap (λ u. t ++ make u ∷ []) (step_of-code_of o)

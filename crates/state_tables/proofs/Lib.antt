@@ -1,0 +1,7 @@
+pub mod StateSets
+pub mod CodedRows
+pub mod Members
+pub mod Reach
+pub mod Shapes
+pub mod Meanings
+pub mod Keeping

@@ -1,0 +1,115 @@
+//! The rows of a table, in 17 bytes a state.
+
+ghost use Rattle.std.specs.Prelude.{◌≡◌, ◌<◌, ◌++◌, [], ◌∷◌, length, IfSome, IfOk, OnOk};
+ghost use Rattle.std.specs.Cmp.Rules.{comparing};
+ghost use Rattle.std.proofs.Common.{rules};
+ghost use Rattle.state_tables.specs.Table.{marked_of, unmarked_of};
+ghost use Rattle.state_tables.specs.Coded.{code_of};
+ghost use Rattle.state_tables.specs.Same.{table_eq, table_respects, table_writes};
+
+use span_types::NoMemory;
+use std::alloc::Global;
+use std::hash::{Hash, Hasher};
+use std::marker::Model;
+
+/// For each state the one reached with every mark 0, and the set of those reached with some other mark.
+#[derive(Drop)]
+pub(crate) struct Rows {
+    // One more than the state, or 0 for none.
+    unmarked: Vec<u8>,
+    marked: Vec<u128>,
+}
+
+impl Model for Rows {
+    ghost use Rattle.std.specs.Prelude.{◌≡◌, List, length};
+    ghost use Rattle.state_tables.specs.Table.{Row};
+
+    ghost Value = { List Row };
+
+    ghost use Rattle.state_tables.specs.Coded.{rows_of};
+
+    ghost view = { λ r. rows_of r.unmarked.items r.marked.items };
+
+    ghost invariant = { λ r. length r.unmarked.items ≡ length r.marked.items };
+}
+
+fn coded(step: Option<u8>) -> u8
+    requires { IfSome step (λ q. q < 128) }
+    ensures { result ≡ code_of step }
+{
+    match step {
+        Some(q) => q + 1,
+        None => 0,
+    }
+}
+
+impl Rows {
+    /// No rows, and room for so many.
+    pub(crate) fn with_capacity(alloc: Global, states: usize) -> Result<Rows, NoMemory>
+        ensures { IfOk result (λ rows. rows ≡ []) }
+    {
+        Ok(Rows {
+            unmarked: Vec::with_capacity(alloc, states)?,
+            marked: Vec::with_capacity(alloc, states)?,
+        })
+    }
+
+    /// How many states there are.
+    pub(crate) fn len(&self) -> usize
+        ensures { result ≡ length self.now }
+    {
+        self.marked.len()
+    }
+
+    /// The state reached from `p` with every mark 0.
+    pub(crate) fn unmarked(&self, p: u8) -> Option<u8>
+        requires { p < length self.now }
+        ensures { result ≡ unmarked_of self.now p }
+    {
+        self.unmarked[p as usize].checked_sub(1)
+    }
+
+    /// The set of the states reached from `p` with some other mark.
+    pub(crate) fn marked(&self, p: u8) -> u128
+        requires { p < length self.now }
+        ensures { result ≡ marked_of self.now p }
+    {
+        self.marked[p as usize]
+    }
+
+    /// Adds a row at the end.
+    pub(crate) fn push(&mut self, unmarked: Option<u8>, marked: u128) -> Result<(), NoMemory>
+        requires { IfSome unmarked (λ q. q < 128) }
+        ensures { OnOk result (self.new ≡ self.old ++ record { unmarked = unmarked; marked = marked } ∷ []) }
+    {
+        self.unmarked.reserve(1)?;
+        self.marked.push(marked)?;
+        self.unmarked.push_reserved(coded(unmarked));
+        Ok(())
+    }
+}
+
+impl PartialEq for Rows {
+    ghost eq = { table_eq };
+
+    ghost laws = { Prim.search (comparing, rules) depth 9 };
+
+    fn eq(&self, other: &Rows) -> bool {
+        self.unmarked == other.unmarked && self.marked == other.marked
+    }
+}
+
+impl Eq for Rows {
+    ghost laws = { Prim.search (comparing, rules) depth 9 };
+}
+
+impl Hash for Rows {
+    ghost hash_input = { table_writes };
+
+    ghost respects_eq = { table_respects table_writes };
+
+    fn hash<H: Hasher>(&self, state: &mut H) {
+        self.unmarked.hash(state);
+        self.marked.hash(state);
+    }
+}

@@ -1,0 +1,135 @@
+//! The tables of the nodes, each distinct one kept once.
+
+ghost use Rattle.std.specs.Prelude.{◌≡◌, ℕ, ◌+◌, ◌<◌, ◌≤◌, ◌-◌, ◌++◌, [], ◌∷◌, length, IfOk, OnOk, OnErr};
+ghost use Rattle.marker_dfa.specs.Deterministic.{states_of};
+ghost use Rattle.state_tables.specs.Dictionary.{IsDictionary, count_of, distinct_of, kept_of, number_of, table_of};
+
+use crate::table::Table;
+use crate::view::View;
+use indexmap::IndexSet;
+use marker_dfa::Dfa;
+use node_store::{NodeId, Store};
+use span_types::{NoMemory, Steps};
+use std::alloc::Global;
+use std::marker::Model;
+use std::sync::ledger::Ledger;
+
+/// Each distinct table once, under a number from 0, and for each node the number of its table.
+#[derive(Drop)]
+pub struct Tables {
+    states: u8,
+    kept: IndexSet<Table>,
+    numbers: Vec<usize>,
+}
+
+impl Model for Tables {
+    ghost use Rattle.state_tables.specs.Dictionary.{Dictionary, IsDictionary};
+
+    ghost Value = { Dictionary };
+
+    ghost use Rattle.state_tables.specs.Kept.{view_of};
+
+    ghost view = { view_of };
+
+    ghost invariant = { λ t. IsDictionary (view_of t) };
+}
+
+impl Tables {
+    /// Tables of no node.
+    pub fn new(alloc: Global, dfa: &Dfa) -> Tables
+        ensures { result ≡ record { states = states_of dfa.now; kept = []; numbers = []; room = 0 } }
+    {
+        Tables {
+            states: dfa.states(),
+            kept: IndexSet::new(alloc),
+            numbers: Vec::new(alloc),
+        }
+    }
+
+    /// How many nodes have tables: those numbered 0 to count-1.
+    pub fn count(&self) -> usize
+        ensures count { result ≡ count_of self.now }
+        ensures facts { IsDictionary self.now }
+    {
+        self.numbers.len()
+    }
+
+    /// How many tables are kept.
+    pub fn distinct(&self) -> usize
+        ensures { result ≡ distinct_of self.now }
+    {
+        self.kept.len()
+    }
+
+    /// The number of the node's table.
+    pub fn number(&self, id: NodeId) -> usize
+        requires { id.index < count_of self.now }
+        ensures number { result ≡ number_of self.now id.index }
+        ensures kept { result < distinct_of self.now }
+    {
+        self.numbers[id.index]
+    }
+
+    /// The kept table with this number.
+    pub fn kept(&self, number: usize) -> &Table
+        requires { number < distinct_of self.now }
+        ensures { result.now ≡ kept_of self.now number }
+    {
+        &self.kept.as_slice()[number]
+    }
+
+    /// The table of the node.
+    pub fn table(&self, id: NodeId) -> &Table
+        requires { id.index < count_of self.now }
+        ensures { result.now ≡ table_of self.now id.index }
+    {
+        self.kept(self.number(id))
+    }
+
+    /// The number of an equal kept table, else the table is added last. It takes time linear in the states, and expected
+    /// constant time beside that. No node's table changes.
+    pub fn keep(&mut self, table: Table) -> Result<usize, NoMemory>
+        requires { length table ≡ self.old.states }
+        ensures number { IfOk result (λ n. (n < distinct_of self.new) × (kept_of self.new n ≡ table)) }
+        ensures kept { (n : ℕ) → n < distinct_of self.old → kept_of self.new n ≡ kept_of self.old n }
+        ensures more { distinct_of self.old ≤ distinct_of self.new }
+        ensures same { self.new ≡ record self.old { kept = self.new.kept } }
+        ensures err { OnErr result (self.new ≡ self.old) }
+    {
+        let _ = table.states();
+        let Ok((number, _)) = self.kept.insert_full(table) else {
+            return Err(NoMemory);
+        };
+        Ok(number)
+    }
+
+    /// Makes room for so many further nodes.
+    pub fn reserve(&mut self, more: usize) -> Result<(), NoMemory>
+        ensures ok { OnOk result (more ≤ self.new.room) }
+        ensures room { self.old.room ≤ self.new.room }
+        ensures same { self.new ≡ record self.old { room = self.new.room } }
+    {
+        self.numbers.reserve(more)?;
+        Ok(())
+    }
+
+    /// Gives the next node the kept table with this number. It takes no memory, and is one step.
+    pub fn push<L: Ledger>(&mut self, number: usize, places: &mut Steps<L>)
+        requires kept { number < distinct_of self.old }
+        requires room { 0 < self.old.room }
+        ensures pushed { self.new ≡ record self.old { numbers = self.old.numbers ++ number ∷ []; room = self.old.room - 1 } }
+        ensures step { places.new ≡ places.old + 1 }
+    {
+        places.tick();
+        self.numbers.push_reserved(number);
+    }
+
+    /// A way to look at the nodes of the store, each of which has a table.
+    pub fn view<'a>(&'a self, store: &'a Store) -> View<'a>
+        requires { count_of self.now ≡ length store.now }
+        ensures tables { result.tables.now ≡ self.now }
+        ensures store { result.store.now ≡ store.now }
+    {
+        View::new(self, store)
+    }
+}
