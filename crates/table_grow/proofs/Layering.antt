@@ -1,0 +1,182 @@
+-- The new nodes by height, and what the work on one height gives the next.
+use Rattle.std.proofs.Common.{◌≡◌, ◌≢◌, inl, inr, ℕ, ◌+◌, ◌<◌, ◌≤◌, ap, sym, subst, ◌∙◌, arith, List, [], ◌∷◌, ◌++◌, length, map, set, get_or, max, None, IsSome, All, AllPairs, Contains, replicate}
+use Rattle.std.specs.Prelude.{slice_set, slice_index_or}
+use Rattle.std.proofs.Math.Nat.{le-max_left, le-max_right}
+use Rattle.std.proofs.lemmas.Bool.{cases_lt, cases_eq}
+use Rattle.std.proofs.lemmas.List.{get_or-set_same, get_or-set_other, length-set, get_or-map, length-map, get_or-replicate, length-replicate}
+use Rattle.std.proofs.lemmas.List.Elements.{All-push, Contains-push, Contains-append_left}
+use Rattle.std.proofs.lemmas.List.Quantifiers.{all_pairs_push}
+use Rattle.marker_dfa.proofs.Lists.{map_set, get_map, length_map}
+use Rattle.slp_model.specs.declared.NodeId.{NodeId}
+use Rattle.slp_model.specs.declared.Node.{Node}
+use Rattle.slp_model.specs.Tree.{height}
+use Rattle.slp_model.specs.Nodes.{tree}
+use Rattle.state_tables.specs.Dictionary.{Dictionary}
+use Rattle.table_grow.specs.declared.found.Found.TheVariants.{Kept}
+use Rattle.table_grow.specs.declared.found.Done.{Done}
+use Rattle.table_grow.specs.Filling.{Filling, number_in}
+use Rattle.table_grow.specs.Growing.{IsDue, StillPlaced, OnlyPlaced, PlacedUnder, PlacedBelow, FreeAbove, FreeFrom}
+use Rattle.table_grow.specs.Layers.{IsLayer, IsOfHeight, AreLayers}
+use Rattle.table_grow.proofs.Growing.{old-some, all-unmap, pairs-unmap}
+
+-- ---- one more node
+below : (i k : ℕ) → i < k + 1 → i ≢ k → i < k
+below i k h other = elim (cases_lt i k) [
+  | inl lt ↦ lt
+  | inr ge ↦ absurd (other (omega (arith, h, ge)))
+]
+
+of-height-more : (nodes : List Node) (known bound high : ℕ) (id : NodeId) → IsOfHeight nodes known bound high id → IsOfHeight nodes known (bound + 1) high id
+of-height-more nodes known bound high id is = record { new = is.new; live = (let l = is.live in omega (arith, l)); high_is = is.high_is }
+
+pub layer-none : (nodes : List Node) (known high : ℕ) → IsLayer nodes known known high []
+layer-none nodes known high = record {
+  each = λ k d h. absurd (omega arith);
+  all = λ id is. let a = is.new in let b = is.live in absurd (omega (arith, a, b));
+  rising = λ i j d lt h. absurd (omega arith);
+}
+
+-- of another height
+pub layer-skip : (nodes : List Node) (known bound high : ℕ) (ids : List NodeId) → height (tree nodes bound) ≢ high → IsLayer nodes known bound high ids → IsLayer nodes known (bound + 1) high ids
+layer-skip nodes known bound high ids other layer = record {
+  each = λ k d h. of-height-more nodes known bound high (get_or ids k d) (layer.each k d h);
+  all = λ id is. elim (cases_eq id.index bound) [
+    | inl same ↦ absurd (other (ap (λ n. height (tree nodes n)) (sym same) ∙ is.high_is))
+    | inr apart ↦ layer.all id (record { new = is.new; live = below id.index bound is.live apart; high_is = is.high_is })
+  ];
+  rising = layer.rising;
+}
+
+-- of this height
+pub layer-push : (nodes : List Node) (known bound high : ℕ) (ids : List NodeId) → known ≤ bound → height (tree nodes bound) ≡ high → IsLayer nodes known bound high ids
+    → IsLayer nodes known (bound + 1) high (ids ++ record { index = bound } ∷ [])
+layer-push nodes known bound high ids new same layer =
+    let id : NodeId = record { index = bound } in
+    let last : IsOfHeight nodes known (bound + 1) high id = record { new = new; live = omega arith; high_is = same } in
+    record {
+      each = All-push (IsOfHeight nodes known (bound + 1) high) ids id (λ k d h. of-height-more nodes known bound high (get_or ids k d) (layer.each k d h)) last;
+      all = λ x is. elim (cases_eq x.index bound) [
+        | inl at ↦
+            let make : ℕ → NodeId = λ n. record { index = n } in
+            subst (Contains (ids ++ id ∷ [])) (ap make (sym at)) (Contains-push ids id)
+        | inr apart ↦ Contains-append_left ids (id ∷ []) x (layer.all x (record { new = is.new; live = below x.index bound is.live apart; high_is = is.high_is }))
+      ];
+      rising = all_pairs_push (λ x y. x.index < y.index) ids id layer.rising (λ k d h. (layer.each k d h).live);
+    }
+
+pub layers-none : (nodes : List Node) (known : ℕ) → AreLayers nodes known known (replicate 69 [])
+layers-none nodes known = record {
+  size = length-replicate {A = List NodeId} 69 [];
+  each = λ high h. subst (IsLayer nodes known known high) (sym (get_or-replicate 69 high [] [] h)) (layer-none nodes known high);
+  low = λ id a b. absurd (omega (arith, a, b));
+}
+
+pub layers-put : (nodes : List Node) (known bound high : ℕ) (layers : List (List NodeId)) → known ≤ bound → height (tree nodes bound) ≡ high → high < 69
+    → AreLayers nodes known bound layers
+    → AreLayers nodes known (bound + 1) (slice_set layers high (slice_index_or layers high [] ++ record { index = bound } ∷ []))
+layers-put nodes known bound high layers new same lt are =
+    let more : List NodeId = slice_index_or layers high [] ++ record { index = bound } ∷ [] in
+    let size = are.size in
+    record {
+      size = length-set layers high more ∙ are.size;
+      each = λ other h. elim (cases_eq other high) [
+        | inl here ↦
+            let read : get_or (set layers high more) high [] ≡ more = get_or-set_same layers high more [] (omega (arith, size, lt)) in
+            let pushed : IsLayer nodes known (bound + 1) high more = layer-push nodes known bound high (slice_index_or layers high []) new same (are.each high lt) in
+            subst (λ n. IsLayer nodes known (bound + 1) n (get_or (set layers high more) n [])) (sym here) (subst (IsLayer nodes known (bound + 1) high) (sym read) pushed)
+        | inr apart ↦
+            let read : get_or (set layers high more) other [] ≡ get_or layers other [] = get_or-set_other layers high other more [] apart in
+            subst (IsLayer nodes known (bound + 1) other) (sym read) (layer-skip nodes known bound other (get_or layers other []) (λ e. apart (sym e ∙ same)) (are.each other h))
+      ];
+      low = λ id a b. elim (cases_eq id bound) [
+        | inl here ↦ subst (λ n. height (tree nodes n) < 69) (sym here) (subst (λ n. n < 69) (sym same) lt)
+        | inr apart ↦ are.low id a (below id bound b apart)
+      ];
+    }
+
+pub put-list : {X : Type 0} (f : X → List NodeId) (L : List X) (b : ℕ) (v w : X) (id : NodeId) (now : List (List NodeId)) → map f L ≡ now → b < length now
+    → w ≡ slice_index_or L b w → f v ≡ f w ++ id ∷ [] → map f (set L b v) ≡ slice_set now b (slice_index_or now b [] ++ id ∷ [])
+put-list f L b v w id now view lt at e =
+    let as_long : length (map f L) ≡ length now = ap length view in
+    let same : f w ≡ slice_index_or (map f L) b [] = ap f at ∙ sym (get_map f L b w [] (omega (arith, lt, as_long, length_map f L))) in
+    map_set f L b v ∙ ap (set (map f L) b) (e ∙ ap (λ l. l ++ id ∷ []) same) ∙ ap (λ z. slice_set z b (slice_index_or z b [] ++ id ∷ [])) view
+
+-- ---- one height
+-- the nodes of a layer are due once each lower node is placed
+pub due-layer : (nodes : List Node) (d : Dictionary) (f : Filling) (high : ℕ) (id : NodeId) → PlacedUnder nodes d f high
+    → IsOfHeight nodes f.known (length nodes) high id → IsDue nodes d f id
+due-layer nodes d f high id under is = record {
+  new = is.new;
+  live = is.live;
+  children = λ l r pair.
+      let live = is.live in
+      let lb = pair.1 in
+      let rb = pair.2 in
+      let tall : height (tree nodes id.index) ≡ max (height (tree nodes l.index)) (height (tree nodes r.index)) + 1 = ap height pair.0 in
+      let h = is.high_is in (
+        under l.index (omega (arith, lb, live)) (omega (arith, tall, h, le-max_left (height (tree nodes l.index)) (height (tree nodes r.index)))),
+        under r.index (omega (arith, rb, live)) (omega (arith, tall, h, le-max_right (height (tree nodes l.index)) (height (tree nodes r.index)))),
+      );
+}
+
+pub due-all : (nodes : List Node) (d : Dictionary) (f : Filling) (high : ℕ) (ids : List NodeId) → PlacedUnder nodes d f high
+    → IsLayer nodes f.known (length nodes) high ids → All (IsDue nodes d f) ids
+due-all nodes d f high ids under layer = λ k x h. due-layer nodes d f high (get_or ids k x) under (layer.each k x h)
+
+-- none of them is placed yet
+pub free-all : (nodes : List Node) (d : Dictionary) (f : Filling) (high : ℕ) (ids : List NodeId) (dones : List Done) → FreeAbove nodes d f high
+    → IsLayer nodes f.known (length nodes) high ids → map (λ (x : Done). x.id) dones ≡ ids → All (λ (x : Done). number_in d f x.id.index ≡ None) dones
+free-all nodes d f high ids dones free layer same =
+    all-unmap (λ (id : NodeId). number_in d f id.index ≡ None) (λ (x : Done). x.id) dones
+    (rw same (λ k x h. let is = layer.each k x h in let at = is.high_is in free (get_or ids k x).index is.new is.live (omega (arith, at))))
+
+-- each stands once
+pub once-all : (nodes : List Node) (known bound high : ℕ) (ids : List NodeId) (dones : List Done) → IsLayer nodes known bound high ids
+    → map (λ (x : Done). x.id) dones ≡ ids → AllPairs (λ (x y : Done). x.id.index ≢ y.id.index) dones
+once-all nodes known bound high ids dones layer same =
+    pairs-unmap (λ (x y : NodeId). x.index ≢ y.index) (λ (x : Done). x.id) dones
+    (rw same (λ i j d lt h. let up = layer.rising i j d lt h in λ e. absurd (omega (arith, up, e))))
+
+-- after the layer is placed, the next height may be worked
+pub under-next : (nodes : List Node) (d e : Dictionary) (f g : Filling) (high : ℕ) (ids : List NodeId) (dones : List Done)
+    → PlacedUnder nodes d f high → IsLayer nodes f.known (length nodes) high ids → map (λ (x : Done). x.id) dones ≡ ids
+    → StillPlaced d f e g → All (λ (x : Done). IsSome (number_in e g x.id.index)) dones → PlacedUnder nodes e g (high + 1)
+under-next nodes d e f g high ids dones under layer same still placed = λ id live low.
+    elim (cases_lt (height (tree nodes id)) high) [
+      | inl lower ↦ still.still id (under id live lower)
+      | inr ge ↦ elim (cases_lt id f.known) [
+        | inl old ↦ still.still id (old-some d f id old)
+        | inr new ↦
+            let name : NodeId = record { index = id } in
+            let here : IsOfHeight nodes f.known (length nodes) high name = record { new = new; live = live; high_is = omega (arith, low, ge) } in
+            let in_ids : Contains ids name = layer.all name here in
+            let k = in_ids.0 in
+            let bound : k < length dones = rw (sym (length-map dones (λ (x : Done). x.id)), same) in_ids.1 in
+            let done : Done = record { id = name; found = Kept 0 } in
+            let read : (get_or dones k done).id ≡ name = sym (get_or-map {X = Done} {Y = NodeId} (λ (x : Done). x.id) dones k done name bound) ∙ ap (λ l. get_or l k name) same ∙ in_ids.2 in
+            subst (λ (x : NodeId). IsSome (number_in e g x.index)) read (placed k done bound)
+      ]
+    ]
+
+pub above-next : (nodes : List Node) (d e : Dictionary) (f g : Filling) (high : ℕ) (ids : List NodeId)
+    → FreeAbove nodes d f high → IsLayer nodes f.known (length nodes) high ids → g.known ≡ f.known
+    → OnlyPlaced d f e g ids → FreeAbove nodes e g (high + 1)
+above-next nodes d e f g high ids free layer known only = λ id new live low.
+    let was : f.known ≤ id = subst (λ n. n ≤ id) known new in
+    only id (λ k x h. let is = layer.each k x h in let at = is.high_is in
+    λ same. let seen : height (tree nodes id) ≡ high = ap (λ n. height (tree nodes n)) (sym same) ∙ at in absurd (omega (arith, seen, low)))
+    ∙ free id was live (omega (arith, low))
+
+pub under-none : (nodes : List Node) (d : Dictionary) (f : Filling) → PlacedUnder nodes d f 0
+under-none nodes d f = λ id live low. absurd (omega (arith, low))
+
+pub above-none : (nodes : List Node) (d : Dictionary) (f : Filling) → FreeFrom d f 0 → FreeAbove nodes d f 0
+above-none nodes d f free = λ id new live low. free id new (omega arith)
+
+-- after the last height each node is placed
+pub below-from_under : (nodes : List Node) (d : Dictionary) (f : Filling) (layers : List (List NodeId)) (known : ℕ) → f.known ≡ known → AreLayers nodes known (length nodes) layers
+    → PlacedUnder nodes d f 69 → PlacedBelow d f (length nodes)
+below-from_under nodes d f layers known same are under = λ id live. elim (cases_lt id f.known) [
+  | inl old ↦ old-some d f id old
+  | inr new ↦ under id live (are.low id (omega (arith, same, new)) live)
+]

@@ -1,0 +1,5 @@
+pub mod Remembered
+pub mod Placed
+pub mod Growing
+pub mod Layering
+pub mod Scheduling

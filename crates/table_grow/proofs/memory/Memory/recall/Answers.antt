@@ -1,0 +1,7 @@
+use Rattle.std.proofs.Common.{◌∙◌, IfSome, Contains, subst}
+use Rattle.table_grow.proofs.Remembered.{recalled}
+use Rattle.table_grow.proofs.memory.Memory.recall.Goals as goal
+
+pub returns : goal.returns
+returns c = subst (λ es. IfSome c.copied.result (λ n. Contains es ((c.args.left, c.args.right), n))) c.self.view_is
+    (recalled c.self.inside.cache.entries (c.args.left, c.args.right) c.copied.result (c.copied.ensures ∙ c.peek.ensures))

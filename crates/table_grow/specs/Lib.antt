@@ -1,0 +1,6 @@
+pub mod Remembering
+pub mod Filling
+pub mod FillerView
+pub mod Schedule
+pub mod Growing
+pub mod Layers

@@ -1,0 +1,193 @@
+//! The tables of new nodes, before the nodes get them.
+
+ghost use Rattle.std.specs.Prelude.{◌≡◌, ℕ, ◌+◌, ◌-◌, ◌<◌, ◌≤◌, length, slice_index_or, Some, None, IsSome, IfOk, OnOk, OnErr};
+ghost use Rattle.slp_model.specs.Tree.{text};
+ghost use Rattle.slp_model.specs.Nodes.{tree};
+ghost use Rattle.state_tables.specs.Meaning.{IsTable};
+ghost use Rattle.state_tables.specs.Dictionary.{count_of, distinct_of, kept_of};
+ghost use Rattle.table_grow.specs.Filling.{AllPlaced, AreKept, ChildrenPlaced, ChildrenTrue, Fits, IsComposed, PlacesTable, finished, number_in, with_place};
+
+use marker_dfa::Dfa;
+use node_store::{Node, NodeId, Store};
+use span_types::{NoMemory, Steps};
+use state_tables::{Table, Tables, compose, of_byte};
+use std::alloc::Global;
+use std::marker::Model;
+use std::sync::ledger::Ledger;
+
+/// A place for each node without a table, which is empty or has the number of a kept table. It holds no reference: each
+/// call is given the same store and tables, and until `finish` no node's table changes.
+#[derive(Drop)]
+pub struct Filler {
+    known: usize,
+    places: Vec<Option<usize>>,
+}
+
+impl Model for Filler {
+    ghost use Rattle.table_grow.specs.Filling.{Filling};
+
+    ghost Value = { Filling };
+
+    ghost use Rattle.table_grow.specs.FillerView.{view_of};
+
+    ghost view = { view_of };
+}
+
+impl Filler {
+    /// An empty place for each node of the store that has no table, and room in `tables` for all of them.
+    pub fn new(alloc: Global, tables: &mut Tables, store: &Store) -> Result<Filler, NoMemory>
+        requires { count_of tables.old ≤ length store.now }
+        ensures fits { IfOk result (Fits store.now tables.new) }
+        ensures empty { IfOk result (λ f. (i : ℕ) → slice_index_or f.places i None ≡ None) }
+        ensures same { tables.new ≡ record tables.old { room = tables.new.room } }
+    {
+        let known = tables.count();
+        let more = store.count() - known;
+        tables.reserve(more)?;
+        let mut places = Vec::with_capacity(alloc, more)?;
+        for _i in 0..more {
+            places.push(None)?;
+        }
+        Ok(Filler { known, places })
+    }
+
+    /// How many nodes had tables.
+    pub(crate) fn known(&self) -> usize
+        ensures { result ≡ self.now.known }
+    {
+        self.known
+    }
+
+    /// The number of the table of an old or placed node.
+    pub(crate) fn number(&self, tables: &Tables, store: &Store, id: NodeId) -> usize
+        requires fits { Fits store.now tables.now self.now }
+        requires live { id.index < length store.now }
+        requires placed { IsSome (number_in tables.now self.now id.index) }
+        ensures number { number_in tables.now self.now id.index ≡ Some result }
+        ensures kept { result < distinct_of tables.now }
+    {
+        if id.index < self.known {
+            return tables.number(id);
+        }
+        match self.places[id.index - self.known] {
+            Some(number) => number,
+            None => unreachable!(),
+        }
+    }
+
+    /// The table of a new node, whose children are old or placed and have the tables of their texts.
+    pub fn compute(
+        &self,
+        alloc: Global,
+        tables: &Tables,
+        store: &Store,
+        dfa: &Dfa,
+        id: NodeId,
+    ) -> Result<Table, NoMemory>
+        requires fits { Fits store.now tables.now self.now }
+        requires new { self.now.known ≤ id.index }
+        requires live { id.index < length store.now }
+        requires children { ChildrenPlaced store.now tables.now self.now id.index }
+        requires true_children { ChildrenTrue dfa.now store.now tables.now self.now id.index }
+        ensures meaning { IfOk result (IsTable dfa.now (text (tree store.now id.index))) }
+        ensures composed { IfOk result (IsComposed store.now tables.now self.now id.index) }
+    {
+        let _ = dfa.states();
+        match store.node(id) {
+            Node::Byte(byte) => of_byte(alloc, dfa, byte),
+            Node::Pair(left, right) => {
+                let left = tables.kept(self.number(tables, store, left));
+                let right = tables.kept(self.number(tables, store, right));
+                compose(alloc, left, right)
+            }
+        }
+    }
+
+    // Gives the new node this number.
+    fn set(&mut self, id: NodeId, number: usize)
+        requires new { self.old.known ≤ id.index }
+        requires live { id.index < self.old.known + length self.old.places }
+        ensures { self.new ≡ with_place self.old id.index number }
+    {
+        let place = id.index - self.known;
+        self.places[place] = Some(number);
+    }
+
+    /// Gives a new node, which isn't placed yet and whose children are old or placed, the kept table of this number. It
+    /// takes no memory.
+    pub fn place_kept(&mut self, tables: &Tables, store: &Store, id: NodeId, number: usize)
+        requires fits { Fits store.now tables.now self.old }
+        requires new { self.old.known ≤ id.index }
+        requires live { id.index < length store.now }
+        requires free { number_in tables.now self.old id.index ≡ None }
+        requires children { ChildrenPlaced store.now tables.now self.old id.index }
+        requires kept { number < distinct_of tables.now }
+        ensures { self.new ≡ with_place self.old id.index number }
+    {
+        self.set(id, number);
+    }
+
+    /// The same as `place`, and answers the number of the table.
+    pub(crate) fn place_numbered(
+        &mut self,
+        tables: &mut Tables,
+        store: &Store,
+        id: NodeId,
+        table: Table,
+    ) -> Result<usize, NoMemory>
+        requires fits { Fits store.now tables.old self.old }
+        requires new { self.old.known ≤ id.index }
+        requires live { id.index < length store.now }
+        requires free { number_in tables.old self.old id.index ≡ None }
+        requires children { ChildrenPlaced store.now tables.old self.old id.index }
+        requires states { length table ≡ tables.old.states }
+        ensures number { IfOk result (λ n. (n < distinct_of tables.new) × (kept_of tables.new n ≡ table) × (self.new ≡ with_place self.old id.index n)) }
+        ensures err { OnErr result (self.new ≡ self.old) }
+        ensures kept { AreKept tables.old tables.new }
+    {
+        let number = tables.keep(table)?;
+        self.set(id, number);
+        Ok(number)
+    }
+
+    /// Keeps the table of a new node, which isn't placed yet and whose children are old or placed, and gives the node
+    /// its number. After a refusal the places are as before, and one table more may be kept. No node's table changes.
+    pub fn place(
+        &mut self,
+        tables: &mut Tables,
+        store: &Store,
+        id: NodeId,
+        table: Table,
+    ) -> Result<(), NoMemory>
+        requires fits { Fits store.now tables.old self.old }
+        requires new { self.old.known ≤ id.index }
+        requires live { id.index < length store.now }
+        requires free { number_in tables.old self.old id.index ≡ None }
+        requires children { ChildrenPlaced store.now tables.old self.old id.index }
+        requires states { length table ≡ tables.old.states }
+        ensures placed { OnOk result (PlacesTable tables.new self.old self.new id.index table) }
+        ensures err { OnErr result (self.new ≡ self.old) }
+        ensures kept { AreKept tables.old tables.new }
+    {
+        self.place_numbered(tables, store, id, table)?;
+        Ok(())
+    }
+
+    /// Gives each new node the table of its place, in the order of their ids, which is one step for each. It takes no
+    /// memory.
+    pub fn finish<L: Ledger>(self, tables: &mut Tables, places: &mut Steps<L>)
+        requires tables_fit { count_of tables.old ≡ self.known }
+        requires room_fits { length self.places ≤ tables.old.room }
+        requires kept_fit { (i n : ℕ) → slice_index_or self.places i None ≡ Some n → n < distinct_of tables.old }
+        requires all_placed { AllPlaced self }
+        ensures finished { tables.new ≡ finished tables.old self }
+        ensures steps { places.new ≡ places.old + length self.places }
+    {
+        for place in &self.places {
+            match place {
+                Some(number) => tables.push(*number, places),
+                None => unreachable!(),
+            }
+        }
+    }
+}

@@ -1,0 +1,209 @@
+ghost use Rattle.std.specs.Prelude.{◌≡◌, ◌<◌, ◌≤◌, Bool, List, IfOk};
+ghost use Rattle.span_types.specs.FormulaTree.{Set, tree_of};
+ghost use Rattle.slp_model.specs.Nodes.{IsLive};
+ghost use Rattle.marker_nfa.specs.Occurrences.{IsWithinLimits};
+
+use marker_dfa::{Dfa, determinise};
+use marker_nfa::of_formula;
+use node_store::{Node, NodeId, Store};
+use pair_loader::load;
+use span_types::{ByteSet, Formula, NoMemory, Steps};
+use state_tables::Tables;
+use std::alloc::Global;
+use std::marker::Brand;
+use std::sync::atomic::{AtomicU64, Ordering};
+use std::sync::ledger::{Blank, Ledger};
+use std::test::Fail;
+use std::thread::Threads;
+use table_grow::{Memory, grow};
+use work_gate::{Gate, OpenGate};
+
+/// How many turns the first of two nodes waits for the other one.
+const TURNS: u32 = 50_000_000;
+
+/// Holds the first of two nodes until the second has arrived, for a stated number of turns.
+#[derive(Drop)]
+struct Meeting {
+    left: usize,
+    right: usize,
+    arrived: AtomicU64,
+    gave_up: AtomicU64,
+}
+
+impl Gate for Meeting {
+    fn pass(&self, node: usize) {
+        if node != self.left && node != self.right {
+            return;
+        }
+        self.arrived.fetch_add(1, Ordering::SeqCst);
+        for _ in 0..TURNS {
+            if self.arrived.load(Ordering::SeqCst) > 1 {
+                return;
+            }
+        }
+        self.gave_up.store(1, Ordering::SeqCst);
+    }
+}
+
+fn letters(bytes: &[u8]) -> Formula
+    ensures { (members : List Bool) × (tree_of result ≡ Set members) }
+{
+    let mut letters = ByteSet::empty();
+    for byte in bytes {
+        letters.insert(*byte);
+    }
+    Formula::Set(letters)
+}
+
+fn boxed(alloc: Global, formula: Formula) -> Result<Box<Formula>, NoMemory>
+    ensures { IfOk result (λ place. place.value ≡ formula) }
+{
+    Ok(Box::new(alloc, formula)?)
+}
+
+/// `[abcdr]*`
+fn star(alloc: Global) -> Result<Formula, NoMemory>
+    ensures { IfOk result (λ f. IsWithinLimits (tree_of f)) }
+{
+    Ok(Formula::Star(boxed(alloc, letters(b"abcdr"))?))
+}
+
+fn automaton(alloc: Global) -> Result<Dfa, Fail> {
+    let nfa = of_formula(alloc, &star(alloc)?)?;
+    Ok(determinise(alloc, &nfa)?)
+}
+
+/// What there is after growth.
+#[derive(Clone, Copy, PartialEq, Eq, Debug)]
+struct Counts {
+    nodes: usize,
+    tables: usize,
+    distinct: usize,
+    remembered: usize,
+}
+
+fn grown<R: Threads + Sync, G: Gate, L: Ledger>(
+    rt: &R,
+    alloc: Global,
+    store: &Store,
+    dfa: &Dfa,
+    size: usize,
+    workers: u8,
+    gate: &G,
+    places: &mut Steps<L>,
+) -> Result<Counts, NoMemory>
+    requires size { 1 ≤ size }
+    requires small { size ≤ 65536 }
+    requires some_workers { 1 ≤ workers }
+    requires few_workers { workers ≤ 64 }
+{
+    let mut tables = Tables::new(alloc, dfa);
+    let mut memory = Memory::new(alloc, size)?;
+    grow(
+        rt,
+        alloc,
+        &mut tables,
+        store,
+        dfa,
+        &mut memory,
+        workers,
+        gate,
+        places,
+    )?;
+    Ok(Counts {
+        nodes: store.count(),
+        tables: tables.count(),
+        distinct: tables.distinct(),
+        remembered: memory.len(),
+    })
+}
+
+fn of_row<R: Threads + Sync, L: Ledger>(
+    rt: &R,
+    alloc: Global,
+    blank: Blank,
+    size: usize,
+    workers: u8,
+) -> Result<Counts, Fail>
+    requires name { blank.name ≡ L.name }
+    requires parts { blank.parts ≡ L.parts }
+    requires some { 0 < L.parts }
+    requires size { 1 ≤ size }
+    requires small { size ≤ 65536 }
+    requires some_workers { 1 ≤ workers }
+    requires few_workers { workers ≤ 64 }
+{
+    let mut steps = Steps::<L>::new(blank);
+    let mut store = Store::new(alloc);
+    let _ = load(alloc, &mut store, b"abracadabra", &mut steps)?;
+    let dfa = automaton(alloc)?;
+    Ok(grown(
+        rt, alloc, &store, &dfa, size, workers, &OpenGate, &mut steps,
+    )?)
+}
+
+const ROW: Counts = Counts {
+    nodes: 15,
+    tables: 15,
+    distinct: 1,
+    remembered: 1,
+};
+
+#[test]
+fn one_table_on_one_worker(rt: HostRuntime) -> Result<(), Fail> {
+    let alloc = rt.alloc();
+    let small = of_row::<HostRuntime, Brand>(&rt, alloc, Blank::new(1), 1, 1)?;
+    assert_eq!(rt; small, ROW);
+    let large = of_row::<HostRuntime, Brand>(&rt, alloc, Blank::new(1), 4096, 1)?;
+    assert_eq!(rt; large, ROW);
+    Ok(())
+}
+
+#[test]
+fn one_table_on_many_workers(rt: HostRuntime) -> Result<(), Fail> {
+    let alloc = rt.alloc();
+    let small = of_row::<HostRuntime, Brand>(&rt, alloc, Blank::new(1), 1, 4)?;
+    assert_eq!(rt; small, ROW);
+    let large = of_row::<HostRuntime, Brand>(&rt, alloc, Blank::new(1), 4096, 64)?;
+    assert_eq!(rt; large, ROW);
+    Ok(())
+}
+
+/// A gate for the two children of the root.
+fn held_children(store: &Store, root: Option<NodeId>) -> Result<Meeting, Fail>
+    requires { IsLive store.now root }
+{
+    let root = root.ok_or("a root")?;
+    match store.node(root) {
+        Node::Pair(left, right) => Ok(Meeting {
+            left: left.index,
+            right: right.index,
+            arrived: AtomicU64::new(0),
+            gave_up: AtomicU64::new(0),
+        }),
+        Node::Byte(_) => Err("a pair".into()),
+    }
+}
+
+/// Whether the gate gave up, where two workers grow the tables of `abcd`.
+fn met<R: Threads + Sync, L: Ledger>(rt: &R, alloc: Global, blank: Blank) -> Result<u64, Fail>
+    requires name { blank.name ≡ L.name }
+    requires parts { blank.parts ≡ L.parts }
+    requires some { 0 < L.parts }
+{
+    let mut steps = Steps::<L>::new(blank);
+    let mut store = Store::new(alloc);
+    let root = load(alloc, &mut store, b"abcd", &mut steps)?;
+    let gate = held_children(&store, root)?;
+    let dfa = automaton(alloc)?;
+    let _ = grown(rt, alloc, &store, &dfa, 4096, 2, &gate, &mut steps)?;
+    Ok(gate.gave_up.load(Ordering::SeqCst))
+}
+
+#[test]
+fn two_nodes_meet(rt: HostRuntime) -> Result<(), Fail> {
+    let alloc = rt.alloc();
+    let gave_up = met::<HostRuntime, Brand>(&rt, alloc, Blank::new(1))?;
+    assert_eq!(rt; gave_up, 0);
+    Ok(())
+}
