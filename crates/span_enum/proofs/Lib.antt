@@ -1,0 +1,16 @@
+mod Paths
+mod Firsts
+mod Choices
+mod Nexts
+mod Written
+mod Lowerings
+mod Steps
+mod Rests
+mod LastLetters
+mod Bounds
+mod TupleLaws
+mod Membership
+mod Gifts
+mod Given
+pub mod Pages
+pub mod Exists

@@ -1,0 +1,190 @@
+-- The last place at which a word can be lowered, by the parts of a text.
+use Rattle.std.proofs.Common.{◌≡◌, ℕ, ◌+◌, ◌*◌, ◌<◌, ◌≤◌, ◌^◌, true, refl, ap, sym, ◌∙◌, arith, List, [], ◌∷◌, ◌++◌, length, max, Option, Some, None, MatchOption}
+use Rattle.span_enum.proofs.Paths.{onto, Tells}
+use Rattle.std.proofs.lemmas.List.{map-append}
+use Rattle.std.proofs.Math.Nat.{mul-le-mul_right}
+use Rattle.marker_dfa.specs.Deterministic.{DeterministicAutomaton, states_of}
+use Rattle.span_types.specs.Words.{Marked, mark_count}
+use Rattle.formula_law.specs.Law.{bytes_of}
+use Rattle.span_enum.specs.Letters.{step_of, reached}
+use Rattle.marker_dfa.specs.Deterministic.{IsDeterministic}
+use Rattle.state_tables.specs.StateSet.{member}
+use Rattle.state_tables.specs.Table.{unmarked_of, marked_of}
+use Rattle.state_tables.specs.Table.{Row}
+use Rattle.span_enum.proofs.Paths.{run-append, run-within, then-join, then-some}
+use Rattle.span_enum.specs.Sets.{can_reach_of}
+use Rattle.span_enum.specs.Words.{CanRun, IsGreatestMark, IsNoMark}
+use Rattle.span_types.specs.Marks.{mark_of}
+use Rattle.span_enum.specs.Tuples.{word_over}
+use Rattle.span_enum.specs.Next.{NoneAfter}
+use Rattle.span_enum.specs.Lowering.{Lowers, IsLowering}
+use Rattle.span_enum.specs.declared.walk.Lowered.{Lowered}
+use Rattle.span_enum.specs.declared.walk.Lowering.{Lowering}
+use Rattle.span_enum.specs.Members.{Tuple}
+use Rattle.span_enum.proofs.Firsts.{run-from_table, table-from_run, mark_count-append}
+use Rattle.span_enum.proofs.Nexts.{none-plain, none-byte, lowers-byte, none-fork, lowers-left, lowers-right}
+use Rattle.span_enum.proofs.Written.{over-append, over-bytes, over-plain}
+
+pub length-bytes : (w : Marked) → length (bytes_of w) ≡ length w
+length-bytes [] = refl
+length-bytes (x ∷ w) = omega (arith, length-bytes w)
+
+pub over-length : (t : Tuple) (p : ℕ) (s : List ℕ) → length (word_over t p s) ≡ length s
+over-length t p s = sym (length-bytes (word_over t p s)) ∙ ap length (over-bytes t p s)
+
+-- a run over two joined texts
+pub run-join : (a : DeterministicAutomaton) (q n goals : ℕ) (s u : List ℕ) (w : Marked) → bytes_of w ≡ s → reached a q w ≡ Some n → CanRun a n u goals → CanRun a q (s ++ u) goals
+run-join a q n goals s u w e t rest = record {
+  word = w ++ rest.word;
+  state = rest.state;
+  bytes = map-append (λ x. x.1) w rest.word ∙ rw (e, rest.bytes) refl;
+  ends = run-append a q w rest.word ∙ then-join (λ k. reached a k rest.word) (reached a q w) n t ∙ rest.ends;
+  goal = rest.goal;
+}
+
+-- no mark
+pub lowering-plain : (a : DeterministicAutomaton) (p goals at : ℕ) (s : List ℕ) (t : Tuple) (tb : List Row) (o : Option ℕ) → Tells a s tb → p < states_of a
+    → ((q : ℕ) → at ≤ q → q < at + length s → mark_of t q ≡ 0) → o ≡ unmarked_of tb p
+    → IsLowering a p s goals (word_over t at s) at (record { state = o; best = None })
+lowering-plain a p goals at s t tb o is low none e = rw (over-plain t at s none) (record {
+  ends = e ∙ is.unmarked p low;
+  best = none-plain a p s goals;
+})
+
+-- one byte
+pub lowering-byte_none : (a : DeterministicAutomaton) (p goals at b old : ℕ) (s : List ℕ) (t : Tuple) (o : Option ℕ) → s ≡ b ∷ [] → old ≡ mark_of t at → o ≡ step_of a p old b
+    → ((m : ℕ) → IsNoMark a p b goals old m) → IsLowering a p s goals (word_over t at s) at (record { state = o; best = None })
+lowering-byte_none a p goals at b old s t o is e step none = rw (is, ← e) (record {
+  ends = step ∙ sym (then-some (step_of a p old b));
+  best = none-byte a p b goals old none;
+})
+
+pub lowering-byte_some : (a : DeterministicAutomaton) (p goals at b old m q : ℕ) (s : List ℕ) (t : Tuple) (o : Option ℕ) → s ≡ b ∷ [] → old ≡ mark_of t at → o ≡ step_of a p old b
+    → IsGreatestMark a p b goals old m q
+    → IsLowering a p s goals (word_over t at s) at (record { state = o; best = Some (record { at = at; mark = m; state = q }) })
+lowering-byte_some a p goals at b old m q s t o is e step best = rw (is, ← e) (record {
+  ends = step ∙ sym (then-some (step_of a p old b));
+  best = record { place = 0; place_is = omega arith; lowers = lowers-byte a p b goals old m q best };
+})
+
+-- runs and a set of states between two texts, by the right table
+module _ (a : DeterministicAutomaton) (auto : IsDeterministic a) (u : List ℕ) (rows : List Row) (goals between : ℕ) (ir : Tells a u rows)
+    (before : (k : ℕ) → k < length rows → member between k ≡ can_reach_of rows k goals) where
+  pub reach-by_table : (s : List ℕ) (p : ℕ) → p < states_of a → (n : ℕ) (x : Marked) → bytes_of x ≡ s → reached a p x ≡ Some n → CanRun a n u goals → member between n ≡ true
+  reach-by_table s p low n x e t run =
+      let below : n < states_of a = run-within a auto p n x low t in
+      before n (omega (arith, ir.shape.states)) ∙ table-from_run a u rows n goals ir below run
+
+  pub onward-by_table : ((k : ℕ) → k < length rows → marked_of rows k < 2 ^ 128) → (n : ℕ) → n < states_of a → member between n ≡ true → CanRun a n u goals
+  onward-by_table small n low h =
+      let inside : n < length rows = omega (arith, ir.shape.states) in
+      run-from_table a u rows n goals ir low (small n inside) (sym (before n inside) ∙ h)
+
+-- two texts
+module _ (a : DeterministicAutomaton) (auto : IsDeterministic a) (s u : List ℕ) (p goals between : ℕ) (low : p < states_of a)
+    (reach : (n : ℕ) (x : Marked) → bytes_of x ≡ s → reached a p x ≡ Some n → CanRun a n u goals → member between n ≡ true)
+    (onward : (n : ℕ) → n < states_of a → member between n ≡ true → CanRun a n u goals)
+    (w1 w2 : Marked) (e1 : bytes_of w1 ≡ s) (e2 : bytes_of w2 ≡ u) where
+  -- a run into the set between goes on into a goal
+  carry : (q : ℕ) (x : List ℕ) → q < states_of a → CanRun a q x between → CanRun a q (x ++ u) goals
+  carry q x lq run =
+      let below : run.state < states_of a = run-within a auto q run.state run.word lq run.ends in
+      run-join a q run.state goals x u run.word run.bytes run.ends (onward run.state below run.goal)
+
+  pub lowers-on : (at : ℕ) (b : Lowered) → Lowers a p s between w1 at b → ((n : ℕ) → reached a p w1 ≡ Some n → NoneAfter a n u goals w2)
+      → Lowers a p (s ++ u) goals (w1 ++ w2) at b
+  lowers-on at b h right =
+      let l = h.lowers in
+      record {
+        place = h.place;
+        place_is = h.place_is;
+        lowers = lowers-left a s u p goals between w1 w2 e1 e2 reach h.place b.mark b.state (λ x. tt) l
+            (carry b.state (bytes_of l.back) (run-within a auto p b.state (l.front ++ (b.mark, l.byte) ∷ []) low l.step) l.can) right;
+      }
+
+  best-left : (at : ℕ) (o : Option Lowered)
+      → MatchOption o (NoneAfter a p s between w1) (λ b. Lowers a p s between w1 at b)
+      → ((n : ℕ) → reached a p w1 ≡ Some n → NoneAfter a n u goals w2)
+      → MatchOption o (NoneAfter a p (s ++ u) goals (w1 ++ w2)) (λ b. Lowers a p (s ++ u) goals (w1 ++ w2) at b)
+  best-left at None h right = none-fork a s u p goals between w1 w2 e1 e2 reach h right
+  best-left at (Some b) h right = lowers-on at b h right
+
+  -- the left part has no path
+  pub lowering-dead : (at : ℕ) (l : Lowering) → IsLowering a p s between w1 at l → l.state ≡ None → IsLowering a p (s ++ u) goals (w1 ++ w2) at l
+  lowering-dead at l left dead = record {
+    ends = dead ∙ sym (run-append a p w1 w2 ∙ none-after);
+    best = best-left at l.best left.best (λ n e. clash n e);
+  }
+    where
+      gone : reached a p w1 ≡ None
+      gone = sym left.ends ∙ dead
+
+      none-after : onto (λ q. reached a q w2) (reached a p w1) ≡ None
+      none-after = rw gone refl
+
+      clash : (n : ℕ) → reached a p w1 ≡ Some n → NoneAfter a n u goals w2
+      clash n e = cc
+
+  both-ends : (q : ℕ) (o1 o2 : Option ℕ) → o1 ≡ reached a p w1 → o1 ≡ Some q → o2 ≡ reached a q w2 → o2 ≡ reached a p (w1 ++ w2)
+  both-ends q o1 o2 e1 is e2 =
+      e2 ∙ sym (run-append a p w1 w2 ∙ then-join (λ n. reached a n w2) (reached a p w1) q (sym e1 ∙ is))
+
+  -- the last place is in the right part
+  pub lowers-behind : (at q : ℕ) (b : Lowered) → reached a p w1 ≡ Some q → Lowers a q u goals w2 (at + length s) b → Lowers a p (s ++ u) goals (w1 ++ w2) at b
+  lowers-behind at q b alive found = record {
+    place = length w1 + found.place;
+    place_is = place-is;
+    lowers = lowers-right a s u p goals between w1 w2 e1 e2 reach q found.place b.mark b.state alive found.lowers;
+  }
+    where
+      place-is : at + (length w1 + found.place) ≡ b.at
+      place-is = omega (arith, length-bytes w1, ap length e1, found.place_is)
+
+  pub lowering-right : (at q : ℕ) (l r : Lowering) (b : Lowered) → IsLowering a p s between w1 at l → l.state ≡ Some q
+      → IsLowering a q u goals w2 (at + length s) r → r.best ≡ Some b → IsLowering a p (s ++ u) goals (w1 ++ w2) at r
+  lowering-right at q l r b left alive right is = record {
+    ends = both-ends q l.state r.state left.ends alive right.ends;
+    best = rw is (lowers-behind at q b (sym left.ends ∙ alive) found);
+  }
+    where
+      found : Lowers a q u goals w2 (at + length s) b
+      found = rw is at right.best
+
+  -- the right part can't be lowered
+  pub lowering-left : (at q : ℕ) (l r : Lowering) → IsLowering a p s between w1 at l → l.state ≡ Some q
+      → IsLowering a q u goals w2 (at + length s) r → r.best ≡ None → IsLowering a p (s ++ u) goals (w1 ++ w2) at (record { state = r.state; best = l.best })
+  lowering-left at q l r left alive right is = record {
+    ends = both-ends q l.state r.state left.ends alive right.ends;
+    best = best-left at l.best left.best
+        (λ n e. let same : n ≡ q = same-state n q (reached a p w1) e (sym left.ends ∙ alive) in rw same none);
+  }
+    where
+      none : NoneAfter a q u goals w2
+      none = rw is at right.best
+
+      same-state : (x y : ℕ) (o : Option ℕ) → o ≡ Some x → o ≡ Some y → x ≡ y
+      same-state x y o h k = cc
+
+-- ---- looks
+-- two looks at the children, and the looks below them
+pub lower-cost : (t : Tuple) (at h hl hr before now mid after : ℕ) (s u : List ℕ) → h ≡ max hl hr + 1 → now ≡ before + 2
+    → 0 < mark_count (word_over t at (s ++ u))
+    → mid ≤ now + 2 * (hl * mark_count (word_over t at s)) → after ≤ mid + 2 * (hr * mark_count (word_over t (at + length s) u))
+    → after ≤ before + 2 * (h * mark_count (word_over t at (s ++ u)))
+lower-cost t at h hl hr before now mid after s u eh en pos l r =
+    let e : mark_count (word_over t at (s ++ u)) ≡ mark_count (word_over t at s) + mark_count (word_over t (at + length s) u) =
+    ap mark_count (over-append t at s u) ∙ mark_count-append (word_over t at s) (word_over t (at + length s) u) in
+    rw e (cost-fork h hl hr (mark_count (word_over t at s)) (mark_count (word_over t (at + length s) u)) before now mid after (omega arith) (omega arith) (rw e at pos) en l r)
+  where
+    cost-fork : (h hl hr c d before a b after : ℕ) → hl + 1 ≤ h → hr + 1 ≤ h → 0 < c + d → a ≡ before + 2 → b ≤ a + 2 * (hl * c) → after ≤ b + 2 * (hr * d)
+        → after ≤ before + 2 * (h * (c + d))
+    cost-fork h hl hr c d before a b after el er pos ea eb ec =
+        let x : (hl + 1) * c ≤ h * c = mul-le-mul_right c el in
+        let y : (hr + 1) * d ≤ h * d = mul-le-mul_right d er in
+        omega arith
+
+pub lower-cost_left : (t : Tuple) (at h hl hr before now mid : ℕ) (s u : List ℕ) → h ≡ max hl hr + 1 → now ≡ before + 2
+    → 0 < mark_count (word_over t at (s ++ u))
+    → mid ≤ now + 2 * (hl * mark_count (word_over t at s))
+    → mid ≤ before + 2 * (h * mark_count (word_over t at (s ++ u)))
+lower-cost_left t at h hl hr before now mid s u eh en pos l = lower-cost t at h hl hr before now mid mid s u eh en pos l (omega arith)

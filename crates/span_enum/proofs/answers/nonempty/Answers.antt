@@ -1,0 +1,40 @@
+use Rattle.std.proofs.Common.{◌≡◌, ◌<◌, length, not, sym, ◌∙◌, []}
+use Rattle.slp_model.specs.Tree.{text}
+use Rattle.slp_model.specs.Nodes.{tree}
+use Rattle.marker_dfa.specs.Deterministic.{ends_of}
+use Rattle.span_enum.specs.Sets.{is_final, can_reach_of}
+use Rattle.span_enum.proofs.Paths.{Tells}
+use Rattle.span_enum.proofs.Steps.{look-table}
+use Rattle.span_enum.proofs.LastLetters.{not-empty, accepted-empty, accepted-from_table, table-from_accepted, true-from_is, is-from_true}
+use Rattle.span_enum.proofs.Membership.{some-from_accepted, accepted-from_some}
+use Rattle.span_enum.proofs.Given.{IsText, no-text, look-text}
+use Rattle.span_enum.proofs.answers.nonempty.Goals as goal
+
+pub returns-in-None-clause-some : goal.returns-in-None-clause-some
+returns-in-None-clause-some g c =
+    let a = c.args.dfa.now in
+    let auto = c.states-states.ensures.automaton in
+    let tests : not c.is_empty.result ≡ is_final a 0 = rw (c.is_empty.ensures, c.ends.ensures) (not-empty (ends_of a 0)) in
+    let both = accepted-empty a in
+    rw c.in-None.is (
+      (λ h. some-from_accepted a auto [] no-text.bytes no-text.short (both.0 (sym tests ∙ true-from_is _ h))),
+      (λ h. is-from_true _ (tests ∙ both.1 (accepted-from_some a auto [] no-text.bytes no-text.short h))),
+    )
+
+pub returns-in-Some-clause-some : goal.returns-in-Some-clause-some
+returns-in-Some-clause-some g c =
+    let view = c.args.view in
+    let nodes = view.store.now in
+    let a = c.args.dfa.now in
+    let auto = c.states-states.ensures.automaton in
+    let t = c.look-look.result.table.now in
+    let finals = c.final_states.result in
+    let live : c.in-Some.id.index < length nodes = rw c.in-Some.is at c.requires.live in
+    let s = text (tree nodes c.in-Some.id.index) in
+    let is : Tells a s t = look-table a nodes view.tables.now c.requires.tables view.counted c.in-Some.id.index _ _ _ live c.look-look.ensures.look in
+    let k : IsText s = look-text a nodes view.tables.now c.requires.tables view.counted c.in-Some.id.index _ _ _ live c.look-look.ensures.look in
+    let value : c.can_reach.result ≡ can_reach_of t 0 finals = c.can_reach.ensures.value in
+    rw c.in-Some.is (
+      (λ h. some-from_accepted a auto s k.bytes k.short (accepted-from_table a auto finals c.final_states.ensures s t is c.can_reach.ensures.small (sym value ∙ true-from_is _ h))),
+      (λ h. is-from_true _ (value ∙ table-from_accepted a auto finals c.final_states.ensures s t is c.can_reach.ensures.small (accepted-from_some a auto s k.bytes k.short h))),
+    )

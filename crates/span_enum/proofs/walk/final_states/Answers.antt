@@ -1,0 +1,26 @@
+use Rattle.std.proofs.Common.{◌≢◌, ◌<◌, arith, sym, ap, ◌∙◌, inl, inr}
+use Rattle.std.proofs.lemmas.Bool.{cases_eq}
+use Rattle.state_tables.specs.StateSet.{member}
+use Rattle.state_tables.proofs.StateSets.{member-zero}
+use Rattle.marker_dfa.specs.Deterministic.{ends_of}
+use Rattle.span_enum.specs.Sets.{is_final}
+use Rattle.span_enum.proofs.Choices.{member-more_other, member-more_same}
+use Rattle.span_enum.proofs.LastLetters.{not-empty}
+use Rattle.span_enum.proofs.walk.final_states.Goals as goal
+
+pub loop-p-init : goal.loop-p-init
+loop-p-init c = record { below = λ k h. absurd (omega arith); above = λ k h. member-zero k }
+
+pub loop-p-preserved : goal.loop-p-preserved
+loop-p-preserved c =
+    let set = c.loop-p.set in
+    let p = c.loop-p.p in
+    let a = c.args.dfa.now in
+    rw (c.state_if-set.ensures, c.is_empty.ensures, c.ends.ensures, not-empty (ends_of a p))
+    (record {
+      below = λ k h. elim (cases_eq k p) [
+        | inl same ↦ ap (member _) same ∙ member-more_same set p (is_final a p) (c.loop-p.invariant.above p (omega arith)) ∙ ap (is_final a) (sym same)
+        | inr other ↦ let lt : k < p = omega arith in member-more_other set p k (is_final a p) other ∙ c.loop-p.invariant.below k lt
+      ];
+      above = λ k h. let other : k ≢ p = omega arith in member-more_other set p k (is_final a p) other ∙ c.loop-p.invariant.above k (omega arith);
+    })

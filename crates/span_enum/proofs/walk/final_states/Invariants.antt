@@ -1,0 +1,10 @@
+use Rattle.std.proofs.Common.{◌≡◌, ◌≤◌, ◌<◌, ℕ, false}
+use Rattle.state_tables.specs.StateSet.{member}
+use Rattle.span_enum.specs.Sets.{is_final}
+use Rattle.span_enum.proofs.walk.final_states.Given as goal
+
+abbrev pub invariant-loop-p : goal.invariant-loop-p
+invariant-loop-p l = record {
+  below : (k : ℕ) → k < l.p → member l.set k ≡ is_final l.dfa k;
+  above : (k : ℕ) → l.p ≤ k → member l.set k ≡ false;
+}

@@ -1,0 +1,8 @@
+use Rattle.std.proofs.Common.{◌<◌, arith, sym, ◌∙◌}
+use Rattle.span_enum.proofs.Paths.{step-byte}
+use Rattle.span_enum.proofs.walk.step.Goals as goal
+
+pub returns-clause-value : goal.returns-clause-value
+returns-clause-value c =
+    let byte : c.args.byte < 256 = omega arith in
+    c.next.ensures ∙ sym (step-byte c.args.dfa.now c.args.p c.args.mark c.args.byte byte)

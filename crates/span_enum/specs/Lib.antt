@@ -1,0 +1,11 @@
+pub mod Letters
+pub mod Members
+pub mod Pages
+pub mod Listing
+pub mod ListingView
+pub mod Sets
+pub mod Tuples
+pub mod Words
+pub mod Next
+pub mod Lowering
+pub mod Ends

@@ -1,0 +1,9 @@
+-- The fields of `Answers` as contracts see them.
+use Rattle.span_enum.specs.Listing.{Listing, text_of, IsReady, IsCursor}
+use Rattle.span_enum.specs.declared.answers.Answers.TheInside.{Inside}
+
+abbrev pub view_of : Inside → Listing
+view_of a = record { automaton = a.dfa.now; text = text_of a.view.store.now a.root; after = a.last }
+
+abbrev pub IsListing : Inside → Type 0
+IsListing a = IsReady a.dfa.now a.view.store.now a.view.tables.now a.root × IsCursor a.dfa.now a.last
