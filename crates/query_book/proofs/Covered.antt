@@ -1,0 +1,53 @@
+-- What a covered store says of the entry of a name.
+use Rattle.std.proofs.Common.{◌≡◌, ℕ, ◌≤◌, ◌^◌, Bool, true, false, cond, List, [], ◌∷◌, length, Option, Some, None, sym, ap, subst, ◌∙◌, arith}
+use Rattle.std.specs.Prelude.{unwrap_or}
+use Rattle.std.specs.Option.{option_map}
+use Rattle.std.specs.List.{AllByRecursion}
+use Rattle.slp_model.specs.declared.Node.{Node}
+use Rattle.slp_model.specs.declared.NodeId.{NodeId}
+use Rattle.slp_model.specs.Tree.{leaves}
+use Rattle.slp_model.specs.Nodes.{tree}
+use Rattle.slp_model.proofs.TreeLemmas.{length-text}
+use Rattle.state_tables.specs.Dictionary.{count_of}
+use Rattle.span_enum.specs.Listing.{text_of}
+use Rattle.query_book.specs.declared.entry.Entry.{Entry}
+use Rattle.query_book.specs.Named.{Named, is_same, value_of}
+use Rattle.query_book.specs.Book.{entry_of}
+use Rattle.query_book.specs.Serving.{IsServed, Covers, covered_of, all_at}
+use Rattle.query_book.proofs.Views.{value-by_name}
+
+some_is : {X : Type 0} {x y : X} → Some x ≡ Some y → x ≡ y
+some_is {X} {x} p = ap (λ o. unwrap_or o x) p
+
+-- what holds of all entries holds of that of the name
+pub all-found : (P : Entry → Type 0) (es : List Entry) (name : List ℕ) (e : Entry) → AllByRecursion P es → entry_of es name ≡ Some e → P e
+all-found P [] name e h q = let bad : ⊥ = cc in absurd bad
+all-found P (x ∷ xs) name e h q = by (is_same name x.name) q (all-found P xs name e h.1)
+  where
+    by : (b : Bool) → cond b (Some x) (entry_of xs name) ≡ Some e → (entry_of xs name ≡ Some e → P e) → P e
+    by true r rest = subst P (some_is r) h.0
+    by false r rest = rest r
+
+value-all_at : (n : ℕ) (ps : Named ℕ) (name : List ℕ) (k : ℕ) → value_of (all_at n ps) name ≡ Some k → n ≡ k
+value-all_at n [] name k q = let bad : ⊥ = cc in absurd bad
+value-all_at n (p ∷ ps) name k q = by (is_same name p.0) q (value-all_at n ps name k)
+  where
+    by : (b : Bool) → cond b (Some n) (value_of (all_at n ps) name) ≡ Some k → (value_of (all_at n ps) name ≡ Some k → n ≡ k) → n ≡ k
+    by true r rest = some_is r
+    by false r rest = rest r
+
+pub count-found : (ns : List Node) (es : List Entry) (name : List ℕ) (e : Entry) → Covers ns es → entry_of es name ≡ Some e → count_of e.tables ≡ length ns
+count-found ns es name e c q =
+    let here : value_of (covered_of es) name ≡ Some (count_of e.tables) = value-by_name (λ x. count_of x.tables) es name ∙ ap (λ o. option_map (λ (x : Entry). count_of x.tables) o) q in
+    sym (value-all_at (length ns) (covered_of es) name (count_of e.tables) (sym (ap (λ ps. value_of ps name) c.all) ∙ here))
+
+pub served-found : (ns : List Node) (es : List Entry) (name : List ℕ) (e : Entry) → Covers ns es → entry_of es name ≡ Some e → IsServed ns e
+served-found ns es name e c q = all-found (IsServed ns) es name e c.serves q
+
+-- a text has at most 2^48 bytes, where its root has
+pub short-some : (ns : List Node) (root : Option NodeId) (id : NodeId) (len : ℕ) → root ≡ Some id → len ≡ leaves (tree ns id.index) → len ≤ 2 ^ 48 → length (text_of ns root) ≤ 281474976710656
+short-some ns root id len r e s =
+    subst (λ o. length (text_of ns o) ≤ 281474976710656) (sym r) (omega (arith, length-text (tree ns id.index), e, s))
+
+pub short-none : (ns : List Node) (root : Option NodeId) → root ≡ None → length (text_of ns root) ≤ 281474976710656
+short-none ns root r = subst (λ o. length (text_of ns o) ≤ 281474976710656) (sym r) (omega arith)

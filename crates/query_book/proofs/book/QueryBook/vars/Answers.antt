@@ -1,0 +1,12 @@
+use Rattle.std.proofs.Common.{ap, ◌∙◌, sym, Some}
+use Rattle.std.specs.Option.{option_map}
+use Rattle.span_types.specs.Query.{query_of}
+use Rattle.span_types.specs.Rel.{names_of}
+use Rattle.query_book.proofs.Views.{value-by_name}
+use Rattle.query_book.proofs.book.QueryBook.vars.Goals as goal
+
+pub returns : goal.returns
+returns c =
+    ap (λ o. option_map names_of o) (value-by_name (λ e. query_of e.query.tree) c.args.self.now c.args.name.now)
+    ∙ (ap (λ o. option_map names_of (option_map (λ e. query_of e.query.tree) o)) c.in_ok-entry.ensures.found
+    ∙ ap Some (sym c.in_ok-entry.ensures.sound.compiled.names))

@@ -1,0 +1,35 @@
+-- A book of queries as an ordered list.
+use Rattle.std.specs.Prelude.{◌≡◌, ℕ, cond, List, [], ◌∷◌, map, Option, Some, None}
+use Rattle.span_types.specs.Query.{Query, query_of}
+use Rattle.query_book.specs.declared.entry.Entry.{Entry}
+use Rattle.query_book.specs.declared.refusal.BookRefusal.{BookRefusal}
+use Rattle.query_book.specs.declared.refusal.BookRefusal.TheVariants.{NoSuchQuery}
+use Rattle.query_book.specs.Named.{Named, is_same, value_of}
+
+-- what contracts see of a book: its entries, in the order in which their names came
+abbrev pub Book : Type 0
+Book = List Entry
+
+-- the queries by name
+abbrev pub queries_of : Book → Named Query
+queries_of es = map (λ e. (e.name, query_of e.query.tree)) es
+
+-- no query has the name, and the refusal says so
+pub record IsMissing (queries : Named Query) (name : List ℕ) (why : BookRefusal) : Type 0 where
+  pub none : value_of queries name ≡ None
+  pub refusal : why ≡ NoSuchQuery
+
+-- the entry with this name
+abbrev pub entry_of : Book → List ℕ → Option Entry
+entry_of [] name = None
+entry_of (e ∷ es) name = cond (is_same name e.name) (Some e) (entry_of es name)
+
+-- a present name keeps its place and has the entry, and a new one goes last
+abbrev pub with_entry : Book → Entry → Book
+with_entry [] x = x ∷ []
+with_entry (e ∷ es) x = cond (is_same x.name e.name) (x ∷ es) (e ∷ with_entry es x)
+
+-- the entries without that of this name
+abbrev pub without_entry : Book → List ℕ → Book
+without_entry [] name = []
+without_entry (e ∷ es) name = cond (is_same name e.name) es (e ∷ without_entry es name)

@@ -1,0 +1,11 @@
+pub mod Named
+pub mod Occurrences
+pub mod Answers
+pub mod Registering
+pub mod Compiling
+pub mod Book
+pub mod Serving
+pub mod Laws
+pub mod Kept
+pub mod Making
+pub mod Growing

@@ -1,0 +1,13 @@
+-- How an entry begins.
+use Rattle.std.specs.Prelude.{◌≡◌, ℕ, List}
+use Rattle.state_tables.specs.Dictionary.{count_of}
+use Rattle.query_book.specs.declared.compiled.Compiled.{Compiled}
+use Rattle.query_book.specs.declared.entry.Entry.{Entry}
+use Rattle.query_book.specs.Kept.{IsSound}
+
+-- an entry of this query with tables of no node
+pub record IsFresh (name : List ℕ) (query : Compiled) (e : Entry) : Type 0 where
+  pub sound : IsSound e
+  pub name_is : e.name ≡ name
+  pub query_is : e.query ≡ query
+  pub none : count_of e.tables ≡ 0

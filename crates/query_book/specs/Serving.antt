@@ -1,0 +1,42 @@
+-- What a book's tables say of the nodes of a store.
+use Rattle.std.specs.Prelude.{◌≡◌, ◌⊎◌, ℕ, ◌+◌, ◌≤◌, List, [], ◌∷◌, length, map}
+use Rattle.std.specs.List.{AllByRecursion}
+use Rattle.slp_model.specs.declared.Node.{Node}
+use Rattle.state_tables.specs.Dictionary.{AreTables, count_of}
+use Rattle.query_book.specs.declared.entry.Entry.{Entry}
+use Rattle.query_book.specs.Named.{Named}
+use Rattle.query_book.specs.Book.{Book}
+
+-- the query's tables are those of the first nodes of the list
+pub record IsServed (ns : List Node) (e : Entry) : Type 0 where
+  pub covered : count_of e.tables ≤ length ns
+  pub tables : AreTables e.query.dfa ns e.tables
+
+-- in each query the tables are those of the first nodes of the list
+abbrev pub Serves : List Node → Book → Type 0
+Serves ns es = AllByRecursion (IsServed ns) es
+
+-- how many nodes have tables in each query, by name
+abbrev pub covered_of : Book → Named ℕ
+covered_of es = map (λ e. (e.name, count_of e.tables)) es
+
+-- the same number for each name
+abbrev pub all_at : ℕ → Named ℕ → Named ℕ
+all_at n ps = map (λ p. (p.0, n)) ps
+
+-- the sum of the numbers
+abbrev pub sum_of : Named ℕ → ℕ
+sum_of [] = 0
+sum_of (p ∷ ps) = p.1 + sum_of ps
+
+-- in each query all nodes of the list have their tables
+pub record Covers (ns : List Node) (es : Book) : Type 0 where
+  pub serves : Serves ns es
+  pub all : covered_of es ≡ all_at (length ns) (covered_of es)
+
+-- each number is as before or n
+abbrev pub ArePartlyAt : ℕ → Named ℕ → Named ℕ → Type 0
+ArePartlyAt n [] [] = Unit {0}
+ArePartlyAt n [] (q ∷ qs) = ⊥
+ArePartlyAt n (p ∷ ps) [] = ⊥
+ArePartlyAt n (p ∷ ps) (q ∷ qs) = (q.0 ≡ p.0) × ((q.1 ≡ p.1) ⊎ (q.1 ≡ n)) × ArePartlyAt n ps qs

@@ -1,0 +1,166 @@
+//! Queries by name.
+ghost use Rattle.std.specs.Prelude.{◌≡◌, ◌+◌, ◌≤◌, ℕ, List, [], length, OnOk, OnErr, IfOk, IfErr, IsSome, Some, MatchResult};
+ghost use Rattle.std.specs.Option.{option_map};
+ghost use Rattle.span_types.specs.Query.{Query, query_of};
+ghost use Rattle.span_types.specs.Rel.{names_of};
+ghost use Rattle.slp_model.specs.declared.Node.{Node};
+ghost use Rattle.query_book.specs.Named.{AreDistinctNames, put, taken_out, value_of};
+ghost use Rattle.query_book.specs.Registering.{IsQueryOf, IsRefused};
+ghost use Rattle.query_book.specs.Book.{IsMissing, entry_of, queries_of, with_entry, without_entry};
+ghost use Rattle.query_book.specs.Serving.{ArePartlyAt, Covers, Serves, all_at, covered_of, sum_of};
+ghost use Rattle.query_book.specs.Kept.{IsSound};
+
+use crate::compiled::compile;
+use crate::entry::{Entry, fresh_entry};
+use crate::growing::grow_entries;
+use crate::refusal::{BookRefusal, QueryRefusal};
+use indexmap::IndexMap;
+use node_store::Store;
+use span_types::{Name, NoMemory, Steps, Vars};
+use std::alloc::Global;
+use std::marker::Model;
+use std::sync::ledger::Ledger;
+use std::thread::Threads;
+use work_gate::Gate;
+
+/// Queries with distinct names, in the order in which the names came. A look-up by name takes expected constant time.
+#[derive(Drop)]
+pub struct QueryBook {
+    by_name: IndexMap<Vec<u8>, Entry>,
+}
+
+impl Model for QueryBook {
+    ghost use Rattle.std.specs.Prelude.{List};
+    ghost use Rattle.indexmap.specs.IndexMap.{values};
+    ghost use Rattle.query_book.specs.declared.entry.Entry.{Entry};
+    ghost use Rattle.query_book.specs.Kept.{AreKept};
+    ghost use Rattle.span_types.specs.contracts.query.QueryTree as query_tree;
+    ghost use Rattle.std.specs.Coded.{codes};
+
+    ghost Value = { List Entry };
+
+    ghost coded = { Prim.hlevel (codes, query_tree.the_row.coded) };
+
+    ghost view = { λ b. values b.by_name };
+
+    ghost invariant = { λ b. AreKept b.by_name.entries };
+}
+
+impl QueryBook {
+    /// No queries.
+    pub fn new(alloc: Global) -> QueryBook
+        ensures empty { result ≡ [] }
+        ensures serves { (ns : List Node) → Serves ns result }
+    {
+        QueryBook {
+            by_name: IndexMap::new(alloc),
+        }
+    }
+
+    /// Registers the query of a formula text. A present name keeps its place and has the new query, and a new name goes
+    /// last. No node has a table of it yet. After a refusal the book is as before.
+    ///
+    /// # Errors
+    ///
+    /// The first refusal of the text, `TooManyStates` exactly where its automaton would have more than 128 states, and
+    /// `NoMemory`.
+    pub fn add(&mut self, alloc: Global, name: Name, text: &[u8]) -> Result<(), QueryRefusal>
+        ensures ok { OnOk result ((q : Query) × IsQueryOf text.now q × (queries_of self.new ≡ put (queries_of self.old) name q)) }
+        ensures covered { OnOk result (covered_of self.new ≡ put (covered_of self.old) name 0) }
+        ensures serves { (ns : List Node) → Serves ns self.old → Serves ns self.new }
+        ensures distinct { OnOk result (AreDistinctNames (queries_of self.new)) }
+        ensures refused { IfErr result (IsRefused text.now) }
+        ensures err { OnErr result (self.new ≡ self.old) }
+    {
+        let query = compile(alloc, text)?;
+        let entry = fresh_entry(alloc, name, query)?;
+        self.put(alloc, entry)?;
+        Ok(())
+    }
+
+    /// Takes the query with this name out, and the rest close up. It is refused exactly where there is none, and the book
+    /// is then as before. Takes time linear in the number of queries.
+    pub fn remove(&mut self, name: &[u8]) -> Result<(), BookRefusal>
+        ensures ok { OnOk result (IsSome (value_of (queries_of self.old) name.now)) }
+        ensures rest { queries_of self.new ≡ taken_out (queries_of self.old) name.now }
+        ensures covered { covered_of self.new ≡ taken_out (covered_of self.old) name.now }
+        ensures serves { (ns : List Node) → Serves ns self.old → Serves ns self.new }
+        ensures distinct { AreDistinctNames (queries_of self.new) }
+        ensures missing { IfErr result (IsMissing (queries_of self.old) name.now) }
+        ensures err { OnErr result (self.new ≡ self.old) }
+    {
+        self.take(name)
+    }
+
+    /// The names of the query's variables, by number. It is refused exactly where no query has the name.
+    pub fn vars(&self, name: &[u8]) -> Result<&Vars, BookRefusal>
+        ensures { MatchResult result (λ vars. option_map names_of (value_of (queries_of self.now) name.now) ≡ Some vars.now) (IsMissing (queries_of self.now) name.now) }
+    {
+        Ok(&self.entry(name)?.query.vars)
+    }
+
+    /// Gives each node of the store that has no table in some query its table. The store is the one used before, grown.
+    /// Each table that is given is one step. After a refusal some queries have all tables, and the others those that they
+    /// had. The work on the nodes of one height runs in at most `workers` pieces at once, 1 to 64.
+    pub fn grow_all<R: Threads + Sync, G: Gate, L: Ledger>(
+        &mut self,
+        rt: &R,
+        alloc: Global,
+        store: &Store,
+        workers: u8,
+        gate: &G,
+        places: &mut Steps<L>,
+    ) -> Result<(), NoMemory>
+        requires least { 1 ≤ workers }
+        requires most { workers ≤ 64 }
+        requires serves { Serves store.now self.old }
+        ensures all { OnOk result (Covers store.now self.new) }
+        ensures serves { Serves store.now self.new }
+        ensures queries { queries_of self.new ≡ queries_of self.old }
+        ensures done { OnOk result (covered_of self.new ≡ all_at (length store.now) (covered_of self.old)) }
+        ensures some { ArePartlyAt (length store.now) (covered_of self.old) (covered_of self.new) }
+        ensures steps { places.new + sum_of (covered_of self.old) ≡ places.old + sum_of (covered_of self.new) }
+    {
+        grow_entries(rt, alloc, &mut self.by_name, store, workers, gate, places)
+    }
+
+    /// The entry with this name.
+    pub(crate) fn entry(&self, name: &[u8]) -> Result<&Entry, BookRefusal>
+        ensures found { IfOk result (λ e. entry_of self.now name.now ≡ Some e.now) }
+        ensures sound { IfOk result (λ e. IsSound e.now) }
+        ensures missing { IfErr result (IsMissing (queries_of self.now) name.now) }
+    {
+        match self.by_name.get(name) {
+            Some(entry) => Ok(entry),
+            None => Err(BookRefusal::NoSuchQuery),
+        }
+    }
+
+    /// Takes the entry with this name out.
+    fn take(&mut self, name: &[u8]) -> Result<(), BookRefusal>
+        ensures ok { OnOk result (IsSome (entry_of self.old name.now)) }
+        ensures rest { self.new ≡ without_entry self.old name.now }
+        ensures distinct { AreDistinctNames (queries_of self.new) }
+        ensures missing { IfErr result (IsMissing (queries_of self.old) name.now) }
+        ensures err { OnErr result (self.new ≡ self.old) }
+    {
+        match self.by_name.shift_remove(name) {
+            Some(_) => Ok(()),
+            None => Err(BookRefusal::NoSuchQuery),
+        }
+    }
+
+    /// Gives the entry's name this entry.
+    fn put(&mut self, alloc: Global, entry: Entry) -> Result<(), NoMemory>
+        requires { IsSound entry }
+        ensures ok { OnOk result (self.new ≡ with_entry self.old entry) }
+        ensures distinct { OnOk result (AreDistinctNames (queries_of self.new)) }
+        ensures err { OnErr result (self.new ≡ self.old) }
+    {
+        let key = entry.name.bytes().to_vec(alloc)?;
+        match self.by_name.insert(key, entry) {
+            Ok(_) => Ok(()),
+            Err(_) => Err(NoMemory),
+        }
+    }
+}

@@ -1,0 +1,73 @@
+//! A query made ready for texts.
+ghost use Rattle.std.specs.Prelude.{◌≡◌, MatchResult, IfOk, IfErr};
+ghost use Rattle.span_types.specs.FormulaTree.{tree_of};
+ghost use Rattle.span_types.specs.Query.{Leaf, query_of};
+ghost use Rattle.marker_nfa.specs.Occurrences.{IsWithinLimits};
+ghost use Rattle.marker_dfa.specs.Refusals.{IfTooMany};
+ghost use Rattle.query_book.specs.Occurrences.{CountIsAbove};
+ghost use Rattle.query_book.specs.Compiling.{CannotCompile, IsAutomatonOf, IsCompiled, IsCompiledOf, IsRead};
+ghost use Rattle.query_book.specs.Registering.{IsRefused};
+
+use crate::refusal::QueryRefusal;
+use formula_syntax::{FormulaRefusal, read};
+use marker_dfa::{Dfa, DfaRefusal, determinise};
+use marker_nfa::of_formula;
+use span_types::{Formula, QueryTree, Vars};
+use std::alloc::Global;
+
+/// A query with the names of its variables and its automaton.
+#[derive(Drop)]
+pub struct Compiled {
+    pub(crate) tree: QueryTree,
+    pub(crate) vars: Vars,
+    pub(crate) dfa: Dfa,
+}
+
+/// The query of a formula text.
+///
+/// # Errors
+///
+/// The first refusal of the text, `TooManyStates` exactly where its automaton would have more than 128 states, and
+/// `NoMemory`.
+pub(crate) fn compile(alloc: Global, text: &[u8]) -> Result<Compiled, QueryRefusal>
+    ensures { MatchResult result (IsCompiledOf text.now) (IsRefused text.now) }
+{
+    match read(alloc, text) {
+        Ok((formula, vars)) => compile_leaf(alloc, formula, vars),
+        Err(FormulaRefusal::NoMemory) => Err(QueryRefusal::NoMemory),
+        Err(why) => Err(QueryRefusal::Formula(why)),
+    }
+}
+
+/// The query of a formula with the names of its variables.
+fn compile_leaf(alloc: Global, formula: Formula, vars: Vars) -> Result<Compiled, QueryRefusal>
+    requires { IsRead (tree_of formula) vars }
+    ensures leaf { IfOk result (λ c. query_of c.tree ≡ Leaf (tree_of formula) vars) }
+    ensures compiled { IfOk result IsCompiled }
+    ensures few { IfOk result (λ _. CountIsAbove 128 (tree_of formula) → ⊥) }
+    ensures refused { IfErr result (CannotCompile (tree_of formula)) }
+{
+    let dfa = match automaton_of(alloc, &formula) {
+        Ok(dfa) => dfa,
+        Err(DfaRefusal::TooManyStates) => return Err(QueryRefusal::TooManyStates),
+        Err(DfaRefusal::NoMemory) => return Err(QueryRefusal::NoMemory),
+    };
+    let count = vars.count();
+    let names = vars.copy(alloc)?;
+    Ok(Compiled {
+        tree: QueryTree::Leaf(formula, vars),
+        vars: names,
+        dfa,
+    })
+}
+
+/// The deterministic automaton of a formula.
+fn automaton_of(alloc: Global, formula: &Formula) -> Result<Dfa, DfaRefusal>
+    requires { IsWithinLimits (tree_of formula.now) }
+    ensures automaton { IfOk result (IsAutomatonOf (tree_of formula.now)) }
+    ensures few { IfOk result (λ _. CountIsAbove 128 (tree_of formula.now) → ⊥) }
+    ensures many { IfTooMany result (CountIsAbove 128 (tree_of formula.now)) }
+{
+    let nfa = of_formula(alloc, formula)?;
+    determinise(alloc, &nfa)
+}

@@ -1,0 +1,76 @@
+//! What a book keeps of a query.
+ghost use Rattle.std.specs.Prelude.{◌≡◌, ◌+◌, ◌≤◌, IfOk, OnOk};
+ghost use Rattle.state_tables.specs.Dictionary.{count_of};
+ghost use Rattle.query_book.specs.Compiling.{IsCompiled};
+ghost use Rattle.query_book.specs.Growing.{Grows, MayGrow};
+ghost use Rattle.query_book.specs.Kept.{IsSound};
+ghost use Rattle.query_book.specs.Making.{IsFresh};
+ghost use Rattle.query_book.specs.Serving.{IsServed};
+
+use crate::compiled::Compiled;
+use node_store::Store;
+use span_types::{Name, NoMemory, Steps};
+use state_tables::Tables;
+use std::alloc::Global;
+use std::sync::ledger::Ledger;
+use std::thread::Threads;
+use table_grow::{Memory, grow};
+use work_gate::Gate;
+
+/// How many compositions are remembered for each query.
+const REMEMBERED: usize = 4096;
+
+/// A query with its name, its tables of the first nodes of a store, and compositions of these tables.
+#[derive(Drop)]
+pub struct Entry {
+    pub(crate) name: Name,
+    pub(crate) query: Compiled,
+    pub(crate) tables: Tables,
+    pub(crate) memory: Memory,
+}
+
+/// An entry with tables of no node.
+pub(crate) fn fresh_entry(alloc: Global, name: Name, query: Compiled) -> Result<Entry, NoMemory>
+    requires { IsCompiled query }
+    ensures { IfOk result (IsFresh name query) }
+{
+    let tables = Tables::new(alloc, &query.dfa);
+    let memory = Memory::new(alloc, REMEMBERED)?;
+    Ok(Entry {
+        name,
+        query,
+        tables,
+        memory,
+    })
+}
+
+/// Gives each node of the store that has no table in the query its table.
+pub(crate) fn grow_entry<R: Threads + Sync, G: Gate, L: Ledger>(
+    rt: &R,
+    alloc: Global,
+    entry: &mut Entry,
+    store: &Store,
+    workers: u8,
+    gate: &G,
+    places: &mut Steps<L>,
+) -> Result<(), NoMemory>
+    requires least { 1 ≤ workers }
+    requires most { workers ≤ 64 }
+    requires sound { IsSound entry.old }
+    requires served { IsServed store.now entry.old }
+    ensures all { OnOk result (Grows store.now entry.old entry.new) }
+    ensures some { MayGrow store.now entry.old entry.new }
+    ensures steps { places.new + count_of entry.old.tables ≡ places.old + count_of entry.new.tables }
+{
+    grow(
+        rt,
+        alloc,
+        &mut entry.tables,
+        store,
+        &entry.query.dfa,
+        &mut entry.memory,
+        workers,
+        gate,
+        places,
+    )
+}

@@ -1,0 +1,155 @@
+//! Questions to the queries of a book.
+ghost use Rattle.std.specs.Prelude.{◌≡◌, ◌↔◌, ◌+◌, ◌*◌, ◌≤◌, ◌^◌, None, Some, length, IfOk, IfErr, IsTrue, IsErrOf};
+ghost use Rattle.slp_model.specs.Nodes.{IsLive};
+ghost use Rattle.span_enum.specs.Listing.{IsReady, text_of};
+ghost use Rattle.query_book.specs.Named.{value_of};
+ghost use Rattle.query_book.specs.Answers.{Defines, HasAnswer, HasVariablesOf, IsAnswer, IsListingOf, IsNamed, most_looks};
+ghost use Rattle.query_book.specs.Book.{IsMissing, queries_of};
+ghost use Rattle.query_book.specs.Serving.{Covers};
+
+use crate::book::QueryBook;
+use crate::refusal::BookRefusal;
+use marker_dfa::Dfa;
+use node_store::{NodeId, Store};
+use span_enum::{Answers, has, nonempty};
+use span_types::{NoMemory, Steps, Tuple};
+use state_tables::View;
+use std::alloc::Global;
+use std::sync::ledger::Ledger;
+
+impl QueryBook {
+    /// The answers of the query with this name on the root's text, before the first one.
+    ///
+    /// Each node of the store has its table, and the root is one of the nodes or none. It makes at most B(k, n) looks, for k
+    /// variables and a text of n bytes.
+    ///
+    /// # Errors
+    ///
+    /// `NoSuchQuery` exactly where no query has the name, and `NoMemory`.
+    pub fn start<'a, L: Ledger>(
+        &'a self,
+        alloc: Global,
+        name: &[u8],
+        store: &'a Store,
+        root: Option<NodeId>,
+        looks: &mut Steps<L>,
+    ) -> Result<Answers<'a>, BookRefusal>
+        requires covers { Covers store.now self.now }
+        requires live { IsLive store.now root }
+        ensures listing { IfOk result (λ a. IsNamed (queries_of self.now) name.now (IsListingOf (text_of store.now root) None a)) }
+        ensures missing { IsErrOf result BookRefusal.NoSuchQuery ↔ (value_of (queries_of self.now) name.now ≡ None) }
+        ensures cost { looks.new ≤ looks.old + most_looks (value_of (queries_of self.now) name.now) (text_of store.now root) }
+    {
+        let (view, dfa) = self.lookout(name, store, root)?;
+        match Answers::start(alloc, view, dfa, root, looks) {
+            Ok(answers) => Ok(answers),
+            Err(NoMemory) => Err(BookRefusal::NoMemory),
+        }
+    }
+
+    /// The answers of the query with this name on the root's text, before the first one that comes strictly after the tuple,
+    /// which needn't be an answer and may lie past the text.
+    ///
+    /// Each node of the store has its table, the root is one of the nodes or none, and the tuple has as many variables as the
+    /// query. It makes at most 2·B(k, n) looks, for k variables and a text of n bytes.
+    ///
+    /// # Errors
+    ///
+    /// `NoSuchQuery` exactly where no query has the name, and `NoMemory`.
+    pub fn seek<'a, L: Ledger>(
+        &'a self,
+        alloc: Global,
+        name: &[u8],
+        store: &'a Store,
+        root: Option<NodeId>,
+        after: &Tuple,
+        looks: &mut Steps<L>,
+    ) -> Result<Answers<'a>, BookRefusal>
+        requires covers { Covers store.now self.now }
+        requires live { IsLive store.now root }
+        requires tuple { HasVariablesOf (queries_of self.now) name.now after.now }
+        ensures listing { IfOk result (λ a. IsNamed (queries_of self.now) name.now (IsListingOf (text_of store.now root) (Some after.now) a)) }
+        ensures missing { IsErrOf result BookRefusal.NoSuchQuery ↔ (value_of (queries_of self.now) name.now ≡ None) }
+        ensures cost { looks.new ≤ looks.old + 2 * most_looks (value_of (queries_of self.now) name.now) (text_of store.now root) }
+    {
+        let (view, dfa) = self.lookout(name, store, root)?;
+        match Answers::seek(alloc, view, dfa, root, after, looks) {
+            Ok(answers) => Ok(answers),
+            Err(NoMemory) => Err(BookRefusal::NoMemory),
+        }
+    }
+
+    /// Whether the query with this name has an answer on the root's text. Takes no memory.
+    ///
+    /// Each node of the store has its table, and the root is one of the nodes or none. It makes at most B(k, n) looks, for k
+    /// variables and a text of n bytes.
+    ///
+    /// # Errors
+    ///
+    /// `NoSuchQuery` exactly where no query has the name.
+    pub fn test<L: Ledger>(
+        &self,
+        name: &[u8],
+        store: &Store,
+        root: Option<NodeId>,
+        looks: &mut Steps<L>,
+    ) -> Result<bool, BookRefusal>
+        requires covers { Covers store.now self.now }
+        requires live { IsLive store.now root }
+        ensures answer { IfOk result (λ yes. IsNamed (queries_of self.now) name.now (λ q. IsTrue yes ↔ HasAnswer q (text_of store.now root))) }
+        ensures missing { IfErr result (IsMissing (queries_of self.now) name.now) }
+        ensures cost { looks.new ≤ looks.old + most_looks (value_of (queries_of self.now) name.now) (text_of store.now root) }
+    {
+        let (view, dfa) = self.lookout(name, store, root)?;
+        Ok(nonempty(view, dfa, root, looks))
+    }
+
+    /// Whether the tuple is an answer of the query with this name on the root's text. Takes no memory.
+    ///
+    /// Each node of the store has its table, the root is one of the nodes or none, and the tuple has as many variables as the
+    /// query. It makes at most B(k, n) looks, for k variables and a text of n bytes.
+    ///
+    /// # Errors
+    ///
+    /// `NoSuchQuery` exactly where no query has the name.
+    pub fn has<L: Ledger>(
+        &self,
+        name: &[u8],
+        store: &Store,
+        root: Option<NodeId>,
+        tuple: &Tuple,
+        looks: &mut Steps<L>,
+    ) -> Result<bool, BookRefusal>
+        requires covers { Covers store.now self.now }
+        requires live { IsLive store.now root }
+        requires tuple { HasVariablesOf (queries_of self.now) name.now tuple.now }
+        ensures answer { IfOk result (λ yes. IsNamed (queries_of self.now) name.now (λ q. IsTrue yes ↔ IsAnswer q (text_of store.now root) tuple.now)) }
+        ensures missing { IfErr result (IsMissing (queries_of self.now) name.now) }
+        ensures cost { looks.new ≤ looks.old + most_looks (value_of (queries_of self.now) name.now) (text_of store.now root) }
+    {
+        let (view, dfa) = self.lookout(name, store, root)?;
+        Ok(has(view, dfa, root, tuple, looks))
+    }
+
+    /// A view of the store's nodes with their tables in the query of this name, and the query's automaton.
+    fn lookout<'a>(
+        &'a self,
+        name: &[u8],
+        store: &'a Store,
+        root: Option<NodeId>,
+    ) -> Result<(View<'a>, &'a Dfa), BookRefusal>
+        requires covers { Covers store.now self.now }
+        requires live { IsLive store.now root }
+        ensures ready { IfOk result (λ p. IsReady p.1.now p.0.store.now p.0.tables.now root) }
+        ensures store { IfOk result (λ p. p.0.store.now ≡ store.now) }
+        ensures query { IfOk result (λ p. IsNamed (queries_of self.now) name.now (λ q. Defines q p.1.now)) }
+        ensures short { length (text_of store.now root) ≤ 281474976710656 }
+        ensures missing { IfErr result (IsMissing (queries_of self.now) name.now) }
+    {
+        if let Some(id) = root {
+            let _len = store.len(id);
+        }
+        let entry = self.entry(name)?;
+        Ok((entry.tables.view(store), &entry.query.dfa))
+    }
+}
