@@ -1,0 +1,201 @@
+//! A list of nodes of a store, one per rule of a grammar whose pairs and runs need not be balanced. Each
+//! entry is balanced again as it comes (W. Rytter, Theoretical Computer Science 302, 2003).
+#![tactic(auto)]
+
+ghost use Rattle.std.specs.Prelude.{◌≡◌, ℕ, ◌+◌, ◌*◌, ◌^◌, ◌<◌, ◌≤◌, [], ◌∷◌, ◌++◌, length, get_or, slice_get, IfOk, OnOk, OnErr, Some};
+ghost use Rattle.slp_model.specs.Tree.{Leaf, text, leaves, height, IsNear};
+ghost use Rattle.slp_model.specs.Nodes.{tree, Grows};
+ghost use Rattle.slp_model.specs.Join.{join, IsJoined};
+ghost use Rattle.slp_rebalance.specs.Entries.{entry_trees, AreEntries, IsRepeated};
+ghost use Rattle.slp_rebalance.specs.Copies.{copies, run_cost};
+
+use node_store::{NodeId, Store};
+use slp_concat::join;
+use span_types::{NoMemory, Steps};
+use std::alloc::Global;
+use std::marker::Model;
+use std::sync::ledger::Ledger;
+
+/// Nodes of a store in the order in which they came, each as often as it came.
+///
+/// Each call has the store of the calls before, which may have grown. After `NoMemory` the entries
+/// are as before, and the store may have more nodes.
+#[derive(Drop)]
+pub struct Roots {
+    ids: Vec<NodeId>,
+}
+
+impl Model for Roots {
+    ghost use Rattle.std.specs.Prelude.{List};
+    ghost use Rattle.slp_model.specs.declared.NodeId.{NodeId};
+
+    ghost Value = { List NodeId };
+
+    ghost view = { λ r. r.ids.items };
+}
+
+impl Roots {
+    /// No entries.
+    pub fn new(alloc: Global) -> Roots
+        ensures { result ≡ [] }
+    {
+        Roots {
+            ids: Vec::new(alloc),
+        }
+    }
+
+    /// How many entries there are.
+    pub fn count(&self) -> usize
+        ensures { result ≡ length self.now }
+    {
+        self.ids.len()
+    }
+
+    /// The entry at this place. Places count from 0.
+    pub fn root(&self, place: usize) -> NodeId
+        requires { place < length self.now }
+        ensures { slice_get self.now place ≡ Some result }
+    {
+        self.ids[place]
+    }
+
+    /// A last entry with this one byte.
+    ///
+    /// # Errors
+    ///
+    /// `NoMemory`.
+    pub fn byte(&mut self, store: &mut Store, b: u8) -> Result<(), NoMemory>
+        requires live { AreEntries store.old self.old }
+        ensures grows { Grows store.old store.new 0 0 }
+        ensures live { AreEntries store.new self.new }
+        ensures entries { OnOk result (entry_trees store.new self.new ≡ entry_trees store.old self.old ++ Leaf b ∷ []) }
+        ensures err { OnErr result (self.new ≡ self.old) }
+    {
+        self.ids.reserve(1).map_err(|_| NoMemory)?;
+        let id = store.byte(b)?;
+        self.ids.push_reserved(id);
+        Ok(())
+    }
+
+    /// A last entry with the texts at the places `left` and `right` joined, at most 2^48 bytes. At most
+    /// 205 pair calls are made, and one where the heights differ by at most one.
+    ///
+    /// # Errors
+    ///
+    /// `NoMemory`.
+    pub fn pair<L: Ledger>(
+        &mut self,
+        store: &mut Store,
+        left: usize,
+        right: usize,
+        pairs: &mut Steps<L>,
+    ) -> Result<(), NoMemory>
+        requires live { AreEntries store.old self.old }
+        requires left { left < length self.old }
+        requires right { right < length self.old }
+        requires short { leaves (get_or (entry_trees store.old self.old) left (Leaf 0)) + leaves (get_or (entry_trees store.old self.old) right (Leaf 0)) ≤ 2 ^ 48 }
+        ensures grows { Grows store.old store.new pairs.old pairs.new }
+        ensures live { AreEntries store.new self.new }
+        ensures entries { OnOk result (entry_trees store.new self.new ≡ entry_trees store.old self.old ++ join (get_or (entry_trees store.old self.old) left (Leaf 0)) (get_or (entry_trees store.old self.old) right (Leaf 0)) ∷ []) }
+        ensures joined { OnOk result (IsJoined (get_or (entry_trees store.old self.old) left (Leaf 0)) (get_or (entry_trees store.old self.old) right (Leaf 0)) (join (get_or (entry_trees store.old self.old) left (Leaf 0)) (get_or (entry_trees store.old self.old) right (Leaf 0)))) }
+        ensures err { OnErr result (self.new ≡ self.old) }
+        ensures cost { pairs.new ≤ pairs.old + 205 }
+        ensures near { IsNear (height (get_or (entry_trees store.old self.old) left (Leaf 0))) (height (get_or (entry_trees store.old self.old) right (Leaf 0))) → pairs.new ≤ pairs.old + 1 }
+    {
+        let a = self.root(left);
+        let b = self.root(right);
+        self.ids.reserve(1).map_err(|_| NoMemory)?;
+        let id = join(store, a, b, pairs)?;
+        self.ids.push_reserved(id);
+        Ok(())
+    }
+
+    /// A last entry with the text at the place `child`, `times` times, at most 2^48 bytes. At most
+    /// 206·(d-1) pair calls are made, where d is the number of binary digits of `times`.
+    ///
+    /// # Errors
+    ///
+    /// `NoMemory`.
+    pub fn repeat<L: Ledger>(
+        &mut self,
+        store: &mut Store,
+        child: usize,
+        times: u64,
+        pairs: &mut Steps<L>,
+    ) -> Result<(), NoMemory>
+        requires live { AreEntries store.old self.old }
+        requires child { child < length self.old }
+        requires some { 1 ≤ times }
+        requires short { times * leaves (get_or (entry_trees store.old self.old) child (Leaf 0)) ≤ 2 ^ 48 }
+        ensures grows { Grows store.old store.new pairs.old pairs.new }
+        ensures live { AreEntries store.new self.new }
+        ensures entries { OnOk result (IsRepeated (entry_trees store.old self.old) child times (entry_trees store.new self.new)) }
+        ensures err { OnErr result (self.new ≡ self.old) }
+        ensures cost { (places : ℕ) → times < 2 ^ places → pairs.new ≤ pairs.old + run_cost places times }
+    {
+        let root = self.root(child);
+        self.ids.reserve(1).map_err(|_| NoMemory)?;
+        let id = repeated(store, root, times, pairs)?;
+        self.ids.push_reserved(id);
+        Ok(())
+    }
+}
+
+// A node with the text of the node so many times: half as often, twice, and once more where the
+// number is odd. So it calls itself at most 63 times.
+fn repeated<L: Ledger>(
+    store: &mut Store,
+    id: NodeId,
+    times: u64,
+    pairs: &mut Steps<L>,
+) -> Result<NodeId, NoMemory>
+    requires live { id.index < length store.old }
+    requires some { 1 ≤ times }
+    requires short { times * leaves (tree store.old id.index) ≤ 2 ^ 48 }
+    ensures grows { Grows store.old store.new pairs.old pairs.new }
+    ensures live { IfOk result (λ r. r.index < length store.new) }
+    ensures text { IfOk result (λ r. text (tree store.new r.index) ≡ copies times (text (tree store.old id.index))) }
+    ensures cost { (places : ℕ) → times < 2 ^ places → pairs.new ≤ pairs.old + run_cost places times }
+{
+    if times == 1 {
+        return Ok(id);
+    }
+    let half = repeated(store, id, times / 2, pairs)?;
+    let double = join(store, half, half, pairs)?;
+    if times % 2 == 0 {
+        return Ok(double);
+    }
+    join(store, double, id, pairs)
+}
+
+#[cfg(test)]
+mod tests {
+    use super::*;
+    use std::marker::Brand;
+    use std::process::Abort;
+    use std::sync::ledger::Blank;
+    use std::test::Fail;
+
+    #[test]
+    fn a_byte_three_times(rt: HostRuntime) -> Result<(), Fail> {
+        let alloc = rt.alloc();
+        two_bytes::<Brand>(&rt, alloc, Blank::new(1))
+    }
+
+    fn two_bytes<L: Ledger>(rt: &impl Abort, alloc: Global, blank: Blank) -> Result<(), Fail>
+        requires name { blank.name ≡ L.name }
+        requires parts { blank.parts ≡ L.parts }
+        requires some { 0 < L.parts }
+    {
+        let mut pairs = Steps::<L>::new(blank);
+        let mut store = Store::new(alloc);
+        let mut roots = Roots::new(alloc);
+        roots.byte(&mut store, b'a')?;
+        roots.byte(&mut store, b'b')?;
+        roots.pair(&mut store, 0, 1, &mut pairs)?;
+        roots.repeat(&mut store, 1, 3, &mut pairs)?;
+        assert_eq!(rt; roots.count(), 4);
+        assert_eq!(rt; store.count(), 5);
+        Ok(())
+    }
+}
