@@ -1,0 +1,11 @@
+pub mod StepLemmas
+pub mod NodeLemmas
+pub mod TextLemmas
+pub mod DocumentLemmas
+pub mod ReadLemmas
+pub mod MarkLemmas
+pub mod ThinLemmas
+pub mod SavedLemmas
+pub mod WriteLemmas
+pub mod KeptLemmas
+pub mod RowLemmas

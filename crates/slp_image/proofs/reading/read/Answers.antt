@@ -1,0 +1,35 @@
+use Rattle.std.proofs.Common.{arith}
+use Rattle.std.proofs.lemmas.Result.{err_from_is_err_and}
+use Rattle.slp_model.proofs.NodesLemmas.{Grows-none}
+use Rattle.slp_image.specs.Image.{node_at, text_at, contents}
+use Rattle.slp_image.proofs.ReadLemmas.{image-fails, image-one, image-two, reads-nodes, reads-texts, trees-one, trees-two}
+use Rattle.slp_image.proofs.reading.read.Goals as goal
+
+pub returns-in_err-version-clause-grows : goal.returns-in_err-version-clause-grows
+returns-in_err-version-clause-grows g c = Grows-none c.args.store.now c.args.pairs.now c.args.pairs.now (omega arith)
+
+pub returns-in_err-version-clause-read : goal.returns-in_err-version-clause-read
+returns-in_err-version-clause-read g c =
+    let p = err_from_is_err_and c.from_residual.result c.from_residual.ensures.1 in rw (p.1, p.2) (image-fails c.in_err-version.field-0.0 c.args.bytes.now c.in_err-version.ensures)
+
+pub returns-then-version-eq1-clause-read : goal.returns-then-version-eq1-clause-read
+returns-then-version-eq1-clause-read g c =
+    rw (image-one c.args.bytes.now c.in_ok-version.rest.now c.in_ok-version.version c.in_ok-version.ensures (omega arith)) (reads-nodes c.read_nodes.new.store (contents node_at c.in_ok-version.rest.now) c.read_nodes.result c.read_nodes.ensures.read)
+
+pub returns-then-version-eq1-clause-trees : goal.returns-then-version-eq1-clause-trees
+returns-then-version-eq1-clause-trees g c =
+    trees-one c.args.bytes.now c.in_ok-version.rest.now c.in_ok-version.version c.read_nodes.new.store c.read_nodes.result c.in_ok-version.ensures c.read_nodes.ensures.read
+
+pub returns-then-version-eq1-clause-cost : goal.returns-then-version-eq1-clause-cost
+returns-then-version-eq1-clause-cost g c = rw (image-one c.args.bytes.now c.in_ok-version.rest.now c.in_ok-version.version c.in_ok-version.ensures (omega arith)) c.read_nodes.ensures.cost
+
+pub returns-clause-read : goal.returns-clause-read
+returns-clause-read g c =
+    rw (image-two c.args.bytes.now c.in_ok-version.rest.now c.in_ok-version.version c.in_ok-version.ensures (λ e. absurd (omega (arith, e)))) (reads-texts c.read_texts.new.store (contents text_at c.in_ok-version.rest.now) c.read_texts.result c.read_texts.ensures.read)
+
+pub returns-clause-trees : goal.returns-clause-trees
+returns-clause-trees g c =
+    trees-two c.args.bytes.now c.in_ok-version.rest.now c.in_ok-version.version c.read_texts.new.store c.read_texts.result c.in_ok-version.ensures (λ e. absurd (omega (arith, e)))
+
+pub returns-clause-cost : goal.returns-clause-cost
+returns-clause-cost g c = rw (image-two c.args.bytes.now c.in_ok-version.rest.now c.in_ok-version.version c.in_ok-version.ensures (λ e. absurd (omega (arith, e)))) c.read_texts.ensures.cost

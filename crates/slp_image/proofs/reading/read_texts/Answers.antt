@@ -1,0 +1,27 @@
+use Rattle.std.proofs.Common.{[], arith}
+use Rattle.std.proofs.lemmas.Result.{err_from_is_err_and}
+use Rattle.slp_model.proofs.NodesLemmas.{Grows-none}
+use Rattle.slp_image.specs.Image.{text_at, records_onto}
+use Rattle.slp_image.proofs.ReadLemmas.{contents-is, contents-fail, after-fails, texts-read}
+use Rattle.slp_image.proofs.reading.read_texts.Goals as goal
+
+pub returns-in_err-count-clause-grows : goal.returns-in_err-count-clause-grows
+returns-in_err-count-clause-grows g c = Grows-none c.args.store.now c.args.pairs.now c.args.pairs.now (omega arith)
+
+pub returns-in_err-count-clause-read : goal.returns-in_err-count-clause-read
+returns-in_err-count-clause-read g c =
+    let p = err_from_is_err_and c.from_residual.result c.from_residual.ensures.1 in rw (p.1, p.2) (contents-fail text_at c.in_err-count.field-0.0 c.args.bytes.now c.in_err-count.ensures.read)
+
+pub returns-in_err-rest-clause-read : goal.returns-in_err-rest-clause-read
+returns-in_err-rest-clause-read g c =
+    let p = err_from_is_err_and c.from_residual-in_err-rest.result c.from_residual-in_err-rest.ensures.1 in rw (p.1, p.2) (rw (contents-is text_at c.in_ok-count.count c.args.bytes.now c.in_ok-count.after.now c.in_ok-count.ensures.read) (after-fails (records_onto text_at c.in_ok-count.count [] 0 c.in_ok-count.after.now) c.in_err-rest.field-0.0 c.in_err-rest.ensures.read))
+
+pub returns-in_err-rest-clause-cost : goal.returns-in_err-rest-clause-cost
+returns-in_err-rest-clause-cost g c = rw (contents-is text_at c.in_ok-count.count c.args.bytes.now c.in_ok-count.after.now c.in_ok-count.ensures.read) c.text_entries.ensures.cost
+
+pub returns-clause-read : goal.returns-clause-read
+returns-clause-read g c =
+    rw (contents-is text_at c.in_ok-count.count c.args.bytes.now c.in_ok-count.after.now c.in_ok-count.ensures.read) (texts-read c.text_entries.new.store c.text_entries.new.roots (records_onto text_at c.in_ok-count.count [] 0 c.in_ok-count.after.now) c.in_ok-rest.rest.now c.documents.result c.text_entries.ensures.live c.in_ok-rest.ensures.read c.documents.ensures)
+
+pub returns-clause-cost : goal.returns-clause-cost
+returns-clause-cost g c = rw (contents-is text_at c.in_ok-count.count c.args.bytes.now c.in_ok-count.after.now c.in_ok-count.ensures.read) c.text_entries.ensures.cost

@@ -1,0 +1,46 @@
+-- Documents in a store, and the documents of an image.
+use Rattle.std.specs.Prelude.{◌≡◌, ℕ, List, [], ◌∷◌, map, Option, option_map, Result, Ok, Err}
+use Rattle.slp_model.specs.declared.Node.{Node}
+use Rattle.slp_model.specs.Tree.{Tree, root_text}
+use Rattle.slp_model.specs.Nodes.{tree, root_tree, IsLive}
+use Rattle.doc_book.specs.declared.Doc.{Doc}
+use Rattle.slp_image.specs.declared.refusal.ImageRefusal.{ImageRefusal}
+use Rattle.slp_image.specs.declared.refusal.ImageRefusal.TheVariants.{NoMemory}
+use Rattle.slp_image.specs.Image.{Contents, Meaning, contents, node_at, version_at}
+
+-- the names and texts of documents in a store
+abbrev pub plain : List Node → List Doc → List (List ℕ × List ℕ)
+plain ns ds = map (λ d. (d.name, root_text (root_tree ns d.root))) ds
+
+-- their names and trees
+abbrev pub rooted : List Node → List Doc → List (List ℕ × Option Tree)
+rooted ns ds = map (λ d. (d.name, root_tree ns d.root)) ds
+
+-- the roots of the documents are live
+abbrev pub AreLive : List Node → List Doc → Type 0
+AreLive ns [] = Unit {0}
+AreLive ns (d ∷ ds) = IsLive ns d.root × AreLive ns ds
+
+-- the names and trees of the documents of a file of version 1
+abbrev pub filed : Contents Node → List (List ℕ × Option Tree)
+filed x = map (λ d. (d.name, option_map (λ i. tree x.records i) d.root)) x.documents
+
+-- in version 1 each document's tree is that of its root in the file
+abbrev pub HaveTrees : List ℕ → List Node → List Doc → Type 0
+HaveTrees bytes ns ds = (after : List ℕ) (x : Contents Node) → version_at bytes ≡ Ok (1, after) → (contents node_at after).answer ≡ Ok x → rooted ns ds ≡ filed x
+
+-- what was read is refused for this reason, unless memory ran out
+abbrev pub Fails : {Y : Type 0} → ImageRefusal → Result Y ImageRefusal → Type 0
+Fails NoMemory read = Unit {0}
+Fails why read = read ≡ Err why
+
+-- these documents were read
+pub record AreRead (ns : List Node) (answer : Result Meaning ImageRefusal) (ds : List Doc) : Type 0 where
+  pub live : AreLive ns ds
+  pub nodes : ℕ
+  pub is : answer ≡ Ok (record { documents = plain ns ds; nodes = nodes })
+
+-- the answer of a reader: the documents, the first refusal, or want of memory
+abbrev pub Reads : List Node → Result Meaning ImageRefusal → Result (List Doc) ImageRefusal → Type 0
+Reads ns answer (Ok ds) = AreRead ns answer ds
+Reads ns answer (Err why) = Fails why answer

@@ -1,0 +1,8 @@
+pub mod Fields
+pub mod Image
+pub mod Documents
+pub mod Reads
+pub mod Save
+pub mod Written
+pub mod Marks
+pub mod Rows

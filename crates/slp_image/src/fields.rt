@@ -1,0 +1,80 @@
+//! Fields, read from the front.
+ghost use Rattle.std.specs.Prelude.{◌≡◌, ◌^◌, ◌<◌, IfOk};
+ghost use Rattle.slp_image.specs.Fields.{byte_at, number_at, bytes_at, child_at};
+ghost use Rattle.slp_image.specs.Image.{version_of, version_at};
+ghost use Rattle.slp_image.specs.Reads.{Gives};
+
+use crate::refusal::ImageRefusal;
+use byteorder::{BigEndian, ByteOrder};
+
+// Each image begins with these bytes.
+const MAGIC: [u8; 4] = *b"SLPI";
+
+/// A byte, and the bytes after it.
+pub(crate) fn byte(bytes: &[u8]) -> Result<(u8, &[u8]), ImageRefusal>
+    ensures { Gives (λ x. (x.0, x.1.now)) result (byte_at bytes.now) }
+{
+    match bytes {
+        [] => Err(ImageRefusal::Cut),
+        [b, rest @ ..] => Ok((*b, rest)),
+    }
+}
+
+/// A number of eight bytes.
+pub(crate) fn number(bytes: &[u8]) -> Result<(u64, &[u8]), ImageRefusal>
+    ensures read { Gives (λ x. (x.0, x.1.now)) result (number_at bytes.now) }
+    ensures fits { IfOk result (λ x. x.0 < 2 ^ 64) }
+{
+    if bytes.len() < 8 {
+        return Err(ImageRefusal::Cut);
+    }
+    let (front, rest) = bytes.split_at(8);
+    Ok((BigEndian::read_u64(front), rest))
+}
+
+/// So many bytes.
+pub(crate) fn slice(bytes: &[u8], len: usize) -> Result<(&[u8], &[u8]), ImageRefusal>
+    ensures { Gives (λ x. (x.0.now, x.1.now)) result (bytes_at len bytes.now) }
+{
+    if bytes.len() < len {
+        return Err(ImageRefusal::Cut);
+    }
+    Ok(bytes.split_at(len))
+}
+
+/// The number of an earlier record.
+#[tactic(auto, unfolding(crate::specs::Fields::child_at))]
+pub(crate) fn child(bytes: &[u8], own: usize) -> Result<(usize, &[u8]), ImageRefusal>
+    ensures read { Gives (λ x. (x.0, x.1.now)) result (child_at own bytes.now) }
+    ensures below { IfOk result (λ x. x.0 < own) }
+{
+    let (place, rest) = number(bytes)?;
+    if place >= own as u64 {
+        return Err(ImageRefusal::Child);
+    }
+    Ok((place as usize, rest))
+}
+
+// The version, after the magic.
+#[tactic(auto, unfolding(crate::specs::Image::version_of))]
+fn version_byte(bytes: &[u8]) -> Result<(u8, &[u8]), ImageRefusal>
+    ensures { Gives (λ x. (x.0, x.1.now)) result (version_of bytes.now) }
+{
+    let (version, rest) = byte(bytes)?;
+    if version != 1 && version != 2 {
+        return Err(ImageRefusal::Version);
+    }
+    Ok((version, rest))
+}
+
+/// The version, which is 1 or 2.
+#[tactic(auto, unfolding(crate::specs::Image::version_at))]
+pub(crate) fn version(bytes: &[u8]) -> Result<(u8, &[u8]), ImageRefusal>
+    ensures { Gives (λ x. (x.0, x.1.now)) result (version_at bytes.now) }
+{
+    let (magic, rest) = slice(bytes, 4)?;
+    if magic != MAGIC.as_slice() {
+        return Err(ImageRefusal::Magic);
+    }
+    version_byte(rest)
+}

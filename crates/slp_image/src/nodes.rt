@@ -1,0 +1,127 @@
+//! Records of version 1: bytes and balanced pairs.
+ghost use Rattle.std.specs.Prelude.{◌≡◌, ◌+◌, ◌^◌, ◌<◌, ◌≤◌, List, [], length, get_or, nat_le};
+ghost use Rattle.slp_model.specs.declared.Node.{Node};
+ghost use Rattle.slp_model.specs.Tree.{Leaf, leaves, height};
+ghost use Rattle.slp_model.specs.Nodes.{trees, Grows};
+ghost use Rattle.slp_model.specs.Join.{is_near};
+ghost use Rattle.slp_rebalance.specs.Entries.{entry_trees, AreEntries};
+ghost use Rattle.slp_image.specs.Image.{node_pair, node_at, records_onto};
+ghost use Rattle.slp_image.specs.Reads.{HaveThese, ReadsByte, ReadsRecord, ReadsRecords, cost_of};
+
+use crate::fields::{byte, child};
+use crate::refusal::ImageRefusal;
+use node_store::Store;
+use slp_rebalance::Roots;
+use span_types::Steps;
+use std::sync::ledger::Ledger;
+
+// Whether the heights of two entries differ by at most one.
+fn are_near(roots: &Roots, store: &Store, left: usize, right: usize) -> bool
+    requires live { AreEntries store.now roots.now }
+    requires left { left < length roots.now }
+    requires right { right < length roots.now }
+    ensures { result ≡ is_near (height (get_or (entry_trees store.now roots.now) left (Leaf 0))) (height (get_or (entry_trees store.now roots.now) right (Leaf 0))) }
+{
+    let g = store.height(roots.root(left));
+    let h = store.height(roots.root(right));
+    g <= h + 1 && h <= g + 1
+}
+
+/// Whether the lengths of two entries sum to at most 2^48.
+pub(crate) fn are_short(roots: &Roots, store: &Store, left: usize, right: usize) -> bool
+    requires live { AreEntries store.now roots.now }
+    requires left { left < length roots.now }
+    requires right { right < length roots.now }
+    ensures { result ≡ nat_le (leaves (get_or (entry_trees store.now roots.now) left (Leaf 0)) + leaves (get_or (entry_trees store.now roots.now) right (Leaf 0))) (2 ^ 48) }
+{
+    let m = store.len(roots.root(left));
+    let n = store.len(roots.root(right));
+    m + n <= 1 << 48
+}
+
+/// A byte's record, after its kind.
+pub(crate) fn byte_entry<'a>(
+    bytes: &'a [u8],
+    roots: &mut Roots,
+    store: &mut Store,
+) -> Result<&'a [u8], ImageRefusal>
+    requires live { AreEntries store.old roots.old }
+    ensures grows { Grows store.old store.new 0 0 }
+    ensures live { AreEntries store.new roots.new }
+    ensures read { ReadsByte (λ rest. rest.now) bytes.now (entry_trees store.old roots.old) (entry_trees store.new roots.new) result }
+{
+    let (b, rest) = byte(bytes)?;
+    roots.byte(store, b)?;
+    Ok(rest)
+}
+
+// A pair's record, after its kind.
+fn pair_entry<'a, L: Ledger>(
+    bytes: &'a [u8],
+    roots: &mut Roots,
+    store: &mut Store,
+    pairs: &mut Steps<L>,
+) -> Result<&'a [u8], ImageRefusal>
+    requires live { AreEntries store.old roots.old }
+    ensures grows { Grows store.old store.new pairs.old pairs.new }
+    ensures live { AreEntries store.new roots.new }
+    ensures read { (ns : List Node) → trees ns ≡ entry_trees store.old roots.old → ReadsRecord HaveThese (λ rest. rest.now) ns (node_pair ns bytes.now) (entry_trees store.new roots.new) result }
+    ensures cost { (ns : List Node) → trees ns ≡ entry_trees store.old roots.old → pairs.new ≤ pairs.old + cost_of (node_pair ns bytes.now) }
+{
+    let own = roots.count();
+    let (left, after) = child(bytes, own)?;
+    let (right, rest) = child(after, own)?;
+    if !are_near(roots, store, left, right) {
+        return Err(ImageRefusal::Balance);
+    }
+    if !are_short(roots, store, left, right) {
+        return Err(ImageRefusal::Length);
+    }
+    roots.pair(store, left, right, pairs)?;
+    Ok(rest)
+}
+
+// A record.
+fn node_entry<'a, L: Ledger>(
+    bytes: &'a [u8],
+    roots: &mut Roots,
+    store: &mut Store,
+    pairs: &mut Steps<L>,
+) -> Result<&'a [u8], ImageRefusal>
+    requires live { AreEntries store.old roots.old }
+    ensures grows { Grows store.old store.new pairs.old pairs.new }
+    ensures live { AreEntries store.new roots.new }
+    ensures read { (ns : List Node) → trees ns ≡ entry_trees store.old roots.old → ReadsRecord HaveThese (λ rest. rest.now) ns (node_at ns bytes.now) (entry_trees store.new roots.new) result }
+    ensures cost { (ns : List Node) → trees ns ≡ entry_trees store.old roots.old → pairs.new ≤ pairs.old + cost_of (node_at ns bytes.now) }
+{
+    let (kind, rest) = byte(bytes)?;
+    if kind == 0 {
+        return byte_entry(rest, roots, store);
+    }
+    if kind == 1 {
+        return pair_entry(rest, roots, store, pairs);
+    }
+    Err(ImageRefusal::Kind)
+}
+
+/// So many records. Each pair takes one step.
+pub(crate) fn node_entries<'a, L: Ledger>(
+    bytes: &'a [u8],
+    count: u64,
+    roots: &mut Roots,
+    store: &mut Store,
+    pairs: &mut Steps<L>,
+) -> Result<&'a [u8], ImageRefusal>
+    requires { roots.old ≡ [] }
+    ensures grows { Grows store.old store.new pairs.old pairs.new }
+    ensures live { AreEntries store.new roots.new }
+    ensures read { ReadsRecords HaveThese (λ rest. rest.now) (records_onto node_at count [] 0 bytes.now).answer (entry_trees store.new roots.new) result }
+    ensures cost { pairs.new ≤ pairs.old + (records_onto node_at count [] 0 bytes.now).cost }
+{
+    let mut rest = bytes;
+    for _ in 0..count {
+        let after = node_entry(rest, roots, store, pairs)?;
+        rest = after;
+    }
+    Ok(rest)
+}

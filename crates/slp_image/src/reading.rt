@@ -1,0 +1,81 @@
+//! Documents, read from the bytes of an image.
+ghost use Rattle.std.specs.Prelude.{◌≡◌, ◌+◌, ◌≤◌, IfOk};
+ghost use Rattle.slp_model.specs.Nodes.{Grows};
+ghost use Rattle.slp_image.specs.Image.{image, contents, node_at, text_at};
+ghost use Rattle.slp_image.specs.Documents.{HaveTrees, Reads};
+ghost use Rattle.slp_image.specs.Reads.{ReadsNodes, ReadsTexts};
+
+use crate::documents::documents;
+use crate::fields::{number, version};
+use crate::nodes::node_entries;
+use crate::refusal::ImageRefusal;
+use crate::texts::text_entries;
+use doc_book::Docs;
+use node_store::Store;
+use slp_rebalance::Roots;
+use span_types::Steps;
+use std::alloc::Global;
+use std::sync::ledger::Ledger;
+
+// What follows the version, in version 1.
+fn read_nodes<L: Ledger>(
+    alloc: Global,
+    bytes: &[u8],
+    store: &mut Store,
+    pairs: &mut Steps<L>,
+) -> Result<Docs, ImageRefusal>
+    ensures grows { Grows store.old store.new pairs.old pairs.new }
+    ensures read { ReadsNodes store.new (contents node_at bytes.now).answer result }
+    ensures cost { pairs.new ≤ pairs.old + (contents node_at bytes.now).cost }
+{
+    let (count, after) = number(bytes)?;
+    let mut roots = Roots::new(alloc);
+    let rest = node_entries(after, count, &mut roots, store, pairs)?;
+    documents(alloc, rest, &roots)
+}
+
+// What follows the version, in version 2.
+fn read_texts<L: Ledger>(
+    alloc: Global,
+    bytes: &[u8],
+    store: &mut Store,
+    pairs: &mut Steps<L>,
+) -> Result<Docs, ImageRefusal>
+    ensures grows { Grows store.old store.new pairs.old pairs.new }
+    ensures read { ReadsTexts store.new (contents text_at bytes.now).answer result }
+    ensures cost { pairs.new ≤ pairs.old + (contents text_at bytes.now).cost }
+{
+    let (count, after) = number(bytes)?;
+    let mut roots = Roots::new(alloc);
+    let rest = text_entries(after, count, &mut roots, store, pairs)?;
+    documents(alloc, rest, &roots)
+}
+
+/// The documents of an image of version 1 or 2, whose nodes are added to the store.
+///
+/// In version 1 each document's tree is that of its root in the image. In version 2 texts are
+/// balanced as they come. Each pair of version 1 is one pair call. A pair of version 2 takes at
+/// most 205, and a run whose count has d binary digits at most 206·(d-1). Memory is taken for
+/// records and documents as they come, and never on the word of a count.
+///
+/// # Errors
+///
+/// The first fault from the front, field by field, or `NoMemory`. The store may then have more
+/// nodes.
+pub fn read<L: Ledger>(
+    alloc: Global,
+    bytes: &[u8],
+    store: &mut Store,
+    pairs: &mut Steps<L>,
+) -> Result<Docs, ImageRefusal>
+    ensures grows { Grows store.old store.new pairs.old pairs.new }
+    ensures read { Reads store.new (image bytes.now).answer result }
+    ensures trees { IfOk result (λ docs. HaveTrees bytes.now store.new docs) }
+    ensures cost { pairs.new ≤ pairs.old + (image bytes.now).cost }
+{
+    let (version, rest) = version(bytes)?;
+    if version == 1 {
+        return read_nodes(alloc, rest, store, pairs);
+    }
+    read_texts(alloc, rest, store, pairs)
+}
