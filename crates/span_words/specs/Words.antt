@@ -1,0 +1,73 @@
+-- The command line: two options, each with one whole number in its range.
+use Rattle.std.specs.Prelude.{◌≡◌, ℕ, List, [], ◌∷◌, ◌++◌, true, Some, None, Option, codes, pos, ◌≤◌, ◌⊎◌}
+use Rattle.std.specs.Io.{StartsWith}
+use Rattle.std.specs.Str.Parse.{IsNumeral, digits_value, without_leading_plus}
+use Rattle.clap.specs.Words.{App, Rule, Text, new_app, new_rule, with_rule, fault_of, matches_of, first_of}
+use Rattle.clap.specs.Simple.{on_top}
+use Rattle.clap.specs.declared.builder.ArgAction.TheVariants.{Set}
+use Rattle.clap.specs.declared.builder.value_parser.ValueParser.TheVariants as vp
+
+-- an option `--NAME` with one number from 1 to `most`
+abbrev pub number_rule : Text → ℕ → Rule
+number_rule name most = record (new_rule name) {
+  long = Some name;
+  action = Some Set;
+  parser = Some (vp.Signed (pos 1) (pos most));
+}
+
+-- the command as clap reads it, over the words after the program's own name
+abbrev pub spanbase_app : App
+spanbase_app = with_rule (with_rule (on_top (λ top. record top { no_binary_name = true }) (new_app (codes "spanbase"))) (number_rule (codes "workers") 64)) (number_rule (codes "demo") 46)
+
+-- clap takes the words
+abbrev pub ClapTakes : List Text → Type 0
+ClapTakes words = fault_of spanbase_app words ≡ []
+
+-- the text that clap keeps for an option
+abbrev pub text_of : Text → List Text → Option Text
+text_of name words = first_of name (matches_of spanbase_app words)
+
+-- the text is this number, from 1 to `most`
+pub record IsNumber (most : ℕ) (text : Text) (number : ℕ) : Type 0 where
+  pub digits : IsNumeral 10 (without_leading_plus text)
+  pub value : number ≡ digits_value 10 (without_leading_plus text)
+  pub least : 1 ≤ number
+  pub greatest : number ≤ most
+
+-- the number that an option's text asks for: none where the option is left out
+abbrev pub AsksFor : ℕ → Option Text → Option ℕ → Type 0
+AsksFor most None number = number ≡ None
+AsksFor most (Some text) None = ⊥
+AsksFor most (Some text) (Some number) = IsNumber most text number
+
+-- the number, or a default where the option is left out
+abbrev pub AsksForOr : ℕ → ℕ → Option Text → ℕ → Type 0
+AsksForOr most default None number = number ≡ default
+AsksForOr most default (Some text) number = IsNumber most text number
+
+-- the words ask for this number of workers, and perhaps for this demo
+pub record Words (words : List Text) (workers : ℕ) (demo : Option ℕ) : Type 0 where
+  pub taken : ClapTakes words
+  pub workers_asked : AsksForOr 64 1 (text_of (codes "workers") words) workers
+  pub demo_asked : AsksFor 46 (text_of (codes "demo") words) demo
+
+-- the words are refused
+abbrev pub Refused : List Text → Type 0
+Refused words = (workers : ℕ) (demo : Option ℕ) → Words words workers demo → ⊥
+
+-- words that are taken have one reading
+abbrev pub OneReading : Type 0
+OneReading = (words : List Text) (workers more : ℕ) (demo other : Option ℕ) → Words words workers demo → Words words more other → (workers ≡ more) × (demo ≡ other)
+
+-- words that clap takes have a reading
+abbrev pub TakenHaveReading : Type 0
+TakenHaveReading = (words : List Text) → ClapTakes words → (workers : ℕ) × (demo : Option ℕ) × Words words workers demo
+
+abbrev pub usage_line : List ℕ
+usage_line = codes "spanbase: Usage" ++ 10 ∷ []
+
+-- what is told of the words: nothing where they are taken, and else a text that begins with its line
+abbrev pub TellsUsage : List Text → List ℕ → Type 0
+TellsUsage words text =
+    ((workers : ℕ) × (demo : Option ℕ) × Words words workers demo × (text ≡ []))
+    ⊎ (Refused words × StartsWith text usage_line)

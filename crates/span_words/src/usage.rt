@@ -1,0 +1,51 @@
+//! The text on words that are refused.
+ghost use Rattle.std.specs.Prelude.{IfOk, map, string_bytes};
+ghost use Rattle.std.specs.Io.{StartsWith};
+ghost use Rattle.span_words.specs.Words.{usage_line, TellsUsage};
+
+use crate::command::matches_of;
+use crate::words::{WordsRefusal, read_words};
+use clap::error::ErrorKind;
+use span_types::{ByteList, NoMemory};
+use std::alloc::Global;
+
+/// What `clap` says of words, in lines: nothing where it takes them.
+fn advice(alloc: Global, words: &[String]) -> Result<String, NoMemory> {
+    match matches_of(alloc, words) {
+        Ok(_) => Ok(String::new(alloc)),
+        Err(error) => {
+            if error.kind() == ErrorKind::OutOfMemory {
+                return Err(NoMemory);
+            }
+            Ok(error.to_string(alloc)?)
+        }
+    }
+}
+
+/// The line `spanbase: Usage`, and a text below it.
+fn below_usage(alloc: Global, below: &[u8]) -> Result<ByteList, NoMemory>
+    ensures { IfOk result (λ text. StartsWith text usage_line) }
+{
+    let mut text = b"spanbase: Usage\n".to_vec(alloc)?;
+    text.extend_from_slice(below)?;
+    ByteList::new(alloc, &text)
+}
+
+/// The text that tells a user why the words after the program's own name are refused, and what words are taken:
+/// the line `spanbase: Usage`, then the text of `clap`. It has no bytes where the words are taken.
+///
+/// # Errors
+///
+/// `NoMemory` where memory for the text wasn't found.
+pub fn usage_text(alloc: Global, words: &[String]) -> Result<ByteList, NoMemory>
+    ensures { IfOk result (λ text. TellsUsage (map string_bytes words.now) text) }
+{
+    match read_words(alloc, words) {
+        Ok(_) => ByteList::new(alloc, b""),
+        Err(WordsRefusal::NoMemory) => Err(NoMemory),
+        Err(WordsRefusal::Usage) => {
+            let advice = advice(alloc, words)?;
+            below_usage(alloc, advice.as_bytes())
+        }
+    }
+}

@@ -1,0 +1,70 @@
+//! The numbers that the words ask for.
+ghost use Rattle.std.specs.Prelude.{◌≡◌, IfOk, IfErr, OnErr, option_map, map, string_bytes};
+ghost use Rattle.span_words.specs.Words.{AsksFor, Refused, Words};
+
+use crate::command::matches_of;
+use clap::error::ErrorKind;
+use std::alloc::Global;
+use thiserror::Error;
+
+/// What the words ask for.
+#[derive(Clone, Copy, Debug, PartialEq, Eq)]
+pub struct Options {
+    /// The number of workers, from 1 to 64: 1 where the words don't say.
+    pub workers: u8,
+    /// The number of the demo script that is run in place of standard input, from 1 to 46.
+    pub demo: Option<u8>,
+}
+
+/// Why the words weren't read.
+#[derive(Clone, Copy, Debug, PartialEq, Eq, Error)]
+pub enum WordsRefusal {
+    /// The command doesn't take the words.
+    #[error("usage")]
+    Usage,
+    /// Memory for reading them wasn't found.
+    #[error("no memory")]
+    NoMemory,
+}
+
+/// The number of an option, where the words have the option.
+fn number_of(text: Option<&str>, most: u8) -> Result<Option<u8>, WordsRefusal>
+    ensures ok { IfOk result (λ number. AsksFor most (option_map (λ s. s.now) text.entry) number) }
+    ensures err { OnErr result ((number : _) → AsksFor most (option_map (λ s. s.now) text.entry) number → ⊥) }
+    ensures usage { IfErr result (λ why. why ≡ WordsRefusal.Usage) }
+{
+    let Some(text) = text else {
+        return Ok(None);
+    };
+    let Ok(number) = text.parse::<u8>() else {
+        return Err(WordsRefusal::Usage);
+    };
+    if number < 1 || number > most {
+        return Err(WordsRefusal::Usage);
+    }
+    Ok(Some(number))
+}
+
+/// What the words after the program's own name ask for, in time linear in their length.
+///
+/// # Errors
+///
+/// - `Usage` exactly where the command refuses the words, `--help` among them.
+/// - `NoMemory` where memory for reading them wasn't found.
+pub fn read_words(alloc: Global, words: &[String]) -> Result<Options, WordsRefusal>
+    ensures taken { IfOk result (λ options. Words (map string_bytes words.now) options.workers options.demo) }
+    ensures refused { IfErr result (λ why. why ≡ WordsRefusal.Usage → Refused (map string_bytes words.now)) }
+{
+    match matches_of(alloc, words) {
+        Ok(matches) => {
+            let workers = number_of(matches.get_str("workers"), 64)?;
+            let demo = number_of(matches.get_str("demo"), 46)?;
+            Ok(Options {
+                workers: workers.unwrap_or(1),
+                demo,
+            })
+        }
+        Err(error) if error.kind() == ErrorKind::OutOfMemory => Err(WordsRefusal::NoMemory),
+        Err(_) => Err(WordsRefusal::Usage),
+    }
+}
