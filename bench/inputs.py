@@ -1,0 +1,254 @@
+#!/usr/bin/env python3
+"""Makes the texts and scripts of the benchmark in a folder: inputs.py [--quick] [--huge] FOLDER
+
+All comes from seeded generators, so it is the same at every run. Without options the log has 1 and 16 MB; --quick makes
+small inputs alone, and --huge adds the log of 256 MB.
+"""
+import argparse
+import pathlib
+import random
+
+MEGABYTE = 1 << 20
+
+# ---------------------------------------------------------------------------------------------------------------- texts
+
+PATH_WORDS = (
+    "index home about news item cart user login search static images css js api v1 v2 help faq blog post archive tag "
+    "feed admin status health metrics orders invoice report export list detail edit new"
+).split()
+
+PLATFORMS = (
+    "X11; Linux x86_64",
+    "Windows NT 10.0; Win64; x64",
+    "Macintosh; Intel Mac OS X 10_15_7",
+    "iPhone; CPU iPhone OS 17_1",
+)
+ENGINES = (("Gecko/20100101", "Firefox"), ("AppleWebKit/537.36 (KHTML, like Gecko)", "Chrome"))
+AGENTS = [
+    f"Mozilla/5.0 ({platform}) {engine} {browser}/{version}.0"
+    for platform in PLATFORMS
+    for engine, browser in ENGINES
+    for version in (118, 119, 120)
+] + ["curl/8.4.0", "Googlebot/2.1 (+http://www.google.com/bot.html)", "python-requests/2.31", "kube-probe/1.28"]
+
+STATUSES = ((0.86, "200"), (0.93, "304"), (0.96, "301"), (0.985, "404"), (0.992, "403"), (0.997, "500"), (1.0, "503"))
+
+
+def often(rng, many):
+    """A number below `many`, small ones far more often."""
+    return min(int(many * rng.random() ** 3), many - 1)
+
+
+def web_log(size, seed=1):
+    """A web server's log in the combined format. Hosts, paths and agents repeat by a power law."""
+    rng = random.Random(seed)
+    hosts = [".".join(str(rng.randint(1, 254)) for _ in range(4)) for _ in range(2000)]
+    ends = lambda: rng.choice(["", ".html", f"?id={rng.randint(1, 9999)}"])
+    paths = ["/" + "/".join(rng.choice(PATH_WORDS) for _ in range(rng.randint(1, 4))) + ends() for _ in range(3000)]
+    lengths = [str(rng.randint(100, 90000)) for _ in range(3000)]
+    lines, have, second = [], 0, 0
+    while have < size:
+        second += rng.random() < 0.3
+        path = often(rng, 3000)
+        drawn = rng.random()
+        status = next(status for bound, status in STATUSES if drawn < bound)
+        when = f"{1 + second // 86400 % 30:02}/Nov/2026:{second // 3600 % 24:02}:{second // 60 % 60:02}:{second % 60:02}"
+        method = "GET" if rng.random() < 0.92 else "POST"
+        length = lengths[path] if status == "200" else "0"
+        referrer = "-" if rng.random() < 0.7 else "https://example.org" + paths[often(rng, 3000)]
+        agent = AGENTS[often(rng, len(AGENTS))]
+        line = f'{hosts[often(rng, 2000)]} - - [{when} +0000] "{method} {paths[path]} HTTP/1.1" {status} {length} "{referrer}" "{agent}"\n'
+        lines.append(line)
+        have += len(line)
+    return "".join(lines)[:size].encode()
+
+
+def prose(size, seed=2):
+    """Sentences of a made language of 4,000 words in lines of about 80 bytes, and its words."""
+    rng = random.Random(seed)
+    syllables = [first + second for first in "bcdfghklmnprstvw" for second in "aeiou"]
+    words = ["".join(rng.choice(syllables) for _ in range(rng.randint(1, 4))) for _ in range(4000)]
+    parts, have, column = [], 0, 0
+    while have < size:
+        part = words[often(rng, 4000)] + (". " if rng.random() < 0.08 else " ")
+        column += len(part)
+        if column > 80:
+            part, column = part[:-1] + "\n", 0
+        parts.append(part)
+        have += len(part)
+    return "".join(parts)[:size].encode(), words
+
+
+def genome(size, seed=4):
+    """Letters ACGT, nearly a third of them in elements of 300 letters that come again and again."""
+    rng = random.Random(seed)
+    elements = ["".join(rng.choice("ACGT") for _ in range(300)) for _ in range(40)]
+    piece = lambda: rng.choice(elements) if rng.random() < 0.3 else "".join(rng.choices("ACGT", k=300))
+    return "".join(piece() for _ in range(size // 300 + 1))[:size].encode()
+
+
+# -------------------------------------------------------------------------------------------------------------- scripts
+
+# name, formula, and the variables
+LOG_QUERIES = [
+    ("t0", r'.*" 500 [^\n]*curl.*', ""),
+    ("p1", r'.*"GET $p{[^ "\n]*} HTTP.*', "p"),
+    ("h1", r'(.*\n)?$h{[0-9.]+} [^\n]*" 404 [^\n]*\n.*', "h"),
+    ("s2", r'.*"[A-Z]+ $p{[^ "\n]*} HTTP/1.1" $s{5[0-9][0-9]} .*', "ps"),
+    ("x3", r'(.*\n)?$h{[0-9.]+} - - \[[^\]\n]*\] "POST $p{[^ "\n]*} HTTP/1.1" $s{[0-9]+} .*', "hps"),
+]
+
+
+def cursor(variables, place):
+    """A tuple of empty spans at one place."""
+    return ",".join(f"{variable}=[{place},{place})" for variable in variables) or "()"
+
+
+def log_script(file, size):
+    """Loads a log, asks five queries with 0 to 3 variables, pages through the answers, and edits and asks again."""
+    lines = [f"load d {file}"]
+    lines += [f"query {name} {formula}" for name, formula, _ in LOG_QUERIES]
+    lines += ["test t0 d"]
+    lines += [f"list {name} d limit 10000" for name, _, variables in LOG_QUERIES if variables]
+    for part in range(1, 20):
+        at = size * part // 20
+        lines += [f"list {name} d after {cursor(found, at)} limit 500" for name, _, found in LOG_QUERIES if found]
+    lines += ["text e inserted line without fields"]
+    for part in range(1, 50):
+        at = size * part // 50
+        lines += [
+            f"let d = insert(delete(d,{at},{at + 57}),e,{at})",
+            f"list p1 d after {cursor('p', at)} limit 100",
+            f"list x3 d after {cursor('hps', at)} limit 20",
+            "test t0 d",
+        ]
+    return lines + ["list s2 d limit 10000", "names"]
+
+
+def versions_script(file, size, words, count):
+    """Keeps many versions of one text, each a few edits from the one before, and asks in some of them."""
+    rng = random.Random(3)
+    lines = [
+        f"load v0 {file}",
+        f"query w .*[ \\n]$w{{{words[70]}}}[ \\n.].*",
+        r"query s .*\. $s{[a-z]+} $t{[a-z]+} [^.\n]*\..*",
+        r"query c (.*\n)?$l{ADDED [a-z]+ line}\n.*",
+        f"query z .*{words[900]} {words[901]}.*",
+    ]
+    for version in range(1, count + 1):
+        old, new = f"v{version - 1}", f"v{version}"
+        lines += [f"text a {rng.choice(words)} {rng.choice(words)} ", f"text b ADDED {words[version % 4000]} line"]
+        first, second, third = sorted(rng.randint(1, size * 9 // 10) for _ in range(3))
+        edits = [
+            f"insert({old},a,{first})",
+            f"delete({old},{first},{first + rng.randint(1, 40)})",
+            f"copy({old},{first},{first + rng.randint(1, 3000)},{second})",
+            f"insert(delete(insert({old},a,{first}),{second},{second + 12}),a,{third})",
+        ]
+        lines += [f"let {new} = {rng.choice(edits)}"]
+        if version % 10 == 0:
+            lines += [f"let {new} = insert(concat({new},b),b,{second})"]
+        if version % 50 == 0:
+            lines += [f"list w {new} limit 200", f"list c {new} limit 50"]
+            lines += [f"list s {new} after {cursor('st', second)} limit 100"]
+    last = f"v{count}"
+    lines += [f"test z {last}"] + [f"list {name} {last} limit 10000" for name in "wsc"]
+    lines += [f"drop v{version}" for version in range(count // 2)]
+    return lines + [f"list w {last} limit 10000", "names"]
+
+
+# a start codon, any codons that aren't stops, and a stop
+CODON = "(([ACG][ACGT][ACGT])|T(([CGT][ACGT])|(A[CT])|(G[CGT])))"
+
+
+def genome_script(file, size, edits):
+    """Doubles a genome twice, makes many point mutations and copies, and lists motifs between them."""
+    rng = random.Random(5)
+    lines = [f"load g {file}", "let g = concat(g,g)", "let g = concat(g,g)"]
+    lines += [f"text {letter} {letter}" for letter in "ACGT"]
+    lines += [
+        "query motif .*$m{TATA[AT]A[AT]}.*",
+        f"query orf .*$o{{ATG([ACG][ACGT][ACGT]){CODON}{CODON}(TAA|TAG|TGA)}}.*",
+        "query pair .*$x{GAATTC}[ACGT][ACGT]?[ACGT]?[ACGT]?$y{GGATCC}.*",
+        "query none .*(ACGT)(ACGT)(ACGT)(ACGT).*",
+        "list motif g limit 10000",
+    ]
+    anywhere = lambda: rng.randint(1, 4 * size - 10)
+    for edit in range(edits):
+        at, kind = anywhere(), rng.random()
+        if kind < 0.8:
+            lines += [f"let g = insert(delete(g,{at},{at + 1}),{rng.choice('ACGT')},{at})"]
+        elif kind < 0.9:
+            lines += [f"let g = delete(g,{at},{at + 1})"]
+        else:
+            lines += [f"let g = copy(g,{at},{at + rng.randint(20, 2000)},{anywhere()})"]
+        if edit % (edits // 20) == 0:
+            lines += [f"list motif g after {cursor('m', at)} limit 100", f"list pair g after {cursor('xy', at)} limit 20"]
+    return lines + ["test none g"] + [f"list {name} g limit 10000" for name in ("motif", "orf", "pair")] + ["names"]
+
+
+def long_script():
+    """Texts of up to 2^48 bytes by doubling: first answers, pages from all over, and edits between."""
+    rng = random.Random(7)
+    lines = ["text d ab", "text c the quick brown fox; jumps=17 over the lazy dog."]
+    lines += [
+        "query q .*$x{ba}.*",
+        "query k .*; $k{[a-z]+}=$v{[0-9]+} .*",
+        "query t .*zz.*",
+        "query a3 .*$x{a}b$y{a}b$z{a}.*",
+    ]
+    lines += ["let d = concat(d,d)"] * 47 + ["let c = concat(c,c)"] * 42
+    lines += ["test t d", "list q d limit 10000", "list k c limit 10000", "list a3 d limit 10000"]
+    for part in range(1, 100):
+        at = (part << 41) + part
+        lines += [f"list q d after x=[{at},{at + 1}) limit 100", f"has q d x=[{at},{at + 2})"]
+        lines += [f"list k c after {cursor('kv', part * 2_000_000_000_000)} limit 20"]
+    middle = 1 << 47
+    lines += [f"let d = extract(d,1,{(1 << 48) - (1 << 40)})"]
+    for _ in range(300):
+        at = rng.randint(1, middle)
+        lines += [f"let d = copy(delete(d,{at},{at + 3}),{at},{at + 3},{rng.randint(1, middle)})"]
+        lines += [f"list q d after {cursor('x', at)} limit 20"]
+    return lines + ["list a3 d limit 10000", "test t d", "names"]
+
+
+# ----------------------------------------------------------------------------------------------------------------- main
+
+
+def make(folder, quick, huge):
+    """Makes all inputs in a folder. A log that is there is kept, since it takes longest."""
+    folder.mkdir(parents=True, exist_ok=True)
+    logs = {"log1m": MEGABYTE}
+    if not quick:
+        logs["log16m"] = 16 * MEGABYTE
+    if huge:
+        logs["log256m"] = 256 * MEGABYTE
+    for name, size in logs.items():
+        file = folder / name
+        if not file.exists() or file.stat().st_size != size:
+            file.write_bytes(web_log(size))
+        write_script(folder / f"{name}.script", log_script(name, size))
+    size, count, edits = (MEGABYTE // 8, 100, 1000) if quick else (MEGABYTE, 1000, 20000)
+    text, words = prose(size)
+    (folder / "prose").write_bytes(text)
+    write_script(folder / "versions.script", versions_script("prose", size, words, count))
+    (folder / "genome").write_bytes(genome(size))
+    write_script(folder / "genome.script", genome_script("genome", size, edits))
+    write_script(folder / "long.script", long_script())
+
+
+def write_script(file, lines):
+    file.write_text("".join(line + "\n" for line in lines))
+
+
+def main():
+    reader = argparse.ArgumentParser(description=__doc__, formatter_class=argparse.RawDescriptionHelpFormatter)
+    reader.add_argument("--quick", action="store_true")
+    reader.add_argument("--huge", action="store_true")
+    reader.add_argument("folder", type=pathlib.Path)
+    asked = reader.parse_args()
+    make(asked.folder, asked.quick, asked.huge)
+
+
+if __name__ == "__main__":
+    main()
