@@ -1,5 +1,5 @@
 -- What the parts of a command say of the whole.
-use Rattle.std.proofs.Common.{◌≡◌, ◌⊎◌, inl, inr, ℕ, ◌+◌, ◌*◌, ◌≤◌, List, [], ◌∷◌, ◌++◌, length, Option, Some, None, Result, Ok, Err, refl, sym, ap, subst, ◌∙◌, arith, take, drop, zero, suc, codes, append_assoc}
+use Rattle.std.proofs.Common.{◌≡◌, ◌⊎◌, inl, inr, ℕ, ◌+◌, ◌*◌, ◌≤◌, List, [], ◌∷◌, ◌++◌, length, Option, Some, None, Result, Ok, Err, refl, sym, ap, subst, ◌∙◌, arith, drop, zero, suc, codes, append_assoc}
 use Rattle.span_types.specs.Fibonacci.{height_limit}
 use Rattle.std.specs.Prelude.{option_map, slice_get, ok_or, IsSome, OnOk, OnErr, IfOk, IfErr}
 use Rattle.doc_book.specs.declared.Missing.{Missing}
@@ -16,101 +16,105 @@ use Rattle.edit_expr.specs.declared.refusal.EditRefusal.TheVariants as edit
 use Rattle.edit_expr.specs.Expressions.{ExprReads}
 use Rattle.edit_expr.specs.Eval.{Outcome, eval, greatest, operations}
 use Rattle.edit_expr.specs.Values.{plain, text_at}
-use Rattle.script_syntax.specs.Syntax.{LineText}
 use Rattle.script_syntax.specs.declared.form.Command.{Command}
 use Rattle.script_syntax.specs.declared.form.Command.TheVariants as form
 use Rattle.report_text.specs.Reply.{refusal_text}
 use Rattle.report_text.specs.declared.refusal.Refusal.{Refusal}
 use Rattle.report_text.specs.declared.refusal.Refusal.TheVariants.{Syntax, NoSuchDocument}
-use Rattle.span_run.specs.State.{State, World, world, put, value_of, taken_out, with_documents}
+use Rattle.span_types.specs.Query.{Query}
+use Rattle.span_run.specs.State.{World, Documents, Named, stated, world, put, value_of, taken_out}
 use Rattle.span_run.specs.Held.{state_of}
-use Rattle.span_run.specs.Replies.{entry_text, names_text, given_text, ok_text, shown_range, IsEditRefusal}
+use Rattle.span_run.specs.Replies.{entry_text, names_text, ok_text, shown_range}
 use Rattle.span_run.specs.Shown.{Assigns, IsDenied, IsShown}
-use Rattle.span_run.specs.Allowance.{Allowance, Counters, counters, no_steps, edit_limit, load_limit, IsPaid, Pays, PaysPart, PaysFor, PaysForPart}
-use Rattle.span_run.specs.Step.{Carries, Finishes, Halts, IsSingle, IsUnbuilt, Step}
+use Rattle.span_run.specs.Allowance.{Counters, counters, no_steps, edit_limit, load_limit, IsPaid, PaysFor, PaysForPart}
+use Rattle.span_run.specs.Step.{Carries}
 use Rattle.span_run.specs.declared.told.Told.{Told}
-use Rattle.span_run.specs.declared.told.Told.TheVariants.{Quiet, Accepted, Refused}
-use Rattle.span_run.proofs.HeldLemmas.{value_of-plain, state_of-taken_out}
+use Rattle.span_run.specs.declared.told.Told.TheVariants.{Accepted, Refused}
+use Rattle.span_run.proofs.HeldLemmas.{value_of-plain, plain-taken_out}
 
--- an assignment, seen from an equal state and with an equal text
-pub assigned_after : (old mid new : State) (number : ℕ) (name x y : List ℕ) (told : Told) (reply : List ℕ) → mid ≡ old → x ≡ y
+-- an assignment, seen from equal documents and with an equal text
+pub assigned_after : (old mid new : Documents) (number : ℕ) (name x y : List ℕ) (told : Told) (reply : List ℕ) → mid ≡ old → x ≡ y
     → Assigns mid number name (Ok x) told reply new → Assigns old number name (Ok y) told reply new
 assigned_after old mid new number name x y told reply same is h =
-    subst (λ (s : State). Assigns s number name (Ok y) told reply new) same (subst (λ (t : List ℕ). Assigns mid number name (Ok t) told reply new) is h)
+    subst (λ (s : Documents). Assigns s number name (Ok y) told reply new) same (subst (λ (t : List ℕ). Assigns mid number name (Ok t) told reply new) is h)
 
 -- the same of any outcome that is this text
-pub assigned_value : (old mid new : State) (number : ℕ) (name x : List ℕ) (o : Outcome) (told : Told) (reply : List ℕ) → mid ≡ old → o ≡ Ok x
+pub assigned_value : (old mid new : Documents) (number : ℕ) (name x : List ℕ) (o : Outcome) (told : Told) (reply : List ℕ) → mid ≡ old → o ≡ Ok x
     → Assigns mid number name (Ok x) told reply new → Assigns old number name o told reply new
 assigned_value old mid new number name x o told reply same is h =
-    subst (λ (t : Outcome). Assigns old number name t told reply new) (sym is) (subst (λ (s : State). Assigns s number name (Ok x) told reply new) same h)
+    subst (λ (t : Outcome). Assigns old number name t told reply new) (sym is) (subst (λ (s : Documents). Assigns s number name (Ok x) told reply new) same h)
 
-pub assigned_refusal : (old new : State) (number : ℕ) (name : List ℕ) (o : Outcome) (why : EditRefusal) (told : Told) (reply : List ℕ) → new ≡ old → (why ≡ edit.NoMemory) ⊎ (o ≡ Err why)
+pub assigned_refusal : (old new : Documents) (number : ℕ) (name : List ℕ) (o : Outcome) (why : EditRefusal) (told : Told) (reply : List ℕ) → new ≡ old → (why ≡ edit.NoMemory) ⊎ (o ≡ Err why)
     → IsDenied number why told reply → Assigns old number name o told reply new
 assigned_refusal old new number name o why told reply same (inl none) h =
     let denied = subst (λ (w : EditRefusal). IsDenied number w told reply) none h in absurd denied.2
 assigned_refusal old new number name o why told reply same (inr is) h =
     subst (λ (t : Outcome). Assigns old number name t told reply new) (sym is) (h, same)
 
-pub text_carries : (old new : State) (number : ℕ) (name bytes : List ℕ) (told : Told) (reply : List ℕ) → Assigns old number name (Ok bytes) told reply new
-    → (files : Option Files) → Carries (world old files) number (form.Text name bytes) told reply (world new files)
-text_carries old new number name bytes told reply h files =
-    subst (λ (t : Told). Carries (world old files) number (form.Text name bytes) t reply (world new files)) (sym h.0.0)
-    (h.0.1, ap (λ (s : State). world s files) h.1)
+-- other documents beside the same queries and files
+pub only_documents : (old new : Documents) (queries : Named Query) (files : Option Files) → new ≡ old → world (stated new queries) files ≡ world (stated old queries) files
+only_documents old new queries files same = ap (λ (d : Documents). world (stated d queries) files) same
 
-pub let_carries : (old new : State) (number : ℕ) (name expr : List ℕ) (e : Expr) (told : Told) (reply : List ℕ) → ExprReads expr e → Assigns old number name (eval old.documents e) told reply new
-    → (files : Option Files) → Carries (world old files) number (form.LetDoc name expr) told reply (world new files)
-let_carries old new number name expr e told reply reads h files = at (eval old.documents e) refl h
+pub text_carries : (old new : Documents) (number : ℕ) (name bytes : List ℕ) (told : Told) (reply : List ℕ) → Assigns old number name (Ok bytes) told reply new
+    → (queries : Named Query) (files : Option Files) → Carries (world (stated old queries) files) number (form.Text name bytes) told reply (world (stated new queries) files)
+text_carries old new number name bytes told reply h queries files =
+    subst (λ (t : Told). Carries (world (stated old queries) files) number (form.Text name bytes) t reply (world (stated new queries) files)) (sym h.0.0)
+    (h.0.1, only_documents (put old name bytes) new queries files h.1)
+
+pub let_carries : (old new : Documents) (number : ℕ) (name expr : List ℕ) (e : Expr) (told : Told) (reply : List ℕ) → ExprReads expr e → Assigns old number name (eval old e) told reply new
+    → (queries : Named Query) (files : Option Files) → Carries (world (stated old queries) files) number (form.LetDoc name expr) told reply (world (stated new queries) files)
+let_carries old new number name expr e told reply reads h queries files = at (eval old e) refl h
   where
-    at : (o : Outcome) → eval old.documents e ≡ o → Assigns old number name o told reply new → Carries (world old files) number (form.LetDoc name expr) told reply (world new files)
+    at : (o : Outcome) → eval old e ≡ o → Assigns old number name o told reply new → Carries (world (stated old queries) files) number (form.LetDoc name expr) told reply (world (stated new queries) files)
     at (Ok text) is g =
-        subst (λ (t : Told). Carries (world old files) number (form.LetDoc name expr) t reply (world new files)) (sym g.0.0)
-        (e, text, reads, is, g.0.1, ap (λ (s : State). world s files) g.1)
+        subst (λ (t : Told). Carries (world (stated old queries) files) number (form.LetDoc name expr) t reply (world (stated new queries) files)) (sym g.0.0)
+        (e, text, reads, is, g.0.1, only_documents (put old name text) new queries files g.1)
     at (Err refusal) is g =
-        subst (λ (t : Told). Carries (world old files) number (form.LetDoc name expr) t reply (world new files)) (sym g.0.0)
-        (g.0.1, inr (e, refusal, reads, is, g.0.2), g.0.3, ap (λ (s : State). world s files) g.1)
+        subst (λ (t : Told). Carries (world (stated old queries) files) number (form.LetDoc name expr) t reply (world (stated new queries) files)) (sym g.0.0)
+        (g.0.1, inr (e, refusal, reads, is, g.0.2), g.0.3, only_documents old new queries files g.1)
 
-pub let_is_syntax : (old : State) (number : ℕ) (name expr : List ℕ) (told : Told) (reply : List ℕ) → ((e : Expr) → ExprReads expr e → ⊥) → told ≡ Refused → reply ≡ refusal_text number Syntax
-    → (files : Option Files) → Carries (world old files) number (form.LetDoc name expr) told reply (world old files)
-let_is_syntax old number name expr told reply none is written files =
-    subst (λ (t : Told). Carries (world old files) number (form.LetDoc name expr) t reply (world old files)) (sym is)
+pub let_is_syntax : (old : Documents) (number : ℕ) (name expr : List ℕ) (told : Told) (reply : List ℕ) → ((e : Expr) → ExprReads expr e → ⊥) → told ≡ Refused → reply ≡ refusal_text number Syntax
+    → (queries : Named Query) (files : Option Files) → Carries (world (stated old queries) files) number (form.LetDoc name expr) told reply (world (stated old queries) files)
+let_is_syntax old number name expr told reply none is written queries files =
+    subst (λ (t : Told). Carries (world (stated old queries) files) number (form.LetDoc name expr) t reply (world (stated old queries) files)) (sym is)
     (Syntax, inl (none, refl), written, refl)
 
 pub show_carries : (ns : List Node) (ds : List Doc) (number : ℕ) (name : List ℕ) (i j : ℕ) (root : Option NodeId) (told : Told) (reply : List ℕ) → book.root_of ds name ≡ Some root → IsShown number (shown_range (text_at ns root) i j) told reply
-    → (files : Option Files) → Carries (world (state_of ns ds) files) number (form.Show name i j) told reply (world (state_of ns ds) files)
-show_carries ns ds number name i j root told reply there h files = at (shown_range (text_at ns root) i j) refl h
+    → (queries : Named Query) (files : Option Files) → Carries (world (state_of ns ds queries) files) number (form.Show name i j) told reply (world (state_of ns ds queries) files)
+show_carries ns ds number name i j root told reply there h queries files = at (shown_range (text_at ns root) i j) refl h
   where
     here : (o : Result (List ℕ) Refusal) → shown_range (text_at ns root) i j ≡ o → option_map_or (λ text. shown_range text i j) (value_of (plain ns ds) name) (Err (NoSuchDocument name)) ≡ o
     here o is = ap (λ v. option_map_or (λ text. shown_range text i j) v (Err (NoSuchDocument name))) (value_of-plain ns ds name ∙ ap (option_map (text_at ns)) there) ∙ is
 
-    at : (o : Result (List ℕ) Refusal) → shown_range (text_at ns root) i j ≡ o → IsShown number o told reply → Carries (world (state_of ns ds) files) number (form.Show name i j) told reply (world (state_of ns ds) files)
+    at : (o : Result (List ℕ) Refusal) → shown_range (text_at ns root) i j ≡ o → IsShown number o told reply → Carries (world (state_of ns ds queries) files) number (form.Show name i j) told reply (world (state_of ns ds queries) files)
     at (Ok bytes) is g =
-        subst (λ (t : Told). Carries (world (state_of ns ds) files) number (form.Show name i j) t reply (world (state_of ns ds) files)) (sym g.0)
+        subst (λ (t : Told). Carries (world (state_of ns ds queries) files) number (form.Show name i j) t reply (world (state_of ns ds queries) files)) (sym g.0)
         (bytes, here (Ok bytes) is, g.1, refl)
     at (Err why) is g =
-        subst (λ (t : Told). Carries (world (state_of ns ds) files) number (form.Show name i j) t reply (world (state_of ns ds) files)) (sym g.0)
+        subst (λ (t : Told). Carries (world (state_of ns ds queries) files) number (form.Show name i j) t reply (world (state_of ns ds queries) files)) (sym g.0)
         (why, here (Err why) is, g.1, refl)
 
 pub show_missing : (ns : List Node) (ds : List Doc) (number : ℕ) (name : List ℕ) (i j : ℕ) (told : Told) (reply : List ℕ) → book.root_of ds name ≡ None → told ≡ Refused → reply ≡ refusal_text number (NoSuchDocument name)
-    → (files : Option Files) → Carries (world (state_of ns ds) files) number (form.Show name i j) told reply (world (state_of ns ds) files)
-show_missing ns ds number name i j told reply missing is written files =
+    → (queries : Named Query) (files : Option Files) → Carries (world (state_of ns ds queries) files) number (form.Show name i j) told reply (world (state_of ns ds queries) files)
+show_missing ns ds number name i j told reply missing is written queries files =
     let gone : value_of (plain ns ds) name ≡ None = value_of-plain ns ds name ∙ ap (option_map (text_at ns)) missing in
-    subst (λ (t : Told). Carries (world (state_of ns ds) files) number (form.Show name i j) t reply (world (state_of ns ds) files)) (sym is)
+    subst (λ (t : Told). Carries (world (state_of ns ds queries) files) number (form.Show name i j) t reply (world (state_of ns ds queries) files)) (sym is)
     (NoSuchDocument name, ap (λ v. option_map_or (λ text. shown_range text i j) v (Err (NoSuchDocument name))) gone, written, refl)
 
 pub drop_carries : (ns : List Node) (old new : List Doc) (number : ℕ) (name : List ℕ) (told : Told) (reply : List ℕ) → IsSome (book.root_of old name) → new ≡ book.taken_out old name → told ≡ Accepted → reply ≡ ok_text
-    → (files : Option Files) → Carries (world (state_of ns old) files) number (form.DropDoc name) told reply (world (state_of ns new) files)
-drop_carries ns old new number name told reply there taken is written files = at (book.root_of old name) refl there
+    → (queries : Named Query) (files : Option Files) → Carries (world (state_of ns old queries) files) number (form.DropDoc name) told reply (world (state_of ns new queries) files)
+drop_carries ns old new number name told reply there taken is written queries files = at (book.root_of old name) refl there
   where
-    at : (o : Option (Option NodeId)) → book.root_of old name ≡ o → IsSome o → Carries (world (state_of ns old) files) number (form.DropDoc name) told reply (world (state_of ns new) files)
+    at : (o : Option (Option NodeId)) → book.root_of old name ≡ o → IsSome o → Carries (world (state_of ns old queries) files) number (form.DropDoc name) told reply (world (state_of ns new queries) files)
     at None e none = let bad : ⊥ = cc none in absurd bad
     at (Some root) e some =
-        subst (λ (t : Told). Carries (world (state_of ns old) files) number (form.DropDoc name) t reply (world (state_of ns new) files)) (sym is)
-        (text_at ns root, value_of-plain ns old name ∙ ap (option_map (text_at ns)) e, written, ap (λ d. world (state_of ns d) files) taken ∙ ap (λ (s : State). world s files) (state_of-taken_out ns old name))
+        subst (λ (t : Told). Carries (world (state_of ns old queries) files) number (form.DropDoc name) t reply (world (state_of ns new queries) files)) (sym is)
+        (text_at ns root, value_of-plain ns old name ∙ ap (option_map (text_at ns)) e, written, only_documents (taken_out (plain ns old) name) (plain ns new) queries files (ap (plain ns) taken ∙ plain-taken_out ns old name))
 
 pub drop_missing : (ns : List Node) (ds : List Doc) (number : ℕ) (name : List ℕ) (told : Told) (reply : List ℕ) → book.root_of ds name ≡ None → told ≡ Refused → reply ≡ refusal_text number (NoSuchDocument name)
-    → (files : Option Files) → Carries (world (state_of ns ds) files) number (form.DropDoc name) told reply (world (state_of ns ds) files)
-drop_missing ns ds number name told reply missing is written files =
-    subst (λ (t : Told). Carries (world (state_of ns ds) files) number (form.DropDoc name) t reply (world (state_of ns ds) files)) (sym is)
+    → (queries : Named Query) (files : Option Files) → Carries (world (state_of ns ds queries) files) number (form.DropDoc name) told reply (world (state_of ns ds queries) files)
+drop_missing ns ds number name told reply missing is written queries files =
+    subst (λ (t : Told). Carries (world (state_of ns ds queries) files) number (form.DropDoc name) t reply (world (state_of ns ds queries) files)) (sym is)
     (NoSuchDocument name, (value_of-plain ns ds name ∙ ap (option_map (text_at ns)) missing, refl), written, refl)
 
 pub none_paid : (looks p q : ℕ) → q ≡ p → IsPaid no_steps (counters looks p) (counters looks q)
@@ -139,26 +143,6 @@ pub none_of_err : (o : Option (Option NodeId)) (f e : Missing) → Err f ≡ ok_
 none_of_err None f e p = refl
 none_of_err (Some x) f e p = let bad : ⊥ = cc p in absurd bad
 
-pub unbuilt_carries : (command : Command) → IsUnbuilt command → (old : State) (number : ℕ) (told : Told) (reply : List ℕ) → told ≡ Refused → reply ≡ refusal_text number Syntax
-    → (files : Option Files) → Carries (world old files) number command told reply (world old files)
-unbuilt_carries form.Nothing unbuilt old number told reply is written files = absurd unbuilt
-unbuilt_carries (form.Text name bytes) unbuilt old number told reply is written files = absurd unbuilt
-unbuilt_carries (form.LetDoc name expr) unbuilt old number told reply is written files = absurd unbuilt
-unbuilt_carries (form.DropDoc name) unbuilt old number told reply is written files = absurd unbuilt
-unbuilt_carries form.Names unbuilt old number told reply is written files = absurd unbuilt
-unbuilt_carries (form.Show name i j) unbuilt old number told reply is written files = absurd unbuilt
-unbuilt_carries command unbuilt old number told reply is written files =
-    subst (λ (t : Told). Carries (world old files) number command t reply (world old files)) (sym is) (Syntax, refl, written, refl)
-
-pub unbuilt_paid : (command : Command) → IsUnbuilt command → (old : World) (looks p : ℕ) → PaysFor old command (counters looks p) (counters looks p)
-unbuilt_paid form.Nothing unbuilt old looks p = absurd unbuilt
-unbuilt_paid (form.Text name bytes) unbuilt old looks p = absurd unbuilt
-unbuilt_paid (form.LetDoc name expr) unbuilt old looks p = absurd unbuilt
-unbuilt_paid (form.DropDoc name) unbuilt old looks p = absurd unbuilt
-unbuilt_paid form.Names unbuilt old looks p = absurd unbuilt
-unbuilt_paid (form.Show name i j) unbuilt old looks p = absurd unbuilt
-unbuilt_paid command unbuilt old looks p = (no_steps, refl, none_paid looks p p refl)
-
 pub on_ok_from : {T E : Type 0} (r : Result T E) (P : Type 0) → P → OnOk r P
 on_ok_from (Ok x) P h = h
 on_ok_from (Err e) P h = tt
@@ -175,6 +159,14 @@ pub if_err_map : {T E : Type 0} (r : Result T E) (P Q : E → Type 0) → ((x : 
 if_err_map (Ok x) P Q f h = tt
 if_err_map (Err e) P Q f h = f e h
 
+pub if_err_any : {T E : Type 0} (r : Result T E) (P : E → Type 0) → ((x : E) → P x) → IfErr r P
+if_err_any (Ok x) P f = tt
+if_err_any (Err e) P f = f e
+
+pub if_ok_any : {T E : Type 0} (r : Result T E) (P : T → Type 0) → ((x : T) → P x) → IfOk r P
+if_ok_any (Ok x) P f = f x
+if_ok_any (Err e) P f = tt
+
 pub on_ok_map : {T E : Type 0} (r : Result T E) (P Q : Type 0) → (P → Q) → OnOk r P → OnOk r Q
 on_ok_map (Ok x) P Q f h = f h
 on_ok_map (Err e) P Q f h = tt
@@ -182,52 +174,6 @@ on_ok_map (Err e) P Q f h = tt
 pub on_err_map : {T E : Type 0} (r : Result T E) (P Q : Type 0) → (P → Q) → OnErr r P → OnErr r Q
 on_err_map (Ok x) P Q f h = tt
 on_err_map (Err e) P Q f h = f h
-
-pub is_unbuilt : (command : Command) → IsSingle command
-    → ((n : List ℕ) (b : List ℕ) → command ≡ form.Text n b → ⊥) → ((n : List ℕ) (e : List ℕ) → command ≡ form.LetDoc n e → ⊥)
-    → ((n : List ℕ) → command ≡ form.DropDoc n → ⊥) → ((n : List ℕ) (i j : ℕ) → command ≡ form.Show n i j → ⊥) → IsUnbuilt command
-is_unbuilt form.Nothing single t l d s = single
-is_unbuilt form.Names single t l d s = single
-is_unbuilt (form.Text name bytes) single t l d s = t name bytes refl
-is_unbuilt (form.LetDoc name expr) single t l d s = l name expr refl
-is_unbuilt (form.DropDoc name) single t l d s = d name refl
-is_unbuilt (form.Show name i j) single t l d s = s name i j refl
-is_unbuilt _ single t l d s = tt
-
--- a line that is this command does what the command does
-pub step_of : (w new : World) (number : ℕ) (line : List ℕ) (command : Command) (told : Told) (reply : List ℕ) → LineText line command
-    → Carries w number command told reply new → Step w number line told reply new
-step_of w new number line command Quiet reply text h = (subst (LineText line) h.0 text, h.1, h.2)
-step_of w new number line command Accepted reply text h = (command, text, h)
-step_of w new number line command Refused reply text (why, is, written, same) = (why, inr (command, text, is), written, same)
-
-pub finishes_step : (w new : World) (number : ℕ) (line : List ℕ) (command : Command) (told : Told) (a b : Option (List ℕ)) → LineText line command
-    → Finishes (Carries w number command) told a b new → Finishes (Step w number line) told a b new
-finishes_step w new number line command told a b text (reply, h, wrote) = (reply, step_of w new number line command told reply text h, wrote)
-
-pub halts_step : (w new : World) (number : ℕ) (line : List ℕ) (command : Command) (a b : Option (List ℕ)) → LineText line command
-    → Halts (Carries w number command) w a b new → Halts (Step w number line) w a b new
-halts_step w new number line command a b text (inl kept) = inl kept
-halts_step w new number line command a b text (inr (told, reply, h, wrote)) = inr (told, reply, step_of w new number line command told reply text h, wrote)
-
-pub line_paid : (w : World) (line : List ℕ) (command : Command) (x y : Counters) → LineText line command → PaysFor w command x y → Pays w line x y
-line_paid w line command x y text (a, is, paid) = (a, inr (command, text, is), paid)
-
-pub line_begun : (w : World) (line : List ℕ) (command : Command) (x y : Counters) → LineText line command → PaysForPart w command x y → PaysPart w line x y
-line_begun w line command x y text (a, inl none, paid) = (a, inl none, paid)
-line_begun w line command x y text (a, inr is, paid) = (a, inr (inr (command, text, is)), paid)
-
-pub line_not_begun : (w : World) (line : List ℕ) (looks p : ℕ) → PaysPart w line (counters looks p) (counters looks p)
-line_not_begun w line looks p = (no_steps, inl refl, none_paid looks p p refl)
-
-pub no_line_paid : (w : World) (line : List ℕ) (looks p : ℕ) → ((command : Command) → LineText line command → ⊥) → Pays w line (counters looks p) (counters looks p)
-no_line_paid w line looks p none = (no_steps, inl (none, refl), none_paid looks p p refl)
-
--- a line that is no command is refused
-pub syntax_step : (w : World) (number : ℕ) (line : List ℕ) (told : Told) (reply : List ℕ) → ((command : Command) → LineText line command → ⊥) → told ≡ Refused → reply ≡ refusal_text number Syntax
-    → Step w number line told reply w
-syntax_step w number line told reply none is written =
-    subst (λ (t : Told). Step w number line t reply w) (sym is) (Syntax, inl (none, refl), written, refl)
 
 -- the lines of the documents from a place on, and the end
 abbrev pub names_rest : List Node → List Doc → ℕ → List ℕ

@@ -1,25 +1,21 @@
 -- Documents in a store, and the plain documents that they stand for.
-use Rattle.std.proofs.Common.{◌≡◌, ℕ, ◌+◌, ◌≤◌, ◌<◌, Bool, true, false, cond, List, [], ◌∷◌, length, Option, Some, None, refl, sym, ap, ◌∙◌, arith, subst, zero, suc, get_or}
-use Rattle.std.specs.Prelude.{option_map, slice_get, map, Result, Ok, Err, ok_or}
-use Rattle.std.proofs.Common.{◌-◌, take, drop, min}
+use Rattle.std.proofs.Common.{◌≡◌, ℕ, ◌+◌, ◌≤◌, Bool, true, false, cond, List, [], ◌∷◌, ◌++◌, length, Option, Some, refl, ap, ◌∙◌, arith, subst, zero, suc}
+use Rattle.std.specs.Prelude.{option_map, slice_get}
+use Rattle.std.proofs.Common.{◌-◌, take, min}
 use Rattle.std.proofs.lemmas.List.{take_min}
 use Rattle.slp_model.specs.declared.NodeId.{NodeId}
 use Rattle.slp_model.specs.declared.Node.{Node}
-use Rattle.slp_model.specs.Tree.{Tree, root_text, root_leaves}
-use Rattle.slp_model.specs.Nodes.{Grows, IsLive, root_tree}
+use Rattle.slp_model.specs.Tree.{root_leaves}
+use Rattle.slp_model.specs.Nodes.{Grows, IsLive, root_tree, pair_count, pair_weight}
 use Rattle.slp_model.proofs.TreeLemmas.{length-root_text}
+use Rattle.std.proofs.lemmas.List.Sums.{sum_by-append}
 use Rattle.edit_expr.specs.Values.{AreLive, plain, text_at}
-use Rattle.edit_expr.proofs.EvalLemmas.{IsLive-grows, text_at-grows, AreLive-grows, plain-grows}
 use Rattle.doc_book.specs.declared.Doc.{Doc}
 use Rattle.doc_book.specs.Docs as book
-use Rattle.span_run.specs.State.{State, is_same, value_of, put, taken_out, with_documents}
-use Rattle.span_run.specs.Held.{state_of}
+use Rattle.span_run.specs.State.{is_same, value_of, put, taken_out}
 
 pub length-text_at : (ns : List Node) (root : Option NodeId) → length (text_at ns root) ≡ root_leaves (root_tree ns root)
 length-text_at ns root = length-root_text (root_tree ns root)
-
-pub state_of-grows : (old new : List Node) (p q : ℕ) → Grows old new p q → (ds : List Doc) → AreLive old ds → state_of new ds ≡ state_of old ds
-state_of-grows old new p q g ds h = λ j. record { documents = plain-grows old new p q g ds h j; queries = []; versions = [] }
 
 pub AreLive-put : (ns : List Node) (ds : List Doc) (name : List ℕ) (root : Option NodeId) → AreLive ns ds → IsLive ns root → AreLive ns (book.put ds name root)
 AreLive-put ns [] name root h live = (live, tt)
@@ -33,9 +29,6 @@ plain-put ns (d ∷ ds) name root =
     elim (is_same name d.name) as (λ b. plain ns (cond b (record { name = name; root = root } ∷ ds) (d ∷ book.put ds name root)) ≡ cond b ((name, text_at ns root) ∷ plain ns ds) ((d.name, text_at ns d.root) ∷ put (plain ns ds) name (text_at ns root)))
     [ true ↦ refl | false ↦ (λ j. (d.name, text_at ns d.root) ∷ plain-put ns ds name root j) ]
 
-pub state_of-put : (ns : List Node) (ds : List Doc) (name : List ℕ) (root : Option NodeId) → state_of ns (book.put ds name root) ≡ with_documents (state_of ns ds) (put (plain ns ds) name (text_at ns root))
-state_of-put ns ds name root = λ j. record { documents = plain-put ns ds name root j; queries = []; versions = [] }
-
 pub AreLive-taken_out : (ns : List Node) (ds : List Doc) (name : List ℕ) → AreLive ns ds → AreLive ns (book.taken_out ds name)
 AreLive-taken_out ns [] name h = tt
 AreLive-taken_out ns (d ∷ ds) name h =
@@ -47,9 +40,6 @@ plain-taken_out ns [] name = refl
 plain-taken_out ns (d ∷ ds) name =
     elim (is_same name d.name) as (λ b. plain ns (cond b ds (d ∷ book.taken_out ds name)) ≡ cond b (plain ns ds) ((d.name, text_at ns d.root) ∷ taken_out (plain ns ds) name))
     [ true ↦ refl | false ↦ (λ j. (d.name, text_at ns d.root) ∷ plain-taken_out ns ds name j) ]
-
-pub state_of-taken_out : (ns : List Node) (ds : List Doc) (name : List ℕ) → state_of ns (book.taken_out ds name) ≡ with_documents (state_of ns ds) (taken_out (plain ns ds) name)
-state_of-taken_out ns ds name = λ j. record { documents = plain-taken_out ns ds name j; queries = []; versions = [] }
 
 pub value_of-plain : (ns : List Node) (ds : List Doc) (name : List ℕ) → value_of (plain ns ds) name ≡ option_map (text_at ns) (book.root_of ds name)
 value_of-plain ns [] name = refl
@@ -75,3 +65,11 @@ pub head_of-text : (xs head : List ℕ) (n k : ℕ) → n ≡ length xs → k �
 head_of-text xs head n k is least taken =
     let few : k + 1 - 1 ≡ min 32 (length xs) = omega (arith, is, least) in
     taken ∙ ap (λ m. take m xs) few ∙ take_min 32 xs
+
+pair_count-append : (xs ys : List Node) → pair_count (xs ++ ys) ≡ pair_count xs + pair_count ys
+unfolding pair_count
+pair_count-append xs ys = sum_by-append pair_weight xs ys
+
+-- the pairs that a store grew by were asked for
+pub Grows-pairs : (old new : List Node) (p q : ℕ) → Grows old new p q → pair_count new + p ≤ pair_count old + q
+Grows-pairs old new p q g = omega (arith, ap pair_count g.added, pair_count-append old g.more, g.paid)

@@ -1,5 +1,12 @@
 pub mod LinesLemmas
 pub mod Written
-pub mod RunsLemmas
 pub mod HeldLemmas
+pub mod PlacesLemmas
+pub mod BookLemmas
+pub mod QueryLemmas
+pub mod ReadingLemmas
 pub mod CarryLemmas
+pub mod FileLemmas
+pub mod LineLemmas
+pub mod RunsLemmas
+pub mod ScriptLemmas

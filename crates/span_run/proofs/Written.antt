@@ -1,5 +1,5 @@
 -- What a sink holds after several writes.
-use Rattle.std.proofs.Common.{◌≡◌, length, arith, ℕ, zero, suc, ◌+◌, ◌<◌, ◌≤◌, get_or, List, [], ◌∷◌, ◌++◌, take, drop, refl, sym, ◌∙◌, ap, subst, append_assoc}
+use Rattle.std.proofs.Common.{◌≡◌, length, arith, ℕ, ◌+◌, ◌≤◌, List, [], ◌++◌, take, drop, refl, sym, ◌∙◌, ap, subst, append_assoc}
 use Rattle.std.specs.Prelude.{Option, Some, None, min}
 use Rattle.span_run.specs.Step.{AppendsFront}
 use Rattle.std.specs.Io.KnownBytes.{Appends, Keeps}
@@ -24,6 +24,10 @@ kept_same (Some xs) = refl
 pub nothing_written : (w : Option (List ℕ)) → Appends w w []
 nothing_written None = tt
 nothing_written (Some xs) = sym (append-nil xs)
+
+-- nothing is a front of anything
+pub nothing_front : (w : Option (List ℕ)) (reply : List ℕ) → AppendsFront w w reply
+nothing_front w reply = (0, nothing_written w)
 
 pub more_of_piece : (a b c : Option (List ℕ)) (piece : List ℕ) (done n : ℕ) → Appends a b (take done piece) → Appends b c (take n (drop done piece)) → Appends a c (take (done + n) piece)
 more_of_piece a b c piece done n first second =

@@ -1,13 +1,19 @@
 -- How many looks and pair calls a line may cost.
 use Rattle.std.specs.Prelude.{◌≡◌, ◌⊎◌, ℕ, ◌+◌, ◌*◌, ◌≤◌, List, length}
-use Rattle.span_types.specs.Fibonacci.{height_limit}
+use Rattle.span_types.specs.Fibonacci.{height_limit, looks_limit}
+use Rattle.span_types.specs.Query.{Query}
+use Rattle.span_types.specs.Rel.{names_of}
 use Rattle.script_syntax.specs.Syntax.{LineText}
 use Rattle.script_syntax.specs.declared.form.Command.{Command}
-use Rattle.script_syntax.specs.declared.form.Command.TheVariants.{Text, LetDoc}
+use Rattle.script_syntax.specs.declared.form.Command.TheVariants as form
+use Rattle.script_syntax.specs.declared.form.Command.TheVariants.{Text, LoadFile, LetDoc, OpenFile}
+use Rattle.report_text.specs.declared.refusal.Refusal.{Refusal}
+use Rattle.slp_image.specs.Image.{image}
 use Rattle.edit_expr.specs.declared.expr.Expr.{Expr}
 use Rattle.edit_expr.specs.Expressions.{ExprReads}
 use Rattle.edit_expr.specs.Eval.{greatest, operations}
 use Rattle.span_run.specs.State.{World}
+use Rattle.span_run.specs.Step.{IsWithin, IsAsked, IsFileRefused, IsRefused, load_size, open_size}
 
 pub record Allowance : Type 0 where
   pub looks : ℕ
@@ -27,11 +33,25 @@ load_limit n = n + 4 * (height_limit n + 1)
 abbrev pub edit_limit : ℕ → ℕ → ℕ
 edit_limit count n = 48 * count * (height_limit n + 1)
 
+-- the looks for one answer of a query on a text
+abbrev pub answer_limit : Query → List ℕ → ℕ
+answer_limit q text = looks_limit (length (names_of q)) (length text)
+
+-- nothing where the command is refused, else the looks for one answer
+abbrev pub IsQuestionAllowed : World → List ℕ → List ℕ → (Refusal → Type 0) → Allowance → Type 0
+IsQuestionAllowed old query name Refuses a = ((why : Refusal) × Refuses why × (a ≡ no_steps))
+    ⊎ ((q : Query) × (text : List ℕ) × IsAsked old query name q text × (a ≡ record { looks = answer_limit q text; pairs = 0 }))
+
 -- the allowance of a command, by its step
 abbrev pub IsAllowed : World → Command → Allowance → Type 0
 IsAllowed old (Text name bytes) a = a ≡ record { looks = 0; pairs = load_limit (length bytes) }
+IsAllowed old (LoadFile name file) a = ((why : Refusal) × IsFileRefused old.files file load_size why × (a ≡ no_steps))
+    ⊎ ((bytes : List ℕ) × IsWithin old.files file load_size bytes × (a ≡ record { looks = 0; pairs = load_limit (length bytes) }))
 IsAllowed old (LetDoc name expr) a = (((e : Expr) → ExprReads expr e → ⊥) × (a ≡ no_steps))
     ⊎ ((e : Expr) × ExprReads expr e × (a ≡ record { looks = 0; pairs = edit_limit (operations e) (greatest old.state.documents e) }))
+IsAllowed old (form.Nonempty query name) a = IsQuestionAllowed old query name (IsRefused old (form.Nonempty query name)) a
+IsAllowed old (OpenFile file) a = ((why : Refusal) × IsFileRefused old.files file open_size why × (a ≡ no_steps))
+    ⊎ ((bytes : List ℕ) × IsWithin old.files file open_size bytes × (a ≡ record { looks = 0; pairs = (image bytes).cost }))
 IsAllowed old _ a = a ≡ no_steps
 
 -- the allowance of a line

@@ -3,6 +3,10 @@ pub mod State
 pub mod Held
 pub mod Replies
 pub mod Shown
-pub mod Allowance
 pub mod Step
+pub mod Allowance
+pub mod Registered
+pub mod Reading
+pub mod Asked
 pub mod Runs
+pub mod Scripts

@@ -13,6 +13,13 @@ use Rattle.span_run.specs.State.{Documents, value_of}
 abbrev pub ok_text : List ℕ
 ok_text = codes "ok" ++ 10 ∷ []
 
+-- a line `yes`, and a line `no`
+abbrev pub yes_text : List ℕ
+yes_text = codes "yes" ++ 10 ∷ []
+
+abbrev pub no_text : List ℕ
+no_text = codes "no" ++ 10 ∷ []
+
 -- the reply to a text that was given a name: its length and its first 32 bytes
 abbrev pub given_text : List ℕ → List ℕ → List ℕ
 given_text name text = doc_text name (length text) (take 32 text)

@@ -1,33 +1,10 @@
 -- The plain state that the lines of a script change.
-use Rattle.std.specs.Prelude.{ℕ, Bool, cond, nat_eq, List, [], ◌∷◌, Option, Some, None, refl}
-use Rattle.std.specs.Cmp.Lexicographic.{pointwise}
+use Rattle.std.specs.Prelude.{ℕ, List, [], Option, refl}
+pub use Rattle.query_book.specs.Named.{Named, is_same, value_of, put, taken_out}
 use Rattle.span_types.specs.Query.{Query}
 use Rattle.std.specs.Coded.{Coded, code_by, coded_ℕ, coded_list, coded×}
 use Rattle.span_types.specs.Codes.{query_code}
 use Rattle.edge_io.specs.Files.{Files}
-
--- values by name, in the order in which the names came
-abbrev pub Named : Type 0 → Type 0
-Named A = List (List ℕ × A)
-
--- whether two names have the same bytes
-abbrev pub is_same : List ℕ → List ℕ → Bool
-is_same name other = pointwise nat_eq name other
-
--- the value of this name
-abbrev pub value_of : {A : Type 0} → Named A → List ℕ → Option A
-value_of [] name = None
-value_of (p ∷ ps) name = cond (is_same name p.0) (Some p.1) (value_of ps name)
-
--- a present name keeps its place and has the value, and a new one goes last
-abbrev pub put : {A : Type 0} → Named A → List ℕ → A → Named A
-put [] name value = (name, value) ∷ []
-put (p ∷ ps) name value = cond (is_same name p.0) ((name, value) ∷ ps) (p ∷ put ps name value)
-
--- the pair of this name is taken out, and the rest close up
-abbrev pub taken_out : {A : Type 0} → Named A → List ℕ → Named A
-taken_out [] name = []
-taken_out (p ∷ ps) name = cond (is_same name p.0) ps (p ∷ taken_out ps name)
 
 -- documents by their texts
 abbrev pub Documents : Type 0
@@ -59,6 +36,14 @@ world state files = record { state = state; files = files }
 abbrev pub nothing : State
 nothing = record { documents = []; queries = []; versions = [] }
 
+-- documents and queries, without versions
+abbrev pub stated : Documents → Named Query → State
+stated documents queries = record { documents = documents; queries = queries; versions = [] }
+
 -- the state with other documents
 abbrev pub with_documents : State → Documents → State
 with_documents st documents = record { documents = documents; queries = st.queries; versions = st.versions }
+
+-- the state with other queries
+abbrev pub with_queries : State → Named Query → State
+with_queries st queries = record { documents = st.documents; queries = queries; versions = st.versions }

@@ -57,6 +57,8 @@ pub fn send<K: Sink>(answer: Answer, out: &mut K) -> Result<Told, Stop>
     ensures stopped { OnErr result (AppendsFront (K.written out.old) (K.written out.new) answer.line.items) }
     ensures later { K.faults out.old ≤ K.faults out.new }
     ensures fault { IfErr result (λ why. why ≡ Stop.OutFault → Rose (K.faults out.old) (K.faults out.new)) }
+    ensures wants_later { K.wants out.old ≤ K.wants out.new }
+    ensures want { IfErr result (λ why. why ≡ Stop.NoMemory → Rose (K.wants out.old) (K.wants out.new)) }
     ensures shelf_fault { IfErr result (λ why. why ≡ Stop.ShelfFault → ⊥) }
 {
     offer(out, &answer.line)?;

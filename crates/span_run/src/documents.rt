@@ -1,14 +1,15 @@
 //! What commands do to documents in a store, and their replies.
 ghost use Rattle.std.specs.Prelude.{◌≡◌, ◌≤◌, ◌+◌, ◌^◌, length, IfOk, IfErr, OnOk, OnErr, MatchResult, Option, ℕ};
 ghost use Rattle.std.specs.Io.KnownBytes.{Appends};
-ghost use Rattle.slp_model.specs.Nodes.{IsLive};
+ghost use Rattle.slp_model.specs.Nodes.{Grows, IsLive};
 ghost use Rattle.edge_io.specs.Causes.{Rose};
 ghost use Rattle.edge_io.specs.Files.{Files};
 ghost use Rattle.edit_expr.specs.Eval as meaning;
 ghost use Rattle.edit_expr.specs.Eval.{greatest, operations};
 ghost use Rattle.edit_expr.specs.Values.{AreLive, plain, text_at};
 ghost use Rattle.script_syntax.specs.declared.form.Command.TheVariants as form;
-ghost use Rattle.span_run.specs.State.{world};
+ghost use Rattle.span_types.specs.Query.{Query};
+ghost use Rattle.span_run.specs.State.{Named, world};
 ghost use Rattle.span_run.specs.Held.{state_of};
 ghost use Rattle.span_run.specs.Allowance.{PaysFor, PaysForPart, counters, edit_limit, load_limit};
 ghost use Rattle.span_run.specs.Replies.{names_text, shown_range};
@@ -51,7 +52,7 @@ fn given_line(
 }
 
 /// Gives the name this root.
-fn give(
+pub fn give(
     alloc: Global,
     store: &Store,
     docs: &mut Docs,
@@ -62,7 +63,7 @@ fn give(
     requires root { IsLive store.now root }
     requires live { AreLive store.now docs.old }
     ensures live { AreLive store.now docs.new }
-    ensures ok { IfOk result (λ answer. Assigns (state_of store.now docs.old) number name (Ok (text_at store.now root)) answer.told answer.line.items (state_of store.now docs.new)) }
+    ensures ok { IfOk result (λ answer. Assigns (plain store.now docs.old) number name (Ok (text_at store.now root)) answer.told answer.line.items (plain store.now docs.new)) }
     ensures err { OnErr result (docs.new ≡ docs.old) }
 {
     let answer = given_line(alloc, store, &name, root)?;
@@ -83,9 +84,10 @@ pub fn text<P: Ledger>(
     requires short { length content ≤ 2 ^ 16 }
     requires live { AreLive store.old docs.old }
     ensures live { AreLive store.new docs.new }
-    ensures ok { IfOk result (λ answer. (files : Option Files) → Carries (world (state_of store.old docs.old) files) number (form.Text name content) answer.told answer.line.items (world (state_of store.new docs.new) files)) }
-    ensures err { OnErr result (state_of store.new docs.new ≡ state_of store.old docs.old) }
-    ensures paid { (files : Option Files) (looks : ℕ) → PaysFor (world (state_of store.old docs.old) files) (form.Text name content) (counters looks pairs.old) (counters looks pairs.new) }
+    ensures grows { Grows store.old store.new pairs.old pairs.new }
+    ensures ok { IfOk result (λ answer. (queries : Named Query) (files : Option Files) → Carries (world (state_of store.old docs.old queries) files) number (form.Text name content) answer.told answer.line.items (world (state_of store.new docs.new queries) files)) }
+    ensures err { OnErr result (plain store.new docs.new ≡ plain store.old docs.old) }
+    ensures paid { (queries : Named Query) (files : Option Files) (looks : ℕ) → PaysFor (world (state_of store.old docs.old queries) files) (form.Text name content) (counters looks pairs.old) (counters looks pairs.new) }
 {
     let root = load(alloc, store, content.bytes(), pairs)?;
     let answer = give(alloc, store, docs, number, name, root)?;
@@ -118,8 +120,9 @@ fn assign<P: Ledger>(
 ) -> Result<Answer, NoMemory>
     requires { AreLive store.old docs.old }
     ensures live { AreLive store.new docs.new }
-    ensures ok { IfOk result (λ answer. Assigns (state_of store.old docs.old) number name (meaning.eval (plain store.old docs.old) expr.now) answer.told answer.line.items (state_of store.new docs.new)) }
-    ensures err { OnErr result (state_of store.new docs.new ≡ state_of store.old docs.old) }
+    ensures grows { Grows store.old store.new pairs.old pairs.new }
+    ensures ok { IfOk result (λ answer. Assigns (plain store.old docs.old) number name (meaning.eval (plain store.old docs.old) expr.now) answer.told answer.line.items (plain store.new docs.new)) }
+    ensures err { OnErr result (plain store.new docs.new ≡ plain store.old docs.old) }
     ensures cost { pairs.new ≤ pairs.old + edit_limit (operations expr.now) (greatest (plain store.old docs.old) expr.now) }
 {
     match eval(alloc, expr, docs, store, pairs) {
@@ -146,10 +149,11 @@ pub fn let_document<P: Ledger>(
 ) -> Result<Answer, NoMemory>
     requires { AreLive store.old docs.old }
     ensures live { AreLive store.new docs.new }
-    ensures ok { IfOk result (λ answer. (files : Option Files) → Carries (world (state_of store.old docs.old) files) number (form.LetDoc name expr) answer.told answer.line.items (world (state_of store.new docs.new) files)) }
-    ensures err { OnErr result (state_of store.new docs.new ≡ state_of store.old docs.old) }
-    ensures paid { OnOk result ((files : Option Files) (looks : ℕ) → PaysFor (world (state_of store.old docs.old) files) (form.LetDoc name expr) (counters looks pairs.old) (counters looks pairs.new)) }
-    ensures begun { (files : Option Files) (looks : ℕ) → PaysForPart (world (state_of store.old docs.old) files) (form.LetDoc name expr) (counters looks pairs.old) (counters looks pairs.new) }
+    ensures grows { Grows store.old store.new pairs.old pairs.new }
+    ensures ok { IfOk result (λ answer. (queries : Named Query) (files : Option Files) → Carries (world (state_of store.old docs.old queries) files) number (form.LetDoc name expr) answer.told answer.line.items (world (state_of store.new docs.new queries) files)) }
+    ensures err { OnErr result (plain store.new docs.new ≡ plain store.old docs.old) }
+    ensures paid { OnOk result ((queries : Named Query) (files : Option Files) (looks : ℕ) → PaysFor (world (state_of store.old docs.old queries) files) (form.LetDoc name expr) (counters looks pairs.old) (counters looks pairs.new)) }
+    ensures begun { (queries : Named Query) (files : Option Files) (looks : ℕ) → PaysForPart (world (state_of store.old docs.old queries) files) (form.LetDoc name expr) (counters looks pairs.old) (counters looks pairs.new) }
 {
     match read(alloc, expr.bytes()) {
         Ok(tree) => {
@@ -174,7 +178,7 @@ pub fn drop_document(
 ) -> Result<Answer, NoMemory>
     requires { AreLive store.now docs.old }
     ensures live { AreLive store.now docs.new }
-    ensures ok { IfOk result (λ answer. (files : Option Files) → Carries (world (state_of store.now docs.old) files) number (form.DropDoc name) answer.told answer.line.items (world (state_of store.now docs.new) files)) }
+    ensures ok { IfOk result (λ answer. (queries : Named Query) (files : Option Files) → Carries (world (state_of store.now docs.old queries) files) number (form.DropDoc name) answer.told answer.line.items (world (state_of store.now docs.new queries) files)) }
     ensures err { OnErr result (docs.new ≡ docs.old) }
 {
     let line = ok_line(alloc)?;
@@ -231,7 +235,7 @@ pub fn show(
     j: u64,
 ) -> Result<Answer, NoMemory>
     requires { AreLive store.now docs.now }
-    ensures { IfOk result (λ answer. (files : Option Files) → Carries (world (state_of store.now docs.now) files) number (form.Show name i j) answer.told answer.line.items (world (state_of store.now docs.now) files)) }
+    ensures { IfOk result (λ answer. (queries : Named Query) (files : Option Files) → Carries (world (state_of store.now docs.now queries) files) number (form.Show name i j) answer.told answer.line.items (world (state_of store.now docs.now queries) files)) }
 {
     match docs.get(name.bytes()) {
         Ok(root) => {
@@ -256,6 +260,7 @@ pub fn write_names<K: Sink>(
     ensures done { OnOk result (Appends (K.written out.old) (K.written out.new) (names_text (plain store.now docs.now))) }
     ensures stopped { OnErr result (AppendsFront (K.written out.old) (K.written out.new) (names_text (plain store.now docs.now))) }
     ensures later { K.faults out.old ≤ K.faults out.new }
+    ensures wants_later { K.wants out.old ≤ K.wants out.new }
     ensures fault { IfErr result (λ why. why ≡ Stop.OutFault → Rose (K.faults out.old) (K.faults out.new)) }
     ensures shelf_fault { IfErr result (λ why. why ≡ Stop.ShelfFault → ⊥) }
 {

@@ -4,13 +4,16 @@
 mod answer;
 mod carry;
 mod documents;
+mod files;
 mod lines;
 mod offer;
+mod queries;
 mod reading;
 mod session;
 mod told;
 mod top;
 
 pub use session::Session;
+pub use span_words::usage_text;
 pub use told::{Stop, Told};
 pub use top::{Status, run};

@@ -14,6 +14,8 @@ pub fn offer<K: Sink>(out: &mut K, piece: &[u8]) -> Result<(), Stop>
     ensures stopped { OnErr result (AppendsFront (K.written out.old) (K.written out.new) piece.now) }
     ensures later { K.faults out.old ≤ K.faults out.new }
     ensures fault { IfErr result (λ why. why ≡ Stop.OutFault → Rose (K.faults out.old) (K.faults out.new)) }
+    ensures wants_later { K.wants out.old ≤ K.wants out.new }
+    ensures want { IfErr result (λ why. why ≡ Stop.NoMemory → Rose (K.wants out.old) (K.wants out.new)) }
     ensures shelf_fault { IfErr result (λ why. why ≡ Stop.ShelfFault → ⊥) }
 {
     let mut done = 0;

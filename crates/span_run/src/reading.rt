@@ -1,9 +1,12 @@
-//! Lengths and bytes of the texts in a store.
-ghost use Rattle.std.specs.Prelude.{◌≡◌, ◌≤◌, ◌+◌, ◌-◌, ◌^◌, length, take, drop, IfOk};
+//! Lengths and bytes of the texts in a store, and of files.
+ghost use Rattle.std.specs.Prelude.{◌≡◌, ◌≤◌, ◌+◌, ◌-◌, ◌^◌, [], length, take, drop, IfOk, IfErr, OnOk};
+ghost use Rattle.edge_io.specs.Causes.{Rose};
+ghost use Rattle.span_run.specs.Reading.{IsFileFront, IsTurnedAway};
 ghost use Rattle.slp_model.specs.Nodes.{IsLive};
 ghost use Rattle.edit_expr.specs.Values.{text_at};
 ghost use Rattle.span_run.specs.Replies.{is_range};
 
+use edge_io::{Shelf, ShelfRefusal};
 use node_store::Store;
 use range_read::RangeBytes;
 use slp_model::NodeId;
@@ -60,4 +63,57 @@ pub fn head_of(alloc: Global, store: &Store, root: Option<NodeId>) -> Result<Vec
     let end = root_len(store, root).min(HEAD) + 1;
     let head = bytes_between(alloc, store, root, 1, end)?;
     Ok(head)
+}
+
+/// Why a file was not taken.
+#[derive(Clone, Copy, Debug, PartialEq, Eq)]
+pub enum FileRefusal {
+    /// There is no file of this name.
+    Absent,
+    /// It has more bytes than the limit.
+    TooLong,
+    /// The shelf failed.
+    Failed,
+    /// No memory was found.
+    NoMemory,
+}
+
+impl From<NoMemory> for FileRefusal {
+    ghost use Rattle.span_run.specs.declared.reading.FileRefusal.TheVariants as refusal;
+
+    ghost from_gives = { λ _ e. e ≡ refusal.NoMemory };
+
+    fn from(_: NoMemory) -> Self {
+        FileRefusal::NoMemory
+    }
+}
+
+impl From<ShelfRefusal> for FileRefusal {
+    ghost use Rattle.span_run.specs.Reading.{of_shelf};
+
+    ghost from_gives = { λ why e. e ≡ of_shelf why };
+
+    fn from(why: ShelfRefusal) -> Self {
+        match why {
+            ShelfRefusal::Failed => FileRefusal::Failed,
+            ShelfRefusal::NoMemory => FileRefusal::NoMemory,
+            ShelfRefusal::Absent => FileRefusal::Absent,
+        }
+    }
+}
+
+/// Whether a file has at most so many bytes: asks for the byte behind them.
+pub fn check_size<F: Shelf>(shelf: &mut F, name: &[u8], limit: u64) -> Result<(), FileRefusal>
+    ensures ok { OnOk result (IsFileFront (F.files shelf.old) name.now limit []) }
+    ensures refused { IfErr result (IsTurnedAway (F.files shelf.old) name.now limit) }
+    ensures files { F.files shelf.new ≡ F.files shelf.old }
+    ensures later { F.faults shelf.old ≤ F.faults shelf.new }
+    ensures fault { IfErr result (λ why. why ≡ FileRefusal.Failed → Rose (F.faults shelf.old) (F.faults shelf.new)) }
+{
+    let mut byte = [0u8; 1];
+    let count = shelf.read_at(name, limit, &mut byte)?;
+    if count > 0 {
+        return Err(FileRefusal::TooLong);
+    }
+    Ok(())
 }

@@ -1,18 +1,22 @@
 //! The top call: words and a script in, replies and a status out.
-ghost use Rattle.std.specs.Prelude.{◌≡◌, ◌⊎◌, ◌↔◌, ◌+◌, ◌^◌, ◌<◌, ◌≤◌, ◌||◌, true, false, IfOk, IfErr, IfSome, OnErr, OnOk, length};
+ghost use Rattle.std.specs.Prelude.{◌≡◌, ◌⊎◌, ℕ, ◌+◌, ◌^◌, ◌<◌, ◌≤◌, ◌||◌, true, false, None, Some, IfOk, IfErr, IfSome, OnErr, OnOk, length, map, string_bytes};
 ghost use Rattle.std.specs.Io.KnownBytes.{Consumes, Keeps};
 ghost use Rattle.edge_io.specs.Causes.{Rose};
+ghost use Rattle.span_words.specs.Words.{Refused, Words};
 ghost use Rattle.span_run.specs.Lines.{lines_of};
-ghost use Rattle.span_run.specs.Runs.{is_refused, outside, RunsAll, RunsFront};
+ghost use Rattle.span_run.specs.Runs.{is_refused, outside, Anywhere, InFileLine, UnlessList, RunsAll, RunsFront};
+ghost use Rattle.span_run.specs.Scripts.{script_of, AsksForNoDemo, OfScript};
 
 use crate::lines::next_line;
 use crate::session::Session;
 use crate::told::{Stop, Told};
 use edge_io::{Shelf, Sink, Source};
 use span_types::Steps;
+use span_words::{WordsRefusal, read_words};
 use std::alloc::Global;
 use std::sync::ledger::Ledger;
 use std::thread::Threads;
+use text_gen::demo;
 use work_gate::Gate;
 
 /// The most bytes of a script.
@@ -70,6 +74,28 @@ fn read_script<S: Source>(alloc: Global, script: &mut S) -> Result<Vec<u8>, Unre
     Err(Unread::TooLong)
 }
 
+/// The script that is asked for: that of a demo, for which the source isn't read, or else all the bytes of the source.
+fn asked_script<S: Source>(
+    alloc: Global,
+    number: Option<u8>,
+    script: &mut S,
+) -> Result<Vec<u8>, Unread>
+    requires { IfSome number (λ n. (1 ≤ n) × (n ≤ 46)) }
+    ensures all { IfOk result (λ bytes. IfSome (script_of number (S.left script.old)) (λ told. bytes.items ≡ told)) }
+    ensures short { IfOk result (λ bytes. length bytes.items ≤ 2 ^ 24) }
+    ensures too_long { IfErr result (λ why. why ≡ Unread.TooLong → (number ≡ None) × IfSome (S.left script.old) (λ left. 2 ^ 24 < length left)) }
+    ensures fault { IfErr result (λ why. why ≡ Unread.Fault → (number ≡ None) × Rose (S.faults script.old) (S.faults script.new)) }
+    ensures unread { IfSome number (λ _. script.new ≡ script.old) }
+{
+    match number {
+        None => read_script(alloc, script),
+        Some(number) => match demo(alloc, number) {
+            Ok(bytes) => Ok(bytes),
+            Err(_) => Err(Unread::NoMemory),
+        },
+    }
+}
+
 /// Whether a line was refused, in this one or before.
 fn with_refusal(before: bool, told: Told) -> bool
     ensures { result ≡ (before || is_refused told) }
@@ -92,12 +118,10 @@ fn run_lines<R: Threads + Sync, K: Sink, F: Shelf, G: Gate, P: Ledger, T: Ledger
 ) -> Result<bool, Stop>
     requires least { 1 ≤ workers }
     requires most { workers ≤ 64 }
-    ensures done { IfOk result (λ refused. RunsAll (lines_of script.now) refused (outside (K.written out.old) (F.files shelf.old) looks.old pairs.old) (outside (K.written out.new) (F.files shelf.new) looks.new pairs.new)) }
-    ensures stopped { OnErr result (RunsFront (lines_of script.now) (outside (K.written out.old) (F.files shelf.old) looks.old pairs.old) (outside (K.written out.new) (F.files shelf.new) looks.new pairs.new)) }
-    ensures later { K.faults out.old ≤ K.faults out.new }
-    ensures fault { IfErr result (λ why. why ≡ Stop.OutFault → Rose (K.faults out.old) (K.faults out.new)) }
-    ensures shelf { IfErr result (λ why. why ≡ Stop.ShelfFault → ⊥) }
-    ensures places { places.new ≡ places.old }
+    ensures done { IfOk result (λ refused. RunsAll (lines_of script.now) refused (outside (K.written out.old) (F.files shelf.old) looks.old pairs.old places.old) (outside (K.written out.new) (F.files shelf.new) looks.new pairs.new places.new)) }
+    ensures out_fault { IfErr result (λ why. why ≡ Stop.OutFault → Rose (K.faults out.old) (K.faults out.new) × RunsFront Anywhere (lines_of script.now) (outside (K.written out.old) (F.files shelf.old) looks.old pairs.old places.old) (outside (K.written out.new) (F.files shelf.new) looks.new pairs.new places.new)) }
+    ensures shelf_fault { IfErr result (λ why. why ≡ Stop.ShelfFault → Rose (F.faults shelf.old) (F.faults shelf.new) × RunsFront InFileLine (lines_of script.now) (outside (K.written out.old) (F.files shelf.old) looks.old pairs.old places.old) (outside (K.written out.new) (F.files shelf.new) looks.new pairs.new places.new)) }
+    ensures want { IfErr result (λ why. why ≡ Stop.NoMemory → RunsFront (UnlessList (K.wants out.old) (K.wants out.new)) (lines_of script.now) (outside (K.written out.old) (F.files shelf.old) looks.old pairs.old places.old) (outside (K.written out.new) (F.files shelf.new) looks.new pairs.new places.new)) }
 {
     let mut session = Session::new(alloc);
     let mut rest = script;
@@ -119,9 +143,10 @@ fn run_lines<R: Threads + Sync, K: Sink, F: Shelf, G: Gate, P: Ledger, T: Ledger
 /// reply is offered to the sink, with its newline, before the next one is computed. The first fault or want of memory ends
 /// the run.
 ///
-/// The words are those after the program's own name; until there are options, each word is refused. `workers` threads
-/// and `places` serve queries, and the shelf serves files; no line that is built uses them. `pairs` counts the pairs of
-/// nodes that were asked for, and `looks` counts looks at tables.
+/// The words are those after the program's own name. They may ask for a number of workers, from 1 to 64, which compute
+/// tables; and for the script of a demo, which is run in place of the source's bytes. The source isn't read then. The
+/// shelf serves files. `pairs` counts the pairs of nodes that were asked for, `places` the tables that nodes were given,
+/// and `looks` looks at tables.
 pub fn run<
     R: Threads + Sync,
     S: Source,
@@ -143,33 +168,52 @@ pub fn run<
     places: &mut Steps<T>,
     looks: &mut Steps<L>,
 ) -> Status
-    ensures usage { (result ≡ Status.Usage) ↔ (0 < length words.now) }
-    ensures done { result ≡ Status.Done → IfSome (S.left script.old) (λ bytes. RunsAll (lines_of bytes) false (outside (K.written out.old) (F.files shelf.old) looks.old pairs.old) (outside (K.written out.new) (F.files shelf.new) looks.new pairs.new)) }
-    ensures some_refused { result ≡ Status.SomeRefused → IfSome (S.left script.old) (λ bytes. RunsAll (lines_of bytes) true (outside (K.written out.old) (F.files shelf.old) looks.old pairs.old) (outside (K.written out.new) (F.files shelf.new) looks.new pairs.new)) }
-    ensures script_fault { result ≡ Status.ScriptFault → Rose (S.faults script.old) (S.faults script.new) }
+    ensures usage { result ≡ Status.Usage → Refused (map string_bytes words.now) }
+    ensures refused { Refused (map string_bytes words.now) → ((result ≡ Status.Usage) ⊎ (result ≡ Status.NoMemory)) × (outside (K.written out.new) (F.files shelf.new) looks.new pairs.new places.new ≡ outside (K.written out.old) (F.files shelf.old) looks.old pairs.old places.old) }
+    ensures done { result ≡ Status.Done → OfScript (map string_bytes words.now) (S.left script.old) (λ bytes. RunsAll (lines_of bytes) false (outside (K.written out.old) (F.files shelf.old) looks.old pairs.old places.old) (outside (K.written out.new) (F.files shelf.new) looks.new pairs.new places.new)) }
+    ensures some_refused { result ≡ Status.SomeRefused → OfScript (map string_bytes words.now) (S.left script.old) (λ bytes. RunsAll (lines_of bytes) true (outside (K.written out.old) (F.files shelf.old) looks.old pairs.old places.old) (outside (K.written out.new) (F.files shelf.new) looks.new pairs.new places.new)) }
+    ensures script_fault { result ≡ Status.ScriptFault → AsksForNoDemo (map string_bytes words.now) × Rose (S.faults script.old) (S.faults script.new) }
     ensures out_fault { result ≡ Status.OutFault → Rose (K.faults out.old) (K.faults out.new) }
-    ensures shelf_fault { result ≡ Status.ShelfFault → ⊥ }
-    ensures too_long { result ≡ Status.ScriptTooLong → IfSome (S.left script.old) (λ bytes. 2 ^ 24 < length bytes) }
-    ensures short { (result ≡ Status.Done) ⊎ (result ≡ Status.SomeRefused) ⊎ (result ≡ Status.OutFault) → IfSome (S.left script.old) (λ bytes. length bytes ≤ 2 ^ 24) }
+    ensures shelf_fault { result ≡ Status.ShelfFault → Rose (F.faults shelf.old) (F.faults shelf.new) }
+    ensures too_long { result ≡ Status.ScriptTooLong → AsksForNoDemo (map string_bytes words.now) × IfSome (S.left script.old) (λ bytes. 2 ^ 24 < length bytes) }
+    ensures short { (result ≡ Status.Done) ⊎ (result ≡ Status.SomeRefused) ⊎ (result ≡ Status.OutFault) ⊎ (result ≡ Status.ShelfFault) → OfScript (map string_bytes words.now) (S.left script.old) (λ bytes. length bytes ≤ 2 ^ 24) }
+
+    // The source isn't read for a demo, nor where the words are refused.
+    ensures unread { (AsksForNoDemo (map string_bytes words.now) → ⊥) → script.new ≡ script.old }
 
     // Nothing is written, and no file and no counter changes.
-    ensures nothing { (result ≡ Status.Usage) ⊎ (result ≡ Status.ScriptFault) ⊎ (result ≡ Status.ScriptTooLong) → outside (K.written out.new) (F.files shelf.new) looks.new pairs.new ≡ outside (K.written out.old) (F.files shelf.old) looks.old pairs.old }
-    ensures unread { result ≡ Status.NoMemory → IfSome (S.left script.old) (λ bytes. 2 ^ 24 < length bytes → outside (K.written out.new) (F.files shelf.new) looks.new pairs.new ≡ outside (K.written out.old) (F.files shelf.old) looks.old pairs.old) }
+    ensures nothing { (result ≡ Status.Usage) ⊎ (result ≡ Status.ScriptFault) ⊎ (result ≡ Status.ScriptTooLong) → outside (K.written out.new) (F.files shelf.new) looks.new pairs.new places.new ≡ outside (K.written out.old) (F.files shelf.old) looks.old pairs.old places.old }
+    ensures too_long_for_memory { result ≡ Status.NoMemory → AsksForNoDemo (map string_bytes words.now) → IfSome (S.left script.old) (λ bytes. 2 ^ 24 < length bytes → outside (K.written out.new) (F.files shelf.new) looks.new pairs.new places.new ≡ outside (K.written out.old) (F.files shelf.old) looks.old pairs.old places.old) }
 
-    // What was written is a prefix of the whole output.
-    ensures front { (result ≡ Status.OutFault) ⊎ (result ≡ Status.NoMemory) → IfSome (S.left script.old) (λ bytes. RunsFront (lines_of bytes) (outside (K.written out.old) (F.files shelf.old) looks.old pairs.old) (outside (K.written out.new) (F.files shelf.new) looks.new pairs.new)) }
-    ensures places { places.new ≡ places.old }
+    // What was written is a prefix of the whole output. A fault of the shelf stops a line of the form `load`, `save` or `open`
+    // before any of its reply is written; and want of memory stops a `list` so too, unless the sink wanted it.
+    ensures front { result ≡ Status.OutFault → OfScript (map string_bytes words.now) (S.left script.old) (λ bytes. RunsFront Anywhere (lines_of bytes) (outside (K.written out.old) (F.files shelf.old) looks.old pairs.old places.old) (outside (K.written out.new) (F.files shelf.new) looks.new pairs.new places.new)) }
+    ensures shelf_front { result ≡ Status.ShelfFault → OfScript (map string_bytes words.now) (S.left script.old) (λ bytes. RunsFront InFileLine (lines_of bytes) (outside (K.written out.old) (F.files shelf.old) looks.old pairs.old places.old) (outside (K.written out.new) (F.files shelf.new) looks.new pairs.new places.new)) }
+    ensures want_front { result ≡ Status.NoMemory → OfScript (map string_bytes words.now) (S.left script.old) (λ bytes. RunsFront (UnlessList (K.wants out.old) (K.wants out.new)) (lines_of bytes) (outside (K.written out.old) (F.files shelf.old) looks.old pairs.old places.old) (outside (K.written out.new) (F.files shelf.new) looks.new pairs.new places.new)) }
 {
-    if !words.is_empty() {
-        return Status::Usage;
-    }
-    let bytes = match read_script(alloc, script) {
+    let options = match read_words(alloc, words) {
+        Ok(options) => options,
+        Err(WordsRefusal::Usage) => return Status::Usage,
+        Err(WordsRefusal::NoMemory) => return Status::NoMemory,
+    };
+    let bytes = match asked_script(alloc, options.demo, script) {
         Ok(bytes) => bytes,
         Err(Unread::Fault) => return Status::ScriptFault,
         Err(Unread::TooLong) => return Status::ScriptTooLong,
         Err(Unread::NoMemory) => return Status::NoMemory,
     };
-    match run_lines(rt, alloc, &bytes, 1, out, shelf, gate, pairs, places, looks) {
+    match run_lines(
+        rt,
+        alloc,
+        &bytes,
+        options.workers,
+        out,
+        shelf,
+        gate,
+        pairs,
+        places,
+        looks,
+    ) {
         Ok(false) => Status::Done,
         Ok(true) => Status::SomeRefused,
         Err(Stop::OutFault) => Status::OutFault,

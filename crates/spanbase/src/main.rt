@@ -1,18 +1,20 @@
 //! Reads a script from standard input, and writes its replies to standard output.
 #![tactic(auto)]
 
-ghost use Rattle.std.specs.Prelude.{◌≡◌, ◌<◌, ◌↔◌, ◌⊎◌, ◌^◌, IfSome, length};
+ghost use Rattle.std.specs.Prelude.{◌≡◌, ◌<◌, ◌⊎◌, ◌^◌, IfSome, length, map, string_bytes};
 ghost use Rattle.edge_io.specs.Causes.{Rose};
+ghost use Rattle.span_words.specs.Words.{Refused};
+ghost use Rattle.span_run.specs.Scripts.{AsksForNoDemo};
 ghost use Rattle.spanbase.specs.Exit.{exit_of};
 
-use edge_io::{Sink, Source, StdSink, StdSource, SureShelf};
-use span_run::{Status, run};
+use edge_io::{DirShelf, Sink, Source, StdSink, StdSource};
+use span_run::{Status, run, usage_text};
 use span_types::Steps;
 use std::alloc::Global;
-use std::io::ErrorKind;
+use std::io::{ErrorKind, Write};
 use std::marker::Brand;
 use std::process::ExitCode;
-use std::rt::Env;
+use std::rt::{Env, Files};
 use std::sync::ledger::{Blank, Ledger};
 use std::thread::Threads;
 use std::{env, io};
@@ -46,8 +48,15 @@ fn name_of(status: Status) -> (&'static str, u8)
     }
 }
 
-/// Runs a script, with a counter on each of three ledgers, over a shelf without files: no command that is built uses any.
-fn run_script<R: Threads + Sync, S: Source, K: Sink, P: Ledger, T: Ledger, L: Ledger>(
+/// Runs a script, with a counter on each of three ledgers, over the files of the current folder.
+fn run_script<
+    R: Threads + Sync + Files + AllocGlobal,
+    S: Source,
+    K: Sink,
+    P: Ledger,
+    T: Ledger,
+    L: Ledger,
+>(
     rt: &R,
     alloc: Global,
     words: &[String],
@@ -60,14 +69,14 @@ fn run_script<R: Threads + Sync, S: Source, K: Sink, P: Ledger, T: Ledger, L: Le
     requires pairs { (pairs.name ≡ P.name) × (pairs.parts ≡ P.parts) × (0 < P.parts) }
     requires places { (places.name ≡ T.name) × (places.parts ≡ T.parts) × (0 < T.parts) }
     requires looks { (looks.name ≡ L.name) × (looks.parts ≡ L.parts) × (0 < L.parts) }
-    ensures usage { (result ≡ Status.Usage) ↔ (0 < length words.now) }
-    ensures script_fault { result ≡ Status.ScriptFault → Rose (S.faults script.old) (S.faults script.new) }
+    ensures usage { result ≡ Status.Usage → Refused (map string_bytes words.now) }
+    ensures refused { Refused (map string_bytes words.now) → (result ≡ Status.Usage) ⊎ (result ≡ Status.NoMemory) }
+    ensures script_fault { result ≡ Status.ScriptFault → AsksForNoDemo (map string_bytes words.now) × Rose (S.faults script.old) (S.faults script.new) }
     ensures out_fault { result ≡ Status.OutFault → Rose (K.faults out.old) (K.faults out.new) }
-    ensures shelf_fault { result ≡ Status.ShelfFault → ⊥ }
-    ensures too_long { result ≡ Status.ScriptTooLong → IfSome (S.left script.old) (λ bytes. 2 ^ 24 < length bytes) }
-    ensures nothing { (result ≡ Status.Usage) ⊎ (result ≡ Status.ScriptFault) ⊎ (result ≡ Status.ScriptTooLong) → K.written out.new ≡ K.written out.old }
+    ensures too_long { result ≡ Status.ScriptTooLong → AsksForNoDemo (map string_bytes words.now) × IfSome (S.left script.old) (λ bytes. 2 ^ 24 < length bytes) }
+    ensures nothing { (result ≡ Status.Usage) ⊎ (result ≡ Status.ScriptFault) ⊎ (result ≡ Status.ScriptTooLong) ⊎ Refused (map string_bytes words.now) → K.written out.new ≡ K.written out.old }
 {
-    let mut shelf = SureShelf::new(Vec::new(alloc));
+    let mut shelf = DirShelf::new(rt);
     let mut pairs = Steps::<P>::new(pairs);
     let mut places = Steps::<T>::new(places);
     let mut looks = Steps::<L>::new(looks);
@@ -85,13 +94,31 @@ fn run_script<R: Threads + Sync, S: Source, K: Sink, P: Ledger, T: Ledger, L: Le
     )
 }
 
+/// Tells the word of a status on standard error, where the lines weren't done to the end.
+fn tell_word(rt: &HostRuntime, status: Status) {
+    let (word, number) = name_of(status);
+    if number >= 2 {
+        let _ = eprintln!(rt; "spanbase: {word}");
+    }
+}
+
+/// Tells on standard error how a run ended: for refused words also why they are refused.
+fn tell(rt: &HostRuntime, status: Status, words: &[String]) {
+    if status == Status::Usage {
+        if let Ok(text) = usage_text(rt.alloc(), words) {
+            let _ = rt.stderr().write_all(text.bytes());
+            return;
+        }
+    }
+    tell_word(rt, status);
+}
+
 fn main(rt: HostRuntime) -> io::Result<ExitCode> {
     let status = match words_of(&rt) {
-        Err(status) => status,
         Ok(words) => {
             let mut script = StdSource::new(rt.reader());
             let mut out = StdSink::new(io::writer(&rt));
-            run_script::<_, _, _, Brand, Brand, Brand>(
+            let status = run_script::<_, _, _, Brand, Brand, Brand>(
                 &rt,
                 rt.alloc(),
                 &words,
@@ -100,12 +127,15 @@ fn main(rt: HostRuntime) -> io::Result<ExitCode> {
                 Blank::new(1),
                 Blank::new(1),
                 Blank::new(1),
-            )
+            );
+            tell(&rt, status, &words);
+            status
+        }
+        Err(status) => {
+            tell_word(&rt, status);
+            status
         }
     };
-    let (word, number) = name_of(status);
-    if number >= 2 {
-        let _ = eprintln!(rt; "spanbase: {word}");
-    }
+    let (_, number) = name_of(status);
     Ok(ExitCode::from(number))
 }

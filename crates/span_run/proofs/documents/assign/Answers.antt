@@ -1,10 +1,8 @@
-use Rattle.std.proofs.Common.{◌≡◌, sym, ap, subst, ◌∙◌, List, ℕ}
+use Rattle.std.proofs.Common.{ap, ◌∙◌}
 use Rattle.std.proofs.lemmas.Result.{err_from_is_err_and}
 use Rattle.edit_expr.specs.Eval.{eval}
 use Rattle.edit_expr.specs.Values.{plain, text_at}
-use Rattle.edit_expr.proofs.EvalLemmas.{AreLive-grows}
-use Rattle.span_run.specs.Held.{state_of}
-use Rattle.span_run.proofs.HeldLemmas.{state_of-grows}
+use Rattle.edit_expr.proofs.EvalLemmas.{AreLive-grows, plain-grows}
 use Rattle.span_run.proofs.CarryLemmas.{assigned_value, assigned_refusal}
 use Rattle.span_run.proofs.documents.assign.Goals as goal
 
@@ -14,7 +12,7 @@ give-requires-clause-live g c = AreLive-grows c.args.store.now c.eval.new.store 
 pub returns-in_err-answer-in-Ok-clause-err : goal.returns-in_err-answer-in-Ok-clause-err
 returns-in_err-answer-in-Ok-clause-err g c =
     let p = err_from_is_err_and c.from_residual.result c.from_residual.ensures.1 in
-    rw (p.1) (ap (state_of c.eval.new.store) c.in_err-answer-in-Ok.ensures.err ∙ state_of-grows c.args.store.now c.eval.new.store c.args.pairs.now c.eval.new.pairs c.eval.ensures.grows c.args.docs.now c.requires)
+    rw (p.1) (ap (plain c.eval.new.store) c.in_err-answer-in-Ok.ensures.err ∙ plain-grows c.args.store.now c.eval.new.store c.args.pairs.now c.eval.new.pairs c.eval.ensures.grows c.args.docs.now c.requires)
 
 pub returns-in_err-answer-in-Err-clause-live : goal.returns-in_err-answer-in-Err-clause-live
 returns-in_err-answer-in-Err-clause-live g c = AreLive-grows c.args.store.now c.eval.new.store c.args.pairs.now c.eval.new.pairs c.eval.ensures.grows c.args.docs.now c.requires
@@ -22,17 +20,17 @@ returns-in_err-answer-in-Err-clause-live g c = AreLive-grows c.args.store.now c.
 pub returns-in_err-answer-in-Err-clause-err : goal.returns-in_err-answer-in-Err-clause-err
 returns-in_err-answer-in-Err-clause-err g c =
     let p = err_from_is_err_and c.from_residual-in_err-answer-in-Err.result c.from_residual-in_err-answer-in-Err.ensures.1 in
-    rw (p.1) (state_of-grows c.args.store.now c.eval.new.store c.args.pairs.now c.eval.new.pairs c.eval.ensures.grows c.args.docs.now c.requires)
+    rw (p.1) (plain-grows c.args.store.now c.eval.new.store c.args.pairs.now c.eval.new.pairs c.eval.ensures.grows c.args.docs.now c.requires)
 
 pub returns-in_ok-answer-in-Ok-clause-ok : goal.returns-in_ok-answer-in-Ok-clause-ok
 returns-in_ok-answer-in-Ok-clause-ok g c =
-    assigned_value (state_of c.args.store.now c.args.docs.now) (state_of c.eval.new.store c.args.docs.now) (state_of c.eval.new.store c.give.new.docs) c.args.number c.args.name (text_at c.eval.new.store c.in-Ok.root) (eval (plain c.args.store.now c.args.docs.now) c.args.expr.now) c.in_ok-answer-in-Ok.answer.told c.in_ok-answer-in-Ok.answer.line.items
-    (state_of-grows c.args.store.now c.eval.new.store c.args.pairs.now c.eval.new.pairs c.eval.ensures.grows c.args.docs.now c.requires) c.in-Ok.ensures.value.1 c.in_ok-answer-in-Ok.ensures.ok
+    assigned_value (plain c.args.store.now c.args.docs.now) (plain c.eval.new.store c.args.docs.now) (plain c.eval.new.store c.give.new.docs) c.args.number c.args.name (text_at c.eval.new.store c.in-Ok.root) (eval (plain c.args.store.now c.args.docs.now) c.args.expr.now) c.in_ok-answer-in-Ok.answer.told c.in_ok-answer-in-Ok.answer.line.items
+    (plain-grows c.args.store.now c.eval.new.store c.args.pairs.now c.eval.new.pairs c.eval.ensures.grows c.args.docs.now c.requires) c.in-Ok.ensures.value.1 c.in_ok-answer-in-Ok.ensures.ok
 
 pub returns-in_ok-answer-in-Err-clause-live : goal.returns-in_ok-answer-in-Err-clause-live
 returns-in_ok-answer-in-Err-clause-live g c = AreLive-grows c.args.store.now c.eval.new.store c.args.pairs.now c.eval.new.pairs c.eval.ensures.grows c.args.docs.now c.requires
 
 pub returns-in_ok-answer-in-Err-clause-ok : goal.returns-in_ok-answer-in-Err-clause-ok
 returns-in_ok-answer-in-Err-clause-ok g c =
-    assigned_refusal (state_of c.args.store.now c.args.docs.now) (state_of c.eval.new.store c.args.docs.now) c.args.number c.args.name (eval (plain c.args.store.now c.args.docs.now) c.args.expr.now) c.in-Err.why c.in_ok-answer-in-Err.answer.told c.in_ok-answer-in-Err.answer.line.items
-    (state_of-grows c.args.store.now c.eval.new.store c.args.pairs.now c.eval.new.pairs c.eval.ensures.grows c.args.docs.now c.requires) c.in-Err.ensures.value c.in_ok-answer-in-Err.ensures
+    assigned_refusal (plain c.args.store.now c.args.docs.now) (plain c.eval.new.store c.args.docs.now) c.args.number c.args.name (eval (plain c.args.store.now c.args.docs.now) c.args.expr.now) c.in-Err.why c.in_ok-answer-in-Err.answer.told c.in_ok-answer-in-Err.answer.line.items
+    (plain-grows c.args.store.now c.eval.new.store c.args.pairs.now c.eval.new.pairs c.eval.ensures.grows c.args.docs.now c.requires) c.in-Err.ensures.value c.in_ok-answer-in-Err.ensures

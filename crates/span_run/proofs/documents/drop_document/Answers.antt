@@ -1,11 +1,12 @@
-use Rattle.std.proofs.Common.{◌≡◌, sym, ap, subst, ◌∙◌, List, ℕ}
+use Rattle.std.proofs.Common.{sym, ap, subst, ◌∙◌, List, ℕ}
 use Rattle.std.specs.Prelude.{Option, IsSome}
 use Rattle.doc_book.specs.declared.Doc.{Doc}
 use Rattle.doc_book.specs.Docs as book
 use Rattle.edge_io.specs.Files.{Files}
 use Rattle.edit_expr.specs.Values.{AreLive}
 use Rattle.script_syntax.specs.declared.form.Command.TheVariants as form
-use Rattle.span_run.specs.State.{world}
+use Rattle.span_types.specs.Query.{Query}
+use Rattle.span_run.specs.State.{Named, world}
 use Rattle.span_run.specs.Held.{state_of}
 use Rattle.span_run.specs.Step.{Carries}
 use Rattle.span_run.proofs.HeldLemmas.{AreLive-taken_out}
@@ -24,6 +25,6 @@ returns-in-Ok-clause-ok c =
 pub returns-in_ok-answer-in-Err-NoSuchDocument-clause-ok : goal.returns-in_ok-answer-in-Err-NoSuchDocument-clause-ok
 returns-in_ok-answer-in-Err-NoSuchDocument-clause-ok c =
     let a = c.in_ok-answer-in-Err-NoSuchDocument in
-    subst (λ (d : List Doc). (files : Option Files) → Carries (world (state_of c.args.store.now c.args.docs.now) files) c.args.number (form.DropDoc c.args.name) a.answer.told a.answer.line.items (world (state_of c.args.store.now d) files))
+    subst (λ (d : List Doc). (queries : Named Query) (files : Option Files) → Carries (world (state_of c.args.store.now c.args.docs.now queries) files) c.args.number (form.DropDoc c.args.name) a.answer.told a.answer.line.items (world (state_of c.args.store.now d queries) files))
     (sym c.in-Err-NoSuchDocument.ensures.same)
     (drop_missing c.args.store.now c.args.docs.now c.args.number c.args.name a.answer.told a.answer.line.items (ap (book.root_of c.args.docs.now) (sym c.bytes.ensures.value) ∙ c.in-Err-NoSuchDocument.ensures.err) a.ensures.0 a.ensures.1)

@@ -1,11 +1,10 @@
-use Rattle.std.proofs.Common.{◌≡◌, sym, ap, subst, ◌∙◌}
-use Rattle.edit_expr.specs.Values.{AreLive}
-use Rattle.span_run.specs.Held.{state_of}
-use Rattle.span_run.proofs.HeldLemmas.{AreLive-put, state_of-put}
+use Rattle.std.proofs.Common.{sym, ap, subst, ◌∙◌}
+use Rattle.edit_expr.specs.Values.{AreLive, plain}
+use Rattle.span_run.proofs.HeldLemmas.{AreLive-put, plain-put}
 use Rattle.span_run.proofs.documents.give.Goals as goal
 
 pub returns-clause-live : goal.returns-clause-live
 returns-clause-live c = subst (AreLive c.args.store.now) (sym c.in_ok-set.ensures.ok) (AreLive-put c.args.store.now c.args.docs.now c.args.name c.args.root c.requires.live c.requires.root)
 
 pub returns-clause-ok : goal.returns-clause-ok
-returns-clause-ok c = (c.in_ok-answer.ensures, ap (state_of c.args.store.now) c.in_ok-set.ensures.ok ∙ state_of-put c.args.store.now c.args.docs.now c.args.name c.args.root)
+returns-clause-ok c = (c.in_ok-answer.ensures, ap (plain c.args.store.now) c.in_ok-set.ensures.ok ∙ plain-put c.args.store.now c.args.docs.now c.args.name c.args.root)

@@ -1,5 +1,4 @@
-use Rattle.std.proofs.Common.{◌≡◌, sym, ap, ◌∙◌, List, ℕ}
-use Rattle.std.specs.Prelude.{Some, None}
+use Rattle.std.proofs.Common.{sym, ap, ◌∙◌}
 use Rattle.doc_book.specs.Docs as book
 use Rattle.span_run.proofs.HeldLemmas.{live_root}
 use Rattle.span_run.proofs.CarryLemmas.{show_carries, show_missing, some_of_ok, none_of_err}

@@ -56,6 +56,7 @@ loop-place-preserved g c =
           (subst (λ (l : List ℕ). IsListing a b l whole) rest c.loop-place.invariant.so_far)
           (subst (λ (l : List ℕ). Appends b d l) piece c.in_ok-offer.ensures.done));
       later = omega (arith, c.loop-place.invariant.later, c.offer.ensures.later);
+      wants_later = omega (arith, c.loop-place.invariant.wants_later, c.offer.ensures.wants_later);
     }
 
 pub returns-in_err-offer-2-clause-stopped : goal.returns-in_err-offer-2-clause-stopped

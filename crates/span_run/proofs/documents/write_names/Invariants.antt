@@ -1,4 +1,4 @@
-use Rattle.std.proofs.Common.{◌≡◌, ◌≤◌}
+use Rattle.std.proofs.Common.{◌≤◌}
 use Rattle.edit_expr.specs.Values.{plain}
 use Rattle.span_run.specs.Replies.{names_text}
 use Rattle.span_run.proofs.Written.{IsListing}
@@ -9,4 +9,5 @@ abbrev pub invariant-loop-place : goal.invariant-loop-place
 invariant-loop-place g l = record {
   so_far : IsListing (g.K.Sink.written l.fn.out) (g.K.Sink.written l.out) (names_rest l.store l.docs l.place) (names_text (plain l.store l.docs));
   later : g.K.Sink.faults l.fn.out ≤ g.K.Sink.faults l.out;
+  wants_later : g.K.Sink.wants l.fn.out ≤ g.K.Sink.wants l.out;
 }

@@ -1,5 +1,6 @@
-use Rattle.std.proofs.Common.{ℕ, ◌≡◌, ◌+◌, ◌-◌, ◌≤◌, ◌++◌, List, length}
+use Rattle.std.proofs.Common.{◌+◌, ◌≤◌, length}
 use Rattle.span_run.specs.Lines.{lines_of}
+use Rattle.span_run.specs.Held.{IsStanding}
 use Rattle.span_run.specs.Runs.{outside}
 use Rattle.span_run.proofs.RunsLemmas.{IsAt}
 use Rattle.span_run.proofs.top.run_lines.Given as goal
@@ -7,11 +8,13 @@ use Rattle.span_run.proofs.top.run_lines.Given as goal
 abbrev pub invariant-loop-rest : goal.invariant-loop-rest
 invariant-loop-rest g l = record {
   at : IsAt (lines_of l.script) (lines_of l.rest) l.number l.refused l.session
-      (outside (g.K.Sink.written l.fn.out) (g.F.Shelf.files l.fn.shelf) l.fn.looks l.fn.pairs)
-      (outside (g.K.Sink.written l.out) (g.F.Shelf.files l.shelf) l.looks l.pairs);
+      (outside (g.K.Sink.written l.fn.out) (g.F.Shelf.files l.fn.shelf) l.fn.looks l.fn.pairs l.fn.places)
+      (outside (g.K.Sink.written l.out) (g.F.Shelf.files l.shelf) l.looks l.pairs l.places);
+  standing : IsStanding l.session;
   few : l.number + length l.rest ≤ 1 + length l.script;
   later : g.K.Sink.faults l.fn.out ≤ g.K.Sink.faults l.out;
-  same : l.places ≡ l.fn.places;
+  wants_later : g.K.Sink.wants l.fn.out ≤ g.K.Sink.wants l.out;
+  shelf_later : g.F.Shelf.faults l.fn.shelf ≤ g.F.Shelf.faults l.shelf;
 }
 
 abbrev pub decreases-loop-rest : goal.decreases-loop-rest

@@ -1,0 +1,87 @@
+-- Queries by name, and how many nodes have their tables.
+use Rattle.std.proofs.Common.{◌≡◌, ℕ, suc, ◌+◌, ◌*◌, ◌≤◌, Bool, true, false, cond, List, [], ◌∷◌, length, Option, Some, None, refl, sym, ap, subst, ◌∙◌, arith, eq-eqb}
+use Rattle.std.specs.Prelude.{◌&&◌, nat_eq, IsSome}
+use Rattle.std.specs.Cmp.Lexicographic.{pointwise}
+use Rattle.std.specs.List.{AllByRecursion}
+use Rattle.slp_model.specs.declared.Node.{Node}
+use Rattle.slp_model.specs.Nodes.{Grows}
+use Rattle.query_book.specs.Named.{Named, is_same, value_of, put, taken_out}
+use Rattle.query_book.specs.declared.entry.Entry.{Entry}
+use Rattle.query_book.specs.Serving.{Serves, covered_of, sum_of, ArePartlyAt}
+use Rattle.query_book.proofs.Served.{serves-more}
+use Rattle.span_run.specs.Registered.{Places, PlacesPart}
+use Rattle.span_run.proofs.PlacesLemmas.{sum_within}
+
+-- tables stay true where the store grows
+pub serves-grows : (old new : List Node) (p q : ℕ) (es : List Entry) → Grows old new p q → Serves old es → Serves new es
+serves-grows old new p q es g h = subst (λ (ns : List Node). Serves ns es) (sym g.added) (serves-more old g.more es h)
+
+-- each query has tables of no more nodes than there are
+pub covered-within : (ns : List Node) (es : List Entry) → Serves ns es → AllByRecursion (λ p. p.1 ≤ length ns) (covered_of es)
+covered-within ns [] h = tt
+covered-within ns (e ∷ es) h = (h.0.covered, covered-within ns es h.1)
+
+is_same-refl : (name : List ℕ) → is_same name name ≡ true
+is_same-refl [] = refl
+is_same-refl (x ∷ xs) = ap (λ (b : Bool). b && pointwise nat_eq xs xs) (eq-eqb x x refl) ∙ is_same-refl xs
+
+at_own_name : {A : Type 0} (name : List ℕ) (x y : Option A) → cond (is_same name name) x y ≡ x
+at_own_name name x y = ap (λ (b : Bool). cond b x y) (is_same-refl name)
+
+-- the value that a name was given
+pub value_of-put : {A : Type 0} (ps : Named A) (name : List ℕ) (value : A) → value_of (put ps name value) name ≡ Some value
+value_of-put [] name value = at_own_name name (Some value) None
+value_of-put (p ∷ ps) name value = at (value_of-put ps name value) (is_same name p.0) refl
+  where
+    at : value_of (put ps name value) name ≡ Some value → (b : Bool) → is_same name p.0 ≡ b → value_of (cond b ((name, value) ∷ ps) (p ∷ put ps name value)) name ≡ Some value
+    at rest true is = at_own_name name (Some value) (value_of ps name)
+    at rest false is = ap (λ (b : Bool). cond b (Some p.1) (value_of (put ps name value) name)) is ∙ rest
+
+-- the value of a name that is there
+pub some_value : {A : Type 0} (o : Option A) → IsSome o → (x : A) × (o ≡ Some x)
+some_value None h = absurd (let bad : ⊥ = cc h in bad)
+some_value (Some x) h = (x, refl)
+
+-- a query that is registered, anew or for the first time
+pub put-places : (n : ℕ) (ps : Named ℕ) (name : List ℕ) → AllByRecursion (λ p. p.1 ≤ n) ps → sum_of ps + n * length (put ps name 0) ≤ sum_of (put ps name 0) + n * length ps + n
+put-places n [] name h = omega arith
+put-places n (p ∷ ps) name h = at (put-places n ps name h.1) (is_same name p.0)
+  where
+    at : sum_of ps + n * length (put ps name 0) ≤ sum_of (put ps name 0) + n * length ps + n → (b : Bool) → sum_of (p ∷ ps) + n * length (cond b ((name, 0) ∷ ps) (p ∷ put ps name 0)) ≤ sum_of (cond b ((name, 0) ∷ ps) (p ∷ put ps name 0)) + n * length (p ∷ ps) + n
+    at rest true = omega (arith, h.0)
+    at rest false = omega (arith, rest)
+
+-- a query that is taken out
+pub take-places : (n : ℕ) (ps : Named ℕ) (name : List ℕ) → AllByRecursion (λ p. p.1 ≤ n) ps → sum_of ps + n * length (taken_out ps name) ≤ sum_of (taken_out ps name) + n * length ps
+take-places n [] name h = omega arith
+take-places n (p ∷ ps) name h = at (take-places n ps name h.1) (is_same name p.0)
+  where
+    at : sum_of ps + n * length (taken_out ps name) ≤ sum_of (taken_out ps name) + n * length ps → (b : Bool) → sum_of (p ∷ ps) + n * length (cond b ps (p ∷ taken_out ps name)) ≤ sum_of (cond b ps (p ∷ taken_out ps name)) + n * length (p ∷ ps)
+    at rest true = omega (arith, h.0)
+    at rest false = omega (arith, rest)
+
+within-more : (m n : ℕ) (ps : Named ℕ) → m ≤ n → AllByRecursion (λ p. p.1 ≤ m) ps → AllByRecursion (λ p. p.1 ≤ n) ps
+within-more m n [] le h = tt
+within-more m n (p ∷ ps) le h = (omega (arith, le, h.0), within-more m n ps le h.1)
+
+pub put_placed : (nodes places : ℕ) (old new : Named ℕ) (name : List ℕ) → new ≡ put old name 0 → AllByRecursion (λ p. p.1 ≤ nodes) old → Places 1 nodes old new places places
+put_placed nodes places old new name is h = subst (λ (c : Named ℕ). Places 1 nodes old c places places) (sym is) (λ n le. let step = put-places n old name (within-more nodes n old le h) in omega (arith, step))
+
+pub take_placed : (nodes places : ℕ) (old new : Named ℕ) (name : List ℕ) → new ≡ taken_out old name → AllByRecursion (λ p. p.1 ≤ nodes) old → Places 0 nodes old new places places
+take_placed nodes places old new name is h = subst (λ (c : Named ℕ). Places 0 nodes old c places places) (sym is) (λ n le. let step = take-places n old name (within-more nodes n old le h) in omega (arith, step))
+
+partly-length : (n : ℕ) (ps qs : Named ℕ) → ArePartlyAt n ps qs → length qs ≡ length ps
+partly-length n [] [] h = refl
+partly-length n [] (q ∷ qs) h = absurd h
+partly-length n (p ∷ ps) [] h = absurd h
+partly-length n (p ∷ ps) (q ∷ qs) h = ap suc (partly-length n ps qs h.2)
+
+-- tables were given to nodes
+pub grown_placed : (nodes p q : ℕ) (old new : Named ℕ) → ArePartlyAt nodes old new → q + sum_of old ≡ p + sum_of new → Places 0 nodes old new p q
+grown_placed nodes p q old new partly steps = λ n le. let same = ap (λ k. n * k) (partly-length nodes old new partly) in omega (arith, same, steps)
+
+pub grown_placed_part : (nodes p q : ℕ) (old new : Named ℕ) → AllByRecursion (λ x. x.1 ≤ nodes) new → ArePartlyAt nodes old new → q + sum_of old ≡ p + sum_of new → PlacesPart nodes old p q
+grown_placed_part nodes p q old new within partly steps = λ n le.
+    let same = ap (λ k. n * k) (partly-length nodes old new partly) in
+    let sums = sum_within n nodes le new within in
+    omega (arith, same, sums, steps)

@@ -1,0 +1,6 @@
+use Rattle.std.proofs.Common.{arith}
+use Rattle.slp_model.proofs.NodesLemmas.{Grows-none}
+use Rattle.span_run.proofs.files.load_from.Goals as goal
+
+pub returns-in_err-check_size-clause-grows : goal.returns-in_err-check_size-clause-grows
+returns-in_err-check_size-clause-grows g c = Grows-none c.args.store.now c.args.pairs.now c.args.pairs.now (omega arith)

@@ -1,0 +1,15 @@
+use Rattle.std.proofs.Common.{◌≡◌, ◌+◌, ◌-◌, ◌^◌, ◌≤◌, length}
+use Rattle.span_run.specs.Step.{open_size}
+use Rattle.span_run.specs.Reading.{IsFileFront}
+use Rattle.span_run.proofs.files.read_pieces.Given as goal
+
+abbrev pub invariant-loop-piece : goal.invariant-loop-piece
+invariant-loop-piece g l = record {
+  within : length l.bytes.items ≤ open_size;
+  front : IsFileFront (g.F.Shelf.files l.fn.shelf) l.name open_size l.bytes.items;
+  files : g.F.Shelf.files l.shelf ≡ g.F.Shelf.files l.fn.shelf;
+  later : g.F.Shelf.faults l.fn.shelf ≤ g.F.Shelf.faults l.shelf;
+}
+
+abbrev pub decreases-loop-piece : goal.decreases-loop-piece
+decreases-loop-piece g l = 2 ^ 30 + 1 - length l.bytes.items

@@ -1,0 +1,6 @@
+use Rattle.span_run.proofs.ReadingLemmas.{byte_behind}
+use Rattle.span_run.proofs.reading.check_size.Goals as goal
+
+pub returns-then-count-gt0-clause-refused : goal.returns-then-count-gt0-clause-refused
+returns-then-count-gt0-clause-refused g c =
+    byte_behind (g.F.Shelf.files c.args.shelf.now) c.args.name.now c.args.limit c.in_ok-count.count c.read_at.new.into c.if-count-gt0.true c.in_ok-count.ensures.bound.0 c.in_ok-count.ensures.bytes

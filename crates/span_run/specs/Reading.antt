@@ -1,0 +1,42 @@
+-- Files that are read in pieces.
+use Rattle.std.specs.Prelude.{◌≡◌, ◌⊎◌, ℕ, ◌+◌, ◌<◌, ◌≤◌, List, Option, Some, IfSome, length, take}
+use Rattle.edge_io.specs.Files.{Files, Holds, file_of}
+use Rattle.edge_io.specs.declared.ShelfRefusal.{ShelfRefusal}
+use Rattle.edge_io.specs.declared.ShelfRefusal.TheVariants as shelf
+use Rattle.slp_image.specs.Image.{image}
+use Rattle.span_run.specs.Step.{IsWithin, Lacks, load_size, open_size}
+use Rattle.span_run.specs.Allowance.{load_limit}
+use Rattle.span_run.specs.declared.reading.FileRefusal.{FileRefusal}
+use Rattle.span_run.specs.declared.reading.FileRefusal.TheVariants.{Absent, TooLong, Failed, NoMemory}
+
+-- a shelf's refusal, as the reader of a file gives it
+abbrev pub of_shelf : ShelfRefusal → FileRefusal
+of_shelf shelf.Failed = Failed
+of_shelf shelf.NoMemory = NoMemory
+of_shelf shelf.Absent = Absent
+
+-- what a refusal of a file says
+abbrev pub IsTurnedAway : Option Files → List ℕ → ℕ → FileRefusal → Type 0
+IsTurnedAway files name limit Absent = Lacks files name
+IsTurnedAway files name limit TooLong = (bytes : List ℕ) × Holds files name bytes × (limit < length bytes)
+IsTurnedAway files name limit Failed = Unit {0}
+IsTurnedAway files name limit NoMemory = Unit {0}
+
+-- the file of this name has at most so many bytes, and begins with these
+pub record IsFrontOf (all : Files) (name : List ℕ) (limit : ℕ) (front : List ℕ) : Type 0 where
+  pub file : List ℕ
+  pub there : file_of all name ≡ Some file
+  pub short : length file ≤ limit
+  pub begins : front ≡ take (length front) file
+
+-- where the files are told
+abbrev pub IsFileFront : Option Files → List ℕ → ℕ → List ℕ → Type 0
+IsFileFront files name limit front = IfSome files (λ all. IsFrontOf all name limit front)
+
+-- the pair calls of loading a file: none, or at most those that its bytes may cost
+abbrev pub IsLoadPaid : Option Files → List ℕ → ℕ → ℕ → Type 0
+IsLoadPaid files name before after = (after ≡ before) ⊎ ((bytes : List ℕ) × IsWithin files name load_size bytes × (after ≤ before + load_limit (length bytes)))
+
+-- the pair calls of opening a file: none, or at most those that its image may cost
+abbrev pub IsOpenPaid : Option Files → List ℕ → ℕ → ℕ → Type 0
+IsOpenPaid files name before after = (after ≡ before) ⊎ ((bytes : List ℕ) × IsWithin files name open_size bytes × (after ≤ before + (image bytes).cost))
