@@ -238,7 +238,7 @@ def make(folder, quick, huge):
 
 
 # commands that the scripts use and the program doesn't have yet
-UNBUILT = ("list ", "has ")
+UNBUILT = ("list ",)
 
 
 def write_script(file, lines):

@@ -4,6 +4,7 @@ pub mod HeldLemmas
 pub mod PlacesLemmas
 pub mod BookLemmas
 pub mod QueryLemmas
+pub mod HasLemmas
 pub mod ReadingLemmas
 pub mod CarryLemmas
 pub mod FileLemmas

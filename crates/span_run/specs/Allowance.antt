@@ -50,6 +50,7 @@ IsAllowed old (LoadFile name file) a = ((why : Refusal) × IsFileRefused old.fil
 IsAllowed old (LetDoc name expr) a = (((e : Expr) → ExprReads expr e → ⊥) × (a ≡ no_steps))
     ⊎ ((e : Expr) × ExprReads expr e × (a ≡ record { looks = 0; pairs = edit_limit (operations e) (greatest old.state.documents e) }))
 IsAllowed old (form.Nonempty query name) a = IsQuestionAllowed old query name (IsRefused old (form.Nonempty query name)) a
+IsAllowed old (form.Has query name word) a = IsQuestionAllowed old query name (IsRefused old (form.Has query name word)) a
 IsAllowed old (OpenFile file) a = ((why : Refusal) × IsFileRefused old.files file open_size why × (a ≡ no_steps))
     ⊎ ((bytes : List ℕ) × IsWithin old.files file open_size bytes × (a ≡ record { looks = 0; pairs = (image bytes).cost }))
 IsAllowed old _ a = a ≡ no_steps

@@ -1,5 +1,6 @@
 pub mod Lines
 pub mod State
+pub mod Words
 pub mod Held
 pub mod Replies
 pub mod Shown
@@ -8,5 +9,6 @@ pub mod Allowance
 pub mod Registered
 pub mod Reading
 pub mod Asked
+pub mod Judged
 pub mod Runs
 pub mod Scripts

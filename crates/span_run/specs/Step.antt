@@ -15,7 +15,9 @@ use Rattle.span_types.specs.Rel.{names_of}
 use Rattle.formula_syntax.specs.FormulaOf.{FormulaOf}
 use Rattle.formula_syntax.specs.FormulaOf as formula
 use Rattle.query_book.specs.Registering.{IsQueryOf, IsTooLarge}
-use Rattle.query_book.specs.Answers.{HasAnswer}
+use Rattle.query_book.specs.Answers.{HasAnswer, IsAnswer}
+use Rattle.span_enum.specs.Members.{Tuple}
+use Rattle.span_cursor.specs.Tuples.{TupleText}
 use Rattle.slp_image.specs.Fields.{kind_of}
 use Rattle.slp_image.specs.Image.{image}
 use Rattle.slp_image.specs.Save.{SaveForm}
@@ -24,6 +26,7 @@ use Rattle.report_text.specs.Reply.{shown_text, query_text, saved_text, opened_t
 use Rattle.report_text.specs.declared.refusal.Refusal.{Refusal}
 use Rattle.report_text.specs.declared.refusal.Refusal.TheVariants.{Syntax, NoSuchDocument, NoSuchQuery, FormulaTooLong, BadFormula, TooDeep, TooManyPositions, TooManyVariables, NotFunctional, TooManyStates, NoSuchFile, FileTooLong, BadImage}
 use Rattle.span_run.specs.State.{World, Documents, Named, world, value_of, put, taken_out, with_documents, with_queries}
+use Rattle.span_run.specs.Words.{IsTupleRefused}
 use Rattle.span_run.specs.Replies.{ok_text, yes_text, no_text, given_text, names_text, shown, IsEditRefusal}
 use Rattle.span_run.specs.declared.told.Told.{Told}
 use Rattle.span_run.specs.declared.told.Told.TheVariants.{Quiet, Accepted, Refused}
@@ -112,6 +115,8 @@ Does old (Show name i j) reply new = (bytes : List ℕ) × (shown old.state.docu
 Does old (form.Query name text) reply new = (q : Query) × IsQueryOf text q × (reply ≡ query_text name (names_of q)) × HasQueries old new (put old.state.queries name q)
 Does old (form.Unquery name) reply new = (q : Query) × (value_of old.state.queries name ≡ Some q) × (reply ≡ ok_text) × HasQueries old new (taken_out old.state.queries name)
 Does old (form.Nonempty query name) reply new = (q : Query) × (text : List ℕ) × IsAsked old query name q text × IsYesOrNo (HasAnswer q text) reply × (new ≡ old)
+Does old (form.Has query name word) reply new = (q : Query) × (text : List ℕ) × (tuple : Tuple) × IsAsked old query name q text × TupleText word (names_of q) tuple
+    × IsYesOrNo (IsAnswer q text tuple) reply × (new ≡ old)
 Does old (SaveFile file) reply new = (bytes : List ℕ) × (nodes : ℕ) × IsSaved old.state.documents bytes nodes
     × (reply ≡ saved_text (length old.state.documents) nodes) × (new.state ≡ old.state) × IsPut old.files file bytes new.files
 Does old (OpenFile file) reply new = (bytes : List ℕ) × (documents : Documents) × (nodes : ℕ) × IsWithin old.files file open_size bytes
@@ -131,6 +136,8 @@ IsRefused old (Show name i j) why = shown old.state.documents name i j ≡ Err w
 IsRefused old (form.Query name text) why = IsTextRefused text why
 IsRefused old (form.Unquery name) why = (value_of old.state.queries name ≡ None) × (why ≡ NoSuchQuery name)
 IsRefused old (form.Nonempty query name) why = IsUnasked old query name why
+IsRefused old (form.Has query name word) why = IsUnasked old query name why
+    ⊎ ((q : Query) × (text : List ℕ) × IsAsked old query name q text × IsTupleRefused q word why)
 IsRefused old (SaveFile file) why = ⊥
 IsRefused old (OpenFile file) why = IsFileRefused old.files file open_size why
     ⊎ ((bytes : List ℕ) × (kind : ℕ) × IsWithin old.files file open_size bytes × IsFaulty bytes kind × (why ≡ BadImage kind))
@@ -199,6 +206,7 @@ IsSingle Names = ⊥
 IsSingle (form.Query name text) = ⊥
 IsSingle (form.Unquery name) = ⊥
 IsSingle (form.Nonempty query name) = ⊥
+IsSingle (form.Has query name word) = ⊥
 IsSingle (SaveFile file) = ⊥
 IsSingle (OpenFile file) = ⊥
 IsSingle _ = Unit {0}
@@ -215,6 +223,7 @@ IsUnbuilt (Show name i j) = ⊥
 IsUnbuilt (form.Query name text) = ⊥
 IsUnbuilt (form.Unquery name) = ⊥
 IsUnbuilt (form.Nonempty query name) = ⊥
+IsUnbuilt (form.Has query name word) = ⊥
 IsUnbuilt (SaveFile file) = ⊥
 IsUnbuilt (OpenFile file) = ⊥
 IsUnbuilt _ = Unit {0}

@@ -19,7 +19,7 @@ ghost use Rattle.span_run.specs.Step.{Carries, Finishes, Halts, Leaves, HasReply
 use crate::answer::{Answer, send};
 use crate::documents::{drop_document, let_document, show, text, write_names};
 use crate::files::{load_file, open_file, save_file};
-use crate::queries::{query, test, unquery};
+use crate::queries::{has, query, test, unquery};
 use crate::told::{Stop, Told};
 use doc_book::Docs;
 use edge_io::{Shelf, Sink};
@@ -258,6 +258,45 @@ fn carry_test<R: Threads + Sync, K: Sink, G: Gate, T: Ledger, L: Ledger>(
     send(answer, out)
 }
 
+/// `has`, and its reply.
+fn carry_has<R: Threads + Sync, K: Sink, G: Gate, T: Ledger, L: Ledger>(
+    rt: &R,
+    alloc: Global,
+    store: &Store,
+    docs: &Docs,
+    book: &mut QueryBook,
+    number: u64,
+    query: Name,
+    name: Name,
+    word: ByteList,
+    workers: u8,
+    out: &mut K,
+    gate: &G,
+    places: &mut Steps<T>,
+    looks: &mut Steps<L>,
+) -> Result<Told, Stop>
+    requires least { 1 ≤ workers }
+    requires most { workers ≤ 64 }
+    requires live { AreLive store.now docs.now }
+    requires serves { Serves store.now book.old }
+    ensures serves { Serves store.now book.new }
+    ensures done { IfOk result (λ told. (files : Option Files) → Finishes (Carries (world (state_of store.now docs.now (queries_of book.old)) files) number (form.Has query name word)) told (K.written out.old) (K.written out.new) (world (state_of store.now docs.now (queries_of book.new)) files)) }
+    ensures stopped { OnErr result ((files : Option Files) → Halts (Carries (world (state_of store.now docs.now (queries_of book.old)) files) number (form.Has query name word)) (world (state_of store.now docs.now (queries_of book.old)) files) (K.written out.old) (K.written out.new) (world (state_of store.now docs.now (queries_of book.new)) files)) }
+    ensures placed { Places 0 (length store.now) (covered_of book.old) (covered_of book.new) places.old places.new }
+    ensures placed_part { PlacesPart (length store.now) (covered_of book.old) places.old places.new }
+    ensures paid { OnOk result ((files : Option Files) (pairs : ℕ) → PaysFor (world (state_of store.now docs.now (queries_of book.old)) files) (form.Has query name word) (counters looks.old pairs) (counters looks.new pairs)) }
+    ensures begun { (files : Option Files) (pairs : ℕ) → PaysForPart (world (state_of store.now docs.now (queries_of book.old)) files) (form.Has query name word) (counters looks.old pairs) (counters looks.new pairs) }
+    ensures later { K.faults out.old ≤ K.faults out.new }
+    ensures wants_later { K.wants out.old ≤ K.wants out.new }
+    ensures fault { IfErr result (λ why. why ≡ Stop.OutFault → Rose (K.faults out.old) (K.faults out.new)) }
+    ensures shelf_fault { IfErr result (λ why. why ≡ Stop.ShelfFault → ⊥) }
+{
+    let answer = has(
+        rt, alloc, store, docs, book, number, query, name, word, workers, gate, places, looks,
+    )?;
+    send(answer, out)
+}
+
 /// Does a command that was read, and writes its reply.
 fn carry<R: Threads + Sync, K: Sink, F: Shelf, G: Gate, P: Ledger, T: Ledger, L: Ledger>(
     rt: &R,
@@ -314,6 +353,10 @@ fn carry<R: Threads + Sync, K: Sink, F: Shelf, G: Gate, P: Ledger, T: Ledger, L:
         Command::Unquery { name } => carry_unquery(alloc, book, number, name, out),
         Command::Nonempty { query, name } => carry_test(
             rt, alloc, store, docs, book, number, query, name, workers, out, gate, places, looks,
+        ),
+        Command::Has { query, name, tuple } => carry_has(
+            rt, alloc, store, docs, book, number, query, name, tuple, workers, out, gate, places,
+            looks,
         ),
         command => carry_single(alloc, store, docs, number, command, out, pairs),
     }

@@ -12,6 +12,7 @@ mod reading;
 mod session;
 mod told;
 mod top;
+mod words;
 
 pub use session::Session;
 pub use span_words::usage_text;

@@ -4,7 +4,7 @@ ghost use Rattle.std.specs.List.{AllByRecursion};
 ghost use Rattle.slp_model.specs.declared.Node.{Node};
 ghost use Rattle.slp_model.specs.Nodes.{IsLive};
 ghost use Rattle.edit_expr.specs.Values.{AreLive, text_at};
-ghost use Rattle.query_book.specs.Answers.{HasAnswer, most_looks};
+ghost use Rattle.query_book.specs.Answers.{HasAnswer, HasVariablesOf, IsAnswer, most_looks};
 ghost use Rattle.edge_io.specs.Files.{Files};
 ghost use Rattle.report_text.specs.Reply.{query_text};
 ghost use Rattle.script_syntax.specs.declared.form.Command.TheVariants as form;
@@ -19,18 +19,20 @@ ghost use Rattle.span_run.specs.Allowance.{PaysFor, PaysForPart, counters};
 ghost use Rattle.span_run.specs.State.{Documents, stated, world};
 ghost use Rattle.span_run.specs.Registered.{IsCounted, Places, PlacesPart};
 ghost use Rattle.span_run.specs.Asked.{IsAnswered};
+ghost use Rattle.span_run.specs.Judged.{IsJudged};
 ghost use Rattle.span_run.specs.Shown.{IsFormulaRefusal, IsTextDenied};
 ghost use Rattle.span_run.specs.Step.{Carries, Halts};
 
 use crate::answer::{Answer, ok_line};
 use crate::told::Told;
+use crate::words::{tuple_of, word_refusal};
 use doc_book::{Docs, Missing};
 use formula_syntax::FormulaRefusal;
 use node_store::Store;
 use query_book::{QueryBook, QueryRefusal};
 use report_text::{Refusal, query_line};
 use slp_model::NodeId;
-use span_types::{ByteList, Name, NoMemory, Steps};
+use span_types::{ByteList, Name, NoMemory, Steps, Tuple};
 use std::alloc::Global;
 use std::sync::ledger::Ledger;
 use std::thread::Threads;
@@ -200,6 +202,104 @@ pub fn test<R: Threads + Sync, G: Gate, T: Ledger, L: Ledger>(
         Ok(root) => {
             book.grow_all(rt, alloc, store, workers, gate, places)?;
             let answer = test_root(alloc, store, book, number, query, root, looks)?;
+            Ok(answer)
+        }
+        Err(Missing::NoSuchDocument) => {
+            let answer = Answer::refused(alloc, number, &Refusal::NoSuchDocument { name })?;
+            Ok(answer)
+        }
+    }
+}
+
+/// Whether a tuple of a query's variables is an answer on a root's text, as a reply.
+fn has_tuple<L: Ledger>(
+    alloc: Global,
+    store: &Store,
+    book: &QueryBook,
+    number: u64,
+    query: Name,
+    root: Option<NodeId>,
+    tuple: &Tuple,
+    looks: &mut Steps<L>,
+) -> Result<Answer, NoMemory>
+    requires covers { Covers store.now book.now }
+    requires live { IsLive store.now root }
+    requires tuple { HasVariablesOf (queries_of book.now) query tuple.now }
+    ensures ok { IfOk result (λ answer. IsAnswered (λ q. IsAnswer q (text_at store.now root) tuple.now) number (queries_of book.now) query answer.told answer.line.items) }
+    ensures cost { looks.new ≤ looks.old + most_looks (value_of (queries_of book.now) query) (text_at store.now root) }
+{
+    match book.has(query.bytes(), store, root, tuple, looks) {
+        Ok(yes) => {
+            let answer = yes_or_no(alloc, yes)?;
+            Ok(answer)
+        }
+        Err(_) => {
+            let answer = Answer::refused(alloc, number, &Refusal::NoSuchQuery { name: query })?;
+            Ok(answer)
+        }
+    }
+}
+
+/// Whether a word is an answer of a query on a root's text, as a reply.
+fn has_root<L: Ledger>(
+    alloc: Global,
+    store: &Store,
+    book: &QueryBook,
+    number: u64,
+    query: Name,
+    word: &ByteList,
+    root: Option<NodeId>,
+    looks: &mut Steps<L>,
+) -> Result<Answer, NoMemory>
+    requires covers { Covers store.now book.now }
+    requires live { IsLive store.now root }
+    ensures ok { IfOk result (λ answer. IsJudged number (queries_of book.now) query word.now (text_at store.now root) answer.told answer.line.items) }
+    ensures cost { looks.new ≤ looks.old + most_looks (value_of (queries_of book.now) query) (text_at store.now root) }
+{
+    match tuple_of(book, &query, word) {
+        Ok(tuple) => {
+            let answer = has_tuple(alloc, store, book, number, query, root, &tuple, looks)?;
+            Ok(answer)
+        }
+        Err(why) => {
+            let answer = Answer::refused(alloc, number, &word_refusal(why, query))?;
+            Ok(answer)
+        }
+    }
+}
+
+/// `has Q NAME TUPLE`
+pub fn has<R: Threads + Sync, G: Gate, T: Ledger, L: Ledger>(
+    rt: &R,
+    alloc: Global,
+    store: &Store,
+    docs: &Docs,
+    book: &mut QueryBook,
+    number: u64,
+    query: Name,
+    name: Name,
+    word: ByteList,
+    workers: u8,
+    gate: &G,
+    places: &mut Steps<T>,
+    looks: &mut Steps<L>,
+) -> Result<Answer, NoMemory>
+    requires least { 1 ≤ workers }
+    requires most { workers ≤ 64 }
+    requires live { AreLive store.now docs.now }
+    requires serves { Serves store.now book.old }
+    ensures serves { Serves store.now book.new }
+    ensures queries { queries_of book.new ≡ queries_of book.old }
+    ensures ok { IfOk result (λ answer. (files : Option Files) → Carries (world (state_of store.now docs.now (queries_of book.old)) files) number (form.Has query name word) answer.told answer.line.items (world (state_of store.now docs.now (queries_of book.old)) files)) }
+    ensures placed { Places 0 (length store.now) (covered_of book.old) (covered_of book.new) places.old places.new }
+    ensures placed_part { PlacesPart (length store.now) (covered_of book.old) places.old places.new }
+    ensures paid { OnOk result ((files : Option Files) (pairs : ℕ) → PaysFor (world (state_of store.now docs.now (queries_of book.old)) files) (form.Has query name word) (counters looks.old pairs) (counters looks.new pairs)) }
+    ensures begun { (files : Option Files) (pairs : ℕ) → PaysForPart (world (state_of store.now docs.now (queries_of book.old)) files) (form.Has query name word) (counters looks.old pairs) (counters looks.new pairs) }
+{
+    match docs.get(name.bytes()) {
+        Ok(root) => {
+            book.grow_all(rt, alloc, store, workers, gate, places)?;
+            let answer = has_root(alloc, store, book, number, query, &word, root, looks)?;
             Ok(answer)
         }
         Err(Missing::NoSuchDocument) => {

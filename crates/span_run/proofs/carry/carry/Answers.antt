@@ -254,7 +254,7 @@ returns-in-Nonempty-clause-begun g c =
 pub carry_single-requires : goal.carry_single-requires
 carry_single-requires g c =
     record {
-      single = is_single c.args.command c.in_default.not-Nothing c.in_default.not-Names c.in_default.not-LoadFile c.in_default.not-OpenFile c.in_default.not-SaveFile c.in_default.not-Query c.in_default.not-Unquery c.in_default.not-Nonempty;
+      single = is_single c.args.command c.in_default.not-Nothing c.in_default.not-Names c.in_default.not-LoadFile c.in_default.not-OpenFile c.in_default.not-SaveFile c.in_default.not-Query c.in_default.not-Unquery c.in_default.not-Nonempty c.in_default.not-Has;
       short = c.requires.short;
       live = c.requires.live;
     }
@@ -310,3 +310,37 @@ pub returns-in_err-write_names-in-Names-clause-want : goal.returns-in_err-write_
 returns-in_err-write_names-in-Names-clause-want g c =
     let p = err_from_is_err_and c.from_residual.result c.from_residual.ensures.1 in
     rw (p.1) (λ is. inl (λ list. subst IsList c.in-Names.is list))
+
+pub returns-in-Has-clause-done : goal.returns-in-Has-clause-done
+returns-in-Has-clause-done g c =
+    subst (λ (k : Command). IfOk c.carry_has.result (λ told. Finishes (Carries (world (state_of c.args.store.now c.args.docs.now (queries_of c.args.book.now)) (g.F.Shelf.files c.args.shelf.now)) c.args.number k) told (g.K.Sink.written c.args.out.now) (g.K.Sink.written c.carry_has.new.out) (world (state_of c.args.store.now c.args.docs.now (queries_of c.carry_has.new.book)) (g.F.Shelf.files c.args.shelf.now)))) (sym c.in-Has.is)
+    (if_ok_map c.carry_has.result _ _ (λ told h. h (g.F.Shelf.files c.args.shelf.now)) c.carry_has.ensures.done)
+
+pub returns-in-Has-clause-stopped : goal.returns-in-Has-clause-stopped
+returns-in-Has-clause-stopped g c =
+    subst (λ (k : Command). OnErr c.carry_has.result (Halts (Carries (world (state_of c.args.store.now c.args.docs.now (queries_of c.args.book.now)) (g.F.Shelf.files c.args.shelf.now)) c.args.number k) (world (state_of c.args.store.now c.args.docs.now (queries_of c.args.book.now)) (g.F.Shelf.files c.args.shelf.now)) (g.K.Sink.written c.args.out.now) (g.K.Sink.written c.carry_has.new.out) (world (state_of c.args.store.now c.args.docs.now (queries_of c.carry_has.new.book)) (g.F.Shelf.files c.args.shelf.now)))) (sym c.in-Has.is)
+    (on_err_map c.carry_has.result _ _ (λ h. h (g.F.Shelf.files c.args.shelf.now)) c.carry_has.ensures.stopped)
+
+pub returns-in-Has-clause-grows : goal.returns-in-Has-clause-grows
+returns-in-Has-clause-grows g c =
+    Grows-none c.args.store.now c.args.pairs.now c.args.pairs.now (omega arith)
+
+pub returns-in-Has-clause-placed : goal.returns-in-Has-clause-placed
+returns-in-Has-clause-placed g c =
+    if_ok_any c.carry_has.result _ (λ told. (0, none_registered c.args.command (λ h. subst Registers c.in-Has.is h) told, c.carry_has.ensures.placed))
+
+pub returns-in-Has-clause-placed_part : goal.returns-in-Has-clause-placed_part
+returns-in-Has-clause-placed_part g c =
+    on_err_from c.carry_has.result _ c.carry_has.ensures.placed_part
+
+pub returns-in-Has-clause-paid : goal.returns-in-Has-clause-paid
+returns-in-Has-clause-paid g c =
+    subst (λ (k : Command). OnOk c.carry_has.result (PaysFor (world (state_of c.args.store.now c.args.docs.now (queries_of c.args.book.now)) (g.F.Shelf.files c.args.shelf.now)) k (counters c.args.looks.now c.args.pairs.now) (counters c.carry_has.new.looks c.args.pairs.now))) (sym c.in-Has.is) (on_ok_map c.carry_has.result _ _ (λ h. h (g.F.Shelf.files c.args.shelf.now) c.args.pairs.now) c.carry_has.ensures.paid)
+
+pub returns-in-Has-clause-begun : goal.returns-in-Has-clause-begun
+returns-in-Has-clause-begun g c =
+    subst (λ (k : Command). OnErr c.carry_has.result (PaysForPart (world (state_of c.args.store.now c.args.docs.now (queries_of c.args.book.now)) (g.F.Shelf.files c.args.shelf.now)) k (counters c.args.looks.now c.args.pairs.now) (counters c.carry_has.new.looks c.args.pairs.now))) (sym c.in-Has.is) (on_err_from c.carry_has.result _ (c.carry_has.ensures.begun (g.F.Shelf.files c.args.shelf.now) c.args.pairs.now))
+
+pub returns-in-Has-clause-want : goal.returns-in-Has-clause-want
+returns-in-Has-clause-want g c =
+    if_err_any c.carry_has.result _ (λ why is. inl (λ list. subst IsList c.in-Has.is list))

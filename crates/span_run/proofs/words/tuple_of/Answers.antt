@@ -1,0 +1,29 @@
+use Rattle.std.proofs.Common.{◌≡◌, ℕ, List, Option, Some, None, refl, sym, subst}
+use Rattle.std.specs.Prelude.{option_map}
+use Rattle.span_types.specs.Query.{Query}
+use Rattle.span_types.specs.Rel.{names_of}
+use Rattle.span_cursor.specs.Tuples.{HasOtherNames, IsTupleText}
+use Rattle.query_book.specs.Book.{queries_of}
+use Rattle.span_run.specs.State.{Named, value_of}
+use Rattle.span_run.proofs.words.tuple_of.Goals as goal
+
+-- the query whose variables were told
+of_query : (queries : Named Query) (bytes name : List ℕ) (vars : List (List ℕ)) (P : List (List ℕ) → Type 0) → option_map names_of (value_of queries bytes) ≡ Some vars → bytes ≡ name → P vars
+    → (q : Query) × (value_of queries name ≡ Some q) × P (names_of q)
+of_query queries bytes name vars P told same h = subst (λ (n : List ℕ). (q : Query) × (value_of queries n ≡ Some q) × P (names_of q)) same (at (value_of queries bytes) told)
+  where
+    at : (o : Option Query) → option_map names_of o ≡ Some vars → (q : Query) × (o ≡ Some q) × P (names_of q)
+    at None e = let bad : ⊥ = cc e in absurd bad
+    at (Some q) e = let names : names_of q ≡ vars = cc e in (q, refl, subst P (sym names) h)
+
+pub returns-in-Err-BadTuple-clause-err : goal.returns-in-Err-BadTuple-clause-err
+returns-in-Err-BadTuple-clause-err c =
+    let no : IsTupleText c.bytes-in-Ok.result.now → ⊥ = c.in-Err-BadTuple.ensures.bad_tuple.0 (cc (c.in-Err-BadTuple.field-0-is, c.in-Err-BadTuple.is)) in
+    of_query (queries_of c.args.book.now) c.bytes.result.now c.args.query.now c.in-Ok.vars.now (λ vars. IsTupleText c.args.word.now → ⊥) c.in-Ok.ensures c.bytes.ensures.value
+    (subst (λ (t : List ℕ). IsTupleText t → ⊥) c.bytes-in-Ok.ensures no)
+
+pub returns-in-Err-OtherVariables-clause-err : goal.returns-in-Err-OtherVariables-clause-err
+returns-in-Err-OtherVariables-clause-err c =
+    let other : HasOtherNames c.bytes-in-Ok.result.now c.in-Ok.vars.now = c.in-Err-OtherVariables.ensures.other_variables.0 (cc (c.in-Err-OtherVariables.field-0-is, c.in-Err-OtherVariables.is)) in
+    of_query (queries_of c.args.book.now) c.bytes.result.now c.args.query.now c.in-Ok.vars.now (λ vars. HasOtherNames c.args.word.now vars) c.in-Ok.ensures c.bytes.ensures.value
+    (subst (λ (t : List ℕ). HasOtherNames t c.in-Ok.vars.now) c.bytes-in-Ok.ensures other)
