@@ -121,6 +121,11 @@ fn main(rt: HostRuntime) -> io::Result<()> {
     )?;
     measure(
         &rt,
+        "8 optional variables between 256 optional sets",
+        around(alloc, b".?", 256, b"", b"}?"),
+    )?;
+    measure(
+        &rt,
         "8 variables between stars",
         around(alloc, b".*", 1, b".", b"}?"),
     )?;

@@ -1,8 +1,7 @@
 -- Buckets that gain numbers, and the list of those that aren't empty.
-use Rattle.std.proofs.Common.{◌≡◌, ℕ, zero, suc, ◌+◌, ◌-◌, ◌<◌, ◌≤◌, ◌↔◌, ◌⊎◌, inl, inr, refl, sym, ap, subst, ◌∙◌, arith, List, [], ◌∷◌, ◌++◌, length, Some, slice_get, slice_index_or, get_or, set, map, Contains, replicate, length-set, nat_eq, Bool, true, false}
+use Rattle.std.proofs.Common.{◌≡◌, ℕ, suc, ◌+◌, ◌<◌, ◌≤◌, ◌↔◌, ◌⊎◌, inl, inr, refl, sym, ap, subst, ◌∙◌, arith, List, [], ◌∷◌, ◌++◌, length, Some, slice_get, slice_index_or, set, map, Contains, replicate, length-set, nat_eq, true, false}
 use Rattle.std.proofs.lemmas.List.{get_or-set_same, get_or-set_other, get_or-replicate, get_or_past, length-replicate}
 use Rattle.std.proofs.lemmas.Bool.Decides.{eqb_tells}
-use Rattle.std.proofs.lemmas.Option.{slice_get-get_or}
 use Rattle.marker_dfa.specs.Making.{InBucket, AddsTo, AreFilled, IsFalling, PushesFilled}
 use Rattle.marker_dfa.proofs.Lists.{contains_push, contains_at, get_push, get_within, map_set, map_push, length_map, get_map, replicate_push}
 

@@ -1,19 +1,18 @@
 -- The rows of all reached sets make a deterministic automaton that accepts the same texts.
-use Rattle.std.proofs.Common.{◌≡◌, ℕ, zero, suc, ◌+◌, ◌^◌, ◌<◌, ◌≤◌, ◌==◌, ◌↔◌, Bool, true, false, ◌⊎◌, inl, inr, refl, sym, ap, subst, ◌∙◌, arith, List, [], ◌∷◌, length, Option, Some, None, slice_get, slice_index_or, if◌then◌else◌, get_or, Contains, AllPairs}
-use Rattle.std.proofs.lemmas.Option.{slice_get-get_or, slice_get_past}
+use Rattle.std.proofs.Common.{◌≡◌, ℕ, zero, suc, ◌^◌, ◌<◌, ◌≤◌, ◌==◌, ◌↔◌, true, false, ◌⊎◌, inl, inr, refl, sym, ap, subst, ◌∙◌, arith, List, [], ◌∷◌, length, Option, Some, None, slice_get, slice_index_or, if◌then◌else◌, get_or, Contains, AllPairs}
+use Rattle.std.proofs.lemmas.Option.{slice_get-get_or}
 use Rattle.std.proofs.lemmas.List.{get_or_past}
 use Rattle.std.proofs.lemmas.Bool.Decides.{eqb_tells}
-use Rattle.formula_law.specs.Accepts.{MarkedText}
 use Rattle.marker_nfa.specs.declared.nfa.Edge.{Edge}
-use Rattle.marker_nfa.specs.Automaton.{Automaton, IsAutomaton, Moves, MayEnd, AcceptsText}
+use Rattle.marker_nfa.specs.Automaton.{Automaton, IsAutomaton, Moves, MayEnd}
 use Rattle.marker_dfa.specs.declared.classes.ByteClasses.{ByteClasses}
 use Rattle.marker_dfa.specs.declared.dfa.Cell.{Cell}
 use Rattle.marker_dfa.specs.declared.dfa.Row.{Row}
-use Rattle.marker_dfa.specs.Subsets.{Subset, IsIn, IsMove, IsReached, IsSubsets, AreTooMany}
-use Rattle.marker_dfa.specs.Deterministic.{DeterministicAutomaton, AcceptsSame, IsDeterministic, IsWide, PathAccepts, StandsFor, and_then, cell_of, ends_in, ends_of, find_target, marks_in, marks_of, next_of, states_of}
+use Rattle.marker_dfa.specs.Subsets.{Subset, IsIn, IsMove, IsSubsets, AreTooMany}
+use Rattle.marker_dfa.specs.Deterministic.{DeterministicAutomaton, AcceptsSame, IsDeterministic, IsWide, StandsFor, and_then, cell_of, ends_in, ends_of, find_target, marks_in, marks_of, next_of}
 use Rattle.marker_dfa.specs.Making.{AreAllRows, AreClasses, IsCell, IsFalling, IsFit, IsRow, IsTarget}
 use Rattle.marker_dfa.proofs.Lists.{contains_at, at_contains, get_within, one_value}
-use Rattle.marker_dfa.proofs.Tracks.{Accepted, reached_here, to_machine, to_path}
+use Rattle.marker_dfa.proofs.Tracks.{reached_here, to_machine, to_path}
 use Rattle.marker_dfa.proofs.Pigeons.{no_fit}
 
 -- where a mark is found

@@ -1,7 +1,7 @@
 -- What holds of the sets and of a cell while they grow.
-use Rattle.std.proofs.Common.{◌≡◌, ℕ, zero, suc, ◌+◌, ◌<◌, ◌≤◌, Bool, true, false, ◌⊎◌, inl, inr, refl, sym, ap, subst, ◌∙◌, arith, List, [], ◌∷◌, ◌++◌, length, Some, None, slice_get, get_or, Contains, vec_len, length-append, length-set, replicate, lit≤}
+use Rattle.std.proofs.Common.{◌≡◌, ℕ, zero, suc, ◌+◌, ◌<◌, ◌≤◌, true, false, ◌⊎◌, inl, inr, refl, sym, ap, subst, ◌∙◌, arith, List, [], ◌∷◌, ◌++◌, length, Some, slice_get, get_or, Contains, length-append, length-set, replicate, lit≤}
 use Rattle.std.proofs.lemmas.List.{length-replicate}
-use Rattle.std.proofs.lemmas.Option.{slice_get_within, slice_get-get_or, get_or_from_slice_get}
+use Rattle.std.proofs.lemmas.Option.{slice_get-get_or}
 use Rattle.marker_nfa.specs.Automaton.{Automaton, Moves}
 use Rattle.marker_dfa.specs.Subsets.{Subset, IsIn, IsMove, IsReached, start, next, start_set, AreTooMany}
 use Rattle.marker_dfa.specs.Making.{AreFound, Extends, HasNoRoom, IsPlaced, IsCell, IsFalling, IsTarget}

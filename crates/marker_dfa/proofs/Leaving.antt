@@ -1,14 +1,13 @@
--- The edges that leave a set of states, gathered one by one.
+-- The bundles that leave a set of states, gathered one by one.
 use Rattle.std.proofs.Common.{◌≡◌, ℕ, zero, suc, ◌+◌, ◌^◌, ◌<◌, ◌≤◌, ◌↔◌, ◌⊎◌, inl, inr, refl, sym, ap, subst, ◌∙◌, arith, Bool, true, false, List, [], ◌∷◌, length, Some, slice_get, slice_index_or, get_or, set, Contains, replicate, length-set, nat_eq, Result, Ok, Err, IfOk}
 use Rattle.std.proofs.lemmas.List.{get_or-set_same, get_or-set_other, length-replicate}
 use Rattle.std.proofs.lemmas.Bool.Decides.{eqb_tells}
-use Rattle.std.proofs.lemmas.Option.{slice_get-get_or}
-use Rattle.marker_nfa.specs.Automaton.{Automaton, IsAutomaton, Moves, MayEnd}
-use Rattle.marker_nfa.specs.declared.nfa.Edge.{Edge}
+use Rattle.marker_nfa.specs.Automaton.{Automaton, Moves, MayEnd}
 use Rattle.marker_nfa.specs.declared.nfa.End.{End}
+use Rattle.marker_dfa.specs.declared.bundles.Bundle.{Bundle}
 use Rattle.marker_dfa.specs.declared.exits.Exits.{Exits}
 use Rattle.marker_dfa.specs.Subsets.{Subset, IsIn, IsMove}
-use Rattle.marker_dfa.specs.Making.{InBucket, AddsTo, AreFilled, EdgeAt, AreBySource, AreEnds, AreExits, ArePlaces, AreTargets, GainsStates, Leaves}
+use Rattle.marker_dfa.specs.Making.{InBucket, AddsTo, AreBundles, AreFilled, AreEnds, AreExits, ArePlaces, AreTargets, BundleAt, Carries, GainsStates, Leaves}
 use Rattle.marker_dfa.proofs.Lists.{contains_at, at_contains, get_within, one_value}
 use Rattle.marker_dfa.proofs.Filling.{bucket_within, empty_bucket}
 use Rattle.marker_dfa.proofs.Tracks.{blank_out}
@@ -71,144 +70,78 @@ only_added n new P h k i = ((λ c. there ((h.members k i).0 c)), λ p. (h.member
 pub size_added : (n : ℕ) (new : List (List ℕ)) (P : ℕ → ℕ → Type 0) → AddsTo (replicate n []) new P → length new ≡ n
 size_added n new P h = h.size ∙ length-replicate {A = List ℕ} n []
 
--- what an edge puts into the buckets of sources
-abbrev pub FromSource : Edge → ℕ → ℕ → ℕ → Type 0
-FromSource e j k i = (k ≡ e.from) × (i ≡ j)
+-- what a bundle that leaves the set puts into the buckets of marks
+pub bundle_put : (x : Subset) (old new : List (List ℕ)) (w : Bundle) (place : ℕ) → (o : ℕ) × IsIn w.sources o × IsIn x o → AddsTo old new (λ k i. (k ≡ w.mark) × (i ≡ place)) → AddsTo old new (λ m i. Leaves x m w × (i ≡ place))
+bundle_put x old new w place s h = adds_same old new (λ k i. (k ≡ w.mark) × (i ≡ place)) (λ m i. Leaves x m w × (i ≡ place)) (λ k i q. (record { from = s; mark = sym q.0 }, q.1)) (λ k i q. (sym q.0.mark, q.1)) h
 
--- the first n edges by their source
-pub record BySourceUpTo (a : Automaton) (n : ℕ) (buckets : List (List ℕ)) : Type 0 where
-  pub size : length buckets ≡ a.states
-  pub members : (o i : ℕ) → InBucket buckets o i ↔ (i < n) × EdgeAt a i (λ e. e.from ≡ o)
+pub bundle_skipped : (x : Subset) (old : List (List ℕ)) (w : Bundle) (place : ℕ) → ((o : ℕ) → IsIn w.sources o → IsIn x o → ⊥) → AddsTo old old (λ m i. Leaves x m w × (i ≡ place))
+bundle_skipped x old w place none = adds_nothing old (λ m i. Leaves x m w × (i ≡ place)) (λ m i q. (let f = q.0.from in none f.0 f.1 f.2))
 
-pub source_start : (a : Automaton) → BySourceUpTo a 0 (replicate a.states [])
-source_start a = record {
-  size = length-replicate {A = List ℕ} a.states [];
-  members = λ o i. ((λ c. absurd (empty_bucket a.states o i c)), λ s. (let l : i < 0 = s.0 in absurd (omega (arith, l))));
-}
-
-pub source_more : (a : Automaton) (n : ℕ) (old new : List (List ℕ)) (e : Edge) → slice_get a.edges n ≡ Some e → BySourceUpTo a n old → AddsTo old new (λ k i. (k ≡ e.from) × (i ≡ n)) → BySourceUpTo a (n + 1) new
-source_more a n old new e at h g = record {
-  size = g.size ∙ h.size;
-  members = λ o i. ((λ c. to o i ((g.members o i).0 c)), λ s. (g.members o i).1 (from o i s.1 (before i n s.0)));
-}
-  where
-    to : (o i : ℕ) → InBucket old o i ⊎ ((o ≡ e.from) × (i ≡ n)) → (i < n + 1) × EdgeAt a i (λ x. x.from ≡ o)
-    to o i (inl c) = let s = (h.members o i).0 c in (omega (arith, s.0), s.1)
-    to o i (inr q) = (omega (arith, q.1), (e, ap (slice_get a.edges) q.1 ∙ at, sym q.0))
-
-    from : (o i : ℕ) → EdgeAt a i (λ x. x.from ≡ o) → (i < n) ⊎ (i ≡ n) → InBucket old o i ⊎ ((o ≡ e.from) × (i ≡ n))
-    from o i s (inl l) = inl ((h.members o i).1 (l, s))
-    from o i s (inr q) =
-        let same : s.0 ≡ e = one_value a.edges n s.0 e (ap (slice_get a.edges) (sym q) ∙ s.1) at in
-        inr (sym s.2 ∙ ap (λ (x : Edge). x.from) same, q)
-
-pub source_end : (a : Automaton) (n : ℕ) (buckets : List (List ℕ)) → length a.edges ≤ n → BySourceUpTo a n buckets → AreBySource a buckets
-source_end a n buckets le h = record {
-  size = h.size;
-  members = λ o i. ((λ c. ((h.members o i).0 c).1), λ s. (h.members o i).1 (omega (arith, get_within a.edges i s.0 s.1, le), s));
-}
-
--- what a place puts into the buckets of marks
-abbrev pub WithMark : Automaton → ℕ → ℕ → ℕ → Type 0
-WithMark a p m i = (i ≡ p) × EdgeAt a i (λ e. e.mark ≡ m)
-
-pub with_mark : (a : Automaton) (old new : List (List ℕ)) (p : ℕ) (e : Edge) → slice_get a.edges p ≡ Some e → AddsTo old new (λ k i. (k ≡ e.mark) × (i ≡ p)) → AddsTo old new (WithMark a p)
-with_mark a old new p e at h = adds_same old new (λ k i. (k ≡ e.mark) × (i ≡ p)) (WithMark a p) (λ k i s. (s.1, (e, ap (slice_get a.edges) s.1 ∙ at, sym s.0))) (λ k i s. back k i s) h
-  where
-    back : (k i : ℕ) → WithMark a p k i → (k ≡ e.mark) × (i ≡ p)
-    back k i s =
-        let w = s.1 in
-        let same : w.0 ≡ e = one_value a.edges p w.0 e (ap (slice_get a.edges) (sym s.0) ∙ w.1) at in
-        (sym w.2 ∙ ap (λ (x : Edge). x.mark) same, s.0)
-
-pub all_with_mark : (a : Automaton) (old new : List (List ℕ)) (places : List ℕ) (n : ℕ) → length places ≤ n → AddsTo old new (UpTo (WithMark a) places n) → AddsTo old new (λ m i. Contains places i × EdgeAt a i (λ e. e.mark ≡ m))
-all_with_mark a old new places n le h = adds_same old new (UpTo (WithMark a) places n) (λ m i. Contains places i × EdgeAt a i (λ e. e.mark ≡ m)) (λ k i s. to k i s) (λ k i s. from k i s) h
-  where
-    to : (k i : ℕ) → UpTo (WithMark a) places n k i → Contains places i × EdgeAt a i (λ e. e.mark ≡ k)
-    to k i s = (contains_at places s.1 i (s.3 ∙ ap Some (sym s.4.0)), s.4.1)
-
-    from : (k i : ℕ) → Contains places i × EdgeAt a i (λ e. e.mark ≡ k) → UpTo (WithMark a) places n k i
-    from k i s = let c = at_contains places i s.0 in (i, c.0, omega (arith, get_within places c.0 i c.1, le), c.1, (refl, s.1))
-
--- the edges of one source, where it is in the set
-pub from_one : (a : Automaton) (old new sources : List (List ℕ)) (x : Subset) (state : ℕ) → AreBySource a sources → IsIn x state → AddsTo old new (λ m i. InBucket sources state i × EdgeAt a i (λ e. e.mark ≡ m)) → AddsTo old new (λ m i. IsIn x state × EdgeAt a i (λ e. (e.from ≡ state) × (e.mark ≡ m)))
-from_one a old new sources x state by_source is_in h = adds_same old new (λ m i. InBucket sources state i × EdgeAt a i (λ e. e.mark ≡ m)) (λ m i. IsIn x state × EdgeAt a i (λ e. (e.from ≡ state) × (e.mark ≡ m))) (λ m i s. to m i s) (λ m i s. from m i s) h
-  where
-    to : (m i : ℕ) → InBucket sources state i × EdgeAt a i (λ e. e.mark ≡ m) → IsIn x state × EdgeAt a i (λ e. (e.from ≡ state) × (e.mark ≡ m))
-    to m i s =
-        let f = (by_source.members state i).0 s.0 in
-        let g = s.1 in
-        let same : f.0 ≡ g.0 = one_value a.edges i f.0 g.0 f.1 g.1 in
-        (is_in, (g.0, g.1, (ap (λ (e : Edge). e.from) (sym same) ∙ f.2, g.2)))
-
-    from : (m i : ℕ) → IsIn x state × EdgeAt a i (λ e. (e.from ≡ state) × (e.mark ≡ m)) → InBucket sources state i × EdgeAt a i (λ e. e.mark ≡ m)
-    from m i s = let g = s.1 in ((by_source.members state i).1 (g.0, g.1, g.2.0), (g.0, g.1, g.2.1))
-
--- the edges that leave the set from the first n states
-pub record LeavesUpTo (a : Automaton) (x : Subset) (n : ℕ) (buckets : List (List ℕ)) : Type 0 where
+-- those of the first n bundles that leave the set
+pub record LeavesUpTo (a : Automaton) (bundles : List Bundle) (x : Subset) (n : ℕ) (buckets : List (List ℕ)) : Type 0 where
   pub size : length buckets ≡ 4 ^ a.variables
-  pub members : (m i : ℕ) → InBucket buckets m i ↔ EdgeAt a i (λ e. (e.from < n) × Leaves x m e)
+  pub members : (m i : ℕ) → InBucket buckets m i ↔ (i < n) × BundleAt bundles i (Leaves x m)
 
-pub leaves_start : (a : Automaton) (x : Subset) → LeavesUpTo a x 0 (replicate (4 ^ a.variables) [])
-leaves_start a x = record {
+pub leaves_start : (a : Automaton) (bundles : List Bundle) (x : Subset) → LeavesUpTo a bundles x 0 (replicate (4 ^ a.variables) [])
+leaves_start a bundles x = record {
   size = length-replicate {A = List ℕ} (4 ^ a.variables) [];
-  members = λ m i. ((λ c. absurd (empty_bucket (4 ^ a.variables) m i c)), λ s. (let l : s.0.from < 0 = s.2.0 in absurd (omega (arith, l))));
+  members = λ m i. ((λ c. absurd (empty_bucket (4 ^ a.variables) m i c)), λ s. (let l : i < 0 = s.0 in absurd (omega (arith, l))));
 }
 
-pub leaves_more : (a : Automaton) (x : Subset) (n : ℕ) (old new : List (List ℕ)) → LeavesUpTo a x n old → AddsTo old new (λ m i. IsIn x n × EdgeAt a i (λ e. (e.from ≡ n) × (e.mark ≡ m))) → LeavesUpTo a x (n + 1) new
-leaves_more a x n old new h g = record {
+pub leaves_more : (a : Automaton) (bundles : List Bundle) (x : Subset) (n : ℕ) (old new : List (List ℕ)) (w : Bundle) → slice_get bundles n ≡ Some w → LeavesUpTo a bundles x n old → AddsTo old new (λ m i. Leaves x m w × (i ≡ n)) → LeavesUpTo a bundles x (n + 1) new
+leaves_more a bundles x n old new w at h g = record {
   size = g.size ∙ h.size;
-  members = λ m i. ((λ c. to m i ((g.members m i).0 c)), λ s. (g.members m i).1 (from m i s (before s.0.from n s.2.0)));
+  members = λ m i. ((λ c. to m i ((g.members m i).0 c)), λ s. (g.members m i).1 (from m i s.1 (before i n s.0)));
 }
   where
-    to : (m i : ℕ) → InBucket old m i ⊎ (IsIn x n × EdgeAt a i (λ e. (e.from ≡ n) × (e.mark ≡ m))) → EdgeAt a i (λ e. (e.from < n + 1) × Leaves x m e)
-    to m i (inl c) = let s = (h.members m i).0 c in (s.0, s.1, (omega (arith, s.2.0), s.2.1))
-    to m i (inr q) =
-        let w = q.1 in
-        (w.0, w.1, (omega (arith, w.2.0), record { from = subst (λ (o : ℕ). IsIn x o) (sym w.2.0) q.0; mark = w.2.1 }))
+    to : (m i : ℕ) → InBucket old m i ⊎ (Leaves x m w × (i ≡ n)) → (i < n + 1) × BundleAt bundles i (Leaves x m)
+    to m i (inl c) = let s = (h.members m i).0 c in (omega (arith, s.0), s.1)
+    to m i (inr q) = (omega (arith, q.1), (w, ap (slice_get bundles) q.1 ∙ at, q.0))
 
-    from : (m i : ℕ) (s : EdgeAt a i (λ e. (e.from < n + 1) × Leaves x m e)) → (s.0.from < n) ⊎ (s.0.from ≡ n) → InBucket old m i ⊎ (IsIn x n × EdgeAt a i (λ e. (e.from ≡ n) × (e.mark ≡ m)))
-    from m i s (inl l) = inl ((h.members m i).1 (s.0, s.1, (l, s.2.1)))
-    from m i s (inr e) = inr (subst (λ (o : ℕ). IsIn x o) e s.2.1.from, (s.0, s.1, (e, s.2.1.mark)))
+    from : (m i : ℕ) → BundleAt bundles i (Leaves x m) → (i < n) ⊎ (i ≡ n) → InBucket old m i ⊎ (Leaves x m w × (i ≡ n))
+    from m i s (inl l) = inl ((h.members m i).1 (l, s))
+    from m i s (inr q) =
+        let same : s.0 ≡ w = one_value bundles n s.0 w (ap (slice_get bundles) (sym q) ∙ s.1) at in
+        inr (subst (λ (y : Bundle). Leaves x m y) same s.2, q)
 
-pub leaves_end : (a : Automaton) (exits : Exits) (n : ℕ) → IsAutomaton a → a.states ≤ n → length exits.from ≡ a.states → LeavesUpTo a exits.from n exits.by_mark → AreFilled exits.by_mark exits.marks.items → AreExits a exits
-leaves_end a exits n au le size h filled = record {
+pub leaves_end : (a : Automaton) (bundles : List Bundle) (exits : Exits) (n : ℕ) → length bundles ≤ n → length exits.from ≡ a.states → LeavesUpTo a bundles exits.from n exits.by_mark → AreFilled exits.by_mark exits.marks.items → AreExits a bundles exits
+leaves_end a bundles exits n le size h filled = record {
   size = size;
   buckets = h.size;
-  members = λ m i. ((λ c. (let s = (h.members m i).0 c in (s.0, s.1, s.2.1))), λ s. (h.members m i).1 (s.0, s.1, (omega (arith, (au.edges_within s.0 (contains_at a.edges i s.0 s.1)).0, le), s.2)));
+  members = λ m i. ((λ c. ((h.members m i).0 c).1), λ s. (h.members m i).1 (omega (arith, get_within bundles i s.0 s.1, le), s));
   marks = filled;
 }
 
 -- the targets of the first n places
-pub record TargetsUpTo (a : Automaton) (places : List ℕ) (b n : ℕ) (y : Subset) : Type 0 where
+pub record TargetsUpTo (a : Automaton) (bundles : List Bundle) (places : List ℕ) (b n : ℕ) (y : Subset) : Type 0 where
   pub size : length y ≡ a.states
-  pub members : (p : ℕ) → IsIn y p ↔ (j : ℕ) × (i : ℕ) × (j < n) × (slice_get places j ≡ Some i) × EdgeAt a i (λ e. (slice_index_or e.letters b false ≡ true) × (e.to ≡ p))
+  pub members : (p : ℕ) → IsIn y p ↔ (j : ℕ) × (i : ℕ) × (j < n) × (slice_get places j ≡ Some i) × BundleAt bundles i (λ e. (slice_index_or e.letters b false ≡ true) × (e.to ≡ p))
 
-pub targets_start : (a : Automaton) (places : List ℕ) (b : ℕ) → TargetsUpTo a places b 0 (replicate a.states false)
-targets_start a places b = record {
+pub targets_start : (a : Automaton) (bundles : List Bundle) (places : List ℕ) (b : ℕ) → TargetsUpTo a bundles places b 0 (replicate a.states false)
+targets_start a bundles places b = record {
   size = length-replicate {A = Bool} a.states false;
   members = λ p. ((λ c. (let bad : false ≡ true = sym (blank_out a.states p) ∙ c in absurd (cc))), λ s. (let l : s.0 < 0 = s.2 in absurd (omega (arith, l))));
 }
 
-pub targets_more : (a : Automaton) (places : List ℕ) (b n i : ℕ) (e : Edge) (old new : Subset) → slice_get places n ≡ Some i → slice_get a.edges i ≡ Some e → TargetsUpTo a places b n old → GainsStates old new (λ p. (slice_index_or e.letters b false ≡ true) × (e.to ≡ p)) → TargetsUpTo a places b (n + 1) new
-targets_more a places b n i e old new at edge h g = record {
+pub targets_more : (a : Automaton) (bundles : List Bundle) (places : List ℕ) (b n i : ℕ) (e : Bundle) (old new : Subset) → slice_get places n ≡ Some i → slice_get bundles i ≡ Some e → TargetsUpTo a bundles places b n old → GainsStates old new (λ p. (slice_index_or e.letters b false ≡ true) × (e.to ≡ p)) → TargetsUpTo a bundles places b (n + 1) new
+targets_more a bundles places b n i e old new at edge h g = record {
   size = g.size ∙ h.size;
   members = λ p. ((λ c. to p ((g.members p).0 c)), λ s. (g.members p).1 (from p s.0 s.1 s.3 s.4 (before s.0 n s.2)));
 }
   where
-    to : (p : ℕ) → IsIn old p ⊎ ((slice_index_or e.letters b false ≡ true) × (e.to ≡ p)) → (j : ℕ) × (i : ℕ) × (j < n + 1) × (slice_get places j ≡ Some i) × EdgeAt a i (λ e. (slice_index_or e.letters b false ≡ true) × (e.to ≡ p))
+    to : (p : ℕ) → IsIn old p ⊎ ((slice_index_or e.letters b false ≡ true) × (e.to ≡ p)) → (j : ℕ) × (i : ℕ) × (j < n + 1) × (slice_get places j ≡ Some i) × BundleAt bundles i (λ e. (slice_index_or e.letters b false ≡ true) × (e.to ≡ p))
     to p (inl c) = let s = (h.members p).0 c in (s.0, s.1, omega (arith, s.2), s.3, s.4)
     to p (inr q) = (n, i, omega arith, at, (e, edge, q))
 
-    from : (p j k : ℕ) → slice_get places j ≡ Some k → EdgeAt a k (λ e. (slice_index_or e.letters b false ≡ true) × (e.to ≡ p)) → (j < n) ⊎ (j ≡ n) → IsIn old p ⊎ ((slice_index_or e.letters b false ≡ true) × (e.to ≡ p))
+    from : (p j k : ℕ) → slice_get places j ≡ Some k → BundleAt bundles k (λ e. (slice_index_or e.letters b false ≡ true) × (e.to ≡ p)) → (j < n) ⊎ (j ≡ n) → IsIn old p ⊎ ((slice_index_or e.letters b false ≡ true) × (e.to ≡ p))
     from p j k w s (inl l) = inl ((h.members p).1 (j, k, l, w, s))
     from p j k w s (inr q) =
         let ki : k ≡ i = one_value places n k i (ap (slice_get places) (sym q) ∙ w) at in
-        let same : s.0 ≡ e = one_value a.edges i s.0 e (ap (slice_get a.edges) (sym ki) ∙ s.1) edge in
-        inr (subst (λ (x : Edge). (slice_index_or x.letters b false ≡ true) × (x.to ≡ p)) same s.2)
+        let same : s.0 ≡ e = one_value bundles i s.0 e (ap (slice_get bundles) (sym ki) ∙ s.1) edge in
+        inr (subst (λ (x : Bundle). (slice_index_or x.letters b false ≡ true) × (x.to ≡ p)) same s.2)
 
-pub targets_end : (a : Automaton) (places : List ℕ) (b n : ℕ) (y : Subset) → length places ≤ n → TargetsUpTo a places b n y → AreTargets a places b y
-targets_end a places b n y le h = record {
+pub targets_end : (a : Automaton) (bundles : List Bundle) (places : List ℕ) (b n : ℕ) (y : Subset) → length places ≤ n → TargetsUpTo a bundles places b n y → AreTargets a bundles places b y
+targets_end a bundles places b n y le h = record {
   size = h.size;
   members = λ p. ((λ c. (let s = (h.members p).0 c in (s.1, contains_at places s.0 s.1 s.3, s.4))), λ s. (let c = at_contains places s.0 s.1 in (h.members p).1 (c.0, s.0, omega (arith, get_within places c.0 s.0 c.1, le), c.1, s.2)));
 }
@@ -237,47 +170,45 @@ gains_nothing old b t e = record { size = refl; members = λ p. ((λ c. inl c), 
     back p (inl c) = c
     back p (inr q) = let bad : false ≡ true = sym e ∙ q.0 in absurd (cc)
 
+one_byte : (b : ℕ) → Contains (b ∷ []) b
+one_byte b = (0, omega arith, refl)
+
 -- the places of one mark lead where the mark does
-pub move_is : (a : Automaton) (exits : Exits) (m b : ℕ) (y : Subset) → AreExits a exits → AreTargets a (slice_index_or exits.by_mark m []) b y → IsMove a exits.from m b y
-move_is a exits m b y x t = record { size = t.size; members = λ p. ((λ c. to p ((t.members p).0 c)), λ s. (t.members p).1 (from p s)) }
+pub move_is : (a : Automaton) (bundles : List Bundle) (exits : Exits) (m b : ℕ) (y : Subset) → AreBundles a (b ∷ []) bundles → AreExits a bundles exits → AreTargets a bundles (slice_index_or exits.by_mark m []) b y → IsMove a exits.from m b y
+move_is a bundles exits m b y h x t = record { size = t.size; members = λ p. ((λ c. to p ((t.members p).0 c)), λ s. (t.members p).1 (from p s)) }
   where
-    to : (p : ℕ) → (i : ℕ) × InBucket exits.by_mark m i × EdgeAt a i (λ e. (slice_index_or e.letters b false ≡ true) × (e.to ≡ p)) → (o : ℕ) × IsIn exits.from o × Moves a o m b p
+    to : (p : ℕ) → (i : ℕ) × InBucket exits.by_mark m i × BundleAt bundles i (λ w. (slice_index_or w.letters b false ≡ true) × (w.to ≡ p)) → (o : ℕ) × IsIn exits.from o × Moves a o m b p
     to p s =
         let l = (x.members m s.0).0 s.1 in
         let w = s.2 in
-        let same : w.0 ≡ l.0 = one_value a.edges s.0 w.0 l.0 w.1 l.1 in (
-          l.0.from,
-          l.2.from,
-          record {
-            edge = l.0;
-            among = contains_at a.edges s.0 l.0 l.1;
-            from = refl;
-            mark = l.2.mark;
-            letter = ap (λ (e : Edge). slice_index_or e.letters b false) (sym same) ∙ w.2.0;
-            to = ap (λ (e : Edge). e.to) (sym same) ∙ w.2.1;
-          },
-        )
+        let same : w.0 ≡ l.0 = one_value bundles s.0 w.0 l.0 w.1 l.1 in
+        let f = l.2.from in
+        let carries : Carries l.0 f.0 m b p = record {
+          from = f.1;
+          mark = l.2.mark;
+          letter = ap (λ (e : Bundle). slice_index_or e.letters b false) (sym same) ∙ w.2.0;
+          to = ap (λ (e : Bundle). e.to) (sym same) ∙ w.2.1;
+        } in
+        (f.0, f.2, (h.moves f.0 m b p (one_byte b)).0 (s.0, (l.0, l.1, carries)))
 
-    from : (p : ℕ) → (o : ℕ) × IsIn exits.from o × Moves a o m b p → (i : ℕ) × InBucket exits.by_mark m i × EdgeAt a i (λ e. (slice_index_or e.letters b false ≡ true) × (e.to ≡ p))
+    from : (p : ℕ) → (o : ℕ) × IsIn exits.from o × Moves a o m b p → (i : ℕ) × InBucket exits.by_mark m i × BundleAt bundles i (λ w. (slice_index_or w.letters b false ≡ true) × (w.to ≡ p))
     from p s =
-        let mv = s.2 in
-        let c = at_contains a.edges mv.edge mv.among in
-        (c.0, (x.members m c.0).1 (mv.edge, c.1, record { from = subst (λ (o : ℕ). IsIn exits.from o) (sym mv.from) s.1; mark = mv.mark }), (mv.edge, c.1, (mv.letter, mv.to)))
+        let c = (h.moves s.0 m b p (one_byte b)).1 s.2 in
+        let w = c.1 in
+        (c.0, (x.members m c.0).1 (w.0, w.1, record { from = (s.0, w.2.from, s.1); mark = w.2.mark }), (w.0, w.1, (w.2.letter, w.2.to)))
 
 -- the mark of a move is among those of the exits
-pub mark_among : (a : Automaton) (exits : Exits) (m b o p : ℕ) → AreExits a exits → IsIn exits.from o → Moves a o m b p → Contains exits.marks.items m
-mark_among a exits m b o p x i mv =
-    let c = at_contains a.edges mv.edge mv.among in
-    (x.marks.members m).1 (c.0, (x.members m c.0).1 (mv.edge, c.1, record { from = subst (λ (q : ℕ). IsIn exits.from q) (sym mv.from) i; mark = mv.mark }))
+pub mark_among : (a : Automaton) (bundles : List Bundle) (exits : Exits) (m b o p : ℕ) → AreBundles a (b ∷ []) bundles → AreExits a bundles exits → IsIn exits.from o → Moves a o m b p → Contains exits.marks.items m
+mark_among a bundles exits m b o p h x i mv =
+    let c = (h.moves o m b p (one_byte b)).1 mv in
+    let w = c.1 in
+    (x.marks.members m).1 (c.0, (x.members m c.0).1 (w.0, w.1, record { from = (o, w.2.from, i); mark = w.2.mark }))
 
-pub exit_places : (a : Automaton) (exits : Exits) (m : ℕ) → AreExits a exits → ArePlaces a (slice_index_or exits.by_mark m [])
-exit_places a exits m x i c = let s = (x.members m i).0 c in get_within a.edges i s.0 s.1
+pub exit_places : (a : Automaton) (bundles : List Bundle) (exits : Exits) (m : ℕ) → AreExits a bundles exits → ArePlaces bundles (slice_index_or exits.by_mark m [])
+exit_places a bundles exits m x i c = let s = (x.members m i).0 c in get_within bundles i s.0 s.1
 
-pub mark_within : (a : Automaton) (exits : Exits) (m : ℕ) → AreExits a exits → Contains exits.marks.items m → m < length exits.by_mark
-mark_within a exits m x c = let s = (x.marks.members m).0 c in bucket_within exits.by_mark m s.0 s.1
-
-pub source_places : (a : Automaton) (sources : List (List ℕ)) (state : ℕ) → AreBySource a sources → ArePlaces a (slice_index_or sources state [])
-source_places a sources state h i c = let s = (h.members state i).0 c in get_within a.edges i s.0 s.1
+pub mark_within : (a : Automaton) (bundles : List Bundle) (exits : Exits) (m : ℕ) → AreExits a bundles exits → Contains exits.marks.items m → m < length exits.by_mark
+mark_within a bundles exits m x c = let s = (x.marks.members m).0 c in bucket_within exits.by_mark m s.0 s.1
 
 -- the states in which a text may end
 abbrev pub EndsIn : Subset → End → ℕ → ℕ → Type 0

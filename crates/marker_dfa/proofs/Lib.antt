@@ -5,6 +5,7 @@ pub mod Bits
 pub mod Finding
 pub mod Tracks
 pub mod Leaving
+pub mod Bundling
 pub mod Growing
 pub mod RowsGrow
 pub mod Refused

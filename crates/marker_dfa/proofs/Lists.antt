@@ -1,7 +1,6 @@
 -- Elements of lists that grow or change at one place.
-use Rattle.std.proofs.Common.{◌≡◌, ℕ, zero, suc, ◌+◌, ◌<◌, ◌≤◌, ◌↔◌, ◌⊎◌, inl, inr, refl, sym, ap, subst, ◌∙◌, arith, List, [], ◌∷◌, ◌++◌, length, map, Some, slice_get, slice_index_or, get_or, set, Contains, replicate}
-use Rattle.std.proofs.lemmas.List.{get_or_default, get_or_past}
-use Rattle.std.proofs.lemmas.List.Elements.{Contains-append_left, Contains-append_right, Contains-append_cases, Contains-get_or}
+use Rattle.std.proofs.Common.{◌≡◌, ℕ, zero, suc, ◌<◌, ◌↔◌, ◌⊎◌, inl, inr, refl, sym, ap, subst, ◌∙◌, arith, List, [], ◌∷◌, ◌++◌, length, map, Some, slice_get, slice_index_or, set, Contains, replicate}
+use Rattle.std.proofs.lemmas.List.Elements.{Contains-append_left, Contains-append_right, Contains-append_cases}
 use Rattle.std.proofs.lemmas.Option.{slice_get_within, slice_get-get_or, get_or_from_slice_get}
 
 pub get_push : {X : Type 0} (xs : List X) (x y : X) (q : ℕ) → slice_get (xs ++ x ∷ []) q ≡ Some y → (slice_get xs q ≡ Some y) ⊎ ((q ≡ length xs) × (x ≡ y))
@@ -35,7 +34,7 @@ contains_at xs q x h = let lt = get_within xs q x h in (q, lt, get_or_from_slice
 pub at_contains : {X : Type 0} (xs : List X) (x : X) → Contains xs x → (q : ℕ) × (slice_get xs q ≡ Some x)
 at_contains xs x c = (c.0, slice_get-get_or xs c.0 x c.1 ∙ ap Some c.2)
 
-one_only : {X : Type 0} (x y : X) → Contains (x ∷ []) y → y ≡ x
+pub one_only : {X : Type 0} (x y : X) → Contains (x ∷ []) y → y ≡ x
 one_only x y c = go c.0 c.1 c.2
   where
     go : (k : ℕ) → k < 1 → slice_index_or (x ∷ []) k y ≡ y → y ≡ x

@@ -1,5 +1,5 @@
 -- A refusal that is handed on.
-use Rattle.std.proofs.Common.{◌≡◌, refl, sym, subst, Result, Ok, Err, IsErrAnd}
+use Rattle.std.proofs.Common.{◌≡◌, Result, Ok, Err, IsErrAnd}
 use Rattle.marker_dfa.specs.declared.refusal.DfaRefusal.{DfaRefusal}
 use Rattle.marker_dfa.specs.declared.refusal.DfaRefusal.TheVariants.{TooManyStates, NoMemory}
 use Rattle.marker_dfa.specs.Refusals.{IfTooMany}

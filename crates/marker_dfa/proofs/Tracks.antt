@@ -1,10 +1,9 @@
 -- A state of the subset automaton stands for the states that the automaton may be in.
-use Rattle.std.proofs.Common.{◌≡◌, ℕ, zero, suc, ◌+◌, ◌<◌, ◌≤◌, ◌↔◌, Bool, true, false, ◌==◌, ◌⊎◌, inl, inr, refl, sym, ap, subst, ◌∙◌, arith, List, [], ◌∷◌, length, Option, Some, None, Contains, slice_get, slice_index_or, replicate, set, get_or}
+use Rattle.std.proofs.Common.{◌≡◌, ℕ, ◌<◌, ◌≤◌, Bool, true, false, ◌==◌, ◌⊎◌, inl, inr, refl, sym, ap, subst, ◌∙◌, arith, List, [], ◌∷◌, Option, Some, None, Contains, slice_get, replicate, get_or}
 use Rattle.std.proofs.lemmas.List.{ext_get_or, get_or-set_same, get_or-set_other, get_or-replicate, get_or_past, length-replicate}
-use Rattle.std.proofs.lemmas.Bool.{cases_lt}
 use Rattle.std.proofs.lemmas.Bool.Decides.{eqb_tells}
 use Rattle.formula_law.specs.Accepts.{MarkedText, Reaches}
-use Rattle.marker_nfa.specs.Automaton.{Automaton, Moves, MayEnd, AcceptsText}
+use Rattle.marker_nfa.specs.Automaton.{Automaton, Moves, AcceptsText}
 use Rattle.marker_dfa.specs.Subsets.{Subset, IsIn, start_set, IsMove, IsReached, start, next, IsSubsets}
 use Rattle.marker_dfa.specs.Deterministic.{and_then, path}
 

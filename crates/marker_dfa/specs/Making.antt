@@ -1,10 +1,10 @@
 -- What holds while an automaton of sets is made.
-use Rattle.std.specs.Prelude.{◌≡◌, ℕ, ◌+◌, ◌<◌, ◌≤◌, ◌^◌, ◌↔◌, ◌⊎◌, Bool, true, false, List, [], ◌∷◌, ◌++◌, length, Some, slice_get, slice_index_or, Contains}
+use Rattle.std.specs.Prelude.{◌≡◌, ℕ, ◌<◌, ◌≤◌, ◌^◌, ◌↔◌, ◌⊎◌, Bool, true, false, List, [], ◌∷◌, ◌++◌, length, Some, slice_get, slice_index_or, Contains}
 use Rattle.marker_nfa.specs.Automaton.{Automaton, Moves, MayEnd}
 use Rattle.marker_nfa.specs.declared.nfa.Edge.{Edge}
-use Rattle.marker_nfa.specs.declared.nfa.End.{End}
 use Rattle.marker_dfa.specs.Subsets.{Subset, IsIn, IsMove, IsReached, start_set}
 use Rattle.marker_dfa.specs.declared.classes.ByteClasses.{ByteClasses}
+use Rattle.marker_dfa.specs.declared.bundles.Bundle.{Bundle}
 use Rattle.marker_dfa.specs.declared.exits.Exits.{Exits}
 use Rattle.marker_dfa.specs.declared.dfa.Cell.{Cell}
 use Rattle.marker_dfa.specs.declared.dfa.Row.{Row}
@@ -31,39 +31,78 @@ pub record AreFilled (buckets : List (List ℕ)) (ks : List ℕ) : Type 0 where
 abbrev pub PushesFilled : List (List ℕ) → ℕ → List ℕ → List ℕ → Type 0
 PushesFilled buckets k old new = (((i : ℕ) → InBucket buckets k i → ⊥) × (new ≡ old)) ⊎ (((i : ℕ) × InBucket buckets k i) × (new ≡ old ++ k ∷ []))
 
+-- a set of few states, whose members are at least low and less than the end
+pub record LiesBetween (x : Subset) (low end : ℕ) : Type 0 where
+  pub few : length x ≤ 65535
+  pub end_within : end ≤ length x
+  pub members : (p : ℕ) → IsIn x p → (low ≤ p) × (p < end)
+
 -- what P says comes to the set
 pub record GainsStates (old new : Subset) (P : ℕ → Type 0) : Type 0 where
   pub size : length new ≡ length old
   pub members : (p : ℕ) → IsIn new p ↔ IsIn old p ⊎ P p
 
--- the edge at a place has this property
-abbrev pub EdgeAt : Automaton → ℕ → (Edge → Type 0) → Type 0
-EdgeAt a i P = (e : Edge) × (slice_get a.edges i ≡ Some e) × P e
+-- the bundle at a place has this property
+abbrev pub BundleAt : List Bundle → ℕ → (Bundle → Type 0) → Type 0
+BundleAt bundles i P = (w : Bundle) × (slice_get bundles i ≡ Some w) × P w
 
--- the edges by their source
-pub record AreBySource (a : Automaton) (buckets : List (List ℕ)) : Type 0 where
-  pub size : length buckets ≡ a.states
-  pub members : (o i : ℕ) → InBucket buckets o i ↔ EdgeAt a i (λ e. e.from ≡ o)
+-- a bundle has a step from o to p that reads a mark and then a byte
+pub record Carries (w : Bundle) (o m b p : ℕ) : Type 0 where
+  pub from : IsIn w.sources o
+  pub mark : w.mark ≡ m
+  pub letter : slice_index_or w.letters b false ≡ true
+  pub to : w.to ≡ p
 
--- an edge leaves a set with this mark
-pub record Leaves (x : Subset) (m : ℕ) (e : Edge) : Type 0 where
-  pub from : IsIn x e.from
+abbrev pub SomeCarries : List Bundle → ℕ → ℕ → ℕ → ℕ → Type 0
+SomeCarries bundles o m b p = (i : ℕ) × BundleAt bundles i (λ w. Carries w o m b p)
+
+-- the sources, marks and targets are the automaton's
+pub record AreWellmade (a : Automaton) (bundles : List Bundle) : Type 0 where
+  pub sizes : (i : ℕ) (w : Bundle) → slice_get bundles i ≡ Some w → length w.sources ≡ a.states
+  pub marks : (i : ℕ) (w : Bundle) → slice_get bundles i ≡ Some w → w.mark < 4 ^ a.variables
+  pub targets : (i : ℕ) (w : Bundle) → slice_get bundles i ≡ Some w → w.to < a.states
+
+-- the steps of the bundles with these bytes are those of the automaton
+pub record AreBundles (a : Automaton) (bytes : List ℕ) (bundles : List Bundle) : Type 0 where
+  pub wellmade : AreWellmade a bundles
+  pub moves : (o m b p : ℕ) → Contains bytes b → SomeCarries bundles o m b p ↔ Moves a o m b p
+
+-- an edge's step from o to p that reads a mark and then a byte
+pub record EdgeMoves (e : Edge) (o m b p : ℕ) : Type 0 where
+  pub from : e.from ≡ o
   pub mark : e.mark ≡ m
+  pub letter : slice_index_or e.letters b false ≡ true
+  pub to : e.to ≡ p
 
--- exactly the states to which the edges at some places lead with a byte
-pub record AreTargets (a : Automaton) (places : List ℕ) (b : ℕ) (y : Subset) : Type 0 where
+-- an edge's steps come to those of the bundles
+abbrev pub GainsEdge : List ℕ → List Bundle → List Bundle → Edge → Type 0
+GainsEdge bytes old new e = (o m b p : ℕ) → Contains bytes b → SomeCarries new o m b p ↔ SomeCarries old o m b p ⊎ EdgeMoves e o m b p
+
+-- an edge has the mark and the target of a bundle, and the same of some bytes
+pub record IsLike (w : Bundle) (e : Edge) (bytes : List ℕ) : Type 0 where
+  pub mark : w.mark ≡ e.mark
+  pub to : w.to ≡ e.to
+  pub letters : (b : ℕ) → Contains bytes b → slice_index_or w.letters b false ≡ slice_index_or e.letters b false
+
+-- a bundle leaves a set with this mark
+pub record Leaves (x : Subset) (m : ℕ) (w : Bundle) : Type 0 where
+  pub from : (o : ℕ) × IsIn w.sources o × IsIn x o
+  pub mark : w.mark ≡ m
+
+-- exactly the states to which the bundles at some places lead with a byte
+pub record AreTargets (a : Automaton) (bundles : List Bundle) (places : List ℕ) (b : ℕ) (y : Subset) : Type 0 where
   pub size : length y ≡ a.states
-  pub members : (p : ℕ) → IsIn y p ↔ (i : ℕ) × Contains places i × EdgeAt a i (λ e. (slice_index_or e.letters b false ≡ true) × (e.to ≡ p))
+  pub members : (p : ℕ) → IsIn y p ↔ (i : ℕ) × Contains places i × BundleAt bundles i (λ w. (slice_index_or w.letters b false ≡ true) × (w.to ≡ p))
 
--- the places are those of edges
-abbrev pub ArePlaces : Automaton → List ℕ → Type 0
-ArePlaces a places = (i : ℕ) → Contains places i → i < length a.edges
+-- the places are those of bundles
+abbrev pub ArePlaces : List Bundle → List ℕ → Type 0
+ArePlaces bundles places = (i : ℕ) → Contains places i → i < length bundles
 
--- exactly the edges that leave a set, by their marks, which fall
-pub record AreExits (a : Automaton) (exits : Exits) : Type 0 where
+-- exactly the bundles that leave a set, by their marks, which fall
+pub record AreExits (a : Automaton) (bundles : List Bundle) (exits : Exits) : Type 0 where
   pub size : length exits.from ≡ a.states
   pub buckets : length exits.by_mark ≡ 4 ^ a.variables
-  pub members : (m i : ℕ) → InBucket exits.by_mark m i ↔ EdgeAt a i (Leaves exits.from m)
+  pub members : (m i : ℕ) → InBucket exits.by_mark m i ↔ BundleAt bundles i (Leaves exits.from m)
   pub marks : AreFilled exits.by_mark exits.marks.items
 
 -- a byte is as good as the first one of its class

@@ -1,17 +1,18 @@
 //! The edges that leave a set of states.
 
-ghost use Rattle.std.specs.Prelude.{◌≡◌, ◌<◌, ◌^◌, ℕ, true, false, slice_get, slice_index_or, Some, Contains, length, IfOk, OnOk};
+ghost use Rattle.std.specs.Prelude.{◌≡◌, ◌<◌, ◌^◌, ℕ, true, false, slice_get, slice_index_or, Some, length, IfOk, OnOk};
 ghost use Rattle.marker_nfa.specs.Automaton.{IsAutomaton};
 ghost use Rattle.marker_dfa.specs.Subsets.{IsIn};
-ghost use Rattle.marker_dfa.specs.Making.{AddsTo, AreBySource, AreEnds, AreExits, ArePlaces, AreTargets, EdgeAt, GainsStates};
+ghost use Rattle.marker_dfa.specs.Making.{AddsTo, AreEnds, AreExits, ArePlaces, AreTargets, AreWellmade, GainsStates, Leaves};
 
 use crate::buckets::Buckets;
+use crate::bundles::Bundle;
 use crate::states::StateSet;
-use marker_nfa::{Edge, End, Nfa};
+use marker_nfa::{End, Nfa};
 use span_types::NoMemory;
 use std::alloc::Global;
 
-/// The edges that leave a set of states: their marks, falling, and for each mark the places of its edges.
+/// The bundles that leave a set of states: their marks, falling, and for each mark their places.
 #[derive(Drop)]
 pub struct Exits {
     pub from: StateSet,
@@ -19,78 +20,40 @@ pub struct Exits {
     pub by_mark: Buckets,
 }
 
-/// The places of the edges, by the states from which they come.
-pub fn by_source(alloc: Global, nfa: &Nfa) -> Result<Buckets, NoMemory>
-    requires { IsAutomaton nfa.now }
-    ensures { IfOk result (AreBySource nfa.now) }
-{
-    let mut buckets = Buckets::new(alloc, nfa.states() as usize)?;
-    for (place, edge) in nfa.edges().iter().enumerate() {
-        buckets.put(edge.from as usize, place)?;
-    }
-    Ok(buckets)
-}
-
-/// The edge at a place.
-fn edge_at(edges: &[Edge], place: usize) -> &Edge
-    requires { place < length edges.now }
-    ensures { slice_get edges.now place ≡ Some result.now }
-{
-    &edges[place]
-}
-
-/// Puts the edges at some places into the buckets of their marks.
-fn put_by_mark(by_mark: &mut Buckets, nfa: &Nfa, places: &[usize]) -> Result<(), NoMemory>
-    requires automaton { IsAutomaton nfa.now }
-    requires places { ArePlaces nfa.now places.now }
-    requires marks { length by_mark.old ≡ 4 ^ nfa.now.variables }
-    ensures { OnOk result (AddsTo by_mark.old by_mark.new (λ m i. Contains places.now i × EdgeAt nfa.now i (λ e. e.mark ≡ m))) }
-{
-    for place in places {
-        let edge = edge_at(nfa.edges(), *place);
-        by_mark.put(edge.mark as usize, *place)?;
-    }
-    Ok(())
-}
-
-/// Puts the edges from a state into the buckets of their marks, if the state is in the set.
-fn put_from(
+/// Puts a bundle into the bucket of its mark, if it leaves the set.
+fn put_bundle(
     by_mark: &mut Buckets,
-    nfa: &Nfa,
-    sources: &Buckets,
     from: &StateSet,
-    state: u16,
+    bundle: &Bundle,
+    place: usize,
 ) -> Result<(), NoMemory>
-    requires automaton { IsAutomaton nfa.now }
-    requires sources { AreBySource nfa.now sources.now }
-    requires size { length from.now ≡ nfa.now.states }
-    requires state { state < nfa.now.states }
-    requires marks { length by_mark.old ≡ 4 ^ nfa.now.variables }
-    ensures { OnOk result (AddsTo by_mark.old by_mark.new (λ m i. IsIn from.now state × EdgeAt nfa.now i (λ e. (e.from ≡ state) × (e.mark ≡ m)))) }
+    requires size { length bundle.now.sources ≡ length from.now }
+    requires mark { bundle.now.mark < length by_mark.old }
+    ensures { OnOk result (AddsTo by_mark.old by_mark.new (λ m i. Leaves from.now m bundle.now × (i ≡ place))) }
 {
-    if !from.contains(state) {
+    if !bundle.sources.meets(from) {
         return Ok(());
     }
-    put_by_mark(by_mark, nfa, sources.get(state as usize))?;
+    by_mark.put(bundle.mark as usize, place)?;
     Ok(())
 }
 
-/// The edges that leave a set.
+/// The bundles that leave a set.
 pub fn exits_of(
     alloc: Global,
     nfa: &Nfa,
-    sources: &Buckets,
+    bundles: &[Bundle],
     from: StateSet,
 ) -> Result<Exits, NoMemory>
     requires automaton { IsAutomaton nfa.now }
-    requires sources { AreBySource nfa.now sources.now }
+    requires bundles { AreWellmade nfa.now bundles.now }
     requires size { length from ≡ nfa.now.states }
-    ensures exits { IfOk result (AreExits nfa.now) }
+    ensures exits { IfOk result (AreExits nfa.now bundles.now) }
     ensures from { IfOk result (λ e. e.from ≡ from) }
 {
     let mut by_mark = Buckets::new(alloc, 4usize.pow(nfa.variables() as u32))?;
-    for state in 0..nfa.states() {
-        put_from(&mut by_mark, nfa, sources, &from, state)?;
+    for (place, bundle) in bundles.iter().enumerate() {
+        put_bundle(&mut by_mark, &from, bundle, place)?;
     }
     let marks = by_mark.filled(alloc)?;
     Ok(Exits {
@@ -100,30 +63,39 @@ pub fn exits_of(
     })
 }
 
-/// Puts the state to which an edge leads into a set, if the edge reads the byte.
-fn put_target(to: &mut StateSet, edge: &Edge, byte: u8)
-    requires { edge.now.to < length to.old }
-    ensures { GainsStates to.old to.new (λ p. (slice_index_or edge.now.letters byte false ≡ true) × (edge.now.to ≡ p)) }
+/// Puts the state to which a bundle leads into a set, if the bundle reads the byte.
+fn put_target(to: &mut StateSet, bundle: &Bundle, byte: u8)
+    requires { bundle.now.to < length to.old }
+    ensures { GainsStates to.old to.new (λ p. (slice_index_or bundle.now.letters byte false ≡ true) × (bundle.now.to ≡ p)) }
 {
-    if edge.letters.contains(byte) {
-        to.insert(edge.to);
+    if bundle.letters.contains(byte) {
+        to.insert(bundle.to);
     }
 }
 
-/// The states to which the edges at some places lead with a byte.
+/// The bundle at a place.
+fn bundle_at(bundles: &[Bundle], place: usize) -> &Bundle
+    requires { place < length bundles.now }
+    ensures { slice_get bundles.now place ≡ Some result.now }
+{
+    &bundles[place]
+}
+
+/// The states to which the bundles at some places lead with a byte.
 pub fn targets_of(
     alloc: Global,
     nfa: &Nfa,
+    bundles: &[Bundle],
     places: &[usize],
     byte: u8,
 ) -> Result<StateSet, NoMemory>
-    requires automaton { IsAutomaton nfa.now }
-    requires places { ArePlaces nfa.now places.now }
-    ensures { IfOk result (AreTargets nfa.now places.now byte) }
+    requires bundles { AreWellmade nfa.now bundles.now }
+    requires places { ArePlaces bundles.now places.now }
+    ensures { IfOk result (AreTargets nfa.now bundles.now places.now byte) }
 {
     let mut to = StateSet::empty(alloc, nfa.states())?;
     for place in places {
-        put_target(&mut to, edge_at(nfa.edges(), *place), byte);
+        put_target(&mut to, bundle_at(bundles, *place), byte);
     }
     Ok(to)
 }

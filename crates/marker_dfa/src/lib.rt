@@ -9,6 +9,7 @@ ghost use Rattle.marker_dfa.specs.Refusals.{IfTooMany};
 ghost use Rattle.marker_dfa.specs.Subsets.{AreTooMany};
 
 pub mod buckets;
+pub mod bundles;
 pub mod classes;
 pub mod dfa;
 pub mod exits;

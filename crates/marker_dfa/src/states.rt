@@ -11,6 +11,10 @@ use std::marker::Model;
 #[derive(Drop)]
 pub struct StateSet {
     members: Vec<bool>,
+
+    // Each member is at least `low` and less than `end`.
+    low: u16,
+    end: u16,
 }
 
 impl Model for StateSet {
@@ -19,6 +23,10 @@ impl Model for StateSet {
     ghost Value = { List Bool };
 
     ghost view = { λ s. s.members.items };
+
+    ghost use Rattle.marker_dfa.specs.Making.{LiesBetween};
+
+    ghost invariant = { λ s. LiesBetween s.members.items s.low s.end };
 }
 
 impl StateSet {
@@ -28,6 +36,8 @@ impl StateSet {
     {
         Ok(StateSet {
             members: vec![in alloc; false; states as usize]?,
+            low: states,
+            end: 0,
         })
     }
 
@@ -37,6 +47,8 @@ impl StateSet {
     {
         Ok(StateSet {
             members: self.members.as_slice().to_vec(alloc)?,
+            low: self.low,
+            end: self.end,
         })
     }
 
@@ -46,6 +58,8 @@ impl StateSet {
         ensures { self.new ≡ slice_set self.old state true }
     {
         self.members[state as usize] = true;
+        self.low = self.low.min(state);
+        self.end = self.end.max(state + 1);
     }
 
     /// Whether a state is in the set.
@@ -63,6 +77,22 @@ impl StateSet {
     {
         for member in &self.members {
             if *member {
+                return true;
+            }
+        }
+        false
+    }
+
+    /// Whether two sets have a member in common.
+    pub fn meets(&self, other: &StateSet) -> bool
+        requires { length self.now ≡ length other.now }
+        ensures some { IsTrue result → (p : ℕ) × IsIn self.now p × IsIn other.now p }
+        ensures none { IsFalse result → (p : ℕ) → IsIn self.now p → IsIn other.now p → ⊥ }
+    {
+        let low = self.low.max(other.low);
+        let end = self.end.min(other.end);
+        for state in low..end {
+            if self.members[state as usize] && other.members[state as usize] {
                 return true;
             }
         }

@@ -1,14 +1,14 @@
 //! The reached sets of states, found from the start on.
 
-ghost use Rattle.std.specs.Prelude.{◌≡◌, ◌<◌, ◌≤◌, ◌++◌, ◌∷◌, [], List, Bool, length, Some, slice_get, vec_len, IfOk};
+ghost use Rattle.std.specs.Prelude.{◌≡◌, ◌<◌, ◌≤◌, ◌++◌, ◌∷◌, [], List, Bool, length, Some, slice_get, vec_len, IfOk, IsTrue};
 ghost use Rattle.marker_nfa.specs.Automaton.{IsAutomaton};
 ghost use Rattle.marker_dfa.specs.Subsets.{AreTooMany, IsReached, start_set};
-ghost use Rattle.marker_dfa.specs.Making.{AreAllRows, AreBySource, AreCells, AreExits, AreFound, Extends, HasNoRoom, IsCell, IsPlaced, IsRow};
+ghost use Rattle.marker_dfa.specs.Making.{AreAllRows, AreBundles, AreCells, AreExits, AreFound, Extends, HasNoRoom, IsCell, IsPlaced, IsRow};
 ghost use Rattle.marker_dfa.specs.Refusals.{IfTooMany};
 
-use crate::buckets::Buckets;
+use crate::bundles::{Bundle, bundles_of};
 use crate::dfa::{Cell, Row};
-use crate::exits::{Exits, by_source, ends_of_set, exits_of, targets_of};
+use crate::exits::{Exits, ends_of_set, exits_of, targets_of};
 use crate::refusal::DfaRefusal;
 use crate::states::StateSet;
 use marker_nfa::Nfa;
@@ -18,13 +18,26 @@ use std::alloc::Global;
 /// The greatest number of states.
 const LIMIT: usize = 128;
 
-/// The place of a set, which is put last where it is new.
-fn place_of(sets: &mut Vec<StateSet>, set: StateSet) -> Result<u8, DfaRefusal>
+/// Whether a set stands at a place.
+fn stands_at(sets: &[StateSet], set: &StateSet, place: u8) -> bool
+    ensures { IsTrue result → slice_get sets.now place ≡ Some set.now }
+{
+    match sets.get(place as usize) {
+        Some(other) => other.same(set),
+        None => false,
+    }
+}
+
+/// The place of a set, which is put last where it is new. A hint is looked at first.
+fn place_of(sets: &mut Vec<StateSet>, set: StateSet, hint: u8) -> Result<u8, DfaRefusal>
     requires few { vec_len sets.old ≤ 128 }
     ensures placed { IfOk result (λ q. IsPlaced sets.old.items sets.new.items set q) }
     ensures few { vec_len sets.new ≤ 128 }
     ensures refused { IfTooMany result (HasNoRoom sets.old.items set) }
 {
+    if stands_at(sets, &set, hint) {
+        return Ok(hint);
+    }
     for (place, other) in sets.iter().enumerate() {
         if other.same(&set) {
             return Ok(place as u8);
@@ -54,12 +67,14 @@ impl Cell {
 fn cell_of(
     alloc: Global,
     nfa: &Nfa,
+    bundles: &[Bundle],
     exits: &Exits,
     byte: u8,
     sets: &mut Vec<StateSet>,
 ) -> Result<Cell, DfaRefusal>
     requires automaton { IsAutomaton nfa.now }
-    requires exits { AreExits nfa.now exits.now }
+    requires bundles { AreBundles nfa.now (byte ∷ []) bundles.now }
+    requires exits { AreExits nfa.now bundles.now exits.now }
     requires reached { IsReached nfa.now exits.now.from }
     requires found { AreFound nfa.now sets.old.items }
     ensures found { IfOk result (λ _. AreFound nfa.now sets.new.items) }
@@ -71,10 +86,12 @@ fn cell_of(
         marks: Vec::new(alloc),
         targets: Vec::new(alloc),
     };
+    let mut hint = 0;
     for mark in &exits.marks {
-        let to = targets_of(alloc, nfa, exits.by_mark.get(*mark as usize), byte)?;
+        let to = targets_of(alloc, nfa, bundles, exits.by_mark.get(*mark as usize), byte)?;
         if to.has_some() {
-            let target = place_of(sets, to)?;
+            let target = place_of(sets, to, hint)?;
+            hint = target;
             cell.push(*mark, target)?;
         }
     }
@@ -85,12 +102,14 @@ fn cell_of(
 fn cells_of(
     alloc: Global,
     nfa: &Nfa,
+    bundles: &[Bundle],
     exits: &Exits,
     bytes: &[u8],
     sets: &mut Vec<StateSet>,
 ) -> Result<Vec<Cell>, DfaRefusal>
     requires automaton { IsAutomaton nfa.now }
-    requires exits { AreExits nfa.now exits.now }
+    requires bundles { AreBundles nfa.now bytes.now bundles.now }
+    requires exits { AreExits nfa.now bundles.now exits.now }
     requires reached { IsReached nfa.now exits.now.from }
     requires found { AreFound nfa.now sets.old.items }
     ensures found { IfOk result (λ _. AreFound nfa.now sets.new.items) }
@@ -100,7 +119,7 @@ fn cells_of(
 {
     let mut cells = Vec::new(alloc);
     for byte in bytes {
-        let cell = cell_of(alloc, nfa, exits, *byte, sets)?;
+        let cell = cell_of(alloc, nfa, bundles, exits, *byte, sets)?;
         cells.push(cell)?;
     }
     Ok(cells)
@@ -110,13 +129,13 @@ fn cells_of(
 fn row_of(
     alloc: Global,
     nfa: &Nfa,
-    sources: &Buckets,
+    bundles: &[Bundle],
     bytes: &[u8],
     place: usize,
     sets: &mut Vec<StateSet>,
 ) -> Result<Row, DfaRefusal>
     requires automaton { IsAutomaton nfa.now }
-    requires sources { AreBySource nfa.now sources.now }
+    requires bundles { AreBundles nfa.now bytes.now bundles.now }
     requires place { place < vec_len sets.old }
     requires found { AreFound nfa.now sets.old.items }
     ensures found { IfOk result (λ _. AreFound nfa.now sets.new.items) }
@@ -126,8 +145,8 @@ fn row_of(
 {
     let from = sets[place].copy(alloc)?;
     let ends = ends_of_set(alloc, nfa, &from)?;
-    let exits = exits_of(alloc, nfa, sources, from)?;
-    let cells = cells_of(alloc, nfa, &exits, bytes, sets)?;
+    let exits = exits_of(alloc, nfa, bundles, from)?;
+    let cells = cells_of(alloc, nfa, bundles, &exits, bytes, sets)?;
     Ok(Row { cells, ends })
 }
 
@@ -149,11 +168,11 @@ pub fn rows_of(alloc: Global, nfa: &Nfa, bytes: &[u8]) -> Result<Vec<Row>, DfaRe
     ensures rows { IfOk result (λ rows. AreAllRows nfa.now bytes.now rows.items) }
     ensures refused { IfTooMany result (AreTooMany nfa.now) }
 {
-    let sources = by_source(alloc, nfa)?;
+    let bundles = bundles_of(alloc, nfa, bytes)?;
     let mut sets = start_sets(alloc, nfa)?;
     let mut rows = Vec::new(alloc);
     'rows: while rows.len() < sets.len() {
-        let row = row_of(alloc, nfa, &sources, bytes, rows.len(), &mut sets)?;
+        let row = row_of(alloc, nfa, &bundles, bytes, rows.len(), &mut sets)?;
         rows.push(row)?;
     }
     Ok(rows)

@@ -1,6 +1,3 @@
-use Rattle.std.proofs.Common.{◌≡◌, ℕ, List, subst, sym}
-use Rattle.marker_dfa.specs.Deterministic.{AcceptsSame, IsDeterministic, IsWide, StandsFor}
-use Rattle.marker_dfa.specs.Making.{AreAllRows}
 use Rattle.marker_dfa.proofs.Glue.{stands_for, accepts_same, is_deterministic, is_wide, not_too_many}
 use Rattle.marker_dfa.proofs.determinise.Goals as goal
 

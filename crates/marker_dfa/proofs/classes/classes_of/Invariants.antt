@@ -1,4 +1,3 @@
-use Rattle.std.proofs.Common.{◌≡◌}
 use Rattle.marker_nfa.specs.Automaton.{AreLettersOf}
 use Rattle.marker_dfa.proofs.Splitting.{FitsLetters}
 use Rattle.marker_dfa.proofs.classes.classes_of.Given as goal

@@ -1,5 +1,5 @@
-use Rattle.std.proofs.Common.{◌≡◌, ◌+◌, ◌≤◌, ℕ, arith, length}
-use Rattle.marker_dfa.proofs.Splitting.{split_new, split_old}
+use Rattle.std.proofs.Common.{◌≡◌, arith, length}
+use Rattle.marker_dfa.proofs.Splitting.{split_new}
 use Rattle.marker_dfa.proofs.classes.put_byte.Goals as goal
 
 pub returns : goal.returns

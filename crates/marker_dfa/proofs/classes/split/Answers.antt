@@ -1,6 +1,4 @@
-use Rattle.std.proofs.Common.{◌≡◌, ◌+◌, ◌^◌, ◌<◌, ◌≤◌, ℕ, List, [], Some, ap, sym, subst, refl, ◌∙◌, arith, length, Contains, slice_get, slice_index_or, get_or, true, false}
-use Rattle.std.proofs.lemmas.Option.{slice_get-get_or}
-use Rattle.std.proofs.lemmas.List.Elements.{Contains-get_or}
+use Rattle.std.proofs.Common.{◌≡◌, ℕ, subst, arith}
 use Rattle.marker_dfa.specs.Making.{IsSplitUpTo}
 use Rattle.marker_dfa.proofs.Splitting.{split_fit, split_finer}
 use Rattle.marker_dfa.proofs.classes.split.Goals as goal

@@ -1,13 +1,11 @@
-use Rattle.std.proofs.Common.{◌≡◌, ◌+◌, ◌^◌, ◌<◌, ◌≤◌, ℕ, List, [], Some, ap, sym, subst, refl, ◌∙◌, arith, length, Contains, slice_get, slice_index_or, get_or, true, false}
+use Rattle.std.proofs.Common.{◌≡◌, ◌^◌, ◌<◌, ◌≤◌, ℕ, List, [], Some, ap, sym, ◌∙◌, arith, length, slice_get, get_or}
 use Rattle.std.proofs.lemmas.Option.{slice_get-get_or}
-use Rattle.std.proofs.lemmas.List.Elements.{Contains-get_or}
-use Rattle.std.proofs.Common.{replicate}
 use Rattle.std.proofs.lemmas.List.{length-replicate}
 use Rattle.marker_nfa.specs.declared.nfa.End.{End}
 use Rattle.span_types.specs.declared.refusal.NoMemory.{NoMemory}
 use Rattle.marker_dfa.specs.Making.{AreFilled, AreEnds}
 use Rattle.marker_dfa.proofs.Lists.{contains_at}
-use Rattle.marker_dfa.proofs.Leaving.{EndsIn, adds_start, adds_more, ends_end, four_small, four_fits, if_ok_map}
+use Rattle.marker_dfa.proofs.Leaving.{EndsIn, adds_more, ends_end, four_small, four_fits, if_ok_map}
 use Rattle.marker_dfa.proofs.exits.ends_of_set.Goals as goal
 
 pub pow-requires : goal.pow-requires

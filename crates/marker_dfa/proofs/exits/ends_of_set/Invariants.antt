@@ -1,4 +1,4 @@
-use Rattle.std.proofs.Common.{◌≡◌, ◌^◌, ℕ, List, [], replicate}
+use Rattle.std.proofs.Common.{◌≡◌, ◌^◌, [], replicate}
 use Rattle.marker_dfa.specs.Making.{AddsTo}
 use Rattle.marker_dfa.proofs.Leaving.{UpTo, EndsIn}
 use Rattle.marker_dfa.proofs.exits.ends_of_set.Given as goal

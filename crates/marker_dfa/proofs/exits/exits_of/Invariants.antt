@@ -1,5 +1,5 @@
 use Rattle.marker_dfa.proofs.Leaving.{LeavesUpTo}
 use Rattle.marker_dfa.proofs.exits.exits_of.Given as goal
 
-abbrev pub invariant-loop-state : goal.invariant-loop-state
-invariant-loop-state l = LeavesUpTo l.nfa l.fn.from l.state l.by_mark
+abbrev pub invariant-loop-place : goal.invariant-loop-place
+invariant-loop-place l = LeavesUpTo l.nfa l.bundles l.fn.from l.place l.by_mark

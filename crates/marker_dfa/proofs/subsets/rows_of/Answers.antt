@@ -1,6 +1,4 @@
-use Rattle.std.proofs.Common.{◌≡◌, ◌+◌, ◌<◌, ◌≤◌, ◌++◌, ◌∷◌, [], ℕ, List, Bool, Some, ap, sym, subst, refl, ◌∙◌, arith, length, Contains, slice_get, slice_index_or, get_or, true, false}
-use Rattle.std.proofs.lemmas.Option.{slice_get-get_or}
-use Rattle.std.proofs.lemmas.List.Elements.{Contains-get_or}
+use Rattle.std.proofs.Common.{◌≡◌, ◌<◌, ap, ◌∙◌, arith, length, slice_get}
 use Rattle.marker_dfa.proofs.RowsGrow.{rows_more, rows_start}
 use Rattle.marker_dfa.proofs.subsets.rows_of.Goals as goal
 

@@ -1,4 +1,4 @@
-use Rattle.std.proofs.Common.{◌≡◌, ◌+◌, ◌-◌, ◌≤◌, ℕ, suc, List, sym, subst, arith}
+use Rattle.std.proofs.Common.{◌≡◌, ◌+◌, ◌-◌, ℕ, suc, subst, arith}
 use Rattle.marker_dfa.specs.Making.{PushesFilled}
 use Rattle.marker_dfa.proofs.Filling.{FilledFrom, filled_more, filled_end}
 use Rattle.marker_dfa.proofs.buckets.Buckets.filled.Goals as goal

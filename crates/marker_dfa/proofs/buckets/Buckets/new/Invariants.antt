@@ -1,4 +1,4 @@
-use Rattle.std.proofs.Common.{◌≡◌, List, [], ℕ, map, replicate}
+use Rattle.std.proofs.Common.{◌≡◌, [], map, replicate}
 use Rattle.marker_dfa.proofs.buckets.Buckets.new.Given as goal
 
 abbrev pub invariant-loop-bucket : goal.invariant-loop-bucket

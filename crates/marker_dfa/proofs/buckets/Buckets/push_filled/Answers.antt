@@ -1,4 +1,4 @@
-use Rattle.std.proofs.Common.{◌≡◌, ◌∙◌, sym, subst, inr, List, ℕ, Contains}
+use Rattle.std.proofs.Common.{◌∙◌, sym, subst, inr, List, ℕ, Contains}
 use Rattle.marker_dfa.proofs.Filling.{some_number}
 use Rattle.marker_dfa.proofs.buckets.Buckets.push_filled.Goals as goal
 

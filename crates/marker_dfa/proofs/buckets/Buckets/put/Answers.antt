@@ -1,4 +1,4 @@
-use Rattle.std.proofs.Common.{◌≡◌, ◌<◌, ℕ, List, ap, sym, subst, arith, length, map, set}
+use Rattle.std.proofs.Common.{◌≡◌, ◌<◌, ℕ, List, ap, subst, arith, length, map, set}
 use Rattle.marker_dfa.specs.Making.{AddsTo}
 use Rattle.marker_dfa.proofs.Lists.{length_map}
 use Rattle.marker_dfa.proofs.Filling.{put_item}

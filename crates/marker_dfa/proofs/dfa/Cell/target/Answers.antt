@@ -1,7 +1,4 @@
-use Rattle.std.proofs.Common.{◌≡◌, ◌+◌, ◌^◌, ◌<◌, ◌≤◌, ℕ, List, [], Some, ap, sym, subst, refl, ◌∙◌, arith, length, Contains, slice_get, slice_index_or, get_or, true, false}
-use Rattle.std.proofs.lemmas.Option.{slice_get-get_or}
-use Rattle.std.proofs.lemmas.List.Elements.{Contains-get_or}
-use Rattle.marker_dfa.specs.Deterministic.{find_target}
+use Rattle.std.proofs.Common.{◌≡◌, ◌<◌, ap, sym, ◌∙◌, arith, length, slice_get, get_or}
 use Rattle.marker_dfa.proofs.Finding.{found, missing, copied_get}
 use Rattle.marker_dfa.proofs.dfa.Cell.target.Goals as goal
 
