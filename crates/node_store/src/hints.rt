@@ -6,51 +6,72 @@ use std::alloc::Global;
 /// wrong, and is compared with the node that stands there before it is used.
 #[derive(Drop)]
 pub(crate) struct Hints {
-    indexes: Vec<u32>,
+    noted: Vec<Hint>,
+}
+
+/// Where a node stands. The tag, some bits of its hash, tells most other nodes of the same place from
+/// it without a look at them.
+#[derive(Clone, Copy)]
+struct Hint {
+    tag: u32,
+    index: u32,
 }
 
 const BYTES: usize = 256;
 
-const PAIRS: usize = 1 << 17;
+const PLACES: usize = 1 << 18;
 
 impl Hints {
     /// No guesses, and no memory.
     pub(crate) fn new(alloc: Global) -> Hints {
         Hints {
-            indexes: Vec::new(alloc),
+            noted: Vec::new(alloc),
         }
     }
 
     /// Where the node may stand.
     pub(crate) fn guess(&self, node: Node) -> Option<usize> {
-        self.indexes.get(place(node)).map(|index| *index as usize)
+        let hash = hash(node);
+        match self.noted.get(place(hash)) {
+            Some(hint) if hint.tag == tag(hash) => Some(hint.index as usize),
+            _ => None,
+        }
     }
 
     /// Notes where the node stands. Without memory nothing is noted.
     pub(crate) fn note(&mut self, node: Node, index: usize) {
-        if self.indexes.is_empty() && self.indexes.resize(BYTES + PAIRS, 0).is_err() {
+        let none = Hint { tag: 0, index: 0 };
+        if self.noted.is_empty() && self.noted.resize(PLACES, none).is_err() {
             return;
         }
-        if let (Some(noted), Ok(index)) = (
-            self.indexes.get_mut(place(node)),
-            u32::try_from(index),
-        ) {
-            *noted = index;
+        let hash = hash(node);
+        if let (Some(hint), Ok(index)) = (self.noted.get_mut(place(hash)), u32::try_from(index)) {
+            *hint = Hint {
+                tag: tag(hash),
+                index,
+            };
         }
     }
 }
 
-// A place of its own for each byte, and one by a multiplicative hash for a pair (D. E. Knuth, The
-// Art of Computer Programming, volume 3, section 6.4).
-fn place(node: Node) -> usize {
-    match node {
+// A multiplicative hash (D. E. Knuth, The Art of Computer Programming, volume 3, section 6.4).
+fn hash(node: Node) -> usize {
+    let mixed = match node {
         Node::Byte(b) => b as usize,
-        Node::Pair(left, right) => {
-            let mixed = left
-                .index
-                .wrapping_mul(0x9E37_79B9_7F4A_7C15)
-                .wrapping_add(right.index);
-            BYTES.wrapping_add(mixed.wrapping_mul(0x9E37_79B9_7F4A_7C15) >> 47)
-        }
-    }
+        Node::Pair(left, right) => left
+            .index
+            .wrapping_mul(0x9E37_79B9_7F4A_7C15)
+            .wrapping_add(right.index)
+            .wrapping_add(BYTES),
+    };
+    mixed.wrapping_mul(0x9E37_79B9_7F4A_7C15)
+}
+
+// The place is the hash's 18 highest bits, and the tag its 32 lowest.
+fn place(hash: usize) -> usize {
+    hash >> 46
+}
+
+fn tag(hash: usize) -> u32 {
+    (hash % (1 << 32)) as u32
 }
