@@ -1,5 +1,6 @@
 -- The first answer that is left, from what the walks find.
-use Rattle.std.proofs.Common.{suc, ◌≡◌, ℕ, ◌+◌, ◌-◌, ◌*◌, ◌<◌, ◌≤◌, Bool, true, false, ◌&&◌, not, refl, ap, sym, subst, ◌∙◌, arith, List, [], ◌∷◌, ◌++◌, length, length-append, length-drop, drop, get_or, Option, Some, None, inl}
+use Rattle.std.proofs.Common.{suc, ◌≡◌, ℕ, ◌+◌, ◌-◌, ◌*◌, ◌<◌, ◌≤◌, Bool, true, false, ◌&&◌, not, refl, ap, sym, subst, ◌∙◌, arith, List, [], ◌∷◌, ◌++◌, length, length-append, length-drop, drop, get_or, Option, Some, None, inl, inr}
+use Rattle.std.proofs.lemmas.Bool.{cases_eq}
 use Rattle.std.proofs.lemmas.List.{map-append, drop-append-le}
 use Rattle.std.proofs.Math.Seq.{drop-append-add}
 use Rattle.std.proofs.Math.Nat.{mul-le-mul_right, mul-le-mul_left, mul_assoc}
@@ -31,6 +32,10 @@ use Rattle.span_enum.proofs.Lowerings.{length-bytes, over-length, lowers-on, low
 use Rattle.span_enum.proofs.LastLetters.{member-one, final-end, run-end, reach-end, onward-end, fit-end}
 use Rattle.span_enum.proofs.TupleLaws.{few-marks, few-marks_of, read-back, end_mark-same, lies-reaches, reaches-lies}
 
+-- the marks before a position are the same
+abbrev pub Agree : Tuple → Tuple → ℕ → Type 0
+Agree t u at = (p : ℕ) → 1 ≤ p → p < at → mark_of t p ≡ mark_of u p
+
 -- looks of one call, for k variables and a tree of height h
 abbrev pub bound : ℕ → ℕ → ℕ
 bound k h = 4 * ((2 * k + 1) * (h + 3))
@@ -54,7 +59,7 @@ first-ended a auto finals all p s y r e low first best =
 
 -- ---- tuples
 pub gives : (a : DeterministicAutomaton) (s : List ℕ) (after : Option Tuple) (w : Marked) (u : Tuple) → Wellmarked a s → bytes_of w ≡ ended s → reached a 0 w ≡ Some 0
-    → IsFirstLeft a s after w → u ≡ write_word 1 w (blanks a.variables) → Gives a s after u × (mark_count w ≤ 2 * a.variables)
+    → IsFirstLeft a s after w → u ≡ write_word 1 w (blanks a.variables) → Gives a s after u × (mark_count w ≤ 2 * a.variables) × (w ≡ word_of u s)
 gives a s after w u well bytes ends first written =
     let m = well w 0 bytes ends in
     let same : u ≡ m.tuple = written ∙ ap (λ x. write_word 1 x (blanks a.variables)) m.word_is ∙ read-back a.variables m.tuple s m.tuple_is m.lies in (
@@ -64,6 +69,7 @@ gives a s after w u well bytes ends first written =
         first = rw same (subst (IsFirstLeft a s after) m.word_is first);
       },
       rw m.word_is (few-marks_of a.variables m.tuple s m.tuple_is.size m.lies),
+      m.word_is ∙ ap (λ v. word_of v s) (sym same),
     )
 
 -- what stands before a place of a tuple's word is the tuple's word over less
@@ -106,18 +112,6 @@ written-lowered k t s x front back y place m b is e at =
     ∙ ap (λ v. write_word (place + 1) ((m, b) ∷ y) v) base
     ∙ ap (λ n. write_word n y (write_mark m (place + 1) (cut (place + 1) t))) two
 
-pub gives-lowered : (a : DeterministicAutomaton) (s : List ℕ) (t u : Tuple) (place m q : ℕ) (y : Marked) → Wellmarked a s → IsTupleOf a.variables t
-    → (l : LowersAt a 0 (ended s) 1 (word_of t s) place m q) → IsFirst a q (bytes_of l.back) 1 y 0
-    → u ≡ write_word (place + 2) y (write_mark m (place + 1) (cut (place + 1) t)) → Gives a s (Some t) u × (mark_count y ≤ 2 * a.variables)
-gives-lowered a s t u place m q y well is l first written =
-    let next : IsNext a 0 (ended s) 1 (word_of t s) (l.front ++ (m, l.byte) ∷ y) 0 = IsNext-lowered a 0 (ended s) 1 (word_of t s) y place m q 0 l first in
-    let both = gives a s (Some t) (l.front ++ (m, l.byte) ∷ y) u well next.is_after.bytes next.is_after.ends next
-    (written ∙ sym (written-lowered a.variables t s (l.mark, l.byte) l.front l.back y place m l.byte is l.cut l.at)) in
-    (both.0, less l.front m l.byte both.1)
-  where
-    less : (front : Marked) (m b : ℕ) → mark_count (front ++ (m, b) ∷ y) ≤ 2 * a.variables → mark_count y ≤ 2 * a.variables
-    less front m b h = omega (arith, mark_count-append front ((m, b) ∷ y))
-
 -- what is left behind the place
 pub back-bytes : (a : DeterministicAutomaton) (p : ℕ) (s : List ℕ) (goals : ℕ) (w : Marked) (place m q : ℕ) → (l : LowersAt a p s goals w place m q) → (bytes_of l.back ≡ drop (place + 1) s) × (place < length s)
 back-bytes a p s goals w place m q l =
@@ -126,6 +120,43 @@ back-bytes a p s goals w place m q l =
       sym (ap (drop (place + 1)) text ∙ ap (λ n. drop (n + 1) (bytes_of l.front ++ (l.byte ∷ bytes_of l.back))) front ∙ drop-append-add (bytes_of l.front) (l.byte ∷ bytes_of l.back) 1),
       omega (arith, ap length text, length-append (bytes_of l.front) (l.byte ∷ bytes_of l.back), front),
     )
+
+-- tuples whose words begin with the same letters have the same marks there
+same-front : (t u : Tuple) (p : ℕ) (s : List ℕ) (x y : ℕ × ℕ) (front : Marked) (back rest : Marked) → word_over t p s ++ x ∷ [] ≡ front ++ back → word_over u p s ++ y ∷ [] ≡ front ++ rest
+    → (q : ℕ) → p ≤ q → q < p + length front → q < p + length s → mark_of t q ≡ mark_of u q
+same-front t u p s x y [] back rest e k q from to within = absurd (omega arith)
+same-front t u p [] x y (f ∷ front) back rest e k q from to within = absurd (omega arith)
+same-front t u p (b ∷ s) x y (f ∷ front) back rest e k q from to within = elim (cases_eq q p) [
+  | inl same ↦
+      let one : f ≡ (mark_of t p, b) = head-of (mark_of t p) (word_over t (suc p) s ++ x ∷ []) back e in
+      let two : f ≡ (mark_of u p, b) = head-of (mark_of u p) (word_over u (suc p) s ++ y ∷ []) rest k in
+      rw same (ap (λ z. z.0) (sym one ∙ two))
+  | inr other ↦
+      same-front t u (suc p) s x y front back rest (tail-of (mark_of t p) (word_over t (suc p) s ++ x ∷ []) back e) (tail-of (mark_of u p) (word_over u (suc p) s ++ y ∷ []) rest k)
+      q (omega arith) (omega arith) (omega arith)
+]
+  where
+    head-of : (m : ℕ) (w v : Marked) → (m, b) ∷ w ≡ f ∷ (front ++ v) → f ≡ (m, b)
+    head-of m w v h = cc
+
+    tail-of : (m : ℕ) (w v : Marked) → (m, b) ∷ w ≡ f ∷ (front ++ v) → w ≡ front ++ v
+    tail-of m w v h = cc
+
+pub gives-lowered : (a : DeterministicAutomaton) (s : List ℕ) (t u : Tuple) (place m q : ℕ) (y : Marked) → Wellmarked a s → IsTupleOf a.variables t
+    → (l : LowersAt a 0 (ended s) 1 (word_of t s) place m q) → IsFirst a q (bytes_of l.back) 1 y 0
+    → u ≡ write_word (place + 2) y (write_mark m (place + 1) (cut (place + 1) t)) → Gives a s (Some t) u × (mark_count y ≤ 2 * a.variables) × Agree t u (place + 1)
+gives-lowered a s t u place m q y well is l first written =
+    let next : IsNext a 0 (ended s) 1 (word_of t s) (l.front ++ (m, l.byte) ∷ y) 0 = IsNext-lowered a 0 (ended s) 1 (word_of t s) y place m q 0 l first in
+    let both = gives a s (Some t) (l.front ++ (m, l.byte) ∷ y) u well next.is_after.bytes next.is_after.ends next
+    (written ∙ sym (written-lowered a.variables t s (l.mark, l.byte) l.front l.back y place m l.byte is l.cut l.at)) in (
+      both.0,
+      less l.front m l.byte both.1,
+      λ p from to. same-front t u 1 s (end_mark t (length s + 1), 256) (end_mark u (length s + 1), 256) l.front ((l.mark, l.byte) ∷ l.back) ((m, l.byte) ∷ y) l.cut (sym both.2)
+          p from (omega (arith, l.at)) (omega (arith, (back-bytes a 0 (ended s) 1 (word_of t s) place m q l).1, length-append s (256 ∷ []))),
+    )
+  where
+    less : (front : Marked) (m b : ℕ) → mark_count (front ++ (m, b) ∷ y) ≤ 2 * a.variables → mark_count y ≤ 2 * a.variables
+    less front m b h = omega (arith, mark_count-append front ((m, b) ∷ y))
 
 -- ---- the calls
 module _ (a : DeterministicAutomaton) (auto : IsDeterministic a) where
@@ -174,7 +205,7 @@ module _ (a : DeterministicAutomaton) (auto : IsDeterministic a) where
 
     -- lowered at the end
     pub next-at_end : (t u : Tuple) (l : Lowering) (q m : ℕ) → IsTupleOf a.variables t → IsLowering a 0 s finals (word_over t 1 s) 1 l → l.state ≡ Some q
-        → IsGreatestMark a q 256 1 (end_mark t (length s + 1)) m 0 → u ≡ write_mark m (length s + 1) (cut (length s + 1) t) → Gives a s (Some t) u
+        → IsGreatestMark a q 256 1 (end_mark t (length s + 1)) m 0 → u ≡ write_mark m (length s + 1) (cut (length s + 1) t) → Gives a s (Some t) u × Agree t u (length s + 1)
     next-at_end t u l q m is lowering alive best e =
         let found : Lowers a 0 (ended s) 1 (word_of t s) 1 (record { at = 1 + length s; mark = m; state = 0 }) =
         lowers-behind a auto s (256 ∷ []) 0 1 finals auto.has_start (reach-end a auto finals all s 0 auto.has_start) (onward-end a auto finals all)
@@ -184,7 +215,8 @@ module _ (a : DeterministicAutomaton) (auto : IsDeterministic a) where
         let place : found.place ≡ length s = omega (arith, found.place_is) in
         let rest = back-bytes a 0 (ended s) 1 (word_of t s) found.place m 0 found.lowers in
         let none : bytes_of found.lowers.back ≡ [] = rest.0 ∙ ap (λ n. drop (n + 1) (ended s)) place ∙ drop-append-add s (256 ∷ []) 1 in
-        (gives-lowered a s t u found.place m 0 [] well is found.lowers (rw none nothing) (rw place e)).0
+        let both = gives-lowered a s t u found.place m 0 [] well is found.lowers (rw none nothing) (rw place e) in
+        (both.0, rw place at both.2)
       where
         nothing : IsFirst a 0 [] 1 [] 0
         nothing = record { bytes = refl; ends = refl; goal = member-one; least = λ v r bytes ends goal. inl (empty v bytes) }
@@ -205,7 +237,7 @@ module _ (a : DeterministicAutomaton) (auto : IsDeterministic a) where
         → out0 ≡ write_mark b.mark b.at (cut b.at t)
         → FindsRest a b.state (drop (b.at - 1 + 1) s) finals h mid after r (b.at + 1) out0 out → IsGreatestMark a r 256 1 65536 e 0
         → u ≡ write_mark e (length s + 1) out → now ≡ before + 1 → mid ≤ now + 2 * (h * mark_count (word_over t 1 s))
-        → Gives a s (Some t) u × (after ≤ before + bound a.variables h)
+        → Gives a s (Some t) u × (after ≤ before + bound a.variables h) × Agree t u b.at
     next-in_text h before now mid after r e t out0 out u l b is lowering none inside low e0 f best written en em =
         let found : Lowers a 0 (ended s) 1 (word_of t s) 1 b =
         lowers-on a auto s (256 ∷ []) 0 1 finals auto.has_start (reach-end a auto finals all s 0 auto.has_start) (onward-end a auto finals all)
@@ -229,7 +261,7 @@ module _ (a : DeterministicAutomaton) (auto : IsDeterministic a) where
         ∙ sym (write_word-append (found.place + 2) f.word ((e, 256) ∷ []) (write_mark b.mark (found.place + 1) (cut (found.place + 1) t))) in
         let both = gives-lowered a s t u found.place b.mark b.state (f.word ++ (e, 256) ∷ []) well is found.lowers (rw back first) all-marks in
         let few : mark_count f.word ≤ 2 * a.variables = omega (arith, both.1, mark_count-append f.word ((e, 256) ∷ [])) in
-        (both.0, cost (mark_count (word_over t 1 s)) (mark_count f.word) (few-marks a.variables t s is.size) few f.cost em)
+        (both.0, cost (mark_count (word_over t 1 s)) (mark_count f.word) (few-marks a.variables t s is.size) few f.cost em, rw (sym at1) at both.2)
       where
         cost : (c d : ℕ) → c ≤ 2 * a.variables → d ≤ 2 * a.variables → after ≤ mid + 2 * h + 2 * (h * d) → mid ≤ now + 2 * (h * c) → after ≤ before + bound a.variables h
         cost c d ec ed f1 f2 =

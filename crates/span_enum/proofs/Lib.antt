@@ -12,5 +12,6 @@ mod TupleLaws
 mod Membership
 mod Gifts
 mod Given
+mod Trails
 pub mod Pages
 pub mod Exists

@@ -9,3 +9,4 @@ pub mod Words
 pub mod Next
 pub mod Lowering
 pub mod Ends
+pub mod Trail

@@ -2,10 +2,12 @@
 ghost use Rattle.std.specs.Prelude.{◌≡◌, ℕ, ◌+◌, ◌*◌, ◌<◌, ◌≤◌, None, Some, length, IsTrue, ◌↔◌, MatchOption, IfSome, IfOk};
 ghost use Rattle.span_types.specs.Fibonacci.{looks_limit};
 ghost use Rattle.span_enum.specs.Listing.{text_of, IsReady, IsCursor};
+ghost use Rattle.span_enum.specs.Trail.{AreFinals, IsTrail};
 ghost use Rattle.span_enum.specs.Members.{IsMember, IsFirstMember, NoMemberLeft, HasMember};
 
 use crate::ends::{accepts_end, end_limit, greatest_end, lower_end};
-use crate::walk::{can_reach, complete, final_states, first, lower};
+use crate::trail::{Beside, Frame, Trail, complete_kept, empty_trail, lower_kept, renew};
+use crate::walk::{can_reach, final_states, first, lower};
 use marker_dfa::Dfa;
 use node_store::NodeId;
 use span_types::{NoMemory, Steps, Tuple};
@@ -18,13 +20,16 @@ use std::sync::ledger::Ledger;
 /// Contracts see it as the automaton, the text and the cursor.
 ///
 /// The answers are found in the tables of the text's nodes (M. L. Schmid and N. Schweikardt, Spanner evaluation over
-/// SLP-compressed documents, PODS 2021), in mark order, a tuple at a time and without reading the text.
+/// SLP-compressed documents, PODS 2021), in mark order, a tuple at a time and without reading the text. The way down to the
+/// last answer is kept, so the next one costs looks by its distance and not by the height of the tree.
 #[derive(Drop)]
 pub struct Answers<'a> {
     view: View<'a>,
     dfa: &'a Dfa,
     root: Option<NodeId>,
     last: Option<Tuple>,
+    finals: u128,
+    trail: Trail<'a>,
 }
 
 impl<'a> Model for Answers<'a> {
@@ -40,11 +45,11 @@ impl<'a> Model for Answers<'a> {
 }
 
 impl<'a> Answers<'a> {
-    /// Stands before the first answer. It makes no look and takes no memory, so it never answers NoMemory.
+    /// Stands before the first answer. It makes no look, and takes the memory that `next` will need.
     ///
     /// The view's tables are those of the automaton, and the root is one of its nodes or none.
     pub fn start<L: Ledger>(
-        _alloc: Global,
+        alloc: Global,
         view: View<'a>,
         dfa: &'a Dfa,
         root: Option<NodeId>,
@@ -59,13 +64,15 @@ impl<'a> Answers<'a> {
             dfa,
             root,
             last: None,
+            finals: final_states(dfa),
+            trail: empty_trail(alloc)?,
         })
     }
 
     /// Stands before the first answer that comes strictly after the tuple, which needn't be an answer and may lie past the
-    /// text. It makes no look and takes no memory, so it never answers NoMemory.
+    /// text. It makes no look, and takes the memory that `next` will need.
     pub fn seek<L: Ledger>(
-        _alloc: Global,
+        alloc: Global,
         view: View<'a>,
         dfa: &'a Dfa,
         root: Option<NodeId>,
@@ -82,6 +89,8 @@ impl<'a> Answers<'a> {
             dfa,
             root,
             last: Some(*after),
+            finals: final_states(dfa),
+            trail: empty_trail(alloc)?,
         })
     }
 
@@ -101,7 +110,16 @@ impl<'a> Answers<'a> {
         ensures listing { MatchOption result (self.new ≡ self.old) (λ u. self.new ≡ record self.old { after = Some u }) }
         ensures cost { looks.new ≤ looks.old + looks_limit self.old.automaton.variables (length self.old.text) }
     {
-        match first_left(&self.view, self.dfa, self.root, self.last, looks) {
+        let kept = &mut self.trail;
+        match first_left(
+            &self.view,
+            self.dfa,
+            self.root,
+            self.finals,
+            self.last,
+            kept,
+            looks,
+        ) {
             Some(u) => {
                 self.last = Some(u);
                 Some(u)
@@ -146,18 +164,24 @@ fn first_answer<L: Ledger>(
     }
 }
 
-/// The first answer strictly after the tuple.
-fn answer_after<L: Ledger>(
-    view: &View<'_>,
+/// The first answer strictly after the tuple, to which the trail leads. From then on it leads to that answer.
+fn answer_after<'a, L: Ledger>(
+    view: &View<'a>,
     dfa: &Dfa,
     root: Option<NodeId>,
+    goals: u128,
     t: &Tuple,
+    trail: &mut Trail<'a>,
     looks: &mut Steps<L>,
 ) -> Option<Tuple>
     requires ready { IsReady dfa.now view.now.store.now view.now.tables.now root }
+    requires goals { AreFinals dfa.now goals }
     requires tuple { length t.now ≡ dfa.now.variables }
+    requires trail { IsTrail dfa.now view.now.store.now view.now.tables.now root goals (Some t.now) trail.old.items }
     ensures answer { MatchOption result (NoMemberLeft dfa.now (text_of view.now.store.now root) (Some t.now))
         (IsFirstMember dfa.now (text_of view.now.store.now root) (Some t.now)) }
+    ensures trail { MatchOption result (IsTrail dfa.now view.now.store.now view.now.tables.now root goals (Some t.now) trail.new.items)
+        (λ u. IsTrail dfa.now view.now.store.now view.now.tables.now root goals (Some u) trail.new.items) }
     ensures cost { looks.new ≤ looks.old + looks_limit dfa.now.variables (length (text_of view.now.store.now root)) }
 {
     let _states = dfa.states();
@@ -170,18 +194,31 @@ fn answer_after<L: Ledger>(
         Some(id) => {
             let look = view.look(id, looks);
             let end = look.len + 1;
-            let goals = final_states(dfa);
-            let lowering = lower(view, dfa, id, &look, 0, goals, 1, t, looks);
+            let top = Frame {
+                id,
+                look,
+                at: 1,
+                state: 0,
+                goals,
+                beside: Beside::Left(None),
+            };
+            let lowering = lower_kept(view, dfa, &top, 0, trail, t, looks);
             if let Some(mark) = lower_end(dfa, lowering.state, end_limit(t, end)) {
-                return Some(t.cut_at(end).with_mark(mark, end));
+                let u = t.cut_at(end).with_mark(mark, end);
+                renew(view, dfa, &top, trail, t, &u, end);
+                return Some(u);
             }
             match lowering.best {
                 None => None,
                 Some(from) => {
                     let mut out = t.cut_at(from.at).with_mark(from.mark, from.at);
-                    let q = complete(view, dfa, id, &look, &from, goals, 1, &mut out, looks);
+                    let q = complete_kept(view, dfa, &top, 0, trail, t, &from, &mut out, looks);
                     match greatest_end(dfa, q, 65536) {
-                        Some(mark) => Some(out.with_mark(mark, end)),
+                        Some(mark) => {
+                            let u = out.with_mark(mark, end);
+                            renew(view, dfa, &top, trail, t, &u, from.at);
+                            Some(u)
+                        }
                         None => unreachable!(),
                     }
                 }
@@ -190,23 +227,32 @@ fn answer_after<L: Ledger>(
     }
 }
 
-/// The first answer that is left after the cursor.
-fn first_left<L: Ledger>(
-    view: &View<'_>,
+/// The first answer that is left after the cursor, to which the trail leads if there is one.
+fn first_left<'a, L: Ledger>(
+    view: &View<'a>,
     dfa: &Dfa,
     root: Option<NodeId>,
+    goals: u128,
     last: Option<Tuple>,
+    trail: &mut Trail<'a>,
     looks: &mut Steps<L>,
 ) -> Option<Tuple>
     requires ready { IsReady dfa.now view.now.store.now view.now.tables.now root }
+    requires goals { AreFinals dfa.now goals }
     requires tuple { IsCursor dfa.now last }
+    requires trail { IsTrail dfa.now view.now.store.now view.now.tables.now root goals last trail.old.items }
     ensures answer { MatchOption result (NoMemberLeft dfa.now (text_of view.now.store.now root) last)
         (IsFirstMember dfa.now (text_of view.now.store.now root) last) }
+    ensures trail { MatchOption result (IsTrail dfa.now view.now.store.now view.now.tables.now root goals last trail.new.items)
+        (λ u. IsTrail dfa.now view.now.store.now view.now.tables.now root goals (Some u) trail.new.items) }
     ensures cost { looks.new ≤ looks.old + looks_limit dfa.now.variables (length (text_of view.now.store.now root)) }
 {
     match last {
-        None => first_answer(view, dfa, root, looks),
-        Some(t) => answer_after(view, dfa, root, &t, looks),
+        None => {
+            trail.truncate(0);
+            first_answer(view, dfa, root, looks)
+        }
+        Some(t) => answer_after(view, dfa, root, goals, &t, trail, looks),
     }
 }
 

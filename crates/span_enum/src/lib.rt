@@ -3,6 +3,7 @@
 
 mod answers;
 mod ends;
+mod trail;
 mod walk;
 
 pub use answers::{Answers, has, nonempty};

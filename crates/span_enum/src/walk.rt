@@ -185,7 +185,7 @@ pub(crate) fn first<L: Ledger>(
 }
 
 /// Whether a tuple has a mark at a position from `from` on and before `to`.
-fn is_marked_between(t: &Tuple, from: u64, to: u64) -> bool
+pub(crate) fn is_marked_between(t: &Tuple, from: u64, to: u64) -> bool
     requires { 1 ≤ from }
     ensures some { result ≡ true → IsMarkedBetween t.now from to }
     ensures none { result ≡ false → (p : ℕ) → from ≤ p → p < to → mark_of t.now p ≡ 0 }

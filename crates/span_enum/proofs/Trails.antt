@@ -1,0 +1,346 @@
+-- The kept way down, frame by frame.
+use Rattle.std.proofs.Common.{zero, suc, ◌≡◌, ℕ, ◌+◌, ◌-◌, ◌*◌, ◌<◌, ◌≤◌, ◌⊎◌, refl, ap, sym, subst, ◌∙◌, arith, List, [], ◌∷◌, ◌++◌, length, length-append, take, drop, Option, Some, None, IfSome, MatchOption, inl, inr}
+use Rattle.std.specs.Prelude.{slice_get}
+use Rattle.span_types.specs.Marks.{mark_of}
+use Rattle.span_types.specs.Words.{mark_count, word_from}
+use Rattle.slp_model.specs.declared.Node.{Node}
+use Rattle.slp_model.specs.declared.NodeId.{NodeId}
+use Rattle.slp_model.specs.Tree.{text, height}
+use Rattle.slp_model.specs.Nodes.{tree}
+use Rattle.marker_dfa.specs.Deterministic.{DeterministicAutomaton, IsDeterministic, states_of}
+use Rattle.state_tables.specs.Table.{unmarked_of}
+use Rattle.state_tables.specs.Dictionary.{Dictionary, AreTables, count_of}
+use Rattle.state_tables.specs.declared.view.Look.{Look}
+use Rattle.span_enum.specs.Members.{Tuple}
+use Rattle.span_enum.specs.Tuples.{word_over}
+use Rattle.span_enum.specs.Words.{CanRun, FindsFirst, FindsRest}
+use Rattle.span_enum.specs.Lowering.{IsLowering}
+use Rattle.span_enum.specs.Trail.{IsFrame, IsLeftChild, IsRightChild, IsChild, IsBelow, Descends, LeadsBy, IsKeptAt, Follows, looks_over, IsTop, IsTrail}
+use Rattle.span_enum.specs.declared.walk.Lowered.{Lowered}
+use Rattle.span_enum.specs.declared.walk.Lowering.{Lowering}
+use Rattle.span_enum.specs.declared.trail.Frame.{Frame}
+use Rattle.span_enum.specs.declared.trail.Beside.{Beside}
+use Rattle.span_enum.specs.declared.trail.Beside.TheVariants.{Right, Left}
+use Rattle.span_enum.proofs.Paths.{Tells}
+use Rattle.span_enum.proofs.Steps.{look-table, pair-text, pair-height}
+use Rattle.span_enum.proofs.Written.{over-append, over-bytes}
+use Rattle.span_enum.proofs.Lowerings.{lowering-plain, lowering-dead, lowering-left, lowering-right, reach-by_table, onward-by_table, lower-cost, lower-cost_left}
+use Rattle.std.proofs.Math.Nat.{mul-le-mul_right, mul-le-mul_left}
+use Rattle.span_enum.proofs.Firsts.{mark_count-append}
+use Rattle.span_enum.proofs.Gifts.{Agree}
+use Rattle.span_enum.proofs.Rests.{rest-text_right, rest-can_left, rest-left, rest-right}
+
+-- ---- places of a list
+one-more : (place : ℕ) → suc place ≡ place + 1
+one-more place = omega arith
+
+pub drop-at : (fs : List (Option Frame)) (place : ℕ) (g : Frame) → slice_get fs place ≡ Some (Some g) → drop place fs ≡ Some g ∷ drop (suc place) fs
+drop-at [] place g h = cc
+drop-at (f ∷ fs) zero g h = let same : f ≡ Some g = cc in ap (λ x. x ∷ fs) same
+drop-at (f ∷ fs) (suc place) g h = drop-at fs place g h
+
+pub take-less : (place : ℕ) (xs ys : List (Option Frame)) → take (suc place) xs ≡ take (suc place) ys → take place xs ≡ take place ys
+take-less zero xs ys h = refl
+take-less (suc place) [] [] h = refl
+take-less (suc place) [] (y ∷ ys) h = cc
+take-less (suc place) (x ∷ xs) [] h = cc
+take-less (suc place) (x ∷ xs) (y ∷ ys) h =
+    let head : x ≡ y = cc in
+    let tail : take (suc place) xs ≡ take (suc place) ys = cc in
+    ap (λ z. z ∷ take place xs) head ∙ ap (λ zs. y ∷ zs) (take-less place xs ys tail)
+
+kept-zero : (g : Frame) (xs ys : List (Option Frame)) → take (suc zero) ys ≡ take (suc zero) xs
+    → (drop zero xs ≡ Some g ∷ drop (suc zero) xs) ⊎ (drop zero xs ≡ []) → (drop zero ys ≡ Some g ∷ drop (suc zero) ys) ⊎ (drop zero ys ≡ [])
+kept-zero g xs [] h k = inr refl
+kept-zero g [] (y ∷ ys) h k = cc
+kept-zero g (x ∷ xs) (y ∷ ys) h k = elim k [
+  | inl e ↦
+      let head : x ≡ Some g = cc in
+      let same : y ≡ x = cc in
+      inl (ap (λ z. z ∷ ys) (same ∙ head))
+  | inr e ↦ cc
+]
+
+kept-on : (place : ℕ) (g : Frame) (xs ys : List (Option Frame)) → take (suc place) ys ≡ take (suc place) xs
+    → (drop place xs ≡ Some g ∷ drop (suc place) xs) ⊎ (drop place xs ≡ []) → (drop place ys ≡ Some g ∷ drop (suc place) ys) ⊎ (drop place ys ≡ [])
+kept-on zero g xs ys h k = kept-zero g xs ys h k
+kept-on (suc place) g [] [] h k = inr refl
+kept-on (suc place) g [] (y ∷ ys) h k = cc
+kept-on (suc place) g (x ∷ xs) [] h k = inr refl
+kept-on (suc place) g (x ∷ xs) (y ∷ ys) h k =
+    let tail : take (suc place) ys ≡ take (suc place) xs = cc in
+    kept-on place g xs ys tail k
+
+pub kept-same : (place : ℕ) (g : Frame) (xs ys : List (Option Frame)) → take (place + 1) ys ≡ take (place + 1) xs → IsKeptAt place g xs → IsKeptAt place g ys
+kept-same place g xs ys h k =
+    rw (← one-more place) (kept-on place g xs ys (rw (← one-more place) at h) (rw (← one-more place) at k))
+
+pub take-fewer : (place : ℕ) (xs ys : List (Option Frame)) → take (place + 1) xs ≡ take (place + 1) ys → take place xs ≡ take place ys
+take-fewer place xs ys h = take-less place xs ys (rw (← one-more place) at h)
+
+-- ---- the way down
+module _ (a : DeterministicAutomaton) (nodes : List Node) (d : Dictionary) where
+  -- the frame at a place is that of a child, and those behind it lead on
+  pub below-at : (t : Tuple) (f g : Frame) (fs : List (Option Frame)) (place : ℕ) → Descends a nodes d t f (drop place fs) → slice_get fs place ≡ Some (Some g)
+      → IsBelow a nodes d t f g × Descends a nodes d t g (drop (place + 1) fs)
+  below-at t f g fs place h at = rw (← one-more place) (rw (drop-at fs place g at) at h)
+
+  module _ (t : Tuple) (f : Frame) (fs : List (Option Frame)) (place : ℕ) (h : Descends a nodes d t f (drop place fs)) where
+    abbrev Finds : Option Frame → Type 0
+    Finds o = MatchOption o ((g : Frame) → slice_get fs place ≡ Some (Some g) → ⊥) (λ g. slice_get fs place ≡ Some (Some g))
+
+    pub found-below : (o : Option Frame) → Finds o → IfSome o (λ g. IsBelow a nodes d t f g)
+    found-below None k = tt
+    found-below (Some g) k = (below-at t f g fs place h k).0
+
+    pub found-rest : (o : Option Frame) → Finds o → IfSome o (λ g. Descends a nodes d t g (drop (place + 1) fs))
+    found-rest None k = tt
+    found-rest (Some g) k = (below-at t f g fs place h k).1
+
+    pub found-kept : (o : Option Frame) → Finds o → IfSome o (λ g. IsKeptAt place g fs)
+    found-kept None k = tt
+    found-kept (Some g) k = rw (← one-more place) (inl (drop-at fs place g k))
+
+  pub descends-kept : (t : Tuple) (f g : Frame) (fs : List (Option Frame)) (place : ℕ) → IsBelow a nodes d t f g → IsKeptAt place g fs
+      → Descends a nodes d t g (drop (place + 1) fs) → Descends a nodes d t f (drop place fs)
+  descends-kept t f g fs place below kept rest = elim kept [
+    | inl e ↦ rw e (below, rest)
+    | inr e ↦ rw e tt
+  ]
+
+-- ---- the children
+cost-up : (h k c m : ℕ) → k ≤ h → c ≤ m → 2 * (k * c) ≤ 2 * (h * m)
+cost-up h k c m e l =
+    let x : k * c ≤ h * c = mul-le-mul_right c e in
+    let y : h * c ≤ h * m = mul-le-mul_left h l in
+    omega arith
+
+module _ (a : DeterministicAutomaton) (nodes : List Node) (d : Dictionary) (all : AreTables a nodes d) (counted : count_of d ≡ length nodes) (auto : IsDeterministic a)
+    (t : Tuple) (f g : Frame) (isf : IsFrame a nodes d f) (isg : IsFrame a nodes d g) where
+  abbrev here : List ℕ
+  here = text (tree nodes g.id.index)
+
+  -- g is the left child
+  module _ (r : NodeId) (look : Look) (k : IsLeftChild nodes d f g r look) where
+    abbrev there : List ℕ
+    there = text (tree nodes r.index)
+
+    right-table : Tells a there look.table.now
+    right-table = look-table a nodes d all counted r.index look.node look.len look.table.now k.live k.look_is
+
+    whole : text (tree nodes f.id.index) ≡ here ++ there
+    whole = pair-text nodes f.id.index g.id r k.node
+
+    over-left : (l : Lowering) → Follows a nodes t g l → IsLowering a f.state here g.goals (word_over t f.at here) f.at l
+    over-left l fl = rw (k.at, k.state) at fl.lowering
+
+    pub left-alive : (l : Lowering) (q : ℕ) (o : Option ℕ) → LeadsBy t f g (Right r look) → Follows a nodes t g l → l.state ≡ Some q → q < states_of a → o ≡ unmarked_of look.table.now q
+        → Follows a nodes t f (record { state = o; best = l.best })
+    left-alive l q o leads fl alive low e = record {
+      lowering = rw whole (rw (over-append t f.at here there)
+          (lowering-left a auto here there f.state f.goals g.goals isf.state
+          (reach-by_table a auto there look.table.now f.goals g.goals right-table k.goals.is here f.state isf.state)
+          (onward-by_table a auto there look.table.now f.goals g.goals right-table k.goals.is k.goals.small)
+          (word_over t f.at here) (word_over t (f.at + length here) there) (over-bytes t f.at here) (over-bytes t (f.at + length here) there)
+          f.at q l (record { state = o; best = None }) (over-left l fl) alive
+          (lowering-plain a q f.goals (f.at + length here) there t look.table.now o right-table low none e) refl));
+      within = some-within o e;
+      best_within = fl.best_within;
+    }
+      where
+        some-within : (n : Option ℕ) → n ≡ unmarked_of look.table.now q → IfSome n (λ m. m < states_of a)
+        some-within None is = tt
+        some-within (Some m) is = right-table.shape.unmarked_within q m (sym is)
+
+        none : (p : ℕ) → f.at + length here ≤ p → p < f.at + length here + length there → mark_of t p ≡ 0
+        none p from to = leads p (omega (arith, k.at, isg.look.len_is)) (omega (arith, isf.look.len_is, ap length whole, length-append here there))
+
+    pub left-looks : (before now : ℕ) → now ≡ before + 2 → 0 < mark_count (word_over t f.at (text (tree nodes f.id.index))) → now + looks_over nodes t g ≤ before + looks_over nodes t f
+    left-looks before now e pos = rw (whole, k.at)
+        (lower-cost_left t f.at (height (tree nodes f.id.index)) (height (tree nodes g.id.index)) (height (tree nodes r.index)) before now
+        (now + 2 * (height (tree nodes g.id.index) * mark_count (word_over t f.at here))) here there
+        (pair-height nodes f.id.index g.id r k.node) e (rw whole at pos) (omega arith))
+
+    pub left-fewer : looks_over nodes t g ≤ looks_over nodes t f
+    left-fewer = rw (whole, k.at, over-append t f.at here there, mark_count-append (word_over t f.at here) (word_over t (f.at + length here) there))
+        (cost-up (height (tree nodes f.id.index)) (height (tree nodes g.id.index)) (mark_count (word_over t f.at here)) _ (omega (arith, pair-height nodes f.id.index g.id r k.node)) (omega arith))
+
+    pub left-can : (b : Lowered) → b.state < states_of a → b.at - g.at < length here
+        → CanRun a b.state (drop (b.at - f.at + 1) (text (tree nodes f.id.index))) f.goals → CanRun a b.state (drop (b.at - g.at + 1) here) g.goals
+    left-can b low lt can = rw k.at
+        (rest-can_left a auto here there look.table.now b.state (b.at - f.at) f.goals g.goals low right-table (rw k.at at lt) k.goals.is (rw whole at can))
+
+    pub left-rest : (b : Lowered) (q n before mid after : ℕ) (old out new : Tuple) → b.state < states_of a → f.at ≤ b.at → b.at - g.at < length here
+        → FindsRest a b.state (drop (b.at - g.at + 1) here) g.goals (height (tree nodes g.id.index)) before mid q (b.at + 1) old out
+        → FindsFirst a q there f.goals (height (tree nodes r.index)) mid after n (f.at + g.look.len) out new
+        → FindsRest a b.state (drop (b.at - f.at + 1) (text (tree nodes f.id.index))) f.goals (height (tree nodes f.id.index)) before after n (b.at + 1) old new
+    left-rest b q n before mid after old out new low from lt l r' =
+        rest-left a auto (text (tree nodes f.id.index)) here there look.table.now b.state q n (b.at - f.at) f.goals g.goals
+        (height (tree nodes f.id.index)) (height (tree nodes g.id.index)) (height (tree nodes r.index)) before (before + 2) mid after b.at f.at old out new
+        low right-table whole (rw k.at at lt) (omega (arith, from)) k.goals.is (pair-height nodes f.id.index g.id r k.node) refl
+        (later (rw k.at at l)) (rw isg.look.len_is at r')
+      where
+        later : FindsRest a b.state (drop (b.at - f.at + 1) here) g.goals (height (tree nodes g.id.index)) before mid q (b.at + 1) old out
+            → FindsRest a b.state (drop (b.at - f.at + 1) here) g.goals (height (tree nodes g.id.index)) (before + 2) mid q (b.at + 1) old out
+        later x = record { word = x.word; first = x.first; cost = omega (arith, x.cost); written = x.written }
+
+    pub left-dead : (l : Lowering) → Follows a nodes t g l → l.state ≡ None → Follows a nodes t f l
+    left-dead l fl dead = record {
+      lowering = rw whole (rw (over-append t f.at here there)
+          (lowering-dead a auto here there f.state f.goals g.goals isf.state
+          (reach-by_table a auto there look.table.now f.goals g.goals right-table k.goals.is here f.state isf.state)
+          (onward-by_table a auto there look.table.now f.goals g.goals right-table k.goals.is k.goals.small)
+          (word_over t f.at here) (word_over t (f.at + length here) there) (over-bytes t f.at here) (over-bytes t (f.at + length here) there)
+          f.at l (over-left l fl) dead));
+      within = fl.within;
+      best_within = fl.best_within;
+    }
+
+  -- g is the right child
+  module _ (best : Option Lowered) (k : IsRightChild a nodes t f g best) where
+    abbrev before-it : List ℕ
+    before-it = text (tree nodes k.left.index)
+
+    own-table : Tells a here g.look.table.now
+    own-table = look-table a nodes d all counted g.id.index g.look.node g.look.len g.look.table.now isg.live isg.look
+
+    joined-text : text (tree nodes f.id.index) ≡ before-it ++ here
+    joined-text = pair-text nodes f.id.index k.left g.id k.node
+
+    over-right : (l : Lowering) → Follows a nodes t g l → IsLowering a g.state here f.goals (word_over t (f.at + length before-it) here) (f.at + length before-it) l
+    over-right l fl = rw (k.at, k.goals) at fl.lowering
+
+    pub right-found : (l : Lowering) (b : Lowered) → Follows a nodes t g l → l.best ≡ Some b → Follows a nodes t f l
+    right-found l b fl is = record {
+      lowering = rw joined-text (rw (over-append t f.at before-it here)
+          (lowering-right a auto before-it here f.state f.goals k.between isf.state
+          (reach-by_table a auto here g.look.table.now f.goals k.between own-table k.before.is before-it f.state isf.state)
+          (onward-by_table a auto here g.look.table.now f.goals k.between own-table k.before.is k.before.small)
+          (word_over t f.at before-it) (word_over t (f.at + length before-it) here) (over-bytes t f.at before-it) (over-bytes t (f.at + length before-it) here)
+          f.at g.state (record { state = Some g.state; best = best }) l b k.lowering refl (over-right l fl) is));
+      within = fl.within;
+      best_within = fl.best_within;
+    }
+
+    pub right-none : (l : Lowering) → Follows a nodes t g l → l.best ≡ None → Follows a nodes t f (record { state = l.state; best = best })
+    right-none l fl is = record {
+      lowering = rw joined-text (rw (over-append t f.at before-it here)
+          (lowering-left a auto before-it here f.state f.goals k.between isf.state
+          (reach-by_table a auto here g.look.table.now f.goals k.between own-table k.before.is before-it f.state isf.state)
+          (onward-by_table a auto here g.look.table.now f.goals k.between own-table k.before.is k.before.small)
+          (word_over t f.at before-it) (word_over t (f.at + length before-it) here) (over-bytes t f.at before-it) (over-bytes t (f.at + length before-it) here)
+          f.at g.state (record { state = Some g.state; best = best }) l k.lowering refl (over-right l fl) is));
+      within = fl.within;
+      best_within = k.within;
+    }
+
+    pub right-fewer : looks_over nodes t g ≤ looks_over nodes t f
+    right-fewer = rw (joined-text, k.at, over-append t f.at before-it here, mark_count-append (word_over t f.at before-it) (word_over t (f.at + length before-it) here))
+        (cost-up (height (tree nodes f.id.index)) (height (tree nodes g.id.index)) (mark_count (word_over t (f.at + length before-it) here)) _ (omega (arith, pair-height nodes f.id.index k.left g.id k.node)) (omega arith))
+
+    pub right-looks : (before now mid : ℕ) → now ≡ before + 2 → 0 < mark_count (word_over t f.at (text (tree nodes f.id.index)))
+        → mid ≤ now + 2 * (height (tree nodes k.left.index) * mark_count (word_over t f.at before-it)) → mid + looks_over nodes t g ≤ before + looks_over nodes t f
+    right-looks before now mid e pos l = rw (joined-text, k.at)
+        (lower-cost t f.at (height (tree nodes f.id.index)) (height (tree nodes k.left.index)) (height (tree nodes g.id.index)) before now mid
+        (mid + 2 * (height (tree nodes g.id.index) * mark_count (word_over t (f.at + length before-it) here))) before-it here
+        (pair-height nodes f.id.index k.left g.id k.node) e (rw joined-text at pos) l (omega arith))
+
+    behind : (b : Lowered) → g.at ≤ b.at → drop (b.at - f.at + 1) (text (tree nodes f.id.index)) ≡ drop (b.at - (f.at + length before-it) + 1) here
+    behind b from = ap (drop (b.at - f.at + 1)) joined-text ∙ rest-text_right before-it here b.at f.at (length before-it) refl (rw k.at at from)
+
+    pub right-can : (b : Lowered) → g.at ≤ b.at → CanRun a b.state (drop (b.at - f.at + 1) (text (tree nodes f.id.index))) f.goals → CanRun a b.state (drop (b.at - g.at + 1) here) g.goals
+    right-can b from can = rw (k.at, k.goals) (rw (behind b from) at can)
+
+    pub right-rest : (b : Lowered) (n before after : ℕ) (old new : Tuple) → g.at ≤ b.at
+        → FindsRest a b.state (drop (b.at - g.at + 1) here) g.goals (height (tree nodes g.id.index)) before after n (b.at + 1) old new
+        → FindsRest a b.state (drop (b.at - f.at + 1) (text (tree nodes f.id.index))) f.goals (height (tree nodes f.id.index)) before after n (b.at + 1) old new
+    right-rest b n before after old new from x =
+        let h = pair-height nodes f.id.index k.left g.id k.node in
+        rest-right a (drop (b.at - f.at + 1) (text (tree nodes f.id.index))) (drop (b.at - (f.at + length before-it) + 1) here) b.state n f.goals
+        (height (tree nodes f.id.index)) (height (tree nodes g.id.index)) before (before + 2) after (b.at + 1) old new
+        (behind b from) (omega (arith, h)) refl (later (rw (k.at, k.goals) at x))
+      where
+        later : FindsRest a b.state (drop (b.at - (f.at + length before-it) + 1) here) f.goals (height (tree nodes g.id.index)) before after n (b.at + 1) old new
+            → FindsRest a b.state (drop (b.at - (f.at + length before-it) + 1) here) f.goals (height (tree nodes g.id.index)) (before + 2) after n (b.at + 1) old new
+        later y = record { word = y.word; first = y.first; cost = omega (arith, y.cost); written = y.written }
+
+  -- either child
+  pub child-fewer : (b : Beside) → IsChild a nodes d t f g b → looks_over nodes t g ≤ looks_over nodes t f
+  child-fewer (Right r look) k = left-fewer r look k
+  child-fewer (Left best) k = right-fewer best k
+
+  pub child-can : (b : Beside) → IsChild a nodes d t f g b → (x : Lowered) → x.state < states_of a → g.at ≤ x.at → x.at - g.at < length here
+      → CanRun a x.state (drop (x.at - f.at + 1) (text (tree nodes f.id.index))) f.goals → CanRun a x.state (drop (x.at - g.at + 1) here) g.goals
+  child-can (Right r look) k x low from lt can = left-can r look k x low lt can
+  child-can (Left best) k x low from lt can = right-can best k x from can
+
+-- ---- another tuple
+word-same : (f g : ℕ → ℕ) (p : ℕ) (s : List ℕ) → ((q : ℕ) → p ≤ q → q < p + length s → f q ≡ g q) → word_from f p s ≡ word_from g p s
+word-same f g p [] same = refl
+word-same f g p (b ∷ s) same =
+    ap (λ n. (n, b) ∷ word_from f (suc p) s) (same p (omega arith) (omega arith))
+    ∙ ap (λ w. (g p, b) ∷ w) (word-same f g (suc p) s (λ q from to. same q (omega arith) (omega arith)))
+
+module _ (a : DeterministicAutomaton) (nodes : List Node) (d : Dictionary) where
+  child-same : (t u : Tuple) (at : ℕ) (f g : Frame) → Agree t u at → 1 ≤ f.at → g.at ≤ at → (b : Beside) → IsChild a nodes d t f g b → IsChild a nodes d u f g b
+  child-same t u at f g same pos le (Right r look) k = k
+  child-same t u at f g same pos le (Left best) k = record {
+    left = k.left;
+    between = k.between;
+    node = k.node;
+    at = k.at;
+    goals = k.goals;
+    before = k.before;
+    lowering = rw (word-same (mark_of t) (mark_of u) f.at (text (tree nodes k.left.index)) (λ q from to. same q (omega arith) (omega (arith, k.at)))) at k.lowering;
+    within = k.within;
+  }
+
+  pub renewed : (t u : Tuple) (at : ℕ) (f : Frame) (fs : List (Option Frame)) (many : ℕ) → Agree t u at → 1 ≤ f.at
+      → ((k : ℕ) (g : Frame) → k < many → slice_get fs k ≡ Some (Some g) → g.at ≤ at) → Descends a nodes d t f fs → Descends a nodes d u f (take many fs)
+  renewed t u at f fs zero same pos before h = tt
+  renewed t u at f [] (suc many) same pos before h = tt
+  renewed t u at f (None ∷ fs) (suc many) same pos before h = tt
+  renewed t u at f (Some g ∷ fs) (suc many) same pos before h = (
+    record { frame = h.0.frame; child = child-same t u at f g same pos (before zero g (omega arith) refl) g.beside h.0.child },
+    renewed t u at g fs many same h.0.frame.positive (λ k x lt is. before (suc k) x (omega arith) is) h.1,
+  )
+
+  -- ---- another frame of the root
+  top-child : (t : Tuple) (root : NodeId) (goals : ℕ) (f e g : Frame) → IsTop root goals f → IsTop root goals e → (b : Beside) → IsChild a nodes d t f g b → IsChild a nodes d t e g b
+  top-child t root goals f e g x y (Right r look) k = record {
+    node = rw (x.id_is, ← y.id_is) at k.node;
+    live = k.live;
+    look_is = k.look_is;
+    at = k.at ∙ x.at ∙ sym y.at;
+    state = k.state ∙ x.state ∙ sym y.state;
+    goals = rw (x.goals_are, ← y.goals_are) at k.goals;
+  }
+  top-child t root goals f e g x y (Left best) k = record {
+    left = k.left;
+    between = k.between;
+    node = rw (x.id_is, ← y.id_is) at k.node;
+    at = k.at ∙ ap (λ n. n + length (text (tree nodes k.left.index))) (x.at ∙ sym y.at);
+    goals = k.goals ∙ x.goals_are ∙ sym y.goals_are;
+    before = rw (x.goals_are, ← y.goals_are) at k.before;
+    lowering = subst (λ n. IsLowering a n (text (tree nodes k.left.index)) k.between (word_over t e.at (text (tree nodes k.left.index))) e.at (record { state = Some g.state; best = best })) (x.state ∙ sym y.state)
+        (subst (λ n. IsLowering a f.state (text (tree nodes k.left.index)) k.between (word_over t n (text (tree nodes k.left.index))) n (record { state = Some g.state; best = best })) (x.at ∙ sym y.at) k.lowering);
+    within = k.within;
+  }
+
+  pub from-top : (t : Tuple) (root : NodeId) (goals : ℕ) (f e : Frame) (fs : List (Option Frame)) → IsTop root goals f → IsTop root goals e → Descends a nodes d t f fs → Descends a nodes d t e fs
+  from-top t root goals f e [] x y h = tt
+  from-top t root goals f e (None ∷ fs) x y h = tt
+  from-top t root goals f e (Some g ∷ fs) x y h = (record { frame = h.0.frame; child = top-child t root goals f e g x y g.beside h.0.child }, h.1)
+
+  pub is-trail : (root : Option NodeId) (goals : ℕ) (id : NodeId) (u : Tuple) (top : Frame) (fs : List (Option Frame)) → root ≡ Some id → IsTop id goals top → Descends a nodes d u top fs
+      → IsTrail a nodes d root goals (Some u) fs
+  is-trail root goals id u top fs er x h other t f eo et y =
+      let same : id ≡ other = same-node id other root er eo in
+      let tuple : u ≡ t = same-tuple u t et in
+      subst (λ v. Descends a nodes d v f fs) tuple (from-top u id goals top f fs x (subst (λ n. IsTop n goals f) (sym same) y) h)
+    where
+      same-node : (m n : NodeId) (o : Option NodeId) → o ≡ Some m → o ≡ Some n → m ≡ n
+      same-node m n o e k = cc
+
+      same-tuple : (m n : Tuple) → ◌≡◌ {A = Option Tuple} (Some m) (Some n) → m ≡ n
+      same-tuple m n e = cc
