@@ -1,14 +1,15 @@
 -- What a covered store says of the entry of a name.
-use Rattle.std.proofs.Common.{◌≡◌, ℕ, ◌≤◌, ◌^◌, Bool, true, false, cond, List, [], ◌∷◌, length, Option, Some, None, sym, ap, subst, ◌∙◌, arith}
+use Rattle.std.proofs.Common.{◌≡◌, ℕ, ◌<◌, ◌≤◌, ◌^◌, Bool, true, false, cond, List, [], ◌∷◌, length, Option, Some, None, All, sym, ap, subst, ◌∙◌, arith}
 use Rattle.std.specs.Prelude.{unwrap_or}
 use Rattle.std.specs.Option.{option_map}
 use Rattle.std.specs.List.{AllByRecursion}
 use Rattle.slp_model.specs.declared.Node.{Node}
 use Rattle.slp_model.specs.declared.NodeId.{NodeId}
 use Rattle.slp_model.specs.Tree.{leaves}
-use Rattle.slp_model.specs.Nodes.{tree}
+use Rattle.slp_model.specs.Nodes.{tree, IsLive}
 use Rattle.slp_model.proofs.TreeLemmas.{length-text}
-use Rattle.state_tables.specs.Dictionary.{count_of}
+use Rattle.state_tables.specs.Dictionary.{AreTables, Dictionary, count_of}
+use Rattle.marker_dfa.specs.Deterministic.{DeterministicAutomaton}
 use Rattle.span_enum.specs.Listing.{text_of}
 use Rattle.query_book.specs.declared.entry.Entry.{Entry}
 use Rattle.query_book.specs.Named.{Named, is_same, value_of}
@@ -51,3 +52,8 @@ short-some ns root id len r e s =
 
 pub short-none : (ns : List Node) (root : Option NodeId) → root ≡ None → length (text_of ns root) ≤ 281474976710656
 short-none ns root r = subst (λ o. length (text_of ns o) ≤ 281474976710656) (sym r) (omega arith)
+
+-- the texts of nodes with tables have bytes below 256
+pub bytes-found : (a : DeterministicAutomaton) (ns : List Node) (d : Dictionary) (root : Option NodeId) → AreTables a ns d → count_of d ≡ length ns → IsLive ns root → All (λ b. b < 256) (text_of ns root)
+bytes-found a ns d None tables count live = λ k e lt. absurd (omega (arith, lt))
+bytes-found a ns d (Some id) tables count live = (tables id.index (omega (arith, live, count))).bytes

@@ -6,3 +6,4 @@ pub mod Views
 pub mod Served
 pub mod Growth
 pub mod Covered
+pub mod Lists

@@ -2,7 +2,8 @@
 use Rattle.std.specs.Prelude.{◌≡◌, ℕ, ◌≤◌, ◌↔◌, List, length, Option, Some, None}
 use Rattle.span_types.specs.Fibonacci.{looks_limit}
 use Rattle.span_types.specs.Query.{Query}
-use Rattle.span_types.specs.Rel.{Rel, named, names_of}
+use Rattle.span_types.specs.Rel.{Rel, IsAnswersOf, named, names_of}
+use Rattle.span_types.specs.Answers.{IsAfter}
 use Rattle.marker_dfa.specs.Deterministic.{DeterministicAutomaton}
 use Rattle.span_enum.specs.Members.{Tuple, IsMember}
 use Rattle.span_enum.specs.Listing.{Listing}
@@ -28,15 +29,26 @@ pub record IsListingOf (s : List ℕ) (cursor : Option Tuple) (listing : Listing
   pub defines : Defines q listing.automaton
   pub members : (t : Tuple) → IsAnswer q s t ↔ IsMember listing.automaton s t
 
+-- the query's answers on the text make a rising list, and so do those after the cursor
+pub record HasList (s : List ℕ) (cursor : Option Tuple) (q : Query) : Type 0 where
+  pub all : List Tuple
+  pub rest : List Tuple
+  pub answers : IsAnswersOf q s all
+  pub after : IsAfter all cursor rest
+
 -- there is a query of this name, and P holds of it
 pub record IsNamed (queries : Named Query) (name : List ℕ) (P : Query → Type 0) : Type 0 where
   pub query : Query
   pub there : value_of queries name ≡ Some query
   pub holds : P query
 
+-- P holds of the query of this name, if there is one
+abbrev pub IfNamed : Named Query → List ℕ → (Query → Type 0) → Type 0
+IfNamed queries name P = (q : Query) → value_of queries name ≡ Some q → P q
+
 -- the tuple has the variables of the query of this name, if there is one
 abbrev pub HasVariablesOf : Named Query → List ℕ → Tuple → Type 0
-HasVariablesOf queries name t = (q : Query) → value_of queries name ≡ Some q → length t ≡ length (names_of q)
+HasVariablesOf queries name t = IfNamed queries name (λ q. length t ≡ length (names_of q))
 
 -- the bound on looks for one answer of the query, if there is one, on the text
 abbrev pub most_looks : Option Query → List ℕ → ℕ

@@ -1,9 +1,10 @@
 //! Questions to the queries of a book.
-ghost use Rattle.std.specs.Prelude.{◌≡◌, ◌↔◌, ◌+◌, ◌*◌, ◌≤◌, ◌^◌, None, Some, length, IfOk, IfErr, IsTrue, IsErrOf};
+ghost use Rattle.std.specs.Prelude.{◌≡◌, ◌↔◌, ◌+◌, ◌*◌, ◌<◌, ◌≤◌, ◌^◌, None, Some, All, length, IfOk, IfErr, IsTrue, IsErrOf};
 ghost use Rattle.slp_model.specs.Nodes.{IsLive};
+ghost use Rattle.marker_dfa.specs.Deterministic.{IsDeterministic};
 ghost use Rattle.span_enum.specs.Listing.{IsReady, text_of};
 ghost use Rattle.query_book.specs.Named.{value_of};
-ghost use Rattle.query_book.specs.Answers.{Defines, HasAnswer, HasVariablesOf, IsAnswer, IsListingOf, IsNamed, most_looks};
+ghost use Rattle.query_book.specs.Answers.{Defines, HasAnswer, HasList, HasVariablesOf, IfNamed, IsAnswer, IsListingOf, IsNamed, most_looks};
 ghost use Rattle.query_book.specs.Book.{IsMissing, queries_of};
 ghost use Rattle.query_book.specs.Serving.{Covers};
 
@@ -37,6 +38,7 @@ impl QueryBook {
         requires covers { Covers store.now self.now }
         requires live { IsLive store.now root }
         ensures listing { IfOk result (λ a. IsNamed (queries_of self.now) name.now (IsListingOf (text_of store.now root) None a)) }
+        ensures list { IfNamed (queries_of self.now) name.now (HasList (text_of store.now root) None) }
         ensures missing { IsErrOf result BookRefusal.NoSuchQuery ↔ (value_of (queries_of self.now) name.now ≡ None) }
         ensures cost { looks.new ≤ looks.old + most_looks (value_of (queries_of self.now) name.now) (text_of store.now root) }
     {
@@ -69,9 +71,11 @@ impl QueryBook {
         requires live { IsLive store.now root }
         requires tuple { HasVariablesOf (queries_of self.now) name.now after.now }
         ensures listing { IfOk result (λ a. IsNamed (queries_of self.now) name.now (IsListingOf (text_of store.now root) (Some after.now) a)) }
+        ensures list { IfNamed (queries_of self.now) name.now (HasList (text_of store.now root) (Some after.now)) }
         ensures missing { IsErrOf result BookRefusal.NoSuchQuery ↔ (value_of (queries_of self.now) name.now ≡ None) }
         ensures cost { looks.new ≤ looks.old + 2 * most_looks (value_of (queries_of self.now) name.now) (text_of store.now root) }
     {
+        let _count = after.count();
         let (view, dfa) = self.lookout(name, store, root)?;
         match Answers::seek(alloc, view, dfa, root, after, looks) {
             Ok(answers) => Ok(answers),
@@ -143,6 +147,8 @@ impl QueryBook {
         ensures ready { IfOk result (λ p. IsReady p.1.now p.0.store.now p.0.tables.now root) }
         ensures store { IfOk result (λ p. p.0.store.now ≡ store.now) }
         ensures query { IfOk result (λ p. IsNamed (queries_of self.now) name.now (λ q. Defines q p.1.now)) }
+        ensures automaton { IfOk result (λ p. IsDeterministic p.1.now) }
+        ensures bytes { IfOk result (λ _. All (λ b. b < 256) (text_of store.now root)) }
         ensures short { length (text_of store.now root) ≤ 281474976710656 }
         ensures missing { IfErr result (IsMissing (queries_of self.now) name.now) }
     {
@@ -150,6 +156,7 @@ impl QueryBook {
             let _len = store.len(id);
         }
         let entry = self.entry(name)?;
+        let _states = entry.query.dfa.states();
         Ok((entry.tables.view(store), &entry.query.dfa))
     }
 }

@@ -3,7 +3,7 @@ use Rattle.std.specs.Option.{option_map}
 use Rattle.span_types.specs.Query.{query_of}
 use Rattle.query_book.specs.declared.entry.Entry.{Entry}
 use Rattle.query_book.proofs.Views.{value-by_name}
-use Rattle.query_book.proofs.Covered.{count-found, served-found, short-some, short-none}
+use Rattle.query_book.proofs.Covered.{bytes-found, count-found, served-found, short-some, short-none}
 use Rattle.query_book.proofs.book.QueryBook.lookout.Goals.{in-Some, in_default}
 use Rattle.query_book.proofs.book.QueryBook.lookout.Goals as goal
 
@@ -33,3 +33,9 @@ returns-clause-query c = record {
   there = value-by_name (λ e. query_of e.query.tree) c.args.self.now c.args.name.now ∙ ap (λ o. option_map (λ (e : Entry). query_of e.query.tree) o) c.in_ok-entry.ensures.found;
   holds = c.in_ok-entry.ensures.sound.compiled.defines;
 }
+
+pub returns-clause-bytes : goal.returns-clause-bytes
+returns-clause-bytes c =
+    let s = served-found c.args.store.now c.args.self.now c.args.name.now c.in_ok-entry.entry.now c.requires.covers c.in_ok-entry.ensures.found in
+    let n = count-found c.args.store.now c.args.self.now c.args.name.now c.in_ok-entry.entry.now c.requires.covers c.in_ok-entry.ensures.found in
+    bytes-found c.in_ok-entry.entry.now.query.dfa c.args.store.now c.in_ok-entry.entry.now.tables c.args.root s.tables n c.requires.live
