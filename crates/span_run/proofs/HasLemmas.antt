@@ -1,9 +1,9 @@
 -- What asking for a tuple does.
-use Rattle.std.proofs.Common.{◌≡◌, inl, inr, ℕ, ◌+◌, ◌≤◌, List, Option, Some, None, length, refl, sym, ap, subst, ◌∙◌, arith}
+use Rattle.std.proofs.Common.{◌≡◌, inl, inr, ℕ, ◌+◌, ◌≤◌, List, Option, Some, None, length, refl, sym, subst, ◌∙◌, arith}
 use Rattle.script_syntax.specs.declared.form.Command.TheVariants as form
 use Rattle.report_text.specs.Reply.{refusal_text}
 use Rattle.report_text.specs.declared.refusal.Refusal.{Refusal}
-use Rattle.report_text.specs.declared.refusal.Refusal.TheVariants.{NoSuchDocument, NoSuchQuery}
+use Rattle.report_text.specs.declared.refusal.Refusal.TheVariants.{BadTuple, NoSuchDocument, NoSuchQuery, OtherVariables}
 use Rattle.span_types.specs.Query.{Query}
 use Rattle.span_types.specs.Rel.{names_of}
 use Rattle.span_enum.specs.Members.{Tuple}
@@ -13,12 +13,12 @@ use Rattle.span_run.specs.State.{World, Named, value_of}
 use Rattle.span_run.specs.Step.{Carries, IsRefused}
 use Rattle.span_run.specs.Words.{IsTupleOf, IsUnread, IsWordRefusal}
 use Rattle.span_run.specs.Asked.{IsAnswered}
-use Rattle.span_run.specs.Judged.{IsJudged}
+use Rattle.span_run.specs.Judged.{IsJudged, IsWordPaid}
 use Rattle.span_run.specs.declared.words.Unread.{Unread}
 use Rattle.span_run.specs.declared.words.Unread.TheVariants as unread
 use Rattle.span_run.specs.declared.told.Told.{Told}
 use Rattle.span_run.specs.declared.told.Told.TheVariants.{Quiet, Accepted, Refused}
-use Rattle.span_run.specs.Allowance.{counters, no_steps, answer_limit, PaysFor, PaysForPart}
+use Rattle.span_run.specs.Allowance.{counters, no_steps, answers_steps, PaysFor, PaysForPart}
 use Rattle.span_run.proofs.CarryLemmas.{none_paid}
 
 pub has_variables : (queries : Named Query) (name word : List ℕ) (tuple : Tuple) → IsTupleOf queries name word tuple → HasVariablesOf queries name tuple
@@ -46,22 +46,27 @@ has_refused w query name word text there unread.NoSuchQuery why none is = inl (i
 has_refused w query name word text there unread.BadTuple why (q, registered, bad) is = inr (q, text, record { document = there; registered = registered }, inl (bad, is))
 has_refused w query name word text there unread.OtherVariables why (q, registered, other) is = inr (q, text, record { document = there; registered = registered }, inr (other, is))
 
+word_why : (query : List ℕ) (u : Unread) → (why : Refusal) × IsWordRefusal query u why
+word_why query unread.NoSuchQuery = (NoSuchQuery query, refl)
+word_why query unread.BadTuple = (BadTuple, refl)
+word_why query unread.OtherVariables = (OtherVariables, refl)
+
 pub has_carries : (w : World) (number : ℕ) (query name word text : List ℕ) (told : Told) (reply : List ℕ) → value_of w.state.documents name ≡ Some text → IsJudged number w.state.queries query word text told reply → Carries w number (form.Has query name word) told reply w
 has_carries w number query name word text Quiet reply there h = absurd h
 has_carries w number query name word text Accepted reply there (tuple, q, registered, is, answer) = (q, text, tuple, record { document = there; registered = registered }, is, answer, refl)
 has_carries w number query name word text Refused reply there (u, why, not_read, is, written) = (why, has_refused w query name word text there u why not_read is, written, refl)
 
-pub has_paid : (w : World) (query name word text : List ℕ) (looks more pairs : ℕ) → value_of w.state.documents name ≡ Some text → more ≤ looks + most_looks (value_of w.state.queries query) text
+-- the looks for a word: those of one answer where it is a tuple, else none
+pub has_paid : (w : World) (query name word text : List ℕ) (looks more pairs : ℕ) → value_of w.state.documents name ≡ Some text → IsWordPaid w.state.queries query word text looks more
     → PaysFor w (form.Has query name word) (counters looks pairs) (counters more pairs)
-has_paid w query name word text looks more pairs there cost = at (value_of w.state.queries query) refl
-  where
-    at : (o : Option Query) → value_of w.state.queries query ≡ o → PaysFor w (form.Has query name word) (counters looks pairs) (counters more pairs)
-    at (Some q) is = let paid : more ≤ looks + most_looks (Some q) text = subst (λ (o : Option Query). more ≤ looks + most_looks o text) is cost in
-        (record { looks = answer_limit q text; pairs = 0 }, inr (q, text, record { document = there; registered = is }, refl), record { looks = paid; pairs = omega arith })
-    at None is = let paid : more ≤ looks + most_looks None text = subst (λ (o : Option Query). more ≤ looks + most_looks o text) is cost in
-        (no_steps, inl (NoSuchQuery query, inl (inr (text, there, is, refl)), refl), record { looks = omega (arith, paid); pairs = omega arith })
+has_paid w query name word text looks more pairs there (inl (u, not_read, same)) =
+    let why = word_why query u in
+    (no_steps, inl (why.0, has_refused w query name word text there u why.0 not_read why.1, refl), record { looks = omega (arith, same); pairs = omega arith })
+has_paid w query name word text looks more pairs there (inr (tuple, is, cost)) =
+    let paid : more ≤ looks + most_looks (Some is.query) text = subst (λ (o : Option Query). more ≤ looks + most_looks o text) is.there cost in
+    (answers_steps 1 is.query text, inr (is.query, text, tuple, record { document = there; registered = is.there }, is.text, refl), record { looks = omega (arith, paid); pairs = omega arith })
 
-pub has_begun : (w : World) (query name word text : List ℕ) (looks more pairs : ℕ) → value_of w.state.documents name ≡ Some text → more ≤ looks + most_looks (value_of w.state.queries query) text
+pub has_begun : (w : World) (query name word text : List ℕ) (looks more pairs : ℕ) → value_of w.state.documents name ≡ Some text → IsWordPaid w.state.queries query word text looks more
     → PaysForPart w (form.Has query name word) (counters looks pairs) (counters more pairs)
 has_begun w query name word text looks more pairs there cost = let p = has_paid w query name word text looks more pairs there cost in (p.0, inr p.1, p.2)
 

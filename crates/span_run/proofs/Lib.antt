@@ -1,5 +1,7 @@
 pub mod LinesLemmas
 pub mod Written
+pub mod ListLemmas
+pub mod PageLemmas
 pub mod HeldLemmas
 pub mod PlacesLemmas
 pub mod BookLemmas

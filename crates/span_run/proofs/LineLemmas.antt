@@ -28,6 +28,7 @@ unbuilt_carries form.Names unbuilt old number told reply is written = absurd unb
 unbuilt_carries (form.Show name i j) unbuilt old number told reply is written = absurd unbuilt
 unbuilt_carries (form.Query name text) unbuilt old number told reply is written = absurd unbuilt
 unbuilt_carries (form.Unquery name) unbuilt old number told reply is written = absurd unbuilt
+unbuilt_carries (form.List query name word n) unbuilt old number told reply is written = absurd unbuilt
 unbuilt_carries (form.Nonempty query name) unbuilt old number told reply is written = absurd unbuilt
 unbuilt_carries (form.Has query name word) unbuilt old number told reply is written = absurd unbuilt
 unbuilt_carries (form.SaveFile file) unbuilt old number told reply is written = absurd unbuilt
@@ -45,6 +46,7 @@ unbuilt_paid form.Names unbuilt old looks p = absurd unbuilt
 unbuilt_paid (form.Show name i j) unbuilt old looks p = absurd unbuilt
 unbuilt_paid (form.Query name text) unbuilt old looks p = absurd unbuilt
 unbuilt_paid (form.Unquery name) unbuilt old looks p = absurd unbuilt
+unbuilt_paid (form.List query name word n) unbuilt old looks p = absurd unbuilt
 unbuilt_paid (form.Nonempty query name) unbuilt old looks p = absurd unbuilt
 unbuilt_paid (form.Has query name word) unbuilt old looks p = absurd unbuilt
 unbuilt_paid (form.SaveFile file) unbuilt old looks p = absurd unbuilt
@@ -59,6 +61,7 @@ is_unbuilt (form.LoadFile name file) single t l d s = single
 is_unbuilt form.Names single t l d s = single
 is_unbuilt (form.Query name text) single t l d s = single
 is_unbuilt (form.Unquery name) single t l d s = single
+is_unbuilt (form.List query name word n) single t l d s = single
 is_unbuilt (form.Nonempty query name) single t l d s = single
 is_unbuilt (form.Has query name word) single t l d s = single
 is_unbuilt (form.SaveFile file) single t l d s = single
@@ -138,17 +141,19 @@ refused_line_counted line told is = subst (λ (t : Told). IsLineCounted line t 0
 
 -- a command that none of the others is
 pub is_single : (command : Command) → (command ≡ form.Nothing → ⊥) → (command ≡ form.Names → ⊥) → ((n f : List ℕ) → command ≡ form.LoadFile n f → ⊥) → ((f : List ℕ) → command ≡ form.OpenFile f → ⊥)
-    → ((f : List ℕ) → command ≡ form.SaveFile f → ⊥) → ((n t : List ℕ) → command ≡ form.Query n t → ⊥) → ((n : List ℕ) → command ≡ form.Unquery n → ⊥) → ((q n : List ℕ) → command ≡ form.Nonempty q n → ⊥) → ((q n w : List ℕ) → command ≡ form.Has q n w → ⊥) → IsSingle command
-is_single form.Nothing nothing names load opened save query unquery test has = nothing refl
-is_single form.Names nothing names load opened save query unquery test has = names refl
-is_single (form.LoadFile n f) nothing names load opened save query unquery test has = load n f refl
-is_single (form.OpenFile f) nothing names load opened save query unquery test has = opened f refl
-is_single (form.SaveFile f) nothing names load opened save query unquery test has = save f refl
-is_single (form.Query n t) nothing names load opened save query unquery test has = query n t refl
-is_single (form.Unquery n) nothing names load opened save query unquery test has = unquery n refl
-is_single (form.Nonempty q n) nothing names load opened save query unquery test has = test q n refl
-is_single (form.Has q n w) nothing names load opened save query unquery test has = has q n w refl
-is_single _ nothing names load opened save query unquery test has = tt
+    → ((f : List ℕ) → command ≡ form.SaveFile f → ⊥) → ((n t : List ℕ) → command ≡ form.Query n t → ⊥) → ((n : List ℕ) → command ≡ form.Unquery n → ⊥)
+    → ((q n : List ℕ) (w : Option (List ℕ)) (k : ℕ) → command ≡ form.List q n w k → ⊥) → ((q n : List ℕ) → command ≡ form.Nonempty q n → ⊥) → ((q n w : List ℕ) → command ≡ form.Has q n w → ⊥) → IsSingle command
+is_single form.Nothing nothing names load opened save query unquery list test has = nothing refl
+is_single form.Names nothing names load opened save query unquery list test has = names refl
+is_single (form.LoadFile n f) nothing names load opened save query unquery list test has = load n f refl
+is_single (form.OpenFile f) nothing names load opened save query unquery list test has = opened f refl
+is_single (form.SaveFile f) nothing names load opened save query unquery list test has = save f refl
+is_single (form.Query n t) nothing names load opened save query unquery list test has = query n t refl
+is_single (form.Unquery n) nothing names load opened save query unquery list test has = unquery n refl
+is_single (form.List q n w k) nothing names load opened save query unquery list test has = list q n w k refl
+is_single (form.Nonempty q n) nothing names load opened save query unquery list test has = test q n refl
+is_single (form.Has q n w) nothing names load opened save query unquery list test has = has q n w refl
+is_single _ nothing names load opened save query unquery list test has = tt
 
 pub if_ok_on : {T E : Type 0} (r : Result T E) (P : Type 0) (Q : T → Type 0) → ((x : T) → P → Q x) → OnOk r P → IfOk r Q
 if_ok_on (Ok x) P Q f h = f x h

@@ -22,7 +22,7 @@ use Rattle.edit_expr.specs.Values.{plain, text_at}
 use Rattle.query_book.specs.Answers.{HasAnswer, IsNamed, most_looks}
 use Rattle.report_text.specs.declared.refusal.Refusal.TheVariants.{NoSuchDocument, NoSuchQuery}
 use Rattle.span_run.specs.Asked.{IsAnswered}
-use Rattle.span_run.specs.Allowance.{counters, no_steps, answer_limit, PaysFor, PaysForPart}
+use Rattle.span_run.specs.Allowance.{counters, no_steps, answers_steps, PaysFor, PaysForPart}
 use Rattle.span_run.proofs.HeldLemmas.{value_of-plain}
 use Rattle.span_run.proofs.CarryLemmas.{none_paid}
 use Rattle.span_run.proofs.BookLemmas.{some_value}
@@ -80,7 +80,7 @@ module _ (w : World) (number : ℕ) (query name text : List ℕ) (told : Told) (
     where
       at : (t : Told) → IsAnswered (λ q. HasAnswer q text) number w.state.queries query t reply → (o : Option Query) → value_of w.state.queries query ≡ o → PaysFor w (form.Nonempty query name) (counters looks pairs) (counters more pairs)
       at t g (Some q) is = let paid : more ≤ looks + most_looks (Some q) text = subst (λ (o : Option Query). more ≤ looks + most_looks o text) is cost in
-          (record { looks = answer_limit q text; pairs = 0 }, inr (q, text, record { document = there; registered = is }, refl), record { looks = paid; pairs = omega arith })
+          (answers_steps 1 q text, inr (q, text, record { document = there; registered = is }, refl), record { looks = omega (arith, paid); pairs = omega arith })
       at t g None is = let paid : more ≤ looks + most_looks None text = subst (λ (o : Option Query). more ≤ looks + most_looks o text) is cost in
           (no_steps, inl (NoSuchQuery query, inr (text, there, is, refl), refl), record { looks = omega (arith, paid); pairs = omega arith })
 
@@ -91,7 +91,7 @@ test_begun w query name text looks more pairs there cost = at (value_of w.state.
     at : (o : Option Query) → value_of w.state.queries query ≡ o → PaysForPart w (form.Nonempty query name) (counters looks pairs) (counters more pairs)
     at None is = let paid : more ≤ looks + most_looks None text = subst (λ (o : Option Query). more ≤ looks + most_looks o text) is cost in (no_steps, inl refl, record { looks = omega (arith, paid); pairs = omega arith })
     at (Some q) is = let paid : more ≤ looks + most_looks (Some q) text = subst (λ (o : Option Query). more ≤ looks + most_looks o text) is cost in
-        (record { looks = answer_limit q text; pairs = 0 }, inr (inr (q, text, record { document = there; registered = is }, refl)), record { looks = paid; pairs = omega arith })
+        (answers_steps 1 q text, inr (inr (q, text, record { document = there; registered = is }, refl)), record { looks = omega (arith, paid); pairs = omega arith })
 
 pub test_lacks : (w : World) (number : ℕ) (query name : List ℕ) (told : Told) (reply : List ℕ) → value_of w.state.documents name ≡ None → told ≡ Refused → reply ≡ refusal_text number (NoSuchDocument name)
     → Carries w number (form.Nonempty query name) told reply w

@@ -1,7 +1,7 @@
 -- What the words that were read ask for.
 use Rattle.std.proofs.Common.{◌≡◌, ◌∙◌, ℕ, ◌≤◌, ◌<◌, ◌^◌, List, length, arith, refl, sym, subst, ap, codes}
 use Rattle.std.specs.Prelude.{Option, Some, None, IfSome}
-use Rattle.span_words.specs.Words.{AsksFor, AsksForOr, IsNumber, Refused, Words, text_of}
+use Rattle.span_words.specs.Words.{AsksFor, AsksForOr, Refused, Words, text_of}
 use Rattle.span_run.specs.Scripts.{script_of, OfScript, AsksForNoDemo}
 
 number_within : (most default : ℕ) (text : Option (List ℕ)) (number : ℕ) → 1 ≤ default → default ≤ most → AsksForOr most default text number → (1 ≤ number) × (number ≤ most)

@@ -9,10 +9,13 @@ use Rattle.script_syntax.specs.declared.form.Command.TheVariants as form
 use Rattle.script_syntax.specs.declared.form.Command.TheVariants.{Text, LoadFile, LetDoc, OpenFile}
 use Rattle.report_text.specs.declared.refusal.Refusal.{Refusal}
 use Rattle.slp_image.specs.Image.{image}
+use Rattle.span_enum.specs.Members.{Tuple}
+use Rattle.span_cursor.specs.Tuples.{TupleText}
 use Rattle.edit_expr.specs.declared.expr.Expr.{Expr}
 use Rattle.edit_expr.specs.Expressions.{ExprReads}
 use Rattle.edit_expr.specs.Eval.{greatest, operations}
 use Rattle.span_run.specs.State.{World}
+use Rattle.span_run.specs.Listed.{IsListReply}
 use Rattle.span_run.specs.Step.{IsWithin, IsAsked, IsFileRefused, IsRefused, load_size, open_size}
 
 pub record Allowance : Type 0 where
@@ -37,10 +40,13 @@ edit_limit count n = 48 * count * (height_limit n + 1)
 abbrev pub answer_limit : Query → List ℕ → ℕ
 answer_limit q text = looks_limit (length (names_of q)) (length text)
 
--- nothing where the command is refused, else the looks for one answer
-abbrev pub IsQuestionAllowed : World → List ℕ → List ℕ → (Refusal → Type 0) → Allowance → Type 0
-IsQuestionAllowed old query name Refuses a = ((why : Refusal) × Refuses why × (a ≡ no_steps))
-    ⊎ ((q : Query) × (text : List ℕ) × IsAsked old query name q text × (a ≡ record { looks = answer_limit q text; pairs = 0 }))
+-- the looks for so many answers, and no pair calls
+abbrev pub answers_steps : ℕ → Query → List ℕ → Allowance
+answers_steps count q text = record { looks = count * answer_limit q text; pairs = 0 }
+
+-- nothing where the command is refused
+abbrev pub IsFree : (Refusal → Type 0) → Allowance → Type 0
+IsFree Refuses a = (why : Refusal) × Refuses why × (a ≡ no_steps)
 
 -- the allowance of a command, by its step
 abbrev pub IsAllowed : World → Command → Allowance → Type 0
@@ -49,8 +55,12 @@ IsAllowed old (LoadFile name file) a = ((why : Refusal) × IsFileRefused old.fil
     ⊎ ((bytes : List ℕ) × IsWithin old.files file load_size bytes × (a ≡ record { looks = 0; pairs = load_limit (length bytes) }))
 IsAllowed old (LetDoc name expr) a = (((e : Expr) → ExprReads expr e → ⊥) × (a ≡ no_steps))
     ⊎ ((e : Expr) × ExprReads expr e × (a ≡ record { looks = 0; pairs = edit_limit (operations e) (greatest old.state.documents e) }))
-IsAllowed old (form.Nonempty query name) a = IsQuestionAllowed old query name (IsRefused old (form.Nonempty query name)) a
-IsAllowed old (form.Has query name word) a = IsQuestionAllowed old query name (IsRefused old (form.Has query name word)) a
+IsAllowed old (form.List query name word n) a = IsFree (IsRefused old (form.List query name word n)) a
+    ⊎ ((q : Query) × (text : List ℕ) × (reply : List ℕ) × IsAsked old query name q text × (is : IsListReply q text word n reply) × (a ≡ answers_steps (length is.page + 3) q text))
+IsAllowed old (form.Nonempty query name) a = IsFree (IsRefused old (form.Nonempty query name)) a
+    ⊎ ((q : Query) × (text : List ℕ) × IsAsked old query name q text × (a ≡ answers_steps 1 q text))
+IsAllowed old (form.Has query name word) a = IsFree (IsRefused old (form.Has query name word)) a
+    ⊎ ((q : Query) × (text : List ℕ) × (tuple : Tuple) × IsAsked old query name q text × TupleText word (names_of q) tuple × (a ≡ answers_steps 1 q text))
 IsAllowed old (OpenFile file) a = ((why : Refusal) × IsFileRefused old.files file open_size why × (a ≡ no_steps))
     ⊎ ((bytes : List ℕ) × IsWithin old.files file open_size bytes × (a ≡ record { looks = 0; pairs = (image bytes).cost }))
 IsAllowed old _ a = a ≡ no_steps

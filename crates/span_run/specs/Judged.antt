@@ -1,15 +1,15 @@
 -- Replies to whether a tuple is an answer.
-use Rattle.std.specs.Prelude.{◌≡◌, ℕ, List, Some}
+use Rattle.std.specs.Prelude.{◌≡◌, ◌⊎◌, ℕ, ◌+◌, ◌≤◌, List, Some}
 use Rattle.span_types.specs.Query.{Query}
 use Rattle.span_types.specs.Rel.{names_of}
 use Rattle.span_enum.specs.Members.{Tuple}
 use Rattle.span_cursor.specs.Tuples.{TupleText}
-use Rattle.query_book.specs.Answers.{IsAnswer}
+use Rattle.query_book.specs.Answers.{IsAnswer, most_looks}
 use Rattle.report_text.specs.Reply.{refusal_text}
 use Rattle.report_text.specs.declared.refusal.Refusal.{Refusal}
 use Rattle.span_run.specs.State.{Named, value_of}
 use Rattle.span_run.specs.Step.{IsYesOrNo}
-use Rattle.span_run.specs.Words.{IsUnread, IsWordRefusal}
+use Rattle.span_run.specs.Words.{IsTupleOf, IsUnread, IsWordRefusal}
 use Rattle.span_run.specs.declared.words.Unread.{Unread}
 use Rattle.span_run.specs.declared.told.Told.{Told}
 use Rattle.span_run.specs.declared.told.Told.TheVariants.{Quiet, Accepted, Refused}
@@ -19,3 +19,8 @@ abbrev pub IsJudged : ℕ → Named Query → List ℕ → List ℕ → List ℕ
 IsJudged number queries name word text Quiet reply = ⊥
 IsJudged number queries name word text Accepted reply = (tuple : Tuple) × (q : Query) × (value_of queries name ≡ Some q) × TupleText word (names_of q) tuple × IsYesOrNo (IsAnswer q text tuple) reply
 IsJudged number queries name word text Refused reply = (unread : Unread) × (why : Refusal) × IsUnread queries name word unread × IsWordRefusal name unread why × (reply ≡ refusal_text number why)
+
+-- the looks for a word: none where it is no tuple of the query's variables, else at most those for one answer
+abbrev pub IsWordPaid : Named Query → List ℕ → List ℕ → List ℕ → ℕ → ℕ → Type 0
+IsWordPaid queries name word text before after = ((unread : Unread) × IsUnread queries name word unread × (after ≡ before))
+    ⊎ ((tuple : Tuple) × IsTupleOf queries name word tuple × (after ≤ before + most_looks (value_of queries name) text))

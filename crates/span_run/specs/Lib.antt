@@ -12,3 +12,5 @@ pub mod Asked
 pub mod Judged
 pub mod Runs
 pub mod Scripts
+pub mod Listed
+pub mod Listing

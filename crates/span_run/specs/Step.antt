@@ -26,7 +26,8 @@ use Rattle.report_text.specs.Reply.{shown_text, query_text, saved_text, opened_t
 use Rattle.report_text.specs.declared.refusal.Refusal.{Refusal}
 use Rattle.report_text.specs.declared.refusal.Refusal.TheVariants.{Syntax, NoSuchDocument, NoSuchQuery, FormulaTooLong, BadFormula, TooDeep, TooManyPositions, TooManyVariables, NotFunctional, TooManyStates, NoSuchFile, FileTooLong, BadImage}
 use Rattle.span_run.specs.State.{World, Documents, Named, world, value_of, put, taken_out, with_documents, with_queries}
-use Rattle.span_run.specs.Words.{IsTupleRefused}
+use Rattle.span_run.specs.Words.{IsCursorRefused, IsTupleRefused}
+use Rattle.span_run.specs.Listed.{IsListReply}
 use Rattle.span_run.specs.Replies.{ok_text, yes_text, no_text, given_text, names_text, shown, IsEditRefusal}
 use Rattle.span_run.specs.declared.told.Told.{Told}
 use Rattle.span_run.specs.declared.told.Told.TheVariants.{Quiet, Accepted, Refused}
@@ -114,6 +115,7 @@ Does old Names reply new = (reply ≡ names_text old.state.documents) × (new �
 Does old (Show name i j) reply new = (bytes : List ℕ) × (shown old.state.documents name i j ≡ Ok bytes) × (reply ≡ shown_text bytes) × (new ≡ old)
 Does old (form.Query name text) reply new = (q : Query) × IsQueryOf text q × (reply ≡ query_text name (names_of q)) × HasQueries old new (put old.state.queries name q)
 Does old (form.Unquery name) reply new = (q : Query) × (value_of old.state.queries name ≡ Some q) × (reply ≡ ok_text) × HasQueries old new (taken_out old.state.queries name)
+Does old (form.List query name word n) reply new = (q : Query) × (text : List ℕ) × IsAsked old query name q text × IsListReply q text word n reply × (new ≡ old)
 Does old (form.Nonempty query name) reply new = (q : Query) × (text : List ℕ) × IsAsked old query name q text × IsYesOrNo (HasAnswer q text) reply × (new ≡ old)
 Does old (form.Has query name word) reply new = (q : Query) × (text : List ℕ) × (tuple : Tuple) × IsAsked old query name q text × TupleText word (names_of q) tuple
     × IsYesOrNo (IsAnswer q text tuple) reply × (new ≡ old)
@@ -135,6 +137,8 @@ IsRefused old Names why = ⊥
 IsRefused old (Show name i j) why = shown old.state.documents name i j ≡ Err why
 IsRefused old (form.Query name text) why = IsTextRefused text why
 IsRefused old (form.Unquery name) why = (value_of old.state.queries name ≡ None) × (why ≡ NoSuchQuery name)
+IsRefused old (form.List query name word n) why = IsUnasked old query name why
+    ⊎ ((q : Query) × (text : List ℕ) × IsAsked old query name q text × IsCursorRefused q word why)
 IsRefused old (form.Nonempty query name) why = IsUnasked old query name why
 IsRefused old (form.Has query name word) why = IsUnasked old query name why
     ⊎ ((q : Query) × (text : List ℕ) × IsAsked old query name q text × IsTupleRefused q word why)
@@ -205,6 +209,7 @@ IsSingle (LoadFile name file) = ⊥
 IsSingle Names = ⊥
 IsSingle (form.Query name text) = ⊥
 IsSingle (form.Unquery name) = ⊥
+IsSingle (form.List query name word n) = ⊥
 IsSingle (form.Nonempty query name) = ⊥
 IsSingle (form.Has query name word) = ⊥
 IsSingle (SaveFile file) = ⊥
@@ -222,6 +227,7 @@ IsUnbuilt Names = ⊥
 IsUnbuilt (Show name i j) = ⊥
 IsUnbuilt (form.Query name text) = ⊥
 IsUnbuilt (form.Unquery name) = ⊥
+IsUnbuilt (form.List query name word n) = ⊥
 IsUnbuilt (form.Nonempty query name) = ⊥
 IsUnbuilt (form.Has query name word) = ⊥
 IsUnbuilt (SaveFile file) = ⊥

@@ -1,5 +1,5 @@
 -- Words as tuples of a query's variables.
-use Rattle.std.specs.Prelude.{◌≡◌, ◌⊎◌, ℕ, List, Some, None}
+use Rattle.std.specs.Prelude.{◌≡◌, ◌⊎◌, ℕ, List, Option, Some, None}
 use Rattle.span_types.specs.Query.{Query}
 use Rattle.span_types.specs.Rel.{names_of}
 use Rattle.span_enum.specs.Members.{Tuple}
@@ -14,6 +14,16 @@ use Rattle.span_run.specs.declared.words.Unread.TheVariants as unread
 abbrev pub IsTupleRefused : Query → List ℕ → Refusal → Type 0
 IsTupleRefused q word why = ((IsTupleText word → ⊥) × (why ≡ BadTuple)) ⊎ (HasOtherNames word (names_of q) × (why ≡ OtherVariables))
 
+-- the cursor that a word gives: the tuple that it is, and without a word none
+abbrev pub IsCursorOf : Query → Option (List ℕ) → Option Tuple → Type 0
+IsCursorOf q None cursor = cursor ≡ None
+IsCursorOf q (Some word) cursor = (tuple : Tuple) × TupleText word (names_of q) tuple × (cursor ≡ Some tuple)
+
+-- the first refusal of a word as a cursor
+abbrev pub IsCursorRefused : Query → Option (List ℕ) → Refusal → Type 0
+IsCursorRefused q None why = ⊥
+IsCursorRefused q (Some word) why = IsTupleRefused q word why
+
 -- the word is the tuple, of the variables of the query of this name
 pub record IsTupleOf (queries : Named Query) (name word : List ℕ) (tuple : Tuple) : Type 0 where
   pub query : Query
@@ -25,6 +35,17 @@ abbrev pub IsUnread : Named Query → List ℕ → List ℕ → Unread → Type 
 IsUnread queries name word unread.NoSuchQuery = value_of queries name ≡ None
 IsUnread queries name word unread.BadTuple = (q : Query) × (value_of queries name ≡ Some q) × (IsTupleText word → ⊥)
 IsUnread queries name word unread.OtherVariables = (q : Query) × (value_of queries name ≡ Some q) × HasOtherNames word (names_of q)
+
+-- the word gives the cursor, for the query of this name
+pub record IsCursorFor (queries : Named Query) (name : List ℕ) (word : Option (List ℕ)) (cursor : Option Tuple) : Type 0 where
+  pub query : Query
+  pub there : value_of queries name ≡ Some query
+  pub gives : IsCursorOf query word cursor
+
+-- the first reason why it gives none
+abbrev pub IsUnreadCursor : Named Query → List ℕ → Option (List ℕ) → Unread → Type 0
+IsUnreadCursor queries name None why = (why ≡ unread.NoSuchQuery) × (value_of queries name ≡ None)
+IsUnreadCursor queries name (Some word) why = IsUnread queries name word why
 
 -- the refusal of a word, as a reply has it
 abbrev pub IsWordRefusal : List ℕ → Unread → Refusal → Type 0

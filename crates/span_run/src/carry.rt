@@ -19,6 +19,7 @@ ghost use Rattle.span_run.specs.Step.{Carries, Finishes, Halts, Leaves, HasReply
 use crate::answer::{Answer, send};
 use crate::documents::{drop_document, let_document, show, text, write_names};
 use crate::files::{load_file, open_file, save_file};
+use crate::listing::list;
 use crate::queries::{has, query, test, unquery};
 use crate::told::{Stop, Told};
 use doc_book::Docs;
@@ -351,6 +352,15 @@ fn carry<R: Threads + Sync, K: Sink, F: Shelf, G: Gate, P: Ledger, T: Ledger, L:
         Command::SaveFile { file } => carry_save(alloc, store, docs, number, file, out, shelf),
         Command::Query { name, formula } => carry_query(alloc, book, number, name, formula, out),
         Command::Unquery { name } => carry_unquery(alloc, book, number, name, out),
+        Command::List {
+            query,
+            name,
+            after,
+            limit,
+        } => list(
+            rt, alloc, store, docs, book, number, query, name, after, limit, workers, out, gate,
+            places, looks,
+        ),
         Command::Nonempty { query, name } => carry_test(
             rt, alloc, store, docs, book, number, query, name, workers, out, gate, places, looks,
         ),

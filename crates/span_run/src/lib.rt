@@ -6,6 +6,7 @@ mod carry;
 mod documents;
 mod files;
 mod lines;
+mod listing;
 mod offer;
 mod queries;
 mod reading;

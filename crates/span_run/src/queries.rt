@@ -19,7 +19,7 @@ ghost use Rattle.span_run.specs.Allowance.{PaysFor, PaysForPart, counters};
 ghost use Rattle.span_run.specs.State.{Documents, stated, world};
 ghost use Rattle.span_run.specs.Registered.{IsCounted, Places, PlacesPart};
 ghost use Rattle.span_run.specs.Asked.{IsAnswered};
-ghost use Rattle.span_run.specs.Judged.{IsJudged};
+ghost use Rattle.span_run.specs.Judged.{IsJudged, IsWordPaid};
 ghost use Rattle.span_run.specs.Shown.{IsFormulaRefusal, IsTextDenied};
 ghost use Rattle.span_run.specs.Step.{Carries, Halts};
 
@@ -254,7 +254,7 @@ fn has_root<L: Ledger>(
     requires covers { Covers store.now book.now }
     requires live { IsLive store.now root }
     ensures ok { IfOk result (λ answer. IsJudged number (queries_of book.now) query word.now (text_at store.now root) answer.told answer.line.items) }
-    ensures cost { looks.new ≤ looks.old + most_looks (value_of (queries_of book.now) query) (text_at store.now root) }
+    ensures cost { IsWordPaid (queries_of book.now) query word.now (text_at store.now root) looks.old looks.new }
 {
     match tuple_of(book, &query, word) {
         Ok(tuple) => {

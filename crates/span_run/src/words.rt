@@ -1,7 +1,7 @@
 //! Words as tuples of a query's variables.
 ghost use Rattle.std.specs.Prelude.{IfErr, IfOk};
 ghost use Rattle.query_book.specs.Book.{queries_of};
-ghost use Rattle.span_run.specs.Words.{IsTupleOf, IsUnread, IsWordRefusal};
+ghost use Rattle.span_run.specs.Words.{IsCursorFor, IsTupleOf, IsUnread, IsUnreadCursor, IsWordRefusal};
 
 use query_book::QueryBook;
 use report_text::Refusal;
@@ -42,5 +42,27 @@ pub fn tuple_of(book: &QueryBook, query: &Name, word: &ByteList) -> Result<Tuple
             Err(TupleRefusal::OtherVariables) => Err(Unread::OtherVariables),
         },
         Err(_) => Err(Unread::NoSuchQuery),
+    }
+}
+
+/// The cursor that a word gives: the tuple that it is, of the variables of the query of this name, and none without a word.
+/// Takes no memory.
+pub fn cursor_of(
+    book: &QueryBook,
+    query: &Name,
+    word: &Option<ByteList>,
+) -> Result<Option<Tuple>, Unread>
+    ensures ok { IfOk result (IsCursorFor (queries_of book.now) query.now word.now) }
+    ensures err { IfErr result (IsUnreadCursor (queries_of book.now) query.now word.now) }
+{
+    match word {
+        Some(word) => match tuple_of(book, query, word) {
+            Ok(tuple) => Ok(Some(tuple)),
+            Err(why) => Err(why),
+        },
+        None => match book.vars(query.bytes()) {
+            Ok(_) => Ok(None),
+            Err(_) => Err(Unread::NoSuchQuery),
+        },
     }
 }

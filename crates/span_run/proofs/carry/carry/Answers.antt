@@ -254,7 +254,7 @@ returns-in-Nonempty-clause-begun g c =
 pub carry_single-requires : goal.carry_single-requires
 carry_single-requires g c =
     record {
-      single = is_single c.args.command c.in_default.not-Nothing c.in_default.not-Names c.in_default.not-LoadFile c.in_default.not-OpenFile c.in_default.not-SaveFile c.in_default.not-Query c.in_default.not-Unquery c.in_default.not-Nonempty c.in_default.not-Has;
+      single = is_single c.args.command c.in_default.not-Nothing c.in_default.not-Names c.in_default.not-LoadFile c.in_default.not-OpenFile c.in_default.not-SaveFile c.in_default.not-Query c.in_default.not-Unquery c.in_default.not-List c.in_default.not-Nonempty c.in_default.not-Has;
       short = c.requires.short;
       live = c.requires.live;
     }
@@ -344,3 +344,40 @@ returns-in-Has-clause-begun g c =
 pub returns-in-Has-clause-want : goal.returns-in-Has-clause-want
 returns-in-Has-clause-want g c =
     if_err_any c.carry_has.result _ (λ why is. inl (λ list. subst IsList c.in-Has.is list))
+
+pub returns-in-List-clause-done : goal.returns-in-List-clause-done
+returns-in-List-clause-done g c =
+    subst (λ (k : Command). IfOk c.list.result (λ told. Finishes (Carries (world (state_of c.args.store.now c.args.docs.now (queries_of c.args.book.now)) (g.F.Shelf.files c.args.shelf.now)) c.args.number k) told (g.K.Sink.written c.args.out.now) (g.K.Sink.written c.list.new.out) (world (state_of c.args.store.now c.args.docs.now (queries_of c.list.new.book)) (g.F.Shelf.files c.args.shelf.now)))) (sym c.in-List.is)
+    (if_ok_map c.list.result _ _ (λ told h. h (g.F.Shelf.files c.args.shelf.now)) c.list.ensures.done)
+
+pub returns-in-List-clause-stopped : goal.returns-in-List-clause-stopped
+returns-in-List-clause-stopped g c =
+    subst (λ (k : Command). OnErr c.list.result (Halts (Carries (world (state_of c.args.store.now c.args.docs.now (queries_of c.args.book.now)) (g.F.Shelf.files c.args.shelf.now)) c.args.number k) (world (state_of c.args.store.now c.args.docs.now (queries_of c.args.book.now)) (g.F.Shelf.files c.args.shelf.now)) (g.K.Sink.written c.args.out.now) (g.K.Sink.written c.list.new.out) (world (state_of c.args.store.now c.args.docs.now (queries_of c.list.new.book)) (g.F.Shelf.files c.args.shelf.now)))) (sym c.in-List.is)
+    (on_err_map c.list.result _ _ (λ h. h (g.F.Shelf.files c.args.shelf.now)) c.list.ensures.stopped)
+
+pub returns-in-List-clause-grows : goal.returns-in-List-clause-grows
+returns-in-List-clause-grows g c =
+    Grows-none c.args.store.now c.args.pairs.now c.args.pairs.now (omega arith)
+
+pub returns-in-List-clause-placed : goal.returns-in-List-clause-placed
+returns-in-List-clause-placed g c =
+    if_ok_any c.list.result _ (λ told. (0, none_registered c.args.command (λ h. subst Registers c.in-List.is h) told, c.list.ensures.placed))
+
+pub returns-in-List-clause-placed_part : goal.returns-in-List-clause-placed_part
+returns-in-List-clause-placed_part g c =
+    on_err_from c.list.result _ c.list.ensures.placed_part
+
+pub returns-in-List-clause-paid : goal.returns-in-List-clause-paid
+returns-in-List-clause-paid g c =
+    subst (λ (k : Command). OnOk c.list.result (PaysFor (world (state_of c.args.store.now c.args.docs.now (queries_of c.args.book.now)) (g.F.Shelf.files c.args.shelf.now)) k (counters c.args.looks.now c.args.pairs.now) (counters c.list.new.looks c.args.pairs.now))) (sym c.in-List.is) (on_ok_map c.list.result _ _ (λ h. h (g.F.Shelf.files c.args.shelf.now) c.args.pairs.now) c.list.ensures.paid)
+
+pub returns-in-List-clause-begun : goal.returns-in-List-clause-begun
+returns-in-List-clause-begun g c =
+    subst (λ (k : Command). OnErr c.list.result (PaysForPart (world (state_of c.args.store.now c.args.docs.now (queries_of c.args.book.now)) (g.F.Shelf.files c.args.shelf.now)) k (counters c.args.looks.now c.args.pairs.now) (counters c.list.new.looks c.args.pairs.now))) (sym c.in-List.is) (on_err_from c.list.result _ (c.list.ensures.begun (g.F.Shelf.files c.args.shelf.now) c.args.pairs.now))
+
+pub returns-in-List-clause-want : goal.returns-in-List-clause-want
+returns-in-List-clause-want g c =
+    if_err_map c.list.result _ _ (λ why h is. inr (elim (h is) [
+      | inl rose ↦ inl rose
+      | inr left ↦ inr (left (g.F.Shelf.files c.args.shelf.now))
+    ])) c.list.ensures.want

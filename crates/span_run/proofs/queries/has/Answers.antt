@@ -1,14 +1,13 @@
-use Rattle.std.proofs.Common.{◌∙◌, ◌+◌, ◌≤◌, sym, ap, subst, length}
+use Rattle.std.proofs.Common.{◌∙◌, sym, ap, subst, length}
 use Rattle.doc_book.specs.Docs as book
 use Rattle.edit_expr.specs.Values.{text_at}
 use Rattle.script_syntax.specs.declared.form.Command.TheVariants as form
 use Rattle.span_types.specs.Query.{Query}
-use Rattle.query_book.specs.Answers.{most_looks}
 use Rattle.query_book.specs.Book.{queries_of}
 use Rattle.query_book.specs.Serving.{covered_of}
-use Rattle.span_run.specs.State.{Named, value_of, world}
+use Rattle.span_run.specs.State.{Named, world}
 use Rattle.span_run.specs.Held.{state_of}
-use Rattle.span_run.specs.Judged.{IsJudged}
+use Rattle.span_run.specs.Judged.{IsJudged, IsWordPaid}
 use Rattle.span_run.proofs.HeldLemmas.{live_root}
 use Rattle.span_run.proofs.CarryLemmas.{not_begun, some_of_ok, none_of_err}
 use Rattle.span_run.proofs.PlacesLemmas.{none_placed_part}
@@ -40,7 +39,7 @@ returns-in_err-grow_all-in-Ok-clause-begun g c = λ files pairs. not_begun (worl
 
 pub returns-in_err-answer-in-Ok-clause-begun : goal.returns-in_err-answer-in-Ok-clause-begun
 returns-in_err-answer-in-Ok-clause-begun g c = λ files pairs.
-    has_begun (world (state_of c.args.store.now c.args.docs.now (queries_of c.args.book.now)) files) c.args.query c.args.name c.args.word (text_at c.args.store.now c.in-Ok.root) c.args.looks.now c.has_root.new.looks pairs (document_is c.args.store.now c.args.docs.now c.args.name c.in-Ok.root (ap (book.root_of c.args.docs.now) (sym c.bytes.ensures.value) ∙ some_of_ok _ _ _ c.in-Ok.ensures)) (subst (λ (qs : Named Query). c.has_root.new.looks ≤ c.args.looks.now + most_looks (value_of qs c.args.query) (text_at c.args.store.now c.in-Ok.root)) c.grow_all.ensures.queries c.has_root.ensures.cost)
+    has_begun (world (state_of c.args.store.now c.args.docs.now (queries_of c.args.book.now)) files) c.args.query c.args.name c.args.word (text_at c.args.store.now c.in-Ok.root) c.args.looks.now c.has_root.new.looks pairs (document_is c.args.store.now c.args.docs.now c.args.name c.in-Ok.root (ap (book.root_of c.args.docs.now) (sym c.bytes.ensures.value) ∙ some_of_ok _ _ _ c.in-Ok.ensures)) (subst (λ (qs : Named Query). IsWordPaid qs c.args.query c.args.word (text_at c.args.store.now c.in-Ok.root) c.args.looks.now c.has_root.new.looks) c.grow_all.ensures.queries c.has_root.ensures.cost)
 
 pub returns-in_err-answer-in-Err-NoSuchDocument-clause-begun : goal.returns-in_err-answer-in-Err-NoSuchDocument-clause-begun
 returns-in_err-answer-in-Err-NoSuchDocument-clause-begun g c = λ files pairs. not_begun (world (state_of c.args.store.now c.args.docs.now (queries_of c.args.book.now)) files) (form.Has c.args.query c.args.name c.args.word) c.args.looks.now pairs
@@ -55,11 +54,11 @@ returns-in_ok-answer-in-Ok-clause-ok g c = λ files.
 
 pub returns-in_ok-answer-in-Ok-clause-paid : goal.returns-in_ok-answer-in-Ok-clause-paid
 returns-in_ok-answer-in-Ok-clause-paid g c = λ files pairs.
-    has_paid (world (state_of c.args.store.now c.args.docs.now (queries_of c.args.book.now)) files) c.args.query c.args.name c.args.word (text_at c.args.store.now c.in-Ok.root) c.args.looks.now c.has_root.new.looks pairs (document_is c.args.store.now c.args.docs.now c.args.name c.in-Ok.root (ap (book.root_of c.args.docs.now) (sym c.bytes.ensures.value) ∙ some_of_ok _ _ _ c.in-Ok.ensures)) (subst (λ (qs : Named Query). c.has_root.new.looks ≤ c.args.looks.now + most_looks (value_of qs c.args.query) (text_at c.args.store.now c.in-Ok.root)) c.grow_all.ensures.queries c.has_root.ensures.cost)
+    has_paid (world (state_of c.args.store.now c.args.docs.now (queries_of c.args.book.now)) files) c.args.query c.args.name c.args.word (text_at c.args.store.now c.in-Ok.root) c.args.looks.now c.has_root.new.looks pairs (document_is c.args.store.now c.args.docs.now c.args.name c.in-Ok.root (ap (book.root_of c.args.docs.now) (sym c.bytes.ensures.value) ∙ some_of_ok _ _ _ c.in-Ok.ensures)) (subst (λ (qs : Named Query). IsWordPaid qs c.args.query c.args.word (text_at c.args.store.now c.in-Ok.root) c.args.looks.now c.has_root.new.looks) c.grow_all.ensures.queries c.has_root.ensures.cost)
 
 pub returns-in_ok-answer-in-Ok-clause-begun : goal.returns-in_ok-answer-in-Ok-clause-begun
 returns-in_ok-answer-in-Ok-clause-begun g c = λ files pairs.
-    has_begun (world (state_of c.args.store.now c.args.docs.now (queries_of c.args.book.now)) files) c.args.query c.args.name c.args.word (text_at c.args.store.now c.in-Ok.root) c.args.looks.now c.has_root.new.looks pairs (document_is c.args.store.now c.args.docs.now c.args.name c.in-Ok.root (ap (book.root_of c.args.docs.now) (sym c.bytes.ensures.value) ∙ some_of_ok _ _ _ c.in-Ok.ensures)) (subst (λ (qs : Named Query). c.has_root.new.looks ≤ c.args.looks.now + most_looks (value_of qs c.args.query) (text_at c.args.store.now c.in-Ok.root)) c.grow_all.ensures.queries c.has_root.ensures.cost)
+    has_begun (world (state_of c.args.store.now c.args.docs.now (queries_of c.args.book.now)) files) c.args.query c.args.name c.args.word (text_at c.args.store.now c.in-Ok.root) c.args.looks.now c.has_root.new.looks pairs (document_is c.args.store.now c.args.docs.now c.args.name c.in-Ok.root (ap (book.root_of c.args.docs.now) (sym c.bytes.ensures.value) ∙ some_of_ok _ _ _ c.in-Ok.ensures)) (subst (λ (qs : Named Query). IsWordPaid qs c.args.query c.args.word (text_at c.args.store.now c.in-Ok.root) c.args.looks.now c.has_root.new.looks) c.grow_all.ensures.queries c.has_root.ensures.cost)
 
 pub returns-in_ok-answer-in-Err-NoSuchDocument-clause-ok : goal.returns-in_ok-answer-in-Err-NoSuchDocument-clause-ok
 returns-in_ok-answer-in-Err-NoSuchDocument-clause-ok g c = λ files.

@@ -1,3 +1,4 @@
+use Rattle.std.proofs.Common.{inl, inr, refl}
 use Rattle.query_book.specs.Book.{queries_of}
 use Rattle.edit_expr.specs.Values.{text_at}
 use Rattle.span_run.proofs.HasLemmas.{has_variables, judged, judged_unread}
@@ -15,3 +16,15 @@ pub returns-in_ok-answer-in-Err-clause-ok : goal.returns-in_ok-answer-in-Err-cla
 returns-in_ok-answer-in-Err-clause-ok g c =
     let a = c.in_ok-answer-in-Err in
     judged_unread c.args.number (queries_of c.args.book.now) c.args.query c.args.word.now (text_at c.args.store.now c.args.root) c.in-Err.why c.word_refusal.result a.answer.told a.answer.line.items c.in-Err.ensures.err c.word_refusal.ensures a.ensures.0 a.ensures.1
+
+pub returns-in_err-answer-in-Ok-clause-cost : goal.returns-in_err-answer-in-Ok-clause-cost
+returns-in_err-answer-in-Ok-clause-cost g c = inr (c.in-Ok.tuple, c.in-Ok.ensures.ok, c.has_tuple.ensures.cost)
+
+pub returns-in_ok-answer-in-Ok-clause-cost : goal.returns-in_ok-answer-in-Ok-clause-cost
+returns-in_ok-answer-in-Ok-clause-cost g c = inr (c.in-Ok.tuple, c.in-Ok.ensures.ok, c.has_tuple.ensures.cost)
+
+pub returns-in_err-answer-in-Err-clause-cost : goal.returns-in_err-answer-in-Err-clause-cost
+returns-in_err-answer-in-Err-clause-cost g c = inl (c.in-Err.why, c.in-Err.ensures.err, refl)
+
+pub returns-in_ok-answer-in-Err-clause-cost : goal.returns-in_ok-answer-in-Err-clause-cost
+returns-in_ok-answer-in-Err-clause-cost g c = inl (c.in-Err.why, c.in-Err.ensures.err, refl)

@@ -1,4 +1,4 @@
-use Rattle.std.proofs.Common.{ℕ, List, ◌≤◌, ◌^◌, length, map, string_bytes, refl}
+use Rattle.std.proofs.Common.{◌≤◌, ◌^◌, length, map, string_bytes, refl}
 use Rattle.span_run.specs.Lines.{lines_of}
 use Rattle.span_run.specs.Runs.{outside, Anywhere, InFileLine, UnlessList, RunsFront}
 use Rattle.span_run.specs.Scripts.{script_of}

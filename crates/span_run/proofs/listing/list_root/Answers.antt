@@ -1,0 +1,50 @@
+use Rattle.std.proofs.Common.{◌∙◌, inl, inr, refl, sym, subst, List, ℕ}
+use Rattle.std.proofs.lemmas.Result.{err_from_is_err_and}
+use Rattle.std.specs.Io.KnownBytes.{Appends}
+use Rattle.edit_expr.specs.Values.{text_at}
+use Rattle.report_text.specs.Reply.{refusal_text}
+use Rattle.query_book.specs.Book.{queries_of}
+use Rattle.span_run.specs.Listing.{Tells}
+use Rattle.span_run.specs.Step.{AppendsFront}
+use Rattle.span_run.specs.declared.told.Told.{Told}
+use Rattle.span_run.specs.declared.told.Told.TheVariants.{Accepted, Refused}
+use Rattle.span_run.proofs.CarryLemmas.{if_err_map, if_ok_map, on_err_map}
+use Rattle.span_run.proofs.Written.{kept_same, nothing_front}
+use Rattle.span_run.proofs.PageLemmas.{has_cursor}
+use Rattle.span_run.proofs.listing.list_root.Goals as goal
+
+pub list_from-requires-clause-cursor : goal.list_from-requires-clause-cursor
+list_from-requires-clause-cursor g c =
+    has_cursor (queries_of c.args.book.now) c.args.query c.args.word c.in-Ok.cursor c.in-Ok.ensures.ok
+
+pub returns-in_err-list_from-in-Ok-clause-stopped : goal.returns-in_err-list_from-in-Ok-clause-stopped
+returns-in_err-list_from-in-Ok-clause-stopped g c =
+    let p = err_from_is_err_and c.from_residual.result c.from_residual.ensures.1 in
+    rw (p.1) (Accepted, (c.in-Ok.cursor, c.in-Ok.ensures.ok, c.in_err-list_from-in-Ok.ensures.stopped))
+
+pub returns-in_ok-list_from-in-Ok-clause-done : goal.returns-in_ok-list_from-in-Ok-clause-done
+returns-in_ok-list_from-in-Ok-clause-done g c =
+    (c.in-Ok.cursor, c.in-Ok.ensures.ok, c.in_ok-list_from-in-Ok.ensures.done)
+
+pub returns-in_err-answer-in-Err-clause-stopped : goal.returns-in_err-answer-in-Err-clause-stopped
+returns-in_err-answer-in-Err-clause-stopped g c =
+    let p = err_from_is_err_and c.from_residual-in_err-answer-in-Err.result c.from_residual-in_err-answer-in-Err.ensures.1 in
+    rw (p.1) (Refused, (c.in-Err.why, c.word_refusal.result, c.in-Err.ensures.err, c.word_refusal.ensures, nothing_front (g.K.Sink.written c.args.out.now) (refusal_text c.args.number c.word_refusal.result), refl))
+
+pub returns-in_err-answer-in-Err-clause-want : goal.returns-in_err-answer-in-Err-clause-want
+returns-in_err-answer-in-Err-clause-want g c =
+    let p = err_from_is_err_and c.from_residual-in_err-answer-in-Err.result c.from_residual-in_err-answer-in-Err.ensures.1 in
+    rw (p.1) (λ is. inr (kept_same (g.K.Sink.written c.args.out.now)))
+
+pub returns-in_ok-answer-in-Err-clause-done : goal.returns-in_ok-answer-in-Err-clause-done
+returns-in_ok-answer-in-Err-clause-done g c =
+    if_ok_map c.send.result _ _ (λ told h. subst (λ (t : Told). Tells (Appends (g.K.Sink.written c.args.out.now) (g.K.Sink.written c.send.new.out)) c.args.number (queries_of c.args.book.now) c.args.query c.args.word (text_at c.args.store.now c.args.root) c.args.limit t c.args.looks.now c.args.looks.now) (sym (h.0 ∙ c.in_ok-answer-in-Err.ensures.0))
+    (c.in-Err.why, c.word_refusal.result, c.in-Err.ensures.err, c.word_refusal.ensures, subst (λ (l : List ℕ). Appends (g.K.Sink.written c.args.out.now) (g.K.Sink.written c.send.new.out) l) c.in_ok-answer-in-Err.ensures.1 h.1, refl)) c.send.ensures.done
+
+pub returns-in_ok-answer-in-Err-clause-stopped : goal.returns-in_ok-answer-in-Err-clause-stopped
+returns-in_ok-answer-in-Err-clause-stopped g c =
+    on_err_map c.send.result _ _ (λ h. (Refused, (c.in-Err.why, c.word_refusal.result, c.in-Err.ensures.err, c.word_refusal.ensures, subst (λ (l : List ℕ). AppendsFront (g.K.Sink.written c.args.out.now) (g.K.Sink.written c.send.new.out) l) c.in_ok-answer-in-Err.ensures.1 h, refl))) c.send.ensures.stopped
+
+pub returns-in_ok-answer-in-Err-clause-want : goal.returns-in_ok-answer-in-Err-clause-want
+returns-in_ok-answer-in-Err-clause-want g c =
+    if_err_map c.send.result _ _ (λ why h is. inl (h is)) c.send.ensures.want

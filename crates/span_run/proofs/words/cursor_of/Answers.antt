@@ -1,0 +1,12 @@
+use Rattle.std.proofs.Common.{subst, ◌≡◌, Some, List, ℕ}
+use Rattle.std.specs.Option.{option_map}
+use Rattle.span_types.specs.Rel.{names_of}
+use Rattle.query_book.specs.Book.{queries_of}
+use Rattle.query_book.specs.Named.{value_of}
+use Rattle.span_run.proofs.PageLemmas.{no_word}
+use Rattle.span_run.proofs.words.cursor_of.Goals as goal
+
+pub returns-in-Ok-vars-clause-ok : goal.returns-in-Ok-vars-clause-ok
+returns-in-Ok-vars-clause-ok c =
+    no_word (queries_of c.args.book.now) c.args.query.now c.args.word.now c.in-Ok-vars.field-0.now c.in-None.is
+    (subst (λ (n : List ℕ). option_map names_of (value_of (queries_of c.args.book.now) n) ≡ Some c.in-Ok-vars.field-0.now) c.bytes.ensures.value c.in-Ok-vars.ensures)
