@@ -4,4 +4,10 @@
 #[cfg(test)]
 mod gate;
 #[cfg(test)]
+mod long_texts;
+#[cfg(test)]
+mod running;
+#[cfg(test)]
+mod shelves;
+#[cfg(test)]
 mod tests;

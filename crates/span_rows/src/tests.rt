@@ -1,92 +1,12 @@
-ghost use Rattle.std.specs.Prelude.{◌≡◌, ◌<◌};
-
-use edge_io::{MemSink, MemSource, SureShelf};
-use span_run::{Status, run};
-use span_types::Steps;
+use crate::running::{Setting, plain, ran, words_of};
+use span_run::Status;
 use std::alloc::{AllocError, Global};
-use std::marker::Brand;
-use std::process::Abort;
-use std::sync::ledger::{Blank, Ledger};
 use std::test::Fail;
-use std::thread::Threads;
-use work_gate::OpenGate;
-
-/// How the objects in memory behave, and the words.
-#[derive(Clone, Copy)]
-struct Setting<'a> {
-    words: &'a [String],
-    piece: usize,
-    bad_read: u64,
-    bad_write: u64,
-}
-
-/// No words, and objects that never fail.
-fn plain<'a>() -> Setting<'a> {
-    Setting {
-        words: &[],
-        piece: 1000,
-        bad_read: 0,
-        bad_write: 0,
-    }
-}
-
-/// Runs a script over objects in memory: the status, and what was written.
-fn ran<R: Threads + Sync>(
-    rt: &R,
-    alloc: Global,
-    script: Vec<u8>,
-    setting: Setting<'_>,
-) -> Result<(Status, Vec<u8>), AllocError> {
-    counted::<R, Brand, Brand, Brand>(
-        rt,
-        alloc,
-        script,
-        setting,
-        Blank::new(1),
-        Blank::new(1),
-        Blank::new(1),
-    )
-}
-
-fn counted<R: Threads + Sync, P: Ledger, T: Ledger, L: Ledger>(
-    rt: &R,
-    alloc: Global,
-    script: Vec<u8>,
-    setting: Setting<'_>,
-    pairs: Blank,
-    places: Blank,
-    looks: Blank,
-) -> Result<(Status, Vec<u8>), AllocError>
-    requires pairs { (pairs.name ≡ P.name) × (pairs.parts ≡ P.parts) × (0 < P.parts) }
-    requires places { (places.name ≡ T.name) × (places.parts ≡ T.parts) × (0 < T.parts) }
-    requires looks { (looks.name ≡ L.name) × (looks.parts ≡ L.parts) × (0 < L.parts) }
-{
-    let piece = setting.piece.max(1);
-    let mut source = MemSource::new(script, piece, vec![in alloc; setting.bad_read]?);
-    let mut sink = MemSink::new(alloc, piece, vec![in alloc; setting.bad_write]?);
-    let mut shelf = SureShelf::new(Vec::new(alloc));
-    let mut pairs = Steps::<P>::new(pairs);
-    let mut places = Steps::<T>::new(places);
-    let mut looks = Steps::<L>::new(looks);
-    let status = run(
-        rt,
-        alloc,
-        setting.words,
-        &mut source,
-        &mut sink,
-        &mut shelf,
-        &OpenGate,
-        &mut pairs,
-        &mut places,
-        &mut looks,
-    );
-    Ok((status, sink.written().to_vec(alloc)?))
-}
 
 /// A script, its whole output and its status.
 type Row = (&'static str, &'static str, Status);
 
-const ROWS: [Row; 9] = [
+const ROWS: [Row; 23] = [
     (
         "text d abracadabra\n",
         "ok d 11 \"abracadabra\"\n",
@@ -124,6 +44,76 @@ const ROWS: [Row; 9] = [
         "ok a 1 \"x\"\nok b 1 \"y\"\nok a 2 \"zz\"\na 2\nb 1\nend\nok\nb 1\nend\nline 7: NoSuchDocument a\n",
         Status::SomeRefused,
     ),
+    (
+        "query q ($x{a}|b)\nquery q $x{a}$x{b}\nquery q ($x{a})*\nquery q a)\n",
+        "ok q x\nline 2: NotFunctional x\nline 3: NotFunctional x\nline 4: BadFormula\n",
+        Status::SomeRefused,
+    ),
+    (
+        "query q [ab]*a[ab][ab][ab][ab][ab]\nquery q [ab]*a[ab][ab][ab][ab][ab][ab]\n",
+        "ok q\nline 2: TooManyStates\n",
+        Status::SomeRefused,
+    ),
+    (
+        "text d aa\nquery q .*$x{a+}.*\ntest q d\nquery r b\ntest r d\ntest z d\ntest q e\n",
+        "ok d 2 \"aa\"\nok q x\nyes\nok r\nno\nline 6: NoSuchQuery z\nline 7: NoSuchDocument e\n",
+        Status::SomeRefused,
+    ),
+    (
+        "text d aa\nquery q .*$x{a+}.*\ntest q d\nhas q d x=[1,3)\nhas q d x=[1,4)\nhas q d x=[0,1)\nhas q d y=[1,2)\ntest r d\n",
+        "ok d 2 \"aa\"\nok q x\nyes\nyes\nno\nline 6: BadTuple\nline 7: OtherVariables\nline 8: NoSuchQuery r\n",
+        Status::SomeRefused,
+    ),
+    (
+        "text d aa\nquery q .*$x{a+}.*\nlist q d\n",
+        "ok d 2 \"aa\"\nok q x\nx=[1,2)\nx=[1,3)\nx=[2,3)\nend\n",
+        Status::Done,
+    ),
+    (
+        "text d aa\nquery q (.*)(.*)$x{a}.*\nlist q d\n",
+        "ok d 2 \"aa\"\nok q x\nx=[1,2)\nx=[2,3)\nend\n",
+        Status::Done,
+    ),
+    (
+        "text d \nquery q $x{}\nlist q d\n",
+        "ok d 0 \"\"\nok q x\nx=[1,1)\nend\n",
+        Status::Done,
+    ),
+    (
+        "text d a\nquery q .*$x{a*}.*\nlist q d\n",
+        "ok d 1 \"a\"\nok q x\nx=[1,1)\nx=[1,2)\nx=[2,2)\nend\n",
+        Status::Done,
+    ),
+    (
+        "text d ab\nquery q $x{.*}$y{.*}\nlist q d\n",
+        "ok d 2 \"ab\"\nok q x y\nx=[1,1),y=[1,3)\nx=[1,2),y=[2,3)\nx=[1,3),y=[3,3)\nend\n",
+        Status::Done,
+    ),
+    (
+        "text d ababababab\nquery q .*$x{a[ab]*}.*\nlet d = extract(d,1,5)\nlist q d after x=[1,10)\nlist q d after x=[9,10)\nlist q d after x=[1,1) limit 2\n",
+        "ok d 10 \"ababababab\"\nok q x\nok d 4 \"abab\"\nx=[3,4)\nx=[3,5)\nend\nend\nx=[1,2)\nx=[1,3)\nmore\n",
+        Status::Done,
+    ),
+    (
+        "text d aa\nquery q a*\nlist q d\nlist q d after ()\nquery q []\ntest q d\nunquery q\nunquery q\n",
+        "ok d 2 \"aa\"\nok q\n()\nend\nend\nok q\nno\nok\nline 8: NoSuchQuery q\n",
+        Status::SomeRefused,
+    ),
+    (
+        "text d ab\nquery q ($x{a})?.*\nlist q d\nlist q d after x=[1,2)\nlist q d after x=[9,9)\nlist q d after x=-\nhas q d x=-\n",
+        "ok d 2 \"ab\"\nok q x\nx=[1,2)\nx=-\nend\nx=-\nend\nx=-\nend\nend\nyes\n",
+        Status::Done,
+    ),
+    (
+        "text d a\nquery q $x{a}|$y{b}\nlist q d\n",
+        "ok d 1 \"a\"\nok q x y\nx=[1,2),y=-\nend\n",
+        Status::Done,
+    ),
+    (
+        "list q d after z\ntext d a\nlist q d after z\nquery q $x{a}\nlist q d after z\nlist q d after z=-\nlist q d after x=- limit 10001\n",
+        "line 1: NoSuchDocument d\nok d 1 \"a\"\nline 3: NoSuchQuery q\nok q x\nline 5: BadTuple\nline 6: OtherVariables\nline 7: Syntax\n",
+        Status::SomeRefused,
+    ),
 ];
 
 #[test]
@@ -141,7 +131,7 @@ fn rows(rt: HostRuntime) -> Result<(), Fail> {
 }
 
 /// A script that begins with a line and goes on with another, so many times.
-fn repeated(
+pub fn repeated(
     alloc: Global,
     first: &str,
     line: &str,
@@ -156,7 +146,7 @@ fn repeated(
     Ok(script)
 }
 
-fn ends_with(written: &[u8], end: &str) -> bool {
+pub fn ends_with(written: &[u8], end: &str) -> bool {
     written.ends_with(end.as_bytes())
 }
 
@@ -252,55 +242,42 @@ fn lengths_of_lines_and_scripts(rt: HostRuntime) -> Result<(), Fail> {
     Ok(())
 }
 
+/// The number of the failing read, that of the failing write, the status, and what was written.
+const FAULTS: [(u64, u64, Status, &str); 3] = [
+    (1, 0, Status::ScriptFault, ""),
+    (0, 2, Status::OutFault, "ok d 2 \"ab\"\n"),
+    (0, 3, Status::OutFault, "ok d 2 \"ab\"\nd 2\n"),
+];
+
 #[test]
-fn faults_and_words(rt: HostRuntime) -> Result<(), Fail> {
+fn faults(rt: HostRuntime) -> Result<(), Fail> {
     let alloc = rt.alloc();
     let script = b"text d ab\nnames\nshow d 1 2\n".as_slice();
-    let (status, written) = ran(
-        &rt,
-        alloc,
-        script.to_vec(alloc)?,
-        Setting {
-            bad_read: 1,
+    for (bad_read, bad_write, status, output) in FAULTS {
+        let setting = Setting {
+            bad_read,
+            bad_write,
             ..plain()
-        },
-    )?;
-    assert_eq!(rt; status, Status::ScriptFault);
-    assert_eq!(rt; written.len(), 0);
-    let (status, written) = ran(
-        &rt,
-        alloc,
-        script.to_vec(alloc)?,
-        Setting {
-            bad_write: 2,
-            ..plain()
-        },
-    )?;
-    assert_eq!(rt; status, Status::OutFault);
-    assert_eq!(rt; written.as_slice(), b"ok d 2 \"ab\"\n".as_slice());
-    let (status, written) = ran(
-        &rt,
-        alloc,
-        script.to_vec(alloc)?,
-        Setting {
-            bad_write: 3,
-            ..plain()
-        },
-    )?;
-    assert_eq!(rt; status, Status::OutFault);
-    assert_eq!(rt; written.as_slice(), b"ok d 2 \"ab\"\nd 2\n".as_slice());
-    let mut words = Vec::new(alloc);
-    words.push("--help".to_string(alloc)?)?;
-    let (status, written) = ran(
-        &rt,
-        alloc,
-        script.to_vec(alloc)?,
-        Setting {
+        };
+        let (told, written) = ran(&rt, alloc, script.to_vec(alloc)?, setting)?;
+        assert_eq!(rt; told, status);
+        assert_eq!(rt; written.as_slice(), output.as_bytes());
+    }
+    Ok(())
+}
+
+#[test]
+fn refused_words(rt: HostRuntime) -> Result<(), Fail> {
+    let alloc = rt.alloc();
+    for word in ["--workers=0", "--workers=65", "--demo=47", "--help"] {
+        let words = words_of(alloc, &[word])?;
+        let setting = Setting {
             words: &words,
             ..plain()
-        },
-    )?;
-    assert_eq!(rt; status, Status::Usage);
-    assert_eq!(rt; written.len(), 0);
+        };
+        let (told, written) = ran(&rt, alloc, b"names\n".to_vec(alloc)?, setting)?;
+        assert_eq!(rt; told, Status::Usage, "{word}");
+        assert_eq!(rt; written.len(), 0, "{word}");
+    }
     Ok(())
 }
