@@ -104,6 +104,49 @@ def cursor(variables, place):
     return ",".join(f"{variable}=[{place},{place})" for variable in variables) or "()"
 
 
+# by the number of variables: a formula that is met somewhere, and formulas that are met in most lines
+PHASE_QUERIES = [
+    (r'.*" 500 [^\n]*curl.*', ""),
+    (r'.*"GET $p{[^ "\n]*} HTTP.*', "p"),
+    (r'.*"[A-Z]+ $p{[^ "\n]*} HTTP/1.1" $s{[0-9]+} .*', "ps"),
+    (r'(.*\n)?$h{[0-9.]+} - - \[[^\]\n]*\] "[A-Z]+ $p{[^ "\n]*} HTTP/1.1" $s{[0-9]+} .*', "hps"),
+]
+
+
+def phase_scripts(file, size):
+    """A script for each phase on a log, by its name: loading; an image of it; a query with 0 to 3 variables, made ready and
+    tested; its first 10,000 answers; and edits all over with the same question after each."""
+    load = [f"load d {file}"]
+    scripts = {"load": load, "image": load + ["save image", "open image", "names"]}
+    for count, (formula, variables) in enumerate(PHASE_QUERIES):
+        asked = load + [f"query q {formula}"]
+        scripts[f"ask{count}"] = asked + ["test q d"]
+        if variables:
+            scripts[f"list{count}"] = asked + ["list q d limit 10000"]
+    removed = 57
+    edits = scripts["ask1"] + ["text e " + "a line without fields, put in by an edit".ljust(removed, ".")]
+    for part in range(1, 500):
+        at = size * part // 500
+        edits += [f"let d = insert(delete(d,{at},{at + removed}),e,{at})", "test q d"]
+        edits += [f"list q d after {cursor('p', at)} limit 10"]
+    return scripts | {"edits": edits}
+
+
+def middle_script():
+    """Pages after a cursor in the middle of texts of 2^40 to 2^48 bytes, made by doubling, and again after an edit there."""
+    sentence = "the quick brown fox; jumps=17 over the lazy dog."
+    lines = [f"text t {sentence}", "text e x=1 ", "query q .*[; ]$k{[a-z]+}=$v{[0-9]+} .*"]
+    size = len(sentence)
+    while 2 * size <= 1 << 48:
+        size *= 2
+        middle = size // 2
+        lines += ["let t = concat(t,t)"]
+        if size >= 1 << 40:
+            after = f"after {cursor('kv', middle)} limit 1000"
+            lines += [f"list q t {after}", f"let u = insert(t,e,{middle})", f"list q u {after}"]
+    return lines
+
+
 def log_script(file, size):
     """Loads a log, asks five queries with 0 to 3 variables, pages through the answers, and edits and asks again."""
     lines = [f"load d {file}"]
@@ -228,6 +271,10 @@ def make(folder, quick, huge):
         if not file.exists() or file.stat().st_size != size:
             file.write_bytes(web_log(size))
         write_script(folder / f"{name}.script", log_script(name, size))
+    file, size = max(((name, size) for name, size in logs.items() if name != "log256m"), key=lambda it: it[1])
+    for name, lines in phase_scripts(file, size).items():
+        write_script(folder / f"{name}.script", lines)
+    write_script(folder / "middle.script", middle_script())
     size, count, edits = (MEGABYTE // 8, 100, 1000) if quick else (MEGABYTE, 1000, 20000)
     text, words = prose(size)
     (folder / "prose").write_bytes(text)
@@ -237,13 +284,8 @@ def make(folder, quick, huge):
     write_script(folder / "long.script", long_script())
 
 
-# commands that the scripts use and the program doesn't have yet
-UNBUILT = ("list ",)
-
-
 def write_script(file, lines):
-    """Writes a script, without the lines of commands that aren't built."""
-    file.write_text("".join(line + "\n" for line in lines if not line.startswith(UNBUILT)))
+    file.write_text("".join(line + "\n" for line in lines))
 
 
 def main():
