@@ -132,19 +132,29 @@ def phase_scripts(file, size):
     return scripts | {"edits": edits}
 
 
-def middle_script():
-    """Pages after a cursor in the middle of texts of 2^40 to 2^48 bytes, made by doubling, and again after an edit there."""
-    sentence = "the quick brown fox; jumps=17 over the lazy dog."
-    lines = [f"text t {sentence}", "text e x=1 ", "query q .*[; ]$k{[a-z]+}=$v{[0-9]+} .*"]
-    size = len(sentence)
+# by the number of variables: a formula that is met in each sentence of a long text
+SENTENCE = "the quick brown fox; jumps=17 over the lazy dog."
+SENTENCE_QUERIES = [
+    (r".*[; ][a-z]+=[0-9]+ over .*", ""),
+    (r".*[; ]$k{[a-z]+}=[0-9]+ over .*", "k"),
+    (r".*[; ]$k{[a-z]+}=$v{[0-9]+} over .*", "kv"),
+    (r".*[; ]$k{[a-z]+}=$v{[0-9]+} over the $w{[a-z]+} .*", "kvw"),
+]
+
+
+def doubled_scripts():
+    """By its name, for 0 to 3 variables, a script over a sentence that was doubled to more than 2^47 bytes: the first 10,000
+    answers; and 10,000 after a cursor in the middle, and again after an edit there."""
+    lines, size = [f"text t {SENTENCE}", "text e ; x=1 over the fence "], len(SENTENCE)
     while 2 * size <= 1 << 48:
         size *= 2
-        middle = size // 2
         lines += ["let t = concat(t,t)"]
-        if size >= 1 << 40:
-            after = f"after {cursor('kv', middle)} limit 1000"
-            lines += [f"list q t {after}", f"let u = insert(t,e,{middle})", f"list q u {after}"]
-    return lines
+    scripts = {}
+    for count, (formula, variables) in enumerate(SENTENCE_QUERIES):
+        asked, after = lines + [f"query q {formula}"], f"after {cursor(variables, size // 2)} limit 10000"
+        scripts[f"first{count}"] = asked + ["list q t limit 10000"]
+        scripts[f"middle{count}"] = asked + [f"list q t {after}", f"let u = insert(t,e,{size // 2})", f"list q u {after}"]
+    return scripts
 
 
 def log_script(file, size):
@@ -272,9 +282,8 @@ def make(folder, quick, huge):
             file.write_bytes(web_log(size))
         write_script(folder / f"{name}.script", log_script(name, size))
     file, size = max(((name, size) for name, size in logs.items() if name != "log256m"), key=lambda it: it[1])
-    for name, lines in phase_scripts(file, size).items():
+    for name, lines in (phase_scripts(file, size) | doubled_scripts()).items():
         write_script(folder / f"{name}.script", lines)
-    write_script(folder / "middle.script", middle_script())
     size, count, edits = (MEGABYTE // 8, 100, 1000) if quick else (MEGABYTE, 1000, 20000)
     text, words = prose(size)
     (folder / "prose").write_bytes(text)
