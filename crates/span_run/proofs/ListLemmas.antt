@@ -2,6 +2,7 @@
 use Rattle.std.proofs.Common.{suc, zero, ◌≡◌, ℕ, Bool, ◌+◌, ◌*◌, ◌≤◌, ◌<◌, true, false, nat_lt, refl, ap, sym, subst, ◌∙◌, arith, List, [], ◌∷◌, ◌++◌, append_assoc, length, take, Option, Some}
 use Rattle.std.specs.List.{flat_map}
 use Rattle.std.proofs.lemmas.Bool.{ltb-true, ltb-false}
+use Rattle.std.proofs.lemmas.List.{append-nil}
 use Rattle.span_types.specs.Fibonacci.{looks_limit}
 use Rattle.span_types.specs.Answers.{IsAfter}
 use Rattle.span_enum.specs.Listing.{Listing}
@@ -112,14 +113,10 @@ module _ (listing : Listing) (all : List Tuple) (are : AreAnswersOf listing.auto
       let k = found left next u is h f in
       listing_stops a b c (tuple_line names u) (first_page_text names next k.0) (first_page_text names limit first) k.2 stopped
 
-  append-nil : (xs : List ℕ) → xs ≡ xs ++ []
-  append-nil [] = refl
-  append-nil (x ∷ xs) = ap (λ l. x ∷ l) (append-nil xs)
-
   -- only the last line is left
   last_of : (left : ℕ) (line : List ℕ) → (h : Goes a b names limit first all cursor left before looks each) → first_page_text names left h.rest ≡ line
       → IsListing a b (line ++ []) (first_page_text names limit first)
-  last_of left line h is = subst (λ (l : List ℕ). IsListing a b l (first_page_text names limit first)) (is ∙ append-nil line) h.so_far
+  last_of left line h is = subst (λ (l : List ℕ). IsListing a b l (first_page_text names limit first)) (is ∙ sym (append-nil line)) h.so_far
 
   at_end : (left : ℕ) → (h : Goes a b names limit first all cursor left before looks each) → NoMemberLeft listing.automaton listing.text cursor → first_page_text names left h.rest ≡ last_line false
   at_end left h none = ap (first_page_text names left) (none-after listing.automaton listing.text all are cursor h.rest h.after none) ∙ page_none names left
