@@ -1,0 +1,154 @@
+//! Versions of the documents: a version keeps, under a name, the documents as they were when it was marked.
+//!
+//! ```text
+//! let mut versions = Versions::new(alloc);
+//! versions.mark(alloc, name, &docs)?;         // `name` is called "v"
+//! docs.set(alloc, other, root)?;
+//! docs = versions.back(alloc, b"v")?;         // the documents as they were
+//! versions.unmark(b"v")?;
+//! ```
+//!
+//! A version is a list of names and roots, so it takes memory linear in the number of documents and none for their
+//! texts: nodes never change, and each text is shared with the documents. `mark` and `back` copy that list, `unmark`
+//! is linear in the number of versions, and a look-up by name takes expected constant time. Texts that are shared
+//! like this are *persistent* data structures (Driscoll, Sarnak, Sleator and Tarjan, "Making data structures
+//! persistent", 1989), by copying of roots.
+#![tactic(auto)]
+
+ghost use Rattle.std.specs.Prelude.{◌≡◌, ◌↔◌, ◌<◌, ℕ, List, [], false, length, slice_get, Some, None, IfOk, OnOk, OnErr, IsErrOf, ok_or};
+ghost use Rattle.std.specs.Option.{option_map};
+ghost use Rattle.name_map.specs.Named.{AreDistinctNames, is_same, put, taken_out, value_of};
+ghost use Rattle.doc_versions.specs.Versions.{docs_at, with_version_root};
+
+use doc_book::Docs;
+use name_map::NameMap;
+use slp_model::NodeId;
+use span_types::{Name, NoMemory};
+use std::alloc::Global;
+use std::marker::Model;
+use thiserror::Error;
+
+/// Why a call on versions is refused.
+#[derive(Clone, Copy, Debug, PartialEq, Eq, Drop, Error)]
+pub enum VersionRefusal {
+    /// No version has the name.
+    #[error("no version has this name")]
+    NoSuchVersion,
+
+    /// No memory was found.
+    #[error("no memory")]
+    NoMemory,
+}
+
+impl From<NoMemory> for VersionRefusal {
+    ghost use Rattle.doc_versions.specs.declared.VersionRefusal.TheVariants.{NoMemory};
+
+    ghost from_gives = { λ _ refusal. refusal ≡ NoMemory };
+
+    fn from(_: NoMemory) -> VersionRefusal {
+        VersionRefusal::NoMemory
+    }
+}
+
+/// Versions with distinct names, in the order in which the names came. Contracts see them as a list of pairs of a
+/// name's bytes and the documents.
+#[derive(Drop)]
+pub struct Versions {
+    by_name: NameMap<Docs>,
+}
+
+impl Model for Versions {
+    ghost use Rattle.std.specs.Prelude.{List};
+    ghost use Rattle.doc_book.specs.declared.Doc.{Doc};
+    ghost use Rattle.name_map.specs.Named.{Named};
+
+    ghost Value = { Named (List Doc) };
+
+    ghost view = { λ v. v.by_name };
+}
+
+impl Versions {
+    /// No versions.
+    pub fn new(alloc: Global) -> Versions
+        ensures { result ≡ [] }
+    {
+        Versions {
+            by_name: NameMap::new(alloc),
+        }
+    }
+
+    /// Keeps the documents under the name. A present name keeps its place, and its former documents go; a new name
+    /// goes last. Takes time linear in the number of documents.
+    ///
+    /// # Errors
+    ///
+    /// `NoMemory` where none was found; the versions are then as before.
+    pub fn mark(&mut self, alloc: Global, name: Name, docs: &Docs) -> Result<(), NoMemory>
+        ensures ok { OnOk result (self.new ≡ put self.old name docs.now) }
+        ensures kept { OnOk result (value_of self.new name ≡ Some docs.now) }
+        ensures others { OnOk result ((other : List ℕ) → is_same other name ≡ false → value_of self.new other ≡ value_of self.old other) }
+        ensures err { OnErr result (self.new ≡ self.old) }
+    {
+        let copy = docs.copy(alloc)?;
+        self.by_name.set(alloc, name, copy)
+    }
+
+    /// The documents that the version with this name keeps. Takes time linear in their number.
+    ///
+    /// # Errors
+    ///
+    /// `NoSuchVersion` exactly where no version has the name, and `NoMemory`.
+    pub fn back(&self, alloc: Global, name: &[u8]) -> Result<Docs, VersionRefusal>
+        ensures ok { IfOk result (λ docs. value_of self.now name.now ≡ Some docs) }
+        ensures missing { IsErrOf result VersionRefusal.NoSuchVersion ↔ (value_of self.now name.now ≡ None) }
+    {
+        match self.by_name.get(name) {
+            Some(docs) => Ok(docs.copy(alloc)?),
+            None => Err(VersionRefusal::NoSuchVersion),
+        }
+    }
+
+    /// Takes the version with this name out, and the rest close up. Takes time linear in the number of versions.
+    ///
+    /// # Errors
+    ///
+    /// `NoSuchVersion` exactly where no version has the name; the versions are then as before.
+    pub fn unmark(&mut self, name: &[u8]) -> Result<(), VersionRefusal>
+        ensures result { result ≡ ok_or (option_map (λ _. tt) (value_of self.old name.now)) VersionRefusal.NoSuchVersion }
+        ensures rest { self.new ≡ taken_out self.old name.now }
+        ensures err { OnErr result (self.new ≡ self.old) }
+    {
+        match self.by_name.take_out(name) {
+            Some(_) => Ok(()),
+            None => Err(VersionRefusal::NoSuchVersion),
+        }
+    }
+
+    /// How many versions there are.
+    pub fn count(&self) -> usize
+        ensures count { result ≡ length self.now }
+        ensures distinct { AreDistinctNames self.now }
+    {
+        self.by_name.count()
+    }
+
+    /// The name and the documents of the version at this place. Places count from 0.
+    pub fn at(&self, place: usize) -> (&Name, &Docs)
+        requires { place < length self.now }
+        ensures { slice_get self.now place ≡ Some (result.0.now, result.1.now) }
+    {
+        self.by_name.at(place)
+    }
+
+    /// Gives the document at place `doc` of the version at this place another root. Takes no memory.
+    pub fn set_root(&mut self, place: usize, doc: usize, root: Option<NodeId>)
+        requires place { place < length self.old }
+        requires doc { doc < length (docs_at self.old place) }
+        ensures { self.new ≡ with_version_root self.old place doc root }
+    {
+        self.by_name.value_mut(place).set_root(doc, root);
+    }
+}
+
+#[cfg(test)]
+mod tests;

@@ -1,0 +1,35 @@
+use super::*;
+use std::test::Fail;
+
+fn set(alloc: Global, sizes: &mut NameMap<u8>, name: &[u8], size: u8) -> Result<(), NoMemory> {
+    let name = Name::new(alloc, name).map_err(|_| NoMemory)?;
+    sizes.set(alloc, name, size)
+}
+
+fn a_and_b(alloc: Global) -> Result<NameMap<u8>, NoMemory> {
+    let mut sizes = NameMap::new(alloc);
+    set(alloc, &mut sizes, b"a", 1)?;
+    set(alloc, &mut sizes, b"b", 2)?;
+    set(alloc, &mut sizes, b"a", 3)?;
+    Ok(sizes)
+}
+
+#[test]
+fn sizes_by_name(rt: HostRuntime) -> Result<(), Fail> {
+    let Ok(mut sizes) = a_and_b(rt.alloc()) else {
+        panic!(rt; "out of memory");
+    };
+    assert_eq!(rt; sizes.count(), 2);
+    if sizes.count() == 2 {
+        let (name, size) = sizes.at(0);
+        assert_eq!(rt; name.bytes(), b"a".as_slice());
+        assert_eq!(rt; *size, 3);
+        *sizes.value_mut(1) = 4;
+    }
+    assert_eq!(rt; sizes.get(b"b").copied(), Some(4));
+    assert_eq!(rt; sizes.get(b"c").copied(), None);
+    assert_eq!(rt; sizes.take_out(b"a"), Some(3));
+    assert_eq!(rt; sizes.take_out(b"a"), None);
+    assert_eq!(rt; sizes.count(), 1);
+    Ok(())
+}
