@@ -1,0 +1,15 @@
+pub mod NameLaws
+pub mod MarkLaws
+pub mod TextLaws
+pub mod SetLaws
+pub mod CopyLaws
+pub mod UnionLaws
+pub mod EdgeLaws
+pub mod PlaceLaws
+pub mod ClassLaws
+pub mod PartLaws
+pub mod AcceptLaws
+pub mod ProjectLaws
+pub mod RefusalLaws
+pub mod JoinLaws
+pub mod JoinMarks

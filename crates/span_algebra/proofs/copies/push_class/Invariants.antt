@@ -1,0 +1,7 @@
+use Rattle.marker_nfa.specs.Parts.{Adds}
+use Rattle.marker_nfa.proofs.Adding.{EachBefore}
+use Rattle.span_algebra.specs.Making.{IsEdgeBy}
+use Rattle.span_algebra.proofs.copies.push_class.Given as goal
+
+abbrev pub invariant-loop-mark : goal.invariant-loop-mark
+invariant-loop-mark l = Adds l.fn.edges.items l.edges.items (EachBefore (IsEdgeBy l.dfa l.places l.from l.base l.state l.class) l.mark-items l.mark-index)

@@ -1,0 +1,7 @@
+use Rattle.std.proofs.Common.{ℕ, ◌+◌, ◌<◌}
+use Rattle.marker_nfa.specs.Parts.{Adds}
+use Rattle.span_algebra.specs.Making.{IsEdgeAmong}
+use Rattle.span_algebra.proofs.copies.push_edges.Given as goal
+
+abbrev pub invariant-loop-state : goal.invariant-loop-state
+invariant-loop-state l = Adds l.fn.edges.items l.edges.items (λ e. (q : ℕ) × (q < l.state) × IsEdgeAmong l.dfa l.places (l.base + q) l.base q l.classes e)

@@ -1,0 +1,7 @@
+use Rattle.marker_nfa.specs.Parts.{Adds}
+use Rattle.marker_nfa.proofs.Adding.{EachBefore}
+use Rattle.span_algebra.specs.Making.{IsEdgeOf}
+use Rattle.span_algebra.proofs.copies.push_state.Given as goal
+
+abbrev pub invariant-loop-class : goal.invariant-loop-class
+invariant-loop-class l = Adds l.fn.edges.items l.edges.items (EachBefore (IsEdgeOf l.dfa l.places l.from l.base l.state) l.classes l.class-index)

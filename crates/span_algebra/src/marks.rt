@@ -1,0 +1,29 @@
+//! Marks of some variables, as marks of others.
+
+ghost use Rattle.std.specs.Prelude.{◌≡◌, ℕ, ◌<◌, ◌≤◌, ◌^◌, length, Some};
+ghost use Rattle.span_algebra.specs.Making.{ArePlaces, digit_at, mark_by};
+
+/// The digit of a mark at a place.
+fn digit(place: Option<u8>, mark: u16) -> u16
+    requires { (v : ℕ) → place ≡ Some v → v < 8 }
+    ensures value { result ≡ digit_at place mark }
+    ensures small { result < 4 }
+{
+    match place {
+        Some(v) => mark / 4u16.pow(u32::from(v)) % 4,
+        None => 0,
+    }
+}
+
+/// The mark with the digits of another from these places.
+pub fn mark_at(places: &[Option<u8>], mark: u16) -> u16
+    requires few { length places.now ≤ 8 }
+    requires within { ArePlaces places.now }
+    ensures value { result ≡ mark_by places.now mark }
+    ensures small { result < 4 ^ length places.now }
+{
+    match places {
+        [] => 0,
+        [first, rest @ ..] => digit(*first, mark) + 4 * mark_at(rest, mark),
+    }
+}

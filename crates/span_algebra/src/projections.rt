@@ -1,0 +1,63 @@
+//! The projection of an automaton.
+
+ghost use Rattle.std.specs.Prelude.{◌≡◌, ◌≤◌, IfErr, IfOk, length};
+ghost use Rattle.marker_dfa.specs.Deterministic.{states_of};
+ghost use Rattle.span_algebra.specs.Answers.{GivesProjection};
+ghost use Rattle.span_algebra.specs.Making.{IsProjectNfa};
+ghost use Rattle.span_algebra.specs.Reached.{CountIsAbove, IsAutomatonOf};
+ghost use Rattle.span_algebra.specs.Refusals.{IsRefused};
+ghost use Rattle.span_algebra.specs.TreeAutomaton.{ProjectEnd, ProjectStep};
+
+use crate::classes::classes_of;
+use crate::copies::{push_edges, push_ends};
+use crate::determined::determined;
+use crate::names::places_of;
+use crate::refusal::AlgebraRefusal;
+use marker_dfa::Dfa;
+use marker_nfa::Nfa;
+use span_types::{NoMemory, Vars};
+use std::alloc::Global;
+
+/// The occurrences of a projection: the states of the source, whose marks lose the markers of the other variables.
+fn project_nfa(alloc: Global, source: &Dfa, names: &Vars, keep: &Vars) -> Result<Nfa, NoMemory>
+    requires { length names.now ≡ source.now.variables }
+    ensures { IfOk result (IsProjectNfa source.now names.now keep.now) }
+{
+    let states = source.states();
+    let variables = keep.count();
+    let places = places_of(alloc, keep, names)?;
+    let classes = classes_of(alloc, source, source)?;
+    let mut edges = Vec::new(alloc);
+    push_edges(source, &places, 0, &classes, &mut edges)?;
+    let mut ends = Vec::new(alloc);
+    push_ends(source, &places, 0, &mut ends)?;
+    Nfa::of_parts(alloc, u16::from(states), variables, &edges, &ends)
+}
+
+/// The automaton of the restrictions of the answers to some variables, in the order of `keep`. Answers with equal
+/// restrictions become one.
+///
+/// Its states are the reached sets of the source's states. It takes time in proportion to the steps of the source, one
+/// for each state, class of bytes and mark, and of the result.
+///
+/// # Errors
+///
+/// `TooManyStates` exactly where more than 128 states would be needed, and `NoMemory`.
+pub fn project(
+    alloc: Global,
+    source: &Dfa,
+    names: &Vars,
+    keep: &Vars,
+) -> Result<Dfa, AlgebraRefusal>
+    requires { length names.now ≡ source.now.variables }
+    ensures automaton { IfOk result (IsAutomatonOf (states_of source.now) (ProjectStep source.now names.now keep.now) (ProjectEnd source.now names.now keep.now)) }
+    ensures answers { IfOk result (GivesProjection source.now names.now keep.now) }
+    ensures few { IfOk result (λ _. CountIsAbove 128 (states_of source.now) (ProjectStep source.now names.now keep.now) → ⊥) }
+    ensures refused { IfErr result (IsRefused (length keep.now) (CountIsAbove 128 (states_of source.now) (ProjectStep source.now names.now keep.now))) }
+    ensures variables { length keep.now ≤ 8 }
+{
+    let states = source.states();
+    let variables = keep.count();
+    let nfa = project_nfa(alloc, source, names, keep)?;
+    determined(alloc, &nfa)
+}

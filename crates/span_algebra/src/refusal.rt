@@ -1,0 +1,31 @@
+//! Why an operation gives no automaton.
+
+ghost use Rattle.std.specs.Prelude.{◌≡◌};
+ghost use Rattle.span_algebra.specs.declared.refusal.AlgebraRefusal.TheVariants.{NoMemory};
+
+use span_types::NoMemory;
+use thiserror::Error;
+
+/// Why an operation gives no automaton.
+#[derive(Clone, Copy, Debug, PartialEq, Eq, Error)]
+pub enum AlgebraRefusal {
+    /// The operands have more than eight variables together.
+    #[error("too many variables")]
+    TooManyVariables,
+
+    /// More than 128 states would be needed.
+    #[error("too many states")]
+    TooManyStates,
+
+    /// No memory was found for the automaton.
+    #[error("no memory")]
+    NoMemory,
+}
+
+impl From<NoMemory> for AlgebraRefusal {
+    ghost from_gives = { λ _ e. e ≡ NoMemory };
+
+    fn from(_: NoMemory) -> Self {
+        AlgebraRefusal::NoMemory
+    }
+}

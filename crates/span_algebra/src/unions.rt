@@ -1,0 +1,109 @@
+//! The union of two automata.
+
+ghost use Rattle.std.specs.Prelude.{◌≡◌, IfErr, IfOk, length};
+ghost use Rattle.span_algebra.specs.Answers.{GivesUnion};
+ghost use Rattle.span_algebra.specs.Making.{IsUnionNfa};
+ghost use Rattle.span_algebra.specs.Reached.{CountIsAbove, IsAutomatonOf};
+ghost use Rattle.span_algebra.specs.Refusals.{IsRefused};
+ghost use Rattle.span_algebra.specs.Renaming.{both_names};
+ghost use Rattle.span_algebra.specs.TreeAutomaton.{UnionEnd, UnionStep, union_size};
+
+use crate::classes::classes_of;
+use crate::copies::{push_edges, push_ends};
+use crate::determined::determined;
+use crate::names::{names_of_both, places_of};
+use crate::refusal::AlgebraRefusal;
+use marker_dfa::Dfa;
+use marker_nfa::Nfa;
+use span_types::{NoMemory, Vars};
+use std::alloc::Global;
+
+/// The occurrences of a union: the start, the states of the left and the states of the right.
+fn union_nfa(
+    alloc: Global,
+    left: &Dfa,
+    left_names: &Vars,
+    right: &Dfa,
+    right_names: &Vars,
+    names: &Vars,
+) -> Result<Nfa, NoMemory>
+    requires left { length left_names.now ≡ left.now.variables }
+    requires right { length right_names.now ≡ right.now.variables }
+    requires names { names.now ≡ both_names left_names.now right_names.now }
+    ensures { IfOk result (IsUnionNfa left.now left_names.now right.now right_names.now) }
+{
+    let left_states = left.states();
+    let right_states = right.states();
+    let variables = names.count();
+    let left_places = places_of(alloc, names, left_names)?;
+    let right_places = places_of(alloc, names, right_names)?;
+    let classes = classes_of(alloc, left, right)?;
+    let base = 1 + u16::from(left_states);
+    let mut edges = Vec::new(alloc);
+    push_edges(left, &left_places, 1, &classes, &mut edges)?;
+    push_edges(right, &right_places, base, &classes, &mut edges)?;
+    let mut ends = Vec::new(alloc);
+    push_ends(left, &left_places, 1, &mut ends)?;
+    push_ends(right, &right_places, base, &mut ends)?;
+    Nfa::of_parts(
+        alloc,
+        base + u16::from(right_states),
+        variables,
+        &edges,
+        &ends,
+    )
+}
+
+/// The automaton of a union, whose variables have these names.
+fn union_dfa(
+    alloc: Global,
+    left: &Dfa,
+    left_names: &Vars,
+    right: &Dfa,
+    right_names: &Vars,
+    names: &Vars,
+) -> Result<Dfa, AlgebraRefusal>
+    requires left { length left_names.now ≡ left.now.variables }
+    requires right { length right_names.now ≡ right.now.variables }
+    requires names { names.now ≡ both_names left_names.now right_names.now }
+    ensures automaton { IfOk result (IsAutomatonOf (union_size left.now right.now) (UnionStep left.now left_names.now right.now right_names.now) (UnionEnd left.now left_names.now right.now right_names.now)) }
+    ensures answers { IfOk result (GivesUnion left.now left_names.now right.now right_names.now (both_names left_names.now right_names.now)) }
+    ensures few { IfOk result (λ _. CountIsAbove 128 (union_size left.now right.now) (UnionStep left.now left_names.now right.now right_names.now) → ⊥) }
+    ensures refused { IfErr result (IsRefused (length (both_names left_names.now right_names.now)) (CountIsAbove 128 (union_size left.now right.now) (UnionStep left.now left_names.now right.now right_names.now))) }
+{
+    let left_states = left.states();
+    let right_states = right.states();
+    let variables = names.count();
+    let nfa = union_nfa(alloc, left, left_names, right, right_names, names)?;
+    determined(alloc, &nfa)
+}
+
+/// The automaton of the answers of either side, and its variables: those of the left, then those of the right that the
+/// left lacks. A variable that an answer's side lacks has no span.
+///
+/// Its states are the reached sets of occurrences, which are the start and the states of both. It takes time in
+/// proportion to the steps of both, one for each state, class of bytes and mark.
+///
+/// # Errors
+///
+/// `TooManyVariables` exactly where there are more than eight variables, `TooManyStates` exactly where there aren't and
+/// more than 128 states would be needed, and `NoMemory`.
+pub fn union(
+    alloc: Global,
+    left: &Dfa,
+    left_names: &Vars,
+    right: &Dfa,
+    right_names: &Vars,
+) -> Result<(Dfa, Vars), AlgebraRefusal>
+    requires left { length left_names.now ≡ left.now.variables }
+    requires right { length right_names.now ≡ right.now.variables }
+    ensures names { IfOk result (λ r. r.1 ≡ both_names left_names.now right_names.now) }
+    ensures automaton { IfOk result (λ r. IsAutomatonOf (union_size left.now right.now) (UnionStep left.now left_names.now right.now right_names.now) (UnionEnd left.now left_names.now right.now right_names.now) r.0) }
+    ensures answers { IfOk result (λ r. GivesUnion left.now left_names.now right.now right_names.now r.1 r.0) }
+    ensures few { IfOk result (λ _. CountIsAbove 128 (union_size left.now right.now) (UnionStep left.now left_names.now right.now right_names.now) → ⊥) }
+    ensures refused { IfErr result (IsRefused (length (both_names left_names.now right_names.now)) (CountIsAbove 128 (union_size left.now right.now) (UnionStep left.now left_names.now right.now right_names.now))) }
+{
+    let names = names_of_both(alloc, left_names, right_names)?;
+    let dfa = union_dfa(alloc, left, left_names, right, right_names, &names)?;
+    Ok((dfa, names))
+}
