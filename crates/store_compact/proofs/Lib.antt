@@ -1,0 +1,3 @@
+pub mod KeptLemmas
+pub mod RankLemmas
+pub mod ThinLemmas

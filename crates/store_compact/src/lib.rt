@@ -1,0 +1,90 @@
+//! Which nodes of a store stay when it is compacted: those below the roots that are kept.
+//!
+//! ```text
+//! let mut plan = Plan::new(alloc, &store)?;
+//! plan.keep_root(&store, root)?;              // and so each root that is to stay
+//! ```
+//!
+//! A plan takes a byte for each node of the store. All calls of `keep_root` on one plan together take time linear in
+//! the number of roots and of kept nodes, since what is kept already is not visited again, and no memory: a node is at
+//! most 68 high, and that is how deep the search goes. It is the marking of a mark-sweep collector (McCarthy,
+//! "Recursive functions of symbolic expressions and their computation by machine, part I", 1960), and the marks are
+//! exact: nothing is kept beside what the roots reach.
+#![tactic(auto)]
+
+ghost use Rattle.std.specs.Prelude.{◌≡◌, ◌<◌, false, length, replicate, IfOk, IsOk};
+ghost use Rattle.slp_model.specs.Nodes.{IsLive};
+ghost use Rattle.store_compact.specs.Kept.{AddsExactly, IsPlanOf, Reaches, RootReaches};
+
+pub mod law;
+
+use node_store::{Node, NodeId, Store};
+use span_types::NoMemory;
+use std::alloc::Global;
+use std::marker::Model;
+
+/// Which nodes of a store are kept. Contracts see it as a list of truth values, one for each node of the store.
+#[derive(Drop)]
+pub struct Plan {
+    keep: Vec<bool>,
+}
+
+impl Model for Plan {
+    ghost use Rattle.std.specs.Prelude.{List, Bool};
+
+    ghost Value = { List Bool };
+
+    ghost view = { λ p. p.keep.items };
+}
+
+impl Plan {
+    /// A plan that keeps no node of the store.
+    ///
+    /// # Errors
+    ///
+    /// `NoMemory` where none was found.
+    pub fn new(alloc: Global, store: &Store) -> Result<Plan, NoMemory>
+        ensures none { IfOk result (λ plan. plan ≡ replicate (length store.now) false) }
+        ensures plan { IfOk result (IsPlanOf store.now) }
+    {
+        Ok(Plan {
+            keep: vec![in alloc; false; store.count()]?,
+        })
+    }
+
+    /// Keeps the root and all nodes below it, beside those that are kept already. The store is the one that the plan
+    /// was made for. Takes no memory, and so always accepts.
+    pub fn keep_root(&mut self, store: &Store, root: Option<NodeId>) -> Result<(), NoMemory>
+        requires plan { IsPlanOf store.now self.old }
+        requires live { IsLive store.now root }
+        ensures accepted { IsOk result }
+        ensures kept { AddsExactly self.old self.new (RootReaches store.now root) }
+        ensures plan { IsPlanOf store.now self.new }
+    {
+        if let Some(id) = root {
+            keep_below(store, &mut self.keep, id);
+        }
+        Ok(())
+    }
+}
+
+// Keeps the node and all nodes below it. A node goes in after its children, so that at any time the children of what
+// is kept are kept, and what is kept needs no second visit.
+fn keep_below(store: &Store, keep: &mut [bool], id: NodeId)
+    requires plan { IsPlanOf store.now keep.old }
+    requires live { id.index < length store.now }
+    ensures kept { AddsExactly keep.old keep.new (Reaches store.now id.index) }
+    ensures plan { IsPlanOf store.now keep.new }
+{
+    if keep[id.index] {
+        return;
+    }
+    if let Node::Pair(left, right) = store.node(id) {
+        keep_below(store, keep, left);
+        keep_below(store, keep, right);
+    }
+    keep[id.index] = true;
+}
+
+#[cfg(test)]
+mod tests;
