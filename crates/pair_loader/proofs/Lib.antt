@@ -3,3 +3,4 @@ pub mod CounterLemmas
 pub mod StackLemmas
 pub mod GatherLemmas
 pub mod BlockLemmas
+pub mod KnownLemmas

@@ -1,21 +1,12 @@
 -- The blocks of a loader, and the bytes that it was fed.
-use Rattle.std.specs.Prelude.{◌≡◌, ℕ, ◌+◌, ◌<◌, ◌≤◌, ◌^◌, List, [], ◌∷◌, ◌++◌, map, length, reverse, Option, Some, None}
+use Rattle.std.specs.Prelude.{ℕ, ◌+◌, ◌<◌, ◌≤◌, ◌^◌, List, [], ◌∷◌, ◌++◌, map, length, reverse, Option, Some, None}
 use Rattle.std.specs.List.{All}
 use Rattle.slp_model.specs.declared.NodeId.{NodeId}
 use Rattle.slp_model.specs.declared.Node.{Node}
-use Rattle.slp_model.specs.Tree.{Tree, Leaf, Fork, text, height}
+use Rattle.slp_model.specs.Tree.{Tree, text, height}
 use Rattle.slp_model.specs.Nodes.{tree}
-
--- the two children of each pair are equally high, so that a tree of height h has 2^h bytes
-abbrev pub IsFull : Tree → Type 0
-IsFull (Leaf b) = Unit {0}
-IsFull (Fork l r) = (height l ≡ height r) × IsFull l × IsFull r
-
--- a full tree of height h with the text s
-pub record IsBlock (h : ℕ) (s : List ℕ) (t : Tree) : Type 0 where
-  pub full : IsFull t
-  pub high : height t ≡ h
-  pub reads : text t ≡ s
+use Rattle.pair_loader.specs.Blocks.{IsFull}
+use Rattle.pair_loader.specs.Known.{Known, AreKnown}
 
 -- full trees, each higher than the one before, the first of height at least h
 abbrev pub AreRising : ℕ → List Tree → Type 0
@@ -41,17 +32,26 @@ pub record IsPending (ns : List Node) (blocks : List NodeId) : Type 0 where
   pub rising : AreRising 0 (stack_of ns blocks)
   pub short : length (stack_text (stack_of ns blocks)) ≤ 2 ^ 48
 
--- a loader that may be used with a store of these nodes; after a refusal it keeps no blocks
-abbrev pub IsLoader : List Node → Option (List NodeId) → Type 0
+-- what a loader keeps that was not refused
+pub record Kept : Type 0 where
+  pub blocks : List NodeId
+  pub known : Known
+
+-- before the first byte
+abbrev pub unfed : Kept
+unfed = record { blocks = []; known = record { twos = []; fours = []; eights = [] } }
+
+-- a loader that may be used with a store of these nodes; after a refusal it keeps nothing
+abbrev pub IsLoader : List Node → Option Kept → Type 0
 IsLoader ns None = Unit {0}
-IsLoader ns (Some blocks) = IsPending ns blocks
+IsLoader ns (Some kept) = IsPending ns kept.blocks × AreKnown ns kept.known
 
 -- the bytes that the loader was fed
-abbrev pub fed : List Node → Option (List NodeId) → List ℕ
+abbrev pub fed : List Node → Option Kept → List ℕ
 fed ns None = []
-fed ns (Some blocks) = stack_text (stack_of ns blocks)
+fed ns (Some kept) = stack_text (stack_of ns kept.blocks)
 
 -- how many blocks are pending
-abbrev pub pending_count : Option (List NodeId) → ℕ
+abbrev pub pending_count : Option Kept → ℕ
 pending_count None = 0
-pending_count (Some blocks) = length blocks
+pending_count (Some kept) = length kept.blocks

@@ -1,17 +1,31 @@
 //! The pending blocks of a loader.
-ghost use Rattle.std.specs.Prelude.{◌≡◌, ◌+◌, ◌*◌, ◌^◌, ◌<◌, ◌≤◌, ◌++◌, true, length, take, vec_len, IfOk, OnOk};
+ghost use Rattle.std.specs.Prelude.{◌≡◌, ◌+◌, ◌*◌, ◌^◌, ◌<◌, ◌≤◌, ◌++◌, length, take, vec_len, IfOk, OnOk};
 ghost use Rattle.span_types.specs.Fibonacci.{height_limit};
 ghost use Rattle.slp_model.specs.Tree as spec;
 ghost use Rattle.slp_model.specs.Tree.{text, leaves};
 ghost use Rattle.slp_model.specs.Nodes.{tree, root_tree, Grows, IsLive};
 ghost use Rattle.slp_model.specs.Shape.{shape};
-ghost use Rattle.pair_loader.specs.Pending.{IsFull, AreRising, stack_of, stack_text, AreLive, IsPending};
+ghost use Rattle.pair_loader.specs.Blocks.{IsFull, IsBlockAt};
+ghost use Rattle.pair_loader.specs.Known.{AreKnown};
+ghost use Rattle.pair_loader.specs.WordsView.{known_of};
+ghost use Rattle.pair_loader.specs.Pending.{AreRising, stack_of, stack_text, AreLive, IsPending};
 
-use super::words::{WORD, WORD_HEIGHT, Words};
+use super::words::{WORD_HEIGHT, Words};
 use node_store::{NodeId, Store};
 use slp_concat::concat;
 use span_types::{NoMemory, Steps};
 use std::sync::ledger::Ledger;
+
+// The blocks of at most this height are made without a look at any height.
+const MOST_HEIGHT: u8 = 9;
+
+// How many bytes a block of this height has.
+fn size(height: u8) -> usize
+    requires { height ≤ 9 }
+    ensures { result ≡ 2 ^ height }
+{
+    1 << height
+}
 
 // Puts a block of this height after the blocks, which are no lower. Two of equal height become a pair.
 fn push_block<L: Ledger>(
@@ -44,80 +58,55 @@ fn push_block<L: Ledger>(
     blocks.push(block).map_err(|_| NoMemory)
 }
 
-/// Puts the bytes of a short piece after the blocks.
-pub(crate) fn push_bytes<L: Ledger>(
-    blocks: &mut Vec<NodeId>,
-    store: &mut Store,
-    piece: &[u8],
-    pairs: &mut Steps<L>,
-) -> Result<(), NoMemory>
-    requires pending { IsPending store.old blocks.old.items }
-    requires short { length (stack_text (stack_of store.old blocks.old.items)) + length piece.now ≤ 2 ^ 48 }
-    ensures grows { Grows store.old store.new pairs.old pairs.new }
-    ensures pending { OnOk result (IsPending store.new blocks.new.items) }
-    ensures text { OnOk result (stack_text (stack_of store.new blocks.new.items) ≡ stack_text (stack_of store.old blocks.old.items) ++ piece.now) }
-    ensures cost { OnOk result (pairs.new + vec_len blocks.new ≤ pairs.old + vec_len blocks.old + length piece.now) }
-    ensures most { pairs.new ≤ pairs.old + vec_len blocks.old + length piece.now }
-{
-    for byte in piece {
-        let block = store.byte(*byte)?;
-        push_block(blocks, store, block, 0, pairs)?;
-    }
-    Ok(())
-}
-
-// Whether no block is lower than that of a word.
-fn is_high(blocks: &Vec<NodeId>, store: &Store) -> bool
-    requires { IsPending store.now blocks.now.items }
-    ensures { result ≡ true → AreRising 3 (stack_of store.now blocks.now.items) }
-{
-    match blocks.last() {
-        Some(top) => store.height(*top) >= WORD_HEIGHT,
-        None => true,
-    }
-}
-
-// The block of the last word, where one was put after blocks none of which was lower.
-fn last_word(blocks: &Vec<NodeId>, store: &Store) -> Option<NodeId>
-    requires { AreLive store.now blocks.now.items }
-{
-    let mut block = *blocks.last()?;
-    while store.height(block) > WORD_HEIGHT {
-        block = store.children(block).1;
-    }
-    Some(block)
-}
-
-// Puts a word after the blocks, none of which is lower.
-fn push_word<L: Ledger>(
-    blocks: &mut Vec<NodeId>,
+/// The block of 2^height bytes.
+pub(crate) fn block_of<L: Ledger>(
     words: &mut Words,
     store: &mut Store,
-    word: &[u8],
+    piece: &[u8],
+    height: u8,
     pairs: &mut Steps<L>,
-) -> Result<(), NoMemory>
-    requires pending { IsPending store.old blocks.old.items }
-    requires high { AreRising 3 (stack_of store.old blocks.old.items) }
-    requires eight { length word.now ≡ 8 }
-    requires short { length (stack_text (stack_of store.old blocks.old.items)) + length word.now ≤ 2 ^ 48 }
+) -> Result<NodeId, NoMemory>
+    requires known { AreKnown store.old (known_of words.old) }
+    requires long { length piece.now ≡ 2 ^ height }
+    requires short { length piece.now ≤ 2 ^ 48 }
     ensures grows { Grows store.old store.new pairs.old pairs.new }
-    ensures pending { OnOk result (IsPending store.new blocks.new.items) }
-    ensures text { OnOk result (stack_text (stack_of store.new blocks.new.items) ≡ stack_text (stack_of store.old blocks.old.items) ++ word.now) }
-    ensures cost { OnOk result (pairs.new + vec_len blocks.new ≤ pairs.old + vec_len blocks.old + length word.now) }
-    ensures most { pairs.new ≤ pairs.old + vec_len blocks.old + length word.now }
+    ensures known { AreKnown store.new (known_of words.new) }
+    ensures block { IfOk result (λ id. IsBlockAt store.new height piece.now id.index) }
+    ensures cost { pairs.new + 1 ≤ pairs.old + length piece.now }
 {
-    if let Some(block) = words.found(store, word) {
-        return push_block(blocks, store, block, WORD_HEIGHT, pairs);
+    match height {
+        0 => store.byte(piece[0]),
+        1 => words.two(store, piece, pairs),
+        2 => words.four(store, piece, pairs),
+        WORD_HEIGHT => words.eight(store, piece, pairs),
+        _ => {
+            let (first, second) = piece.split_at(piece.len() / 2);
+            let left = block_of(words, store, first, height - 1, pairs)?;
+            let right = block_of(words, store, second, height - 1, pairs)?;
+            store.pair(left, right, pairs)
+        }
     }
-    push_bytes(blocks, store, word, pairs)?;
-    if let Some(block) = last_word(blocks, store) {
-        words.note(word, block);
-    }
-    Ok(())
 }
 
-// Puts a word after the blocks, or one byte where a block is lower than that of a word, and says
-// how many bytes.
+// The height of the next block: as high as the bytes that are left and the block before it allow.
+fn next_height(blocks: &Vec<NodeId>, store: &Store, len: usize) -> u8
+    requires pending { IsPending store.now blocks.now.items }
+    requires some { 0 < len }
+    ensures rising { AreRising result (stack_of store.now blocks.now.items) }
+    ensures short { 2 ^ result ≤ len }
+    ensures low { result ≤ 9 }
+{
+    let mut height = match blocks.last() {
+        Some(top) => store.height(*top).min(MOST_HEIGHT),
+        None => MOST_HEIGHT,
+    };
+    while size(height) > len {
+        height -= 1;
+    }
+    height
+}
+
+// Puts a block of the first bytes after the blocks, and says of how many.
 fn push_some<L: Ledger>(
     blocks: &mut Vec<NodeId>,
     words: &mut Words,
@@ -126,9 +115,11 @@ fn push_some<L: Ledger>(
     pairs: &mut Steps<L>,
 ) -> Result<usize, NoMemory>
     requires pending { IsPending store.old blocks.old.items }
-    requires long { 8 ≤ length piece.now }
+    requires known { AreKnown store.old (known_of words.old) }
+    requires some { 0 < length piece.now }
     requires short { length (stack_text (stack_of store.old blocks.old.items)) + length piece.now ≤ 2 ^ 48 }
     ensures grows { Grows store.old store.new pairs.old pairs.new }
+    ensures known { AreKnown store.new (known_of words.new) }
     ensures some { IfOk result (λ count. 0 < count) }
     ensures within { IfOk result (λ count. count ≤ length piece.now) }
     ensures pending { OnOk result (IsPending store.new blocks.new.items) }
@@ -136,16 +127,15 @@ fn push_some<L: Ledger>(
     ensures cost { IfOk result (λ count. pairs.new + vec_len blocks.new ≤ pairs.old + vec_len blocks.old + count) }
     ensures most { pairs.new ≤ pairs.old + vec_len blocks.old + length piece.now }
 {
-    if is_high(blocks, store) {
-        push_word(blocks, words, store, &piece[..WORD], pairs)?;
-        return Ok(WORD);
-    }
-    push_bytes(blocks, store, &piece[..1], pairs)?;
-    Ok(1)
+    let height = next_height(blocks, store, piece.len());
+    let count = size(height);
+    let block = block_of(words, store, &piece[..count], height, pairs)?;
+    push_block(blocks, store, block, height, pairs)?;
+    Ok(count)
 }
 
-/// Puts the bytes of a long piece after the blocks.
-pub(crate) fn push_words<L: Ledger>(
+/// Puts the bytes of a piece after the blocks.
+pub(crate) fn push_piece<L: Ledger>(
     blocks: &mut Vec<NodeId>,
     words: &mut Words,
     store: &mut Store,
@@ -153,19 +143,21 @@ pub(crate) fn push_words<L: Ledger>(
     pairs: &mut Steps<L>,
 ) -> Result<(), NoMemory>
     requires pending { IsPending store.old blocks.old.items }
+    requires known { AreKnown store.old (known_of words.old) }
     requires short { length (stack_text (stack_of store.old blocks.old.items)) + length piece.now ≤ 2 ^ 48 }
     ensures grows { Grows store.old store.new pairs.old pairs.new }
+    ensures known { OnOk result (AreKnown store.new (known_of words.new)) }
     ensures pending { OnOk result (IsPending store.new blocks.new.items) }
     ensures text { OnOk result (stack_text (stack_of store.new blocks.new.items) ≡ stack_text (stack_of store.old blocks.old.items) ++ piece.now) }
     ensures cost { OnOk result (pairs.new + vec_len blocks.new ≤ pairs.old + vec_len blocks.old + length piece.now) }
     ensures most { pairs.new ≤ pairs.old + vec_len blocks.old + length piece.now }
 {
     let mut rest = piece;
-    while rest.len() >= WORD {
+    while !rest.is_empty() {
         let count = push_some(blocks, words, store, rest, pairs)?;
         rest = &rest[count..];
     }
-    push_bytes(blocks, store, rest, pairs)
+    Ok(())
 }
 
 /// A root of the bytes of all blocks.

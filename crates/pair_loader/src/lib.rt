@@ -1,17 +1,17 @@
 //! Loads a text in pieces: its bytes are paired level by level, and what is left over is joined.
 #![tactic(auto)]
 
-ghost use Rattle.std.specs.Prelude.{◌≡◌, ◌+◌, ◌*◌, ◌^◌, ◌≤◌, [], ◌++◌, length, None, Some, IfOk, OnOk, OnErr, IsErr};
+ghost use Rattle.std.specs.Prelude.{◌≡◌, ◌+◌, ◌*◌, ◌^◌, ◌≤◌, ◌++◌, length, None, Some, IfOk, OnOk, OnErr, IsErr};
 ghost use Rattle.span_types.specs.Fibonacci.{height_limit};
 ghost use Rattle.slp_model.specs.Nodes.{root_tree, Grows, IsLive};
 ghost use Rattle.slp_model.specs.Shape.{shape};
-ghost use Rattle.pair_loader.specs.Pending.{IsLoader, fed, pending_count};
+ghost use Rattle.pair_loader.specs.Pending.{IsLoader, fed, pending_count, unfed};
 
 mod blocks;
 pub mod law;
 mod words;
 
-use blocks::{gather_blocks, push_bytes, push_words};
+use blocks::{gather_blocks, push_piece};
 use node_store::{NodeId, Store};
 use span_types::{NoMemory, Steps};
 use std::alloc::Global;
@@ -23,8 +23,9 @@ use words::Words;
 ///
 /// It keeps full blocks of bytes, at most one of each height, as nodes of the store: a block of
 /// height h has 2^h bytes. After a refusal it keeps none, and answers NoMemory to every call.
-/// From the first piece of 16,384 bytes on it also keeps 512 KB of guesses, where it gets this
-/// memory, by which most blocks of eight bytes are found without pair calls.
+/// From the first piece of 16,384 bytes on it also keeps the blocks of the last words of two, four and
+/// eight bytes beside these bytes, in 3.5 MB, where it gets this memory, so that most of them need no
+/// pair calls.
 #[derive(Drop)]
 pub struct Loader {
     // The highest block first.
@@ -33,19 +34,20 @@ pub struct Loader {
 }
 
 impl Model for Loader {
-    ghost use Rattle.std.specs.Prelude.{List, Option};
+    ghost use Rattle.std.specs.Prelude.{Option};
     ghost use Rattle.std.specs.Option.{option_map};
-    ghost use Rattle.slp_model.specs.declared.NodeId.{NodeId};
+    ghost use Rattle.pair_loader.specs.Pending.{Kept};
+    ghost use Rattle.pair_loader.specs.WordsView.{known_of};
 
-    ghost Value = { Option (List NodeId) };
+    ghost Value = { Option Kept };
 
-    ghost view = { λ l. option_map (λ blocks. blocks.items) l.pending };
+    ghost view = { λ l. option_map (λ blocks. record { blocks = blocks.items; known = known_of l.words }) l.pending };
 }
 
 impl Loader {
     /// A loader that was fed no bytes.
     pub fn new(alloc: Global) -> Result<Loader, NoMemory>
-        ensures { IfOk result (λ loader. loader ≡ Some []) }
+        ensures { IfOk result (λ loader. loader ≡ Some unfed) }
     {
         let blocks = Vec::with_capacity(alloc, MOST_BLOCKS).map_err(|_| NoMemory)?;
         Ok(Loader {
@@ -75,11 +77,8 @@ impl Loader {
         ensures cost { pairs.new + pending_count self.new ≤ pairs.old + pending_count self.old + length piece.now }
     {
         let mut blocks = self.pending.take().ok_or(NoMemory)?;
-        if piece.len() < LONG_PIECE {
-            push_bytes(&mut blocks, store, piece, pairs)?;
-        } else {
-            push_words(&mut blocks, &mut self.words, store, piece, pairs)?;
-        }
+        self.words.make_room(piece.len());
+        push_piece(&mut blocks, &mut self.words, store, piece, pairs)?;
         self.pending = Some(blocks);
         Ok(())
     }
@@ -108,9 +107,6 @@ impl Loader {
 
 // A text of at most 2^48 bytes has blocks of the heights 0 to 48.
 const MOST_BLOCKS: usize = 49;
-
-// From this length on a piece pays for the memory of the guesses.
-const LONG_PIECE: usize = 16_384;
 
 /// A root of the bytes, with the tree `shape`: a loader that is fed once.
 ///

@@ -1,121 +1,227 @@
-//! Guesses of the blocks of eight bytes, so that most of these need no pair calls.
-ghost use Rattle.std.specs.Prelude.{◌≡◌, ◌<◌, true, length, IfSome};
-ghost use Rattle.slp_model.specs.Tree.{Leaf};
-ghost use Rattle.slp_model.specs.Nodes.{tree};
-ghost use Rattle.pair_loader.specs.Pending.{IsBlock};
+//! The blocks of short words, found by their bytes.
+ghost use Rattle.std.specs.Prelude.{◌≡◌, ℕ, ◌+◌, ◌≤◌, [], ◌∷◌, length, IfSome, IfOk, List};
+ghost use Rattle.std.specs.Int.{Width, w16, w32, w64, to_le_bytes};
+ghost use Rattle.slp_model.specs.Nodes.{Grows};
+ghost use Rattle.slp_model.specs.declared.Node.{Node};
+ghost use Rattle.pair_loader.specs.Blocks.{IsBlockAt};
+ghost use Rattle.pair_loader.specs.Known.{AreWords, AreKnown};
+ghost use Rattle.pair_loader.specs.WordsView.{known_of};
 
-use node_store::{Node, NodeId, Store};
+use node_store::{NodeId, Store};
+use span_types::{NoMemory, Steps};
 use std::alloc::Global;
+use std::sync::ledger::Ledger;
 
-/// How many bytes a word has.
-pub(crate) const WORD: usize = 8;
-
-/// The height of a word's block.
+/// The height of the blocks of the longest words, which have eight bytes.
 pub(crate) const WORD_HEIGHT: u8 = 3;
 
-const PLACES: usize = 1 << 17;
+// From this length on a piece pays for the memory of the words.
+const LONG_PIECE: usize = 16_384;
 
-/// For each of a fixed number of places, the block of the word of this place that was noted last. A
-/// guess may be wrong, and is compared with the word before it is used.
+const TWOS: usize = 1 << 16;
+
+const FOURS: usize = 1 << 15;
+
+const EIGHTS: usize = 1 << 17;
+
+/// The bytes of a word, as a number with the first byte lowest, and its block, if one is known.
+#[derive(Clone, Copy)]
+pub struct Word {
+    pub(crate) bytes: u64,
+    pub(crate) block: Option<u32>,
+}
+
+/// For words of two, four and eight bytes the blocks that were made last: a word has one place, and each
+/// new word of this place takes it.
 #[derive(Drop)]
 pub(crate) struct Words {
-    indexes: Vec<u32>,
+    pub(crate) twos: Vec<Word>,
+    pub(crate) fours: Vec<Word>,
+    pub(crate) eights: Vec<Word>,
 }
 
 impl Words {
-    /// No guesses, and no memory.
-    pub(crate) fn new(alloc: Global) -> Words {
+    /// No words, and no memory.
+    pub(crate) fn new(alloc: Global) -> Words
+        ensures { known_of result ≡ record { twos = []; fours = []; eights = [] } }
+    {
         Words {
-            indexes: Vec::new(alloc),
+            twos: Vec::new(alloc),
+            fours: Vec::new(alloc),
+            eights: Vec::new(alloc),
         }
     }
 
-    /// The block of the word, where it is noted.
-    pub(crate) fn found(&self, store: &Store, word: &[u8]) -> Option<NodeId>
-        requires { length word.now ≡ 8 }
-        ensures live { IfSome result (λ block. block.index < length store.now) }
-        ensures block { IfSome result (λ block. IsBlock 3 word.now (tree store.now block.index)) }
+    /// Makes room for the words of a long piece, if there is memory for it.
+    pub(crate) fn make_room(&mut self, len: usize)
+        ensures { (nodes : List Node) → AreKnown nodes (known_of self.old) → AreKnown nodes (known_of self.new) }
     {
-        let index = *self.indexes.get(place(word))? as usize;
-        let block = NodeId { index };
-        if index < store.count() && is_block_of_eight(store, block, word) {
-            return Some(block);
-        }
-        None
-    }
-
-    /// Notes the block of the word. Without memory nothing is noted.
-    pub(crate) fn note(&mut self, word: &[u8], block: NodeId)
-        requires { length word.now ≡ 8 }
-    {
-        if self.indexes.is_empty() && self.indexes.resize(PLACES, 0).is_err() {
+        if len < LONG_PIECE {
             return;
         }
-        if let (Some(noted), Ok(index)) = (
-            self.indexes.get_mut(place(word)),
-            u32::try_from(block.index),
-        ) {
-            *noted = index;
+        make_places(&mut self.twos, TWOS);
+        make_places(&mut self.fours, FOURS);
+        make_places(&mut self.eights, EIGHTS);
+    }
+
+    /// The block of two bytes.
+    pub(crate) fn two<L: Ledger>(
+        &mut self,
+        store: &mut Store,
+        word: &[u8],
+        pairs: &mut Steps<L>,
+    ) -> Result<NodeId, NoMemory>
+        requires known { AreKnown store.old (known_of self.old) }
+        requires two { length word.now ≡ 2 }
+        ensures grows { Grows store.old store.new pairs.old pairs.new }
+        ensures known { AreKnown store.new (known_of self.new) }
+        ensures block { IfOk result (λ id. IsBlockAt store.new 1 word.now id.index) }
+        ensures cost { pairs.new ≤ pairs.old + 1 }
+    {
+        let bytes = number_of_two(word);
+        let place = bytes as usize;
+        if let Some(block) = found(&self.twos, place, bytes) {
+            return Ok(block);
         }
+        let block = pair_of_bytes(store, word[0], word[1], pairs)?;
+        note(&mut self.twos, place, bytes, block);
+        Ok(block)
+    }
+
+    /// The block of four bytes.
+    pub(crate) fn four<L: Ledger>(
+        &mut self,
+        store: &mut Store,
+        word: &[u8],
+        pairs: &mut Steps<L>,
+    ) -> Result<NodeId, NoMemory>
+        requires known { AreKnown store.old (known_of self.old) }
+        requires four { length word.now ≡ 4 }
+        ensures grows { Grows store.old store.new pairs.old pairs.new }
+        ensures known { AreKnown store.new (known_of self.new) }
+        ensures block { IfOk result (λ id. IsBlockAt store.new 2 word.now id.index) }
+        ensures cost { pairs.new ≤ pairs.old + 3 }
+    {
+        let bytes = number_of_four(word);
+        let place = hash(bytes) >> 49;
+        if let Some(block) = found(&self.fours, place, bytes) {
+            return Ok(block);
+        }
+        let (first, second) = word.split_at(2);
+        let left = self.two(store, first, pairs)?;
+        let right = self.two(store, second, pairs)?;
+        let block = store.pair(left, right, pairs)?;
+        note(&mut self.fours, place, bytes, block);
+        Ok(block)
+    }
+
+    /// The block of eight bytes.
+    pub(crate) fn eight<L: Ledger>(
+        &mut self,
+        store: &mut Store,
+        word: &[u8],
+        pairs: &mut Steps<L>,
+    ) -> Result<NodeId, NoMemory>
+        requires known { AreKnown store.old (known_of self.old) }
+        requires eight { length word.now ≡ 8 }
+        ensures grows { Grows store.old store.new pairs.old pairs.new }
+        ensures known { AreKnown store.new (known_of self.new) }
+        ensures block { IfOk result (λ id. IsBlockAt store.new 3 word.now id.index) }
+        ensures cost { pairs.new ≤ pairs.old + 7 }
+    {
+        let bytes = number_of_eight(word);
+        let place = hash(bytes) >> 47;
+        if let Some(block) = found(&self.eights, place, bytes) {
+            return Ok(block);
+        }
+        let (first, second) = word.split_at(4);
+        let left = self.four(store, first, pairs)?;
+        let right = self.four(store, second, pairs)?;
+        let block = store.pair(left, right, pairs)?;
+        note(&mut self.eights, place, bytes, block);
+        Ok(block)
     }
 }
 
-// A place by a multiplicative hash (D. E. Knuth, The Art of Computer Programming, volume 3, section
-// 6.4).
-fn place(word: &[u8]) -> usize
+fn number_of_two(word: &[u8]) -> u64
+    requires { length word.now ≡ 2 }
+    ensures { to_le_bytes w16 result ≡ word.now }
+{
+    u64::from(u16::from_le_bytes([word[0], word[1]]))
+}
+
+fn number_of_four(word: &[u8]) -> u64
+    requires { length word.now ≡ 4 }
+    ensures { to_le_bytes w32 result ≡ word.now }
+{
+    u64::from(u32::from_le_bytes([word[0], word[1], word[2], word[3]]))
+}
+
+fn number_of_eight(word: &[u8]) -> u64
     requires { length word.now ≡ 8 }
+    ensures { to_le_bytes w64 result ≡ word.now }
 {
-    let number = u64::from_le_bytes([
+    u64::from_le_bytes([
         word[0], word[1], word[2], word[3], word[4], word[5], word[6], word[7],
-    ]);
-    (number.wrapping_mul(0x9E37_79B9_7F4A_7C15) >> 47) as usize
+    ])
 }
 
-fn is_block_of_eight(store: &Store, block: NodeId, word: &[u8]) -> bool
-    requires live { block.index < length store.now }
-    requires eight { length word.now ≡ 8 }
-    ensures { result ≡ true → IsBlock 3 word.now (tree store.now block.index) }
+// A multiplicative hash, whose highest bits are the best (D. E. Knuth, The Art of Computer
+// Programming, volume 3, section 6.4).
+fn hash(bytes: u64) -> usize {
+    bytes.wrapping_mul(0x9E37_79B9_7F4A_7C15) as usize
+}
+
+// So many empty places, where there are none yet, if there is memory for them.
+fn make_places(words: &mut Vec<Word>, count: usize)
+    ensures { (nodes : List Node) (h : ℕ) (w : Width) → AreWords nodes h w words.old.items → AreWords nodes h w words.new.items }
 {
-    match store.node(block) {
-        Node::Pair(left, right) => {
-            is_block_of_four(store, left, &word[..4]) && is_block_of_four(store, right, &word[4..])
-        }
-        Node::Byte(_) => false,
+    let none = Word {
+        bytes: 0,
+        block: None,
+    };
+    if words.is_empty() {
+        let _ = words.resize(count, none);
     }
 }
 
-fn is_block_of_four(store: &Store, block: NodeId, word: &[u8]) -> bool
-    requires live { block.index < length store.now }
-    requires four { length word.now ≡ 4 }
-    ensures { result ≡ true → IsBlock 2 word.now (tree store.now block.index) }
+// The block of the word at this place, if it has these bytes.
+fn found(words: &Vec<Word>, place: usize, bytes: u64) -> Option<NodeId>
+    ensures { IfSome result (λ id. (nodes : List Node) (h : ℕ) (w : Width) → AreWords nodes h w words.now.items → IsBlockAt nodes h (to_le_bytes w bytes) id.index) }
 {
-    match store.node(block) {
-        Node::Pair(left, right) => {
-            is_block_of_two(store, left, &word[..2]) && is_block_of_two(store, right, &word[2..])
-        }
-        Node::Byte(_) => false,
+    let word = words.get(place)?;
+    if word.bytes != bytes {
+        return None;
+    }
+    let index = word.block? as usize;
+    Some(NodeId { index })
+}
+
+// Puts a word at this place, if there is room for words.
+fn note(words: &mut Vec<Word>, place: usize, bytes: u64, block: NodeId)
+    ensures { (nodes : List Node) (h : ℕ) (w : Width) → IsBlockAt nodes h (to_le_bytes w bytes) block.index → AreWords nodes h w words.old.items → AreWords nodes h w words.new.items }
+{
+    if let (Some(word), Ok(index)) = (words.get_mut(place), u32::try_from(block.index)) {
+        *word = Word {
+            bytes,
+            block: Some(index),
+        };
     }
 }
 
-fn is_block_of_two(store: &Store, block: NodeId, word: &[u8]) -> bool
-    requires live { block.index < length store.now }
-    requires two { length word.now ≡ 2 }
-    ensures { result ≡ true → IsBlock 1 word.now (tree store.now block.index) }
+// The block of two bytes, by the store.
+fn pair_of_bytes<L: Ledger>(
+    store: &mut Store,
+    first: u8,
+    second: u8,
+    pairs: &mut Steps<L>,
+) -> Result<NodeId, NoMemory>
+    ensures grows { Grows store.old store.new pairs.old pairs.new }
+    ensures block { IfOk result (λ id. IsBlockAt store.new 1 (first ∷ second ∷ []) id.index) }
+    ensures cost { pairs.new ≤ pairs.old + 1 }
 {
-    match store.node(block) {
-        Node::Pair(left, right) => {
-            is_byte(store, left, word[0]) && is_byte(store, right, word[1])
-        }
-        Node::Byte(_) => false,
-    }
-}
-
-fn is_byte(store: &Store, block: NodeId, byte: u8) -> bool
-    requires { block.index < length store.now }
-    ensures { result ≡ true → tree store.now block.index ≡ Leaf byte }
-{
-    match store.node(block) {
-        Node::Byte(b) => b == byte,
-        Node::Pair(..) => false,
-    }
+    let left = store.byte(first)?;
+    let right = store.byte(second)?;
+    let block = store.pair(left, right, pairs)?;
+    Ok(block)
 }

@@ -1,9 +1,15 @@
 -- What a memory says after a look and after a note.
-use Rattle.std.proofs.Common.{◌≡◌, ◌⊎◌, inl, inr, ℕ, Bool, true, false, ◌&&◌, nat_eq, refl, ap, sym, subst, ◌∙◌, List, Option, Some, None, IfSome, Contains, Result, Ok, Err, OnOk, OnErr}
+use Rattle.std.proofs.Common.{◌≡◌, ◌⊎◌, inl, inr, ℕ, Bool, true, false, ◌&&◌, nat_eq, refl, ap, sym, subst, ◌∙◌, List, [], ◌∷◌, take, length, ◌<◌, ◌-◌, arith, Option, Some, None, IfSome, Contains, Result, Ok, Err, OnOk, OnErr}
 use Rattle.std.proofs.lemmas.Bool.{eqb-true}
 use Rattle.std.specs.Map.{lookup}
 use Rattle.lru.specs.LruCache.{LruCache, lru_cache, put_entries}
 use Rattle.lru.proofs.CallerLemmas.{Contains-lookup, Contains-put_entries}
+use Rattle.std.specs.Map.{lookup_entry}
+use Rattle.std.specs.Option.{is_some}
+use Rattle.std.proofs.lemmas.List.{take_all}
+use Rattle.std.proofs.lemmas.List.Elements.{All-weaker}
+use Rattle.std.proofs.lemmas.Option.{IfSome_then}
+use Rattle.table_grow.specs.Front.{AreAmong}
 use Rattle.table_grow.specs.Remembering.{Entry}
 
 abbrev pub pair_eq : ℕ × ℕ → ℕ × ℕ → Bool
@@ -45,3 +51,28 @@ pub after-put : {A E : Type 0} (r : Result A E) (before after : LruCache (ℕ ×
     → (e : Entry) → Contains after.entries e → Contains before.entries e ⊎ (e ≡ (k, n))
 after-put (Ok v) before after k n ok err e h = put-entry before k n e (subst (λ c. Contains c.entries e) ok h)
 after-put (Err v) before after k n ok err e h = inl (subst (λ c. Contains c.entries e) err h)
+
+-- more entries
+pub among-more : (places : List (Option Entry)) (es fs : List Entry) → ((e : Entry) → Contains es e → Contains fs e) → AreAmong places es → AreAmong places fs
+among-more places es fs more h = All-weaker (λ (p : Option Entry). IfSome p (Contains es)) (λ (p : Option Entry). IfSome p (Contains fs)) (λ p q. IfSome_then p q (λ x i. more x i)) places h
+
+no-entry : (test : ℕ × ℕ → Bool) (es : List Entry) → lookup test es ≡ None → lookup_entry test es ≡ None
+no-entry test [] h = refl
+no-entry test (f ∷ es) h = (elim (test f.0) as (λ y. test f.0 ≡ y → lookup_entry test (f ∷ es) ≡ None) [
+  | true ↦ λ t. let some = rw t at h in absurd (cc)
+  | false ↦ λ t. rw t (no-entry test es (rw t at h))
+]) refl
+
+-- a new composition, where there is room for it
+room-put : (c : LruCache (ℕ × ℕ) ℕ) (k : ℕ × ℕ) (n : ℕ) → lookup (pair_eq k) c.entries ≡ None → length c.entries < c.cap → put_entries pair_eq c k n ≡ (k, n) ∷ c.entries
+room-put c k n none room =
+    let new : lookup_entry (pair_eq k) c.entries ≡ None = no-entry (pair_eq k) c.entries none in
+    let all : take (c.cap - 1) c.entries ≡ c.entries = take_all (c.cap - 1) c.entries (omega (arith, room)) in
+    rw (new, all)
+
+pub put-all : (c d : LruCache (ℕ × ℕ) ℕ) (k : ℕ × ℕ) (n : ℕ) → lookup (pair_eq k) c.entries ≡ None → length c.entries < c.cap → d ≡ lru_cache (put_entries pair_eq c k n) c.cap → d.entries ≡ (k, n) ∷ c.entries
+put-all c d k n none room is = ap (λ (x : LruCache (ℕ × ℕ) ℕ). x.entries) is ∙ room-put c k n none room
+
+pub none-of : (o : Option ℕ) → is_some o ≡ false → o ≡ None
+none-of None h = refl
+none-of (Some n) h = cc

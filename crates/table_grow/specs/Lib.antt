@@ -1,4 +1,5 @@
 pub mod Remembering
+pub mod Front
 pub mod Filling
 pub mod FillerView
 pub mod Schedule

@@ -1,6 +1,7 @@
 //! Compositions of kept tables that are remembered.
 
-ghost use Rattle.std.specs.Prelude.{◌≡◌, ◌⊎◌, ◌≤◌, [], length, IfOk, IfSome, Contains};
+ghost use Rattle.std.specs.Prelude.{◌≡◌, ◌⊎◌, ◌≤◌, ◌<◌, [], List, length, IfOk, IfSome, Contains};
+ghost use Rattle.table_grow.specs.Front.{AreAmong};
 ghost use Rattle.table_grow.specs.Remembering.{Entry};
 
 use lru::LruCache;
@@ -13,7 +14,12 @@ use std::num::NonZeroUsize;
 #[derive(Drop)]
 pub struct Memory {
     cache: LruCache<(usize, usize), usize>,
+    // Some of these compositions, each in the place of its two tables, which is looked at first.
+    front: Vec<Option<((usize, usize), usize)>>,
 }
+
+// The places take 128 KB.
+const PLACES: usize = 4096;
 
 impl Model for Memory {
     ghost use Rattle.std.specs.Prelude.{List};
@@ -21,7 +27,11 @@ impl Model for Memory {
 
     ghost Value = { List Entry };
 
+    ghost use Rattle.table_grow.specs.Front.{AreAmong};
+
     ghost view = { λ m. m.cache.entries };
+
+    ghost invariant = { λ m. AreAmong m.front.items m.cache.entries };
 }
 
 impl Memory {
@@ -34,6 +44,7 @@ impl Memory {
         match NonZeroUsize::new(size) {
             Some(size) => Ok(Memory {
                 cache: LruCache::sparse(alloc, size)?,
+                front: Vec::new(alloc),
             }),
             None => unreachable!(),
         }
@@ -50,13 +61,84 @@ impl Memory {
     pub(crate) fn recall(&self, left: usize, right: usize) -> Option<usize>
         ensures { IfSome result (λ number. Contains self.now ((left, right), number)) }
     {
-        self.cache.peek(&(left, right)).copied()
+        match found(&self.front, left, right) {
+            Some(number) => Some(number),
+            None => self.cache.peek(&(left, right)).copied(),
+        }
     }
 
-    /// Remembers a composition, if there is memory for it.
+    /// Remembers a composition, if there is memory for it. A full memory is emptied first.
     pub(crate) fn remember(&mut self, left: usize, right: usize, number: usize)
         ensures { (e : Entry) → Contains self.new e → Contains self.old e ⊎ (e ≡ ((left, right), number)) }
     {
-        let _ = self.cache.put((left, right), number);
+        leave_room(&mut self.cache, &mut self.front);
+        put(&mut self.cache, &mut self.front, left, right, number);
+    }
+}
+
+// The place of two tables, by a multiplicative hash of their numbers (D. E. Knuth, The Art of Computer Programming,
+// volume 3, section 6.4).
+fn place(left: usize, right: usize) -> usize {
+    let mixed = left.wrapping_mul(0x9E37_79B9_7F4A_7C15).wrapping_add(right);
+    mixed.wrapping_mul(0x9E37_79B9_7F4A_7C15) >> 52
+}
+
+// The number of the composition, if it is in its place.
+fn found(front: &Vec<Option<((usize, usize), usize)>>, left: usize, right: usize) -> Option<usize>
+    ensures { IfSome result (λ number. (es : List Entry) → AreAmong front.now.items es → Contains es ((left, right), number)) }
+{
+    let ((first, second), number) = (*front.get(place(left, right))?)?;
+    if first == left && second == right {
+        Some(number)
+    } else {
+        None
+    }
+}
+
+// Puts a composition into its place, if there is memory for the places.
+fn note(front: &mut Vec<Option<((usize, usize), usize)>>, left: usize, right: usize, number: usize)
+    ensures { (es : List Entry) → Contains es ((left, right), number) → AreAmong front.old.items es → AreAmong front.new.items es }
+{
+    if front.is_empty() && front.resize(PLACES, None).is_err() {
+        return;
+    }
+    if let Some(found) = front.get_mut(place(left, right)) {
+        *found = Some(((left, right), number));
+    }
+}
+
+// Empties a full memory.
+fn leave_room(
+    cache: &mut LruCache<(usize, usize), usize>,
+    front: &mut Vec<Option<((usize, usize), usize)>>,
+)
+    ensures room { length cache.new.entries < cache.new.cap }
+    ensures fewer { (e : Entry) → Contains cache.new.entries e → Contains cache.old.entries e }
+    ensures among { AreAmong front.old.items cache.old.entries → AreAmong front.new.items cache.new.entries }
+{
+    if cache.len() == cache.cap().get() {
+        cache.clear();
+        front.clear();
+    }
+}
+
+// Remembers a composition, for which there is room.
+fn put(
+    cache: &mut LruCache<(usize, usize), usize>,
+    front: &mut Vec<Option<((usize, usize), usize)>>,
+    left: usize,
+    right: usize,
+    number: usize,
+)
+    requires { length cache.old.entries < cache.old.cap }
+    ensures more { (e : Entry) → Contains cache.new.entries e → Contains cache.old.entries e ⊎ (e ≡ ((left, right), number)) }
+    ensures among { AreAmong front.old.items cache.old.entries → AreAmong front.new.items cache.new.entries }
+{
+    if cache.contains(&(left, right)) {
+        return;
+    }
+    match cache.put((left, right), number) {
+        Ok(_) => note(front, left, right, number),
+        Err(_) => {}
     }
 }

@@ -1,8 +1,9 @@
-use Rattle.std.proofs.Common.{◌≡◌, ◌⊎◌, Contains, subst}
+use Rattle.std.proofs.Common.{inl, inr, subst, List, Contains}
 use Rattle.table_grow.specs.Remembering.{Entry}
-use Rattle.table_grow.proofs.Remembered.{after-put}
 use Rattle.table_grow.proofs.memory.Memory.remember.Goals as goal
 
 pub returns : goal.returns
-returns c = subst (λ es. (e : Entry) → Contains c.put.new.self.entries e → Contains es e ⊎ (e ≡ ((c.args.left, c.args.right), c.args.number))) c.self.view_is
-    (after-put c.put.result c.self.inside.cache c.put.new.self (c.args.left, c.args.right) c.args.number c.put.ensures.entries c.put.ensures.err)
+returns c = λ e h. elim (c.put.ensures.more e h) [
+  | inl old ↦ inl (subst (λ (es : List Entry). Contains es e) c.self.view_is (c.leave_room.ensures.fewer e old))
+  | inr new ↦ inr new
+]

@@ -1,0 +1,95 @@
+-- Blocks and known words, over a store that grows.
+use Rattle.std.proofs.Common.{◌≡◌, ℕ, ◌+◌, ◌<◌, ◌≤◌, ◌^◌, get_or, List, [], ◌∷◌, ◌++◌, length, take, drop, Option, Some, None, IfSome, Result, Ok, Err, IfOk, ◌-◌, ◌*◌, ◌/◌, refl, ap, sym, subst, ◌∙◌, arith}
+use Rattle.std.specs.Int.{Width, w16, w32, w64, to_le_bytes}
+use Rattle.std.proofs.lemmas.List.{take-append-drop}
+use Rattle.std.proofs.lemmas.List.Elements.{All-weaker}
+use Rattle.std.proofs.lemmas.Nat.{pow-add}
+use Rattle.slp_model.specs.declared.NodeId.{NodeId}
+use Rattle.slp_model.specs.declared.Node.{Node}
+use Rattle.slp_model.specs.Tree.{Tree, Leaf, Fork, text, height, leaves, IsNear}
+use Rattle.slp_model.specs.Nodes.{tree, Grows}
+use Rattle.slp_model.proofs.TreeLemmas.{length-text}
+use Rattle.slp_model.proofs.NodesLemmas.{tree-grows, Grows-length}
+use Rattle.pair_loader.specs.declared.words.Word.{Word}
+use Rattle.pair_loader.specs.Blocks.{IsBlock, IsBlockAt}
+use Rattle.pair_loader.specs.Known.{IsWord, AreWords, Known, AreKnown}
+
+pub block-grows : (old new : List Node) (p q : ℕ) → Grows old new p q → (h : ℕ) (s : List ℕ) (i : ℕ) → IsBlockAt old h s i → IsBlockAt new h s i
+block-grows old new p q g h s i b = record {
+  live = omega (arith, b.live, Grows-length old new p q g);
+  block = subst (IsBlock h s) (sym (tree-grows old new p q g i b.live)) b.block;
+}
+
+word-grows : (old new : List Node) (p q : ℕ) → Grows old new p q → (h : ℕ) (w : Width) (block : Option ℕ) (bytes : ℕ) → IfSome block (λ i. IsBlockAt old h (to_le_bytes w bytes) i) → IfSome block (λ i. IsBlockAt new h (to_le_bytes w bytes) i)
+word-grows old new p q g h w None bytes k = tt
+word-grows old new p q g h w (Some i) bytes k = block-grows old new p q g h (to_le_bytes w bytes) i k
+
+pub words-grow : (old new : List Node) (p q : ℕ) → Grows old new p q → (h : ℕ) (w : Width) (words : List Word) → AreWords old h w words → AreWords new h w words
+words-grow old new p q g h w words k = All-weaker (IsWord old h w) (IsWord new h w) (λ x. word-grows old new p q g h w x.block x.bytes) words k
+
+pub known-grows : (old new : List Node) (p q : ℕ) → Grows old new p q → (known : Known) → AreKnown old known → AreKnown new known
+known-grows old new p q g known k = record {
+  twos = words-grow old new p q g 1 w16 known.twos k.twos;
+  fours = words-grow old new p q g 2 w32 known.fours k.fours;
+  eights = words-grow old new p q g 3 w64 known.eights k.eights;
+}
+
+-- the pair of two blocks of equal height
+pub pair-block : (h : ℕ) (s t : List ℕ) (a b : Tree) → IsBlock h s a → IsBlock h t b → IsBlock (h + 1) (s ++ t) (Fork a b)
+pair-block h s t a b f g = record {
+  full = (f.high ∙ sym g.high, f.full, g.full);
+  high = omega (arith, f.high, g.high);
+  reads = ap (λ x. x ++ text b) f.reads ∙ ap (λ x. s ++ x) g.reads;
+}
+
+pub joined-block : (mid new : List Node) (h : ℕ) (s t word : List ℕ) (i j k : ℕ) → IsBlockAt mid h s i → IsBlockAt mid h t j → k < length new → tree new k ≡ Fork (tree mid i) (tree mid j) → s ++ t ≡ word → IsBlockAt new (h + 1) word k
+joined-block mid new h s t word i j k a b live is whole = record {
+  live = live;
+  block = subst (λ x. IsBlock (h + 1) x (tree new k)) whole (subst (IsBlock (h + 1) (s ++ t)) (sym is) (pair-block h s t (tree mid i) (tree mid j) a.block b.block));
+}
+
+pub leaf-block : (ns : List Node) (b i : ℕ) → i < length ns → tree ns i ≡ Leaf b → IsBlockAt ns 0 (b ∷ []) i
+leaf-block ns b i live is = record { live = live; block = subst (IsBlock 0 (b ∷ [])) (sym is) (record { full = tt; high = refl; reads = refl }) }
+
+pub near-blocks : (ns : List Node) (h : ℕ) (s t : List ℕ) (i j : ℕ) → IsBlockAt ns h s i → IsBlockAt ns h t j → IsNear (height (tree ns i)) (height (tree ns j))
+near-blocks ns h s t i j a b = (omega (arith, a.block.high, b.block.high), omega (arith, a.block.high, b.block.high))
+
+pub short-blocks : (ns : List Node) (h : ℕ) (s t : List ℕ) (i j n : ℕ) → IsBlockAt ns h s i → IsBlockAt ns h t j → length s + length t ≤ n → leaves (tree ns i) + leaves (tree ns j) ≤ n
+short-blocks ns h s t i j n a b m = omega (arith, m, ap length a.block.reads, ap length b.block.reads, length-text (tree ns i), length-text (tree ns j))
+
+-- the two parts of a word
+pub parts-of : (n : ℕ) (word first second : List ℕ) → first ≡ take n word → second ≡ drop n word → first ++ second ≡ word
+parts-of n word first second f s = ap (λ x. x ++ second) f ∙ (ap (λ x. take n word ++ x) s ∙ take-append-drop n word)
+
+-- a short list by its elements
+pub list-of-two : (s : List ℕ) → length s ≡ 2 → get_or s 0 0 ∷ get_or s 1 0 ∷ [] ≡ s
+list-of-two (a ∷ b ∷ []) h = refl
+list-of-two [] h = absurd (omega arith)
+list-of-two (a ∷ []) h = absurd (omega arith)
+list-of-two (a ∷ b ∷ c ∷ s) h = absurd (omega arith)
+
+pub list-of-four : (s : List ℕ) → length s ≡ 4 → get_or s 0 0 ∷ get_or s 1 0 ∷ get_or s 2 0 ∷ get_or s 3 0 ∷ [] ≡ s
+list-of-four [] h = absurd (omega arith)
+list-of-four (a ∷ []) h = absurd (omega arith)
+list-of-four (a ∷ b ∷ s) h = let rest : length s ≡ 2 = omega arith in ap (λ t. a ∷ b ∷ t) (list-of-two s rest)
+
+pub list-of-eight : (s : List ℕ) → length s ≡ 8 → get_or s 0 0 ∷ get_or s 1 0 ∷ get_or s 2 0 ∷ get_or s 3 0 ∷ get_or s 4 0 ∷ get_or s 5 0 ∷ get_or s 6 0 ∷ get_or s 7 0 ∷ [] ≡ s
+list-of-eight [] h = absurd (omega arith)
+list-of-eight (a ∷ []) h = absurd (omega arith)
+list-of-eight (a ∷ b ∷ []) h = absurd (omega arith)
+list-of-eight (a ∷ b ∷ c ∷ []) h = absurd (omega arith)
+list-of-eight (a ∷ b ∷ c ∷ d ∷ s) h = let rest : length s ≡ 4 = omega arith in ap (λ t. a ∷ b ∷ c ∷ d ∷ t) (list-of-four s rest)
+
+-- the halves of 2^h bytes
+pub half-sizes : (h n a b : ℕ) → 1 ≤ h → n ≡ 2 ^ h → a ≡ n / 2 → b + a ≡ n → (a ≡ 2 ^ (h - 1)) × (b ≡ 2 ^ (h - 1))
+half-sizes h n a b some e f g =
+    let is : h ≡ (h - 1) + 1 = omega arith in
+    let p : 2 ^ ((h - 1) + 1) ≡ 2 ^ (h - 1) * 2 = pow-add 2 (h - 1) 1 in
+    let q : n ≡ 2 ^ (h - 1) * 2 = e ∙ (ap (λ x. 2 ^ x) is ∙ p) in
+    (omega (arith, q, f), omega (arith, q, f, g))
+
+-- the pair that a call gives, of two blocks of equal height
+pub joined-result : {E : Type 0} (r : Result NodeId E) (mid new : List Node) (h high : ℕ) (s t word : List ℕ) (i j : ℕ) → IsBlockAt mid h s i → IsBlockAt mid h t j
+    → IfOk r (λ id. id.index < length new) → IfOk r (λ id. tree new id.index ≡ Fork (tree mid i) (tree mid j)) → s ++ t ≡ word → h + 1 ≡ high → IfOk r (λ id. IsBlockAt new high word id.index)
+joined-result (Ok id) mid new h high s t word i j a b live is whole up = subst (λ x. IsBlockAt new x word id.index) up (joined-block mid new h s t word i j id.index a b live is whole)
+joined-result (Err e) mid new h high s t word i j a b live is whole up = tt

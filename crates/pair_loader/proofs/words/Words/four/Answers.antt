@@ -1,0 +1,53 @@
+use Rattle.std.proofs.Common.{arith, sym, subst}
+use Rattle.std.specs.Int.{w32}
+use Rattle.slp_model.proofs.NodesLemmas.{Grows-none, Grows-trans}
+use Rattle.pair_loader.specs.Blocks.{IsBlockAt}
+use Rattle.pair_loader.specs.Known.{AreKnown}
+use Rattle.pair_loader.specs.WordsView.{known_of}
+use Rattle.pair_loader.proofs.KnownLemmas.{known-grows, block-grows, joined-block, near-blocks, short-blocks, parts-of}
+use Rattle.pair_loader.proofs.words.Words.four.Goals as goal
+
+pub returns-in-Some-clause-grows : goal.returns-in-Some-clause-grows
+returns-in-Some-clause-grows g c = Grows-none c.args.store.now c.args.pairs.now c.args.pairs.now (omega arith)
+
+pub returns-in-Some-clause-block : goal.returns-in-Some-clause-block
+returns-in-Some-clause-block g c = subst (λ s. IsBlockAt c.args.store.now 2 s c.in-Some.block.index) c.number_of_four-bytes.ensures (c.in-Some.ensures c.args.store.now 2 w32 c.requires.known.fours)
+
+pub returns-in_err-right-clause-grows : goal.returns-in_err-right-clause-grows
+returns-in_err-right-clause-grows g c = Grows-trans _ _ _ _ _ _ c.two.ensures.grows c.two-2.ensures.grows
+
+pub pair-requires-clause-near : goal.pair-requires-clause-near
+pair-requires-clause-near g c =
+    near-blocks c.two-2.new.store 1 _ _ _ _ (block-grows _ _ _ _ c.two-2.ensures.grows 1 _ _ c.in_ok-left.ensures.block) c.in_ok-right.ensures.block
+
+pub pair-requires-clause-short : goal.pair-requires-clause-short
+pair-requires-clause-short g c =
+    short-blocks c.two-2.new.store 1 _ _ _ _ _ (block-grows _ _ _ _ c.two-2.ensures.grows 1 _ _ c.in_ok-left.ensures.block) c.in_ok-right.ensures.block
+    (omega (arith, c.requires.four, c.split_at.ensures.front_len, c.split_at.ensures.back_len))
+
+pub returns-in_err-block-clause-grows : goal.returns-in_err-block-clause-grows
+returns-in_err-block-clause-grows g c = Grows-trans _ _ _ _ _ _ (Grows-trans _ _ _ _ _ _ c.two.ensures.grows c.two-2.ensures.grows) c.pair.ensures.grows
+
+pub returns-in_err-block-clause-known : goal.returns-in_err-block-clause-known
+returns-in_err-block-clause-known g c = known-grows _ _ _ _ c.pair.ensures.grows (known_of c.two-2.new.self) c.in_ok-right.ensures.known
+
+pub returns-clause-grows : goal.returns-clause-grows
+returns-clause-grows g c = Grows-trans _ _ _ _ _ _ (Grows-trans _ _ _ _ _ _ c.two.ensures.grows c.two-2.ensures.grows) c.pair.ensures.grows
+
+pub returns-clause-known : goal.returns-clause-known
+returns-clause-known g c =
+    let k : AreKnown c.pair.new.self (known_of c.two-2.new.self) = known-grows _ _ _ _ c.pair.ensures.grows (known_of c.two-2.new.self) c.in_ok-right.ensures.known in
+    let block : IsBlockAt c.pair.new.self 2 c.args.word.now c.in_ok-block.block.index =
+    joined-block c.two-2.new.store c.pair.new.self 1 _ _ c.args.word.now _ _ _ (block-grows _ _ _ _ c.two-2.ensures.grows 1 _ _ c.in_ok-left.ensures.block) c.in_ok-right.ensures.block
+    c.in_ok-block.ensures.live c.in_ok-block.ensures.tree (parts-of 2 _ _ _ c.split_at.ensures.front c.split_at.ensures.back) in
+    let noted = c.note.ensures c.pair.new.self 2 w32 (subst (λ s. IsBlockAt c.pair.new.self 2 s c.in_ok-block.block.index) (sym c.number_of_four-bytes.ensures) block) k.fours in
+    record {
+      twos = k.twos;
+      fours = noted;
+      eights = k.eights;
+    }
+
+pub returns-clause-block : goal.returns-clause-block
+returns-clause-block g c =
+    joined-block c.two-2.new.store c.pair.new.self 1 _ _ c.args.word.now _ _ _ (block-grows _ _ _ _ c.two-2.ensures.grows 1 _ _ c.in_ok-left.ensures.block) c.in_ok-right.ensures.block
+    c.in_ok-block.ensures.live c.in_ok-block.ensures.tree (parts-of 2 _ _ _ c.split_at.ensures.front c.split_at.ensures.back)

@@ -1,0 +1,21 @@
+-- Full trees, and the nodes with such trees.
+use Rattle.std.specs.Prelude.{◌≡◌, ℕ, ◌<◌, List, length}
+use Rattle.slp_model.specs.declared.Node.{Node}
+use Rattle.slp_model.specs.Tree.{Tree, Leaf, Fork, text, height}
+use Rattle.slp_model.specs.Nodes.{tree}
+
+-- the two children of each pair are equally high, so that a tree of height h has 2^h bytes
+abbrev pub IsFull : Tree → Type 0
+IsFull (Leaf b) = Unit {0}
+IsFull (Fork l r) = (height l ≡ height r) × IsFull l × IsFull r
+
+-- a full tree of height h with the text s
+pub record IsBlock (h : ℕ) (s : List ℕ) (t : Tree) : Type 0 where
+  pub full : IsFull t
+  pub high : height t ≡ h
+  pub reads : text t ≡ s
+
+-- the node with index i has such a tree
+pub record IsBlockAt (ns : List Node) (h : ℕ) (s : List ℕ) (i : ℕ) : Type 0 where
+  pub live : i < length ns
+  pub block : IsBlock h s (tree ns i)
