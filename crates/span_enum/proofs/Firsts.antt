@@ -1,5 +1,5 @@
 -- The first marked text, by the parts of a text.
-use Rattle.std.proofs.Common.{◌≡◌, ℕ, ◌+◌, ◌*◌, ◌<◌, ◌≤◌, ◌==◌, ◌^◌, ◌⊎◌, Bool, true, false, ◌||◌, not, refl, ap, sym, ◌∙◌, arith, bit_and, List, [], ◌∷◌, ◌++◌, length, Option, Some, None, inl, inr, zero-add}
+use Rattle.std.proofs.Common.{◌≡◌, ℕ, ◌+◌, ◌*◌, ◌<◌, ◌≤◌, ◌==◌, ◌^◌, ◌⊎◌, Bool, true, false, ◌||◌, not, refl, ap, sym, ◌∙◌, arith, bit_and, List, [], ◌∷◌, ◌++◌, Option, Some, None, inl, inr, zero-add}
 use Rattle.std.specs.Prelude.{if◌then◌else◌, min}
 use Rattle.std.specs.Int.{bit_at, trailing_zeros, w128}
 use Rattle.span_enum.proofs.Paths.{Tells}
@@ -12,12 +12,11 @@ use Rattle.marker_dfa.specs.Deterministic.{DeterministicAutomaton, states_of}
 use Rattle.span_types.specs.Words.{Marked, Precedes, mark_count}
 use Rattle.formula_law.specs.Law.{bytes_of}
 use Rattle.span_enum.specs.Letters.{step_of, reached}
-use Rattle.marker_dfa.specs.Deterministic.{IsDeterministic}
 use Rattle.state_tables.specs.StateSet.{member}
 use Rattle.state_tables.specs.Table.{unmarked_of, marked_of}
 use Rattle.state_tables.specs.Meaning.{plain, has_mark}
 use Rattle.state_tables.specs.Table.{Row}
-use Rattle.span_enum.proofs.Paths.{run-append, run-within, then-between, then-join, then-some, split-marked, plain-from_no_mark, bytes-plain}
+use Rattle.span_enum.proofs.Paths.{run-append, then-between, then-join, then-some, split-marked, plain-from_no_mark, bytes-plain}
 use Rattle.state_tables.proofs.Members.{bool-cases, or-cases, or-left, or-right, not-both}
 use Rattle.state_tables.proofs.StateSets.{member-bit, bit-member}
 use Rattle.span_enum.specs.Sets.{is_goal, can_reach_of}
@@ -171,28 +170,7 @@ IsFirst-fork a s u p q r goals between w v all l k = record {
       ];
 }
 
--- ---- the fork
-pub can-left : (a : DeterministicAutomaton) (s u : List ℕ) (t tl tr : List Row) (p goals between : ℕ) → IsDeterministic a → Tells a (s ++ u) t → Tells a s tl → Tells a u tr → p < states_of a
-    → marked_of t p < 2 ^ 128
-    → ((k : ℕ) → k < length tr → member between k ≡ can_reach_of tr k goals)
-    → can_reach_of t p goals ≡ true → can_reach_of tl p between ≡ true
-can-left a s u t tl tr p goals between auto it il ir h low all can =
-    let run = run-from_table a (s ++ u) t p goals it h low can in
-    let cut = split-marked s u run.word run.bytes in
-    let x1 = cut.0 in
-    let x2 = cut.1.0 in
-    let is = cut.1.1.0 in
-    let mid = then-between (λ k. reached a k x2) (reached a p x1) run.state (sym (run-append a p x1 x2) ∙ ap (reached a p) (sym is) ∙ run.ends) in
-    let below : mid.0 < states_of a = run-within a auto p mid.0 x1 h mid.1 in
-    let rest : can_reach_of tr mid.0 goals ≡ true = table-from_run a u tr mid.0 goals ir below (record { word = x2; state = run.state; bytes = cut.1.1.2; ends = mid.2; goal = run.goal }) in
-    let reach : member between mid.0 ≡ true = all mid.0 (omega (arith, ir.shape.states)) ∙ rest in
-    table-from_run a s tl p between il h (record { word = x1; state = mid.0; bytes = cut.1.1.1; ends = mid.1; goal = reach })
-
-pub can-right : (a : DeterministicAutomaton) (u : List ℕ) (tr : List Row) (q goals between : ℕ) → Tells a u tr → q < states_of a
-    → ((k : ℕ) → k < length tr → member between k ≡ can_reach_of tr k goals)
-    → member between q ≡ true → can_reach_of tr q goals ≡ true
-can-right a u tr q goals between ir h all m = sym (all q (omega (arith, ir.shape.states))) ∙ m
-
+-- ---- looks
 pub mark_count-append : (w v : Marked) → mark_count (w ++ v) ≡ mark_count w + mark_count v
 mark_count-append [] v = sym (zero-add (mark_count v))
 mark_count-append (x ∷ w) v = omega (arith, mark_count-append w v)

@@ -21,6 +21,7 @@ use Rattle.span_enum.specs.Tuples.{IsTupleOf, reaches, end_mark, word_over, word
 use Rattle.span_enum.specs.Words.{CanRun, IsFirst, IsGreatestMark, IsNoMark, FindsFirst, FindsRest}
 use Rattle.span_enum.specs.Next.{NoneAfter, IsNext, LowersAt}
 use Rattle.span_enum.specs.Lowering.{Lowers, IsLowering}
+use Rattle.span_enum.specs.Trail.{Agree}
 use Rattle.span_enum.specs.Ends.{Accepted, AcceptsWord, AcceptsEnd, Wellmarked, IsFirstLeft, NoneLeft, Gives}
 use Rattle.span_enum.specs.declared.walk.Lowered.{Lowered}
 use Rattle.span_enum.specs.declared.walk.Lowering.{Lowering}
@@ -31,10 +32,6 @@ use Rattle.span_enum.proofs.Written.{write_word-append, over-bytes, read-cut}
 use Rattle.span_enum.proofs.Lowerings.{length-bytes, over-length, lowers-on, lowers-behind}
 use Rattle.span_enum.proofs.LastLetters.{member-one, final-end, run-end, reach-end, onward-end, fit-end}
 use Rattle.span_enum.proofs.TupleLaws.{few-marks, few-marks_of, read-back, end_mark-same, lies-reaches, reaches-lies}
-
--- the marks before a position are the same
-abbrev pub Agree : Tuple → Tuple → ℕ → Type 0
-Agree t u at = (p : ℕ) → 1 ≤ p → p < at → mark_of t p ≡ mark_of u p
 
 -- looks of one call, for k variables and a tree of height h
 abbrev pub bound : ℕ → ℕ → ℕ

@@ -5,6 +5,7 @@ mod Nexts
 mod Written
 mod Lowerings
 mod Steps
+mod Betweens
 mod Rests
 mod LastLetters
 mod Bounds
@@ -13,5 +14,6 @@ mod Membership
 mod Gifts
 mod Given
 mod Trails
+mod Ways
 pub mod Pages
 pub mod Exists

@@ -19,12 +19,12 @@ use Rattle.state_tables.specs.Table.{Row}
 use Rattle.span_enum.proofs.Paths.{Tells, tells, then-some}
 use Rattle.state_tables.proofs.Members.{or-cases, not-both, bool-cases}
 use Rattle.span_enum.specs.Sets.{is_goal, can_reach_of}
-use Rattle.span_enum.specs.Words.{CanRun, IsFirst, FindsFirst, IsGreatestMark, IsNoMark, IsFork}
+use Rattle.span_enum.specs.Words.{IsFirst, FindsFirst, IsGreatestMark, IsNoMark}
+use Rattle.span_enum.specs.Between.{AreBetween}
 use Rattle.span_types.specs.Writes.{write_mark}
 use Rattle.span_enum.specs.Tuples.{write_word}
 use Rattle.span_enum.specs.Members.{Tuple}
-use Rattle.span_enum.proofs.Paths.{run-within}
-use Rattle.span_enum.proofs.Firsts.{IsFirst-plain, IsFirst-byte, IsFirst-fork, first-has_mark, run-from_table, table-from_run, can-left, mark_count-append, has-count, cost-fork}
+use Rattle.span_enum.proofs.Firsts.{IsFirst-plain, IsFirst-byte, IsFirst-fork, first-has_mark, run-from_table, mark_count-append, has-count, cost-fork}
 use Rattle.span_enum.proofs.LastLetters.{fit-byte}
 use Rattle.span_enum.proofs.Written.{write-plain, write_word-append}
 
@@ -38,18 +38,14 @@ write-join at s w v old out new e h k =
     let len : length w ≡ length s = sym (length-bytes w) ∙ ap length e in
     k ∙ ap (write_word (at + length s) v) h ∙ ap (λ n. write_word (at + n) v (write_word at w old)) (sym len) ∙ sym (write_word-append at w v old)
 
-pub FindsFirst-fork : (a : DeterministicAutomaton) (s u : List ℕ) (tr : List Row) (p q r goals between h hl hr before mid after at : ℕ) (old out new : Tuple) → IsDeterministic a → p < states_of a → Tells a u tr
-    → ((k : ℕ) → k < length tr → member between k ≡ can_reach_of tr k goals)
+pub FindsFirst-fork : (a : DeterministicAutomaton) (s u : List ℕ) (p q r goals between h hl hr before mid after at : ℕ) (old out new : Tuple) → AreBetween a p s u goals between
     → (has : (w : Marked) → IsFirst a p (s ++ u) goals w r → has_mark w ≡ true)
     → hl + 1 ≤ h → hr + 1 ≤ h
     → FindsFirst a p s between hl (before + 2) mid q at old out → FindsFirst a q u goals hr mid after r (at + length s) out new → FindsFirst a p (s ++ u) goals h before after r at old new
-FindsFirst-fork a s u tr p q r goals between h hl hr before mid after at old out new auto low ir all has el er l k =
+FindsFirst-fork a s u p q r goals between h hl hr before mid after at old out new is has el er l k =
     let w = l.word in
     let v = k.word in
-    let reach : (n : ℕ) (x : Marked) → bytes_of x ≡ s → reached a p x ≡ Some n → CanRun a n u goals → member between n ≡ true =
-    λ n x e t run. let below : n < states_of a = run-within a auto p n x low t in
-    all n (omega (arith, ir.shape.states)) ∙ table-from_run a u tr n goals ir below run in
-    let whole : IsFirst a p (s ++ u) goals (w ++ v) r = IsFirst-fork a s u p q r goals between w v reach l.first k.first in
+    let whole : IsFirst a p (s ++ u) goals (w ++ v) r = IsFirst-fork a s u p q r goals between w v is.reach l.first k.first in
     let pos : 0 < mark_count w + mark_count v = omega (arith, mark_count-append w v, has-count (w ++ v) (has (w ++ v) whole)) in
     record {
       word = w ++ v;
@@ -112,21 +108,14 @@ some-byte a s t p b goals auto is h low at can none =
         none x.0 (fit-byte a auto p x.0 b q byte step).1 q step g
     one byte (x ∷ y ∷ w) q e t g = cc
 
-pub fork-can_left : (a : DeterministicAutomaton) (t tl tr : List Row) (p goals between : ℕ) → IsDeterministic a → IsFork a t tl tr → p < states_of a → marked_of t p < 2 ^ 128
-    → ((k : ℕ) → k < length tr → member between k ≡ can_reach_of tr k goals)
-    → can_reach_of t p goals ≡ true → can_reach_of tl p between ≡ true
-fork-can_left a t tl tr p goals between auto fork h low all can =
-    can-left a fork.left_text fork.right_text t tl tr p goals between auto (tells a _ t fork.whole) (tells a _ tl fork.left_is) (tells a _ tr fork.right_is) h low all can
-
-pub finds-pair : (a : DeterministicAutomaton) (s sl sr : List ℕ) (t tr : List Row) (p q r goals between h hl hr before now mid after at : ℕ) (old out new : Tuple) → IsDeterministic a → p < states_of a → marked_of t p < 2 ^ 128
-    → Tells a s t → Tells a sr tr → s ≡ sl ++ sr
-    → ((k : ℕ) → k < length tr → member between k ≡ can_reach_of tr k goals)
+pub finds-pair : (a : DeterministicAutomaton) (s sl sr : List ℕ) (t : List Row) (p q r goals between h hl hr before now mid after at : ℕ) (old out new : Tuple) → p < states_of a → marked_of t p < 2 ^ 128
+    → Tells a s t → s ≡ sl ++ sr → AreBetween a p sl sr goals between
     → (bit_and (marked_of t p) goals ≡ 0 → ⊥) → h ≡ max hl hr + 1 → now ≡ before + 2
     → FindsFirst a p sl between hl now mid q at old out → FindsFirst a q sr goals hr mid after r (at + length sl) out new → FindsFirst a p s goals h before after r at old new
-finds-pair a s sl sr t tr p q r goals between h hl hr before now mid after at old out new auto low small it ir is all some eh en l k =
+finds-pair a s sl sr t p q r goals between h hl hr before now mid after at old out new low small it is all some eh en l k =
     let it' : Tells a (sl ++ sr) t = rw is at it in
     let l' : FindsFirst a p sl between hl (before + 2) mid q at old out = rw en at l in
     let has : (w : Marked) → IsFirst a p (sl ++ sr) goals w r → has_mark w ≡ true =
     λ w f. first-has_mark a (sl ++ sr) t p goals r w it' low small
     (elim (bool-cases (bit_and (marked_of t p) goals == 0)) [ inl e ↦ absurd (some (eqb-true (bit_and (marked_of t p) goals) 0 e)) | inr e ↦ e ]) f in
-    rw is (FindsFirst-fork a sl sr tr p q r goals between h hl hr before mid after at old out new auto low ir all has (omega arith) (omega arith) l' k)
+    rw is (FindsFirst-fork a sl sr p q r goals between h hl hr before mid after at old out new all has (omega arith) (omega arith) l' k)

@@ -1,6 +1,5 @@
 -- The kept way down, frame by frame.
-use Rattle.std.proofs.Common.{zero, suc, ◌≡◌, ℕ, ◌+◌, ◌-◌, ◌*◌, ◌<◌, ◌≤◌, ◌⊎◌, refl, ap, sym, subst, ◌∙◌, arith, List, [], ◌∷◌, ◌++◌, length, length-append, take, drop, Option, Some, None, IfSome, MatchOption, inl, inr}
-use Rattle.std.specs.Prelude.{slice_get}
+use Rattle.std.proofs.Common.{suc, ◌≡◌, ℕ, ◌+◌, ◌-◌, ◌*◌, ◌<◌, ◌≤◌, refl, ap, sym, subst, ◌∙◌, arith, List, [], ◌∷◌, ◌++◌, length, length-append, drop, Option, Some, None, IfSome}
 use Rattle.span_types.specs.Marks.{mark_of}
 use Rattle.span_types.specs.Words.{mark_count, word_from}
 use Rattle.slp_model.specs.declared.Node.{Node}
@@ -15,7 +14,8 @@ use Rattle.span_enum.specs.Members.{Tuple}
 use Rattle.span_enum.specs.Tuples.{word_over}
 use Rattle.span_enum.specs.Words.{CanRun, FindsFirst, FindsRest}
 use Rattle.span_enum.specs.Lowering.{IsLowering}
-use Rattle.span_enum.specs.Trail.{IsFrame, IsLeftChild, IsRightChild, IsChild, IsBelow, Descends, LeadsBy, IsKeptAt, Follows, looks_over, IsTop, IsTrail}
+use Rattle.span_enum.specs.Between.{AreBetween}
+use Rattle.span_enum.specs.Trail.{Agree, IsFrame, IsLeftChild, IsRightChild, IsChild, Descends, LeadsBy, Follows, looks_over, IsTop, IsTrail}
 use Rattle.span_enum.specs.declared.walk.Lowered.{Lowered}
 use Rattle.span_enum.specs.declared.walk.Lowering.{Lowering}
 use Rattle.span_enum.specs.declared.trail.Frame.{Frame}
@@ -27,86 +27,7 @@ use Rattle.span_enum.proofs.Written.{over-append, over-bytes}
 use Rattle.span_enum.proofs.Lowerings.{lowering-plain, lowering-dead, lowering-left, lowering-right, reach-by_table, onward-by_table, lower-cost, lower-cost_left}
 use Rattle.std.proofs.Math.Nat.{mul-le-mul_right, mul-le-mul_left}
 use Rattle.span_enum.proofs.Firsts.{mark_count-append}
-use Rattle.span_enum.proofs.Gifts.{Agree}
 use Rattle.span_enum.proofs.Rests.{rest-text_right, rest-can_left, rest-left, rest-right}
-
--- ---- places of a list
-one-more : (place : ℕ) → suc place ≡ place + 1
-one-more place = omega arith
-
-pub drop-at : (fs : List (Option Frame)) (place : ℕ) (g : Frame) → slice_get fs place ≡ Some (Some g) → drop place fs ≡ Some g ∷ drop (suc place) fs
-drop-at [] place g h = cc
-drop-at (f ∷ fs) zero g h = let same : f ≡ Some g = cc in ap (λ x. x ∷ fs) same
-drop-at (f ∷ fs) (suc place) g h = drop-at fs place g h
-
-pub take-less : (place : ℕ) (xs ys : List (Option Frame)) → take (suc place) xs ≡ take (suc place) ys → take place xs ≡ take place ys
-take-less zero xs ys h = refl
-take-less (suc place) [] [] h = refl
-take-less (suc place) [] (y ∷ ys) h = cc
-take-less (suc place) (x ∷ xs) [] h = cc
-take-less (suc place) (x ∷ xs) (y ∷ ys) h =
-    let head : x ≡ y = cc in
-    let tail : take (suc place) xs ≡ take (suc place) ys = cc in
-    ap (λ z. z ∷ take place xs) head ∙ ap (λ zs. y ∷ zs) (take-less place xs ys tail)
-
-kept-zero : (g : Frame) (xs ys : List (Option Frame)) → take (suc zero) ys ≡ take (suc zero) xs
-    → (drop zero xs ≡ Some g ∷ drop (suc zero) xs) ⊎ (drop zero xs ≡ []) → (drop zero ys ≡ Some g ∷ drop (suc zero) ys) ⊎ (drop zero ys ≡ [])
-kept-zero g xs [] h k = inr refl
-kept-zero g [] (y ∷ ys) h k = cc
-kept-zero g (x ∷ xs) (y ∷ ys) h k = elim k [
-  | inl e ↦
-      let head : x ≡ Some g = cc in
-      let same : y ≡ x = cc in
-      inl (ap (λ z. z ∷ ys) (same ∙ head))
-  | inr e ↦ cc
-]
-
-kept-on : (place : ℕ) (g : Frame) (xs ys : List (Option Frame)) → take (suc place) ys ≡ take (suc place) xs
-    → (drop place xs ≡ Some g ∷ drop (suc place) xs) ⊎ (drop place xs ≡ []) → (drop place ys ≡ Some g ∷ drop (suc place) ys) ⊎ (drop place ys ≡ [])
-kept-on zero g xs ys h k = kept-zero g xs ys h k
-kept-on (suc place) g [] [] h k = inr refl
-kept-on (suc place) g [] (y ∷ ys) h k = cc
-kept-on (suc place) g (x ∷ xs) [] h k = inr refl
-kept-on (suc place) g (x ∷ xs) (y ∷ ys) h k =
-    let tail : take (suc place) ys ≡ take (suc place) xs = cc in
-    kept-on place g xs ys tail k
-
-pub kept-same : (place : ℕ) (g : Frame) (xs ys : List (Option Frame)) → take (place + 1) ys ≡ take (place + 1) xs → IsKeptAt place g xs → IsKeptAt place g ys
-kept-same place g xs ys h k =
-    rw (← one-more place) (kept-on place g xs ys (rw (← one-more place) at h) (rw (← one-more place) at k))
-
-pub take-fewer : (place : ℕ) (xs ys : List (Option Frame)) → take (place + 1) xs ≡ take (place + 1) ys → take place xs ≡ take place ys
-take-fewer place xs ys h = take-less place xs ys (rw (← one-more place) at h)
-
--- ---- the way down
-module _ (a : DeterministicAutomaton) (nodes : List Node) (d : Dictionary) where
-  -- the frame at a place is that of a child, and those behind it lead on
-  pub below-at : (t : Tuple) (f g : Frame) (fs : List (Option Frame)) (place : ℕ) → Descends a nodes d t f (drop place fs) → slice_get fs place ≡ Some (Some g)
-      → IsBelow a nodes d t f g × Descends a nodes d t g (drop (place + 1) fs)
-  below-at t f g fs place h at = rw (← one-more place) (rw (drop-at fs place g at) at h)
-
-  module _ (t : Tuple) (f : Frame) (fs : List (Option Frame)) (place : ℕ) (h : Descends a nodes d t f (drop place fs)) where
-    abbrev Finds : Option Frame → Type 0
-    Finds o = MatchOption o ((g : Frame) → slice_get fs place ≡ Some (Some g) → ⊥) (λ g. slice_get fs place ≡ Some (Some g))
-
-    pub found-below : (o : Option Frame) → Finds o → IfSome o (λ g. IsBelow a nodes d t f g)
-    found-below None k = tt
-    found-below (Some g) k = (below-at t f g fs place h k).0
-
-    pub found-rest : (o : Option Frame) → Finds o → IfSome o (λ g. Descends a nodes d t g (drop (place + 1) fs))
-    found-rest None k = tt
-    found-rest (Some g) k = (below-at t f g fs place h k).1
-
-    pub found-kept : (o : Option Frame) → Finds o → IfSome o (λ g. IsKeptAt place g fs)
-    found-kept None k = tt
-    found-kept (Some g) k = rw (← one-more place) (inl (drop-at fs place g k))
-
-  pub descends-kept : (t : Tuple) (f g : Frame) (fs : List (Option Frame)) (place : ℕ) → IsBelow a nodes d t f g → IsKeptAt place g fs
-      → Descends a nodes d t g (drop (place + 1) fs) → Descends a nodes d t f (drop place fs)
-  descends-kept t f g fs place below kept rest = elim kept [
-    | inl e ↦ rw e (below, rest)
-    | inr e ↦ rw e tt
-  ]
 
 -- ---- the children
 cost-up : (h k c m : ℕ) → k ≤ h → c ≤ m → 2 * (k * c) ≤ 2 * (h * m)
@@ -201,9 +122,6 @@ module _ (a : DeterministicAutomaton) (nodes : List Node) (d : Dictionary) (all 
     abbrev before-it : List ℕ
     before-it = text (tree nodes k.left.index)
 
-    own-table : Tells a here g.look.table.now
-    own-table = look-table a nodes d all counted g.id.index g.look.node g.look.len g.look.table.now isg.live isg.look
-
     joined-text : text (tree nodes f.id.index) ≡ before-it ++ here
     joined-text = pair-text nodes f.id.index k.left g.id k.node
 
@@ -214,8 +132,8 @@ module _ (a : DeterministicAutomaton) (nodes : List Node) (d : Dictionary) (all 
     right-found l b fl is = record {
       lowering = rw joined-text (rw (over-append t f.at before-it here)
           (lowering-right a auto before-it here f.state f.goals k.between isf.state
-          (reach-by_table a auto here g.look.table.now f.goals k.between own-table k.before.is before-it f.state isf.state)
-          (onward-by_table a auto here g.look.table.now f.goals k.between own-table k.before.is k.before.small)
+          k.between_is.reach
+          (λ n low h. k.between_is.onward n h)
           (word_over t f.at before-it) (word_over t (f.at + length before-it) here) (over-bytes t f.at before-it) (over-bytes t (f.at + length before-it) here)
           f.at g.state (record { state = Some g.state; best = best }) l b k.lowering refl (over-right l fl) is));
       within = fl.within;
@@ -226,8 +144,8 @@ module _ (a : DeterministicAutomaton) (nodes : List Node) (d : Dictionary) (all 
     right-none l fl is = record {
       lowering = rw joined-text (rw (over-append t f.at before-it here)
           (lowering-left a auto before-it here f.state f.goals k.between isf.state
-          (reach-by_table a auto here g.look.table.now f.goals k.between own-table k.before.is before-it f.state isf.state)
-          (onward-by_table a auto here g.look.table.now f.goals k.between own-table k.before.is k.before.small)
+          k.between_is.reach
+          (λ n low h. k.between_is.onward n h)
           (word_over t f.at before-it) (word_over t (f.at + length before-it) here) (over-bytes t f.at before-it) (over-bytes t (f.at + length before-it) here)
           f.at g.state (record { state = Some g.state; best = best }) l k.lowering refl (over-right l fl) is));
       within = fl.within;
@@ -274,6 +192,30 @@ module _ (a : DeterministicAutomaton) (nodes : List Node) (d : Dictionary) (all 
   child-can (Right r look) k x low from lt can = left-can r look k x low lt can
   child-can (Left best) k x low from lt can = right-can best k x from can
 
+  pub child-inside : (b : Beside) → IsChild a nodes d t f g b → (f.at ≤ g.at) × (g.at + g.look.len ≤ f.at + f.look.len)
+  child-inside (Right r look) k = (
+    omega (arith, k.at),
+    omega (arith, k.at, isf.look.len_is, isg.look.len_is, ap length (whole r look k), length-append here (there r look k)),
+  )
+  child-inside (Left best) k = (
+    omega (arith, k.at),
+    omega (arith, k.at, isf.look.len_is, isg.look.len_is, ap length (joined-text best k), length-append (before-it best k) here),
+  )
+
+  pub child-lower : (b : Beside) → IsChild a nodes d t f g b → height (tree nodes g.id.index) + 1 ≤ height (tree nodes f.id.index)
+  child-lower (Right r look) k = omega (arith, pair-height nodes f.id.index g.id r k.node)
+  child-lower (Left best) k = omega (arith, pair-height nodes f.id.index k.left g.id k.node)
+
+  -- where the marks over the child can be lowered, there those over its parent can
+  pub child-found : (b : Beside) → IsChild a nodes d t f g b → LeadsBy t f g b → (l : Lowering) → Follows a nodes t g l → (x : Lowered) → l.best ≡ Some x
+      → (o : Option ℕ) × Follows a nodes t f (record { state = o; best = l.best })
+  child-found (Right r look) k leads l fl x is = by l.state refl
+    where
+      by : (o : Option ℕ) → l.state ≡ o → (o : Option ℕ) × Follows a nodes t f (record { state = o; best = l.best })
+      by None e = (l.state, left-dead r look k l fl e)
+      by (Some q) e = (unmarked_of look.table.now q, left-alive r look k l q (unmarked_of look.table.now q) leads fl e (rw e at fl.within) refl)
+  child-found (Left best) k leads l fl x is = (l.state, right-found best k l x fl is)
+
 -- ---- another tuple
 word-same : (f g : ℕ → ℕ) (p : ℕ) (s : List ℕ) → ((q : ℕ) → p ≤ q → q < p + length s → f q ≡ g q) → word_from f p s ≡ word_from g p s
 word-same f g p [] same = refl
@@ -282,7 +224,7 @@ word-same f g p (b ∷ s) same =
     ∙ ap (λ w. (g p, b) ∷ w) (word-same f g (suc p) s (λ q from to. same q (omega arith) (omega arith)))
 
 module _ (a : DeterministicAutomaton) (nodes : List Node) (d : Dictionary) where
-  child-same : (t u : Tuple) (at : ℕ) (f g : Frame) → Agree t u at → 1 ≤ f.at → g.at ≤ at → (b : Beside) → IsChild a nodes d t f g b → IsChild a nodes d u f g b
+  pub child-same : (t u : Tuple) (at : ℕ) (f g : Frame) → Agree t u at → 1 ≤ f.at → g.at ≤ at → (b : Beside) → IsChild a nodes d t f g b → IsChild a nodes d u f g b
   child-same t u at f g same pos le (Right r look) k = k
   child-same t u at f g same pos le (Left best) k = record {
     left = k.left;
@@ -290,20 +232,10 @@ module _ (a : DeterministicAutomaton) (nodes : List Node) (d : Dictionary) where
     node = k.node;
     at = k.at;
     goals = k.goals;
-    before = k.before;
+    between_is = k.between_is;
     lowering = rw (word-same (mark_of t) (mark_of u) f.at (text (tree nodes k.left.index)) (λ q from to. same q (omega arith) (omega (arith, k.at)))) at k.lowering;
     within = k.within;
   }
-
-  pub renewed : (t u : Tuple) (at : ℕ) (f : Frame) (fs : List (Option Frame)) (many : ℕ) → Agree t u at → 1 ≤ f.at
-      → ((k : ℕ) (g : Frame) → k < many → slice_get fs k ≡ Some (Some g) → g.at ≤ at) → Descends a nodes d t f fs → Descends a nodes d u f (take many fs)
-  renewed t u at f fs zero same pos before h = tt
-  renewed t u at f [] (suc many) same pos before h = tt
-  renewed t u at f (None ∷ fs) (suc many) same pos before h = tt
-  renewed t u at f (Some g ∷ fs) (suc many) same pos before h = (
-    record { frame = h.0.frame; child = child-same t u at f g same pos (before zero g (omega arith) refl) g.beside h.0.child },
-    renewed t u at g fs many same h.0.frame.positive (λ k x lt is. before (suc k) x (omega arith) is) h.1,
-  )
 
   -- ---- another frame of the root
   top-child : (t : Tuple) (root : NodeId) (goals : ℕ) (f e g : Frame) → IsTop root goals f → IsTop root goals e → (b : Beside) → IsChild a nodes d t f g b → IsChild a nodes d t e g b
@@ -321,7 +253,8 @@ module _ (a : DeterministicAutomaton) (nodes : List Node) (d : Dictionary) where
     node = rw (x.id_is, ← y.id_is) at k.node;
     at = k.at ∙ ap (λ n. n + length (text (tree nodes k.left.index))) (x.at ∙ sym y.at);
     goals = k.goals ∙ x.goals_are ∙ sym y.goals_are;
-    before = rw (x.goals_are, ← y.goals_are) at k.before;
+    between_is = subst (λ n. AreBetween a n (text (tree nodes k.left.index)) (text (tree nodes g.id.index)) e.goals k.between) (x.state ∙ sym y.state)
+        (subst (λ n. AreBetween a f.state (text (tree nodes k.left.index)) (text (tree nodes g.id.index)) n k.between) (x.goals_are ∙ sym y.goals_are) k.between_is);
     lowering = subst (λ n. IsLowering a n (text (tree nodes k.left.index)) k.between (word_over t e.at (text (tree nodes k.left.index))) e.at (record { state = Some g.state; best = best })) (x.state ∙ sym y.state)
         (subst (λ n. IsLowering a f.state (text (tree nodes k.left.index)) k.between (word_over t n (text (tree nodes k.left.index))) n (record { state = Some g.state; best = best })) (x.at ∙ sym y.at) k.lowering);
     within = k.within;
@@ -329,7 +262,7 @@ module _ (a : DeterministicAutomaton) (nodes : List Node) (d : Dictionary) where
 
   pub from-top : (t : Tuple) (root : NodeId) (goals : ℕ) (f e : Frame) (fs : List (Option Frame)) → IsTop root goals f → IsTop root goals e → Descends a nodes d t f fs → Descends a nodes d t e fs
   from-top t root goals f e [] x y h = tt
-  from-top t root goals f e (None ∷ fs) x y h = tt
+  from-top t root goals f e (None ∷ fs) x y h = absurd h
   from-top t root goals f e (Some g ∷ fs) x y h = (record { frame = h.0.frame; child = top-child t root goals f e g x y g.beside h.0.child }, h.1)
 
   pub is-trail : (root : Option NodeId) (goals : ℕ) (id : NodeId) (u : Tuple) (top : Frame) (fs : List (Option Frame)) → root ≡ Some id → IsTop id goals top → Descends a nodes d u top fs

@@ -7,6 +7,7 @@ pub mod Sets
 pub mod Tuples
 pub mod Words
 pub mod Next
+pub mod Between
 pub mod Lowering
 pub mod Ends
 pub mod Trail

@@ -1,5 +1,5 @@
 -- The way down to the last mark of a tuple, as it is kept from answer to answer.
-use Rattle.std.specs.Prelude.{◌≡◌, ℕ, ◌+◌, ◌*◌, ◌<◌, ◌≤◌, ◌^◌, ◌⊎◌, List, [], ◌∷◌, length, drop, Option, Some, None, IfSome}
+use Rattle.std.specs.Prelude.{zero, suc, ◌≡◌, ℕ, ◌+◌, ◌*◌, ◌<◌, ◌≤◌, ◌^◌, List, [], ◌∷◌, ◌++◌, length, slice_get, Option, Some, None, IfSome}
 use Rattle.span_types.specs.Marks.{mark_of}
 use Rattle.slp_model.specs.declared.Node.{Node}
 use Rattle.slp_model.specs.declared.Node.TheVariants.{Pair}
@@ -15,6 +15,7 @@ use Rattle.state_tables.specs.declared.view.Look.{Look}
 use Rattle.span_enum.specs.Members.{Tuple}
 use Rattle.span_enum.specs.Sets.{can_reach_of, is_final}
 use Rattle.span_enum.specs.Tuples.{word_over}
+use Rattle.span_enum.specs.Between.{AreBetween}
 use Rattle.span_enum.specs.Lowering.{IsLowering}
 use Rattle.span_enum.specs.declared.walk.Lowered.{Lowered}
 use Rattle.span_enum.specs.declared.walk.Lowering.{Lowering}
@@ -51,7 +52,7 @@ pub record IsRightChild (a : DeterministicAutomaton) (nodes : List Node) (t : Tu
   pub node : IsNodeAt nodes f.id.index (Pair left g.id)
   pub at : g.at ≡ f.at + length (text (tree nodes left.index))
   pub goals : g.goals ≡ f.goals
-  pub before : AreBefore g.look.table.now f.goals between
+  pub between_is : AreBetween a f.state (text (tree nodes left.index)) (text (tree nodes g.id.index)) f.goals between
   pub lowering : IsLowering a f.state (text (tree nodes left.index)) between (word_over t f.at (text (tree nodes left.index))) f.at (record { state = Some g.state; best = best })
   pub within : IfSome best (λ b. b.state < states_of a)
 
@@ -67,8 +68,38 @@ pub record IsBelow (a : DeterministicAutomaton) (nodes : List Node) (d : Diction
 -- each frame is that of a child of the one before, the first of a child of f
 abbrev pub Descends : DeterministicAutomaton → List Node → Dictionary → Tuple → Frame → List (Option Frame) → Type 0
 Descends a nodes d t f [] = Unit {0}
-Descends a nodes d t f (None ∷ gs) = Unit {0}
+Descends a nodes d t f (None ∷ gs) = ⊥
 Descends a nodes d t f (Some g ∷ gs) = IsBelow a nodes d t f g × Descends a nodes d t g gs
+
+-- each item is there
+abbrev pub AreKept : List (Option Frame) → Type 0
+AreKept fs = (n : ℕ) → slice_get fs n ≡ Some None → ⊥
+
+-- the frame at a depth: f at 0, and below it those of the list
+abbrev pub frame_of : ℕ → Frame → List (Option Frame) → Frame
+frame_of zero f fs = f
+frame_of (suc n) f [] = f
+frame_of (suc n) f (None ∷ fs) = f
+frame_of (suc n) f (Some g ∷ fs) = frame_of n g fs
+
+-- the frames new are those of old, and then some that lead down from f
+pub record AddsTo (a : DeterministicAutomaton) (nodes : List Node) (d : Dictionary) (t : Tuple) (f : Frame) (old new : List (Option Frame)) : Type 0 where
+  pub more : List (Option Frame)
+  pub new_is : new ≡ old ++ more
+  pub leads : Descends a nodes d t f more
+
+-- the marks before a position are the same
+abbrev pub Agree : Tuple → Tuple → ℕ → Type 0
+Agree t u at = (p : ℕ) → 1 ≤ p → p < at → mark_of t p ≡ mark_of u p
+
+-- the frames lead down for each tuple that has the marks of t before the position
+abbrev pub DescendsTo : DeterministicAutomaton → List Node → Dictionary → Tuple → ℕ → Frame → List (Option Frame) → Type 0
+DescendsTo a nodes d t at f fs = (u : Tuple) → Agree t u at → Descends a nodes d u f fs
+
+-- the letter at the position stands below the frame
+pub record StandsOver (f : Frame) (at : ℕ) : Type 0 where
+  pub from : f.at ≤ at
+  pub before : at < f.at + f.look.len
 
 -- the tuple has no mark in f behind the child g
 abbrev pub LeadsBy : Tuple → Frame → Frame → Beside → Type 0
@@ -78,15 +109,22 @@ LeadsBy t f g (Left best) = Unit {0}
 abbrev pub LeadsTo : Tuple → Frame → Frame → Type 0
 LeadsTo t f g = LeadsBy t f g g.beside
 
--- the frame stands at the place, or the list ends before it
-abbrev pub IsKeptAt : ℕ → Frame → List (Option Frame) → Type 0
-IsKeptAt place g fs = (drop place fs ≡ Some g ∷ drop (place + 1) fs) ⊎ (drop place fs ≡ [])
+-- the tuple has no mark over f behind g
+abbrev pub IsQuiet : Tuple → Frame → Frame → Type 0
+IsQuiet t f g = (p : ℕ) → g.at + g.look.len ≤ p → p < f.at + f.look.len → mark_of t p ≡ 0
 
 -- what the marks of t over the frame's node tell
 pub record Follows (a : DeterministicAutomaton) (nodes : List Node) (t : Tuple) (f : Frame) (l : Lowering) : Type 0 where
   pub lowering : IsLowering a f.state (text (tree nodes f.id.index)) f.goals (word_over t f.at (text (tree nodes f.id.index))) f.at l
   pub within : IfSome l.state (λ q. q < states_of a)
   pub best_within : IfSome l.best (λ b. b.state < states_of a)
+
+-- the last place at which the marks of t over the frame's node can be lowered, and the state after them if a mark below the limit is looked for at the end
+pub record FollowsUp (a : DeterministicAutomaton) (nodes : List Node) (t : Tuple) (f : Frame) (limit : ℕ) (l : Lowering) : Type 0 where
+  pub state : Option ℕ
+  pub follows : Follows a nodes t f (record { state = state; best = l.best })
+  pub within : IfSome l.state (λ q. q < states_of a)
+  pub whole : 0 < limit → state ≡ l.state
 
 -- two looks for each mark of t over the frame's node and each level below it
 abbrev pub looks_over : List Node → Tuple → Frame → ℕ

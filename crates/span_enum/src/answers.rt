@@ -6,7 +6,7 @@ ghost use Rattle.span_enum.specs.Trail.{AreFinals, IsTrail};
 ghost use Rattle.span_enum.specs.Members.{IsMember, IsFirstMember, NoMemberLeft, HasMember};
 
 use crate::ends::{accepts_end, end_limit, greatest_end, lower_end};
-use crate::trail::{Beside, Frame, Trail, complete_kept, empty_trail, lower_kept, renew};
+use crate::trail::{Beside, Frame, Trail, complete_kept, empty_trail, lower_kept};
 use crate::walk::{can_reach, final_states, first, lower};
 use marker_dfa::Dfa;
 use node_store::NodeId;
@@ -178,10 +178,12 @@ fn answer_after<'a, L: Ledger>(
     requires goals { AreFinals dfa.now goals }
     requires tuple { length t.now ≡ dfa.now.variables }
     requires trail { IsTrail dfa.now view.now.store.now view.now.tables.now root goals (Some t.now) trail.old.items }
+    requires room { 68 ≤ trail.old.capacity }
     ensures answer { MatchOption result (NoMemberLeft dfa.now (text_of view.now.store.now root) (Some t.now))
         (IsFirstMember dfa.now (text_of view.now.store.now root) (Some t.now)) }
     ensures trail { MatchOption result (IsTrail dfa.now view.now.store.now view.now.tables.now root goals (Some t.now) trail.new.items)
         (λ u. IsTrail dfa.now view.now.store.now view.now.tables.now root goals (Some u) trail.new.items) }
+    ensures room { trail.new.capacity ≡ trail.old.capacity }
     ensures cost { looks.new ≤ looks.old + looks_limit dfa.now.variables (length (text_of view.now.store.now root)) }
 {
     let _states = dfa.states();
@@ -202,23 +204,18 @@ fn answer_after<'a, L: Ledger>(
                 goals,
                 beside: Beside::Left(None),
             };
-            let lowering = lower_kept(view, dfa, &top, 0, trail, t, looks);
-            if let Some(mark) = lower_end(dfa, lowering.state, end_limit(t, end)) {
-                let u = t.cut_at(end).with_mark(mark, end);
-                renew(view, dfa, &top, trail, t, &u, end);
-                return Some(u);
+            let limit = end_limit(t, end);
+            let over = lower_kept(view, dfa, &top, trail, t, limit, looks);
+            if let Some(mark) = lower_end(dfa, over.state, limit) {
+                return Some(t.cut_at(end).with_mark(mark, end));
             }
-            match lowering.best {
+            match over.best {
                 None => None,
                 Some(from) => {
                     let mut out = t.cut_at(from.at).with_mark(from.mark, from.at);
-                    let q = complete_kept(view, dfa, &top, 0, trail, t, &from, &mut out, looks);
+                    let q = complete_kept(view, dfa, &top, trail, t, &from, &mut out, looks);
                     match greatest_end(dfa, q, 65536) {
-                        Some(mark) => {
-                            let u = out.with_mark(mark, end);
-                            renew(view, dfa, &top, trail, t, &u, from.at);
-                            Some(u)
-                        }
+                        Some(mark) => Some(out.with_mark(mark, end)),
                         None => unreachable!(),
                     }
                 }
@@ -241,10 +238,12 @@ fn first_left<'a, L: Ledger>(
     requires goals { AreFinals dfa.now goals }
     requires tuple { IsCursor dfa.now last }
     requires trail { IsTrail dfa.now view.now.store.now view.now.tables.now root goals last trail.old.items }
+    requires room { 68 ≤ trail.old.capacity }
     ensures answer { MatchOption result (NoMemberLeft dfa.now (text_of view.now.store.now root) last)
         (IsFirstMember dfa.now (text_of view.now.store.now root) last) }
     ensures trail { MatchOption result (IsTrail dfa.now view.now.store.now view.now.tables.now root goals last trail.new.items)
         (λ u. IsTrail dfa.now view.now.store.now view.now.tables.now root goals (Some u) trail.new.items) }
+    ensures room { trail.new.capacity ≡ trail.old.capacity }
     ensures cost { looks.new ≤ looks.old + looks_limit dfa.now.variables (length (text_of view.now.store.now root)) }
 {
     match last {

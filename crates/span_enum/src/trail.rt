@@ -1,6 +1,5 @@
 //! The way down to the last mark of an answer, kept for the next one.
-ghost use Rattle.std.specs.Prelude.{◌≡◌, ℕ, ◌<◌, ◌≤◌, ◌+◌, ◌-◌, [], take, drop, length, slice_get, false, IfSome, MatchOption, IfOk, IfErr, Some};
-ghost use Rattle.span_types.specs.Marks.{mark_of};
+ghost use Rattle.std.specs.Prelude.{◌≡◌, ◌<◌, ◌≤◌, ◌+◌, ◌-◌, [], drop, length, true, IfOk, IfErr};
 ghost use Rattle.slp_model.specs.Tree.{text, height};
 ghost use Rattle.slp_model.specs.Nodes.{tree, IsNodeAt};
 ghost use Rattle.slp_model.specs.declared.Node.TheVariants.{Pair};
@@ -8,10 +7,13 @@ ghost use Rattle.marker_dfa.specs.Deterministic.{states_of};
 ghost use Rattle.state_tables.specs.Dictionary.{AreTables};
 ghost use Rattle.span_enum.specs.Tuples.{IsMarkedBetween};
 ghost use Rattle.span_enum.specs.Words.{FindsRest, CanRun};
-ghost use Rattle.span_enum.specs.Trail.{IsFrame, IsBelow, Descends, LeadsTo, IsKeptAt, Follows, looks_over};
+ghost use Rattle.span_enum.specs.Trail.{frame_of, IsFrame, IsBelow, Descends, AddsTo, DescendsTo, StandsOver, LeadsTo, IsQuiet, Follows, FollowsUp, looks_over};
 ghost use Rattle.span_enum.specs.declared.trail.Frame.{Frame};
 
-use crate::walk::{Lowered, Lowering, complete, first, goals_before, is_marked_between, lower};
+use crate::sets::goals_between;
+use crate::walk::{
+    Lowered, Lowering, complete, first, goals_before, is_marked_between, last_mark, lower,
+};
 use marker_dfa::Dfa;
 use node_store::{Node, NodeId};
 use smallvec::SmallVec;
@@ -46,76 +48,95 @@ const TALLEST: usize = 68;
 
 /// The nodes on the way down, below the root. Every item is there: it is an option since a `SmallVec` puts a default value
 /// in place of what it removes.
-pub(crate) type Trail<'a> = SmallVec<Option<Frame<'a>>, 16>;
+pub(crate) type Trail<'a> = SmallVec<Option<Frame<'a>>, 0>;
 
 /// No frames, with room for the way down in the tallest tree.
 pub(crate) fn empty_trail<'a>(alloc: Global) -> Result<Trail<'a>, NoMemory>
-    ensures { IfOk result (λ trail. trail.items ≡ []) }
+    ensures none { IfOk result (λ trail. trail.items ≡ []) }
+    ensures room { IfOk result (λ trail. 68 ≤ trail.capacity) }
 {
     let mut trail = Trail::new(alloc);
     trail.reserve(TALLEST)?;
     Ok(trail)
 }
 
-/// The frame at this place.
-fn kept_at<'a>(trail: &Trail<'a>, place: usize) -> Option<Frame<'a>>
-    ensures { MatchOption result ((g : Frame) → slice_get trail.now.items place ≡ Some (Some g) → ⊥)
-        (λ g. slice_get trail.now.items place ≡ Some (Some g)) }
+/// The frame at this depth: the top one at 0, and below it those that are kept.
+fn frame_at<'t, 'a>(
+    view: &View<'a>,
+    dfa: &Dfa,
+    top: &'t Frame<'a>,
+    trail: &'t Trail<'a>,
+    t: &Tuple,
+    depth: usize,
+) -> &'t Frame<'a>
+    requires frame { IsFrame dfa.now view.now.store.now view.now.tables.now top.now }
+    requires trail { Descends dfa.now view.now.store.now view.now.tables.now t.now top.now trail.now.items }
+    requires depth { depth ≤ length trail.now.items }
+    ensures value { result.now ≡ frame_of depth top.now trail.now.items }
+    ensures frame { IsFrame dfa.now view.now.store.now view.now.tables.now result.now }
+    ensures below { 0 < depth → IsBelow dfa.now view.now.store.now view.now.tables.now t.now (frame_of (depth - 1) top.now trail.now.items) result.now }
 {
-    if place < trail.len() {
-        trail.as_slice()[place]
-    } else {
-        None
+    if depth == 0 {
+        return top;
+    }
+    match &trail.as_slice()[depth - 1] {
+        Some(frame) => frame,
+        None => unreachable!(),
     }
 }
 
-/// The kept child at this place.
-fn kept_below<'a>(
-    view: &View<'a>,
-    dfa: &Dfa,
-    frame: &Frame<'a>,
-    place: usize,
-    trail: &Trail<'a>,
-    t: &Tuple,
-) -> Option<Frame<'a>>
-    requires { Descends dfa.now view.now.store.now view.now.tables.now t.now frame.now (drop place trail.now.items) }
-    ensures below { IfSome result (λ g. IsBelow dfa.now view.now.store.now view.now.tables.now t.now frame.now g) }
-    ensures trail { IfSome result (λ g. Descends dfa.now view.now.store.now view.now.tables.now t.now g (drop (place + 1) trail.now.items)) }
-    ensures kept { IfSome result (λ g. IsKeptAt place g trail.now.items) }
+/// Whether the letter at this position stands below the frame.
+fn stands_over(frame: &Frame<'_>, at: u64) -> bool
+    ensures { result ≡ true → StandsOver frame.now at }
 {
-    kept_at(trail, place)
+    frame.at <= at && at - frame.at < frame.look.len
 }
 
-/// The kept child at this place, where it leads to the last mark of the tuple.
-fn kept_child<'a>(
+/// The depth of the lowest frame below which the letter at this position stands, or 0.
+fn depth_over<'a>(
     view: &View<'a>,
     dfa: &Dfa,
-    frame: &Frame<'a>,
-    place: usize,
+    top: &Frame<'a>,
     trail: &Trail<'a>,
     t: &Tuple,
-) -> Option<Frame<'a>>
-    requires tables { AreTables dfa.now view.now.store.now view.now.tables.now }
-    requires frame { IsFrame dfa.now view.now.store.now view.now.tables.now frame.now }
-    requires trail { Descends dfa.now view.now.store.now view.now.tables.now t.now frame.now (drop place trail.now.items) }
-    ensures below { IfSome result (λ g. IsBelow dfa.now view.now.store.now view.now.tables.now t.now frame.now g) }
-    ensures leads { IfSome result (λ g. LeadsTo t.now frame.now g) }
-    ensures fewer { IfSome result (λ g. looks_over view.now.store.now t.now g ≤ looks_over view.now.store.now t.now frame.now) }
-    ensures kept { IfSome result (λ g. IsKeptAt place g trail.now.items) }
-    ensures trail { IfSome result (λ g. Descends dfa.now view.now.store.now view.now.tables.now t.now g (drop (place + 1) trail.now.items)) }
+    at: u64,
+) -> usize
+    requires frame { IsFrame dfa.now view.now.store.now view.now.tables.now top.now }
+    requires trail { Descends dfa.now view.now.store.now view.now.tables.now t.now top.now trail.now.items }
+    ensures depth { result ≤ length trail.now.items }
+    ensures over { 0 < result → StandsOver (frame_of result top.now trail.now.items) at }
 {
-    let _states = dfa.states();
-    let child = kept_below(view, dfa, frame, place, trail, t)?;
-    match child.beside {
-        Beside::Right(_, _) => {
-            if is_marked_between(t, child.at + child.look.len, frame.at + frame.look.len) {
-                None
-            } else {
-                Some(child)
-            }
+    let mut depth = trail.len();
+    while depth > 0 {
+        if stands_over(frame_at(view, dfa, &*top, &*trail, t, depth), at) {
+            return depth;
         }
-        Beside::Left(_) => Some(child),
+        depth -= 1;
     }
+    0
+}
+
+/// Leaves of the way the frames below which the letter at this position stands, and gives the lowest.
+fn cut_to<'a>(
+    view: &View<'a>,
+    dfa: &Dfa,
+    top: &Frame<'a>,
+    trail: &mut Trail<'a>,
+    t: &Tuple,
+    at: u64,
+) -> Frame<'a>
+    requires frame { IsFrame dfa.now view.now.store.now view.now.tables.now top.now }
+    requires trail { Descends dfa.now view.now.store.now view.now.tables.now t.now top.now trail.old.items }
+    ensures value { result ≡ frame_of (length trail.new.items) top.now trail.new.items }
+    ensures frame { IsFrame dfa.now view.now.store.now view.now.tables.now result }
+    ensures over { 0 < length trail.new.items → StandsOver result at }
+    ensures within { StandsOver top.now at → StandsOver result at }
+    ensures trail { Descends dfa.now view.now.store.now view.now.tables.now t.now top.now trail.new.items }
+    ensures room { trail.new.capacity ≡ trail.old.capacity }
+{
+    let depth = depth_over(view, dfa, top, &*trail, t, at);
+    trail.truncate(depth);
+    *frame_at(view, dfa, &*top, &*trail, t, depth)
 }
 
 /// The child below which the last mark of the tuple in this pair stands. Where no state is before it, what the marks over
@@ -142,7 +163,6 @@ fn new_child<'a, L: Ledger>(
     let _states = dfa.states();
     let left = view.look(l, looks);
     let right = view.look(r, looks);
-    let before = goals_before(right.table, frame.goals);
     let behind = frame.at + left.len;
     if !is_marked_between(t, behind, frame.at + frame.look.len) {
         return Ok(Frame {
@@ -150,11 +170,29 @@ fn new_child<'a, L: Ledger>(
             look: left,
             at: frame.at,
             state: frame.state,
-            goals: before,
+            goals: goals_before(right.table, frame.goals),
             beside: Beside::Right(r, right),
         });
     }
-    let over = lower(view, dfa, l, &left, frame.state, before, frame.at, t, looks);
+    let between = goals_between(
+        dfa,
+        frame.look.table,
+        left.table,
+        right.table,
+        frame.state,
+        frame.goals,
+    );
+    let over = lower(
+        view,
+        dfa,
+        l,
+        &left,
+        frame.state,
+        between,
+        frame.at,
+        t,
+        looks,
+    );
     match over.state {
         Some(state) => Ok(Frame {
             id: r,
@@ -165,58 +203,6 @@ fn new_child<'a, L: Ledger>(
             beside: Beside::Left(over.best),
         }),
         None => Err(over),
-    }
-}
-
-/// Keeps the child at this place, if there is room, and none below it.
-fn keep<'a>(trail: &mut Trail<'a>, place: usize, child: &Frame<'a>)
-    ensures above { take place trail.new.items ≡ take place trail.old.items }
-    ensures kept { IsKeptAt place child.now trail.new.items }
-    ensures last { drop (place + 1) trail.new.items ≡ [] }
-{
-    trail.truncate(place);
-    if trail.len() == place && place < trail.capacity() {
-        trail.push_reserved(Some(*child));
-    }
-}
-
-/// The child below which the last mark of the tuple in this pair stands, kept at this place if there is room. Where no
-/// state is before it, what the marks over the left child tell.
-fn child<'a, L: Ledger>(
-    view: &View<'a>,
-    dfa: &Dfa,
-    frame: &Frame<'a>,
-    l: NodeId,
-    r: NodeId,
-    place: usize,
-    trail: &mut Trail<'a>,
-    t: &Tuple,
-    looks: &mut Steps<L>,
-) -> Result<Frame<'a>, Lowering>
-    requires tables { AreTables dfa.now view.now.store.now view.now.tables.now }
-    requires frame { IsFrame dfa.now view.now.store.now view.now.tables.now frame.now }
-    requires pair { IsNodeAt view.now.store.now frame.now.id.index (Pair l r) }
-    requires marked { IsMarkedBetween t.now frame.now.at (frame.now.at + frame.now.look.len) }
-    requires trail { Descends dfa.now view.now.store.now view.now.tables.now t.now frame.now (drop place trail.old.items) }
-    ensures below { IfOk result (λ g. IsBelow dfa.now view.now.store.now view.now.tables.now t.now frame.now g) }
-    ensures leads { IfOk result (λ g. LeadsTo t.now frame.now g) }
-    ensures dead { IfErr result (λ lowering. Follows dfa.now view.now.store.now t.now frame.now lowering) }
-    ensures cost { IfOk result (λ g. looks.new + looks_over view.now.store.now t.now g ≤ looks.old + looks_over view.now.store.now t.now frame.now) }
-    ensures dead_cost { IfErr result (λ lowering. looks.new ≤ looks.old + looks_over view.now.store.now t.now frame.now) }
-    ensures above { take place trail.new.items ≡ take place trail.old.items }
-    ensures kept { IfOk result (λ g. IsKeptAt place g trail.new.items) }
-    ensures trail { IfOk result (λ g. Descends dfa.now view.now.store.now view.now.tables.now t.now g (drop (place + 1) trail.new.items)) }
-    ensures dead_trail { IfErr result (λ lowering. trail.new ≡ trail.old) }
-{
-    if let Some(child) = kept_child(view, dfa, frame, place, trail, t) {
-        return Ok(child);
-    }
-    match new_child(view, dfa, frame, l, r, t, looks) {
-        Ok(child) => {
-            keep(trail, place, &child);
-            Ok(child)
-        }
-        Err(over) => Err(over),
     }
 }
 
@@ -255,192 +241,173 @@ fn joined(
     }
 }
 
-/// Follows the marks of the tuple over the node, on the way that is kept from this place of the trail on. From there on
-/// the trail then leads to the last of them.
-pub(crate) fn lower_kept<'a, L: Ledger>(
+/// Goes down from the lowest frame to the last mark of the tuple over it, keeps the way, and follows the marks.
+fn descend<'a, L: Ledger>(
     view: &View<'a>,
     dfa: &Dfa,
     frame: &Frame<'a>,
-    place: usize,
     trail: &mut Trail<'a>,
     t: &Tuple,
     looks: &mut Steps<L>,
 ) -> Lowering
     requires tables { AreTables dfa.now view.now.store.now view.now.tables.now }
     requires frame { IsFrame dfa.now view.now.store.now view.now.tables.now frame.now }
-    requires trail { Descends dfa.now view.now.store.now view.now.tables.now t.now frame.now (drop place trail.old.items) }
-    requires short { place + height (tree view.now.store.now frame.now.id.index) ≤ 68 }
+    requires room { length trail.old.items + height (tree view.now.store.now frame.now.id.index) ≤ trail.old.capacity }
     ensures follows { Follows dfa.now view.now.store.now t.now frame.now result }
-    ensures trail { Descends dfa.now view.now.store.now view.now.tables.now t.now frame.now (drop place trail.new.items) }
-    ensures above { take place trail.new.items ≡ take place trail.old.items }
+    ensures trail { AddsTo dfa.now view.now.store.now view.now.tables.now t.now frame.now trail.old.items trail.new.items }
+    ensures room { trail.new.capacity ≡ trail.old.capacity }
     ensures cost { looks.new ≤ looks.old + looks_over view.now.store.now t.now frame.now }
 {
     let _states = dfa.states();
-    if !is_marked_between(t, frame.at, frame.at + frame.look.len) {
-        return lower(
-            view,
-            dfa,
-            frame.id,
-            &frame.look,
-            frame.state,
-            frame.goals,
-            frame.at,
-            t,
-            looks,
-        );
+    let Frame {
+        id,
+        look,
+        at,
+        state,
+        goals,
+        ..
+    } = *frame;
+    let Node::Pair(l, r) = look.node else {
+        return lower(view, dfa, id, &look, state, goals, at, t, looks);
+    };
+    if !is_marked_between(t, at, at + look.len) {
+        return lower(view, dfa, id, &look, state, goals, at, t, looks);
     }
-    match frame.look.node {
-        Node::Byte(_) => {
-            lower(
-                view,
-                dfa,
-                frame.id,
-                &frame.look,
-                frame.state,
-                frame.goals,
-                frame.at,
-                t,
-                looks,
-            )
+    match new_child(view, dfa, frame, l, r, t, looks) {
+        Ok(child) => {
+            trail.push_reserved(Some(child));
+            let over = descend(view, dfa, &child, trail, t, looks);
+            joined(view, dfa, frame, &child, t, over)
         }
-        Node::Pair(l, r) => match child(view, dfa, frame, l, r, place, trail, t, looks) {
-            Ok(child) => {
-                let over = lower_kept(view, dfa, &child, place + 1, trail, t, looks);
-                joined(view, dfa, frame, &child, t, over)
-            }
-            Err(over) => over,
-        },
+        Err(over) => over,
     }
 }
 
-/// The kept child at this place, if the place at which a mark is lowered stands below it.
-fn child_over<'a>(
+/// Goes up from the frame at this depth, behind which the tuple has no mark, as far as a place is found at which the marks
+/// can be lowered, or to the top if a mark below the limit is looked for at the end.
+fn ascend<'a>(
     view: &View<'a>,
     dfa: &Dfa,
-    frame: &Frame<'a>,
-    place: usize,
+    top: &Frame<'a>,
     trail: &Trail<'a>,
     t: &Tuple,
-    from: &Lowered,
-) -> Option<Frame<'a>>
+    from: usize,
+    lowest: Lowering,
+    limit: u32,
+) -> Lowering
     requires tables { AreTables dfa.now view.now.store.now view.now.tables.now }
-    requires frame { IsFrame dfa.now view.now.store.now view.now.tables.now frame.now }
-    requires trail { Descends dfa.now view.now.store.now view.now.tables.now t.now frame.now (drop place trail.now.items) }
-    requires state { from.now.state < states_of dfa.now }
-    requires can { CanRun dfa.now from.now.state (drop (from.now.at - frame.now.at + 1) (text (tree view.now.store.now frame.now.id.index))) frame.now.goals }
-    ensures below { IfSome result (λ g. IsBelow dfa.now view.now.store.now view.now.tables.now t.now frame.now g) }
-    ensures trail { IfSome result (λ g. Descends dfa.now view.now.store.now view.now.tables.now t.now g (drop (place + 1) trail.now.items)) }
-    ensures from { IfSome result (λ g. g.at ≤ from.now.at) }
-    ensures place { IfSome result (λ g. from.now.at < g.at + length (text (tree view.now.store.now g.id.index))) }
-    ensures can { IfSome result (λ g. CanRun dfa.now from.now.state (drop (from.now.at - g.at + 1) (text (tree view.now.store.now g.id.index))) g.goals) }
+    requires frame { IsFrame dfa.now view.now.store.now view.now.tables.now top.now }
+    requires trail { Descends dfa.now view.now.store.now view.now.tables.now t.now top.now trail.now.items }
+    requires depth { from ≤ length trail.now.items }
+    requires quiet { IsQuiet t.now top.now (frame_of from top.now trail.now.items) }
+    requires follows { Follows dfa.now view.now.store.now t.now (frame_of from top.now trail.now.items) lowest }
+    ensures { FollowsUp dfa.now view.now.store.now t.now top.now limit result }
 {
     let _states = dfa.states();
-    let child = kept_below(view, dfa, frame, place, trail, t)?;
-    if child.at <= from.at && from.at - child.at < child.look.len {
-        Some(child)
-    } else {
-        None
+    let mut over = lowest;
+    let mut level = from;
+    while level > 0 {
+        if limit == 0 {
+            if let Some(_) = over.best {
+                return over;
+            }
+        }
+        let child = frame_at(view, dfa, &*top, &*trail, t, level);
+        level -= 1;
+        let frame = frame_at(view, dfa, &*top, &*trail, t, level);
+        over = joined(view, dfa, frame, child, t, over);
     }
+    over
 }
 
-/// The first marked text over the part of the node behind the place, from the state there into a goal, on the way that is
-/// kept from this place of the trail on.
+/// Follows the marks of the tuple over the top, on the way that is kept, which then leads to the last of them.
+pub(crate) fn lower_kept<'a, L: Ledger>(
+    view: &View<'a>,
+    dfa: &Dfa,
+    top: &Frame<'a>,
+    trail: &mut Trail<'a>,
+    t: &Tuple,
+    limit: u32,
+    looks: &mut Steps<L>,
+) -> Lowering
+    requires tables { AreTables dfa.now view.now.store.now view.now.tables.now }
+    requires frame { IsFrame dfa.now view.now.store.now view.now.tables.now top.now }
+    requires trail { Descends dfa.now view.now.store.now view.now.tables.now t.now top.now trail.old.items }
+    requires room { height (tree view.now.store.now top.now.id.index) ≤ trail.old.capacity }
+    ensures follows { FollowsUp dfa.now view.now.store.now t.now top.now limit result }
+    ensures trail { Descends dfa.now view.now.store.now view.now.tables.now t.now top.now trail.new.items }
+    ensures room { trail.new.capacity ≡ trail.old.capacity }
+    ensures cost { looks.new ≤ looks.old + looks_over view.now.store.now t.now top.now }
+{
+    let _states = dfa.states();
+    let lowest = cut_to(
+        view,
+        dfa,
+        top,
+        trail,
+        t,
+        last_mark(t, top.at + top.look.len),
+    );
+    let depth = trail.len();
+    let over = descend(view, dfa, &lowest, trail, t, looks);
+    ascend(view, dfa, top, &*trail, t, depth, over, limit)
+}
+
+/// The first marked text over the part of the top behind the place, from the state there into a goal, on the way that is
+/// kept. Of that way the part to the place is left, also for a tuple that has other marks from there on.
 pub(crate) fn complete_kept<'a, L: Ledger>(
     view: &View<'a>,
     dfa: &Dfa,
-    frame: &Frame<'a>,
-    place: usize,
-    trail: &Trail<'a>,
+    top: &Frame<'a>,
+    trail: &mut Trail<'a>,
     t: &Tuple,
     from: &Lowered,
     out: &mut Tuple,
     looks: &mut Steps<L>,
 ) -> u8
     requires tables { AreTables dfa.now view.now.store.now view.now.tables.now }
-    requires frame { IsFrame dfa.now view.now.store.now view.now.tables.now frame.now }
-    requires trail { Descends dfa.now view.now.store.now view.now.tables.now t.now frame.now (drop place trail.now.items) }
-    requires short { place + height (tree view.now.store.now frame.now.id.index) ≤ 68 }
+    requires frame { IsFrame dfa.now view.now.store.now view.now.tables.now top.now }
+    requires trail { Descends dfa.now view.now.store.now view.now.tables.now t.now top.now trail.old.items }
     requires state { from.now.state < states_of dfa.now }
-    requires from { frame.now.at ≤ from.now.at }
-    requires place { from.now.at < frame.now.at + length (text (tree view.now.store.now frame.now.id.index)) }
-    requires can { CanRun dfa.now from.now.state (drop (from.now.at - frame.now.at + 1) (text (tree view.now.store.now frame.now.id.index))) frame.now.goals }
-    ensures rest { FindsRest dfa.now from.now.state (drop (from.now.at - frame.now.at + 1) (text (tree view.now.store.now frame.now.id.index))) frame.now.goals
-        (height (tree view.now.store.now frame.now.id.index)) looks.old looks.new result (from.now.at + 1) out.old out.new }
+    requires over { StandsOver top.now from.now.at }
+    requires can { CanRun dfa.now from.now.state (drop (from.now.at - top.now.at + 1) (text (tree view.now.store.now top.now.id.index))) top.now.goals }
+    ensures rest { FindsRest dfa.now from.now.state (drop (from.now.at - top.now.at + 1) (text (tree view.now.store.now top.now.id.index))) top.now.goals
+        (height (tree view.now.store.now top.now.id.index)) looks.old looks.new result (from.now.at + 1) out.old out.new }
     ensures within { result < states_of dfa.now }
+    ensures trail { DescendsTo dfa.now view.now.store.now view.now.tables.now t.now from.now.at top.now trail.new.items }
+    ensures room { trail.new.capacity ≡ trail.old.capacity }
 {
     let _states = dfa.states();
-    match child_over(view, dfa, frame, place, trail, t, from) {
-        None => complete(
-            view,
-            dfa,
-            frame.id,
-            &frame.look,
-            from,
-            frame.goals,
-            frame.at,
-            out,
-            looks,
-        ),
-        Some(child) => {
-            let q = complete_kept(view, dfa, &child, place + 1, trail, t, from, out, looks);
-            match child.beside {
-                Beside::Right(r, right) => {
-                    first(
-                        view,
-                        dfa,
-                        r,
-                        &right,
-                        q,
-                        frame.goals,
-                        frame.at + child.look.len,
-                        out,
-                        looks,
-                    )
-                }
-                Beside::Left(_) => q,
-            }
+    let lowest = cut_to(view, dfa, top, trail, t, from.at);
+    let mut depth = trail.len();
+    let mut q = complete(
+        view,
+        dfa,
+        lowest.id,
+        &lowest.look,
+        from,
+        lowest.goals,
+        lowest.at,
+        out,
+        looks,
+    );
+    while depth > 0 {
+        let child = frame_at(view, dfa, &*top, &*trail, t, depth);
+        depth -= 1;
+        let frame = frame_at(view, dfa, &*top, &*trail, t, depth);
+        if let Beside::Right(r, right) = &child.beside {
+            q = first(
+                view,
+                dfa,
+                *r,
+                right,
+                q,
+                frame.goals,
+                frame.at + child.look.len,
+                out,
+                looks,
+            );
         }
     }
-}
-
-/// Whether the frame at this place stands behind the position.
-fn stands_behind(trail: &Trail<'_>, place: usize, at: u64) -> bool
-    ensures { result ≡ false → (g : Frame) → slice_get trail.now.items place ≡ Some (Some g) → g.at ≤ at }
-{
-    match kept_at(trail, place) {
-        Some(frame) => at < frame.at,
-        None => false,
-    }
-}
-
-/// How many frames come before the first that stands behind the position.
-fn count_up_to(trail: &Trail<'_>, at: u64) -> usize
-    ensures few { result ≤ length trail.now.items }
-    ensures before { (k : ℕ) (g : Frame) → k < result → slice_get trail.now.items k ≡ Some (Some g) → g.at ≤ at }
-{
-    for place in 0..trail.len() {
-        if stands_behind(trail, place, at) {
-            return place;
-        }
-    }
-    trail.len()
-}
-
-/// Keeps the way for a tuple that has the marks of the one before up to this position.
-pub(crate) fn renew<'a>(
-    view: &View<'a>,
-    dfa: &Dfa,
-    root: &Frame<'a>,
-    trail: &mut Trail<'a>,
-    t: &Tuple,
-    u: &Tuple,
-    at: u64,
-)
-    requires trail { Descends dfa.now view.now.store.now view.now.tables.now t.now root.now trail.old.items }
-    requires same { (p : ℕ) → 1 ≤ p → p < at → mark_of t.now p ≡ mark_of u.now p }
-    requires positive { 1 ≤ root.now.at }
-    ensures { Descends dfa.now view.now.store.now view.now.tables.now u.now root.now trail.new.items }
-{
-    let many = count_up_to(trail, at);
-    trail.truncate(many);
+    q
 }

@@ -16,6 +16,7 @@ ghost use Rattle.span_enum.specs.Tuples.{word_over, IsBound, IsBoundBetween, IsM
 ghost use Rattle.span_enum.specs.Words.{IsGreatestMark, IsNoMark, FindsFirst, FindsRest, CanRun, IsFork};
 ghost use Rattle.span_enum.specs.Lowering.{IsLowering};
 
+use crate::sets::goals_between;
 use marker_dfa::Dfa;
 use node_store::{Node, NodeId};
 use span_types::{Span, Steps, Tuple, mark_at};
@@ -39,7 +40,7 @@ pub(crate) fn can_reach(table: &Table, p: u8, goals: u128) -> bool
 }
 
 // The set of this state, or of none.
-fn state_if(p: u8, include: bool) -> u128
+pub(crate) fn state_if(p: u8, include: bool) -> u128
     requires { p < 128 }
     ensures { result ≡ (if include then 2 ^ p else 0) }
 {
@@ -122,20 +123,6 @@ pub(crate) fn greatest_mark(dfa: &Dfa, p: u8, byte: u8, goals: u128, limit: u32)
     None
 }
 
-// The states after the left child from which the right one leads into a goal.
-fn goals_between(dfa: &Dfa, here: &Table, left: &Table, right: &Table, p: u8, goals: u128) -> u128
-    requires fork { IsFork dfa.now here.now left.now right.now }
-    requires state { p < states_of dfa.now }
-    requires inside { p < length here.now }
-    requires can { can_reach_of here.now p goals ≡ true }
-    ensures before { (k : ℕ) → k < length right.now → member result k ≡ can_reach_of right.now k goals }
-    ensures can { can_reach_of left.now p result ≡ true }
-{
-    let _states = dfa.states();
-    let _marked = here.marked(p);
-    goals_before(right, goals)
-}
-
 /// The first marked text over the node from `p` into a goal. Its marks go into the tuple, and the last state is the answer.
 pub(crate) fn first<L: Ledger>(
     view: &View<'_>,
@@ -209,6 +196,36 @@ fn is_bound_between(span: Option<Span>, from: u64, to: u64) -> bool
     }
 }
 
+/// The last position before `end` at which the tuple has a mark, or 0.
+pub(crate) fn last_mark(t: &Tuple, end: u64) -> u64
+    ensures { (p : ℕ) → result < p → p < end → mark_of t.now p ≡ 0 }
+{
+    let mut last = 0;
+    for v in 0..t.count() {
+        last = last_bound(t.span(v), end, last);
+    }
+    last
+}
+
+/// The last of a position and the bounds of a span before `end`.
+fn last_bound(span: Option<Span>, end: u64, last: u64) -> u64
+    ensures later { last ≤ result }
+    ensures none { (p : ℕ) → result < p → p < end → IsBound span p → ⊥ }
+{
+    match span {
+        Some(span) => later(span.end, end, later(span.start, end, last)),
+        None => last,
+    }
+}
+
+/// The last of two positions, the first only if it is before `end`.
+fn later(at: u64, end: u64, last: u64) -> u64
+    ensures later { last ≤ result }
+    ensures bound { at < end → at ≤ result }
+{
+    if at < end && last < at { at } else { last }
+}
+
 /// A place at which a mark can be lowered: the position, the lower mark and the state after it.
 #[derive(Clone, Copy, Debug, PartialEq, Eq)]
 pub(crate) struct Lowered {
@@ -275,7 +292,7 @@ pub(crate) fn lower<L: Ledger>(
         Node::Pair(l, r) => {
             let left = view.look(l, looks);
             let right = view.look(r, looks);
-            let between = goals_before(right.table, goals);
+            let between = goals_between(dfa, here.table, left.table, right.table, p, goals);
             let over_left = lower(view, dfa, l, &left, p, between, at, t, looks);
             match over_left.state {
                 None => over_left,

@@ -3,10 +3,11 @@ use Rattle.slp_model.specs.Tree.{text, height}
 use Rattle.slp_model.specs.Nodes.{tree}
 use Rattle.span_types.specs.Words.{mark_count}
 use Rattle.span_enum.specs.Tuples.{word_over}
-use Rattle.span_enum.proofs.Paths.{Tells}
-use Rattle.span_enum.proofs.Steps.{look-table, pair-text, pair-height}
+use Rattle.span_enum.specs.Between.{AreBetween}
+use Rattle.span_enum.proofs.Betweens.{look-is}
+use Rattle.span_enum.proofs.Steps.{pair-text, pair-height}
 use Rattle.span_enum.proofs.Written.{over-count, over-append, over-bytes}
-use Rattle.span_enum.proofs.Lowerings.{lowering-dead, reach-by_table, onward-by_table, lower-cost, lower-cost_left}
+use Rattle.span_enum.proofs.Lowerings.{lowering-dead, lower-cost, lower-cost_left}
 use Rattle.span_enum.proofs.trail.new_child.Goals as goal
 
 pub returns-then-not-is_marked_between-clause-cost : goal.returns-then-not-is_marked_between-clause-cost
@@ -48,16 +49,17 @@ returns-in-None-clause-dead g c =
     let left = text (tree nodes c.args.l.index) in
     let right = text (tree nodes c.args.r.index) in
     let auto = c.states-states.ensures.automaton in
-    let live : c.args.r.index < length nodes = omega (arith, c.requires.pair.2, c.requires.frame.live) in
-    let ir : Tells a right c.look-right.result.table.now =
-    look-table a nodes view.tables.now c.requires.tables view.counted c.args.r.index _ _ _ live c.look-right.ensures.look in
-    let before = c.goals_before-before in
+    let live-l : c.args.l.index < length nodes = omega (arith, c.requires.pair.1, c.requires.frame.live) in
+    let live-r : c.args.r.index < length nodes = omega (arith, c.requires.pair.2, c.requires.frame.live) in
+    let b : AreBetween a f.state left right f.goals c.goals_between-between.result = c.goals_between-between.ensures.between left right
+    (look-is a nodes view.tables.now c.requires.tables view.counted c.args.l.index _ _ _ live-l c.look-left.ensures.look)
+    (look-is a nodes view.tables.now c.requires.tables view.counted c.args.r.index _ _ _ live-r c.look-right.ensures.look) in
     record {
       lowering = rw (pair-text nodes f.id.index c.args.l c.args.r c.requires.pair)
           (rw (over-append t f.at left right)
-          (lowering-dead a auto left right f.state f.goals before.result c.requires.frame.state
-          (reach-by_table a auto right _ f.goals before.result ir before.ensures.before left f.state c.requires.frame.state)
-          (onward-by_table a auto right _ f.goals before.result ir before.ensures.before before.ensures.small)
+          (lowering-dead a auto left right f.state f.goals c.goals_between-between.result c.requires.frame.state
+          b.reach
+          (λ n low h. b.onward n h)
           (word_over t f.at left) (word_over t (f.at + length left) right) (over-bytes t f.at left) (over-bytes t (f.at + length left) right)
           f.at c.lower-over.result c.lower-over.ensures.lowering c.in-None.is));
       within = c.lower-over.ensures.within;

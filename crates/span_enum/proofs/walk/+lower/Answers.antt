@@ -5,9 +5,11 @@ use Rattle.slp_model.specs.declared.Node.TheVariants.{Byte, Pair}
 use Rattle.span_enum.proofs.Paths.{Tells}
 use Rattle.span_types.specs.Words.{mark_count}
 use Rattle.span_enum.specs.Tuples.{word_over}
+use Rattle.span_enum.specs.Between.{AreBetween}
+use Rattle.span_enum.proofs.Betweens.{look-is}
 use Rattle.span_enum.proofs.Steps.{look-table, byte-text, pair-text, pair-height}
 use Rattle.span_enum.proofs.Written.{over-count, over-append, over-bytes}
-use Rattle.span_enum.proofs.Lowerings.{lowering-plain, lowering-byte_some, lowering-byte_none, lowering-dead, lowering-left, lowering-right, reach-by_table, onward-by_table, lower-cost, lower-cost_left}
+use Rattle.span_enum.proofs.Lowerings.{lowering-plain, lowering-byte_some, lowering-byte_none, lowering-dead, lowering-left, lowering-right, lower-cost, lower-cost_left}
 use Rattle.span_enum.proofs.walk.+lower.Goals as goal
 
 pub returns-then-not-is_marked_between-clause-lowering : goal.returns-then-not-is_marked_between-clause-lowering
@@ -33,14 +35,17 @@ returns-in-None-state-clause-lowering g t c =
     let nodes = view.store.now in
     let a = c.args.dfa.now in
     let pair : IsNodeAt nodes c.args.id.index (Pair c.in-Pair.l c.in-Pair.r) = rw c.in-Pair.is at c.requires.look.node_is in
-    let live : c.in-Pair.r.index < length nodes = omega (arith, pair.2, c.requires.live) in
-    let ir : Tells a (text (tree nodes c.in-Pair.r.index)) c.look-right.result.table.now =
-    look-table a nodes view.tables.now c.requires.tables view.counted c.in-Pair.r.index _ _ _ live c.look-right.ensures.look in
+    let live-l : c.in-Pair.l.index < length nodes = omega (arith, pair.1, c.requires.live) in
+    let live-r : c.in-Pair.r.index < length nodes = omega (arith, pair.2, c.requires.live) in
+    let b : AreBetween a c.args.p (text (tree nodes c.in-Pair.l.index)) (text (tree nodes c.in-Pair.r.index)) c.args.goals c.goals_between-between.result =
+    c.goals_between-between.ensures.between (text (tree nodes c.in-Pair.l.index)) (text (tree nodes c.in-Pair.r.index))
+    (look-is a nodes view.tables.now c.requires.tables view.counted c.in-Pair.l.index _ _ _ live-l c.look-left.ensures.look)
+    (look-is a nodes view.tables.now c.requires.tables view.counted c.in-Pair.r.index _ _ _ live-r c.look-right.ensures.look) in
     rw (pair-text nodes c.args.id.index _ _ pair)
     (rw (over-append c.args.t.now c.args.at (text (tree nodes c.in-Pair.l.index)) (text (tree nodes c.in-Pair.r.index)))
-    (lowering-dead a c.states-states.ensures.automaton (text (tree nodes c.in-Pair.l.index)) (text (tree nodes c.in-Pair.r.index)) c.args.p c.args.goals c.goals_before-between.result c.requires.state
-    (reach-by_table a c.states-states.ensures.automaton _ _ c.args.goals c.goals_before-between.result ir c.goals_before-between.ensures.before _ c.args.p c.requires.state)
-    (onward-by_table a c.states-states.ensures.automaton _ _ c.args.goals c.goals_before-between.result ir c.goals_before-between.ensures.before c.goals_before-between.ensures.small)
+    (lowering-dead a c.states-states.ensures.automaton (text (tree nodes c.in-Pair.l.index)) (text (tree nodes c.in-Pair.r.index)) c.args.p c.args.goals c.goals_between-between.result c.requires.state
+    b.reach
+    (λ n low h. b.onward n h)
     (word_over c.args.t.now c.args.at (text (tree nodes c.in-Pair.l.index))) (word_over c.args.t.now (c.args.at + length (text (tree nodes c.in-Pair.l.index))) (text (tree nodes c.in-Pair.r.index)))
     (over-bytes c.args.t.now c.args.at _) (over-bytes c.args.t.now _ _) c.args.at c.lower-over_left.result c.lower-over_left.ensures.lowering c.in-None-state.is))
 
@@ -50,14 +55,17 @@ returns-in-Some-best-clause-lowering g t c =
     let nodes = view.store.now in
     let a = c.args.dfa.now in
     let pair : IsNodeAt nodes c.args.id.index (Pair c.in-Pair.l c.in-Pair.r) = rw c.in-Pair.is at c.requires.look.node_is in
-    let live : c.in-Pair.r.index < length nodes = omega (arith, pair.2, c.requires.live) in
-    let ir : Tells a (text (tree nodes c.in-Pair.r.index)) c.look-right.result.table.now =
-    look-table a nodes view.tables.now c.requires.tables view.counted c.in-Pair.r.index _ _ _ live c.look-right.ensures.look in
+    let live-l : c.in-Pair.l.index < length nodes = omega (arith, pair.1, c.requires.live) in
+    let live-r : c.in-Pair.r.index < length nodes = omega (arith, pair.2, c.requires.live) in
+    let b : AreBetween a c.args.p (text (tree nodes c.in-Pair.l.index)) (text (tree nodes c.in-Pair.r.index)) c.args.goals c.goals_between-between.result =
+    c.goals_between-between.ensures.between (text (tree nodes c.in-Pair.l.index)) (text (tree nodes c.in-Pair.r.index))
+    (look-is a nodes view.tables.now c.requires.tables view.counted c.in-Pair.l.index _ _ _ live-l c.look-left.ensures.look)
+    (look-is a nodes view.tables.now c.requires.tables view.counted c.in-Pair.r.index _ _ _ live-r c.look-right.ensures.look) in
     rw (pair-text nodes c.args.id.index _ _ pair)
     (rw (over-append c.args.t.now c.args.at (text (tree nodes c.in-Pair.l.index)) (text (tree nodes c.in-Pair.r.index)))
-    (lowering-right a c.states-states.ensures.automaton (text (tree nodes c.in-Pair.l.index)) (text (tree nodes c.in-Pair.r.index)) c.args.p c.args.goals c.goals_before-between.result c.requires.state
-    (reach-by_table a c.states-states.ensures.automaton _ _ c.args.goals c.goals_before-between.result ir c.goals_before-between.ensures.before _ c.args.p c.requires.state)
-    (onward-by_table a c.states-states.ensures.automaton _ _ c.args.goals c.goals_before-between.result ir c.goals_before-between.ensures.before c.goals_before-between.ensures.small)
+    (lowering-right a c.states-states.ensures.automaton (text (tree nodes c.in-Pair.l.index)) (text (tree nodes c.in-Pair.r.index)) c.args.p c.args.goals c.goals_between-between.result c.requires.state
+    b.reach
+    (λ n low h. b.onward n h)
     (word_over c.args.t.now c.args.at (text (tree nodes c.in-Pair.l.index))) (word_over c.args.t.now (c.args.at + length (text (tree nodes c.in-Pair.l.index))) (text (tree nodes c.in-Pair.r.index)))
     (over-bytes c.args.t.now c.args.at _) (over-bytes c.args.t.now _ _) c.args.at c.in-Some-state.q c.lower-over_left.result c.lower-over_right.result c.in-Some-best.field-0
     c.lower-over_left.ensures.lowering c.in-Some-state.is (rw c.look-left.ensures.look.len_is at c.lower-over_right.ensures.lowering) c.in-Some-best.is))
@@ -68,14 +76,17 @@ returns-in-None-best-clause-lowering g t c =
     let nodes = view.store.now in
     let a = c.args.dfa.now in
     let pair : IsNodeAt nodes c.args.id.index (Pair c.in-Pair.l c.in-Pair.r) = rw c.in-Pair.is at c.requires.look.node_is in
-    let live : c.in-Pair.r.index < length nodes = omega (arith, pair.2, c.requires.live) in
-    let ir : Tells a (text (tree nodes c.in-Pair.r.index)) c.look-right.result.table.now =
-    look-table a nodes view.tables.now c.requires.tables view.counted c.in-Pair.r.index _ _ _ live c.look-right.ensures.look in
+    let live-l : c.in-Pair.l.index < length nodes = omega (arith, pair.1, c.requires.live) in
+    let live-r : c.in-Pair.r.index < length nodes = omega (arith, pair.2, c.requires.live) in
+    let b : AreBetween a c.args.p (text (tree nodes c.in-Pair.l.index)) (text (tree nodes c.in-Pair.r.index)) c.args.goals c.goals_between-between.result =
+    c.goals_between-between.ensures.between (text (tree nodes c.in-Pair.l.index)) (text (tree nodes c.in-Pair.r.index))
+    (look-is a nodes view.tables.now c.requires.tables view.counted c.in-Pair.l.index _ _ _ live-l c.look-left.ensures.look)
+    (look-is a nodes view.tables.now c.requires.tables view.counted c.in-Pair.r.index _ _ _ live-r c.look-right.ensures.look) in
     rw (pair-text nodes c.args.id.index _ _ pair)
     (rw (over-append c.args.t.now c.args.at (text (tree nodes c.in-Pair.l.index)) (text (tree nodes c.in-Pair.r.index)))
-    (lowering-left a c.states-states.ensures.automaton (text (tree nodes c.in-Pair.l.index)) (text (tree nodes c.in-Pair.r.index)) c.args.p c.args.goals c.goals_before-between.result c.requires.state
-    (reach-by_table a c.states-states.ensures.automaton _ _ c.args.goals c.goals_before-between.result ir c.goals_before-between.ensures.before _ c.args.p c.requires.state)
-    (onward-by_table a c.states-states.ensures.automaton _ _ c.args.goals c.goals_before-between.result ir c.goals_before-between.ensures.before c.goals_before-between.ensures.small)
+    (lowering-left a c.states-states.ensures.automaton (text (tree nodes c.in-Pair.l.index)) (text (tree nodes c.in-Pair.r.index)) c.args.p c.args.goals c.goals_between-between.result c.requires.state
+    b.reach
+    (λ n low h. b.onward n h)
     (word_over c.args.t.now c.args.at (text (tree nodes c.in-Pair.l.index))) (word_over c.args.t.now (c.args.at + length (text (tree nodes c.in-Pair.l.index))) (text (tree nodes c.in-Pair.r.index)))
     (over-bytes c.args.t.now c.args.at _) (over-bytes c.args.t.now _ _) c.args.at c.in-Some-state.q c.lower-over_left.result c.lower-over_right.result
     c.lower-over_left.ensures.lowering c.in-Some-state.is (rw c.look-left.ensures.look.len_is at c.lower-over_right.ensures.lowering) c.in-None-best.is))

@@ -1,0 +1,13 @@
+use Rattle.std.proofs.Common.{◌≤◌, length}
+use Rattle.span_enum.specs.Trail.{frame_of, IsQuiet, Follows}
+use Rattle.span_enum.proofs.trail.ascend.Given as goal
+
+abbrev pub invariant-loop-level : goal.invariant-loop-level
+invariant-loop-level l = record {
+  depth : l.level ≤ length l.trail.items;
+  quiet : IsQuiet l.t l.top (frame_of l.level l.top l.trail.items);
+  follows : Follows l.dfa l.view.store.now l.t (frame_of l.level l.top l.trail.items) l.over;
+}
+
+abbrev pub decreases-loop-level : goal.decreases-loop-level
+decreases-loop-level l = l.level
