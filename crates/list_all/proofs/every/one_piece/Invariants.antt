@@ -1,0 +1,6 @@
+use Rattle.std.proofs.Common.{take}
+use Rattle.list_all.specs.Every.{AreEach}
+use Rattle.list_all.proofs.every.one_piece.Given as goal
+
+abbrev pub invariant-loop-index : goal.invariant-loop-index
+invariant-loop-index g l = AreEach (g.F.FindPage.is_page l.finder) (take l.index l.roots) l.pages.items

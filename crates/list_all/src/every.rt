@@ -1,0 +1,141 @@
+//! The pages of many documents, in pieces.
+ghost use Rattle.std.specs.Prelude.{◌≡◌, ◌+◌, ◌<◌, ◌≤◌, ◌^◌, All, length, IfOk};
+ghost use Rattle.std.specs.List.{AllByRecursion};
+ghost use Rattle.std.specs.Thread.{IsSync};
+ghost use Rattle.slp_model.specs.Nodes.{IsLive};
+ghost use Rattle.state_tables.specs.Dictionary.{AreTables};
+ghost use Rattle.list_all.specs.Every.{AreEach, ArePages, AreRoots};
+
+use crate::finder::{FindPage, Finder};
+use crate::found::{OnePage, Pages};
+use doc_book::Docs;
+use marker_dfa::Dfa;
+use node_store::NodeId;
+use span_types::NoMemory;
+use state_tables::View;
+use std::alloc::Global;
+use std::thread::Threads;
+use work_gate::{Gate, halves};
+
+/// The roots of the documents at the places from `first` on.
+fn roots_of(
+    alloc: Global,
+    docs: &Docs,
+    first: usize,
+    count: usize,
+) -> Result<Vec<Option<NodeId>>, NoMemory>
+    requires { first + count ≤ length docs.now }
+    ensures { IfOk result (λ roots. AreRoots docs.now first count roots.items) }
+{
+    let _all = docs.count();
+    let mut roots = Vec::with_capacity(alloc, count)?;
+    for index in 0..count {
+        let (_, root) = docs.at(first + index);
+        roots.push(root)?;
+    }
+    Ok(roots)
+}
+
+/// The pages of the roots in order, on this thread. The first root's place is `at`.
+fn one_piece<F: FindPage, G: Gate>(
+    alloc: Global,
+    finder: &F,
+    roots: &[Option<NodeId>],
+    at: usize,
+    gate: &G,
+) -> Result<Vec<OnePage>, NoMemory>
+    requires can { All (F.can_find finder.now) roots.now }
+    requires places { at + length roots.now < 2 ^ 64 }
+    ensures { IfOk result (λ pages. AreEach (F.is_page finder.now) roots.now pages.items) }
+{
+    let mut pages = Vec::with_capacity(alloc, roots.len())?;
+    for (index, root) in roots.iter().enumerate() {
+        gate.pass(at + index);
+        let next = finder.find(alloc, *root)?;
+        pages.push(next)?;
+    }
+    Ok(pages)
+}
+
+/// The pages of the roots in order, found in at most `workers` pieces.
+fn in_pieces<R: Threads + Sync, F: FindPage, G: Gate>(
+    rt: &R,
+    alloc: Global,
+    finder: &F,
+    roots: &[Option<NodeId>],
+    at: usize,
+    workers: u8,
+    gate: &G,
+) -> Result<Vec<OnePage>, NoMemory>
+    requires can { All (F.can_find finder.now) roots.now }
+    requires places { at + length roots.now < 2 ^ 64 }
+    ensures { IfOk result (λ pages. AreEach (F.is_page finder.now) roots.now pages.items) }
+{
+    if workers <= 1 || roots.len() <= 1 {
+        return one_piece(alloc, finder, roots, at, gate);
+    }
+    let (left, right) = roots.split_at(roots.len() / 2);
+    let middle = at + left.len();
+    let (first, second) = halves(
+        rt,
+        || -> Result<Vec<OnePage>, NoMemory>
+            requires sync { IsSync R.row × IsSync F.row × IsSync G.row }
+            requires can { All (F.can_find finder.now) left.now }
+            requires places { at + length left.now < 2 ^ 64 }
+            ensures pages { IfOk result (λ pages. AreEach (F.is_page finder.entry.now) left.entry.now pages.items) }
+        { in_pieces(rt, alloc, finder, left, at, workers / 2, gate) },
+        || -> Result<Vec<OnePage>, NoMemory>
+            requires sync { IsSync R.row × IsSync F.row × IsSync G.row }
+            requires can { All (F.can_find finder.now) right.now }
+            requires places { middle + length right.now < 2 ^ 64 }
+            ensures pages { IfOk result (λ pages. AreEach (F.is_page finder.entry.now) right.entry.now pages.items) }
+        {
+            in_pieces(
+                rt,
+                alloc,
+                finder,
+                right,
+                middle,
+                workers - workers / 2,
+                gate,
+            )
+        },
+    );
+    let mut pages = first?;
+    pages.append(&mut second?)?;
+    Ok(pages)
+}
+
+/// The page of each of the documents at the places from `first` on: the first `limit` answers of the automaton on its text,
+/// and whether there are more. It is the same for every number of workers.
+///
+/// The view's tables are those of the automaton, and the documents' roots are its nodes or none. The places are cut into at
+/// most `workers` pieces, 1 to 64, which run at once, and `gate.pass` is called with each place before its page. The limit is
+/// 1 to 10,000.
+pub fn pages<R: Threads + Sync, G: Gate>(
+    rt: &R,
+    alloc: Global,
+    view: View<'_>,
+    dfa: &Dfa,
+    docs: &Docs,
+    first: usize,
+    count: usize,
+    limit: u16,
+    workers: u8,
+    gate: &G,
+) -> Result<Pages, NoMemory>
+    requires places { first + count ≤ length docs.now }
+    requires tables { AreTables dfa.now view.store.now view.tables.now }
+    requires live { AllByRecursion (λ d. IsLive view.store.now d.root) docs.now }
+    requires some { 1 ≤ limit }
+    requires few { limit ≤ 10000 }
+    requires least { 1 ≤ workers }
+    requires most { workers ≤ 64 }
+    ensures { IfOk result (ArePages dfa.now view.entry.store.now docs.now first count limit) }
+{
+    let _all = docs.count();
+    let roots = roots_of(alloc, docs, first, count)?;
+    let finder = Finder { view, dfa, limit };
+    let pages = in_pieces(rt, alloc, &finder, &roots, first, workers, gate)?;
+    Ok(Pages { pages })
+}

@@ -1,0 +1,26 @@
+//! A page of each document: the first answers of an automaton on every document's text, with workers.
+//!
+//! [`page`] gives the first answers on one text, and whether there are more. [`pages`] does so for a row of documents, whose
+//! places it cuts into pieces that run at once. The result depends neither on the number of workers nor on the gate:
+//!
+//! ```text
+//! let (view, dfa) = book.parts(b"q", &store)?;
+//! let pages = pages(&rt, alloc, view, dfa, &docs, 0, docs.count(), 1000, workers, &gate)?;
+//! for place in 0..pages.count() {
+//!     show(docs.at(place), pages.tuples(place), pages.more(place));
+//! }
+//! ```
+//!
+//! A page of a answers of k variables on a text of n bytes makes at most (a+2)·B(k, n) looks at a node and its table, with
+//! B(k, n) = 4·(2k+1)·(H(n)+3), and the answers are found in the tables of the text's nodes (M. L. Schmid and N. Schweikardt,
+//! Spanner evaluation over SLP-compressed documents, PODS 2021).
+#![tactic(auto)]
+
+mod every;
+mod finder;
+mod found;
+mod single;
+
+pub use every::pages;
+pub use found::{OnePage, Pages};
+pub use single::page;

@@ -1,0 +1,63 @@
+//! The page of one text.
+ghost use Rattle.std.specs.Prelude.{◌≡◌, ◌≤◌, ◌+◌, ◌*◌, ℕ, List, None, length, IfOk};
+ghost use Rattle.span_types.specs.Fibonacci.{looks_limit};
+ghost use Rattle.span_enum.specs.Listing.{IsReady, text_of};
+ghost use Rattle.list_all.specs.Page.{IsPageOf};
+
+use crate::found::OnePage;
+use marker_dfa::Dfa;
+use node_store::NodeId;
+use span_enum::Answers;
+use span_types::{NoMemory, Steps};
+use state_tables::View;
+use std::alloc::Global;
+use std::sync::ledger::Ledger;
+
+/// The first `limit` answers of the automaton on the root's text, and whether there are more.
+///
+/// The view's tables are those of the automaton, and the root is one of its nodes or none. A page of a answers of k variables
+/// on a text of n bytes makes at most (a+2)·B(k, n) looks, and takes memory for these answers alone.
+pub fn page<L: Ledger>(
+    alloc: Global,
+    view: View<'_>,
+    dfa: &Dfa,
+    root: Option<NodeId>,
+    limit: u16,
+    looks: &mut Steps<L>,
+) -> Result<OnePage, NoMemory>
+    requires { IsReady dfa.now view.store.now view.tables.now root }
+    ensures page { IfOk result (IsPageOf dfa.now (text_of view.entry.store.now root) limit) }
+    ensures cost { IfOk result (λ p. looks.new ≤ looks.old + (length p.tuples + 2) * looks_limit dfa.now.variables (length (text_of view.entry.store.now root))) }
+    ensures most { looks.new ≤ looks.old + (limit + 2) * looks_limit dfa.now.variables (length (text_of view.entry.store.now root)) }
+{
+    let mut answers = Answers::start(alloc, view, dfa, root, looks)?;
+    first_answers(alloc, &mut answers, limit, looks)
+}
+
+/// The first `limit` answers of those that none was taken of, and whether there are more.
+fn first_answers<L: Ledger>(
+    alloc: Global,
+    answers: &mut Answers<'_>,
+    limit: u16,
+    looks: &mut Steps<L>,
+) -> Result<OnePage, NoMemory>
+    requires { answers.old.after ≡ None }
+    ensures page { IfOk result (IsPageOf answers.old.automaton answers.old.text limit) }
+    ensures cost { IfOk result (λ p. looks.new ≤ looks.old + (length p.tuples + 1) * looks_limit answers.old.automaton.variables (length answers.old.text)) }
+    ensures most { looks.new ≤ looks.old + (limit + 1) * looks_limit answers.old.automaton.variables (length answers.old.text) }
+{
+    let mut tuples = Vec::new(alloc);
+    for _given in 0..limit {
+        match answers.next(looks) {
+            Some(tuple) => tuples.push(tuple)?,
+            None => {
+                return Ok(OnePage {
+                    tuples,
+                    more: false,
+                });
+            }
+        }
+    }
+    let more = answers.next(looks).is_some();
+    Ok(OnePage { tuples, more })
+}
