@@ -1,0 +1,207 @@
+-- The spans that are found one after the other are the chosen ones.
+use Rattle.std.proofs.Common.{◌≡◌, ℕ, suc, ◌+◌, ◌*◌, ◌<◌, ◌≤◌, ◌⊎◌, inl, inr, min, List, [], ◌∷◌, ◌++◌, length, length-append, append_assoc, Option, Some, None, MatchOption, Contains, refl, sym, ap, subst, ◌∙◌, arith}
+use Rattle.std.proofs.Math.Nat.{mul-le-mul_right}
+use Rattle.span_types.specs.Fibonacci.{looks_limit}
+use Rattle.span_types.specs.declared.tuple.Span.{Span}
+use Rattle.span_types.specs.Places.{IsSpan}
+use Rattle.span_types.specs.Marks.{Comes, Lies}
+use Rattle.span_types.specs.Answers.{IsRising}
+use Rattle.span_types.proofs.AnswerLaws.{split-member, here, there}
+use Rattle.marker_dfa.specs.Deterministic.{DeterministicAutomaton}
+use Rattle.span_enum.specs.Members.{Tuple, IsMember, AreAnswersOf, IsFirstMember}
+use Rattle.span_replace.specs.Chosen.{spans_in, chosen}
+use Rattle.span_replace.specs.Cursor.{NoSpanLeft, past}
+use Rattle.span_replace.specs.Replaced.{AreApart}
+use Rattle.span_replace.proofs.SpanOrder.{IsBefore, one, before-comes, comes-before}
+use Rattle.span_replace.proofs.Picked.{AreSorted, Has, sorted-span, picked, past-span, before-all, after-start, chosen-picked, first-picked, none-picked, chosen-apart}
+
+-- ---- tuples of one variable
+rest-none : (x : Option Span) (t : Tuple) → length (x ∷ t) ≡ 1 → t ≡ []
+rest-none x [] size = refl
+rest-none x (y ∷ t) size = absurd (omega (arith, size))
+
+rising-tail : (x : Tuple) (xs : List Tuple) → IsRising (x ∷ xs) → IsRising xs
+rising-tail x xs h = λ i j d lt l. h (suc i) (suc j) d (omega arith) (omega arith)
+
+rising-head : (x : Tuple) (xs : List Tuple) (t : Tuple) → IsRising (x ∷ xs) → Contains xs t → Comes x t
+rising-head x xs t h c = subst (Comes x) c.2 (h 0 (suc c.0) t (omega arith) (omega (arith, c.1)))
+
+no-member : (t : Tuple) → Contains [] t → ⊥
+no-member t c = omega (arith, c.1)
+
+-- each is of one variable, and lies in n bytes
+abbrev AreOf : ℕ → List Tuple → Type 0
+AreOf n ts = (t : Tuple) → Contains ts t → (length t ≡ 1) × Lies n t
+
+has-in : (n : ℕ) (ts : List Tuple) (q : Span) → AreOf n ts → Has (spans_in ts) q → Contains ts (one q)
+has-in n [] q are h = absurd h
+has-in n ([] ∷ ts) q are h = there [] ts (one q) (has-in n ts q (λ t k. are t (there [] ts t k)) h)
+has-in n ((None ∷ u) ∷ ts) q are h = there (None ∷ u) ts (one q) (has-in n ts q (λ t k. are t (there (None ∷ u) ts t k)) h)
+has-in n ((Some x ∷ u) ∷ ts) q are (inl e) =
+    let nil : u ≡ [] = rest-none (Some x) u (are (Some x ∷ u) (here (Some x ∷ u) ts)).0 in
+    let same : Some x ∷ u ≡ one q = λ i. Some (e i) ∷ nil i in
+    subst (Contains ((Some x ∷ u) ∷ ts)) same (here (Some x ∷ u) ts)
+has-in n ((Some x ∷ u) ∷ ts) q are (inr h) = there (Some x ∷ u) ts (one q) (has-in n ts q (λ t k. are t (there (Some x ∷ u) ts t k)) h)
+
+in-has : (ts : List Tuple) (q : Span) → Contains ts (one q) → Has (spans_in ts) q
+in-has [] q c = absurd (no-member (one q) c)
+in-has ([] ∷ ts) q c = by (in-has ts q) (split-member [] ts (one q) c)
+  where
+    by : (Contains ts (one q) → Has (spans_in ts) q) → ([] ≡ one q) ⊎ Contains ts (one q) → Has (spans_in ts) q
+    by rest (inl e) = let bad : ⊥ = cc in absurd bad
+    by rest (inr k) = rest k
+in-has ((None ∷ u) ∷ ts) q c = by (in-has ts q) (split-member (None ∷ u) ts (one q) c)
+  where
+    by : (Contains ts (one q) → Has (spans_in ts) q) → (None ∷ u ≡ one q) ⊎ Contains ts (one q) → Has (spans_in ts) q
+    by rest (inl e) = let bad : ⊥ = cc in absurd bad
+    by rest (inr k) = rest k
+in-has ((Some x ∷ u) ∷ ts) q c = by (in-has ts q) (split-member (Some x ∷ u) ts (one q) c)
+  where
+    by : (Contains ts (one q) → Has (spans_in ts) q) → (Some x ∷ u ≡ one q) ⊎ Contains ts (one q) → (x ≡ q) ⊎ Has (spans_in ts) q
+    by rest (inl e) = inl cc
+    by rest (inr k) = inr (rest k)
+
+span-lies : (n : ℕ) (q : Span) → n ≤ 281474976710656 → Lies n (one q) → IsSpan q
+span-lies n q short h = let f = h 0 q refl in record { positive = f.0; ordered = f.1; small = omega (arith, f.2) }
+
+sorted-in : (n : ℕ) (ts : List Tuple) → n ≤ 281474976710656 → IsRising ts → AreOf n ts → AreSorted (spans_in ts)
+sorted-in n [] short h are = tt
+sorted-in n ([] ∷ ts) short h are = sorted-in n ts short (rising-tail [] ts h) (λ t k. are t (there [] ts t k))
+sorted-in n ((None ∷ u) ∷ ts) short h are = sorted-in n ts short (rising-tail (None ∷ u) ts h) (λ t k. are t (there (None ∷ u) ts t k))
+sorted-in n ((Some x ∷ u) ∷ ts) short h are = (ix, after, sorted-in n ts short (rising-tail (Some x ∷ u) ts h) later)
+  where
+    later : AreOf n ts
+    later t k = are t (there (Some x ∷ u) ts t k)
+
+    head : (length (Some x ∷ u) ≡ 1) × Lies n (Some x ∷ u)
+    head = are (Some x ∷ u) (here (Some x ∷ u) ts)
+
+    same : Some x ∷ u ≡ one x
+    same = ap (λ (z : Tuple). Some x ∷ z) (rest-none (Some x) u head.0)
+
+    ix : IsSpan x
+    ix = span-lies n x short (subst (Lies n) same head.1)
+
+    after : (q : Span) → Has (spans_in ts) q → IsBefore x q
+    after q k =
+        let c : Contains ts (one q) = has-in n ts q later k in
+        let iq : IsSpan q = span-lies n q short (later (one q) c).1 in
+        comes-before x q ix.ordered iq.ordered (subst (λ (z : Tuple). Comes z (one q)) same (rising-head (Some x ∷ u) ts (one q) h c))
+
+-- ---- what was found
+-- the spans that follow, of which the first was found
+pub upcoming : Option Span → List Span → List Span
+upcoming None qs = []
+upcoming (Some q) qs = q ∷ picked (past q) qs
+
+-- of the chosen spans these are the front, and the next one was found
+pub record Picks (a : DeterministicAutomaton) (s : List ℕ) (spans : List Span) (next : Option Span) : Type 0 where
+  pub whole : (all : List Tuple) → AreAnswersOf a s all → chosen all ≡ spans ++ upcoming next (spans_in all)
+
+-- the first span that is left after the cursor, if any
+abbrev pub Finds : DeterministicAutomaton → List ℕ → Option Tuple → Option Span → Type 0
+Finds a s cursor next = MatchOption next (NoSpanLeft a s cursor) (λ q. IsFirstMember a s cursor (one q))
+
+append-nil : (xs : List Span) → xs ++ [] ≡ xs
+append-nil [] = refl
+append-nil (x ∷ xs) = ap (λ l. x ∷ l) (append-nil xs)
+
+module _ (a : DeterministicAutomaton) (s : List ℕ) (single : a.variables ≡ 1) (short : length s ≤ 281474976710656) where
+  module _ (all : List Tuple) (answers : AreAnswersOf a s all) where
+    are : AreOf (length s) all
+    are t k = let m = (answers.members t).0 k in (m.size ∙ single, m.lies)
+
+    sorted : AreSorted (spans_in all)
+    sorted = sorted-in (length s) all short answers.rising are
+
+    member : (q : Span) → Has (spans_in all) q → IsMember a s (one q)
+    member q h = (answers.members (one q)).0 (has-in (length s) all q are h)
+
+    has : (q : Span) → IsMember a s (one q) → Has (spans_in all) q
+    has q m = in-has all q ((answers.members (one q)).1 m)
+
+    one-inj : (q r : Span) → one q ≡ one r → q ≡ r
+    one-inj q r e = cc
+
+    found-after : (c : Span) → IsSpan c → (o : Option Span) → Finds a s (Some (one c)) o → picked c (spans_in all) ≡ upcoming o (spans_in all)
+    unfolding upcoming
+    found-after c ic None none =
+        none-picked c (spans_in all) (λ r h b. none r (member r h) (before-comes c r ic.ordered (sorted-span (spans_in all) sorted r h).ordered b))
+    found-after c ic (Some q) f = first-picked c q (spans_in all) sorted (has q f.member) (comes-before c q ic.ordered iq.ordered f.left) least
+      where
+        iq : IsSpan q
+        iq = span-lies (length s) q short f.member.lies
+
+        least : (r : Span) → Has (spans_in all) r → IsBefore c r → (r ≡ q) ⊎ IsBefore q r
+        least r h b =
+            let ir = sorted-span (spans_in all) sorted r h in
+            elim (f.least (one r) (member r h) (before-comes c r ic.ordered ir.ordered b)) [
+              | inl e ↦ inl (one-inj r q e)
+              | inr k ↦ inr (comes-before q r iq.ordered ir.ordered k)
+            ]
+
+    found-first : (o : Option Span) → Finds a s None o → picked before-all (spans_in all) ≡ upcoming o (spans_in all)
+    unfolding upcoming
+    found-first None none = none-picked before-all (spans_in all) (λ r h b. none r (member r h) tt)
+    found-first (Some q) f = first-picked before-all q (spans_in all) sorted (has q f.member) (after-start q iq) least
+      where
+        iq : IsSpan q
+        iq = span-lies (length s) q short f.member.lies
+
+        least : (r : Span) → Has (spans_in all) r → IsBefore before-all r → (r ≡ q) ⊎ IsBefore q r
+        least r h b =
+            let ir = sorted-span (spans_in all) sorted r h in
+            elim (f.least (one r) (member r h) tt) [ inl e ↦ inl (one-inj r q e) | inr k ↦ inr (comes-before q r iq.ordered ir.ordered k) ]
+
+    -- the chosen spans lie apart in the text
+    pub apart-all : AreApart (length s) (chosen all)
+    apart-all = chosen-apart (length s) 1 (spans_in all) (omega arith) (λ q h. let f = (member q h).lies 0 q refl in (f.1, omega (arith, f.2)))
+
+  -- and so do those that were found, once there are no more
+  pub apart-of : (spans : List Span) → Picks a s spans None → (all : List Tuple) × AreAnswersOf a s all → AreApart (length s) spans
+  unfolding upcoming
+  apart-of spans p (all, answers) = subst (AreApart (length s)) (p.whole all answers ∙ append-nil spans) (apart-all all answers)
+
+  pub picks-first : (o : Option Span) → Finds a s None o → Picks a s [] o
+  picks-first o f = record { whole = λ all answers. chosen-picked (spans_in all) (sorted all answers) ∙ found-first all answers o f }
+
+  pub picks-step : (spans : List Span) (q : Span) (o : Option Span) → IsSpan q → Picks a s spans (Some q) → Finds a s (Some (one (past q))) o → Picks a s (spans ++ q ∷ []) o
+  unfolding upcoming
+  picks-step spans q o iq p f = record {
+    whole = λ all answers.
+        p.whole all answers ∙ (ap (λ (z : List Span). spans ++ q ∷ z) (found-after all answers (past q) (past-span q iq) o f) ∙ sym (append_assoc spans (q ∷ []) (upcoming o (spans_in all))));
+  }
+
+module _ (a : DeterministicAutomaton) (s : List ℕ) (spans : List Span) (all : List Tuple) (answers : AreAnswersOf a s all) where
+  pub picks-all : Picks a s spans None → chosen all ≡ spans
+  unfolding upcoming
+  picks-all p = p.whole all answers ∙ append-nil spans
+
+  pub picks-more : (q : Span) → Picks a s spans (Some q) → length spans < length (chosen all)
+  unfolding upcoming
+  picks-more q p =
+      let e : length (chosen all) ≡ length (spans ++ q ∷ picked (past q) (spans_in all)) = ap length (p.whole all answers) in
+      omega (arith, e, length-append spans (q ∷ picked (past q) (spans_in all)))
+
+  pub picks-front : (o : Option Span) → Picks a s spans o → length spans ≤ length (chosen all)
+  picks-front o p =
+      let e : length (chosen all) ≡ length (spans ++ upcoming o (spans_in all)) = ap length (p.whole all answers) in
+      omega (arith, e, length-append spans (upcoming o (spans_in all)))
+
+-- ---- looks for one more search than spans
+pub some-looks : (n : ℕ) → 1 ≤ looks_limit 1 n
+some-looks n = omega arith
+
+pub paid-first : (old mid new k b : ℕ) → mid ≤ old + 1 → new ≤ mid + 2 * b → 1 ≤ b → k ≡ 0 → new ≤ old + 3 * (k + 1) * b
+paid-first old mid new k b h l some zero = subst (λ n. new ≤ old + 3 * (n + 1) * b) (sym zero) (omega (arith, h, l, some))
+
+pub paid-next : (old mid new k more b : ℕ) → mid ≤ old + 3 * (k + 1) * b → new ≤ mid + 3 * b → more ≡ k + 1 → new ≤ old + 3 * (more + 1) * b
+paid-next old mid new k more b h l is = subst (λ n. new ≤ old + 3 * (n + 1) * b) (sym is) (omega (arith, h, l, by))
+  where
+    by : 3 * (k + 1 + 1) * b ≡ 3 * (k + 1) * b + 3 * b
+    by = grind arith
+
+pub paid-most : (old new k c b : ℕ) → new ≤ old + 3 * (k + 1) * b → k ≤ c → k ≤ 32768 → new ≤ old + 3 * (min c 32768 + 1) * b
+paid-most old new k c b h first second =
+    let l : 3 * (k + 1) ≤ 3 * (min c 32768 + 1) = omega (arith, first, second) in
+    omega (arith, h, mul-le-mul_right b l)

@@ -1,0 +1,5 @@
+mod SpanOrder
+mod Picked
+mod Choices
+mod Grown
+mod Spliced

@@ -1,0 +1,155 @@
+//! Which answers are replaced.
+ghost use Rattle.std.specs.Prelude.{◌≡◌, ℕ, ◌+◌, ◌*◌, ◌<◌, ◌≤◌, min, All, List, [], ◌∷◌, length, Some, None, MatchOption, IfOk};
+ghost use Rattle.span_types.specs.Fibonacci.{looks_limit};
+ghost use Rattle.span_types.specs.Places.{IsSpan, IsSpanOr};
+ghost use Rattle.span_enum.specs.Listing.{text_of, IsReady};
+ghost use Rattle.span_enum.specs.Members.{Tuple as ATuple, AreAnswersOf, IsFirstMember};
+ghost use Rattle.span_replace.specs.Chosen as meaning;
+ghost use Rattle.span_replace.specs.Cursor.{NoSpanLeft, past};
+ghost use Rattle.span_replace.specs.Replaced.{AreApart};
+ghost use Rattle.span_replace.specs.Outcomes.{IsChoice};
+
+use crate::refusal::ReplaceRefusal;
+use crate::spans::Chosen;
+use marker_dfa::Dfa;
+use node_store::NodeId;
+use span_enum::Answers;
+use span_types::{NoMemory, Span, Steps, Tuple};
+use state_tables::View;
+use std::alloc::Global;
+use std::sync::ledger::Ledger;
+
+/// The most spans that are chosen.
+const MOST: usize = 32768;
+
+/// The greatest position in a text.
+const LAST: u64 = 281474976710657;
+
+/// Chosen of the root's text: the first answer that is a span, and after each span taken the first answer that comes later in
+/// mark order and starts at or past its end.
+///
+/// The automaton has one variable, the view's tables are those of the automaton, and the root is one of its nodes or none. It
+/// makes at most 3·(c+1)·B(1, n) looks, where c is the number of chosen spans, or 32,768 where there are more.
+///
+/// # Errors
+///
+/// `TooManyMatches` exactly where there are more than 32,768 chosen spans, and `NoMemory`.
+pub fn chosen<L: Ledger>(
+    alloc: Global,
+    view: View<'_>,
+    dfa: &Dfa,
+    root: Option<NodeId>,
+    looks: &mut Steps<L>,
+) -> Result<Chosen, ReplaceRefusal>
+    requires ready { IsReady dfa.now view.store.now view.tables.now root }
+    requires one { dfa.now.variables ≡ 1 }
+    ensures list { (all : List ATuple) × AreAnswersOf dfa.now (text_of view.entry.store.now root) all }
+    ensures choice { (all : List ATuple) → AreAnswersOf dfa.now (text_of view.entry.store.now root) all → IsChoice (meaning.chosen all) result }
+    ensures apart { IfOk result (λ spans. AreApart (length (text_of view.entry.store.now root)) spans) }
+    ensures cost { (all : List ATuple) → AreAnswersOf dfa.now (text_of view.entry.store.now root) all
+        → looks.new ≤ looks.old + 3 * (min (length (meaning.chosen all)) 32768 + 1) * looks_limit 1 (length (text_of view.entry.store.now root)) }
+{
+    let _states = dfa.states();
+    check_text(&view, dfa, root, looks);
+    let mut spans = Vec::new(alloc);
+    let mut next = first_span(alloc, view, dfa, root, looks)?;
+    while let Some(span) = next {
+        if spans.len() == MOST {
+            return Err(ReplaceRefusal::TooManyMatches);
+        }
+        spans.push(span)?;
+        next = span_after(alloc, view, dfa, root, span, looks)?;
+    }
+    Ok(Chosen { spans })
+}
+
+/// A look at the root shows that its text isn't too long, so that no position is past the greatest one.
+fn check_text<L: Ledger>(view: &View<'_>, dfa: &Dfa, root: Option<NodeId>, looks: &mut Steps<L>)
+    requires { IsReady dfa.now view.now.store.now view.now.tables.now root }
+    ensures short { length (text_of view.now.store.now root) ≤ 281474976710656 }
+    ensures bytes { All (λ b. b < 256) (text_of view.now.store.now root) }
+    ensures cost { looks.new ≤ looks.old + 1 }
+{
+    if let Some(id) = root {
+        let _look = view.look(id, looks);
+    }
+}
+
+/// The first answer that is a span.
+fn first_span<L: Ledger>(
+    alloc: Global,
+    view: View<'_>,
+    dfa: &Dfa,
+    root: Option<NodeId>,
+    looks: &mut Steps<L>,
+) -> Result<Option<Span>, NoMemory>
+    requires ready { IsReady dfa.now view.store.now view.tables.now root }
+    requires one { dfa.now.variables ≡ 1 }
+    ensures span { IfOk result (λ o. MatchOption o (NoSpanLeft dfa.now (text_of view.entry.store.now root) None)
+        (λ q. IsFirstMember dfa.now (text_of view.entry.store.now root) None (Some q ∷ []))) }
+    ensures place { IfOk result IsSpanOr }
+    ensures cost { looks.new ≤ looks.old + 2 * looks_limit 1 (length (text_of view.entry.store.now root)) }
+{
+    let mut answers = Answers::start(alloc, view, dfa, root, looks)?;
+    Ok(next_span(&mut answers, looks))
+}
+
+/// The first answer that is a span and comes after the one that was taken, at or past its end.
+fn span_after<L: Ledger>(
+    alloc: Global,
+    view: View<'_>,
+    dfa: &Dfa,
+    root: Option<NodeId>,
+    taken: Span,
+    looks: &mut Steps<L>,
+) -> Result<Option<Span>, NoMemory>
+    requires ready { IsReady dfa.now view.store.now view.tables.now root }
+    requires one { dfa.now.variables ≡ 1 }
+    requires span { IsSpan taken }
+    ensures span { IfOk result (λ o. MatchOption o (NoSpanLeft dfa.now (text_of view.entry.store.now root) (Some (Some (past taken) ∷ [])))
+        (λ q. IsFirstMember dfa.now (text_of view.entry.store.now root) (Some (Some (past taken) ∷ [])) (Some q ∷ []))) }
+    ensures place { IfOk result IsSpanOr }
+    ensures cost { looks.new ≤ looks.old + 3 * looks_limit 1 (length (text_of view.entry.store.now root)) }
+{
+    let cursor = cursor_past(taken);
+    let mut answers = Answers::seek(alloc, view, dfa, root, &cursor, looks)?;
+    Ok(next_span(&mut answers, looks))
+}
+
+/// The tuple after which the next span is sought.
+fn cursor_past(taken: Span) -> Tuple
+    requires { IsSpan taken }
+    ensures { result ≡ Some (past taken) ∷ [] }
+{
+    Tuple::none(1).with_span(0, Some(span_past(taken)))
+}
+
+/// The last span that starts before the end of this one, or this one where it is empty.
+fn span_past(taken: Span) -> Span
+    requires { IsSpan taken }
+    ensures value { result ≡ past taken }
+    ensures span { IsSpan result }
+{
+    if taken.start < taken.end {
+        Span {
+            start: taken.end - 1,
+            end: LAST,
+        }
+    } else {
+        taken
+    }
+}
+
+/// The first answer that is left, if it is a span. The answer without a span comes last.
+fn next_span<L: Ledger>(answers: &mut Answers<'_>, looks: &mut Steps<L>) -> Option<Span>
+    requires { answers.old.automaton.variables ≡ 1 }
+    ensures span { MatchOption result (NoSpanLeft answers.old.automaton answers.old.text answers.old.after)
+        (λ q. IsFirstMember answers.old.automaton answers.old.text answers.old.after (Some q ∷ [])) }
+    ensures place { IsSpanOr result }
+    ensures cost { looks.new ≤ looks.old + looks_limit 1 (length answers.old.text) }
+{
+    match answers.next(looks) {
+        Some(tuple) => tuple.span(0),
+        None => None,
+    }
+}
