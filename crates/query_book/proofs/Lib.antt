@@ -7,3 +7,4 @@ pub mod Served
 pub mod Growth
 pub mod Covered
 pub mod Lists
+pub mod Lent

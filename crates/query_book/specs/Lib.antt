@@ -9,3 +9,4 @@ pub mod Laws
 pub mod Kept
 pub mod Making
 pub mod Growing
+pub mod Parts

@@ -6,6 +6,7 @@ mod compiled;
 mod entry;
 mod growing;
 pub mod law;
+mod parts;
 mod questions;
 mod refusal;
 

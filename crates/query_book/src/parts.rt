@@ -1,0 +1,41 @@
+//! The parts of a query, for callers that walk by themselves.
+ghost use Rattle.std.specs.Prelude.{◌≡◌, IfOk, IfErr};
+ghost use Rattle.state_tables.specs.Dictionary.{AreTables};
+ghost use Rattle.marker_dfa.specs.Deterministic.{IsDeterministic};
+ghost use Rattle.query_book.specs.Answers.{IsNamed};
+ghost use Rattle.query_book.specs.Book.{IsMissing, queries_of};
+ghost use Rattle.query_book.specs.Parts.{HasAnswersOf};
+ghost use Rattle.query_book.specs.Serving.{Covers};
+
+use crate::book::QueryBook;
+use crate::refusal::BookRefusal;
+use marker_dfa::Dfa;
+use node_store::Store;
+use state_tables::View;
+
+impl QueryBook {
+    /// A view of the store's nodes with their tables in the query of this name, and the query's automaton, which has the
+    /// query's variables and on each text of at most 2^48 bytes the query's answers.
+    ///
+    /// Each node of the store has its table. It takes no memory and expected constant time.
+    ///
+    /// # Errors
+    ///
+    /// `NoSuchQuery` exactly where no query has the name.
+    pub fn parts<'a>(
+        &'a self,
+        name: &[u8],
+        store: &'a Store,
+    ) -> Result<(View<'a>, &'a Dfa), BookRefusal>
+        requires { Covers store.now self.now }
+        ensures store { IfOk result (λ p. p.0.store.now ≡ store.now) }
+        ensures tables { IfOk result (λ p. AreTables p.1.now p.0.store.now p.0.tables.now) }
+        ensures automaton { IfOk result (λ p. IsDeterministic p.1.now) }
+        ensures query { IfOk result (λ p. IsNamed (queries_of self.now) name.now (HasAnswersOf p.1.now)) }
+        ensures missing { IfErr result (IsMissing (queries_of self.now) name.now) }
+    {
+        let entry = self.entry(name)?;
+        let _states = entry.query.dfa.states();
+        Ok((entry.tables.view(store), &entry.query.dfa))
+    }
+}
