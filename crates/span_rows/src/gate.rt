@@ -1,4 +1,4 @@
-//! A gate that shows that `run` hands on the workers that the words ask for.
+//! Gates that show that `run` hands on the workers that the words ask for.
 ghost use Rattle.std.specs.Prelude.{◌≡◌, ◌<◌};
 
 use edge_io::{MemSink, MemSource, SureShelf};
@@ -12,21 +12,24 @@ use std::test::Fail;
 use std::thread::Threads;
 use work_gate::Gate;
 
-/// How many turns the first node waits for another one.
+/// How many turns one that arrives waits for the next.
 const TURNS: u32 = 50_000_000;
 
-/// Holds the first node that arrives until another has arrived, for a stated number of turns.
+/// Lets so many pass, and holds the next one that arrives until another has arrived, for a stated number of turns.
 #[derive(Drop)]
 struct Meeting {
+    passing: u64,
     arrived: AtomicU64,
     gave_up: AtomicU64,
 }
 
 impl Gate for Meeting {
-    fn pass(&self, _node: usize) {
-        self.arrived.fetch_add(1, Ordering::SeqCst);
+    fn pass(&self, _place: usize) {
+        if self.arrived.fetch_add(1, Ordering::SeqCst) != self.passing {
+            return;
+        }
         for _ in 0..TURNS {
-            if self.arrived.load(Ordering::SeqCst) > 1 {
+            if self.arrived.load(Ordering::SeqCst) != self.passing.wrapping_add(1) {
                 return;
             }
         }
@@ -34,15 +37,19 @@ impl Gate for Meeting {
     }
 }
 
-/// Runs a script with two workers: the status, and whether the gate gave up.
+/// How a run over the gate ended: its status, how many arrived, and whether the gate gave up.
+type Met = (Status, u64, u64);
+
+/// Runs a script with two workers, over a gate that lets so many pass before it holds one.
 fn met<R: Threads + Sync, P: Ledger, T: Ledger, L: Ledger>(
     rt: &R,
     alloc: Global,
     script: &[u8],
+    passing: u64,
     pairs: Blank,
     places: Blank,
     looks: Blank,
-) -> Result<(Status, u64), Fail>
+) -> Result<Met, Fail>
     requires pairs { (pairs.name ≡ P.name) × (pairs.parts ≡ P.parts) × (0 < P.parts) }
     requires places { (places.name ≡ T.name) × (places.parts ≡ T.parts) × (0 < T.parts) }
     requires looks { (looks.name ≡ L.name) × (looks.parts ≡ L.parts) × (0 < L.parts) }
@@ -57,6 +64,7 @@ fn met<R: Threads + Sync, P: Ledger, T: Ledger, L: Ledger>(
     let mut places = Steps::<T>::new(places);
     let mut looks = Steps::<L>::new(looks);
     let gate = Meeting {
+        passing,
         arrived: AtomicU64::new(0),
         gave_up: AtomicU64::new(0),
     };
@@ -72,22 +80,42 @@ fn met<R: Threads + Sync, P: Ledger, T: Ledger, L: Ledger>(
         &mut places,
         &mut looks,
     );
-    Ok((status, gate.gave_up.load(Ordering::SeqCst)))
+    let arrived = gate.arrived.load(Ordering::SeqCst);
+    Ok((status, arrived, gate.gave_up.load(Ordering::SeqCst)))
 }
 
 #[test]
-fn two_workers_meet(rt: HostRuntime) -> Result<(), Fail> {
-    let alloc = rt.alloc();
+fn two_nodes_meet(rt: HostRuntime) -> Result<(), Fail> {
     let script = b"text d abcd\nquery q .*\ntest q d\n".as_slice();
-    let (status, gave_up) = met::<HostRuntime, Brand, Brand, Brand>(
+    let (status, arrived, gave_up) = met::<HostRuntime, Brand, Brand, Brand>(
         &rt,
-        alloc,
+        rt.alloc(),
         script,
+        0,
         Blank::new(1),
         Blank::new(1),
         Blank::new(1),
     )?;
     assert_eq!(rt; status, Status::Done);
+    assert_eq!(rt; arrived, 7);
+    assert_eq!(rt; gave_up, 0);
+    Ok(())
+}
+
+#[test]
+fn two_documents_meet(rt: HostRuntime) -> Result<(), Fail> {
+    let script = b"text a a\ntext b b\nquery q .\ntest q a\nlistall q\n".as_slice();
+    let (status, arrived, gave_up) = met::<HostRuntime, Brand, Brand, Brand>(
+        &rt,
+        rt.alloc(),
+        script,
+        2,
+        Blank::new(1),
+        Blank::new(1),
+        Blank::new(1),
+    )?;
+    assert_eq!(rt; status, Status::Done);
+    assert_eq!(rt; arrived, 4);
     assert_eq!(rt; gave_up, 0);
     Ok(())
 }

@@ -196,16 +196,17 @@ fn each_call_of_a_shelf_fails(rt: HostRuntime) -> Result<(), Fail> {
     Ok(())
 }
 
-/// Each command over files but `load`, and a listing.
-const LISTING: &str = "text d abab\nsave f\nopen f\nquery q .*$x{ab}.*\nlist q d\n";
+/// Each command over files but `load`, and listings.
+const LISTING: &str = "text d abab\nsave f\nopen f\nquery q .*$x{ab}.*\nlist q d\nlistall q\n";
 
-const LISTED: &str = "ok d 4 \"abab\"\nok 1 4\nok 1\nok q x\nx=[1,3)\nx=[3,5)\nend\n";
+const LISTED: &str =
+    "ok d 4 \"abab\"\nok 1 4\nok 1\nok q x\nx=[1,3)\nx=[3,5)\nend\ndoc d\nx=[1,3)\nx=[3,5)\nend\ndone\n";
 
 #[test]
 fn each_call_of_a_source_fails(rt: HostRuntime) -> Result<(), Fail> {
     let alloc = rt.alloc();
-    // one call for each of 54 bytes, and one that finds the end
-    for bad_read in 1..=56 {
+    // one call for each of 64 bytes, and one that finds the end
+    for bad_read in 1..=66 {
         let setting = Setting {
             piece: 1,
             bad_read,
@@ -213,7 +214,7 @@ fn each_call_of_a_source_fails(rt: HostRuntime) -> Result<(), Fail> {
         };
         let (status, written) = ran(&rt, alloc, LISTING.as_bytes().to_vec(alloc)?, setting)?;
         let (wanted, length) = match bad_read {
-            56 => (Status::Done, LISTED.len()),
+            66 => (Status::Done, LISTED.len()),
             _ => (Status::ScriptFault, 0),
         };
         assert_eq!(rt; status, wanted, "{bad_read}");
@@ -225,8 +226,8 @@ fn each_call_of_a_source_fails(rt: HostRuntime) -> Result<(), Fail> {
 #[test]
 fn each_call_of_a_sink_fails(rt: HostRuntime) -> Result<(), Fail> {
     let alloc = rt.alloc();
-    // one call for each of 53 bytes
-    for bad_write in 1..=54 {
+    // one call for each of 84 bytes
+    for bad_write in 1..=85 {
         let setting = Setting {
             piece: 1,
             bad_write,
@@ -234,7 +235,7 @@ fn each_call_of_a_sink_fails(rt: HostRuntime) -> Result<(), Fail> {
         };
         let (status, written) = ran(&rt, alloc, LISTING.as_bytes().to_vec(alloc)?, setting)?;
         let wanted = match bad_write {
-            54 => Status::Done,
+            85 => Status::Done,
             _ => Status::OutFault,
         };
         assert_eq!(rt; status, wanted, "{bad_write}");

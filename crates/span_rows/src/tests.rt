@@ -6,7 +6,7 @@ use std::test::Fail;
 /// A script, its whole output and its status.
 type Row = (&'static str, &'static str, Status);
 
-const ROWS: [Row; 23] = [
+const ROWS: [Row; 28] = [
     (
         "text d abracadabra\n",
         "ok d 11 \"abracadabra\"\n",
@@ -112,6 +112,27 @@ const ROWS: [Row; 23] = [
     (
         "list q d after z\ntext d a\nlist q d after z\nquery q $x{a}\nlist q d after z\nlist q d after z=-\nlist q d after x=- limit 10001\n",
         "line 1: NoSuchDocument d\nok d 1 \"a\"\nline 3: NoSuchQuery q\nok q x\nline 5: BadTuple\nline 6: OtherVariables\nline 7: Syntax\n",
+        Status::SomeRefused,
+    ),
+    (
+        "text a aa\ntext b b\nquery q .*$x{a+}.*\nlistall q limit 2\nlistall r\n",
+        "ok a 2 \"aa\"\nok b 1 \"b\"\nok q x\ndoc a\nx=[1,2)\nx=[1,3)\nmore\ndoc b\nend\ndone\nline 5: NoSuchQuery r\n",
+        Status::SomeRefused,
+    ),
+    ("query q a\nlistall q\n", "ok q\ndone\n", Status::Done),
+    (
+        "text d abracadabra\ntext w X\nquery q .*$x{a}.*\nreplace e q d w\n",
+        "ok d 11 \"abracadabra\"\nok w 1 \"X\"\nok q x\nok e 11 \"XbrXcXdXbrX\"\n",
+        Status::Done,
+    ),
+    (
+        "text d aa\ntext w -\nquery q .*$x{a*}.*\nreplace e q d w\nquery r $x{a}$y{a}\nreplace e r d w\n",
+        "ok d 2 \"aa\"\nok w 1 \"-\"\nok q x\nok e 5 \"-----\"\nok r x y\nline 6: NotOneVariable 2\n",
+        Status::SomeRefused,
+    ),
+    (
+        "text d ab\nmark v\nlet d = concat(d,d)\nback v\nnames\nback w\ndrop d\nunmark v\nnames\n",
+        "ok d 2 \"ab\"\nok\nok d 4 \"abab\"\nok\nd 2\nend\nline 6: NoSuchVersion w\nok\nok\nend\n",
         Status::SomeRefused,
     ),
 ];

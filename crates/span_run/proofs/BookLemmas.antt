@@ -9,7 +9,7 @@ use Rattle.query_book.specs.Named.{Named, is_same, value_of, put, taken_out}
 use Rattle.query_book.specs.declared.entry.Entry.{Entry}
 use Rattle.query_book.specs.Serving.{Serves, covered_of, sum_of, ArePartlyAt}
 use Rattle.query_book.proofs.Served.{serves-more}
-use Rattle.span_run.specs.Registered.{Places, PlacesPart}
+use Rattle.span_language.specs.Counts.{Places, PlacesPart}
 use Rattle.span_run.proofs.PlacesLemmas.{sum_within}
 
 -- tables stay true where the store grows
@@ -64,11 +64,11 @@ within-more : (m n : ℕ) (ps : Named ℕ) → m ≤ n → AllByRecursion (λ p.
 within-more m n [] le h = tt
 within-more m n (p ∷ ps) le h = (omega (arith, le, h.0), within-more m n ps le h.1)
 
-pub put_placed : (nodes places : ℕ) (old new : Named ℕ) (name : List ℕ) → new ≡ put old name 0 → AllByRecursion (λ p. p.1 ≤ nodes) old → Places 1 nodes old new places places
-put_placed nodes places old new name is h = subst (λ (c : Named ℕ). Places 1 nodes old c places places) (sym is) (λ n le. let step = put-places n old name (within-more nodes n old le h) in omega (arith, step))
+pub put_placed : (nodes places : ℕ) (old new : Named ℕ) (name : List ℕ) → new ≡ put old name 0 → AllByRecursion (λ p. p.1 ≤ nodes) old → Places 1 0 nodes old new places places
+put_placed nodes places old new name is h = subst (λ (c : Named ℕ). Places 1 0 nodes old c places places) (sym is) (λ n le. let step = put-places n old name (within-more nodes n old le h) in omega (arith, step))
 
-pub take_placed : (nodes places : ℕ) (old new : Named ℕ) (name : List ℕ) → new ≡ taken_out old name → AllByRecursion (λ p. p.1 ≤ nodes) old → Places 0 nodes old new places places
-take_placed nodes places old new name is h = subst (λ (c : Named ℕ). Places 0 nodes old c places places) (sym is) (λ n le. let step = take-places n old name (within-more nodes n old le h) in omega (arith, step))
+pub take_placed : (nodes places : ℕ) (old new : Named ℕ) (name : List ℕ) → new ≡ taken_out old name → AllByRecursion (λ p. p.1 ≤ nodes) old → Places 0 0 nodes old new places places
+take_placed nodes places old new name is h = subst (λ (c : Named ℕ). Places 0 0 nodes old c places places) (sym is) (λ n le. let step = take-places n old name (within-more nodes n old le h) in omega (arith, step))
 
 partly-length : (n : ℕ) (ps qs : Named ℕ) → ArePartlyAt n ps qs → length qs ≡ length ps
 partly-length n [] [] h = refl
@@ -77,11 +77,11 @@ partly-length n (p ∷ ps) [] h = absurd h
 partly-length n (p ∷ ps) (q ∷ qs) h = ap suc (partly-length n ps qs h.2)
 
 -- tables were given to nodes
-pub grown_placed : (nodes p q : ℕ) (old new : Named ℕ) → ArePartlyAt nodes old new → q + sum_of old ≡ p + sum_of new → Places 0 nodes old new p q
+pub grown_placed : (nodes p q : ℕ) (old new : Named ℕ) → ArePartlyAt nodes old new → q + sum_of old ≡ p + sum_of new → Places 0 0 nodes old new p q
 grown_placed nodes p q old new partly steps = λ n le. let same = ap (λ k. n * k) (partly-length nodes old new partly) in omega (arith, same, steps)
 
-pub grown_placed_part : (nodes p q : ℕ) (old new : Named ℕ) → AllByRecursion (λ x. x.1 ≤ nodes) new → ArePartlyAt nodes old new → q + sum_of old ≡ p + sum_of new → PlacesPart nodes old p q
-grown_placed_part nodes p q old new within partly steps = λ n le.
+pub grown_placed_part : (nodes p q : ℕ) (old new : Named ℕ) → AllByRecursion (λ x. x.1 ≤ nodes) new → ArePartlyAt nodes old new → q + sum_of old ≡ p + sum_of new → PlacesPart nodes nodes old p q
+grown_placed_part nodes p q old new within partly steps = λ n few le.
     let same = ap (λ k. n * k) (partly-length nodes old new partly) in
     let sums = sum_within n nodes le new within in
     omega (arith, same, sums, steps)

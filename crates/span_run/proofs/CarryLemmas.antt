@@ -1,7 +1,7 @@
 -- What the parts of a command say of the whole.
 use Rattle.std.proofs.Common.{◌≡◌, ◌⊎◌, inl, inr, ℕ, ◌+◌, ◌*◌, ◌≤◌, List, [], ◌∷◌, ◌++◌, length, Option, Some, None, Result, Ok, Err, refl, sym, ap, subst, ◌∙◌, arith, drop, zero, suc, codes, append_assoc}
 use Rattle.span_types.specs.Fibonacci.{height_limit}
-use Rattle.std.specs.Prelude.{option_map, slice_get, ok_or, IsSome, OnOk, OnErr, IfOk, IfErr}
+use Rattle.std.specs.Prelude.{slice_get, ok_or, OnOk, OnErr, IfOk, IfErr}
 use Rattle.doc_book.specs.declared.Missing.{Missing}
 use Rattle.std.specs.Option.{option_map_or}
 use Rattle.std.specs.List.{flat_map}
@@ -9,7 +9,6 @@ use Rattle.edge_io.specs.Files.{Files}
 use Rattle.slp_model.specs.declared.NodeId.{NodeId}
 use Rattle.slp_model.specs.declared.Node.{Node}
 use Rattle.doc_book.specs.declared.Doc.{Doc}
-use Rattle.doc_book.specs.Docs as book
 use Rattle.edit_expr.specs.declared.expr.Expr.{Expr}
 use Rattle.edit_expr.specs.declared.refusal.EditRefusal.{EditRefusal}
 use Rattle.edit_expr.specs.declared.refusal.EditRefusal.TheVariants as edit
@@ -21,16 +20,13 @@ use Rattle.script_syntax.specs.declared.form.Command.TheVariants as form
 use Rattle.report_text.specs.Reply.{refusal_text}
 use Rattle.report_text.specs.declared.refusal.Refusal.{Refusal}
 use Rattle.report_text.specs.declared.refusal.Refusal.TheVariants.{Syntax, NoSuchDocument}
-use Rattle.span_types.specs.Query.{Query}
-use Rattle.span_run.specs.State.{World, Documents, Named, stated, world, put, value_of, taken_out}
-use Rattle.span_run.specs.Held.{state_of}
-use Rattle.span_run.specs.Replies.{entry_text, names_text, ok_text, shown_range}
+use Rattle.span_language.specs.State.{State, World, Documents, with_documents, world, put, value_of, taken_out}
+use Rattle.span_language.specs.Replies.{entry_text, names_text, ok_text, shown_range}
 use Rattle.span_run.specs.Shown.{Assigns, IsDenied, IsShown}
-use Rattle.span_run.specs.Allowance.{Counters, counters, no_steps, edit_limit, load_limit, IsPaid, PaysFor, PaysForPart}
-use Rattle.span_run.specs.Step.{Carries}
-use Rattle.span_run.specs.declared.told.Told.{Told}
-use Rattle.span_run.specs.declared.told.Told.TheVariants.{Accepted, Refused}
-use Rattle.span_run.proofs.HeldLemmas.{value_of-plain, plain-taken_out}
+use Rattle.span_language.specs.Allowance.{Counters, counters, no_steps, edit_limit, load_limit, IsPaid, PaysFor, PaysForPart}
+use Rattle.span_language.specs.Step.{Carries}
+use Rattle.span_language.specs.declared.told.Told.{Told}
+use Rattle.span_language.specs.declared.told.Told.TheVariants.{Accepted, Refused}
 
 -- an assignment, seen from equal documents and with an equal text
 pub assigned_after : (old mid new : Documents) (number : ℕ) (name x y : List ℕ) (told : Told) (reply : List ℕ) → mid ≡ old → x ≡ y
@@ -51,71 +47,60 @@ assigned_refusal old new number name o why told reply same (inl none) h =
 assigned_refusal old new number name o why told reply same (inr is) h =
     subst (λ (t : Outcome). Assigns old number name t told reply new) (sym is) (h, same)
 
--- other documents beside the same queries and files
-pub only_documents : (old new : Documents) (queries : Named Query) (files : Option Files) → new ≡ old → world (stated new queries) files ≡ world (stated old queries) files
-only_documents old new queries files same = ap (λ (d : Documents). world (stated d queries) files) same
+-- other documents beside the same queries, versions and files
+pub only_documents : (st : State) (old new : Documents) (files : Option Files) → new ≡ old → world (with_documents st new) files ≡ world (with_documents st old) files
+only_documents st old new files same = ap (λ (d : Documents). world (with_documents st d) files) same
 
-pub text_carries : (old new : Documents) (number : ℕ) (name bytes : List ℕ) (told : Told) (reply : List ℕ) → Assigns old number name (Ok bytes) told reply new
-    → (queries : Named Query) (files : Option Files) → Carries (world (stated old queries) files) number (form.Text name bytes) told reply (world (stated new queries) files)
-text_carries old new number name bytes told reply h queries files =
-    subst (λ (t : Told). Carries (world (stated old queries) files) number (form.Text name bytes) t reply (world (stated new queries) files)) (sym h.0.0)
-    (h.0.1, only_documents (put old name bytes) new queries files h.1)
+pub text_carries : (st : State) (new : Documents) (number : ℕ) (name bytes : List ℕ) (told : Told) (reply : List ℕ) (files : Option Files) → Assigns st.documents number name (Ok bytes) told reply new
+    → Carries (world st files) number (form.Text name bytes) told reply (world (with_documents st new) files)
+text_carries st new number name bytes told reply files h =
+    subst (λ (t : Told). Carries (world st files) number (form.Text name bytes) t reply (world (with_documents st new) files)) (sym h.0.0)
+    (h.0.1, only_documents st (put st.documents name bytes) new files h.1)
 
-pub let_carries : (old new : Documents) (number : ℕ) (name expr : List ℕ) (e : Expr) (told : Told) (reply : List ℕ) → ExprReads expr e → Assigns old number name (eval old e) told reply new
-    → (queries : Named Query) (files : Option Files) → Carries (world (stated old queries) files) number (form.LetDoc name expr) told reply (world (stated new queries) files)
-let_carries old new number name expr e told reply reads h queries files = at (eval old e) refl h
+pub let_carries : (st : State) (new : Documents) (number : ℕ) (name expr : List ℕ) (e : Expr) (told : Told) (reply : List ℕ) (files : Option Files) → ExprReads expr e → Assigns st.documents number name (eval st.documents e) told reply new
+    → Carries (world st files) number (form.LetDoc name expr) told reply (world (with_documents st new) files)
+let_carries st new number name expr e told reply files reads h = at (eval st.documents e) refl h
   where
-    at : (o : Outcome) → eval old e ≡ o → Assigns old number name o told reply new → Carries (world (stated old queries) files) number (form.LetDoc name expr) told reply (world (stated new queries) files)
+    at : (o : Outcome) → eval st.documents e ≡ o → Assigns st.documents number name o told reply new → Carries (world st files) number (form.LetDoc name expr) told reply (world (with_documents st new) files)
     at (Ok text) is g =
-        subst (λ (t : Told). Carries (world (stated old queries) files) number (form.LetDoc name expr) t reply (world (stated new queries) files)) (sym g.0.0)
-        (e, text, reads, is, g.0.1, only_documents (put old name text) new queries files g.1)
+        subst (λ (t : Told). Carries (world st files) number (form.LetDoc name expr) t reply (world (with_documents st new) files)) (sym g.0.0)
+        (e, text, reads, is, g.0.1, only_documents st (put st.documents name text) new files g.1)
     at (Err refusal) is g =
-        subst (λ (t : Told). Carries (world (stated old queries) files) number (form.LetDoc name expr) t reply (world (stated new queries) files)) (sym g.0.0)
-        (g.0.1, inr (e, refusal, reads, is, g.0.2), g.0.3, only_documents old new queries files g.1)
+        subst (λ (t : Told). Carries (world st files) number (form.LetDoc name expr) t reply (world (with_documents st new) files)) (sym g.0.0)
+        (g.0.1, inr (e, refusal, reads, is, g.0.2), g.0.3, only_documents st st.documents new files g.1)
 
-pub let_is_syntax : (old : Documents) (number : ℕ) (name expr : List ℕ) (told : Told) (reply : List ℕ) → ((e : Expr) → ExprReads expr e → ⊥) → told ≡ Refused → reply ≡ refusal_text number Syntax
-    → (queries : Named Query) (files : Option Files) → Carries (world (stated old queries) files) number (form.LetDoc name expr) told reply (world (stated old queries) files)
-let_is_syntax old number name expr told reply none is written queries files =
-    subst (λ (t : Told). Carries (world (stated old queries) files) number (form.LetDoc name expr) t reply (world (stated old queries) files)) (sym is)
-    (Syntax, inl (none, refl), written, refl)
+pub let_is_syntax : (w : World) (number : ℕ) (name expr : List ℕ) (told : Told) (reply : List ℕ) → ((e : Expr) → ExprReads expr e → ⊥) → told ≡ Refused → reply ≡ refusal_text number Syntax
+    → Carries w number (form.LetDoc name expr) told reply w
+let_is_syntax w number name expr told reply none is written =
+    subst (λ (t : Told). Carries w number (form.LetDoc name expr) t reply w) (sym is) (Syntax, inl (none, refl), written, refl)
 
-pub show_carries : (ns : List Node) (ds : List Doc) (number : ℕ) (name : List ℕ) (i j : ℕ) (root : Option NodeId) (told : Told) (reply : List ℕ) → book.root_of ds name ≡ Some root → IsShown number (shown_range (text_at ns root) i j) told reply
-    → (queries : Named Query) (files : Option Files) → Carries (world (state_of ns ds queries) files) number (form.Show name i j) told reply (world (state_of ns ds queries) files)
-show_carries ns ds number name i j root told reply there h queries files = at (shown_range (text_at ns root) i j) refl h
+pub show_carries : (w : World) (number : ℕ) (name : List ℕ) (i j : ℕ) (text : List ℕ) (told : Told) (reply : List ℕ) → value_of w.state.documents name ≡ Some text → IsShown number (shown_range text i j) told reply
+    → Carries w number (form.Show name i j) told reply w
+show_carries w number name i j text told reply there h = at (shown_range text i j) refl h
   where
-    here : (o : Result (List ℕ) Refusal) → shown_range (text_at ns root) i j ≡ o → option_map_or (λ text. shown_range text i j) (value_of (plain ns ds) name) (Err (NoSuchDocument name)) ≡ o
-    here o is = ap (λ v. option_map_or (λ text. shown_range text i j) v (Err (NoSuchDocument name))) (value_of-plain ns ds name ∙ ap (option_map (text_at ns)) there) ∙ is
+    here : (o : Result (List ℕ) Refusal) → shown_range text i j ≡ o → option_map_or (λ s. shown_range s i j) (value_of w.state.documents name) (Err (NoSuchDocument name)) ≡ o
+    here o is = ap (λ v. option_map_or (λ s. shown_range s i j) v (Err (NoSuchDocument name))) there ∙ is
 
-    at : (o : Result (List ℕ) Refusal) → shown_range (text_at ns root) i j ≡ o → IsShown number o told reply → Carries (world (state_of ns ds queries) files) number (form.Show name i j) told reply (world (state_of ns ds queries) files)
-    at (Ok bytes) is g =
-        subst (λ (t : Told). Carries (world (state_of ns ds queries) files) number (form.Show name i j) t reply (world (state_of ns ds queries) files)) (sym g.0)
-        (bytes, here (Ok bytes) is, g.1, refl)
-    at (Err why) is g =
-        subst (λ (t : Told). Carries (world (state_of ns ds queries) files) number (form.Show name i j) t reply (world (state_of ns ds queries) files)) (sym g.0)
-        (why, here (Err why) is, g.1, refl)
+    at : (o : Result (List ℕ) Refusal) → shown_range text i j ≡ o → IsShown number o told reply → Carries w number (form.Show name i j) told reply w
+    at (Ok bytes) is g = subst (λ (t : Told). Carries w number (form.Show name i j) t reply w) (sym g.0) (bytes, here (Ok bytes) is, g.1, refl)
+    at (Err why) is g = subst (λ (t : Told). Carries w number (form.Show name i j) t reply w) (sym g.0) (why, here (Err why) is, g.1, refl)
 
-pub show_missing : (ns : List Node) (ds : List Doc) (number : ℕ) (name : List ℕ) (i j : ℕ) (told : Told) (reply : List ℕ) → book.root_of ds name ≡ None → told ≡ Refused → reply ≡ refusal_text number (NoSuchDocument name)
-    → (queries : Named Query) (files : Option Files) → Carries (world (state_of ns ds queries) files) number (form.Show name i j) told reply (world (state_of ns ds queries) files)
-show_missing ns ds number name i j told reply missing is written queries files =
-    let gone : value_of (plain ns ds) name ≡ None = value_of-plain ns ds name ∙ ap (option_map (text_at ns)) missing in
-    subst (λ (t : Told). Carries (world (state_of ns ds queries) files) number (form.Show name i j) t reply (world (state_of ns ds queries) files)) (sym is)
-    (NoSuchDocument name, ap (λ v. option_map_or (λ text. shown_range text i j) v (Err (NoSuchDocument name))) gone, written, refl)
+pub show_missing : (w : World) (number : ℕ) (name : List ℕ) (i j : ℕ) (told : Told) (reply : List ℕ) → value_of w.state.documents name ≡ None → told ≡ Refused → reply ≡ refusal_text number (NoSuchDocument name)
+    → Carries w number (form.Show name i j) told reply w
+show_missing w number name i j told reply missing is written =
+    subst (λ (t : Told). Carries w number (form.Show name i j) t reply w) (sym is)
+    (NoSuchDocument name, ap (λ v. option_map_or (λ s. shown_range s i j) v (Err (NoSuchDocument name))) missing, written, refl)
 
-pub drop_carries : (ns : List Node) (old new : List Doc) (number : ℕ) (name : List ℕ) (told : Told) (reply : List ℕ) → IsSome (book.root_of old name) → new ≡ book.taken_out old name → told ≡ Accepted → reply ≡ ok_text
-    → (queries : Named Query) (files : Option Files) → Carries (world (state_of ns old queries) files) number (form.DropDoc name) told reply (world (state_of ns new queries) files)
-drop_carries ns old new number name told reply there taken is written queries files = at (book.root_of old name) refl there
-  where
-    at : (o : Option (Option NodeId)) → book.root_of old name ≡ o → IsSome o → Carries (world (state_of ns old queries) files) number (form.DropDoc name) told reply (world (state_of ns new queries) files)
-    at None e none = let bad : ⊥ = cc none in absurd bad
-    at (Some root) e some =
-        subst (λ (t : Told). Carries (world (state_of ns old queries) files) number (form.DropDoc name) t reply (world (state_of ns new queries) files)) (sym is)
-        (text_at ns root, value_of-plain ns old name ∙ ap (option_map (text_at ns)) e, written, only_documents (taken_out (plain ns old) name) (plain ns new) queries files (ap (plain ns) taken ∙ plain-taken_out ns old name))
+pub drop_carries : (st : State) (new : Documents) (number : ℕ) (name text : List ℕ) (told : Told) (reply : List ℕ) (files : Option Files) → value_of st.documents name ≡ Some text → new ≡ taken_out st.documents name → told ≡ Accepted → reply ≡ ok_text
+    → Carries (world st files) number (form.DropDoc name) told reply (world (with_documents st new) files)
+drop_carries st new number name text told reply files there taken is written =
+    subst (λ (t : Told). Carries (world st files) number (form.DropDoc name) t reply (world (with_documents st new) files)) (sym is)
+    (text, there, written, only_documents st (taken_out st.documents name) new files taken)
 
-pub drop_missing : (ns : List Node) (ds : List Doc) (number : ℕ) (name : List ℕ) (told : Told) (reply : List ℕ) → book.root_of ds name ≡ None → told ≡ Refused → reply ≡ refusal_text number (NoSuchDocument name)
-    → (queries : Named Query) (files : Option Files) → Carries (world (state_of ns ds queries) files) number (form.DropDoc name) told reply (world (state_of ns ds queries) files)
-drop_missing ns ds number name told reply missing is written queries files =
-    subst (λ (t : Told). Carries (world (state_of ns ds queries) files) number (form.DropDoc name) t reply (world (state_of ns ds queries) files)) (sym is)
-    (NoSuchDocument name, (value_of-plain ns ds name ∙ ap (option_map (text_at ns)) missing, refl), written, refl)
+pub drop_missing : (w : World) (number : ℕ) (name : List ℕ) (told : Told) (reply : List ℕ) → value_of w.state.documents name ≡ None → told ≡ Refused → reply ≡ refusal_text number (NoSuchDocument name)
+    → Carries w number (form.DropDoc name) told reply w
+drop_missing w number name told reply missing is written =
+    subst (λ (t : Told). Carries w number (form.DropDoc name) t reply w) (sym is) (NoSuchDocument name, (missing, refl), written, refl)
 
 pub none_paid : (looks p q : ℕ) → q ≡ p → IsPaid no_steps (counters looks p) (counters looks q)
 none_paid looks p q is = record { looks = omega arith; pairs = omega (arith, is) }

@@ -4,41 +4,37 @@ use Rattle.edge_io.specs.Files.{Files}
 use Rattle.script_syntax.specs.declared.form.Command.TheVariants as form
 use Rattle.report_text.specs.Reply.{refusal_text}
 use Rattle.report_text.specs.declared.refusal.Refusal.TheVariants.{NoSuchFile, FileTooLong, BadImage}
-use Rattle.span_types.specs.Query.{Query}
-use Rattle.span_run.specs.State.{World, Documents, Named, stated, world, put}
+use Rattle.span_language.specs.State.{State, World, Documents, with_documents, world, put}
 use Rattle.span_run.specs.Shown.{Assigns, IsFileDenied, Opens}
-use Rattle.span_run.specs.Allowance.{counters, no_steps, load_limit, PaysFor, PaysForPart}
+use Rattle.span_language.specs.Allowance.{counters, no_steps, load_limit, PaysFor, PaysForPart}
 use Rattle.slp_image.specs.Fields.{kind_of}
 use Rattle.slp_image.specs.Image.{Meaning, image}
 use Rattle.slp_image.specs.Documents.{Fails}
 use Rattle.slp_image.specs.declared.refusal.ImageRefusal.{ImageRefusal}
 use Rattle.slp_image.specs.declared.refusal.ImageRefusal.TheVariants as fault
 use Rattle.span_run.specs.Reading.{IsTurnedAway, IsLoadPaid}
-use Rattle.span_run.specs.Step.{Carries, IsWithin, load_size, open_size}
+use Rattle.span_language.specs.Step.{Carries, IsWithin, load_size, open_size}
 use Rattle.span_run.specs.declared.reading.FileRefusal.{FileRefusal}
 use Rattle.span_run.specs.declared.reading.FileRefusal.TheVariants as turned
-use Rattle.span_run.specs.declared.told.Told.{Told}
-use Rattle.span_run.specs.declared.told.Told.TheVariants.{Refused}
+use Rattle.span_language.specs.declared.told.Told.{Told}
+use Rattle.span_language.specs.declared.told.Told.TheVariants.{Refused}
 use Rattle.span_run.proofs.CarryLemmas.{only_documents, none_paid, part_of_paid}
 
-pub load_carries : (old new : Documents) (number : ℕ) (name file bytes : List ℕ) (told : Told) (reply : List ℕ) (files : Option Files) → IsWithin files file load_size bytes
-    → Assigns old number name (Ok bytes) told reply new
-    → (queries : Named Query) → Carries (world (stated old queries) files) number (form.LoadFile name file) told reply (world (stated new queries) files)
-load_carries old new number name file bytes told reply files there h queries =
-    subst (λ (t : Told). Carries (world (stated old queries) files) number (form.LoadFile name file) t reply (world (stated new queries) files)) (sym h.0.0)
-    (bytes, there, h.0.1, only_documents (put old name bytes) new queries files h.1)
+pub load_carries : (st : State) (new : Documents) (number : ℕ) (name file bytes : List ℕ) (told : Told) (reply : List ℕ) (files : Option Files) → IsWithin files file load_size bytes
+    → Assigns st.documents number name (Ok bytes) told reply new
+    → Carries (world st files) number (form.LoadFile name file) told reply (world (with_documents st new) files)
+load_carries st new number name file bytes told reply files there h =
+    subst (λ (t : Told). Carries (world st files) number (form.LoadFile name file) t reply (world (with_documents st new) files)) (sym h.0.0)
+    (bytes, there, h.0.1, only_documents st (put st.documents name bytes) new files h.1)
 
-pub load_denied : (old : Documents) (number : ℕ) (name file : List ℕ) (why : FileRefusal) (told : Told) (reply : List ℕ) (files : Option Files) → IsTurnedAway files file load_size why
-    → IsFileDenied number file why told reply
-    → (queries : Named Query) → Carries (world (stated old queries) files) number (form.LoadFile name file) told reply (world (stated old queries) files)
-load_denied old number name file turned.Absent told reply files why h queries =
-    subst (λ (t : Told). Carries (world (stated old queries) files) number (form.LoadFile name file) t reply (world (stated old queries) files)) (sym h.0)
-    (NoSuchFile file, inl (why, refl), h.1, refl)
-load_denied old number name file turned.TooLong told reply files why h queries =
-    subst (λ (t : Told). Carries (world (stated old queries) files) number (form.LoadFile name file) t reply (world (stated old queries) files)) (sym h.0)
-    (FileTooLong file, inr (why.0, why.1, why.2, refl), h.1, refl)
-load_denied old number name file turned.Failed told reply files why h queries = absurd h
-load_denied old number name file turned.NoMemory told reply files why h queries = absurd h
+pub load_denied : (w : World) (number : ℕ) (name file : List ℕ) (why : FileRefusal) (told : Told) (reply : List ℕ) → IsTurnedAway w.files file load_size why
+    → IsFileDenied number file why told reply → Carries w number (form.LoadFile name file) told reply w
+load_denied w number name file turned.Absent told reply why h =
+    subst (λ (t : Told). Carries w number (form.LoadFile name file) t reply w) (sym h.0) (NoSuchFile file, inl (why, refl), h.1, refl)
+load_denied w number name file turned.TooLong told reply why h =
+    subst (λ (t : Told). Carries w number (form.LoadFile name file) t reply w) (sym h.0) (FileTooLong file, inr (why.0, why.1, why.2, refl), h.1, refl)
+load_denied w number name file turned.Failed told reply why h = absurd h
+load_denied w number name file turned.NoMemory told reply why h = absurd h
 
 -- loading a file: nothing was asked for, or no more than its bytes allow
 pub file_paid : (old : World) (name file bytes : List ℕ) (looks p q : ℕ) → IsWithin old.files file load_size bytes → IsLoadPaid old.files file p q → PaysFor old (form.LoadFile name file) (counters looks p) (counters looks q)
@@ -58,27 +54,24 @@ file_begun old name file looks p q (inl same) = (no_steps, inl refl, none_paid l
 file_begun old name file looks p q (inr (all, within, paid)) = (record { looks = 0; pairs = load_limit (length all) }, inr (inr (all, within, refl)), record { looks = omega arith; pairs = omega (arith, paid) })
 
 -- the documents are those of an image
-pub open_carries : (old new : Documents) (number : ℕ) (file bytes : List ℕ) (o : Result Meaning ImageRefusal) (told : Told) (reply : List ℕ) (files : Option Files) → IsWithin files file open_size bytes → (image bytes).answer ≡ o
-    → Opens old number o told reply new
-    → (queries : Named Query) → Carries (world (stated old queries) files) number (form.OpenFile file) told reply (world (stated new queries) files)
-open_carries old new number file bytes (Ok m) told reply files there is h queries =
-    subst (λ (t : Told). Carries (world (stated old queries) files) number (form.OpenFile file) t reply (world (stated new queries) files)) (sym h.0)
-    (bytes, m.documents, m.nodes, there, is, h.1, only_documents m.documents new queries files h.2)
-open_carries old new number file bytes (Err why) told reply files there is h queries =
-    subst (λ (t : Told). Carries (world (stated old queries) files) number (form.OpenFile file) t reply (world (stated new queries) files)) (sym h.0)
-    (BadImage h.1, inr (bytes, h.1, there, record { refusal = why; means = is; kind_is = h.2 }, refl), h.3, only_documents old new queries files h.4)
+pub open_carries : (st : State) (new : Documents) (number : ℕ) (file bytes : List ℕ) (o : Result Meaning ImageRefusal) (told : Told) (reply : List ℕ) (files : Option Files) → IsWithin files file open_size bytes → (image bytes).answer ≡ o
+    → Opens st.documents number o told reply new
+    → Carries (world st files) number (form.OpenFile file) told reply (world (with_documents st new) files)
+open_carries st new number file bytes (Ok m) told reply files there is h =
+    subst (λ (t : Told). Carries (world st files) number (form.OpenFile file) t reply (world (with_documents st new) files)) (sym h.0)
+    (bytes, m.documents, m.nodes, there, is, h.1, only_documents st m.documents new files h.2)
+open_carries st new number file bytes (Err why) told reply files there is h =
+    subst (λ (t : Told). Carries (world st files) number (form.OpenFile file) t reply (world (with_documents st new) files)) (sym h.0)
+    (BadImage h.1, inr (bytes, h.1, there, record { refusal = why; means = is; kind_is = h.2 }, refl), h.3, only_documents st st.documents new files h.4)
 
-pub open_denied : (old : Documents) (number : ℕ) (file : List ℕ) (why : FileRefusal) (told : Told) (reply : List ℕ) (files : Option Files) → IsTurnedAway files file open_size why
-    → IsFileDenied number file why told reply
-    → (queries : Named Query) → Carries (world (stated old queries) files) number (form.OpenFile file) told reply (world (stated old queries) files)
-open_denied old number file turned.Absent told reply files why h queries =
-    subst (λ (t : Told). Carries (world (stated old queries) files) number (form.OpenFile file) t reply (world (stated old queries) files)) (sym h.0)
-    (NoSuchFile file, inl (inl (why, refl)), h.1, refl)
-open_denied old number file turned.TooLong told reply files why h queries =
-    subst (λ (t : Told). Carries (world (stated old queries) files) number (form.OpenFile file) t reply (world (stated old queries) files)) (sym h.0)
-    (FileTooLong file, inl (inr (why.0, why.1, why.2, refl)), h.1, refl)
-open_denied old number file turned.Failed told reply files why h queries = absurd h
-open_denied old number file turned.NoMemory told reply files why h queries = absurd h
+pub open_denied : (w : World) (number : ℕ) (file : List ℕ) (why : FileRefusal) (told : Told) (reply : List ℕ) → IsTurnedAway w.files file open_size why
+    → IsFileDenied number file why told reply → Carries w number (form.OpenFile file) told reply w
+open_denied w number file turned.Absent told reply why h =
+    subst (λ (t : Told). Carries w number (form.OpenFile file) t reply w) (sym h.0) (NoSuchFile file, inl (inl (why, refl)), h.1, refl)
+open_denied w number file turned.TooLong told reply why h =
+    subst (λ (t : Told). Carries w number (form.OpenFile file) t reply w) (sym h.0) (FileTooLong file, inl (inr (why.0, why.1, why.2, refl)), h.1, refl)
+open_denied w number file turned.Failed told reply why h = absurd h
+open_denied w number file turned.NoMemory told reply why h = absurd h
 
 pub open_paid : (old : World) (file bytes : List ℕ) (looks p q : ℕ) → IsWithin old.files file open_size bytes → q ≤ p + (image bytes).cost → PaysFor old (form.OpenFile file) (counters looks p) (counters looks q)
 open_paid old file bytes looks p q there paid = (record { looks = 0; pairs = (image bytes).cost }, inr (bytes, there, refl), record { looks = omega arith; pairs = paid })

@@ -9,17 +9,16 @@ use Rattle.span_types.specs.Rel.{names_of}
 use Rattle.span_enum.specs.Members.{Tuple}
 use Rattle.span_cursor.specs.Tuples.{TupleText}
 use Rattle.query_book.specs.Answers.{HasVariablesOf, IsAnswer, most_looks}
-use Rattle.span_run.specs.State.{World, Named, value_of}
-use Rattle.span_run.specs.Step.{Carries, IsRefused}
+use Rattle.span_language.specs.State.{World, Named, value_of}
+use Rattle.span_language.specs.Step.{Carries, IsRefused}
 use Rattle.span_run.specs.Words.{IsTupleOf, IsUnread, IsWordRefusal}
 use Rattle.span_run.specs.Asked.{IsAnswered}
 use Rattle.span_run.specs.Judged.{IsJudged, IsWordPaid}
 use Rattle.span_run.specs.declared.words.Unread.{Unread}
 use Rattle.span_run.specs.declared.words.Unread.TheVariants as unread
-use Rattle.span_run.specs.declared.told.Told.{Told}
-use Rattle.span_run.specs.declared.told.Told.TheVariants.{Quiet, Accepted, Refused}
-use Rattle.span_run.specs.Allowance.{counters, no_steps, answers_steps, PaysFor, PaysForPart}
-use Rattle.span_run.proofs.CarryLemmas.{none_paid}
+use Rattle.span_language.specs.declared.told.Told.{Told}
+use Rattle.span_language.specs.declared.told.Told.TheVariants.{Quiet, Accepted, Refused}
+use Rattle.span_language.specs.Allowance.{counters, no_steps, answers_steps, IsAllowed, PaysFor, PaysForPart}
 
 pub has_variables : (queries : Named Query) (name word : List ℕ) (tuple : Tuple) → IsTupleOf queries name word tuple → HasVariablesOf queries name tuple
 has_variables queries name word tuple h q there =
@@ -74,5 +73,5 @@ pub has_lacks : (w : World) (number : ℕ) (query name word : List ℕ) (told : 
     → Carries w number (form.Has query name word) told reply w
 has_lacks w number query name word told reply missing is written = subst (λ (t : Told). Carries w number (form.Has query name word) t reply w) (sym is) (NoSuchDocument name, inl (inl (missing, refl)), written, refl)
 
-pub has_lacks_paid : (w : World) (query name word : List ℕ) (looks pairs : ℕ) → value_of w.state.documents name ≡ None → PaysFor w (form.Has query name word) (counters looks pairs) (counters looks pairs)
-has_lacks_paid w query name word looks pairs missing = (no_steps, inl (NoSuchDocument name, inl (inl (missing, refl)), refl), none_paid looks pairs pairs refl)
+pub has_free : (w : World) (query name word : List ℕ) → value_of w.state.documents name ≡ None → IsAllowed w (form.Has query name word) no_steps
+has_free w query name word missing = inl (NoSuchDocument name, inl (inl (missing, refl)), refl)

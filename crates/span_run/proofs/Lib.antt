@@ -1,6 +1,9 @@
 pub mod LinesLemmas
 pub mod Written
 pub mod ListLemmas
+pub mod EveryLemmas
+pub mod EveryParts
+pub mod EveryQuery
 pub mod PageLemmas
 pub mod HeldLemmas
 pub mod PlacesLemmas
@@ -9,7 +12,13 @@ pub mod QueryLemmas
 pub mod HasLemmas
 pub mod ReadingLemmas
 pub mod CarryLemmas
+pub mod Goes
+pub mod Reserved
+pub mod Sending
+pub mod VersionLemmas
+pub mod ReplaceLemmas
+pub mod Listings
+pub mod EveryListings
 pub mod FileLemmas
-pub mod LineLemmas
 pub mod RunsLemmas
 pub mod ScriptLemmas

@@ -8,8 +8,8 @@ use Rattle.span_types.specs.Answers.{IsAfter}
 use Rattle.span_enum.specs.Listing.{Listing}
 use Rattle.span_enum.specs.Members.{Tuple, AreAnswersOf, IsFirstMember, NoMemberLeft}
 use Rattle.span_enum.proofs.Pages.{first-after, after-first, none-after}
-use Rattle.span_run.specs.Step.{AppendsFront}
-use Rattle.span_run.specs.Listed.{tuple_line, last_line, first_page_text}
+use Rattle.span_language.specs.Step.{AppendsFront}
+use Rattle.span_language.specs.Listed.{tuple_line, last_line, first_page_text}
 use Rattle.std.specs.Io.KnownBytes.{Appends}
 use Rattle.span_run.proofs.Written.{IsListing, listing_starts, listing_goes_on, listing_waits, listing_stops, listing_ends}
 

@@ -14,17 +14,17 @@ use Rattle.span_types.specs.Rel.{names_of}
 use Rattle.span_enum.specs.Listing.{Listing}
 use Rattle.span_enum.specs.Members.{Tuple, AreAnswersOf}
 use Rattle.query_book.specs.Answers.{HasList, IfNamed, IsListingOf, IsNamed, most_looks}
-use Rattle.span_run.specs.State.{World, Named, value_of}
-use Rattle.span_run.specs.Step.{AppendsFront, Carries, Finishes, Halts, IsRefused}
-use Rattle.span_run.specs.Words.{IsCursorFor, IsCursorOf, IsUnreadCursor, IsWordRefusal}
-use Rattle.span_run.specs.Listed.{IsListReply, first_page_text, page_text}
+use Rattle.span_language.specs.State.{World, Named, value_of}
+use Rattle.span_language.specs.Step.{AppendsFront, Carries, Finishes, Halts, IsRefused}
+use Rattle.span_language.specs.Cursors.{IsCursorOf}
+use Rattle.span_run.specs.Words.{IsCursorFor, IsUnreadCursor, IsWordRefusal}
+use Rattle.span_language.specs.Listed.{IsListReply, first_page_text, page_text}
 use Rattle.span_run.specs.Listing.{HasCursor, Lists, Tells}
 use Rattle.span_run.specs.declared.words.Unread.{Unread}
 use Rattle.span_run.specs.declared.words.Unread.TheVariants as unread
-use Rattle.span_run.specs.declared.told.Told.{Told}
-use Rattle.span_run.specs.declared.told.Told.TheVariants.{Quiet, Accepted, Refused}
-use Rattle.span_run.specs.Allowance.{counters, no_steps, answers_steps, PaysFor, PaysForPart}
-use Rattle.span_run.proofs.CarryLemmas.{none_paid}
+use Rattle.span_language.specs.declared.told.Told.{Told}
+use Rattle.span_language.specs.declared.told.Told.TheVariants.{Quiet, Accepted, Refused}
+use Rattle.span_language.specs.Allowance.{counters, no_steps, answers_steps, IsAllowed, PaysFor, PaysForPart}
 
 pub on_ok_of : {T E : Type 0} (r : Result T E) (P : T → Type 0) (Q : Type 0) → ((x : T) → P x → Q) → IfOk r P → OnOk r Q
 on_ok_of (Ok x) P Q f h = f x h
@@ -179,5 +179,5 @@ pub list_lacks : (w : World) (number : ℕ) (query name : List ℕ) (word : Opti
 list_lacks w number query name word n told reply missing is written =
     subst (λ (t : Told). Carries w number (form.List query name word n) t reply w) (sym is) (NoSuchDocument name, inl (inl (missing, refl)), written, refl)
 
-pub list_lacks_paid : (w : World) (query name : List ℕ) (word : Option (List ℕ)) (n looks pairs : ℕ) → value_of w.state.documents name ≡ None → PaysFor w (form.List query name word n) (counters looks pairs) (counters looks pairs)
-list_lacks_paid w query name word n looks pairs missing = (no_steps, inl (NoSuchDocument name, inl (inl (missing, refl)), refl), none_paid looks pairs pairs refl)
+pub list_free : (w : World) (query name : List ℕ) (word : Option (List ℕ)) (n : ℕ) → value_of w.state.documents name ≡ None → IsAllowed w (form.List query name word n) no_steps
+list_free w query name word n missing = inl (NoSuchDocument name, inl (inl (missing, refl)), refl)

@@ -1,19 +1,22 @@
 -- What registering and asking queries does.
 use Rattle.std.proofs.Common.{rules, ◌≡◌, inl, inr, ℕ, ◌+◌, ◌≤◌, List, Option, Some, None, refl, sym, ap, subst, ◌∙◌, arith}
 use Rattle.std.specs.Prelude.{◌↔◌, IsSome, IsTrue, Bool, true, false, option_map}
-use Rattle.std.specs.Io.KnownBytes.{Appends}
 use Rattle.edge_io.specs.Files.{Files}
 use Rattle.script_syntax.specs.declared.form.Command.TheVariants as form
 use Rattle.report_text.specs.Reply.{query_text, refusal_text}
 use Rattle.span_types.specs.Query.{Query}
 use Rattle.span_types.specs.Rel.{names_of}
-use Rattle.query_book.specs.Registering.{IsQueryOf}
-use Rattle.span_run.specs.State.{World, Documents, Named, stated, world, put, value_of, taken_out}
-use Rattle.span_run.specs.Replies.{ok_text, yes_text, no_text}
-use Rattle.span_run.specs.Registered.{IsCounted}
-use Rattle.span_run.specs.Step.{AppendsFront, Carries, Finishes, Halts, IsYesOrNo}
-use Rattle.span_run.specs.declared.told.Told.{Told}
-use Rattle.span_run.specs.declared.told.Told.TheVariants.{Quiet, Accepted, Refused}
+use Rattle.query_book.specs.Registering.{IsQueryOf, IsRefused}
+use Rattle.query_book.specs.declared.refusal.QueryRefusal.{QueryRefusal}
+use Rattle.query_book.specs.declared.refusal.QueryRefusal.TheVariants as query
+use Rattle.formula_syntax.specs.declared.refusal.FormulaRefusal.{FormulaRefusal}
+use Rattle.formula_syntax.specs.declared.refusal.FormulaRefusal.TheVariants as formula
+use Rattle.span_run.specs.Shown.{IsFormulaRefusal, IsTextRefusal, IsTextDenied}
+use Rattle.span_language.specs.State.{State, World, Named, with_queries, world, put, value_of, taken_out}
+use Rattle.span_language.specs.Replies.{ok_text, yes_text, no_text}
+use Rattle.span_language.specs.Step.{Carries, IsTextRefused, IsYesOrNo}
+use Rattle.span_language.specs.declared.told.Told.{Told}
+use Rattle.span_language.specs.declared.told.Told.TheVariants.{Quiet, Accepted, Refused}
 use Rattle.slp_model.specs.declared.NodeId.{NodeId}
 use Rattle.slp_model.specs.declared.Node.{Node}
 use Rattle.doc_book.specs.declared.Doc.{Doc}
@@ -22,30 +25,31 @@ use Rattle.edit_expr.specs.Values.{plain, text_at}
 use Rattle.query_book.specs.Answers.{HasAnswer, IsNamed, most_looks}
 use Rattle.report_text.specs.declared.refusal.Refusal.TheVariants.{NoSuchDocument, NoSuchQuery}
 use Rattle.span_run.specs.Asked.{IsAnswered}
-use Rattle.span_run.specs.Allowance.{counters, no_steps, answers_steps, PaysFor, PaysForPart}
+use Rattle.span_language.specs.Allowance.{counters, no_steps, answers_steps, IsAllowed, PaysFor, PaysForPart}
 use Rattle.span_run.proofs.HeldLemmas.{value_of-plain}
-use Rattle.span_run.proofs.CarryLemmas.{none_paid}
 use Rattle.span_run.proofs.BookLemmas.{some_value}
 
--- other queries beside the same documents and files
-pub only_queries : (documents : Documents) (old new : Named Query) (files : Option Files) → new ≡ old → world (stated documents new) files ≡ world (stated documents old) files
-only_queries documents old new files same = ap (λ (q : Named Query). world (stated documents q) files) same
+-- other queries beside the same documents, versions and files
+pub only_queries : (st : State) (old new : Named Query) (files : Option Files) → new ≡ old → world (with_queries st new) files ≡ world (with_queries st old) files
+only_queries st old new files same = ap (λ (q : Named Query). world (with_queries st q) files) same
 
-pub query_carries : (documents : Documents) (old new : Named Query) (number : ℕ) (name text : List ℕ) (q : Query) (told : Told) (reply : List ℕ) → IsQueryOf text q → new ≡ put old name q → told ≡ Accepted → reply ≡ query_text name (names_of q)
-    → (files : Option Files) → Carries (world (stated documents old) files) number (form.Query name text) told reply (world (stated documents new) files)
-query_carries documents old new number name text q told reply is put_is accepted written files =
-    subst (λ (t : Told). Carries (world (stated documents old) files) number (form.Query name text) t reply (world (stated documents new) files)) (sym accepted)
-    (q, is, written, only_queries documents (put old name q) new files put_is)
+pub query_carries : (st : State) (new : Named Query) (number : ℕ) (name text : List ℕ) (q : Query) (told : Told) (reply : List ℕ) (files : Option Files) → IsQueryOf text q → new ≡ put st.queries name q → told ≡ Accepted → reply ≡ query_text name (names_of q)
+    → Carries (world st files) number (form.Query name text) told reply (world (with_queries st new) files)
+query_carries st new number name text q told reply files is put_is accepted written =
+    subst (λ (t : Told). Carries (world st files) number (form.Query name text) t reply (world (with_queries st new) files)) (sym accepted)
+    (q, is, written, only_queries st (put st.queries name q) new files put_is)
 
-pub unquery_carries : (documents : Documents) (old new : Named Query) (number : ℕ) (name : List ℕ) (told : Told) (reply : List ℕ) → IsSome (value_of old name) → new ≡ taken_out old name → told ≡ Accepted → reply ≡ ok_text
-    → (files : Option Files) → Carries (world (stated documents old) files) number (form.Unquery name) told reply (world (stated documents new) files)
-unquery_carries documents old new number name told reply there taken accepted written files =
-    let q = some_value (value_of old name) there in
-    subst (λ (t : Told). Carries (world (stated documents old) files) number (form.Unquery name) t reply (world (stated documents new) files)) (sym accepted)
-    (q.0, q.1, written, only_queries documents (taken_out old name) new files taken)
+pub unquery_carries : (st : State) (new : Named Query) (number : ℕ) (name : List ℕ) (told : Told) (reply : List ℕ) (files : Option Files) → IsSome (value_of st.queries name) → new ≡ taken_out st.queries name → told ≡ Accepted → reply ≡ ok_text
+    → Carries (world st files) number (form.Unquery name) told reply (world (with_queries st new) files)
+unquery_carries st new number name told reply files there taken accepted written =
+    let q = some_value (value_of st.queries name) there in
+    subst (λ (t : Told). Carries (world st files) number (form.Unquery name) t reply (world (with_queries st new) files)) (sym accepted)
+    (q.0, q.1, written, only_queries st (taken_out st.queries name) new files taken)
 
-pub query_counted : (name text : List ℕ) (told : Told) → told ≡ Accepted → IsCounted (form.Query name text) told 1
-query_counted name text told is = subst (λ (t : Told). IsCounted (form.Query name text) t 1) (sym is) (inl (tt, refl))
+pub unquery_lacks : (w : World) (number : ℕ) (name : List ℕ) (told : Told) (reply : List ℕ) → value_of w.state.queries name ≡ None → told ≡ Refused → reply ≡ refusal_text number (NoSuchQuery name)
+    → Carries w number (form.Unquery name) told reply w
+unquery_lacks w number name told reply missing is written =
+    subst (λ (t : Told). Carries w number (form.Unquery name) t reply w) (sym is) (NoSuchQuery name, (missing, refl), written, refl)
 
 -- the answer of a question, as a reply
 pub answered : (Holds : Query → Type 0) (number : ℕ) (queries : Named Query) (bytes name : List ℕ) (b : Bool) (told : Told) (reply : List ℕ) → bytes ≡ name → IsNamed queries bytes (λ q. IsTrue b ↔ Holds q)
@@ -97,14 +101,24 @@ pub test_lacks : (w : World) (number : ℕ) (query name : List ℕ) (told : Told
     → Carries w number (form.Nonempty query name) told reply w
 test_lacks w number query name told reply missing is written = subst (λ (t : Told). Carries w number (form.Nonempty query name) t reply w) (sym is) (NoSuchDocument name, inl (missing, refl), written, refl)
 
-pub test_lacks_paid : (w : World) (query name : List ℕ) (looks pairs : ℕ) → value_of w.state.documents name ≡ None → PaysFor w (form.Nonempty query name) (counters looks pairs) (counters looks pairs)
-test_lacks_paid w query name looks pairs missing = (no_steps, inl (NoSuchDocument name, inl (missing, refl), refl), none_paid looks pairs pairs refl)
+pub test_free : (w : World) (query name : List ℕ) → value_of w.state.documents name ≡ None → IsAllowed w (form.Nonempty query name) no_steps
+test_free w query name missing = inl (NoSuchDocument name, inl (missing, refl), refl)
 
--- a reply that leaves the queries, where they are seen anew
-module _ (documents : Documents) (old new : Named Query) (same : new ≡ old) (files : Option Files) (Allows : Told → List ℕ → World → Type 0) where
-  pub finishes_same : (told : Told) (a b : Option (List ℕ)) (was : Told) (reply : List ℕ) → told ≡ was → Allows was reply (world (stated documents old) files) → Appends a b reply → Finishes Allows told a b (world (stated documents new) files)
-  finishes_same told a b was reply is h wrote =
-      (reply, subst (λ (w : World). Allows told reply w) (sym (only_queries documents old new files same)) (subst (λ (t : Told). Allows t reply (world (stated documents old) files)) (sym is) h), wrote)
+-- a text that gives no query
+pub query_denied : (w : World) (number : ℕ) (name text : List ℕ) (why : QueryRefusal) (told : Told) (reply : List ℕ) → IsRefused text why → IsTextDenied number why told reply → Carries w number (form.Query name text) told reply w
+query_denied w number name text why told reply refuses (is, kept, refusal, written) =
+    subst (λ (t : Told). Carries w number (form.Query name text) t reply w) (sym is) (kept, at_why why refuses refusal, written, refl)
+  where
+    at_formula : (f : FormulaRefusal) → IsRefused text (query.Formula f) → IsFormulaRefusal f kept → IsTextRefused text kept
+    at_formula (formula.TooLong len) h e = subst (IsTextRefused text) (sym e) h
+    at_formula formula.BadText h e = subst (IsTextRefused text) (sym e) h
+    at_formula formula.TooDeep h e = subst (IsTextRefused text) (sym e) h
+    at_formula formula.TooManyPositions h e = subst (IsTextRefused text) (sym e) h
+    at_formula formula.TooManyVariables h e = subst (IsTextRefused text) (sym e) h
+    at_formula (formula.NotFunctional name) h e = subst (IsTextRefused text) (sym e) h
+    at_formula formula.NoMemory h e = absurd e
 
-  pub halts_same : (a b : Option (List ℕ)) (was : Told) (reply : List ℕ) → Allows was reply (world (stated documents old) files) → AppendsFront a b reply → Halts Allows (world (stated documents old) files) a b (world (stated documents new) files)
-  halts_same a b was reply h wrote = inr (was, reply, subst (λ (w : World). Allows was reply w) (sym (only_queries documents old new files same)) h, wrote)
+    at_why : (y : QueryRefusal) → IsRefused text y → IsTextRefusal y kept → IsTextRefused text kept
+    at_why (query.Formula f) h e = at_formula f h e
+    at_why query.TooManyStates h e = subst (IsTextRefused text) (sym e) h
+    at_why query.NoMemory h e = absurd e

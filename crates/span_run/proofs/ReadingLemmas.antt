@@ -4,12 +4,10 @@ use Rattle.std.specs.Prelude.{Option, Some, None, IfSome}
 use Rattle.std.proofs.Math.Seq.{take-add}
 use Rattle.std.proofs.lemmas.List.{take_all, length-take, length-take-le, length-replicate}
 use Rattle.std.specs.Prelude.{replicate}
-use Rattle.slp_model.specs.declared.NodeId.{NodeId}
 use Rattle.slp_model.specs.declared.Node.{Node}
-use Rattle.pair_loader.specs.Pending.{IsPending, IsLoader, fed, pending_count}
 use Rattle.span_types.specs.Fibonacci.{height_limit}
 use Rattle.edge_io.specs.Files.{Files, Holds, HasPiece}
-use Rattle.span_run.specs.Step.{IsWithin, load_size}
+use Rattle.span_language.specs.Step.{IsWithin, load_size}
 use Rattle.span_run.specs.Reading.{IsFileFront, IsLoadPaid}
 
 some_is : {A : Type 0} (x y : A) → Some x ≡ Some y → x ≡ y
@@ -81,12 +79,6 @@ front_paid files name front before after short so_far paid =
 pub whole_paid : (files : Option Files) (name front : List ℕ) (before now after : ℕ) → IsWithin files name load_size front → now ≤ before + length front
     → after ≤ now + 4 * (height_limit (length front) + 1) → IsLoadPaid files name before after
 whole_paid files name front before now after within paid last = inr (front, within, omega (arith, paid, last))
-
--- a loader that was fed no bytes
-pub new_loader : (ns : List Node) (loader : Option (List NodeId)) → loader ≡ Some [] → IsLoader ns loader × (fed ns loader ≡ []) × (pending_count loader ≡ 0)
-new_loader ns loader is =
-    let none : IsPending ns [] = record { live = record { live = search rules }; rising = tt; short = omega arith } in
-    (subst (IsLoader ns) (sym is) none, ap (fed ns) is, ap pending_count is)
 
 -- another name for the same files, and for the place where the next piece begins
 pub piece_at : (here files : Option Files) (name : List ℕ) (from at : ℕ) (piece : List ℕ) → here ≡ files → at ≡ from

@@ -5,30 +5,39 @@ use Rattle.std.specs.Io.KnownBytes.{Appends}
 use Rattle.std.proofs.lemmas.List.{append-nil}
 use Rattle.std.proofs.Math.Nat.{mul-le-mul_left}
 use Rattle.edge_io.specs.Causes.{Rose}
-use Rattle.span_run.specs.State.{State, Named, World, world, nothing}
+use Rattle.script_syntax.specs.declared.form.Command.{Command}
+use Rattle.span_language.specs.State.{State, Named, World, world, nothing}
 use Rattle.query_book.specs.Serving.{sum_of}
+use Rattle.span_language.specs.Allowance.{Allowance, Counters, no_steps, both_of, IsPaid}
+use Rattle.span_language.specs.Means.{Carried, Means, Of}
+use Rattle.span_language.specs.Step.{Halts, IsList, Leaves}
+use Rattle.span_language.specs.Runs.{Adds, Runs, Sum, both, no_lines, is_refused, Outside, outside, start, IsFront, PlacesFew, Anywhere, InFileLine, UnlessList, RunsAll, RunsFront}
+use Rattle.span_language.specs.declared.told.Told.{Told}
+use Rattle.span_language.specs.declared.told.Stop.{Stop}
+use Rattle.span_language.specs.declared.told.Stop.TheVariants as stop
 use Rattle.span_run.specs.Held.{Standing, IsStanding}
-use Rattle.span_run.specs.Allowance.{Allowance, Counters, no_steps, both_of, IsLineAllowed, IsPaid, Pays, PaysPart}
-use Rattle.span_run.specs.Registered.{IsLineCounted, Places, PlacesPart}
-use Rattle.span_run.specs.Step.{Step, Finishes, Halts, Leaves, IsFileLine, IsListLine, IsSaveLine, KeepsFiles}
-use Rattle.span_run.specs.Runs.{Runs, is_refused, Outside, start, IsFront, PlacesFew, Anywhere, InFileLine, UnlessList, RunsAll, RunsFront}
-use Rattle.span_run.specs.declared.told.Told.{Told}
+use Rattle.span_run.specs.Scene.{Scene, world_in}
+use Rattle.span_run.specs.Carried.{IsDone, IsStopped, Outlet, Stopped}
 use Rattle.span_run.proofs.PlacesLemmas.{PlacesSoFar, places_go_on, places_few, places_few_part}
 use Rattle.span_run.proofs.Written.{both_written, kept_is_none_written, nothing_written}
+
+-- what a scene and a sink tell
+abbrev pub told_of : Scene → Outlet → Outside
+told_of s out = outside out.written s.files s.looks s.pairs s.places
 
 -- where a run stands: these lines are left, this is the next one's number, and what the first lines gave was written
 pub record IsAt (lines left : List (List ℕ)) (number : ℕ) (refused : Bool) (st : Standing) (before now : Outside) : Type 0 where
   pub done : List (List ℕ)
   pub cut : lines ≡ done ++ left
   pub counted : number ≡ 1 + length done
-  pub output : List ℕ
-  pub cost : Allowance
-  pub queries : ℕ
-  pub ran : Runs (start before) 1 done refused output cost queries (world st.state now.files)
-  pub wrote : Appends before.written now.written output
-  pub paid : IsPaid cost before.counters now.counters
-  pub placed : PlacesSoFar queries st before.places now.places
-  pub grown : st.pairs + before.counters.pairs ≤ now.counters.pairs
+  pub sum : Sum
+  pub ran : Runs (start before) 1 done sum (world st.state now.files)
+  pub refused_is : sum.refused ≡ refused
+  pub wrote : Appends before.written now.written sum.output
+  pub paid : IsPaid sum.cost before.counters now.counters
+  pub dropped : ℕ
+  pub placed : PlacesSoFar sum.queries dropped st before.places now.places
+  pub grown : st.pairs + dropped + before.counters.pairs ≤ now.counters.pairs + 256 * sum.compactions
 
 or_false : (a : Bool) → (a || false) ≡ a
 or_false true = refl
@@ -50,61 +59,41 @@ both_of-assoc a b c =
     let p : a.pairs + b.pairs + c.pairs ≡ a.pairs + (b.pairs + c.pairs) = omega arith in
     λ i. record { looks = l i; pairs = p i }
 
+both-none : (a : Sum) → both no_lines a ≡ both a no_lines
+both-none a =
+    let r = sym (or_false a.refused) in
+    let o = sym (append-nil a.output) in
+    let c = both_of-none a.cost in
+    let q : 0 + a.queries ≡ a.queries + 0 = omega arith in
+    let k : 0 + a.compactions ≡ a.compactions + 0 = omega arith in
+    λ i. record { refused = r i; output = o i; cost = c i; queries = q i; compactions = k i }
+
+both-assoc : (a b c : Sum) → both (both a b) c ≡ both a (both b c)
+both-assoc a b c =
+    let r = or_assoc a.refused b.refused c.refused in
+    let o = append_assoc a.output b.output c.output in
+    let d = both_of-assoc a.cost b.cost c.cost in
+    let q : a.queries + b.queries + c.queries ≡ a.queries + (b.queries + c.queries) = omega arith in
+    let k : a.compactions + b.compactions + c.compactions ≡ a.compactions + (b.compactions + c.compactions) = omega arith in
+    λ i. record { refused = r i; output = o i; cost = d i; queries = q i; compactions = k i }
+
 both_paid : (a b : Allowance) (x y z : Counters) → IsPaid a x y → IsPaid b y z → IsPaid (both_of a b) x z
 both_paid a b x y z first second = record { looks = omega (arith, first.looks, second.looks); pairs = omega (arith, first.pairs, second.pairs) }
 
 none_paid : (x : Counters) → IsPaid no_steps x x
 none_paid x = record { looks = omega arith; pairs = omega arith }
 
--- a run and one more step
-pub one_more : (old : World) (number : ℕ) (done : List (List ℕ)) (refused : Bool) (output : List ℕ) (cost : Allowance) (queries : ℕ) (mid : World) (line : List ℕ) (told : Told) (reply : List ℕ) (allowed : Allowance) (count : ℕ) (new : World)
-    → Runs old number done refused output cost queries mid → Step mid (number + length done) line told reply new → IsLineAllowed mid line allowed → IsLineCounted line told count
-    → Runs old number (done ++ line ∷ []) (refused || is_refused told) (output ++ reply) (both_of cost allowed) (queries + count) new
-one_more old number [] refused output cost queries mid line told reply allowed count new ran step pays counted =
-    let same : mid ≡ old = ran.4 in
+-- a run and one more line
+pub one_more : (old : World) (number : ℕ) (done : List (List ℕ)) (sum : Sum) (mid : World) (line : List ℕ) (one : Sum) (new : World)
+    → Runs old number done sum mid → Adds mid (number + length done) line one new → Runs old number (done ++ line ∷ []) (both sum one) new
+one_more old number [] sum mid line one new (none, same) adds =
     let at : number + 0 ≡ number = omega arith in
-    let none : queries + count ≡ count + 0 = omega (arith, ran.3) in
-    let here : Step old number line told reply new = subst (λ (s : World). Step s number line told reply new) same (subst (λ (k : ℕ). Step mid k line told reply new) at step) in (
-      told,
-      reply,
-      new,
-      allowed,
-      count,
-      false,
-      [],
-      no_steps,
-      0,
-      here,
-      subst (λ (s : World). IsLineAllowed s line allowed) same pays,
-      counted,
-      (refl, refl, refl, refl, refl),
-      ap (λ (b : Bool). b || is_refused told) ran.0 ∙ sym (or_false (is_refused told)),
-      ap (λ (l : List ℕ). l ++ reply) ran.1 ∙ sym (append-nil reply),
-      ap (λ (a : Allowance). both_of a allowed) ran.2 ∙ both_of-none allowed,
-      none,
-    )
-one_more old number (first ∷ done) refused output cost queries mid line told reply allowed count new (t, r, m, paid, was, others, more, rest_cost, later, step1, pays1, counted1, ran, is_refused_, is_output, is_cost, is_queries) step pays counted =
+    let here : Adds old number line one new = subst (λ (w : World). Adds w number line one new) same (subst (λ (k : ℕ). Adds mid k line one new) at adds) in
+    (one, no_lines, new, here, (refl, refl), ap (λ (s : Sum). both s one) none ∙ both-none one)
+one_more old number (first ∷ done) sum mid line one new (head, rest, m, first_adds, ran, is) adds =
     let at : number + suc (length done) ≡ (number + 1) + length done = omega arith in
-    let sums : queries + count ≡ was + (later + count) = omega (arith, is_queries) in
-    let rest = one_more m (number + 1) done others more rest_cost later mid line told reply allowed count new ran (subst (λ (k : ℕ). Step mid k line told reply new) at step) pays counted in (
-      t,
-      r,
-      m,
-      paid,
-      was,
-      (others || is_refused told),
-      more ++ reply,
-      both_of rest_cost allowed,
-      later + count,
-      step1,
-      pays1,
-      counted1,
-      rest,
-      ap (λ (b : Bool). b || is_refused told) is_refused_ ∙ or_assoc (is_refused t) others (is_refused told),
-      ap (λ (l : List ℕ). l ++ reply) is_output ∙ append_assoc r more reply,
-      ap (λ (a : Allowance). both_of a allowed) is_cost ∙ both_of-assoc paid rest_cost allowed,
-      sums,
-    )
+    let more = one_more m (number + 1) done rest mid line one new ran (subst (λ (k : ℕ). Adds mid k line one new) at adds) in
+    (head, both rest one, m, first_adds, more, ap (λ (s : Sum). both s one) is ∙ both-assoc head rest one)
 
 pub each_some : (o : Option (List ℕ)) (P : List ℕ → Type 0) → ((x : List ℕ) → P x) → IfSome o P
 each_some None P h = tt
@@ -115,136 +104,162 @@ at_start lines before st is none new = record {
   done = [];
   cut = refl;
   counted = refl;
-  output = [];
-  cost = no_steps;
-  queries = 0;
-  ran = (refl, refl, refl, refl, ap (λ (s : State). world s before.files) is);
+  sum = no_lines;
+  ran = (refl, ap (λ (s : State). world s before.files) is);
+  refused_is = refl;
   wrote = nothing_written before.written;
   paid = none_paid before.counters;
-  placed = subst (λ (l : Named ℕ). (n : ℕ) → st.nodes ≤ n → before.places + n * length l ≤ before.places + sum_of l + n * 0) (sym none) (λ n le. omega arith);
+  dropped = 0;
+  placed = subst (λ (l : Named ℕ). (n : ℕ) → st.nodes ≤ n → before.places + n * length l ≤ before.places + sum_of l + (n + 0) * 0) (sym none) (λ n le. omega arith);
   grown = omega (arith, new);
 }
-
-first_is : (x y : List ℕ) (xs ys : List (List ℕ)) → x ∷ xs ≡ y ∷ ys → y ≡ x
-first_is x y xs ys e = cc e
-
--- the bound on tables, by the pairs that were made
-few_of : (queries : ℕ) (before after : Outside) (pairs : ℕ) → pairs + before.counters.pairs ≤ after.counters.pairs → after.places ≤ before.places + queries * (256 + pairs) → PlacesFew queries before after
-few_of queries before after pairs grown few =
-    let more : 256 + pairs ≤ 256 + (after.counters.pairs - before.counters.pairs) = omega (arith, grown) in
-    let products : queries * (256 + pairs) ≤ queries * (256 + (after.counters.pairs - before.counters.pairs)) = mul-le-mul_left queries more in
-    omega (arith, few, products)
-
-module _ (lines left rest : List (List ℕ)) (line : List ℕ) (number : ℕ) (refused : Bool) (mid new : Standing) (before now after : Outside) (is : left ≡ line ∷ rest) (at : IsAt lines left number refused mid before now) (more : mid.nodes ≤ new.nodes) (grown : new.pairs + now.counters.pairs ≤ mid.pairs + after.counters.pairs) where
-  pub goes_on : (pays : Pays (world mid.state now.files) line now.counters after.counters) (told : Told) (count : ℕ) → IsLineCounted line told count → Places count new.nodes mid.covered new.covered now.places after.places → Finishes (Step (world mid.state now.files) number line) told now.written after.written (world new.state after.files) → IsAt lines rest (number + 1) (refused || is_refused told) new before after
-  goes_on pays told count counted places (reply, step, wrote) = record {
-    done = at.done ++ line ∷ [];
-    cut = at.cut ∙ ap (λ (l : List (List ℕ)). at.done ++ l) is ∙ sym (append_assoc at.done (line ∷ []) rest);
-    counted = omega (arith, at.counted, length-append at.done (line ∷ []));
-    output = at.output ++ reply;
-    cost = both_of at.cost pays.0;
-    queries = at.queries + count;
-    ran = one_more (start before) 1 at.done refused at.output at.cost at.queries (world mid.state now.files) line told reply pays.0 count (world new.state after.files) at.ran (subst (λ (k : ℕ). Step (world mid.state now.files) k line told reply (world new.state after.files)) at.counted step) pays.1 counted;
-    wrote = both_written before.written now.written after.written at.output reply at.wrote wrote;
-    paid = both_paid at.cost pays.0 before.counters now.counters after.counters at.paid pays.2;
-    placed = places_go_on at.queries count mid new before.places now.places after.places more at.placed places;
-    grown = omega (arith, at.grown, grown);
-  }
-
-  abbrev Stopped : Type 0
-  Stopped = Halts (Step (world mid.state now.files) number line) (world mid.state now.files) now.written after.written (world new.state after.files)
-
-  abbrev Left : Type 0
-  Left = Leaves (world mid.state now.files) now.written after.written (world new.state after.files)
-
-  abbrev part_of : Stopped → List ℕ
-  part_of (inl kept) = []
-  part_of (inr (told, reply, step, (n, wrote))) = take n reply
-
-  part_is_front : (h : Stopped) → IsFront (world mid.state now.files) (1 + length at.done) line (part_of h)
-  part_is_front (inl kept) = inl refl
-  part_is_front (inr (told, reply, step, (n, wrote))) = inr (told, reply, world new.state after.files, n, subst (λ (k : ℕ). Step (world mid.state now.files) k line told reply (world new.state after.files)) at.counted step, refl)
-
-  part_written : (h : Stopped) → Appends before.written after.written (at.output ++ part_of h)
-  part_written (inl kept) = both_written before.written now.written after.written at.output [] at.wrote (kept_is_none_written now.written after.written kept.written)
-  part_written (inr (told, reply, step, (n, wrote))) = both_written before.written now.written after.written at.output (take n reply) at.wrote wrote
-
-  -- a run that is stopped in this line
-  pub stops : (Ends : List (List ℕ) → List ℕ → Type 0) (held : IsStanding new) (pays : PaysPart (world mid.state now.files) line now.counters after.counters) → PlacesPart new.nodes mid.covered now.places after.places → KeepsFiles (IsSaveLine line) now.files after.files → (h : Stopped) → Ends (line ∷ rest) (part_of h) → RunsFront Ends lines before after
-  stops Ends held pays places kept h ends = record {
-    done = at.done;
-    left = line ∷ rest;
-    cut = at.cut ∙ ap (λ (l : List (List ℕ)). at.done ++ l) is;
-    refused = refused;
-    output = at.output;
-    cost = at.cost;
-    queries = at.queries;
-    mid = world mid.state now.files;
-    ran = at.ran;
-    files = inr (line, rest, refl, kept);
-    part = part_of h;
-    last = pays.0;
-    next = inr (line, rest, refl, part_is_front h, pays.1);
-    ends = ends;
-    wrote = part_written h;
-    paid = both_paid at.cost pays.0 before.counters now.counters after.counters at.paid pays.2;
-    placed = few_of at.queries before after new.pairs (omega (arith, at.grown, grown)) (places_few_part at.queries mid new before.places now.places after.places (256 + new.pairs) more held.few at.placed places);
-  }
-
-  -- where a fault of the sink may stop it, there is nothing more to say
-  pub stops_anywhere : (held : IsStanding new) (pays : PaysPart (world mid.state now.files) line now.counters after.counters) → PlacesPart new.nodes mid.covered now.places after.places → KeepsFiles (IsSaveLine line) now.files after.files → Stopped → RunsFront Anywhere lines before after
-  stops_anywhere held pays places kept h = stops Anywhere held pays places kept h tt
-
-  -- a fault of the shelf stops a line of a file, of which nothing was written
-  pub stops_in_file : (held : IsStanding new) (pays : PaysPart (world mid.state now.files) line now.counters after.counters) → PlacesPart new.nodes mid.covered now.places after.places → KeepsFiles (IsSaveLine line) now.files after.files → IsFileLine line → Left → RunsFront InFileLine lines before after
-  stops_in_file held pays places kept of_file h = stops InFileLine held pays places kept (inl h) (line, rest, refl, of_file, refl)
-
-  -- want of memory, where a line of the form `list` was stopped before any of it was written unless a count rose
-  pub stops_wanting : (wants_before wants_after : ℕ) (held : IsStanding new) (pays : PaysPart (world mid.state now.files) line now.counters after.counters) → PlacesPart new.nodes mid.covered now.places after.places → KeepsFiles (IsSaveLine line) now.files after.files → Stopped
-      → (IsListLine line → ⊥) ⊎ (Rose wants_before wants_after ⊎ Left) → RunsFront (UnlessList wants_before wants_after) lines before after
-  stops_wanting wants_before wants_after held pays places kept h (inl other) = stops (UnlessList wants_before wants_after) held pays places kept h (λ l ls same list. absurd (other (subst IsListLine (first_is line l rest ls same) list)))
-  stops_wanting wants_before wants_after held pays places kept h (inr (inl rose)) = stops (UnlessList wants_before wants_after) held pays places kept h (λ l ls same list. inl rose)
-  stops_wanting wants_before wants_after held pays places kept h (inr (inr left)) = stops (UnlessList wants_before wants_after) held pays places kept (inl left) (λ l ls same list. inr refl)
 
 -- a count that rose in the last part of a run rose in the run
 pub rose_later : (a b c : ℕ) → a ≤ b → Rose b c → Rose a c
 rose_later a b c le rose = omega (arith, le, rose)
 
+-- the bound on tables, by the nodes that there were
+few_of : (sum : Sum) (before after : Outside) (nodes : ℕ) → nodes ≤ 256 * (1 + sum.compactions) + (after.counters.pairs - before.counters.pairs) → after.places ≤ before.places + sum.queries * nodes → PlacesFew sum before after
+few_of sum before after nodes grown few =
+    let products : sum.queries * nodes ≤ sum.queries * (256 * (1 + sum.compactions) + (after.counters.pairs - before.counters.pairs)) = mul-le-mul_left sum.queries grown in
+    omega (arith, few, products)
+
+module _ (lines left rest : List (List ℕ)) (line : List ℕ) (number : ℕ) (refused : Bool) (before : Outside) (old : Scene) (sink : Outlet) (new : Scene) (after : Outlet) (is : left ≡ line ∷ rest) (at : IsAt lines left number refused old.standing before (told_of old sink)) where
+  pub goes_on : (told : Told) → IsDone line number old sink new after told → IsAt lines rest (number + 1) (refused || is_refused told) new.standing before (told_of new after)
+  goes_on told (meaning, means, d) =
+      let one : Sum = record { refused = is_refused told; output = d.finishes.0; cost = d.paid.0; queries = d.tallies.queries; compactions = d.tallies.compactions } in
+      let adds : Adds (world_in old) number line one (world_in new) = record {
+        meaning = meaning;
+        told = told;
+        means = means;
+        carried = d.finishes.1;
+        allowed = d.paid.1;
+        registers = d.tallies.registered;
+        compacts = d.tallies.compacted;
+        refused_is = refl;
+      } in
+      record {
+        done = at.done ++ line ∷ [];
+        cut = at.cut ∙ ap (λ (l : List (List ℕ)). at.done ++ l) is ∙ sym (append_assoc at.done (line ∷ []) rest);
+        counted = omega (arith, at.counted, length-append at.done (line ∷ []));
+        sum = both at.sum one;
+        ran = one_more (start before) 1 at.done at.sum (world_in old) line one (world_in new) at.ran (subst (λ (k : ℕ). Adds (world_in old) k line one (world_in new)) at.counted adds);
+        refused_is = ap (λ (b : Bool). b || is_refused told) at.refused_is;
+        wrote = both_written before.written sink.written after.written at.sum.output d.finishes.0 at.wrote d.finishes.2;
+        paid = both_paid at.sum.cost d.paid.0 before.counters (told_of old sink).counters (told_of new after).counters at.paid d.paid.2;
+        dropped = at.dropped + d.tallies.dropped;
+        placed = places_go_on at.sum.queries at.dropped d.tallies.queries d.tallies.dropped old.standing new.standing before.places old.places new.places d.tallies.nodes at.placed d.tallies.placed;
+        grown = omega (arith, at.grown, d.tallies.pairs);
+      }
+
+  abbrev HaltsAt : Option Command → Type 0
+  HaltsAt meaning = Halts (Carried (world_in old) number meaning) (world_in old) sink.written after.written (world_in new)
+
+  abbrev part_of : (meaning : Option Command) → HaltsAt meaning → List ℕ
+  part_of meaning (inl kept) = []
+  part_of meaning (inr (told, reply, carried, (n, wrote))) = take n reply
+
+  part_is_front : (meaning : Option Command) (h : HaltsAt meaning) → IsFront (world_in old) (1 + length at.done) meaning (part_of meaning h)
+  part_is_front meaning (inl kept) = inl refl
+  part_is_front meaning (inr (told, reply, carried, (n, wrote))) = inr (told, reply, world_in new, n, subst (λ (k : ℕ). Carried (world_in old) k meaning told reply (world_in new)) at.counted carried, refl)
+
+  part_written : (meaning : Option Command) (h : HaltsAt meaning) → Appends before.written after.written (at.sum.output ++ part_of meaning h)
+  part_written meaning (inl kept) = both_written before.written sink.written after.written at.sum.output [] at.wrote (kept_is_none_written sink.written after.written kept.written)
+  part_written meaning (inr (told, reply, carried, (n, wrote))) = both_written before.written sink.written after.written at.sum.output (take n reply) at.wrote wrote
+
+  -- a run that is stopped in this line
+  stops : (Ends : Option Command → List ℕ → Type 0) (why : Stop) (meaning : Option Command) → IsStanding old.standing → IsStanding new.standing → Means line meaning → Stopped number meaning old sink new after why → (h : HaltsAt meaning) → Ends meaning (part_of meaning h)
+      → RunsFront Ends lines before (told_of new after)
+  stops Ends why meaning held stands means s h ends =
+      let n = 256 + old.standing.pairs + (new.pairs - old.pairs) in
+      let few : new.standing.nodes ≤ n = omega (arith, stands.few, s.passes.more_pairs, s.passes.calls) in
+      let bound : n + at.dropped ≤ 256 * (1 + at.sum.compactions) + (new.pairs - before.counters.pairs) = omega (arith, at.grown, s.passes.calls) in
+      record {
+        done = at.done;
+        left = line ∷ rest;
+        cut = at.cut ∙ ap (λ (l : List (List ℕ)). at.done ++ l) is;
+        sum = at.sum;
+        mid = world_in old;
+        ran = at.ran;
+        part = part_of meaning h;
+        last = s.passes.begun.0;
+        next = inr (line, rest, meaning, refl, record { means = means; front = part_is_front meaning h; allowed = s.passes.begun.1; kept = s.passes.files }, ends);
+        wrote = part_written meaning h;
+        paid = both_paid at.sum.cost s.passes.begun.0 before.counters (told_of old sink).counters (told_of new after).counters at.paid s.passes.begun.2;
+        placed = few_of at.sum before (told_of new after) (n + at.dropped) bound
+            (places_few_part at.sum.queries at.dropped old.standing new.standing before.places old.places new.places n (omega (arith, held.few)) few at.placed s.passes.placed);
+      }
+
+  -- a fault of the sink may stop it anywhere
+  pub stops_anywhere : IsStanding old.standing → IsStanding new.standing → IsStopped line number old sink new after stop.OutFault → Rose sink.faults after.faults × RunsFront Anywhere lines before (told_of new after)
+  stops_anywhere held stands (inl (other, same, kept)) = let bad : ⊥ = cc other in absurd bad
+  stops_anywhere held stands (inr (meaning, means, s)) = ((s.fault refl).1, stops Anywhere stop.OutFault meaning held stands means s s.halts tt)
+
+  -- a fault of the shelf stops a line of a file, of which nothing was written
+  pub stops_in_file : IsStanding old.standing → IsStanding new.standing → IsStopped line number old sink new after stop.ShelfFault → Rose old.faults new.faults × RunsFront InFileLine lines before (told_of new after)
+  stops_in_file held stands (inl (other, same, kept)) = let bad : ⊥ = cc other in absurd bad
+  stops_in_file held stands (inr (meaning, means, s)) =
+      let file = s.shelf_fault refl in
+      (file.1, stops InFileLine stop.ShelfFault meaning held stands means s (inl file.2) (file.0, refl))
+
+  -- want of memory, where a line of the form `list` was stopped before any of it was written unless a count rose
+  pub stops_wanting : (wants : ℕ) → wants ≤ sink.wants → IsStanding old.standing → IsStanding new.standing → IsStopped line number old sink new after stop.NoMemory → RunsFront (UnlessList wants after.wants) lines before (told_of new after)
+  stops_wanting wants later held stands (inl (unread, same, kept)) =
+      subst (λ (s : Scene). RunsFront (UnlessList wants after.wants) lines before (told_of s after)) (sym same)
+      (subst (λ (o : Outlet). RunsFront (UnlessList wants after.wants) lines before (told_of old o)) (sym kept) unbegun)
+    where
+      unbegun : RunsFront (UnlessList wants after.wants) lines before (told_of old sink)
+      unbegun = record {
+        done = at.done;
+        left = left;
+        cut = at.cut;
+        sum = at.sum;
+        mid = world_in old;
+        ran = at.ran;
+        part = [];
+        last = no_steps;
+        next = inl (refl, refl, refl, (λ no. absurd no));
+        wrote = subst (λ (l : List ℕ). Appends before.written sink.written l) (sym (append-nil at.sum.output)) at.wrote;
+        paid = both_paid at.sum.cost no_steps before.counters (told_of old sink).counters (told_of old sink).counters at.paid (none_paid (told_of old sink).counters);
+        placed = few_of at.sum before (told_of old sink) (256 + old.standing.pairs + at.dropped) (omega (arith, at.grown))
+            (places_few at.sum.queries at.dropped old.standing before.places old.places (256 + old.standing.pairs) held held.few at.placed);
+      }
+  stops_wanting wants later held stands (inr (meaning, means, s)) = by (s.want refl)
+    where
+      by : (Of IsList meaning → ⊥) ⊎ (Rose sink.wants after.wants ⊎ Leaves (world_in old) sink.written after.written (world_in new)) → RunsFront (UnlessList wants after.wants) lines before (told_of new after)
+      by (inl other) = stops (UnlessList wants after.wants) stop.NoMemory meaning held stands means s s.halts (λ list. absurd (other list))
+      by (inr (inl rose)) = stops (UnlessList wants after.wants) stop.NoMemory meaning held stands means s s.halts (λ list. inl (rose_later wants sink.wants after.wants later rose))
+      by (inr (inr left)) = stops (UnlessList wants after.wants) stop.NoMemory meaning held stands means s (inl left) (λ list. inr refl)
+
 pub ends : (lines left : List (List ℕ)) (number : ℕ) (refused : Bool) (st : Standing) (before now : Outside) → left ≡ [] → IsStanding st → IsAt lines left number refused st before now → RunsAll lines refused before now
 ends lines left number refused st before now none is at =
     let all : lines ≡ at.done = at.cut ∙ ap (λ (l : List (List ℕ)). at.done ++ l) none ∙ append-nil at.done in
     record {
-      output = at.output;
-      cost = at.cost;
-      queries = at.queries;
+      sum = at.sum;
       state = st.state;
-      ran = subst (λ (l : List (List ℕ)). Runs (start before) 1 l refused at.output at.cost at.queries (world st.state now.files)) (sym all) at.ran;
+      ran = subst (λ (l : List (List ℕ)). Runs (start before) 1 l at.sum (world st.state now.files)) (sym all) at.ran;
+      refused_is = at.refused_is;
       wrote = at.wrote;
       paid = at.paid;
-      placed = few_of at.queries before now st.pairs at.grown (places_few at.queries st before.places now.places (256 + st.pairs) is is.few at.placed);
+      placed = few_of at.sum before now (256 + st.pairs + at.dropped) (omega (arith, at.grown)) (places_few at.sum.queries at.dropped st before.places now.places (256 + st.pairs) is is.few at.placed);
     }
 
 -- a run that ended before its first line
-pub none_ran : (Ends : List (List ℕ) → List ℕ → Type 0) (lines : List (List ℕ)) (before : Outside) → Ends lines [] → RunsFront Ends lines before before
+pub none_ran : (Ends : Option Command → List ℕ → Type 0) (lines : List (List ℕ)) (before : Outside) → Ends None [] → RunsFront Ends lines before before
 none_ran Ends lines before ends = record {
   done = [];
   left = lines;
   cut = refl;
-  refused = false;
-  output = [];
-  cost = no_steps;
-  queries = 0;
+  sum = no_lines;
   mid = start before;
-  ran = (refl, refl, refl, refl, refl);
-  files = inl refl;
+  ran = (refl, refl);
   part = [];
   last = no_steps;
-  next = inl (refl, refl);
-  ends = ends;
+  next = inl (refl, refl, refl, ends);
   wrote = nothing_written before.written;
   paid = none_paid before.counters;
   placed = omega arith;
 }
 
-pub none_written : (wants : ℕ) (left : List (List ℕ)) → UnlessList wants wants left []
-none_written wants left = λ line lines same list. inr refl
+pub none_written : (wants : ℕ) → UnlessList wants wants None []
+none_written wants = λ list. inr refl

@@ -2,7 +2,7 @@
 use Rattle.std.proofs.Common.{◌≡◌, ◌∙◌, ℕ, ◌≤◌, ◌<◌, ◌^◌, List, length, arith, refl, sym, subst, ap, codes}
 use Rattle.std.specs.Prelude.{Option, Some, None, IfSome}
 use Rattle.span_words.specs.Words.{AsksFor, AsksForOr, Refused, Words, text_of}
-use Rattle.span_run.specs.Scripts.{script_of, OfScript, AsksForNoDemo}
+use Rattle.span_language.specs.Scripts.{script_of, OfScript, AsksForNoDemo}
 
 number_within : (most default : ℕ) (text : Option (List ℕ)) (number : ℕ) → 1 ≤ default → default ≤ most → AsksForOr most default text number → (1 ≤ number) × (number ≤ most)
 number_within most default None number least greatest is = (omega (arith, least, is), omega (arith, greatest, is))

@@ -1,7 +1,7 @@
 -- What a sink holds after several writes.
 use Rattle.std.proofs.Common.{◌≡◌, length, arith, ℕ, ◌+◌, ◌≤◌, List, [], ◌++◌, take, drop, refl, sym, ◌∙◌, ap, subst, append_assoc}
 use Rattle.std.specs.Prelude.{Option, Some, None, min}
-use Rattle.span_run.specs.Step.{AppendsFront}
+use Rattle.span_language.specs.Step.{AppendsFront}
 use Rattle.std.specs.Io.KnownBytes.{Appends, Keeps}
 use Rattle.std.proofs.Math.Seq.{take-add, take-append-add, take-append_seam}
 use Rattle.std.proofs.lemmas.List.{append-nil, take-append-le, take_min}

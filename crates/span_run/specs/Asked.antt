@@ -3,10 +3,10 @@ use Rattle.std.specs.Prelude.{◌≡◌, ℕ, List, Some, None}
 use Rattle.span_types.specs.Query.{Query}
 use Rattle.report_text.specs.Reply.{refusal_text}
 use Rattle.report_text.specs.declared.refusal.Refusal.TheVariants.{NoSuchQuery}
-use Rattle.span_run.specs.State.{Named, value_of}
-use Rattle.span_run.specs.Step.{IsYesOrNo}
-use Rattle.span_run.specs.declared.told.Told.{Told}
-use Rattle.span_run.specs.declared.told.Told.TheVariants.{Quiet, Accepted, Refused}
+use Rattle.span_language.specs.State.{Named, value_of}
+use Rattle.span_language.specs.Step.{IsYesOrNo}
+use Rattle.span_language.specs.declared.told.Told.{Told}
+use Rattle.span_language.specs.declared.told.Told.TheVariants.{Quiet, Accepted, Refused}
 
 -- the reply says whether the fact holds of the query of this name, or that there is no such query
 abbrev pub IsAnswered : (Query → Type 0) → ℕ → Named Query → List ℕ → Told → List ℕ → Type 0

@@ -1,16 +1,35 @@
--- What a session holds.
-use Rattle.std.specs.Prelude.{ℕ, ◌+◌, ◌≤◌, refl, List}
+-- What a session holds, and what it shows of that.
+use Rattle.std.specs.Prelude.{ℕ, [], ◌∷◌, ◌+◌, ◌≤◌, refl, List, length}
 use Rattle.std.specs.Coded.{Coded, code_by, coded_ℕ, coded_list, coded×}
 use Rattle.std.specs.List.{AllByRecursion}
 use Rattle.slp_model.specs.declared.Node.{Node}
+use Rattle.slp_model.specs.Nodes.{pair_count}
 use Rattle.doc_book.specs.declared.Doc.{Doc}
-use Rattle.edit_expr.specs.Values.{plain}
-use Rattle.span_types.specs.Query.{Query}
-use Rattle.span_run.specs.State.{State, Named, stated, state_code}
+use Rattle.edit_expr.specs.Values.{AreLive, plain}
+use Rattle.query_book.specs.Book.{queries_of}
+use Rattle.query_book.specs.Serving.{Serves, covered_of}
+use Rattle.span_language.specs.State.{State, Documents, Named, state_code}
+use Rattle.span_run.specs.declared.held.Held.{Held}
 
--- the plain state that documents in a store, and queries, stand for
-abbrev pub state_of : List Node → List Doc → Named Query → State
-state_of ns ds qs = stated (plain ns ds) qs
+-- the plain documents of each version
+abbrev pub plain_versions : List Node → Named (List Doc) → Named Documents
+plain_versions ns [] = []
+plain_versions ns (v ∷ vs) = (v.0, plain ns v.1) ∷ plain_versions ns vs
+
+-- the documents of each version are in the store
+abbrev pub AreKept : List Node → Named (List Doc) → Type 0
+AreKept ns [] = Unit {0}
+AreKept ns (v ∷ vs) = AreLive ns v.1 × AreKept ns vs
+
+-- the plain state that it stands for
+abbrev pub state_of : Held → State
+state_of h = record { documents = plain h.store h.docs; queries = queries_of h.book; versions = plain_versions h.store h.versions }
+
+-- what holds of it between commands: its documents and those of its versions are in its store, and its tables are those of its nodes
+pub record IsHeld (h : Held) : Type 0 where
+  pub live : AreLive h.store h.docs
+  pub kept : AreKept h.store h.versions
+  pub serves : Serves h.store h.book
 
 -- what a session shows: its plain state, how many nodes its store has, how many of these are pairs, and of how many nodes each query has the table
 pub record Standing : Type 0 where
@@ -18,6 +37,9 @@ pub record Standing : Type 0 where
   pub nodes : ℕ
   pub pairs : ℕ
   pub covered : Named ℕ
+
+abbrev pub standing_of : Held → Standing
+standing_of h = record { state = state_of h; nodes = length h.store; pairs = pair_count h.store; covered = covered_of h.book }
 
 -- it is stored as its four parts
 abbrev pub standing_code : Coded Standing

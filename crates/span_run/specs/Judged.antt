@@ -7,12 +7,12 @@ use Rattle.span_cursor.specs.Tuples.{TupleText}
 use Rattle.query_book.specs.Answers.{IsAnswer, most_looks}
 use Rattle.report_text.specs.Reply.{refusal_text}
 use Rattle.report_text.specs.declared.refusal.Refusal.{Refusal}
-use Rattle.span_run.specs.State.{Named, value_of}
-use Rattle.span_run.specs.Step.{IsYesOrNo}
+use Rattle.span_language.specs.State.{Named, value_of}
+use Rattle.span_language.specs.Step.{IsYesOrNo}
 use Rattle.span_run.specs.Words.{IsTupleOf, IsUnread, IsWordRefusal}
 use Rattle.span_run.specs.declared.words.Unread.{Unread}
-use Rattle.span_run.specs.declared.told.Told.{Told}
-use Rattle.span_run.specs.declared.told.Told.TheVariants.{Quiet, Accepted, Refused}
+use Rattle.span_language.specs.declared.told.Told.{Told}
+use Rattle.span_language.specs.declared.told.Told.TheVariants.{Quiet, Accepted, Refused}
 
 -- the reply says whether the word is an answer of the query of this name on the text, or why it is no tuple of its variables
 abbrev pub IsJudged : ℕ → Named Query → List ℕ → List ℕ → List ℕ → Told → List ℕ → Type 0

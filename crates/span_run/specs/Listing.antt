@@ -6,12 +6,12 @@ use Rattle.span_types.specs.Rel.{names_of}
 use Rattle.span_enum.specs.Members.{Tuple}
 use Rattle.report_text.specs.Reply.{refusal_text}
 use Rattle.report_text.specs.declared.refusal.Refusal.{Refusal}
-use Rattle.span_run.specs.State.{Named, value_of}
+use Rattle.span_language.specs.State.{Named, value_of}
 use Rattle.span_run.specs.Words.{IsCursorFor, IsUnreadCursor, IsWordRefusal}
-use Rattle.span_run.specs.Listed.{IsPageOf, page_text}
+use Rattle.span_language.specs.Listed.{IsPageOf, page_text}
 use Rattle.span_run.specs.declared.words.Unread.{Unread}
-use Rattle.span_run.specs.declared.told.Told.{Told}
-use Rattle.span_run.specs.declared.told.Told.TheVariants.{Quiet, Accepted, Refused}
+use Rattle.span_language.specs.declared.told.Told.{Told}
+use Rattle.span_language.specs.declared.told.Told.TheVariants.{Quiet, Accepted, Refused}
 
 -- there is a query of this name, and the cursor has its variables
 pub record HasCursor (queries : Named Query) (name : List ℕ) (cursor : Option Tuple) : Type 0 where

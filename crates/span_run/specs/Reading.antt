@@ -4,8 +4,8 @@ use Rattle.edge_io.specs.Files.{Files, Holds, file_of}
 use Rattle.edge_io.specs.declared.ShelfRefusal.{ShelfRefusal}
 use Rattle.edge_io.specs.declared.ShelfRefusal.TheVariants as shelf
 use Rattle.slp_image.specs.Image.{image}
-use Rattle.span_run.specs.Step.{IsWithin, Lacks, load_size, open_size}
-use Rattle.span_run.specs.Allowance.{load_limit}
+use Rattle.span_language.specs.Step.{IsWithin, Lacks, load_size, open_size}
+use Rattle.span_language.specs.Allowance.{load_limit}
 use Rattle.span_run.specs.declared.reading.FileRefusal.{FileRefusal}
 use Rattle.span_run.specs.declared.reading.FileRefusal.TheVariants.{Absent, TooLong, Failed, NoMemory}
 

@@ -15,10 +15,10 @@ use Rattle.report_text.specs.declared.refusal.Refusal.{Refusal}
 use Rattle.report_text.specs.declared.refusal.Refusal.TheVariants.{NoSuchFile, FileTooLong, BadImage}
 use Rattle.span_run.specs.declared.reading.FileRefusal.{FileRefusal}
 use Rattle.span_run.specs.declared.reading.FileRefusal.TheVariants.{Absent, TooLong, Failed, NoMemory}
-use Rattle.span_run.specs.State.{Documents, put}
-use Rattle.span_run.specs.Replies.{given_text, IsEditRefusal}
-use Rattle.span_run.specs.declared.told.Told.{Told}
-use Rattle.span_run.specs.declared.told.Told.TheVariants.{Accepted, Refused}
+use Rattle.span_language.specs.State.{Documents, put}
+use Rattle.span_language.specs.Replies.{given_text, IsEditRefusal}
+use Rattle.span_language.specs.declared.told.Told.{Told}
+use Rattle.span_language.specs.declared.told.Told.TheVariants.{Accepted, Refused}
 
 -- the reply tells the name and the text
 abbrev pub IsGiven : List ℕ → List ℕ → Told → List ℕ → Type 0

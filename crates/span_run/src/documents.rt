@@ -1,5 +1,5 @@
-//! What commands do to documents in a store, and their replies.
-ghost use Rattle.std.specs.Prelude.{◌≡◌, ◌≤◌, ◌+◌, ◌^◌, length, IfOk, IfErr, OnOk, OnErr, MatchResult, Option, ℕ};
+//! What commands do to documents, and their replies.
+ghost use Rattle.std.specs.Prelude.{◌≡◌, ◌≤◌, ◌+◌, ◌^◌, length, IfOk, IfErr, OnOk, OnErr, Option, ℕ};
 ghost use Rattle.std.specs.Io.KnownBytes.{Appends};
 ghost use Rattle.slp_model.specs.Nodes.{Grows, IsLive};
 ghost use Rattle.edge_io.specs.Causes.{Rose};
@@ -8,18 +8,18 @@ ghost use Rattle.edit_expr.specs.Eval as meaning;
 ghost use Rattle.edit_expr.specs.Eval.{greatest, operations};
 ghost use Rattle.edit_expr.specs.Values.{AreLive, plain, text_at};
 ghost use Rattle.script_syntax.specs.declared.form.Command.TheVariants as form;
-ghost use Rattle.span_types.specs.Query.{Query};
-ghost use Rattle.span_run.specs.State.{Named, world};
-ghost use Rattle.span_run.specs.Held.{state_of};
-ghost use Rattle.span_run.specs.Allowance.{PaysFor, PaysForPart, counters, edit_limit, load_limit};
-ghost use Rattle.span_run.specs.Replies.{names_text, shown_range};
+ghost use Rattle.span_language.specs.Allowance.{edit_limit};
+ghost use Rattle.span_language.specs.Replies.{names_text, shown_range};
+ghost use Rattle.span_language.specs.Step.{AppendsFront};
+ghost use Rattle.span_run.specs.Answers.{Answers, AnswersFreely, Stays, StaysFreely};
+ghost use Rattle.span_run.specs.Held.{IsHeld};
 ghost use Rattle.span_run.specs.Shown.{Assigns, IsShown, IsGiven, IsDenied};
-ghost use Rattle.span_run.specs.Step.{AppendsFront, Carries};
+ghost use Rattle.span_run.specs.Site.{at};
 
 use crate::answer::{Answer, ok_line};
+use crate::held::Held;
 use crate::offer::offer;
 use crate::reading::{bytes_between, head_of, is_within, root_len};
-use crate::told::Stop;
 use doc_book::{Docs, Missing};
 use edge_io::Sink;
 use edit_expr::{EditRefusal, Expr, ExprRefusal, eval, read};
@@ -27,6 +27,7 @@ use node_store::Store;
 use pair_loader::load;
 use report_text::{Refusal, doc_line, name_line, shown_line};
 use slp_model::NodeId;
+use span_language::Stop;
 use span_types::{ByteList, Name, NoMemory, Steps};
 use std::alloc::Global;
 use std::sync::ledger::Ledger;
@@ -73,24 +74,19 @@ pub fn give(
 
 /// `text NAME BYTES`
 pub fn text<P: Ledger>(
-    alloc: Global,
-    store: &mut Store,
-    docs: &mut Docs,
+    held: &mut Held,
     number: u64,
     name: Name,
     content: ByteList,
     pairs: &mut Steps<P>,
-) -> Result<Answer, NoMemory>
+) -> Result<Answer, Stop>
+    requires held { IsHeld held.old }
     requires short { length content ≤ 2 ^ 16 }
-    requires live { AreLive store.old docs.old }
-    ensures live { AreLive store.new docs.new }
-    ensures grows { Grows store.old store.new pairs.old pairs.new }
-    ensures ok { IfOk result (λ answer. (queries : Named Query) (files : Option Files) → Carries (world (state_of store.old docs.old queries) files) number (form.Text name content) answer.told answer.line.items (world (state_of store.new docs.new queries) files)) }
-    ensures err { OnErr result (plain store.new docs.new ≡ plain store.old docs.old) }
-    ensures paid { (queries : Named Query) (files : Option Files) (looks : ℕ) → PaysFor (world (state_of store.old docs.old queries) files) (form.Text name content) (counters looks pairs.old) (counters looks pairs.new) }
+    ensures done { (files : Option Files) (faults looks places : ℕ) → IfOk result (Answers (at held.old files faults looks pairs.old places) number (form.Text name content) (at held.new files faults looks pairs.new places)) }
+    ensures stopped { (files : Option Files) (faults looks places : ℕ) → IfErr result (Stays (at held.old files faults looks pairs.old places) number (form.Text name content) (at held.new files faults looks pairs.new places)) }
 {
-    let root = load(alloc, store, content.bytes(), pairs)?;
-    let answer = give(alloc, store, docs, number, name, root)?;
+    let root = load(held.alloc, &mut held.store, content.bytes(), pairs)?;
+    let answer = give(held.alloc, &held.store, &mut held.docs, number, name, root)?;
     Ok(answer)
 }
 
@@ -139,53 +135,48 @@ fn assign<P: Ledger>(
 
 /// `let NAME = EXPR`
 pub fn let_document<P: Ledger>(
-    alloc: Global,
-    store: &mut Store,
-    docs: &mut Docs,
+    held: &mut Held,
     number: u64,
     name: Name,
     expr: ByteList,
     pairs: &mut Steps<P>,
-) -> Result<Answer, NoMemory>
-    requires { AreLive store.old docs.old }
-    ensures live { AreLive store.new docs.new }
-    ensures grows { Grows store.old store.new pairs.old pairs.new }
-    ensures ok { IfOk result (λ answer. (queries : Named Query) (files : Option Files) → Carries (world (state_of store.old docs.old queries) files) number (form.LetDoc name expr) answer.told answer.line.items (world (state_of store.new docs.new queries) files)) }
-    ensures err { OnErr result (plain store.new docs.new ≡ plain store.old docs.old) }
-    ensures paid { OnOk result ((queries : Named Query) (files : Option Files) (looks : ℕ) → PaysFor (world (state_of store.old docs.old queries) files) (form.LetDoc name expr) (counters looks pairs.old) (counters looks pairs.new)) }
-    ensures begun { (queries : Named Query) (files : Option Files) (looks : ℕ) → PaysForPart (world (state_of store.old docs.old queries) files) (form.LetDoc name expr) (counters looks pairs.old) (counters looks pairs.new) }
+) -> Result<Answer, Stop>
+    requires { IsHeld held.old }
+    ensures done { (files : Option Files) (faults looks places : ℕ) → IfOk result (Answers (at held.old files faults looks pairs.old places) number (form.LetDoc name expr) (at held.new files faults looks pairs.new places)) }
+    ensures stopped { (files : Option Files) (faults looks places : ℕ) → IfErr result (Stays (at held.old files faults looks pairs.old places) number (form.LetDoc name expr) (at held.new files faults looks pairs.new places)) }
 {
-    match read(alloc, expr.bytes()) {
+    match read(held.alloc, expr.bytes()) {
         Ok(tree) => {
-            let answer = assign(alloc, store, docs, number, name, &tree, pairs)?;
+            let answer = assign(
+                held.alloc,
+                &mut held.store,
+                &mut held.docs,
+                number,
+                name,
+                &tree,
+                pairs,
+            )?;
             Ok(answer)
         }
         Err(ExprRefusal::Syntax) => {
-            let answer = Answer::refused(alloc, number, &Refusal::Syntax)?;
+            let answer = Answer::refused(held.alloc, number, &Refusal::Syntax)?;
             Ok(answer)
         }
-        Err(ExprRefusal::NoMemory) => Err(NoMemory),
+        Err(ExprRefusal::NoMemory) => Err(Stop::NoMemory),
     }
 }
 
 /// `drop NAME`
-pub fn drop_document(
-    alloc: Global,
-    store: &Store,
-    docs: &mut Docs,
-    number: u64,
-    name: Name,
-) -> Result<Answer, NoMemory>
-    requires { AreLive store.now docs.old }
-    ensures live { AreLive store.now docs.new }
-    ensures ok { IfOk result (λ answer. (queries : Named Query) (files : Option Files) → Carries (world (state_of store.now docs.old queries) files) number (form.DropDoc name) answer.told answer.line.items (world (state_of store.now docs.new queries) files)) }
-    ensures err { OnErr result (docs.new ≡ docs.old) }
+pub fn drop_document(held: &mut Held, number: u64, name: Name) -> Result<Answer, Stop>
+    requires { IsHeld held.old }
+    ensures done { AnswersFreely held.old number (form.DropDoc name) held.new result }
+    ensures stopped { StaysFreely held.old number (form.DropDoc name) held.new result }
 {
-    let line = ok_line(alloc)?;
-    match docs.take_out(name.bytes()) {
+    let line = ok_line(held.alloc)?;
+    match held.docs.take_out(name.bytes()) {
         Ok(()) => Ok(Answer::accepted(line)),
         Err(Missing::NoSuchDocument) => {
-            let answer = Answer::refused(alloc, number, &Refusal::NoSuchDocument { name })?;
+            let answer = Answer::refused(held.alloc, number, &Refusal::NoSuchDocument { name })?;
             Ok(answer)
         }
     }
@@ -225,25 +216,18 @@ fn show_range(
 }
 
 /// `show NAME I J`
-pub fn show(
-    alloc: Global,
-    store: &Store,
-    docs: &Docs,
-    number: u64,
-    name: Name,
-    i: u64,
-    j: u64,
-) -> Result<Answer, NoMemory>
-    requires { AreLive store.now docs.now }
-    ensures { IfOk result (λ answer. (queries : Named Query) (files : Option Files) → Carries (world (state_of store.now docs.now queries) files) number (form.Show name i j) answer.told answer.line.items (world (state_of store.now docs.now queries) files)) }
+pub fn show(held: &mut Held, number: u64, name: Name, i: u64, j: u64) -> Result<Answer, Stop>
+    requires { IsHeld held.old }
+    ensures done { AnswersFreely held.old number (form.Show name i j) held.new result }
+    ensures stopped { StaysFreely held.old number (form.Show name i j) held.new result }
 {
-    match docs.get(name.bytes()) {
+    match held.docs.get(name.bytes()) {
         Ok(root) => {
-            let answer = show_range(alloc, store, root, number, i, j)?;
+            let answer = show_range(held.alloc, &held.store, root, number, i, j)?;
             Ok(answer)
         }
         Err(Missing::NoSuchDocument) => {
-            let answer = Answer::refused(alloc, number, &Refusal::NoSuchDocument { name })?;
+            let answer = Answer::refused(held.alloc, number, &Refusal::NoSuchDocument { name })?;
             Ok(answer)
         }
     }

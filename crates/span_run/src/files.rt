@@ -7,18 +7,18 @@ ghost use Rattle.report_text.specs.Reply.{refusal_text};
 ghost use Rattle.slp_image.specs.Fields.{kind_of};
 ghost use Rattle.slp_image.specs.Image.{image};
 ghost use Rattle.script_syntax.specs.declared.form.Command.TheVariants as form;
-ghost use Rattle.span_types.specs.Query.{Query};
-ghost use Rattle.span_run.specs.State.{Named, world};
-ghost use Rattle.span_run.specs.Held.{state_of};
-ghost use Rattle.span_run.specs.Allowance.{PaysFor, PaysForPart, counters, load_limit};
+ghost use Rattle.span_language.specs.Step.{IsWithin, load_size, open_size};
+ghost use Rattle.span_language.specs.declared.told.Told.TheVariants as told;
+ghost use Rattle.span_run.specs.Answers.{Answers, Stays};
+ghost use Rattle.span_run.specs.Held.{IsHeld};
 ghost use Rattle.span_run.specs.Reading.{IsFileFront, IsLoadPaid, IsTurnedAway};
 ghost use Rattle.span_run.specs.Shown.{IsFileDenied, Opens};
-ghost use Rattle.span_run.specs.Step.{Carries, IsSave, IsWithin, KeepsFiles, load_size, open_size};
+ghost use Rattle.span_run.specs.Site.{at};
 
 use crate::answer::Answer;
 use crate::documents::give;
+use crate::held::Held;
 use crate::reading::{FileRefusal, check_size};
-use crate::told::{Stop, Told};
 use doc_book::Docs;
 use edge_io::{Shelf, WriteRefusal};
 use node_store::Store;
@@ -26,6 +26,7 @@ use pair_loader::Loader;
 use report_text::{Refusal, opened_line, saved_line};
 use slp_image::{ImageRefusal, read, write};
 use slp_model::NodeId;
+use span_language::Stop;
 use span_types::{ByteList, Name, NoMemory, Steps};
 use std::alloc::Global;
 use std::sync::ledger::Ledger;
@@ -115,36 +116,23 @@ fn turned_away(alloc: Global, number: u64, file: ByteList, why: FileRefusal) -> 
 
 /// `load NAME FILE`
 pub fn load_file<F: Shelf, P: Ledger>(
-    alloc: Global,
-    store: &mut Store,
-    docs: &mut Docs,
+    held: &mut Held,
     number: u64,
     name: Name,
     file: ByteList,
     shelf: &mut F,
     pairs: &mut Steps<P>,
 ) -> Result<Answer, Stop>
-    requires { AreLive store.old docs.old }
-    ensures live { AreLive store.new docs.new }
-    ensures grows { Grows store.old store.new pairs.old pairs.new }
-    ensures ok { IfOk result (λ answer. (queries : Named Query) → Carries (world (state_of store.old docs.old queries) (F.files shelf.old)) number (form.LoadFile name file) answer.told answer.line.items (world (state_of store.new docs.new queries) (F.files shelf.new))) }
-    ensures err { OnErr result (plain store.new docs.new ≡ plain store.old docs.old) }
-    ensures paid { OnOk result ((queries : Named Query) (looks : ℕ) → PaysFor (world (state_of store.old docs.old queries) (F.files shelf.old)) (form.LoadFile name file) (counters looks pairs.old) (counters looks pairs.new)) }
-    ensures begun { (queries : Named Query) (looks : ℕ) → PaysForPart (world (state_of store.old docs.old queries) (F.files shelf.old)) (form.LoadFile name file) (counters looks pairs.old) (counters looks pairs.new) }
-    ensures files { F.files shelf.new ≡ F.files shelf.old }
-    ensures later { F.faults shelf.old ≤ F.faults shelf.new }
-    ensures fault { IfErr result (λ why. why ≡ Stop.ShelfFault → Rose (F.faults shelf.old) (F.faults shelf.new)) }
-    ensures out_fault { IfErr result (λ why. why ≡ Stop.OutFault → ⊥) }
+    requires { IsHeld held.old }
+    ensures done { (looks places : ℕ) → IfOk result (Answers (at held.old (F.files shelf.old) (F.faults shelf.old) looks pairs.old places) number (form.LoadFile name file) (at held.new (F.files shelf.new) (F.faults shelf.new) looks pairs.new places)) }
+    ensures stopped { (looks places : ℕ) → IfErr result (Stays (at held.old (F.files shelf.old) (F.faults shelf.old) looks pairs.old places) number (form.LoadFile name file) (at held.new (F.files shelf.new) (F.faults shelf.new) looks pairs.new places)) }
 {
-    match load_from(alloc, store, file.bytes(), shelf, pairs) {
+    match load_from(held.alloc, &mut held.store, file.bytes(), shelf, pairs) {
         Ok(root) => {
-            let answer = give(alloc, store, docs, number, name, root)?;
+            let answer = give(held.alloc, &held.store, &mut held.docs, number, name, root)?;
             Ok(answer)
         }
-        Err(why) => {
-            let answer = turned_away(alloc, number, file, why)?;
-            Ok(answer)
-        }
+        Err(why) => turned_away(held.alloc, number, file, why),
     }
 }
 
@@ -195,7 +183,7 @@ fn read_file<F: Shelf>(alloc: Global, name: &[u8], shelf: &mut F) -> Result<Vec<
 
 /// The reply to a faulty image.
 fn faulty(alloc: Global, number: u64, why: ImageRefusal) -> Result<Answer, NoMemory>
-    ensures { IfOk result (λ answer. (answer.told ≡ Told.Refused) × ((kind : ℕ) × (kind_of why ≡ Some kind) × (answer.line.items ≡ refusal_text number (Refusal.BadImage kind)))) }
+    ensures { IfOk result (λ answer. (answer.told ≡ told.Refused) × ((kind : ℕ) × (kind_of why ≡ Some kind) × (answer.line.items ≡ refusal_text number (Refusal.BadImage kind)))) }
 {
     let Some(kind) = why.kind() else {
         return Err(NoMemory);
@@ -236,56 +224,46 @@ fn open_image<P: Ledger>(
 
 /// `open FILE`
 pub fn open_file<F: Shelf, P: Ledger>(
-    alloc: Global,
-    store: &mut Store,
-    docs: &mut Docs,
+    held: &mut Held,
     number: u64,
     file: ByteList,
     shelf: &mut F,
     pairs: &mut Steps<P>,
 ) -> Result<Answer, Stop>
-    requires { AreLive store.old docs.old }
-    ensures live { AreLive store.new docs.new }
-    ensures grows { Grows store.old store.new pairs.old pairs.new }
-    ensures ok { IfOk result (λ answer. (queries : Named Query) → Carries (world (state_of store.old docs.old queries) (F.files shelf.old)) number (form.OpenFile file) answer.told answer.line.items (world (state_of store.new docs.new queries) (F.files shelf.new))) }
-    ensures err { OnErr result (plain store.new docs.new ≡ plain store.old docs.old) }
-    ensures paid { OnOk result ((queries : Named Query) (looks : ℕ) → PaysFor (world (state_of store.old docs.old queries) (F.files shelf.old)) (form.OpenFile file) (counters looks pairs.old) (counters looks pairs.new)) }
-    ensures begun { (queries : Named Query) (looks : ℕ) → PaysForPart (world (state_of store.old docs.old queries) (F.files shelf.old)) (form.OpenFile file) (counters looks pairs.old) (counters looks pairs.new) }
-    ensures files { F.files shelf.new ≡ F.files shelf.old }
-    ensures later { F.faults shelf.old ≤ F.faults shelf.new }
-    ensures fault { IfErr result (λ why. why ≡ Stop.ShelfFault → Rose (F.faults shelf.old) (F.faults shelf.new)) }
-    ensures out_fault { IfErr result (λ why. why ≡ Stop.OutFault → ⊥) }
+    requires { IsHeld held.old }
+    ensures done { (looks places : ℕ) → IfOk result (Answers (at held.old (F.files shelf.old) (F.faults shelf.old) looks pairs.old places) number (form.OpenFile file) (at held.new (F.files shelf.new) (F.faults shelf.new) looks pairs.new places)) }
+    ensures stopped { (looks places : ℕ) → IfErr result (Stays (at held.old (F.files shelf.old) (F.faults shelf.old) looks pairs.old places) number (form.OpenFile file) (at held.new (F.files shelf.new) (F.faults shelf.new) looks pairs.new places)) }
 {
-    match read_file(alloc, file.bytes(), shelf) {
+    match read_file(held.alloc, file.bytes(), shelf) {
         Ok(bytes) => {
-            let answer = open_image(alloc, store, docs, number, &bytes, pairs)?;
+            let answer = open_image(
+                held.alloc,
+                &mut held.store,
+                &mut held.docs,
+                number,
+                &bytes,
+                pairs,
+            )?;
             Ok(answer)
         }
-        Err(why) => {
-            let answer = turned_away(alloc, number, file, why)?;
-            Ok(answer)
-        }
+        Err(why) => turned_away(held.alloc, number, file, why),
     }
 }
 
 /// `save FILE`
 pub fn save_file<F: Shelf>(
-    alloc: Global,
-    store: &Store,
-    docs: &Docs,
+    held: &mut Held,
+    number: u64,
     file: ByteList,
     shelf: &mut F,
 ) -> Result<Answer, Stop>
-    requires { AreLive store.now docs.now }
-    ensures ok { IfOk result (λ answer. (queries : Named Query) (number : ℕ) → Carries (world (state_of store.now docs.now queries) (F.files shelf.old)) number (form.SaveFile file) answer.told answer.line.items (world (state_of store.now docs.now queries) (F.files shelf.new))) }
-    ensures files { KeepsFiles (IsSave (form.SaveFile file)) (F.files shelf.old) (F.files shelf.new) }
-    ensures later { F.faults shelf.old ≤ F.faults shelf.new }
-    ensures fault { IfErr result (λ why. why ≡ Stop.ShelfFault → Rose (F.faults shelf.old) (F.faults shelf.new)) }
-    ensures out_fault { IfErr result (λ why. why ≡ Stop.OutFault → ⊥) }
+    requires { IsHeld held.old }
+    ensures done { (looks pairs places : ℕ) → IfOk result (Answers (at held.old (F.files shelf.old) (F.faults shelf.old) looks pairs places) number (form.SaveFile file) (at held.new (F.files shelf.new) (F.faults shelf.new) looks pairs places)) }
+    ensures stopped { (looks pairs places : ℕ) → IfErr result (Stays (at held.old (F.files shelf.old) (F.faults shelf.old) looks pairs places) number (form.SaveFile file) (at held.new (F.files shelf.new) (F.faults shelf.new) looks pairs places)) }
 {
-    let image = write(alloc, docs, store)?;
-    let mut line = Vec::new(alloc);
-    saved_line(alloc, docs.count() as u64, image.nodes, &mut line)?;
+    let image = write(held.alloc, &held.docs, &held.store)?;
+    let mut line = Vec::new(held.alloc);
+    saved_line(held.alloc, held.docs.count() as u64, image.nodes, &mut line)?;
     match shelf.put(file.bytes(), &image.bytes) {
         Ok(()) => Ok(Answer::accepted(line)),
         Err(WriteRefusal::Failed) => Err(Stop::ShelfFault),

@@ -2,20 +2,25 @@
 #![tactic(auto)]
 
 mod answer;
-mod carry;
+mod answering;
+mod carrying;
+mod context;
 mod documents;
+mod every;
 mod files;
+mod held;
 mod lines;
 mod listing;
 mod offer;
 mod queries;
 mod reading;
+mod replacing;
 mod session;
-mod told;
 mod top;
+mod versions;
 mod words;
 
 pub use session::Session;
+pub use span_language::{Stop, Told};
 pub use span_words::usage_text;
-pub use told::{Stop, Told};
 pub use top::{Status, run};

@@ -1,6 +1,6 @@
 //! The lines of a script.
 ghost use Rattle.std.specs.Prelude.{◌≡◌, ◌≢◌, ◌<◌, ◌∷◌, ◌++◌, All, MatchOption, length};
-ghost use Rattle.span_run.specs.Lines.{lines_of};
+ghost use Rattle.span_language.specs.Lines.{lines_of};
 
 /// The bytes before the first newline and those after it, if there is one.
 fn cut_line(text: &[u8]) -> Option<(&[u8], &[u8])>

@@ -4,7 +4,7 @@ ghost use Rattle.std.specs.Io.KnownBytes.{Appends, Keeps};
 ghost use Rattle.slp_model.specs.Nodes.{IsLive};
 ghost use Rattle.edge_io.specs.Causes.{Rose};
 ghost use Rattle.edge_io.specs.Files.{Files};
-ghost use Rattle.edit_expr.specs.Values.{AreLive, text_at};
+ghost use Rattle.edit_expr.specs.Values.{text_at};
 ghost use Rattle.script_syntax.specs.declared.form.Command.TheVariants as form;
 ghost use Rattle.span_types.specs.Answers.{IsAfter};
 ghost use Rattle.span_types.specs.Fibonacci.{looks_limit};
@@ -12,20 +12,20 @@ ghost use Rattle.span_enum.specs.Members.{Tuple as ATuple, AreAnswersOf};
 ghost use Rattle.query_book.specs.Answers.{HasList, IfNamed, IsListingOf, IsNamed, most_looks};
 ghost use Rattle.query_book.specs.Book.{queries_of};
 ghost use Rattle.query_book.specs.Named.{value_of};
-ghost use Rattle.query_book.specs.Serving.{Covers, Serves, covered_of};
-ghost use Rattle.span_run.specs.State.{world};
-ghost use Rattle.span_run.specs.Held.{state_of};
-ghost use Rattle.span_run.specs.Allowance.{PaysFor, PaysForPart, counters};
-ghost use Rattle.span_run.specs.Registered.{Places, PlacesPart};
-ghost use Rattle.span_run.specs.Listed.{tuple_line, first_page_text};
+ghost use Rattle.query_book.specs.Serving.{Covers};
+ghost use Rattle.span_language.specs.Listed.{tuple_line, first_page_text};
+ghost use Rattle.span_language.specs.Step.{AppendsFront};
+ghost use Rattle.span_run.specs.Carried.{Done, Stopped, outlet};
+ghost use Rattle.span_run.specs.Held.{IsHeld, standing_of};
 ghost use Rattle.span_run.specs.Listing.{HasCursor, Lists, Tells};
-ghost use Rattle.span_run.specs.Step.{AppendsFront, Carries, Finishes, Halts, Leaves};
+ghost use Rattle.span_run.specs.Scene.{seen};
 
-use crate::answer::{Answer, send};
-use crate::offer::offer;
-use crate::told::{Stop, Told};
+use crate::answer::Answer;
+use crate::context::Context;
+use crate::held::Held;
+use crate::offer::{offer, send};
 use crate::words::{cursor_of, word_refusal};
-use doc_book::{Docs, Missing};
+use doc_book::Missing;
 use edge_io::Sink;
 use node_store::Store;
 use query_book::{BookRefusal, QueryBook};
@@ -33,14 +33,22 @@ use report_text::Refusal;
 use slp_model::NodeId;
 use span_cursor::print;
 use span_enum::Answers;
+use span_language::{Stop, Told};
 use span_types::{ByteList, Name, NoMemory, Steps, Tuple, Vars};
 use std::alloc::Global;
 use std::sync::ledger::Ledger;
 use std::thread::Threads;
 use work_gate::Gate;
 
+/// Which page of a query's answers is asked for: after which word as a tuple, and how many at most.
+#[derive(Drop)]
+pub struct Page {
+    pub after: Option<ByteList>,
+    pub limit: u16,
+}
+
 /// Writes a tuple's line.
-fn write_tuple<K: Sink>(tuple: &Tuple, vars: &Vars, out: &mut K) -> Result<(), Stop>
+pub fn write_tuple<K: Sink>(tuple: &Tuple, vars: &Vars, out: &mut K) -> Result<(), Stop>
     requires { length vars.now ≡ length tuple.now }
     ensures done { OnOk result (Appends (K.written out.old) (K.written out.new) (tuple_line vars.now tuple.now)) }
     ensures stopped { OnErr result (AppendsFront (K.written out.old) (K.written out.new) (tuple_line vars.now tuple.now)) }
@@ -183,48 +191,49 @@ fn list_root<K: Sink, L: Ledger>(
 
 /// `list Q NAME`, and then perhaps `after TUPLE` and `limit NUM`: each line is offered before the next answer is searched.
 pub fn list<R: Threads + Sync, K: Sink, G: Gate, T: Ledger, L: Ledger>(
-    rt: &R,
-    alloc: Global,
-    store: &Store,
-    docs: &Docs,
-    book: &mut QueryBook,
-    number: u64,
+    context: Context<'_, R, G>,
+    held: &mut Held,
     query: Name,
     name: Name,
-    word: Option<ByteList>,
-    limit: u16,
-    workers: u8,
+    page: Page,
     out: &mut K,
-    gate: &G,
     places: &mut Steps<T>,
     looks: &mut Steps<L>,
 ) -> Result<Told, Stop>
-    requires least { 1 ≤ workers }
-    requires most { workers ≤ 64 }
-    requires live { AreLive store.now docs.now }
-    requires serves { Serves store.now book.old }
-    ensures serves { Serves store.now book.new }
-    ensures done { IfOk result (λ told. (files : Option Files) → Finishes (Carries (world (state_of store.now docs.now (queries_of book.old)) files) number (form.List query name word limit)) told (K.written out.old) (K.written out.new) (world (state_of store.now docs.now (queries_of book.new)) files)) }
-    ensures stopped { OnErr result ((files : Option Files) → Halts (Carries (world (state_of store.now docs.now (queries_of book.old)) files) number (form.List query name word limit)) (world (state_of store.now docs.now (queries_of book.old)) files) (K.written out.old) (K.written out.new) (world (state_of store.now docs.now (queries_of book.new)) files)) }
-    ensures placed { Places 0 (length store.now) (covered_of book.old) (covered_of book.new) places.old places.new }
-    ensures placed_part { PlacesPart (length store.now) (covered_of book.old) places.old places.new }
-    ensures paid { OnOk result ((files : Option Files) (pairs : ℕ) → PaysFor (world (state_of store.now docs.now (queries_of book.old)) files) (form.List query name word limit) (counters looks.old pairs) (counters looks.new pairs)) }
-    ensures begun { (files : Option Files) (pairs : ℕ) → PaysForPart (world (state_of store.now docs.now (queries_of book.old)) files) (form.List query name word limit) (counters looks.old pairs) (counters looks.new pairs) }
-    ensures later { K.faults out.old ≤ K.faults out.new }
-    ensures wants_later { K.wants out.old ≤ K.wants out.new }
-    ensures fault { IfErr result (λ why. why ≡ Stop.OutFault → Rose (K.faults out.old) (K.faults out.new)) }
-    ensures shelf_fault { IfErr result (λ why. why ≡ Stop.ShelfFault → ⊥) }
-    ensures want { IfErr result (λ why. why ≡ Stop.NoMemory → Rose (K.wants out.old) (K.wants out.new) ⊎ ((files : Option Files) → Leaves (world (state_of store.now docs.now (queries_of book.old)) files) (K.written out.old) (K.written out.new) (world (state_of store.now docs.now (queries_of book.new)) files))) }
+    requires { IsHeld held.old }
+    ensures held { IsHeld held.new }
+    ensures done { (files : Option Files) (faults pairs : ℕ) → IfOk result (Done context.entry.number (Some (form.List query name page.after page.limit)) (seen (standing_of held.old) files faults looks.old pairs places.old) (outlet (K.written out.old) (K.faults out.old) (K.wants out.old)) (seen (standing_of held.new) files faults looks.new pairs places.new) (outlet (K.written out.new) (K.faults out.new) (K.wants out.new))) }
+    ensures stopped { (files : Option Files) (faults pairs : ℕ) → IfErr result (Stopped context.entry.number (Some (form.List query name page.after page.limit)) (seen (standing_of held.old) files faults looks.old pairs places.old) (outlet (K.written out.old) (K.faults out.old) (K.wants out.old)) (seen (standing_of held.new) files faults looks.new pairs places.new) (outlet (K.written out.new) (K.faults out.new) (K.wants out.new))) }
 {
-    match docs.get(name.bytes()) {
+    match held.docs.get(name.bytes()) {
         Ok(root) => {
-            book.grow_all(rt, alloc, store, workers, gate, places)?;
+            held.book.grow_all(
+                context.rt,
+                held.alloc,
+                &held.store,
+                context.workers,
+                context.gate,
+                places,
+            )?;
             list_root(
-                alloc, store, book, number, query, word, root, limit, out, looks,
+                held.alloc,
+                &held.store,
+                &held.book,
+                context.number,
+                query,
+                page.after,
+                root,
+                page.limit,
+                out,
+                looks,
             )
         }
         Err(Missing::NoSuchDocument) => {
-            let answer = Answer::refused(alloc, number, &Refusal::NoSuchDocument { name })?;
+            let answer = Answer::refused(
+                held.alloc,
+                context.number,
+                &Refusal::NoSuchDocument { name },
+            )?;
             send(answer, out)
         }
     }

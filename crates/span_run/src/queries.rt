@@ -1,9 +1,7 @@
 //! What commands do with queries, and their replies.
-ghost use Rattle.std.specs.Prelude.{◌≡◌, ◌≤◌, ◌⊎◌, IfOk, IfErr, OnOk, OnErr, IsSome, List, Option, Some, true, false, length, ◌+◌, ℕ};
-ghost use Rattle.std.specs.List.{AllByRecursion};
-ghost use Rattle.slp_model.specs.declared.Node.{Node};
+ghost use Rattle.std.specs.Prelude.{◌≡◌, ◌≤◌, IfOk, IfErr, IsSome, Option, Some, true, false, ◌+◌, ℕ};
 ghost use Rattle.slp_model.specs.Nodes.{IsLive};
-ghost use Rattle.edit_expr.specs.Values.{AreLive, text_at};
+ghost use Rattle.edit_expr.specs.Values.{text_at};
 ghost use Rattle.query_book.specs.Answers.{HasAnswer, HasVariablesOf, IsAnswer, most_looks};
 ghost use Rattle.edge_io.specs.Files.{Files};
 ghost use Rattle.report_text.specs.Reply.{query_text};
@@ -12,26 +10,27 @@ ghost use Rattle.span_types.specs.Query.{Query};
 ghost use Rattle.span_types.specs.Rel.{names_of};
 ghost use Rattle.query_book.specs.Named.{value_of};
 ghost use Rattle.query_book.specs.Book.{queries_of};
-ghost use Rattle.query_book.specs.Serving.{Covers, Serves, covered_of};
-ghost use Rattle.span_run.specs.Replies.{yes_text, no_text};
-ghost use Rattle.span_run.specs.Held.{state_of};
-ghost use Rattle.span_run.specs.Allowance.{PaysFor, PaysForPart, counters};
-ghost use Rattle.span_run.specs.State.{Documents, stated, world};
-ghost use Rattle.span_run.specs.Registered.{IsCounted, Places, PlacesPart};
+ghost use Rattle.query_book.specs.Serving.{Covers};
+ghost use Rattle.span_language.specs.Replies.{yes_text, no_text};
+ghost use Rattle.span_run.specs.Answers.{Answers, AnswersFreely, Stays, StaysFreely};
 ghost use Rattle.span_run.specs.Asked.{IsAnswered};
+ghost use Rattle.span_run.specs.Held.{IsHeld};
 ghost use Rattle.span_run.specs.Judged.{IsJudged, IsWordPaid};
 ghost use Rattle.span_run.specs.Shown.{IsFormulaRefusal, IsTextDenied};
-ghost use Rattle.span_run.specs.Step.{Carries, Halts};
+ghost use Rattle.span_run.specs.Site.{at};
+ghost use Rattle.span_language.specs.declared.told.Told.TheVariants as told;
 
 use crate::answer::{Answer, ok_line};
-use crate::told::Told;
+use crate::context::Context;
+use crate::held::Held;
 use crate::words::{tuple_of, word_refusal};
-use doc_book::{Docs, Missing};
+use doc_book::Missing;
 use formula_syntax::FormulaRefusal;
 use node_store::Store;
 use query_book::{QueryBook, QueryRefusal};
 use report_text::{Refusal, query_line};
 use slp_model::NodeId;
+use span_language::Stop;
 use span_types::{ByteList, Name, NoMemory, Steps, Tuple};
 use std::alloc::Global;
 use std::sync::ledger::Ledger;
@@ -69,7 +68,7 @@ fn text_denied(alloc: Global, number: u64, why: QueryRefusal) -> Result<Answer, 
 /// The reply that tells the variables of a query that is there.
 fn registered(alloc: Global, book: &QueryBook, name: &Name) -> Result<Answer, NoMemory>
     requires { IsSome (value_of (queries_of book.now) name.now) }
-    ensures told { IfOk result (λ answer. answer.told ≡ Told.Accepted) }
+    ensures told { IfOk result (λ answer. answer.told ≡ told.Accepted) }
     ensures line { IfOk result (λ answer. (q : Query) → value_of (queries_of book.now) name.now ≡ Some q → answer.line.items ≡ query_text name.now (names_of q)) }
 {
     match book.vars(name.bytes()) {
@@ -83,48 +82,35 @@ fn registered(alloc: Global, book: &QueryBook, name: &Name) -> Result<Answer, No
 }
 
 /// `query NAME FORMULA`
-pub fn query(
-    alloc: Global,
-    book: &mut QueryBook,
-    number: u64,
-    name: Name,
-    formula: ByteList,
-) -> Result<Answer, NoMemory>
-    ensures serves { (ns : List Node) → Serves ns book.old → Serves ns book.new }
-    ensures ok { IfOk result (λ answer. (documents : Documents) (files : Option Files) → Carries (world (stated documents (queries_of book.old)) files) number (form.Query name formula) answer.told answer.line.items (world (stated documents (queries_of book.new)) files)) }
-    ensures stopped { OnErr result ((documents : Documents) (files : Option Files) (written : Option (List ℕ)) → Halts (Carries (world (stated documents (queries_of book.old)) files) number (form.Query name formula)) (world (stated documents (queries_of book.old)) files) written written (world (stated documents (queries_of book.new)) files)) }
-    ensures placed { IfOk result (λ answer. (nodes places : ℕ) → AllByRecursion (λ p. p.1 ≤ nodes) (covered_of book.old) → (count : ℕ) × IsCounted (form.Query name formula) answer.told count × Places count nodes (covered_of book.old) (covered_of book.new) places places) }
+pub fn query(held: &mut Held, number: u64, name: Name, formula: ByteList) -> Result<Answer, Stop>
+    requires { IsHeld held.old }
+    ensures done { AnswersFreely held.old number (form.Query name formula) held.new result }
+    ensures stopped { StaysFreely held.old number (form.Query name formula) held.new result }
 {
-    let kept = name.copy(alloc)?;
-    match book.add(alloc, name, formula.bytes()) {
+    let kept = name.copy(held.alloc)?;
+    match held.book.add(held.alloc, name, formula.bytes()) {
         Ok(()) => {
-            let answer = registered(alloc, book, &kept)?;
+            let answer = registered(held.alloc, &held.book, &kept)?;
             Ok(answer)
         }
         Err(why) => {
-            let answer = text_denied(alloc, number, why)?;
+            let answer = text_denied(held.alloc, number, why)?;
             Ok(answer)
         }
     }
 }
 
 /// `unquery NAME`
-pub fn unquery(
-    alloc: Global,
-    book: &mut QueryBook,
-    number: u64,
-    name: Name,
-) -> Result<Answer, NoMemory>
-    ensures serves { (ns : List Node) → Serves ns book.old → Serves ns book.new }
-    ensures ok { IfOk result (λ answer. (documents : Documents) (files : Option Files) → Carries (world (stated documents (queries_of book.old)) files) number (form.Unquery name) answer.told answer.line.items (world (stated documents (queries_of book.new)) files)) }
-    ensures err { OnErr result (book.new ≡ book.old) }
-    ensures placed { OnOk result ((nodes places : ℕ) → AllByRecursion (λ p. p.1 ≤ nodes) (covered_of book.old) → Places 0 nodes (covered_of book.old) (covered_of book.new) places places) }
+pub fn unquery(held: &mut Held, number: u64, name: Name) -> Result<Answer, Stop>
+    requires { IsHeld held.old }
+    ensures done { AnswersFreely held.old number (form.Unquery name) held.new result }
+    ensures stopped { StaysFreely held.old number (form.Unquery name) held.new result }
 {
-    let line = ok_line(alloc)?;
-    match book.remove(name.bytes()) {
+    let line = ok_line(held.alloc)?;
+    match held.book.remove(name.bytes()) {
         Ok(()) => Ok(Answer::accepted(line)),
         Err(_) => {
-            let answer = Answer::refused(alloc, number, &Refusal::NoSuchQuery { name })?;
+            let answer = Answer::refused(held.alloc, number, &Refusal::NoSuchQuery { name })?;
             Ok(answer)
         }
     }
@@ -132,7 +118,7 @@ pub fn unquery(
 
 /// The line `yes` or `no`.
 fn yes_or_no(alloc: Global, yes: bool) -> Result<Answer, NoMemory>
-    ensures told { IfOk result (λ answer. answer.told ≡ Told.Accepted) }
+    ensures told { IfOk result (λ answer. answer.told ≡ told.Accepted) }
     ensures yes { IfOk result (λ answer. yes ≡ true → answer.line.items ≡ yes_text) }
     ensures no { IfOk result (λ answer. yes ≡ false → answer.line.items ≡ no_text) }
 {
@@ -173,39 +159,44 @@ fn test_root<L: Ledger>(
 
 /// `test Q NAME`
 pub fn test<R: Threads + Sync, G: Gate, T: Ledger, L: Ledger>(
-    rt: &R,
-    alloc: Global,
-    store: &Store,
-    docs: &Docs,
-    book: &mut QueryBook,
-    number: u64,
+    context: Context<'_, R, G>,
+    held: &mut Held,
     query: Name,
     name: Name,
-    workers: u8,
-    gate: &G,
     places: &mut Steps<T>,
     looks: &mut Steps<L>,
-) -> Result<Answer, NoMemory>
-    requires least { 1 ≤ workers }
-    requires most { workers ≤ 64 }
-    requires live { AreLive store.now docs.now }
-    requires serves { Serves store.now book.old }
-    ensures serves { Serves store.now book.new }
-    ensures queries { queries_of book.new ≡ queries_of book.old }
-    ensures ok { IfOk result (λ answer. (files : Option Files) → Carries (world (state_of store.now docs.now (queries_of book.old)) files) number (form.Nonempty query name) answer.told answer.line.items (world (state_of store.now docs.now (queries_of book.old)) files)) }
-    ensures placed { Places 0 (length store.now) (covered_of book.old) (covered_of book.new) places.old places.new }
-    ensures placed_part { PlacesPart (length store.now) (covered_of book.old) places.old places.new }
-    ensures paid { OnOk result ((files : Option Files) (pairs : ℕ) → PaysFor (world (state_of store.now docs.now (queries_of book.old)) files) (form.Nonempty query name) (counters looks.old pairs) (counters looks.new pairs)) }
-    ensures begun { (files : Option Files) (pairs : ℕ) → PaysForPart (world (state_of store.now docs.now (queries_of book.old)) files) (form.Nonempty query name) (counters looks.old pairs) (counters looks.new pairs) }
+) -> Result<Answer, Stop>
+    requires { IsHeld held.old }
+    ensures done { (files : Option Files) (faults pairs : ℕ) → IfOk result (Answers (at held.old files faults looks.old pairs places.old) context.entry.number (form.Nonempty query name) (at held.new files faults looks.new pairs places.new)) }
+    ensures stopped { (files : Option Files) (faults pairs : ℕ) → IfErr result (Stays (at held.old files faults looks.old pairs places.old) context.entry.number (form.Nonempty query name) (at held.new files faults looks.new pairs places.new)) }
 {
-    match docs.get(name.bytes()) {
+    match held.docs.get(name.bytes()) {
         Ok(root) => {
-            book.grow_all(rt, alloc, store, workers, gate, places)?;
-            let answer = test_root(alloc, store, book, number, query, root, looks)?;
+            held.book.grow_all(
+                context.rt,
+                held.alloc,
+                &held.store,
+                context.workers,
+                context.gate,
+                places,
+            )?;
+            let answer = test_root(
+                held.alloc,
+                &held.store,
+                &held.book,
+                context.number,
+                query,
+                root,
+                looks,
+            )?;
             Ok(answer)
         }
         Err(Missing::NoSuchDocument) => {
-            let answer = Answer::refused(alloc, number, &Refusal::NoSuchDocument { name })?;
+            let answer = Answer::refused(
+                held.alloc,
+                context.number,
+                &Refusal::NoSuchDocument { name },
+            )?;
             Ok(answer)
         }
     }
@@ -270,40 +261,46 @@ fn has_root<L: Ledger>(
 
 /// `has Q NAME TUPLE`
 pub fn has<R: Threads + Sync, G: Gate, T: Ledger, L: Ledger>(
-    rt: &R,
-    alloc: Global,
-    store: &Store,
-    docs: &Docs,
-    book: &mut QueryBook,
-    number: u64,
+    context: Context<'_, R, G>,
+    held: &mut Held,
     query: Name,
     name: Name,
     word: ByteList,
-    workers: u8,
-    gate: &G,
     places: &mut Steps<T>,
     looks: &mut Steps<L>,
-) -> Result<Answer, NoMemory>
-    requires least { 1 ≤ workers }
-    requires most { workers ≤ 64 }
-    requires live { AreLive store.now docs.now }
-    requires serves { Serves store.now book.old }
-    ensures serves { Serves store.now book.new }
-    ensures queries { queries_of book.new ≡ queries_of book.old }
-    ensures ok { IfOk result (λ answer. (files : Option Files) → Carries (world (state_of store.now docs.now (queries_of book.old)) files) number (form.Has query name word) answer.told answer.line.items (world (state_of store.now docs.now (queries_of book.old)) files)) }
-    ensures placed { Places 0 (length store.now) (covered_of book.old) (covered_of book.new) places.old places.new }
-    ensures placed_part { PlacesPart (length store.now) (covered_of book.old) places.old places.new }
-    ensures paid { OnOk result ((files : Option Files) (pairs : ℕ) → PaysFor (world (state_of store.now docs.now (queries_of book.old)) files) (form.Has query name word) (counters looks.old pairs) (counters looks.new pairs)) }
-    ensures begun { (files : Option Files) (pairs : ℕ) → PaysForPart (world (state_of store.now docs.now (queries_of book.old)) files) (form.Has query name word) (counters looks.old pairs) (counters looks.new pairs) }
+) -> Result<Answer, Stop>
+    requires { IsHeld held.old }
+    ensures done { (files : Option Files) (faults pairs : ℕ) → IfOk result (Answers (at held.old files faults looks.old pairs places.old) context.entry.number (form.Has query name word) (at held.new files faults looks.new pairs places.new)) }
+    ensures stopped { (files : Option Files) (faults pairs : ℕ) → IfErr result (Stays (at held.old files faults looks.old pairs places.old) context.entry.number (form.Has query name word) (at held.new files faults looks.new pairs places.new)) }
 {
-    match docs.get(name.bytes()) {
+    match held.docs.get(name.bytes()) {
         Ok(root) => {
-            book.grow_all(rt, alloc, store, workers, gate, places)?;
-            let answer = has_root(alloc, store, book, number, query, &word, root, looks)?;
+            held.book.grow_all(
+                context.rt,
+                held.alloc,
+                &held.store,
+                context.workers,
+                context.gate,
+                places,
+            )?;
+            let answer = has_root(
+                held.alloc,
+                &held.store,
+                &held.book,
+                context.number,
+                query,
+                &word,
+                root,
+                looks,
+            )?;
             Ok(answer)
         }
         Err(Missing::NoSuchDocument) => {
-            let answer = Answer::refused(alloc, number, &Refusal::NoSuchDocument { name })?;
+            let answer = Answer::refused(
+                held.alloc,
+                context.number,
+                &Refusal::NoSuchDocument { name },
+            )?;
             Ok(answer)
         }
     }

@@ -4,7 +4,7 @@ ghost use Rattle.edge_io.specs.Causes.{Rose};
 ghost use Rattle.span_run.specs.Reading.{IsFileFront, IsTurnedAway};
 ghost use Rattle.slp_model.specs.Nodes.{IsLive};
 ghost use Rattle.edit_expr.specs.Values.{text_at};
-ghost use Rattle.span_run.specs.Replies.{is_range};
+ghost use Rattle.span_language.specs.Replies.{is_range};
 
 use edge_io::{Shelf, ShelfRefusal};
 use node_store::Store;

@@ -3,14 +3,14 @@ ghost use Rattle.std.specs.Prelude.{◌≡◌, ◌⊎◌, ℕ, ◌+◌, ◌^◌,
 ghost use Rattle.std.specs.Io.KnownBytes.{Consumes, Keeps};
 ghost use Rattle.edge_io.specs.Causes.{Rose};
 ghost use Rattle.span_words.specs.Words.{Refused, Words};
-ghost use Rattle.span_run.specs.Lines.{lines_of};
-ghost use Rattle.span_run.specs.Runs.{is_refused, outside, Anywhere, InFileLine, UnlessList, RunsAll, RunsFront};
-ghost use Rattle.span_run.specs.Scripts.{script_of, AsksForNoDemo, OfScript};
+ghost use Rattle.span_language.specs.Lines.{lines_of};
+ghost use Rattle.span_language.specs.Runs.{is_refused, outside, Anywhere, InFileLine, UnlessList, RunsAll, RunsFront};
+ghost use Rattle.span_language.specs.Scripts.{script_of, AsksForNoDemo, OfScript};
 
 use crate::lines::next_line;
 use crate::session::Session;
-use crate::told::{Stop, Told};
 use edge_io::{Shelf, Sink, Source};
+use span_language::{Stop, Told};
 use span_types::Steps;
 use span_words::{WordsRefusal, read_words};
 use std::alloc::Global;

@@ -4,7 +4,7 @@
 ghost use Rattle.std.specs.Prelude.{◌≡◌, ◌<◌, ◌⊎◌, ◌^◌, IfSome, length, map, string_bytes};
 ghost use Rattle.edge_io.specs.Causes.{Rose};
 ghost use Rattle.span_words.specs.Words.{Refused};
-ghost use Rattle.span_run.specs.Scripts.{AsksForNoDemo};
+ghost use Rattle.span_language.specs.Scripts.{AsksForNoDemo};
 ghost use Rattle.spanbase.specs.Exit.{exit_of};
 
 use edge_io::{DirShelf, Sink, Source, StdSink, StdSource};

@@ -1,30 +1,48 @@
-use Rattle.std.proofs.Common.{sym, ap, subst, ◌∙◌, List, ℕ}
-use Rattle.std.specs.Prelude.{Option, IsSome}
+use Rattle.std.proofs.Common.{◌∙◌, sym, ap, subst, refl, List, ℕ}
+use Rattle.std.specs.Prelude.{IsSome}
 use Rattle.doc_book.specs.declared.Doc.{Doc}
 use Rattle.doc_book.specs.Docs as book
-use Rattle.edge_io.specs.Files.{Files}
-use Rattle.edit_expr.specs.Values.{AreLive}
+use Rattle.edit_expr.specs.Values.{AreLive, plain, text_at}
 use Rattle.script_syntax.specs.declared.form.Command.TheVariants as form
-use Rattle.span_types.specs.Query.{Query}
-use Rattle.span_run.specs.State.{Named, world}
+use Rattle.span_language.specs.State.{world}
+use Rattle.span_language.specs.declared.told.Stop.TheVariants as stop
 use Rattle.span_run.specs.Held.{state_of}
-use Rattle.span_run.specs.Step.{Carries}
-use Rattle.span_run.proofs.HeldLemmas.{AreLive-taken_out}
+use Rattle.span_run.specs.Site.{at}
+use Rattle.span_run.specs.Answers.{Answers, Stays}
+use Rattle.span_run.proofs.HeldLemmas.{AreLive-taken_out, plain-taken_out}
+use Rattle.span_run.proofs.BookLemmas.{some_value}
 use Rattle.span_run.proofs.CarryLemmas.{drop_carries, drop_missing}
+use Rattle.span_run.proofs.QueryLemmas.{document_is, document_lacks}
+use Rattle.span_run.proofs.Goes.{free_answers, passed_on, stays}
 use Rattle.span_run.proofs.documents.drop_document.Goals as goal
 
-pub returns-in-Ok-clause-live : goal.returns-in-Ok-clause-live
-returns-in-Ok-clause-live c = subst (AreLive c.args.store.now) (sym c.take_out.ensures.rest) (AreLive-taken_out c.args.store.now c.args.docs.now c.bytes.result.now c.requires)
+pub returns-in_err-line-clause-stopped : goal.returns-in_err-line-clause-stopped
+returns-in_err-line-clause-stopped c = λ files faults looks pairs places. passed_on c.from_residual.result _ c.from_residual.ensures.1 (stays c.args.held.now c.args.number (form.DropDoc c.args.name) files faults looks pairs places c.requires)
 
-pub returns-in-Ok-clause-ok : goal.returns-in-Ok-clause-ok
-returns-in-Ok-clause-ok c =
-    let there : IsSome (book.root_of c.args.docs.now c.args.name) = subst (λ (n : List ℕ). IsSome (book.root_of c.args.docs.now n)) c.bytes.ensures.value c.in-Ok.ensures.ok in
-    drop_carries c.args.store.now c.args.docs.now c.take_out.new.self c.args.number c.args.name c.accepted.result.told c.accepted.result.line.items there
-    (c.take_out.ensures.rest ∙ ap (book.taken_out c.args.docs.now) c.bytes.ensures.value) c.accepted.ensures.0 (ap (λ v. v.items) c.accepted.ensures.1 ∙ c.in_ok-line.ensures)
+pub returns-in_err-answer-in-Err-NoSuchDocument-clause-stopped : goal.returns-in_err-answer-in-Err-NoSuchDocument-clause-stopped
+returns-in_err-answer-in-Err-NoSuchDocument-clause-stopped c = λ files faults looks pairs places.
+    let h = c.args.held.now in
+    let r = c.from_residual-in_err-answer-in-Err-NoSuchDocument in
+    passed_on r.result _ r.ensures.1
+    (subst (λ (d : List Doc). Stays (at h files faults looks pairs places) c.args.number (form.DropDoc c.args.name) (at (record h { docs = d }) files faults looks pairs places) stop.NoMemory) (sym c.in-Err-NoSuchDocument.ensures.same)
+    (stays h c.args.number (form.DropDoc c.args.name) files faults looks pairs places c.requires))
 
-pub returns-in_ok-answer-in-Err-NoSuchDocument-clause-ok : goal.returns-in_ok-answer-in-Err-NoSuchDocument-clause-ok
-returns-in_ok-answer-in-Err-NoSuchDocument-clause-ok c =
+pub returns-in-Ok-clause-done : goal.returns-in-Ok-clause-done
+returns-in-Ok-clause-done c = λ files faults looks pairs places.
+    let h = c.args.held.now in
+    let there : IsSome (book.root_of h.docs c.args.name) = subst (λ (n : List ℕ). IsSome (book.root_of h.docs n)) c.bytes.ensures.value c.in-Ok.ensures.ok in
+    let root = some_value (book.root_of h.docs c.args.name) there in
+    free_answers h c.take_out.new.self c.args.number (form.DropDoc c.args.name) c.accepted.result files faults looks pairs places c.requires
+    (subst (AreLive h.store) (sym c.take_out.ensures.rest) (AreLive-taken_out h.store h.docs c.bytes.result.now c.requires.live)) (λ no. no) (λ no. no) refl
+    (drop_carries (state_of h) (plain h.store c.take_out.new.self) c.args.number c.args.name (text_at h.store root.0) c.accepted.result.told c.accepted.result.line.items files
+    (document_is h.store h.docs c.args.name root.0 root.1)
+    (ap (plain h.store) (c.take_out.ensures.rest ∙ ap (book.taken_out h.docs) c.bytes.ensures.value) ∙ plain-taken_out h.store h.docs c.args.name) c.accepted.ensures.0 (ap (λ v. v.items) c.accepted.ensures.1 ∙ c.in_ok-line.ensures))
+
+pub returns-in_ok-answer-in-Err-NoSuchDocument-clause-done : goal.returns-in_ok-answer-in-Err-NoSuchDocument-clause-done
+returns-in_ok-answer-in-Err-NoSuchDocument-clause-done c = λ files faults looks pairs places.
     let a = c.in_ok-answer-in-Err-NoSuchDocument in
-    subst (λ (d : List Doc). (queries : Named Query) (files : Option Files) → Carries (world (state_of c.args.store.now c.args.docs.now queries) files) c.args.number (form.DropDoc c.args.name) a.answer.told a.answer.line.items (world (state_of c.args.store.now d queries) files))
-    (sym c.in-Err-NoSuchDocument.ensures.same)
-    (drop_missing c.args.store.now c.args.docs.now c.args.number c.args.name a.answer.told a.answer.line.items (ap (book.root_of c.args.docs.now) (sym c.bytes.ensures.value) ∙ c.in-Err-NoSuchDocument.ensures.err) a.ensures.0 a.ensures.1)
+    let h = c.args.held.now in
+    subst (λ (d : List Doc). Answers (at h files faults looks pairs places) c.args.number (form.DropDoc c.args.name) (at (record h { docs = d }) files faults looks pairs places) a.answer) (sym c.in-Err-NoSuchDocument.ensures.same)
+    (free_answers h h.docs c.args.number (form.DropDoc c.args.name) a.answer files faults looks pairs places c.requires c.requires.live (λ no. no) (λ no. no) refl
+    (drop_missing (world (state_of h) files) c.args.number c.args.name a.answer.told a.answer.line.items
+    (document_lacks h.store h.docs c.args.name (ap (book.root_of h.docs) (sym c.bytes.ensures.value) ∙ c.in-Err-NoSuchDocument.ensures.err)) a.ensures.0 a.ensures.1))

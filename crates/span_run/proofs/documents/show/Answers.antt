@@ -1,19 +1,38 @@
-use Rattle.std.proofs.Common.{sym, ap, ◌∙◌}
+use Rattle.std.proofs.Common.{refl, sym, ap, ◌∙◌}
 use Rattle.doc_book.specs.Docs as book
+use Rattle.edit_expr.specs.Values.{text_at}
+use Rattle.script_syntax.specs.declared.form.Command.TheVariants as form
+use Rattle.span_language.specs.State.{world}
+use Rattle.span_run.specs.Held.{state_of}
 use Rattle.span_run.proofs.HeldLemmas.{live_root}
 use Rattle.span_run.proofs.CarryLemmas.{show_carries, show_missing, some_of_ok, none_of_err}
+use Rattle.span_run.proofs.QueryLemmas.{document_is, document_lacks}
+use Rattle.span_run.proofs.Goes.{free_answers, passed_on, stays}
 use Rattle.span_run.proofs.documents.show.Goals as goal
 
 pub show_range-requires : goal.show_range-requires
-show_range-requires c = live_root c.args.store.now c.args.docs.now c.bytes.result.now c.in-Ok.root c.requires (some_of_ok _ _ _ c.in-Ok.ensures)
+show_range-requires c = live_root c.args.held.now.store c.args.held.now.docs c.bytes.result.now c.in-Ok.root c.requires.live (some_of_ok _ _ _ c.in-Ok.ensures)
 
-pub returns-in_ok-answer-in-Ok : goal.returns-in_ok-answer-in-Ok
-returns-in_ok-answer-in-Ok c =
-    show_carries c.args.store.now c.args.docs.now c.args.number c.args.name c.args.i c.args.j c.in-Ok.root c.in_ok-answer-in-Ok.answer.told c.in_ok-answer-in-Ok.answer.line.items
-    (ap (book.root_of c.args.docs.now) (sym c.bytes.ensures.value) ∙ some_of_ok _ _ _ c.in-Ok.ensures) c.in_ok-answer-in-Ok.ensures
+pub returns-in_err-answer-in-Ok-clause-stopped : goal.returns-in_err-answer-in-Ok-clause-stopped
+returns-in_err-answer-in-Ok-clause-stopped c = λ files faults looks pairs places. passed_on c.from_residual.result _ c.from_residual.ensures.1 (stays c.args.held.now c.args.number (form.Show c.args.name c.args.i c.args.j) files faults looks pairs places c.requires)
 
-pub returns-in_ok-answer-in-Err-NoSuchDocument : goal.returns-in_ok-answer-in-Err-NoSuchDocument
-returns-in_ok-answer-in-Err-NoSuchDocument c =
+pub returns-in_ok-answer-in-Ok-clause-done : goal.returns-in_ok-answer-in-Ok-clause-done
+returns-in_ok-answer-in-Ok-clause-done c = λ files faults looks pairs places.
+    let h = c.args.held.now in
+    let a = c.in_ok-answer-in-Ok in
+    free_answers h h.docs c.args.number (form.Show c.args.name c.args.i c.args.j) a.answer files faults looks pairs places c.requires c.requires.live (λ no. no) (λ no. no) refl
+    (show_carries (world (state_of h) files) c.args.number c.args.name c.args.i c.args.j (text_at h.store c.in-Ok.root) a.answer.told a.answer.line.items
+    (document_is h.store h.docs c.args.name c.in-Ok.root (ap (book.root_of h.docs) (sym c.bytes.ensures.value) ∙ some_of_ok _ _ _ c.in-Ok.ensures)) a.ensures)
+
+pub returns-in_err-answer-in-Err-NoSuchDocument-clause-stopped : goal.returns-in_err-answer-in-Err-NoSuchDocument-clause-stopped
+returns-in_err-answer-in-Err-NoSuchDocument-clause-stopped c = λ files faults looks pairs places.
+    let r = c.from_residual-in_err-answer-in-Err-NoSuchDocument in
+    passed_on r.result _ r.ensures.1 (stays c.args.held.now c.args.number (form.Show c.args.name c.args.i c.args.j) files faults looks pairs places c.requires)
+
+pub returns-in_ok-answer-in-Err-NoSuchDocument-clause-done : goal.returns-in_ok-answer-in-Err-NoSuchDocument-clause-done
+returns-in_ok-answer-in-Err-NoSuchDocument-clause-done c = λ files faults looks pairs places.
+    let h = c.args.held.now in
     let a = c.in_ok-answer-in-Err-NoSuchDocument in
-    show_missing c.args.store.now c.args.docs.now c.args.number c.args.name c.args.i c.args.j a.answer.told a.answer.line.items
-    (ap (book.root_of c.args.docs.now) (sym c.bytes.ensures.value) ∙ none_of_err _ _ _ c.in-Err-NoSuchDocument.ensures) a.ensures.0 a.ensures.1
+    free_answers h h.docs c.args.number (form.Show c.args.name c.args.i c.args.j) a.answer files faults looks pairs places c.requires c.requires.live (λ no. no) (λ no. no) refl
+    (show_missing (world (state_of h) files) c.args.number c.args.name c.args.i c.args.j a.answer.told a.answer.line.items
+    (document_lacks h.store h.docs c.args.name (ap (book.root_of h.docs) (sym c.bytes.ensures.value) ∙ none_of_err _ _ _ c.in-Err-NoSuchDocument.ensures)) a.ensures.0 a.ensures.1)

@@ -1,31 +1,58 @@
-use Rattle.std.proofs.Common.{◌≡◌, ap, ◌∙◌}
-use Rattle.std.proofs.lemmas.Result.{err_from_is_err_and}
+use Rattle.std.proofs.Common.{◌≡◌, ◌∙◌, ◌≤◌, ◌+◌, ◌*◌, List, ℕ, length, refl, ap, subst, arith}
 use Rattle.slp_model.specs.Tree.{root_text}
 use Rattle.slp_model.proofs.ShapeLemmas.{shape-text}
+use Rattle.span_types.specs.Fibonacci.{height_limit}
 use Rattle.edit_expr.specs.Values.{plain, text_at}
 use Rattle.edit_expr.proofs.EvalLemmas.{AreLive-grows, plain-grows}
-use Rattle.span_run.proofs.CarryLemmas.{assigned_after, text_carries}
+use Rattle.script_syntax.specs.declared.form.Command.TheVariants as form
+use Rattle.span_language.specs.State.{world}
+use Rattle.span_language.specs.Allowance.{PaysFor, counters}
+use Rattle.span_run.specs.Held.{state_of}
+use Rattle.span_run.proofs.CarryLemmas.{assigned_after, load_paid, part_of_paid, text_carries}
+use Rattle.span_run.proofs.Goes.{grown_answers, grown_stops, passed_on}
 use Rattle.span_run.proofs.documents.text.Goals as goal
 
-pub returns-in_err-root-clause-live : goal.returns-in_err-root-clause-live
-returns-in_err-root-clause-live g c = AreLive-grows c.args.store.now c.load.new.store c.args.pairs.now c.load.new.pairs c.load.ensures.grows c.args.docs.now c.requires.live
-
-pub returns-in_err-root-clause-err : goal.returns-in_err-root-clause-err
-returns-in_err-root-clause-err g c =
-    let p = err_from_is_err_and c.from_residual.result c.from_residual.ensures.1 in
-    rw (p.1) (plain-grows c.args.store.now c.load.new.store c.args.pairs.now c.load.new.pairs c.load.ensures.grows c.args.docs.now c.requires.live)
+pub returns-in_err-root-clause-stopped : goal.returns-in_err-root-clause-stopped
+returns-in_err-root-clause-stopped g c = λ files faults looks places.
+    let h = c.args.held.now in
+    let l = c.load in
+    let command = form.Text c.args.name c.args.content in
+    let w = world (state_of h) files in
+    let paid : PaysFor w command (counters looks c.args.pairs.now) (counters looks l.new.pairs) = load_paid w c.args.name c.args.content looks c.args.pairs.now l.new.pairs
+    (subst (λ (b : List ℕ). l.new.pairs ≤ c.args.pairs.now + length b + 4 * (height_limit (length b) + 1)) c.bytes.ensures l.ensures.cost) in
+    passed_on c.from_residual.result _ c.from_residual.ensures.1
+    (grown_stops h l.new.store h.docs c.args.number command files files faults faults looks c.args.pairs.now l.new.pairs places c.requires.held l.ensures.grows
+    (AreLive-grows h.store l.new.store c.args.pairs.now l.new.pairs l.ensures.grows h.docs c.requires.held.live)
+    (plain-grows h.store l.new.store c.args.pairs.now l.new.pairs l.ensures.grows h.docs c.requires.held.live) (part_of_paid w command (counters looks c.args.pairs.now) (counters looks l.new.pairs) paid) refl (omega arith))
 
 pub give-requires-clause-live : goal.give-requires-clause-live
-give-requires-clause-live g c = AreLive-grows c.args.store.now c.load.new.store c.args.pairs.now c.load.new.pairs c.load.ensures.grows c.args.docs.now c.requires.live
+give-requires-clause-live g c = AreLive-grows c.args.held.now.store c.load.new.store c.args.pairs.now c.load.new.pairs c.load.ensures.grows c.args.held.now.docs c.requires.held.live
 
-pub returns-in_err-answer-clause-err : goal.returns-in_err-answer-clause-err
-returns-in_err-answer-clause-err g c =
-    let p = err_from_is_err_and c.from_residual-in_err-answer.result c.from_residual-in_err-answer.ensures.1 in
-    rw (p.1) (ap (plain c.load.new.store) c.in_err-answer.ensures.err ∙ plain-grows c.args.store.now c.load.new.store c.args.pairs.now c.load.new.pairs c.load.ensures.grows c.args.docs.now c.requires.live)
+pub returns-in_err-answer-clause-stopped : goal.returns-in_err-answer-clause-stopped
+returns-in_err-answer-clause-stopped g c = λ files faults looks places.
+    let h = c.args.held.now in
+    let l = c.load in
+    let r = c.from_residual-in_err-answer in
+    let command = form.Text c.args.name c.args.content in
+    let w = world (state_of h) files in
+    let paid : PaysFor w command (counters looks c.args.pairs.now) (counters looks l.new.pairs) = load_paid w c.args.name c.args.content looks c.args.pairs.now l.new.pairs
+    (subst (λ (b : List ℕ). l.new.pairs ≤ c.args.pairs.now + length b + 4 * (height_limit (length b) + 1)) c.bytes.ensures l.ensures.cost) in
+    passed_on r.result _ r.ensures.1
+    (grown_stops h l.new.store c.give.new.docs c.args.number command files files faults faults looks c.args.pairs.now l.new.pairs places c.requires.held l.ensures.grows c.give.ensures.live
+    (ap (plain l.new.store) c.in_err-answer.ensures.err ∙ plain-grows h.store l.new.store c.args.pairs.now l.new.pairs l.ensures.grows h.docs c.requires.held.live)
+    (part_of_paid w command (counters looks c.args.pairs.now) (counters looks l.new.pairs) paid) refl (omega arith))
 
-pub returns-clause-ok : goal.returns-clause-ok
-returns-clause-ok g c =
-    let is : text_at c.load.new.store c.in_ok-root.root ≡ c.args.content = ap root_text c.in_ok-root.ensures.tree ∙ shape-text c.bytes.result.now ∙ c.bytes.ensures in
-    text_carries (plain c.args.store.now c.args.docs.now) (plain c.load.new.store c.give.new.docs) c.args.number c.args.name c.args.content c.in_ok-answer.answer.told c.in_ok-answer.answer.line.items
-    (assigned_after (plain c.args.store.now c.args.docs.now) (plain c.load.new.store c.args.docs.now) (plain c.load.new.store c.give.new.docs) c.args.number c.args.name (text_at c.load.new.store c.in_ok-root.root) c.args.content c.in_ok-answer.answer.told c.in_ok-answer.answer.line.items
-    (plain-grows c.args.store.now c.load.new.store c.args.pairs.now c.load.new.pairs c.load.ensures.grows c.args.docs.now c.requires.live) is c.in_ok-answer.ensures.ok)
+pub returns-clause-done : goal.returns-clause-done
+returns-clause-done g c = λ files faults looks places.
+    let h = c.args.held.now in
+    let l = c.load in
+    let a = c.in_ok-answer in
+    let command = form.Text c.args.name c.args.content in
+    let w = world (state_of h) files in
+    let is : text_at l.new.store c.in_ok-root.root ≡ c.args.content = ap root_text c.in_ok-root.ensures.tree ∙ shape-text c.bytes.result.now ∙ c.bytes.ensures in
+    grown_answers h l.new.store c.give.new.docs c.args.number command a.answer files files faults faults looks c.args.pairs.now l.new.pairs places c.requires.held l.ensures.grows c.give.ensures.live (λ no. no) (λ no. no)
+    (load_paid w c.args.name c.args.content looks c.args.pairs.now l.new.pairs (subst (λ (b : List ℕ). l.new.pairs ≤ c.args.pairs.now + length b + 4 * (height_limit (length b) + 1)) c.bytes.ensures l.ensures.cost))
+    refl (omega arith)
+    (text_carries (state_of h) (plain l.new.store c.give.new.docs) c.args.number c.args.name c.args.content a.answer.told a.answer.line.items files
+    (assigned_after (plain h.store h.docs) (plain l.new.store h.docs) (plain l.new.store c.give.new.docs) c.args.number c.args.name (text_at l.new.store c.in_ok-root.root) c.args.content a.answer.told a.answer.line.items
+    (plain-grows h.store l.new.store c.args.pairs.now l.new.pairs l.ensures.grows h.docs c.requires.held.live) is a.ensures.ok))

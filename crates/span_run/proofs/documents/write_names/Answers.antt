@@ -4,8 +4,8 @@ use Rattle.std.proofs.lemmas.List.{append-nil}
 use Rattle.std.specs.Io.KnownBytes.{Appends}
 use Rattle.report_text.specs.Reply.{name_text}
 use Rattle.edit_expr.specs.Values.{plain, text_at}
-use Rattle.span_run.specs.Replies.{entry_text, names_text}
-use Rattle.span_run.specs.Step.{AppendsFront}
+use Rattle.span_language.specs.Replies.{entry_text, names_text}
+use Rattle.span_language.specs.Step.{AppendsFront}
 use Rattle.span_run.proofs.Written.{IsListing, listing_goes_on, listing_waits, listing_stops}
 use Rattle.span_run.proofs.HeldLemmas.{live_at}
 use Rattle.span_run.proofs.CarryLemmas.{names_rest, names_rest-next, names_rest-end}

@@ -5,9 +5,10 @@ use Rattle.slp_model.proofs.NodesLemmas.{Grows-none, Grows-trans}
 use Rattle.slp_model.proofs.ShapeLemmas.{shape-text}
 use Rattle.edit_expr.specs.Values.{text_at}
 use Rattle.pair_loader.specs.Pending.{fed}
-use Rattle.span_run.specs.Step.{IsWithin, load_size}
+use Rattle.pair_loader.proofs.BlockLemmas.{new-loader}
+use Rattle.span_language.specs.Step.{IsWithin, load_size}
 use Rattle.span_run.specs.Reading.{IsFileFront}
-use Rattle.span_run.proofs.ReadingLemmas.{new_loader, piece_at, last_piece, some_behind, one_piece, no_piece, front_paid, whole_paid}
+use Rattle.span_run.proofs.ReadingLemmas.{piece_at, last_piece, some_behind, one_piece, no_piece, front_paid, whole_paid}
 use Rattle.span_run.proofs.files.load_pieces.Goals as goal
 
 pub returns-in_err-loader-clause-grows : goal.returns-in_err-loader-clause-grows
@@ -15,7 +16,7 @@ returns-in_err-loader-clause-grows g c = Grows-none c.args.store.now c.args.pair
 
 pub loop-at-init : goal.loop-at-init
 loop-at-init g c =
-    let fresh = new_loader c.args.store.now c.in_ok-loader.loader c.in_ok-loader.ensures in
+    let fresh = new-loader c.args.store.now c.in_ok-loader.loader c.in_ok-loader.ensures in
     record {
       used = fresh.0;
       at = ap length (sym fresh.1);

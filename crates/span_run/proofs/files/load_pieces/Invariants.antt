@@ -1,7 +1,7 @@
 use Rattle.std.proofs.Common.{◌≡◌, ◌+◌, ◌-◌, ◌^◌, ◌≤◌, length}
 use Rattle.slp_model.specs.Nodes.{Grows}
 use Rattle.pair_loader.specs.Pending.{IsLoader, fed, pending_count}
-use Rattle.span_run.specs.Step.{load_size}
+use Rattle.span_language.specs.Step.{load_size}
 use Rattle.span_run.specs.Reading.{IsFileFront}
 use Rattle.span_run.proofs.files.load_pieces.Given as goal
 

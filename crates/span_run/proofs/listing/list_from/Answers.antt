@@ -6,7 +6,7 @@ use Rattle.span_types.specs.Rel.{names_of}
 use Rattle.edit_expr.specs.Values.{text_at}
 use Rattle.query_book.specs.Book.{queries_of}
 use Rattle.query_book.specs.Named.{value_of}
-use Rattle.span_run.specs.Step.{AppendsFront}
+use Rattle.span_language.specs.Step.{AppendsFront}
 use Rattle.span_run.proofs.CarryLemmas.{if_err_map, on_err_map, on_ok_map}
 use Rattle.span_run.proofs.Written.{kept_same, nothing_front}
 use Rattle.span_run.proofs.PageLemmas.{lists_none, lists_page, named_count}

@@ -5,10 +5,11 @@ use Rattle.edit_expr.specs.Values.{text_at}
 use Rattle.report_text.specs.Reply.{refusal_text}
 use Rattle.query_book.specs.Book.{queries_of}
 use Rattle.span_run.specs.Listing.{Tells}
-use Rattle.span_run.specs.Step.{AppendsFront}
-use Rattle.span_run.specs.declared.told.Told.{Told}
-use Rattle.span_run.specs.declared.told.Told.TheVariants.{Accepted, Refused}
-use Rattle.span_run.proofs.CarryLemmas.{if_err_map, if_ok_map, on_err_map}
+use Rattle.span_language.specs.Step.{AppendsFront}
+use Rattle.span_language.specs.declared.told.Told.{Told}
+use Rattle.span_language.specs.declared.told.Told.TheVariants.{Accepted, Refused}
+use Rattle.span_run.proofs.CarryLemmas.{if_err_map}
+use Rattle.span_run.proofs.Goes.{if_ok_both, on_err_of}
 use Rattle.span_run.proofs.Written.{kept_same, nothing_front}
 use Rattle.span_run.proofs.PageLemmas.{has_cursor}
 use Rattle.span_run.proofs.listing.list_root.Goals as goal
@@ -38,13 +39,15 @@ returns-in_err-answer-in-Err-clause-want g c =
 
 pub returns-in_ok-answer-in-Err-clause-done : goal.returns-in_ok-answer-in-Err-clause-done
 returns-in_ok-answer-in-Err-clause-done g c =
-    if_ok_map c.send.result _ _ (λ told h. subst (λ (t : Told). Tells (Appends (g.K.Sink.written c.args.out.now) (g.K.Sink.written c.send.new.out)) c.args.number (queries_of c.args.book.now) c.args.query c.args.word (text_at c.args.store.now c.args.root) c.args.limit t c.args.looks.now c.args.looks.now) (sym (h.0 ∙ c.in_ok-answer-in-Err.ensures.0))
-    (c.in-Err.why, c.word_refusal.result, c.in-Err.ensures.err, c.word_refusal.ensures, subst (λ (l : List ℕ). Appends (g.K.Sink.written c.args.out.now) (g.K.Sink.written c.send.new.out) l) c.in_ok-answer-in-Err.ensures.1 h.1, refl)) c.send.ensures.done
+    let k = g.K.Sink in
+    let a = c.in_ok-answer-in-Err in
+    if_ok_both c.send.result _ _ _ (λ told is sent. subst (λ (t : Told). Tells (Appends (k.written c.args.out.now) (k.written c.send.new.out)) c.args.number (queries_of c.args.book.now) c.args.query c.args.word (text_at c.args.store.now c.args.root) c.args.limit t c.args.looks.now c.args.looks.now) (sym (is ∙ a.ensures.0))
+    (c.in-Err.why, c.word_refusal.result, c.in-Err.ensures.err, c.word_refusal.ensures, subst (λ (l : List ℕ). Appends (k.written c.args.out.now) (k.written c.send.new.out) l) a.ensures.1 sent.appends, refl)) c.send.ensures.told c.send.ensures.done
 
 pub returns-in_ok-answer-in-Err-clause-stopped : goal.returns-in_ok-answer-in-Err-clause-stopped
 returns-in_ok-answer-in-Err-clause-stopped g c =
-    on_err_map c.send.result _ _ (λ h. (Refused, (c.in-Err.why, c.word_refusal.result, c.in-Err.ensures.err, c.word_refusal.ensures, subst (λ (l : List ℕ). AppendsFront (g.K.Sink.written c.args.out.now) (g.K.Sink.written c.send.new.out) l) c.in_ok-answer-in-Err.ensures.1 h, refl))) c.send.ensures.stopped
+    let k = g.K.Sink in
+    on_err_of c.send.result _ _ (λ why unsent. (Refused, (c.in-Err.why, c.word_refusal.result, c.in-Err.ensures.err, c.word_refusal.ensures, subst (λ (l : List ℕ). AppendsFront (k.written c.args.out.now) (k.written c.send.new.out) l) c.in_ok-answer-in-Err.ensures.1 unsent.front, refl))) c.send.ensures.stopped
 
 pub returns-in_ok-answer-in-Err-clause-want : goal.returns-in_ok-answer-in-Err-clause-want
-returns-in_ok-answer-in-Err-clause-want g c =
-    if_err_map c.send.result _ _ (λ why h is. inl (h is)) c.send.ensures.want
+returns-in_ok-answer-in-Err-clause-want g c = if_err_map c.send.result _ _ (λ why h is. inl (h is)) c.send.ensures.want

@@ -1,73 +1,74 @@
-use Rattle.std.proofs.Common.{◌∙◌, sym, ap, subst, length}
+use Rattle.std.proofs.Common.{◌≡◌, ◌∙◌, sym, ap, subst, Some, None}
 use Rattle.doc_book.specs.Docs as book
-use Rattle.edit_expr.specs.Values.{text_at}
+use Rattle.edit_expr.specs.Values.{plain, text_at}
 use Rattle.script_syntax.specs.declared.form.Command.TheVariants as form
-use Rattle.span_types.specs.Query.{Query}
 use Rattle.query_book.specs.Book.{queries_of}
-use Rattle.query_book.specs.Serving.{covered_of}
-use Rattle.span_run.specs.State.{Named, world}
+use Rattle.span_language.specs.State.{Named, value_of, world}
+use Rattle.span_types.specs.Query.{Query}
 use Rattle.span_run.specs.Held.{state_of}
 use Rattle.span_run.specs.Judged.{IsJudged, IsWordPaid}
 use Rattle.span_run.proofs.HeldLemmas.{live_root}
 use Rattle.span_run.proofs.CarryLemmas.{not_begun, some_of_ok, none_of_err}
-use Rattle.span_run.proofs.PlacesLemmas.{none_placed_part}
-use Rattle.span_run.proofs.BookLemmas.{covered-within, grown_placed_part}
 use Rattle.span_run.proofs.QueryLemmas.{document_is, document_lacks}
-use Rattle.span_run.proofs.HasLemmas.{has_carries, has_lacks, has_paid, has_begun, has_lacks_paid}
+use Rattle.span_run.proofs.HasLemmas.{has_carries, has_lacks, has_paid, has_begun, has_free}
+use Rattle.span_run.proofs.Goes.{passed_on, placed_answers, placed_stops, free_answers, stays}
 use Rattle.span_run.proofs.queries.has.Goals as goal
 
 pub has_root-requires-clause-live : goal.has_root-requires-clause-live
-has_root-requires-clause-live g c = live_root c.args.store.now c.args.docs.now c.bytes.result.now c.in-Ok.root c.requires.live (some_of_ok _ _ _ c.in-Ok.ensures)
+has_root-requires-clause-live g c = live_root c.args.held.now.store c.args.held.now.docs c.bytes.result.now c.in-Ok.root c.requires.live (some_of_ok _ _ _ c.in-Ok.ensures)
 
-pub returns-in_err-grow_all-in-Ok-clause-placed_part : goal.returns-in_err-grow_all-in-Ok-clause-placed_part
-returns-in_err-grow_all-in-Ok-clause-placed_part g c = grown_placed_part (length c.args.store.now) c.args.places.now c.grow_all.new.places (covered_of c.args.book.now) (covered_of c.grow_all.new.self) (covered-within c.args.store.now c.grow_all.new.self c.grow_all.ensures.serves) c.grow_all.ensures.some c.grow_all.ensures.steps
+pub returns-in_err-grow_all-in-Ok-clause-stopped : goal.returns-in_err-grow_all-in-Ok-clause-stopped
+returns-in_err-grow_all-in-Ok-clause-stopped g c = λ files faults pairs.
+    let h = c.args.held.now in
+    let command = form.Has c.args.query c.args.name c.args.word in
+    let grown = c.grow_all.ensures in
+    passed_on c.from_residual.result _ c.from_residual.ensures.1
+    (placed_stops h c.grow_all.new.self c.args.context.number command files faults c.args.looks.now c.args.looks.now pairs c.args.places.now c.grow_all.new.places c.requires grown.serves grown.queries grown.some grown.steps
+    (not_begun (world (state_of h) files) command c.args.looks.now pairs))
 
-pub returns-in_err-answer-in-Ok-clause-placed_part : goal.returns-in_err-answer-in-Ok-clause-placed_part
-returns-in_err-answer-in-Ok-clause-placed_part g c = grown_placed_part (length c.args.store.now) c.args.places.now c.grow_all.new.places (covered_of c.args.book.now) (covered_of c.grow_all.new.self) (covered-within c.args.store.now c.grow_all.new.self c.grow_all.ensures.serves) c.grow_all.ensures.some c.grow_all.ensures.steps
+pub returns-in_err-answer-in-Ok-clause-stopped : goal.returns-in_err-answer-in-Ok-clause-stopped
+returns-in_err-answer-in-Ok-clause-stopped g c = λ files faults pairs.
+    let h = c.args.held.now in
+    let command = form.Has c.args.query c.args.name c.args.word in
+    let grown = c.grow_all.ensures in
+    let r = c.from_residual-in_err-answer-in-Ok in
+    let text = text_at h.store c.in-Ok.root in
+    let there : value_of (plain h.store h.docs) c.args.name ≡ Some text = document_is h.store h.docs c.args.name c.in-Ok.root (ap (book.root_of h.docs) (sym c.bytes.ensures.value) ∙ some_of_ok _ _ _ c.in-Ok.ensures) in
+    let cost : IsWordPaid (queries_of h.book) c.args.query c.args.word text c.args.looks.now c.has_root.new.looks =
+    subst (λ (qs : Named Query). IsWordPaid qs c.args.query c.args.word text c.args.looks.now c.has_root.new.looks) grown.queries c.has_root.ensures.cost in
+    passed_on r.result _ r.ensures.1
+    (placed_stops h c.grow_all.new.self c.args.context.number command files faults c.args.looks.now c.has_root.new.looks pairs c.args.places.now c.grow_all.new.places c.requires grown.serves grown.queries grown.some grown.steps
+    (has_begun (world (state_of h) files) c.args.query c.args.name c.args.word text c.args.looks.now c.has_root.new.looks pairs there cost))
 
-pub returns-in_ok-answer-in-Ok-clause-placed_part : goal.returns-in_ok-answer-in-Ok-clause-placed_part
-returns-in_ok-answer-in-Ok-clause-placed_part g c = grown_placed_part (length c.args.store.now) c.args.places.now c.grow_all.new.places (covered_of c.args.book.now) (covered_of c.grow_all.new.self) (covered-within c.args.store.now c.grow_all.new.self c.grow_all.ensures.serves) c.grow_all.ensures.some c.grow_all.ensures.steps
-
-pub returns-in_err-answer-in-Err-NoSuchDocument-clause-placed_part : goal.returns-in_err-answer-in-Err-NoSuchDocument-clause-placed_part
-returns-in_err-answer-in-Err-NoSuchDocument-clause-placed_part g c = none_placed_part (length c.args.store.now) (covered_of c.args.book.now) c.args.places.now (covered-within c.args.store.now c.args.book.now c.requires.serves)
-
-pub returns-in_ok-answer-in-Err-NoSuchDocument-clause-placed_part : goal.returns-in_ok-answer-in-Err-NoSuchDocument-clause-placed_part
-returns-in_ok-answer-in-Err-NoSuchDocument-clause-placed_part g c = none_placed_part (length c.args.store.now) (covered_of c.args.book.now) c.args.places.now (covered-within c.args.store.now c.args.book.now c.requires.serves)
-
-pub returns-in_err-grow_all-in-Ok-clause-begun : goal.returns-in_err-grow_all-in-Ok-clause-begun
-returns-in_err-grow_all-in-Ok-clause-begun g c = λ files pairs. not_begun (world (state_of c.args.store.now c.args.docs.now (queries_of c.args.book.now)) files) (form.Has c.args.query c.args.name c.args.word) c.args.looks.now pairs
-
-pub returns-in_err-answer-in-Ok-clause-begun : goal.returns-in_err-answer-in-Ok-clause-begun
-returns-in_err-answer-in-Ok-clause-begun g c = λ files pairs.
-    has_begun (world (state_of c.args.store.now c.args.docs.now (queries_of c.args.book.now)) files) c.args.query c.args.name c.args.word (text_at c.args.store.now c.in-Ok.root) c.args.looks.now c.has_root.new.looks pairs (document_is c.args.store.now c.args.docs.now c.args.name c.in-Ok.root (ap (book.root_of c.args.docs.now) (sym c.bytes.ensures.value) ∙ some_of_ok _ _ _ c.in-Ok.ensures)) (subst (λ (qs : Named Query). IsWordPaid qs c.args.query c.args.word (text_at c.args.store.now c.in-Ok.root) c.args.looks.now c.has_root.new.looks) c.grow_all.ensures.queries c.has_root.ensures.cost)
-
-pub returns-in_err-answer-in-Err-NoSuchDocument-clause-begun : goal.returns-in_err-answer-in-Err-NoSuchDocument-clause-begun
-returns-in_err-answer-in-Err-NoSuchDocument-clause-begun g c = λ files pairs. not_begun (world (state_of c.args.store.now c.args.docs.now (queries_of c.args.book.now)) files) (form.Has c.args.query c.args.name c.args.word) c.args.looks.now pairs
-
-pub returns-in_ok-answer-in-Ok-clause-ok : goal.returns-in_ok-answer-in-Ok-clause-ok
-returns-in_ok-answer-in-Ok-clause-ok g c = λ files.
+pub returns-in_ok-answer-in-Ok-clause-done : goal.returns-in_ok-answer-in-Ok-clause-done
+returns-in_ok-answer-in-Ok-clause-done g c = λ files faults pairs.
+    let h = c.args.held.now in
+    let command = form.Has c.args.query c.args.name c.args.word in
+    let grown = c.grow_all.ensures in
     let a = c.in_ok-answer-in-Ok in
-    let text = (text_at c.args.store.now c.in-Ok.root) in
-    let asked : IsJudged c.args.number (queries_of c.args.book.now) c.args.query c.args.word text a.answer.told a.answer.line.items =
-    subst (λ (qs : Named Query). IsJudged c.args.number qs c.args.query c.args.word text a.answer.told a.answer.line.items) c.grow_all.ensures.queries a.ensures.ok in
-    has_carries (world (state_of c.args.store.now c.args.docs.now (queries_of c.args.book.now)) files) c.args.number c.args.query c.args.name c.args.word text a.answer.told a.answer.line.items (document_is c.args.store.now c.args.docs.now c.args.name c.in-Ok.root (ap (book.root_of c.args.docs.now) (sym c.bytes.ensures.value) ∙ some_of_ok _ _ _ c.in-Ok.ensures)) asked
+    let w = world (state_of h) files in
+    let number = c.args.context.number in
+    let text = text_at h.store c.in-Ok.root in
+    let there : value_of (plain h.store h.docs) c.args.name ≡ Some text = document_is h.store h.docs c.args.name c.in-Ok.root (ap (book.root_of h.docs) (sym c.bytes.ensures.value) ∙ some_of_ok _ _ _ c.in-Ok.ensures) in
+    let asked : IsJudged number (queries_of h.book) c.args.query c.args.word text a.answer.told a.answer.line.items =
+    subst (λ (qs : Named Query). IsJudged number qs c.args.query c.args.word text a.answer.told a.answer.line.items) grown.queries a.ensures.ok in
+    let cost : IsWordPaid (queries_of h.book) c.args.query c.args.word text c.args.looks.now c.has_root.new.looks =
+    subst (λ (qs : Named Query). IsWordPaid qs c.args.query c.args.word text c.args.looks.now c.has_root.new.looks) grown.queries c.has_root.ensures.cost in
+    placed_answers h c.grow_all.new.self number command a.answer files faults c.args.looks.now c.has_root.new.looks pairs c.args.places.now c.grow_all.new.places c.requires grown.serves grown.queries grown.some grown.steps (λ no. no) (λ no. no)
+    (has_paid w c.args.query c.args.name c.args.word text c.args.looks.now c.has_root.new.looks pairs there cost)
+    (has_carries w number c.args.query c.args.name c.args.word text a.answer.told a.answer.line.items there asked)
 
-pub returns-in_ok-answer-in-Ok-clause-paid : goal.returns-in_ok-answer-in-Ok-clause-paid
-returns-in_ok-answer-in-Ok-clause-paid g c = λ files pairs.
-    has_paid (world (state_of c.args.store.now c.args.docs.now (queries_of c.args.book.now)) files) c.args.query c.args.name c.args.word (text_at c.args.store.now c.in-Ok.root) c.args.looks.now c.has_root.new.looks pairs (document_is c.args.store.now c.args.docs.now c.args.name c.in-Ok.root (ap (book.root_of c.args.docs.now) (sym c.bytes.ensures.value) ∙ some_of_ok _ _ _ c.in-Ok.ensures)) (subst (λ (qs : Named Query). IsWordPaid qs c.args.query c.args.word (text_at c.args.store.now c.in-Ok.root) c.args.looks.now c.has_root.new.looks) c.grow_all.ensures.queries c.has_root.ensures.cost)
+pub returns-in_err-answer-in-Err-NoSuchDocument-clause-stopped : goal.returns-in_err-answer-in-Err-NoSuchDocument-clause-stopped
+returns-in_err-answer-in-Err-NoSuchDocument-clause-stopped g c = λ files faults pairs.
+    let r = c.from_residual-in_err-answer-in-Err-NoSuchDocument in
+    passed_on r.result _ r.ensures.1 (stays c.args.held.now c.args.context.number (form.Has c.args.query c.args.name c.args.word) files faults c.args.looks.now pairs c.args.places.now c.requires)
 
-pub returns-in_ok-answer-in-Ok-clause-begun : goal.returns-in_ok-answer-in-Ok-clause-begun
-returns-in_ok-answer-in-Ok-clause-begun g c = λ files pairs.
-    has_begun (world (state_of c.args.store.now c.args.docs.now (queries_of c.args.book.now)) files) c.args.query c.args.name c.args.word (text_at c.args.store.now c.in-Ok.root) c.args.looks.now c.has_root.new.looks pairs (document_is c.args.store.now c.args.docs.now c.args.name c.in-Ok.root (ap (book.root_of c.args.docs.now) (sym c.bytes.ensures.value) ∙ some_of_ok _ _ _ c.in-Ok.ensures)) (subst (λ (qs : Named Query). IsWordPaid qs c.args.query c.args.word (text_at c.args.store.now c.in-Ok.root) c.args.looks.now c.has_root.new.looks) c.grow_all.ensures.queries c.has_root.ensures.cost)
-
-pub returns-in_ok-answer-in-Err-NoSuchDocument-clause-ok : goal.returns-in_ok-answer-in-Err-NoSuchDocument-clause-ok
-returns-in_ok-answer-in-Err-NoSuchDocument-clause-ok g c = λ files.
+pub returns-in_ok-answer-in-Err-NoSuchDocument-clause-done : goal.returns-in_ok-answer-in-Err-NoSuchDocument-clause-done
+returns-in_ok-answer-in-Err-NoSuchDocument-clause-done g c = λ files faults pairs.
+    let h = c.args.held.now in
     let a = c.in_ok-answer-in-Err-NoSuchDocument in
-    has_lacks (world (state_of c.args.store.now c.args.docs.now (queries_of c.args.book.now)) files) c.args.number c.args.query c.args.name c.args.word a.answer.told a.answer.line.items (document_lacks c.args.store.now c.args.docs.now c.args.name (ap (book.root_of c.args.docs.now) (sym c.bytes.ensures.value) ∙ none_of_err _ _ _ c.in-Err-NoSuchDocument.ensures)) a.ensures.0 a.ensures.1
-
-pub returns-in_ok-answer-in-Err-NoSuchDocument-clause-paid : goal.returns-in_ok-answer-in-Err-NoSuchDocument-clause-paid
-returns-in_ok-answer-in-Err-NoSuchDocument-clause-paid g c = λ files pairs.
-    has_lacks_paid (world (state_of c.args.store.now c.args.docs.now (queries_of c.args.book.now)) files) c.args.query c.args.name c.args.word c.args.looks.now pairs (document_lacks c.args.store.now c.args.docs.now c.args.name (ap (book.root_of c.args.docs.now) (sym c.bytes.ensures.value) ∙ none_of_err _ _ _ c.in-Err-NoSuchDocument.ensures))
-
-pub returns-in_ok-answer-in-Err-NoSuchDocument-clause-begun : goal.returns-in_ok-answer-in-Err-NoSuchDocument-clause-begun
-returns-in_ok-answer-in-Err-NoSuchDocument-clause-begun g c = λ files pairs. not_begun (world (state_of c.args.store.now c.args.docs.now (queries_of c.args.book.now)) files) (form.Has c.args.query c.args.name c.args.word) c.args.looks.now pairs
+    let w = world (state_of h) files in
+    let missing : value_of (plain h.store h.docs) c.args.name ≡ None = document_lacks h.store h.docs c.args.name (ap (book.root_of h.docs) (sym c.bytes.ensures.value) ∙ none_of_err _ _ _ c.in-Err-NoSuchDocument.ensures) in
+    free_answers h h.docs c.args.context.number (form.Has c.args.query c.args.name c.args.word) a.answer files faults c.args.looks.now pairs c.args.places.now c.requires c.requires.live (λ no. no) (λ no. no)
+    (has_free w c.args.query c.args.name c.args.word missing)
+    (has_lacks w c.args.context.number c.args.query c.args.name c.args.word a.answer.told a.answer.line.items missing a.ensures.0 a.ensures.1)

@@ -1,64 +1,83 @@
-use Rattle.std.proofs.Common.{◌+◌, ap, subst, sym, Bool, arith, inl, inr}
+use Rattle.std.proofs.Common.{◌+◌, ap, subst, sym, Bool, arith}
 use Rattle.std.proofs.lemmas.Result.{err_from_is_err_and}
-use Rattle.span_run.specs.Lines.{lines_of}
-use Rattle.span_run.specs.Runs.{outside}
+use Rattle.span_language.specs.Lines.{lines_of}
+use Rattle.span_language.specs.Runs.{outside}
+use Rattle.span_language.specs.declared.told.Stop.{Stop}
+use Rattle.span_run.specs.Carried.{IsStopped, outlet}
+use Rattle.span_run.specs.Scene.{seen}
 use Rattle.span_run.proofs.LinesLemmas.{empty_of}
-use Rattle.span_run.proofs.RunsLemmas.{IsAt, at_start, ends, goes_on, stops_anywhere, stops_in_file, stops_wanting, rose_later}
+use Rattle.span_run.proofs.RunsLemmas.{IsAt, at_start, ends, goes_on, stops_anywhere, stops_in_file, stops_wanting, rose_later, told_of}
 use Rattle.span_run.proofs.top.run_lines.Goals as goal
 
 pub returns-in_err-told-clause-out_fault : goal.returns-in_err-told-clause-out_fault
 returns-in_err-told-clause-out_fault g c =
+    let k = g.K.Sink in
+    let f = g.F.Shelf in
+    let now = c.loop-rest in
+    let next = c.line.new in
+    let before = outside (k.written c.args.out.now) (f.files c.args.shelf.now) c.args.looks.now c.args.pairs.now c.args.places.now in
+    let old = seen now.session (f.files now.shelf) (f.faults now.shelf) now.looks now.pairs now.places in
+    let sink = outlet (k.written now.out) (k.faults now.out) (k.wants now.out) in
+    let new = seen next.self (f.files next.shelf) (f.faults next.shelf) next.looks next.pairs next.places in
+    let after = outlet (k.written next.out) (k.faults next.out) (k.wants next.out) in
     let p = err_from_is_err_and c.from_residual.result c.from_residual.ensures.1 in
-    let before = outside (g.K.Sink.written c.args.out.now) (g.F.Shelf.files c.args.shelf.now) c.args.looks.now c.args.pairs.now c.args.places.now in
-    let now = outside (g.K.Sink.written c.loop-rest.out) (g.F.Shelf.files c.loop-rest.shelf) c.loop-rest.looks c.loop-rest.pairs c.loop-rest.places in
-    let after = outside (g.K.Sink.written c.line.new.out) (g.F.Shelf.files c.line.new.shelf) c.line.new.looks c.line.new.pairs c.line.new.places in
-    rw (p.1, p.2) (λ is. (
-      rose_later (g.K.Sink.faults c.args.out.now) (g.K.Sink.faults c.loop-rest.out) (g.K.Sink.faults c.line.new.out) c.loop-rest.invariant.later (c.in_err-told.ensures.fault is).1,
-      stops_anywhere (lines_of c.args.script.now) (lines_of c.loop-rest.rest.now) (lines_of c.next_line.result.1.now) c.next_line.result.0.now c.loop-rest.number c.loop-rest.refused c.loop-rest.session c.line.new.self before now after c.next_line.ensures.lines c.loop-rest.invariant.at c.line.ensures.more_nodes c.line.ensures.more_pairs c.line.ensures.standing c.in_err-told.ensures.begun c.in_err-told.ensures.placed_part c.line.ensures.files c.in_err-told.ensures.stopped,
-    ))
+    rw (p.1, p.2) (λ is.
+    let stopped = subst (λ (why : Stop). IsStopped c.next_line.result.0.now now.number old sink new after why) is c.in_err-told.ensures.stopped in
+    let h = stops_anywhere (lines_of c.args.script.now) (lines_of now.rest.now) (lines_of c.next_line.result.1.now) c.next_line.result.0.now now.number now.refused before old sink new after c.next_line.ensures.lines now.invariant.at now.invariant.standing c.line.ensures.standing stopped in (rose_later (k.faults c.args.out.now) sink.faults after.faults now.invariant.later h.0, h.1))
 
 pub returns-in_err-told-clause-shelf_fault : goal.returns-in_err-told-clause-shelf_fault
 returns-in_err-told-clause-shelf_fault g c =
+    let k = g.K.Sink in
+    let f = g.F.Shelf in
+    let now = c.loop-rest in
+    let next = c.line.new in
+    let before = outside (k.written c.args.out.now) (f.files c.args.shelf.now) c.args.looks.now c.args.pairs.now c.args.places.now in
+    let old = seen now.session (f.files now.shelf) (f.faults now.shelf) now.looks now.pairs now.places in
+    let sink = outlet (k.written now.out) (k.faults now.out) (k.wants now.out) in
+    let new = seen next.self (f.files next.shelf) (f.faults next.shelf) next.looks next.pairs next.places in
+    let after = outlet (k.written next.out) (k.faults next.out) (k.wants next.out) in
     let p = err_from_is_err_and c.from_residual.result c.from_residual.ensures.1 in
-    let before = outside (g.K.Sink.written c.args.out.now) (g.F.Shelf.files c.args.shelf.now) c.args.looks.now c.args.pairs.now c.args.places.now in
-    let now = outside (g.K.Sink.written c.loop-rest.out) (g.F.Shelf.files c.loop-rest.shelf) c.loop-rest.looks c.loop-rest.pairs c.loop-rest.places in
-    let after = outside (g.K.Sink.written c.line.new.out) (g.F.Shelf.files c.line.new.shelf) c.line.new.looks c.line.new.pairs c.line.new.places in
     rw (p.1, p.2) (λ is.
-    let h = c.in_err-told.ensures.shelf_fault is in (
-      rose_later (g.F.Shelf.faults c.args.shelf.now) (g.F.Shelf.faults c.loop-rest.shelf) (g.F.Shelf.faults c.line.new.shelf) c.loop-rest.invariant.shelf_later h.1,
-      stops_in_file (lines_of c.args.script.now) (lines_of c.loop-rest.rest.now) (lines_of c.next_line.result.1.now) c.next_line.result.0.now c.loop-rest.number c.loop-rest.refused c.loop-rest.session c.line.new.self before now after c.next_line.ensures.lines c.loop-rest.invariant.at c.line.ensures.more_nodes c.line.ensures.more_pairs c.line.ensures.standing c.in_err-told.ensures.begun c.in_err-told.ensures.placed_part c.line.ensures.files h.0 h.2,
-    ))
+    let stopped = subst (λ (why : Stop). IsStopped c.next_line.result.0.now now.number old sink new after why) is c.in_err-told.ensures.stopped in
+    let h = stops_in_file (lines_of c.args.script.now) (lines_of now.rest.now) (lines_of c.next_line.result.1.now) c.next_line.result.0.now now.number now.refused before old sink new after c.next_line.ensures.lines now.invariant.at now.invariant.standing c.line.ensures.standing stopped in (rose_later (f.faults c.args.shelf.now) old.faults new.faults now.invariant.shelf_later h.0, h.1))
 
 pub returns-in_err-told-clause-want : goal.returns-in_err-told-clause-want
 returns-in_err-told-clause-want g c =
+    let k = g.K.Sink in
+    let f = g.F.Shelf in
+    let now = c.loop-rest in
+    let next = c.line.new in
+    let before = outside (k.written c.args.out.now) (f.files c.args.shelf.now) c.args.looks.now c.args.pairs.now c.args.places.now in
+    let old = seen now.session (f.files now.shelf) (f.faults now.shelf) now.looks now.pairs now.places in
+    let sink = outlet (k.written now.out) (k.faults now.out) (k.wants now.out) in
+    let new = seen next.self (f.files next.shelf) (f.faults next.shelf) next.looks next.pairs next.places in
+    let after = outlet (k.written next.out) (k.faults next.out) (k.wants next.out) in
     let p = err_from_is_err_and c.from_residual.result c.from_residual.ensures.1 in
-    let before = outside (g.K.Sink.written c.args.out.now) (g.F.Shelf.files c.args.shelf.now) c.args.looks.now c.args.pairs.now c.args.places.now in
-    let now = outside (g.K.Sink.written c.loop-rest.out) (g.F.Shelf.files c.loop-rest.shelf) c.loop-rest.looks c.loop-rest.pairs c.loop-rest.places in
-    let after = outside (g.K.Sink.written c.line.new.out) (g.F.Shelf.files c.line.new.shelf) c.line.new.looks c.line.new.pairs c.line.new.places in
     rw (p.1, p.2) (λ is.
-    stops_wanting (lines_of c.args.script.now) (lines_of c.loop-rest.rest.now) (lines_of c.next_line.result.1.now) c.next_line.result.0.now c.loop-rest.number c.loop-rest.refused c.loop-rest.session c.line.new.self before now after c.next_line.ensures.lines c.loop-rest.invariant.at c.line.ensures.more_nodes c.line.ensures.more_pairs (g.K.Sink.wants c.args.out.now) (g.K.Sink.wants c.line.new.out) c.line.ensures.standing c.in_err-told.ensures.begun c.in_err-told.ensures.placed_part c.line.ensures.files c.in_err-told.ensures.stopped
-    (elim (c.in_err-told.ensures.want is) [
-      | inl other ↦ inl other
-      | inr rest ↦ inr (elim rest [
-        | inl rose ↦ inl (rose_later (g.K.Sink.wants c.args.out.now) (g.K.Sink.wants c.loop-rest.out) (g.K.Sink.wants c.line.new.out) c.loop-rest.invariant.wants_later rose)
-        | inr left ↦ inr left
-      ])
-    ]))
+    let stopped = subst (λ (why : Stop). IsStopped c.next_line.result.0.now now.number old sink new after why) is c.in_err-told.ensures.stopped in
+    stops_wanting (lines_of c.args.script.now) (lines_of now.rest.now) (lines_of c.next_line.result.1.now) c.next_line.result.0.now now.number now.refused before old sink new after c.next_line.ensures.lines now.invariant.at (k.wants c.args.out.now) now.invariant.wants_later now.invariant.standing c.line.ensures.standing stopped)
 
 pub loop-rest-preserved : goal.loop-rest-preserved
 loop-rest-preserved g c =
-    let before = outside (g.K.Sink.written c.args.out.now) (g.F.Shelf.files c.args.shelf.now) c.args.looks.now c.args.pairs.now c.args.places.now in
-    let now = outside (g.K.Sink.written c.loop-rest.out) (g.F.Shelf.files c.loop-rest.shelf) c.loop-rest.looks c.loop-rest.pairs c.loop-rest.places in
-    let after = outside (g.K.Sink.written c.line.new.out) (g.F.Shelf.files c.line.new.shelf) c.line.new.looks c.line.new.pairs c.line.new.places in
-    let placed = c.in_ok-told.ensures.placed in
-    let at = goes_on (lines_of c.args.script.now) (lines_of c.loop-rest.rest.now) (lines_of c.next_line.result.1.now) c.next_line.result.0.now c.loop-rest.number c.loop-rest.refused c.loop-rest.session c.line.new.self before now after c.next_line.ensures.lines c.loop-rest.invariant.at c.line.ensures.more_nodes c.line.ensures.more_pairs c.in_ok-told.ensures.paid c.in_ok-told.told placed.0 placed.1 placed.2 c.in_ok-told.ensures.done in
+    let k = g.K.Sink in
+    let f = g.F.Shelf in
+    let now = c.loop-rest in
+    let next = c.line.new in
+    let before = outside (k.written c.args.out.now) (f.files c.args.shelf.now) c.args.looks.now c.args.pairs.now c.args.places.now in
+    let old = seen now.session (f.files now.shelf) (f.faults now.shelf) now.looks now.pairs now.places in
+    let sink = outlet (k.written now.out) (k.faults now.out) (k.wants now.out) in
+    let new = seen next.self (f.files next.shelf) (f.faults next.shelf) next.looks next.pairs next.places in
+    let after = outlet (k.written next.out) (k.faults next.out) (k.wants next.out) in
+    let done = c.in_ok-told.ensures.done in
+    let passes = done.2.passes in
+    let at = goes_on (lines_of c.args.script.now) (lines_of now.rest.now) (lines_of c.next_line.result.1.now) c.next_line.result.0.now now.number now.refused before old sink new after c.next_line.ensures.lines now.invariant.at c.in_ok-told.told done in
     record {
-      at = subst (λ (b : Bool). IsAt (lines_of c.args.script.now) (lines_of c.next_line.result.1.now) (c.loop-rest.number + 1) b c.line.new.self before after) (sym c.with_refusal-refused.ensures) at;
+      at = subst (λ (b : Bool). IsAt (lines_of c.args.script.now) (lines_of c.next_line.result.1.now) (now.number + 1) b next.self before (told_of new after)) (sym c.with_refusal-refused.ensures) at;
       standing = c.line.ensures.standing;
-      few = omega (arith, c.loop-rest.invariant.few, c.next_line.ensures.shorter);
-      later = omega (arith, c.loop-rest.invariant.later, c.line.ensures.later);
-      wants_later = omega (arith, c.loop-rest.invariant.wants_later, c.line.ensures.wants_later);
-      shelf_later = omega (arith, c.loop-rest.invariant.shelf_later, c.line.ensures.shelf_later);
+      few = omega (arith, now.invariant.few, c.next_line.ensures.shorter);
+      later = omega (arith, now.invariant.later, passes.later);
+      wants_later = omega (arith, now.invariant.wants_later, passes.wants_later);
+      shelf_later = omega (arith, now.invariant.shelf_later, passes.shelf_later);
     }
 
 pub loop-rest-init : goal.loop-rest-init

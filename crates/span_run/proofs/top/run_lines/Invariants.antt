@@ -1,7 +1,7 @@
 use Rattle.std.proofs.Common.{◌+◌, ◌≤◌, length}
-use Rattle.span_run.specs.Lines.{lines_of}
+use Rattle.span_language.specs.Lines.{lines_of}
 use Rattle.span_run.specs.Held.{IsStanding}
-use Rattle.span_run.specs.Runs.{outside}
+use Rattle.span_language.specs.Runs.{outside}
 use Rattle.span_run.proofs.RunsLemmas.{IsAt}
 use Rattle.span_run.proofs.top.run_lines.Given as goal
 

@@ -4,7 +4,7 @@ use Rattle.span_types.specs.Query.{Query}
 use Rattle.span_types.specs.Rel.{names_of}
 use Rattle.span_cursor.specs.Tuples.{HasOtherNames, IsTupleText}
 use Rattle.query_book.specs.Book.{queries_of}
-use Rattle.span_run.specs.State.{Named, value_of}
+use Rattle.span_language.specs.State.{Named, value_of}
 use Rattle.span_run.proofs.words.tuple_of.Goals as goal
 
 -- the query whose variables were told

@@ -1,0 +1,94 @@
+-- How many looks and pair calls a line may cost.
+use Rattle.std.specs.Prelude.{◌≡◌, ◌⊎◌, ℕ, ◌+◌, ◌*◌, ◌≤◌, List, length, min}
+use Rattle.span_types.specs.Fibonacci.{height_limit, looks_limit}
+use Rattle.span_types.specs.Query.{Query}
+use Rattle.span_types.specs.Rel.{names_of}
+use Rattle.script_syntax.specs.declared.form.Command.{Command}
+use Rattle.script_syntax.specs.declared.form.Command.TheVariants as form
+use Rattle.script_syntax.specs.declared.form.Command.TheVariants.{Text, LoadFile, LetDoc, OpenFile}
+use Rattle.report_text.specs.declared.refusal.Refusal.{Refusal}
+use Rattle.slp_image.specs.Image.{image}
+use Rattle.span_enum.specs.Members.{Tuple}
+use Rattle.span_cursor.specs.Tuples.{TupleText}
+use Rattle.edit_expr.specs.declared.expr.Expr.{Expr}
+use Rattle.edit_expr.specs.Expressions.{ExprReads}
+use Rattle.edit_expr.specs.Eval.{greatest, operations}
+use Rattle.span_language.specs.State.{World}
+use Rattle.span_language.specs.Listed.{IsListReply}
+use Rattle.span_language.specs.Step.{IsWithin, IsAsked, IsChosenOf, IsFileRefused, IsRefused, IsReplacing, IsUnreplaced, load_size, most_spans, open_size}
+use Rattle.span_types.specs.declared.tuple.Span.{Span}
+
+pub record Allowance : Type 0 where
+  pub looks : ℕ
+  pub pairs : ℕ
+
+abbrev pub no_steps : Allowance
+no_steps = record { looks = 0; pairs = 0 }
+
+abbrev pub both_of : Allowance → Allowance → Allowance
+both_of a b = record { looks = a.looks + b.looks; pairs = a.pairs + b.pairs }
+
+-- the pair calls of loading n bytes
+abbrev pub load_limit : ℕ → ℕ
+load_limit n = n + 4 * (height_limit n + 1)
+
+-- the pair calls of so many operations on texts of at most n bytes
+abbrev pub edit_limit : ℕ → ℕ → ℕ
+edit_limit count n = 48 * count * (height_limit n + 1)
+
+-- the looks for one answer of a query on a text
+abbrev pub answer_limit : Query → List ℕ → ℕ
+answer_limit q text = looks_limit (length (names_of q)) (length text)
+
+-- the looks for so many answers, and no pair calls
+abbrev pub answers_steps : ℕ → Query → List ℕ → Allowance
+answers_steps count q text = record { looks = count * answer_limit q text; pairs = 0 }
+
+-- the steps of replacing c chosen spans of a text of n bytes
+abbrev pub replace_steps : ℕ → ℕ → Allowance
+replace_steps c n = record { looks = 3 * (c + 1) * looks_limit 1 n; pairs = 1770 * (c + 1) }
+
+-- nothing where the command is refused
+abbrev pub IsFree : (Refusal → Type 0) → Allowance → Type 0
+IsFree Refuses a = (why : Refusal) × Refuses why × (a ≡ no_steps)
+
+-- the allowance of a command, by its step
+abbrev pub IsAllowed : World → Command → Allowance → Type 0
+IsAllowed old (Text name bytes) a = a ≡ record { looks = 0; pairs = load_limit (length bytes) }
+IsAllowed old (LoadFile name file) a = ((why : Refusal) × IsFileRefused old.files file load_size why × (a ≡ no_steps))
+    ⊎ ((bytes : List ℕ) × IsWithin old.files file load_size bytes × (a ≡ record { looks = 0; pairs = load_limit (length bytes) }))
+IsAllowed old (LetDoc name expr) a = (((e : Expr) → ExprReads expr e → ⊥) × (a ≡ no_steps))
+    ⊎ ((e : Expr) × ExprReads expr e × (a ≡ record { looks = 0; pairs = edit_limit (operations e) (greatest old.state.documents e) }))
+IsAllowed old (form.List query name word n) a = IsFree (IsRefused old (form.List query name word n)) a
+    ⊎ ((q : Query) × (text : List ℕ) × (reply : List ℕ) × IsAsked old query name q text × (is : IsListReply q text word n reply) × (a ≡ answers_steps (length is.page + 3) q text))
+IsAllowed old (form.Nonempty query name) a = IsFree (IsRefused old (form.Nonempty query name)) a
+    ⊎ ((q : Query) × (text : List ℕ) × IsAsked old query name q text × (a ≡ answers_steps 1 q text))
+IsAllowed old (form.Has query name word) a = IsFree (IsRefused old (form.Has query name word)) a
+    ⊎ ((q : Query) × (text : List ℕ) × (tuple : Tuple) × IsAsked old query name q text × TupleText word (names_of q) tuple × (a ≡ answers_steps 1 q text))
+IsAllowed old (OpenFile file) a = ((why : Refusal) × IsFileRefused old.files file open_size why × (a ≡ no_steps))
+    ⊎ ((bytes : List ℕ) × IsWithin old.files file open_size bytes × (a ≡ record { looks = 0; pairs = (image bytes).cost }))
+IsAllowed old (form.ReplaceDoc name query source by) a = IsFree (IsUnreplaced old query source by) a
+    ⊎ ((q : Query) × (text other : List ℕ) × (spans : List Span) × IsReplacing old query source by q text other × IsChosenOf q text spans
+    × (a ≡ replace_steps (min (length spans) most_spans) (length text)))
+IsAllowed old _ a = a ≡ no_steps
+
+-- the counters of looks and pair calls
+pub record Counters : Type 0 where
+  pub looks : ℕ
+  pub pairs : ℕ
+
+abbrev pub counters : ℕ → ℕ → Counters
+counters looks pairs = record { looks = looks; pairs = pairs }
+
+-- the counters rose by no more than the allowance
+pub record IsPaid (a : Allowance) (before after : Counters) : Type 0 where
+  pub looks : after.looks ≤ before.looks + a.looks
+  pub pairs : after.pairs ≤ before.pairs + a.pairs
+
+-- the counters rose by no more than the allowance of the command
+abbrev pub PaysFor : World → Command → Counters → Counters → Type 0
+PaysFor old command before after = (a : Allowance) × IsAllowed old command a × IsPaid a before after
+
+-- the same of a command that may have been stopped before it was begun
+abbrev pub PaysForPart : World → Command → Counters → Counters → Type 0
+PaysForPart old command before after = (a : Allowance) × ((a ≡ no_steps) ⊎ IsAllowed old command a) × IsPaid a before after

@@ -1,0 +1,12 @@
+pub mod Lines
+pub mod State
+pub mod Cursors
+pub mod Replies
+pub mod Listed
+pub mod Step
+pub mod Allowance
+pub mod Counts
+pub mod Means
+pub mod Laws
+pub mod Runs
+pub mod Scripts

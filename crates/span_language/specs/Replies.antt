@@ -1,0 +1,54 @@
+-- The replies of commands, and what they show of plain texts.
+use Rattle.std.specs.Prelude.{◌≡◌, ℕ, ◌+◌, ◌-◌, ◌&&◌, Bool, cond, nat_le, List, [], ◌∷◌, ◌++◌, length, take, drop, codes, Result, Ok, Err}
+use Rattle.std.specs.List.{flat_map}
+use Rattle.std.specs.Option.{option_map_or}
+use Rattle.report_text.specs.Reply.{doc_text, name_text}
+use Rattle.report_text.specs.declared.refusal.Refusal.{Refusal}
+use Rattle.report_text.specs.declared.refusal.Refusal.TheVariants.{NoSuchDocument, OutOfRange, TooLong, RangeTooWide}
+use Rattle.edit_expr.specs.declared.refusal.EditRefusal.{EditRefusal}
+use Rattle.edit_expr.specs.declared.refusal.EditRefusal.TheVariants as edit
+use Rattle.span_language.specs.State.{Documents, value_of}
+
+-- a line `ok`
+abbrev pub ok_text : List ℕ
+ok_text = codes "ok" ++ 10 ∷ []
+
+-- a line `yes`, and a line `no`
+abbrev pub yes_text : List ℕ
+yes_text = codes "yes" ++ 10 ∷ []
+
+abbrev pub no_text : List ℕ
+no_text = codes "no" ++ 10 ∷ []
+
+-- the reply to a text that was given a name: its length and its first 32 bytes
+abbrev pub given_text : List ℕ → List ℕ → List ℕ
+given_text name text = doc_text name (length text) (take 32 text)
+
+-- a document's line in a listing
+abbrev pub entry_text : List ℕ × List ℕ → List ℕ
+entry_text doc = name_text doc.0 (length doc.1)
+
+-- a line for each document, and then `end`
+abbrev pub names_text : Documents → List ℕ
+names_text docs = flat_map entry_text docs ++ (codes "end" ++ 10 ∷ [])
+
+-- whether 1 ≤ i ≤ j ≤ n+1
+abbrev pub is_range : ℕ → ℕ → ℕ → Bool
+is_range i j n = nat_le 1 i && (nat_le i j && nat_le j (n + 1))
+
+-- bytes i to j-1 of a text, or the first of the two refusals
+abbrev pub shown_range : List ℕ → ℕ → ℕ → Result (List ℕ) Refusal
+shown_range text i j = cond (is_range i j (length text))
+    (cond (nat_le (j - i) 4096) (Ok (take (j - i) (drop (i - 1) text))) (Err (RangeTooWide (j - i))))
+    (Err (OutOfRange i j (length text)))
+
+-- bytes i to j-1 of the document of this name, or the first refusal
+abbrev pub shown : Documents → List ℕ → ℕ → ℕ → Result (List ℕ) Refusal
+shown docs name i j = option_map_or (λ text. shown_range text i j) (value_of docs name) (Err (NoSuchDocument name))
+
+-- the refusal of an expression, as a reply has it
+abbrev pub IsEditRefusal : EditRefusal → Refusal → Type 0
+IsEditRefusal (edit.NoSuchDocument name) why = why ≡ NoSuchDocument name
+IsEditRefusal (edit.OutOfRange first last len) why = why ≡ OutOfRange first last len
+IsEditRefusal (edit.TooLong len) why = why ≡ TooLong len
+IsEditRefusal edit.NoMemory why = ⊥

@@ -1,0 +1,130 @@
+-- What a list of lines does.
+use Rattle.std.specs.Prelude.{◌≡◌, ◌⊎◌, ℕ, ◌+◌, ◌-◌, ◌*◌, ◌≤◌, ◌||◌, Bool, true, false, List, [], ◌∷◌, ◌++◌, Option, None, length, take}
+use Rattle.std.specs.Io.KnownBytes.{Appends}
+use Rattle.edge_io.specs.Files.{Files}
+use Rattle.edge_io.specs.Causes.{Rose}
+use Rattle.script_syntax.specs.declared.form.Command.{Command}
+use Rattle.span_language.specs.State.{World, State, nothing, world}
+use Rattle.span_language.specs.Allowance.{Allowance, Counters, IsPaid, both_of, no_steps}
+use Rattle.span_language.specs.Counts.{Compacts, IsOnce, Registers}
+use Rattle.span_language.specs.Means.{Carried, IsAllowance, Means, Of}
+use Rattle.span_language.specs.Step.{IsList, IsOfFile, IsSave, KeepsFiles}
+use Rattle.span_language.specs.declared.told.Told.{Told}
+use Rattle.span_language.specs.declared.told.Told.TheVariants.{Quiet, Accepted, Refused}
+
+abbrev pub is_refused : Told → Bool
+is_refused Quiet = false
+is_refused Accepted = false
+is_refused Refused = true
+
+-- what lines add up to: whether one was refused, their output, what they may cost together, how many queries they register, and
+-- how many accepted `compact` lines there are
+pub record Sum : Type 0 where
+  pub refused : Bool
+  pub output : List ℕ
+  pub cost : Allowance
+  pub queries : ℕ
+  pub compactions : ℕ
+
+abbrev pub no_lines : Sum
+no_lines = record { refused = false; output = []; cost = no_steps; queries = 0; compactions = 0 }
+
+abbrev pub both : Sum → Sum → Sum
+both a b = record {
+  refused = a.refused || b.refused;
+  output = a.output ++ b.output;
+  cost = both_of a.cost b.cost;
+  queries = a.queries + b.queries;
+  compactions = a.compactions + b.compactions;
+}
+
+-- what one line adds, which was told so
+pub record Adds (old : World) (number : ℕ) (line : List ℕ) (sum : Sum) (new : World) : Type 0 where
+  pub meaning : Option Command
+  pub told : Told
+  pub means : Means line meaning
+  pub carried : Carried old number meaning told sum.output new
+  pub allowed : IsAllowance old meaning sum.cost
+  pub registers : IsOnce (Of Registers meaning) told sum.queries
+  pub compacts : IsOnce (Of Compacts meaning) told sum.compactions
+  pub refused_is : sum.refused ≡ is_refused told
+
+-- from a world on, the lines, numbered from here on, add up to this and lead to that world
+abbrev pub Runs : World → ℕ → List (List ℕ) → Sum → World → Type 0
+Runs old number [] sum new = (sum ≡ no_lines) × (new ≡ old)
+Runs old number (line ∷ lines) sum new = (one rest : Sum) × (mid : World)
+    × Adds old number line one mid × Runs mid (number + 1) lines rest new × (sum ≡ both one rest)
+
+-- what is told of the outside at a moment: the bytes written, the files, the counters of looks and pair calls, and that of tables placed
+pub record Outside : Type 0 where
+  pub written : Option (List ℕ)
+  pub files : Option Files
+  pub counters : Counters
+  pub places : ℕ
+
+abbrev pub outside : Option (List ℕ) → Option Files → ℕ → ℕ → ℕ → Outside
+outside written files looks pairs places = record { written = written; files = files; counters = record { looks = looks; pairs = pairs }; places = places }
+
+-- the world before the first line
+abbrev pub start : Outside → World
+start before = world nothing before.files
+
+-- each query has at most one table of each node that there was: of the 256 bytes, which are made anew after each compaction, and of
+-- the pairs that were made
+abbrev pub PlacesFew : Sum → Outside → Outside → Type 0
+PlacesFew sum before after = after.places ≤ before.places + sum.queries * (256 * (1 + sum.compactions) + (after.counters.pairs - before.counters.pairs))
+
+-- all lines ran, and their whole output was written
+pub record RunsAll (lines : List (List ℕ)) (refused : Bool) (before after : Outside) : Type 0 where
+  pub sum : Sum
+  pub state : State
+  pub ran : Runs (start before) 1 lines sum (world state after.files)
+  pub refused_is : sum.refused ≡ refused
+  pub wrote : Appends before.written after.written sum.output
+  pub paid : IsPaid sum.cost before.counters after.counters
+  pub placed : PlacesFew sum before after
+
+-- of a line of this meaning nothing was written, or a front of its reply
+abbrev pub IsFront : World → ℕ → Option Command → List ℕ → Type 0
+IsFront old number meaning part = (part ≡ []) ⊎ ((told : Told) × (reply : List ℕ) × (new : World) × (n : ℕ) × Carried old number meaning told reply new × (part ≡ take n reply))
+
+-- the next line, in which the run was stopped: what was written of its reply, what it may cost, and the told files, which are as before it
+-- but perhaps the file of a `save`
+pub record IsNext (old : World) (number : ℕ) (line : List ℕ) (meaning : Option Command) (part : List ℕ) (cost : Allowance) (files : Option Files) : Type 0 where
+  pub means : Means line meaning
+  pub front : IsFront old number meaning part
+  pub allowed : (cost ≡ no_steps) ⊎ IsAllowance old meaning cost
+  pub kept : KeepsFiles (λ file. Of (IsSave file) meaning) old.files files
+
+-- of the lines that are left none was begun, or the next one was stopped, in a way that Ends says by its meaning and by what was written
+abbrev pub IsPart : (Option Command → List ℕ → Type 0) → World → ℕ → List (List ℕ) → List ℕ → Allowance → Option Files → Type 0
+IsPart Ends old number left part cost files = ((part ≡ []) × (cost ≡ no_steps) × (files ≡ old.files) × Ends None [])
+    ⊎ ((line : List ℕ) × (lines : List (List ℕ)) × (meaning : Option Command) × (left ≡ line ∷ lines)
+    × IsNext old number line meaning part cost files × Ends meaning part)
+
+-- where a run ends early, by the meaning of the line and what was written of its reply: anywhere
+abbrev pub Anywhere : Option Command → List ℕ → Type 0
+Anywhere meaning part = Unit {0}
+
+-- in a line of the form `load`, `save` or `open`, of whose reply nothing was written
+abbrev pub InFileLine : Option Command → List ℕ → Type 0
+InFileLine meaning part = Of IsOfFile meaning × (part ≡ [])
+
+-- where it is in a line of the form `list`, a count rose, or nothing of its reply was written
+abbrev pub UnlessList : ℕ → ℕ → Option Command → List ℕ → Type 0
+UnlessList wants_before wants_after meaning part = Of IsList meaning → Rose wants_before wants_after ⊎ (part ≡ [])
+
+-- the run ended early: the first lines ran and their output was written, then perhaps a front of the next one's reply
+pub record RunsFront (Ends : Option Command → List ℕ → Type 0) (lines : List (List ℕ)) (before after : Outside) : Type 0 where
+  pub done : List (List ℕ)
+  pub left : List (List ℕ)
+  pub cut : lines ≡ done ++ left
+  pub sum : Sum
+  pub mid : World
+  pub ran : Runs (start before) 1 done sum mid
+  pub part : List ℕ
+  pub last : Allowance
+  pub next : IsPart Ends mid (1 + length done) left part last after.files
+  pub wrote : Appends before.written after.written (sum.output ++ part)
+  pub paid : IsPaid (both_of sum.cost last) before.counters after.counters
+  pub placed : PlacesFew sum before after

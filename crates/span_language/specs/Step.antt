@@ -1,0 +1,246 @@
+-- What a line does.
+use Rattle.std.specs.Prelude.{◌≡◌, ◌⊎◌, ◌<◌, ℕ, List, [], Option, Some, None, Ok, Err, IfSome, take, length, ◌≤◌, ◌^◌}
+use Rattle.std.specs.Io.KnownBytes.{Appends, Keeps}
+use Rattle.edge_io.specs.Files.{Files, Holds, KeepsOthers, file_of}
+use Rattle.script_syntax.specs.declared.form.Command.{Command}
+use Rattle.script_syntax.specs.declared.form.Command.TheVariants.{Nothing, Text, LoadFile, LetDoc, DropDoc, Names, Show, SaveFile, OpenFile}
+use Rattle.script_syntax.specs.declared.form.Command.TheVariants as form
+use Rattle.edit_expr.specs.declared.expr.Expr.{Expr}
+use Rattle.edit_expr.specs.declared.refusal.EditRefusal.{EditRefusal}
+use Rattle.edit_expr.specs.Expressions.{ExprReads}
+use Rattle.edit_expr.specs.Eval.{eval}
+use Rattle.span_types.specs.Query.{Query}
+use Rattle.span_types.specs.Rel.{IsAnswersOf, names_of}
+use Rattle.formula_syntax.specs.FormulaOf.{FormulaOf}
+use Rattle.formula_syntax.specs.FormulaOf as formula
+use Rattle.query_book.specs.Registering.{IsQueryOf, IsTooLarge}
+use Rattle.query_book.specs.Answers.{HasAnswer, IsAnswer}
+use Rattle.span_enum.specs.Members.{Tuple}
+use Rattle.span_cursor.specs.Tuples.{TupleText}
+use Rattle.slp_image.specs.Fields.{kind_of}
+use Rattle.slp_image.specs.Image.{image}
+use Rattle.slp_image.specs.Save.{SaveForm}
+use Rattle.slp_image.specs.declared.refusal.ImageRefusal.{ImageRefusal}
+use Rattle.report_text.specs.Reply.{shown_text, query_text, saved_text, opened_text, refusal_text}
+use Rattle.report_text.specs.declared.refusal.Refusal.{Refusal}
+use Rattle.report_text.specs.declared.refusal.Refusal.TheVariants.{Syntax, NoSuchDocument, NoSuchQuery, FormulaTooLong, BadFormula, TooDeep, TooManyPositions, TooManyVariables, NotFunctional, TooManyStates, NoSuchFile, FileTooLong, BadImage, NoSuchVersion, NotOneVariable, TooManyMatches, TooLong}
+use Rattle.span_language.specs.State.{World, Documents, Named, world, value_of, put, taken_out, with_documents, with_queries, with_versions}
+use Rattle.span_language.specs.Cursors.{IsCursorRefused, IsTupleRefused}
+use Rattle.span_language.specs.Listed.{AreListed, IsListReply}
+use Rattle.span_replace.specs.Chosen.{chosen}
+use Rattle.span_replace.specs.Replaced.{replaced}
+use Rattle.span_types.specs.declared.tuple.Span.{Span}
+use Rattle.span_language.specs.Replies.{ok_text, yes_text, no_text, given_text, names_text, shown, IsEditRefusal}
+use Rattle.span_language.specs.declared.told.Told.{Told}
+use Rattle.span_language.specs.declared.told.Told.TheVariants.{Quiet, Accepted, Refused}
+
+-- told files have no file of this name
+abbrev pub Lacks : Option Files → List ℕ → Type 0
+Lacks files name = IfSome files (λ all. file_of all name ≡ None)
+
+-- the file is there, with these bytes, which are no more than the limit
+pub record IsWithin (files : Option Files) (name : List ℕ) (limit : ℕ) (bytes : List ℕ) : Type 0 where
+  pub held : Holds files name bytes
+  pub short : length bytes ≤ limit
+
+-- the first refusal of a file that is to be read: it isn't there, or has more bytes than the limit
+abbrev pub IsFileRefused : Option Files → List ℕ → ℕ → Refusal → Type 0
+IsFileRefused files name limit why = (Lacks files name × (why ≡ NoSuchFile name))
+    ⊎ ((bytes : List ℕ) × Holds files name bytes × (limit < length bytes) × (why ≡ FileTooLong name))
+
+-- the most bytes of a file of `load` and of `open`
+abbrev pub load_size : ℕ
+load_size = 2 ^ 32
+
+abbrev pub open_size : ℕ
+open_size = 2 ^ 30
+
+-- these bytes may be saved as an image of the documents with so many nodes
+pub record IsSaved (documents : Documents) (bytes : List ℕ) (nodes : ℕ) : Type 0 where
+  pub form : SaveForm bytes
+  pub means : (image bytes).answer ≡ Ok (record { documents = documents; nodes = nodes })
+
+-- the file has these bytes now, and the others are as before
+pub record IsPut (old : Option Files) (name bytes : List ℕ) (new : Option Files) : Type 0 where
+  pub held : Holds new name bytes
+  pub others : KeepsOthers old new name
+
+-- the number of the first fault of an image
+pub record IsFaulty (bytes : List ℕ) (kind : ℕ) : Type 0 where
+  pub refusal : ImageRefusal
+  pub means : (image bytes).answer ≡ Err refusal
+  pub kind_is : kind_of refusal ≡ Some kind
+
+-- the first refusal of a query's text
+abbrev pub IsTextRefused : List ℕ → Refusal → Type 0
+IsTextRefused text (FormulaTooLong len) = FormulaOf text (formula.TooLong len)
+IsTextRefused text BadFormula = FormulaOf text formula.BadText
+IsTextRefused text TooDeep = FormulaOf text formula.TooDeep
+IsTextRefused text TooManyPositions = FormulaOf text formula.TooManyPositions
+IsTextRefused text TooManyVariables = FormulaOf text formula.TooManyVariables
+IsTextRefused text (NotFunctional name) = FormulaOf text (formula.NotFunctional name)
+IsTextRefused text TooManyStates = IsTooLarge text
+IsTextRefused text _ = ⊥
+
+-- the query and the text that a question names
+pub record IsAsked (old : World) (query name : List ℕ) (q : Query) (text : List ℕ) : Type 0 where
+  pub document : value_of old.state.documents name ≡ Some text
+  pub registered : value_of old.state.queries query ≡ Some q
+
+-- the first refusal of a question: the document isn't there, or the query
+abbrev pub IsUnasked : World → List ℕ → List ℕ → Refusal → Type 0
+IsUnasked old query name why = ((value_of old.state.documents name ≡ None) × (why ≡ NoSuchDocument name))
+    ⊎ ((text : List ℕ) × (value_of old.state.documents name ≡ Some text) × (value_of old.state.queries query ≡ None) × (why ≡ NoSuchQuery query))
+
+-- `yes` where the fact holds, and `no` where it doesn't
+abbrev pub IsYesOrNo : Type 0 → List ℕ → Type 0
+IsYesOrNo fact reply = (fact × (reply ≡ yes_text)) ⊎ ((fact → ⊥) × (reply ≡ no_text))
+
+-- what a replacement is asked of: the text in which the spans of a query of one variable are replaced, and the text that is put there
+pub record IsReplacing (old : World) (query source by : List ℕ) (q : Query) (text other : List ℕ) : Type 0 where
+  pub document : value_of old.state.documents source ≡ Some text
+  pub put_there : value_of old.state.documents by ≡ Some other
+  pub registered : value_of old.state.queries query ≡ Some q
+  pub one : length (names_of q) ≡ 1
+
+-- the first refusal of what a replacement is asked of: a document isn't there, or the query, or it hasn't one variable
+abbrev pub IsUnreplaced : World → List ℕ → List ℕ → List ℕ → Refusal → Type 0
+IsUnreplaced old query source by why = ((value_of old.state.documents source ≡ None) × (why ≡ NoSuchDocument source))
+    ⊎ ((text : List ℕ) × (value_of old.state.documents source ≡ Some text) × (value_of old.state.documents by ≡ None) × (why ≡ NoSuchDocument by))
+    ⊎ ((text other : List ℕ) × (value_of old.state.documents source ≡ Some text) × (value_of old.state.documents by ≡ Some other)
+    × (value_of old.state.queries query ≡ None) × (why ≡ NoSuchQuery query))
+    ⊎ ((text other : List ℕ) × (q : Query) × (value_of old.state.documents source ≡ Some text) × (value_of old.state.documents by ≡ Some other)
+    × (value_of old.state.queries query ≡ Some q) × (length (names_of q) ≡ 1 → ⊥) × (why ≡ NotOneVariable (length (names_of q))))
+
+-- the spans that are chosen of a query's answers on a text
+pub record IsChosenOf (q : Query) (s : List ℕ) (spans : List Span) : Type 0 where
+  pub all : List Tuple
+  pub answers : IsAnswersOf q s all
+  pub is : spans ≡ chosen all
+
+-- the most spans that are replaced
+abbrev pub most_spans : ℕ
+most_spans = 32768
+
+-- the queries change, and nothing else
+abbrev pub HasQueries : World → World → Named Query → Type 0
+HasQueries old new queries = new ≡ world (with_queries old.state queries) old.files
+
+-- the documents change, and nothing else
+abbrev pub HasDocuments : World → World → Documents → Type 0
+HasDocuments old new documents = new ≡ world (with_documents old.state documents) old.files
+
+-- the versions change, and nothing else
+abbrev pub HasVersions : World → World → Named Documents → Type 0
+HasVersions old new versions = new ≡ world (with_versions old.state versions) old.files
+
+-- an accepted command has this reply and leaves this world: one equation for each command that is built
+abbrev pub Does : World → Command → List ℕ → World → Type 0
+Does old (Text name bytes) reply new = (reply ≡ given_text name bytes) × HasDocuments old new (put old.state.documents name bytes)
+Does old (LoadFile name file) reply new = (bytes : List ℕ) × IsWithin old.files file load_size bytes × (reply ≡ given_text name bytes)
+    × HasDocuments old new (put old.state.documents name bytes)
+Does old (LetDoc name expr) reply new = (e : Expr) × (text : List ℕ) × ExprReads expr e × (eval old.state.documents e ≡ Ok text)
+    × (reply ≡ given_text name text) × HasDocuments old new (put old.state.documents name text)
+Does old (DropDoc name) reply new = (text : List ℕ) × (value_of old.state.documents name ≡ Some text)
+    × (reply ≡ ok_text) × HasDocuments old new (taken_out old.state.documents name)
+Does old Names reply new = (reply ≡ names_text old.state.documents) × (new ≡ old)
+Does old (Show name i j) reply new = (bytes : List ℕ) × (shown old.state.documents name i j ≡ Ok bytes) × (reply ≡ shown_text bytes) × (new ≡ old)
+Does old (form.Query name text) reply new = (q : Query) × IsQueryOf text q × (reply ≡ query_text name (names_of q)) × HasQueries old new (put old.state.queries name q)
+Does old (form.Unquery name) reply new = (q : Query) × (value_of old.state.queries name ≡ Some q) × (reply ≡ ok_text) × HasQueries old new (taken_out old.state.queries name)
+Does old (form.List query name word n) reply new = (q : Query) × (text : List ℕ) × IsAsked old query name q text × IsListReply q text word n reply × (new ≡ old)
+Does old (form.Nonempty query name) reply new = (q : Query) × (text : List ℕ) × IsAsked old query name q text × IsYesOrNo (HasAnswer q text) reply × (new ≡ old)
+Does old (form.Has query name word) reply new = (q : Query) × (text : List ℕ) × (tuple : Tuple) × IsAsked old query name q text × TupleText word (names_of q) tuple
+    × IsYesOrNo (IsAnswer q text tuple) reply × (new ≡ old)
+Does old (SaveFile file) reply new = (bytes : List ℕ) × (nodes : ℕ) × IsSaved old.state.documents bytes nodes
+    × (reply ≡ saved_text (length old.state.documents) nodes) × (new.state ≡ old.state) × IsPut old.files file bytes new.files
+Does old (OpenFile file) reply new = (bytes : List ℕ) × (documents : Documents) × (nodes : ℕ) × IsWithin old.files file open_size bytes
+    × ((image bytes).answer ≡ Ok (record { documents = documents; nodes = nodes })) × (reply ≡ opened_text (length documents)) × HasDocuments old new documents
+Does old (form.ListAll query n) reply new = (q : Query) × (value_of old.state.queries query ≡ Some q) × AreListed q n old.state.documents reply × (new ≡ old)
+Does old (form.ReplaceDoc name query source by) reply new = (q : Query) × (text other : List ℕ) × (spans : List Span)
+    × IsReplacing old query source by q text other × IsChosenOf q text spans × (length spans ≤ most_spans) × (length (replaced text spans other) ≤ 2 ^ 48)
+    × (reply ≡ given_text name (replaced text spans other)) × HasDocuments old new (put old.state.documents name (replaced text spans other))
+Does old (form.MarkDocs name) reply new = (reply ≡ ok_text) × HasVersions old new (put old.state.versions name old.state.documents)
+Does old (form.UnmarkDocs name) reply new = (documents : Documents) × (value_of old.state.versions name ≡ Some documents)
+    × (reply ≡ ok_text) × HasVersions old new (taken_out old.state.versions name)
+Does old (form.BackDocs name) reply new = (documents : Documents) × (value_of old.state.versions name ≡ Some documents)
+    × (reply ≡ ok_text) × HasDocuments old new documents
+Does old _ reply new = ⊥
+
+-- the first refusal of a command: a command that isn't built is no line of the language
+abbrev pub IsRefused : World → Command → Refusal → Type 0
+IsRefused old Nothing why = ⊥
+IsRefused old (Text name bytes) why = ⊥
+IsRefused old (LoadFile name file) why = IsFileRefused old.files file load_size why
+IsRefused old (LetDoc name expr) why = (((e : Expr) → ExprReads expr e → ⊥) × (why ≡ Syntax))
+    ⊎ ((e : Expr) × (refusal : EditRefusal) × ExprReads expr e × (eval old.state.documents e ≡ Err refusal) × IsEditRefusal refusal why)
+IsRefused old (DropDoc name) why = (value_of old.state.documents name ≡ None) × (why ≡ NoSuchDocument name)
+IsRefused old Names why = ⊥
+IsRefused old (Show name i j) why = shown old.state.documents name i j ≡ Err why
+IsRefused old (form.Query name text) why = IsTextRefused text why
+IsRefused old (form.Unquery name) why = (value_of old.state.queries name ≡ None) × (why ≡ NoSuchQuery name)
+IsRefused old (form.List query name word n) why = IsUnasked old query name why
+    ⊎ ((q : Query) × (text : List ℕ) × IsAsked old query name q text × IsCursorRefused q word why)
+IsRefused old (form.Nonempty query name) why = IsUnasked old query name why
+IsRefused old (form.Has query name word) why = IsUnasked old query name why
+    ⊎ ((q : Query) × (text : List ℕ) × IsAsked old query name q text × IsTupleRefused q word why)
+IsRefused old (SaveFile file) why = ⊥
+IsRefused old (OpenFile file) why = IsFileRefused old.files file open_size why
+    ⊎ ((bytes : List ℕ) × (kind : ℕ) × IsWithin old.files file open_size bytes × IsFaulty bytes kind × (why ≡ BadImage kind))
+IsRefused old (form.ListAll query n) why = (value_of old.state.queries query ≡ None) × (why ≡ NoSuchQuery query)
+IsRefused old (form.ReplaceDoc name query source by) why = IsUnreplaced old query source by why
+    ⊎ ((q : Query) × (text other : List ℕ) × (spans : List Span) × IsReplacing old query source by q text other × IsChosenOf q text spans
+    × (((most_spans < length spans) × (why ≡ TooManyMatches))
+    ⊎ ((length spans ≤ most_spans) × (2 ^ 48 < length (replaced text spans other)) × (why ≡ TooLong (length (replaced text spans other))))))
+IsRefused old (form.MarkDocs name) why = ⊥
+IsRefused old (form.UnmarkDocs name) why = (value_of old.state.versions name ≡ None) × (why ≡ NoSuchVersion name)
+IsRefused old (form.BackDocs name) why = (value_of old.state.versions name ≡ None) × (why ≡ NoSuchVersion name)
+IsRefused old _ why = why ≡ Syntax
+
+-- a command that was read, in this world, has this reply and leaves that world
+abbrev pub Carries : World → ℕ → Command → Told → List ℕ → World → Type 0
+Carries old number command Quiet reply new = (command ≡ Nothing) × (reply ≡ []) × (new ≡ old)
+Carries old number command Accepted reply new = Does old command reply new
+Carries old number command Refused reply new = (why : Refusal) × IsRefused old command why × (reply ≡ refusal_text number why) × (new ≡ old)
+
+-- the bytes of a text line, which the line's own length bounds
+abbrev pub IsShort : Command → Type 0
+IsShort (Text name bytes) = length bytes ≤ 2 ^ 16
+IsShort _ = Unit {0}
+
+-- the command reads or writes a file
+abbrev pub IsOfFile : Command → Type 0
+IsOfFile (LoadFile name file) = Unit {0}
+IsOfFile (SaveFile file) = Unit {0}
+IsOfFile (OpenFile file) = Unit {0}
+IsOfFile _ = ⊥
+
+-- the command is of the form `list`
+abbrev pub IsList : Command → Type 0
+IsList (form.List query name after limit) = Unit {0}
+IsList _ = ⊥
+
+-- the command saves to this file
+abbrev pub IsSave : List ℕ → Command → Type 0
+IsSave file command = command ≡ SaveFile file
+
+-- told bytes grow by a front of these
+abbrev pub AppendsFront : Option (List ℕ) → Option (List ℕ) → List ℕ → Type 0
+AppendsFront before after reply = (n : ℕ) × Appends before after (take n reply)
+
+-- the whole of an allowed reply was written
+abbrev pub Finishes : (Told → List ℕ → World → Type 0) → Told → Option (List ℕ) → Option (List ℕ) → World → Type 0
+Finishes Allows told before after new = (reply : List ℕ) × Allows told reply new × Appends before after reply
+
+-- nothing was written, and the state is as before
+pub record Leaves (old : World) (before after : Option (List ℕ)) (new : World) : Type 0 where
+  pub written : Keeps before after
+  pub state : new.state ≡ old.state
+
+-- nothing was written and the state is as before, or a front of an allowed reply was written
+abbrev pub Halts : (Told → List ℕ → World → Type 0) → World → Option (List ℕ) → Option (List ℕ) → World → Type 0
+Halts Allows old before after new = Leaves old before after new
+    ⊎ ((told : Told) × (reply : List ℕ) × Allows told reply new × AppendsFront before after reply)
+
+-- told files are as before, but perhaps one that is saved to
+abbrev pub KeepsFiles : (List ℕ → Type 0) → Option Files → Option Files → Type 0
+KeepsFiles Saves before after = (after ≡ before) ⊎ ((file : List ℕ) × Saves file × KeepsOthers before after file)

@@ -1,0 +1,188 @@
+-- A listing of the answers on every document in progress.
+use Rattle.std.proofs.Common.{◌≡◌, ℕ, zero, suc, ◌+◌, ◌<◌, ◌≤◌, ◌^◌, Bool, true, false, nat_lt, get_or, refl, ap, sym, subst, ◌∙◌, arith, List, [], ◌∷◌, ◌++◌, append_assoc, length, take, drop, Option, Some, None, Contains}
+use Rattle.std.specs.Prelude.{slice_get, map, option_map}
+use Rattle.std.specs.Io.KnownBytes.{Appends}
+use Rattle.std.specs.List.{AllByRecursion, flat_map}
+use Rattle.std.proofs.lemmas.Bool.{ltb-true, ltb-false}
+use Rattle.std.proofs.lemmas.List.{append-nil, drop_all}
+use Rattle.std.proofs.lemmas.List.Elements.{Contains-get_or}
+use Rattle.std.proofs.lemmas.Option.{get_or_from_slice_get, slice_get_within, slice_get-get_or}
+use Rattle.slp_model.specs.declared.Node.{Node}
+use Rattle.slp_model.specs.Nodes.{IsLive}
+use Rattle.script_syntax.specs.declared.form.Command.{Command}
+use Rattle.script_syntax.specs.declared.form.Command.TheVariants as form
+use Rattle.script_syntax.specs.Syntax.{IsLimit, Reads}
+use Rattle.marker_dfa.specs.Deterministic.{DeterministicAutomaton, IsDeterministic}
+use Rattle.state_tables.specs.Dictionary.{AreTables, Dictionary, count_of}
+use Rattle.span_types.specs.Answers.{IsPage}
+use Rattle.span_types.specs.Query.{Query}
+use Rattle.span_types.specs.Rel.{names_of}
+use Rattle.span_enum.specs.Listing.{text_of}
+use Rattle.span_enum.specs.Members.{Tuple, AreAnswersOf}
+use Rattle.span_enum.proofs.Exists.{answers-exist}
+use Rattle.span_enum.proofs.Pages.{after-none}
+use Rattle.list_all.specs.Page.{Page, IsPageOf}
+use Rattle.span_language.specs.State.{Named, value_of}
+use Rattle.query_book.specs.Parts.{HasAnswersOf}
+use Rattle.query_book.proofs.Covered.{bytes-found}
+use Rattle.doc_book.specs.declared.Doc.{Doc}
+use Rattle.edit_expr.specs.Values.{AreLive, plain, text_at}
+use Rattle.span_language.specs.Listed.{AreListed, doc_line, done_line, first_page_text, page_text, tuple_line}
+use Rattle.span_language.specs.Step.{AppendsFront}
+use Rattle.span_run.specs.Answers.{IsLimited}
+use Rattle.span_run.specs.Every.{AreAnswered, AreShort, IsRegistered, every_text, rest_text}
+use Rattle.span_run.proofs.Written.{IsListing, both_written, listing_ends, listing_goes_on, listing_stops}
+
+-- a line's limit is one that a line can give
+pub limited : (line : List ℕ) (command : Command) → Reads line command → IsLimited command
+limited line (form.ListAll q k) (name, given, is, text) = at given is
+  where
+    at : (o : Option ℕ) → IsLimit o k → IsLimited (form.ListAll q k)
+    at None e = (omega (arith, e), omega (arith, e))
+    at (Some n) (low, high, e) = (omega (arith, low, e), omega (arith, high, e))
+limited line _ h = tt
+
+-- ---- a part of the whole was written up to what is left of it
+pub listing_part : (a b c : Option (List ℕ)) (left mid whole : List ℕ) → IsListing a b mid whole → IsListing b c left mid → IsListing a c left whole
+listing_part a b c left mid whole (front, before, is) (piece, wrote, cut) =
+    (front ++ piece, both_written a b c front piece before wrote, is ∙ ap (λ (l : List ℕ). front ++ l) cut ∙ sym (append_assoc front piece left))
+
+pub listing_breaks : (a b c : Option (List ℕ)) (mid whole : List ℕ) → IsListing a b mid whole → AppendsFront b c mid → AppendsFront a c whole
+listing_breaks a b c mid whole h stopped = listing_stops a b c mid [] whole (subst (λ (l : List ℕ). IsListing a b l whole) (sym (append-nil mid)) h) stopped
+
+-- ---- the documents from a place on
+module _ (a : DeterministicAutomaton) (ns : List Node) (names : List (List ℕ)) (n : ℕ) where
+  pub rest_next : (ds : List Doc) (ls : List (List Tuple)) (place : ℕ) (d : Doc) (p : Page) → AreAnswered a ns ds ls → slice_get ds place ≡ Some d → IsPageOf a (text_of ns d.root) n p
+      → rest_text names n ds ls place ≡ (doc_line d.name ++ page_text names p.tuples p.more) ++ rest_text names n ds ls (suc place)
+  rest_next [] ls place d p are e is = let bad : ⊥ = cc e in absurd bad
+  rest_next (x ∷ ds) [] place d p are e is = absurd are
+  rest_next (x ∷ ds) (l ∷ ls) (suc place) d p are e is = rest_next ds ls place d p are.1 e is
+  rest_next (x ∷ ds) (l ∷ ls) zero d p are e is =
+      let same : x ≡ d = cc e in
+      let here : AreAnswersOf a (text_of ns d.root) l = subst (λ (y : Doc). AreAnswersOf a (text_of ns y.root) l) same are.0 in
+      let page : IsPage l None n p.tuples p.more = is l here in
+      let all : l ≡ page.rest = page.after.cut ∙ ap (λ (f : List Tuple). f ++ page.rest) (page.after.start refl) in
+      let tuples : take n l ≡ p.tuples = ap (λ (r : List Tuple). take n r) all ∙ sym page.first in
+      let more : nat_lt n (length l) ≡ p.more = ap (λ (r : List Tuple). nat_lt n (length r)) all ∙ sym page.more_left in
+      let text : first_page_text names n l ≡ page_text names p.tuples p.more =
+      ap (λ (ts : List Tuple). page_text names ts (nat_lt n (length l))) tuples ∙ ap (λ (b : Bool). page_text names p.tuples b) more in
+      ap (λ (y : Doc). doc_line y.name ++ (first_page_text names n l ++ every_text names n ds ls)) same
+      ∙ ap (λ (t : List ℕ). doc_line d.name ++ (t ++ every_text names n ds ls)) text
+      ∙ sym (append_assoc (doc_line d.name) (page_text names p.tuples p.more) (every_text names n ds ls))
+
+  pub rest_end : (ds : List Doc) (ls : List (List Tuple)) (place : ℕ) → length ds ≤ place → rest_text names n ds ls place ≡ done_line
+  rest_end ds ls place past = ap (λ (es : List Doc). every_text names n es (drop place ls)) (drop_all place ds past)
+
+  -- ---- the reply
+  pub listed : (q : Query) → HasAnswersOf a q → names ≡ names_of q → (ds : List Doc) (ls : List (List Tuple)) → AreShort ns ds → AreAnswered a ns ds ls → AreListed q n (plain ns ds) (every_text names n ds ls)
+  listed q has is [] [] short are = refl
+  listed q has is [] (l ∷ ls) short are = absurd are
+  listed q has is (d ∷ ds) [] short are = absurd are
+  listed q has is (d ∷ ds) (l ∷ ls) short are = (
+    take n l,
+    nat_lt n (length l),
+    every_text names n ds ls,
+    record {
+      all = l;
+      answers = (has.same (text_of ns d.root) l (short 0 d refl)).0 are.0;
+      is = record { rest = l; after = after-none l; first = refl; more_left = refl };
+    },
+    listed q has is ds ls (λ k e at. short (suc k) e at) are.1,
+    ap (λ (ms : List (List ℕ)). doc_line d.name ++ (first_page_text ms n l ++ every_text names n ds ls)) is,
+  )
+
+-- ---- what a page has, and what there is
+take_at : (n : ℕ) (xs : List Tuple) (k : ℕ) (t : Tuple) → slice_get (take n xs) k ≡ Some t → slice_get xs k ≡ Some t
+take_at zero xs k t e = let bad : ⊥ = cc e in absurd bad
+take_at (suc n) [] k t e = let bad : ⊥ = cc e in absurd bad
+take_at (suc n) (x ∷ xs) zero t e = e
+take_at (suc n) (x ∷ xs) (suc k) t e = take_at n xs k t e
+
+contains_at : (xs : List Tuple) (k : ℕ) (t : Tuple) → slice_get xs k ≡ Some t → Contains xs t
+contains_at xs k t e = subst (λ (u : Tuple). Contains xs u) (get_or_from_slice_get xs k t t e) (Contains-get_or xs k t (slice_get_within xs k t e))
+
+pub page_sizes : (a : DeterministicAutomaton) (s : List ℕ) (l : List Tuple) (n : ℕ) (p : Page) → AreAnswersOf a s l → IsPageOf a s n p → (k : ℕ) (t : Tuple) → slice_get p.tuples k ≡ Some t → length t ≡ a.variables
+page_sizes a s l n p are is k t e =
+    let page : IsPage l None n p.tuples p.more = is l are in
+    let all : page.rest ≡ l = sym (page.after.cut ∙ ap (λ (f : List Tuple). f ++ page.rest) (page.after.start refl)) in
+    let there : slice_get page.rest k ≡ Some t = take_at n page.rest k t (subst (λ (ts : List Tuple). slice_get ts k ≡ Some t) page.first e) in
+    let in_all : slice_get l k ≡ Some t = subst (λ (ts : List Tuple). slice_get ts k ≡ Some t) all there in
+    let member = (are.members t).0 (contains_at l k t in_all) in
+    member.size
+
+pub answered_at : (a : DeterministicAutomaton) (ns : List Node) (ds : List Doc) (ls : List (List Tuple)) (place : ℕ) (d : Doc) → AreAnswered a ns ds ls → slice_get ds place ≡ Some d → (l : List Tuple) × AreAnswersOf a (text_of ns d.root) l
+answered_at a ns [] ls place d are e = let bad : ⊥ = cc e in absurd bad
+answered_at a ns (x ∷ ds) [] place d are e = absurd are
+answered_at a ns (x ∷ ds) (l ∷ ls) zero d are e = let same : x ≡ d = cc e in (l, subst (λ (y : Doc). AreAnswersOf a (text_of ns y.root) l) same are.0)
+answered_at a ns (x ∷ ds) (l ∷ ls) (suc place) d are e = answered_at a ns ds ls place d are.1 e
+
+pub lists_exist : (a : DeterministicAutomaton) (ns : List Node) (t : Dictionary) → IsDeterministic a → AreTables a ns t → count_of t ≡ length ns → (ds : List Doc) → AreLive ns ds → AreShort ns ds → (ls : List (List Tuple)) × AreAnswered a ns ds ls
+lists_exist a ns t auto tables count [] live short = ([], tt)
+lists_exist a ns t auto tables count (d ∷ ds) live short =
+    let l = answers-exist a auto (text_of ns d.root) (bytes-found a ns t d.root tables count live.0) (short 0 d refl) in
+    let ls = lists_exist a ns t auto tables count ds live.1 (λ k e at. short (suc k) e at) in
+    (l.0 ∷ ls.0, (l.1, ls.1))
+
+pub all_live : (ns : List Node) (ds : List Doc) → AreLive ns ds → AllByRecursion (λ d. IsLive ns d.root) ds
+all_live ns [] h = tt
+all_live ns (d ∷ ds) h = (h.0, all_live ns ds h.1)
+
+-- the page whose parts these are
+pub page_at : (ps : List Page) (k : ℕ) (ts : List Tuple) (more : Bool) → slice_get (map (λ (p : Page). p.tuples) ps) k ≡ Some ts → slice_get (map (λ (p : Page). p.more) ps) k ≡ Some more
+    → slice_get ps k ≡ Some (record { tuples = ts; more = more })
+page_at [] k ts more e f = let bad : ⊥ = cc e in absurd bad
+page_at (p ∷ ps) zero ts more e f =
+    let same : p.tuples ≡ ts = cc e in
+    let left : p.more ≡ more = cc f in
+    ap (λ (us : List Tuple). Some (record { tuples = us; more = p.more })) same ∙ ap (λ (b : Bool). Some (record { tuples = ts; more = b })) left
+page_at (p ∷ ps) (suc k) ts more e f = page_at ps k ts more e f
+
+pub registered : (queries : Named Query) (bytes name : List ℕ) (names : List (List ℕ)) → option_map names_of (value_of queries bytes) ≡ Some names → bytes ≡ name → IsRegistered queries name
+registered queries bytes name names is same = at (value_of queries bytes) refl is
+  where
+    at : (o : Option Query) → value_of queries bytes ≡ o → option_map names_of o ≡ Some names → IsRegistered queries name
+    at None e bad = let no_names : ⊥ = cc bad in absurd no_names
+    at (Some q) e given = record { query = q; there = ap (λ (m : List ℕ). value_of queries m) (sym same) ∙ e }
+
+-- ---- lengths that were looked at
+pub short_next : (ns : List Node) (ds : List Doc) (place len : ℕ) (x : Doc) → ((k : ℕ) (d : Doc) → k < place → slice_get ds k ≡ Some d → length (text_at ns d.root) ≤ 2 ^ 48) → slice_get ds place ≡ Some x → len ≡ length (text_at ns x.root) → len ≤ 2 ^ 48
+    → (k : ℕ) (d : Doc) → k < place + 1 → slice_get ds k ≡ Some d → length (text_at ns d.root) ≤ 2 ^ 48
+short_next ns ds place len x h at is short k d lt e = by (nat_lt k place) refl
+  where
+    by : (b : Bool) → nat_lt k place ≡ b → length (text_at ns d.root) ≤ 2 ^ 48
+    by true low = h k d (ltb-true k place low) e
+    by false high =
+        let here : k ≡ place = omega (arith, lt, ltb-false k place high) in
+        let both : Some x ≡ Some d = sym at ∙ (ap (slice_get ds) (sym here) ∙ e) in
+        let same : x ≡ d = cc both in
+        subst (λ (y : Doc). length (text_at ns y.root) ≤ 2 ^ 48) same (subst (λ (m : ℕ). m ≤ 2 ^ 48) is short)
+
+pub short_all : (ns : List Node) (ds : List Doc) (place : ℕ) → ((k : ℕ) (d : Doc) → k < place → slice_get ds k ≡ Some d → length (text_at ns d.root) ≤ 2 ^ 48) → length ds ≤ place → AreShort ns ds
+short_all ns ds place h past k d e = h k d (omega (arith, past, slice_get_within ds k d e)) e
+
+-- ---- the lines of tuples
+pub sized_at : (ts : List Tuple) (n : ℕ) → ((k : ℕ) (t : Tuple) → slice_get ts k ≡ Some t → n ≡ length t) → (i : ℕ) (t : Tuple) → t ≡ get_or ts i t → i < length ts → n ≡ length t
+sized_at ts n h i t is lt = subst (λ (u : Tuple). n ≡ length u) (sym is) (h i (get_or ts i t) (slice_get-get_or ts i t lt))
+
+lines_next : (names : List (List ℕ)) (ts : List Tuple) (i : ℕ) (d : Tuple) → i < length ts
+    → flat_map (tuple_line names) (drop i ts) ≡ tuple_line names (get_or ts i d) ++ flat_map (tuple_line names) (drop (suc i) ts)
+lines_next names [] i d lt = absurd (omega (arith, lt))
+lines_next names (t ∷ ts) zero d lt = refl
+lines_next names (t ∷ ts) (suc i) d lt = lines_next names ts i d (omega (arith, lt))
+
+module _ (a b c : Option (List ℕ)) (names : List (List ℕ)) (ts : List Tuple) (i : ℕ) (t : Tuple) (is : t ≡ get_or ts i t) (lt : i < length ts) (so_far : IsListing a b (flat_map (tuple_line names) (drop i ts)) (flat_map (tuple_line names) ts)) where
+  cut : IsListing a b (tuple_line names t ++ flat_map (tuple_line names) (drop (suc i) ts)) (flat_map (tuple_line names) ts)
+  cut = subst (λ (l : List ℕ). IsListing a b l (flat_map (tuple_line names) ts)) (lines_next names ts i t lt ∙ ap (λ (u : Tuple). tuple_line names u ++ flat_map (tuple_line names) (drop (suc i) ts)) (sym is)) so_far
+
+  pub tuples_next : Appends b c (tuple_line names t) → IsListing a c (flat_map (tuple_line names) (drop (i + 1) ts)) (flat_map (tuple_line names) ts)
+  tuples_next wrote =
+      let next : suc i ≡ i + 1 = omega arith in
+      subst (λ (k : ℕ). IsListing a c (flat_map (tuple_line names) (drop k ts)) (flat_map (tuple_line names) ts)) next
+      (listing_goes_on a b c (tuple_line names t) (flat_map (tuple_line names) (drop (suc i) ts)) (flat_map (tuple_line names) ts) cut wrote)
+
+  pub tuples_stop : AppendsFront b c (tuple_line names t) → AppendsFront a c (flat_map (tuple_line names) ts)
+  tuples_stop stopped = listing_stops a b c (tuple_line names t) (flat_map (tuple_line names) (drop (suc i) ts)) (flat_map (tuple_line names) ts) cut stopped
+
+pub tuples_end : (a b : Option (List ℕ)) (names : List (List ℕ)) (ts : List Tuple) (i : ℕ) → length ts ≤ i → IsListing a b (flat_map (tuple_line names) (drop i ts)) (flat_map (tuple_line names) ts) → Appends a b (flat_map (tuple_line names) ts)
+tuples_end a b names ts i past so_far =
+    listing_ends a b (flat_map (tuple_line names) ts) (subst (λ (us : List Tuple). IsListing a b (flat_map (tuple_line names) us) (flat_map (tuple_line names) ts)) (drop_all i ts past) so_far)

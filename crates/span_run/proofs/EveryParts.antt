@@ -1,0 +1,76 @@
+-- What the parts of a listing of the answers on every document write.
+use Rattle.std.proofs.Common.{◌≡◌, ℕ, suc, ◌+◌, ◌≤◌, Bool, refl, sym, subst, ◌∙◌, arith, List, [], ◌++◌, append_assoc, length, Option, Some}
+use Rattle.std.specs.Prelude.{map, slice_get}
+use Rattle.std.specs.Io.KnownBytes.{Appends}
+use Rattle.std.specs.List.{flat_map}
+use Rattle.std.proofs.lemmas.List.{append-nil}
+use Rattle.slp_model.specs.declared.Node.{Node}
+use Rattle.marker_dfa.specs.Deterministic.{DeterministicAutomaton}
+use Rattle.span_enum.specs.Listing.{text_of}
+use Rattle.span_enum.specs.Members.{Tuple}
+use Rattle.list_all.specs.Every.{ArePages}
+use Rattle.list_all.specs.Page.{Page, IsPageOf}
+use Rattle.doc_book.specs.declared.Doc.{Doc}
+use Rattle.span_language.specs.Listed.{doc_line, done_line, last_line, page_text, tuple_line}
+use Rattle.span_language.specs.Step.{AppendsFront}
+use Rattle.span_run.specs.Every.{AreAnswered, every_text, rest_text}
+use Rattle.span_run.proofs.EveryLemmas.{answered_at, page_at, page_sizes, rest_end, rest_next}
+use Rattle.span_run.proofs.Written.{IsListing, both_written, front_of_whole, listing_ends, listing_goes_on, listing_stops, nothing_written}
+
+-- ---- a document: its line, the lines of its tuples, and the last
+module _ (a b c d : Option (List ℕ)) (name : List ℕ) (names : List (List ℕ)) (tuples : List Tuple) (more : Bool) where
+  pub line_stops : AppendsFront a b (doc_line name) → AppendsFront a b (doc_line name ++ page_text names tuples more)
+  line_stops stopped = front_of_whole a a b [] (doc_line name) (page_text names tuples more) (doc_line name ++ page_text names tuples more) refl (nothing_written a) stopped
+
+  pub tuples_cut : Appends a b (doc_line name) → AppendsFront b c (flat_map (tuple_line names) tuples) → AppendsFront a c (doc_line name ++ page_text names tuples more)
+  tuples_cut line stopped =
+      front_of_whole a b c (doc_line name) (flat_map (tuple_line names) tuples) (last_line more) (doc_line name ++ page_text names tuples more)
+      (sym (append_assoc (doc_line name) (flat_map (tuple_line names) tuples) (last_line more))) line stopped
+
+  pub last_stops : Appends a b (doc_line name) → Appends b c (flat_map (tuple_line names) tuples) → AppendsFront c d (last_line more) → AppendsFront a d (doc_line name ++ page_text names tuples more)
+  last_stops line tuples_written stopped =
+      front_of_whole a c d (doc_line name ++ flat_map (tuple_line names) tuples) (last_line more) [] (doc_line name ++ page_text names tuples more)
+      (sym (append-nil ((doc_line name ++ flat_map (tuple_line names) tuples) ++ last_line more) ∙ append_assoc (doc_line name) (flat_map (tuple_line names) tuples) (last_line more)))
+      (both_written a b c (doc_line name) (flat_map (tuple_line names) tuples) line tuples_written) stopped
+
+  pub document_done : Appends a b (doc_line name) → Appends b c (flat_map (tuple_line names) tuples) → Appends c d (last_line more) → Appends a d (doc_line name ++ page_text names tuples more)
+  document_done line tuples_written last =
+      both_written a b d (doc_line name) (page_text names tuples more) line (both_written b c d (flat_map (tuple_line names) tuples) (last_line more) tuples_written last)
+
+-- ---- a batch: the page of a place that was found
+module _ (a : DeterministicAutomaton) (ns : List Node) (ds : List Doc) (first count n : ℕ) (pages : List Page) (are : ArePages a ns ds first count n pages)
+    (place : ℕ) (d : Doc) (tuples : List Tuple) (more : Bool) (at : slice_get ds (first + place) ≡ Some d)
+    (tuples_are : slice_get (map (λ (p : Page). p.tuples) pages) place ≡ Some tuples) (more_is : slice_get (map (λ (p : Page). p.more) pages) place ≡ Some more) where
+  found : IsPageOf a (text_of ns d.root) n (record { tuples = tuples; more = more })
+  found = are.each place d (record { tuples = tuples; more = more }) at (page_at pages place tuples more tuples_are more_is)
+
+  pub found_sizes : (k : ℕ) → k ≡ a.variables → (lists : List (List Tuple)) × AreAnswered a ns ds lists → (i : ℕ) (t : Tuple) → slice_get tuples i ≡ Some t → k ≡ length t
+  found_sizes k is (lists, answered) i t e =
+      let l = answered_at a ns ds lists (first + place) d answered at in
+      is ∙ sym (page_sizes a (text_of ns d.root) l.0 n (record { tuples = tuples; more = more }) l.1 found i t e)
+
+  module _ (x y z : Option (List ℕ)) (names : List (List ℕ)) (lists : List (List Tuple)) (answered : AreAnswered a ns ds lists)
+      (so_far : IsListing x y (rest_text names n ds lists (first + place)) (rest_text names n ds lists first)) where
+    cut : IsListing x y ((doc_line d.name ++ page_text names tuples more) ++ rest_text names n ds lists (suc (first + place))) (rest_text names n ds lists first)
+    cut = subst (λ (l : List ℕ). IsListing x y l (rest_text names n ds lists first)) (rest_next a ns names n ds lists (first + place) d (record { tuples = tuples; more = more }) answered at found) so_far
+
+    pub batch_next : Appends y z (doc_line d.name ++ page_text names tuples more) → IsListing x z (rest_text names n ds lists (first + (place + 1))) (rest_text names n ds lists first)
+    batch_next wrote =
+        let next : suc (first + place) ≡ first + (place + 1) = omega arith in
+        subst (λ (k : ℕ). IsListing x z (rest_text names n ds lists k) (rest_text names n ds lists first)) next
+        (listing_goes_on x y z (doc_line d.name ++ page_text names tuples more) (rest_text names n ds lists (suc (first + place))) (rest_text names n ds lists first) cut wrote)
+
+    pub batch_stops : AppendsFront y z (doc_line d.name ++ page_text names tuples more) → AppendsFront x z (rest_text names n ds lists first)
+    batch_stops stopped = listing_stops x y z (doc_line d.name ++ page_text names tuples more) (rest_text names n ds lists (suc (first + place))) (rest_text names n ds lists first) cut stopped
+
+-- ---- all documents: the last line
+module _ (x y z : Option (List ℕ)) (names : List (List ℕ)) (n : ℕ) (a : DeterministicAutomaton) (ns : List Node) (ds : List Doc) (lists : List (List Tuple)) (first : ℕ) (past : length ds ≤ first)
+    (so_far : IsListing x y (rest_text names n ds lists first) (every_text names n ds lists)) where
+  at_last : IsListing x y (done_line ++ []) (every_text names n ds lists)
+  at_last = subst (λ (l : List ℕ). IsListing x y l (every_text names n ds lists)) (rest_end a ns names n ds lists first past ∙ sym (append-nil done_line)) so_far
+
+  pub last_done : Appends y z done_line → Appends x z (every_text names n ds lists)
+  last_done wrote = listing_ends x z (every_text names n ds lists) (listing_goes_on x y z done_line [] (every_text names n ds lists) at_last wrote)
+
+  pub last_cut : AppendsFront y z done_line → AppendsFront x z (every_text names n ds lists)
+  last_cut stopped = listing_stops x y z done_line [] (every_text names n ds lists) at_last stopped

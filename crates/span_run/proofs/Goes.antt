@@ -1,0 +1,373 @@
+-- What commands that grow the store, or that give tables, or that do neither, say of what is held.
+use Rattle.std.proofs.Common.{◌≡◌, ◌⊎◌, ◌∙◌, ◌+◌, ◌≤◌, ℕ, List, length, Option, Result, Ok, Err, inl, inr, refl, sym, ap, subst, arith}
+use Rattle.std.specs.Prelude.{IfErr, IfOk, OnErr, OnOk}
+use Rattle.std.specs.Result.{IsErrAnd}
+use Rattle.edge_io.specs.Causes.{Rose}
+use Rattle.edge_io.specs.Files.{Files, KeepsOthers}
+use Rattle.report_text.specs.Reply.{saved_text}
+use Rattle.edit_expr.specs.Values.{AreLive, plain}
+use Rattle.edit_expr.proofs.EvalLemmas.{AreLive-grows, plain-grows}
+use Rattle.doc_book.specs.declared.Doc.{Doc}
+use Rattle.slp_model.specs.declared.Node.{Node}
+use Rattle.slp_model.specs.Nodes.{Grows}
+use Rattle.slp_model.proofs.NodesLemmas.{Grows-length, Grows-none}
+use Rattle.script_syntax.specs.declared.form.Command.{Command}
+use Rattle.script_syntax.specs.declared.form.Command.TheVariants as form
+use Rattle.span_types.specs.Query.{Query}
+use Rattle.query_book.specs.declared.entry.Entry.{Entry}
+use Rattle.query_book.specs.Book.{queries_of}
+use Rattle.query_book.specs.Serving.{Serves, ArePartlyAt, covered_of, sum_of}
+use Rattle.span_language.specs.State.{Documents, Named, State, with_documents, with_queries, world}
+use Rattle.span_language.specs.Allowance.{IsAllowed, PaysFor, PaysForPart, counters, no_steps}
+use Rattle.span_language.specs.Counts.{Compacts, IsOnce, Places, Registers}
+use Rattle.span_language.specs.Step.{Carries, IsOfFile, IsPut, IsSave, IsSaved, KeepsFiles}
+use Rattle.span_language.specs.declared.told.Told.{Told}
+use Rattle.span_language.specs.declared.told.Told.TheVariants.{Quiet, Accepted, Refused}
+use Rattle.span_language.specs.declared.told.Stop.{Stop}
+use Rattle.span_language.specs.declared.told.Stop.TheVariants as stop
+use Rattle.span_run.specs.declared.answer.Answer.{Answer}
+use Rattle.span_run.specs.declared.held.Held.{Held}
+use Rattle.span_run.specs.Held.{AreKept, IsHeld, plain_versions, state_of}
+use Rattle.span_run.specs.Site.{at, world_at}
+use Rattle.span_run.specs.Scene.{Scene, Tallies, scene}
+use Rattle.span_run.specs.Answers.{Goes, Answers, Stays}
+use Rattle.span_run.proofs.HeldLemmas.{AreKept-grows, Grows-pairs, plain_versions-grows}
+use Rattle.span_run.proofs.CarryLemmas.{none_paid, not_begun, part_of_paid}
+use Rattle.span_run.proofs.PlacesLemmas.{none_placed, none_placed_part}
+use Rattle.span_run.proofs.BookLemmas.{covered-within, serves-grows, grown_placed, grown_placed_part}
+
+-- a call found no memory, and that is passed on
+pub passed_on : {T : Type 0} (r : Result T Stop) (P : Stop → Type 0) → IsErrAnd r (λ e. e ≡ stop.NoMemory) → P stop.NoMemory → IfErr r P
+passed_on (Ok x) P h p = tt
+passed_on (Err e) P h p = subst P (sym h) p
+
+pub if_err_both : {T E : Type 0} (r : Result T E) (P Q S : E → Type 0) → ((x : E) → P x → Q x → S x) → IfErr r P → IfErr r Q → IfErr r S
+if_err_both (Ok x) P Q S f h k = tt
+if_err_both (Err e) P Q S f h k = f e h k
+
+pub if_err_four : {T E : Type 0} (r : Result T E) (P : Type 0) (Q R S Z : E → Type 0) → ((x : E) → P → Q x → R x → S x → Z x) → OnErr r P → IfErr r Q → IfErr r R → IfErr r S → IfErr r Z
+if_err_four (Ok x) P Q R S Z f p q r s = tt
+if_err_four (Err e) P Q R S Z f p q r s = f e p q r s
+
+pub if_ok_both : {T E : Type 0} (r : Result T E) (P : T → Type 0) (Q : Type 0) (Z : T → Type 0) → ((x : T) → P x → Q → Z x) → IfOk r P → OnOk r Q → IfOk r Z
+if_ok_both (Ok x) P Q Z f p q = f x p q
+if_ok_both (Err e) P Q Z f p q = tt
+
+pub on_err_of : {T E : Type 0} (r : Result T E) (P : E → Type 0) (Q : Type 0) → ((x : E) → P x → Q) → IfErr r P → OnErr r Q
+on_err_of (Ok x) P Q f p = tt
+on_err_of (Err e) P Q f p = f e p
+
+-- of another kind
+pub never : (kind : Type 0) → (kind → ⊥) → (told : Told) → IsOnce kind told 0
+never kind other Quiet = refl
+never kind other Accepted = inr (other, refl)
+never kind other Refused = refl
+
+pub once_accepted : (kind : Type 0) → kind → (told : Told) → told ≡ Accepted → IsOnce kind told 1
+once_accepted kind is told accepted = subst (λ (t : Told). IsOnce kind t 1) (sym accepted) (inl (is, refl))
+
+pub refused_never : (kind : Type 0) (told : Told) → told ≡ Refused → IsOnce kind told 0
+refused_never kind told refused = subst (λ (t : Told). IsOnce kind t 0) (sym refused) refl
+
+-- no query is registered, and no node dropped
+pub none_tallied : (registers compacts : Type 0) (told : Told) (old new : Scene) → IsOnce registers told 0 → IsOnce compacts told 0 → old.standing.nodes ≤ new.standing.nodes → new.standing.pairs + old.pairs ≤ old.standing.pairs + new.pairs
+    → Places 0 0 new.standing.nodes old.standing.covered new.standing.covered old.places new.places → Tallies registers compacts told old new
+none_tallied registers compacts told old new none kept nodes pairs placed = record {
+  queries = 0;
+  registered = none;
+  compactions = 0;
+  compacted = kept;
+  dropped = 0;
+  none_dropped = λ _. refl;
+  nodes = omega (arith, nodes);
+  pairs = omega (arith, pairs);
+  placed = placed;
+}
+
+-- ---- the store grew, and the documents are others
+pub grown_goes : (h : Held) (store : List Node) (docs : List Doc) (command : Command) (files after : Option Files) (faults more looks p q places : ℕ) → IsHeld h → Grows h.store store p q → AreLive store docs
+    → PaysForPart (world_at (at h files faults looks p places)) command (counters looks p) (counters looks q) → after ≡ files → faults ≤ more
+    → Goes (at h files faults looks p places) command (at (record h { store = store; docs = docs }) after more looks q places)
+grown_goes h store docs command files after faults more looks p q places is grows live begun same later =
+    let serves = serves-grows h.store store p q h.book grows is.serves in
+    record {
+      held = record { live = live; kept = AreKept-grows h.store store p q grows h.versions is.kept; serves = serves };
+      nodes = inl (Grows-length h.store store p q grows);
+      pairs = Grows-pairs h.store store p q grows;
+      calls = omega (arith, grows.paid);
+      begun = begun;
+      placed = none_placed_part (length h.store) (length store) (covered_of h.book) places (covered-within store h.book serves);
+      files = inl same;
+      faults = later;
+    }
+
+-- other documents in a grown store are another state alone
+pub grown_state : (h : Held) (store : List Node) (docs : List Doc) (p q : ℕ) → IsHeld h → Grows h.store store p q → state_of (record h { store = store; docs = docs }) ≡ with_documents (state_of h) (plain store docs)
+grown_state h store docs p q is grows = ap (λ (v : Named Documents). record { documents = plain store docs; queries = queries_of h.book; versions = v }) (plain_versions-grows h.store store p q grows h.versions is.kept)
+
+pub grown_answers : (h : Held) (store : List Node) (docs : List Doc) (number : ℕ) (command : Command) (answer : Answer) (files after : Option Files) (faults more looks p q places : ℕ) → IsHeld h → Grows h.store store p q → AreLive store docs
+    → (Registers command → ⊥) → (Compacts command → ⊥) → PaysFor (world (state_of h) files) command (counters looks p) (counters looks q) → after ≡ files → faults ≤ more
+    → Carries (world (state_of h) files) number command answer.told answer.line.items (world (with_documents (state_of h) (plain store docs)) files)
+    → Answers (at h files faults looks p places) number command (at (record h { store = store; docs = docs }) after more looks q places) answer
+grown_answers h store docs number command answer files after faults more looks p q places is grows live other kept paid same later carries = record {
+  goes = grown_goes h store docs command files after faults more looks p q places is grows live (part_of_paid (world (state_of h) files) command (counters looks p) (counters looks q) paid) same later;
+  carries = subst (λ (f : Option Files). Carries (world (state_of h) files) number command answer.told answer.line.items (world (state_of (record h { store = store; docs = docs })) f)) (sym same)
+      (subst (λ (st : State). Carries (world (state_of h) files) number command answer.told answer.line.items (world st files)) (sym (grown_state h store docs p q is grows)) carries);
+  paid = paid;
+  tallies = none_tallied (Registers command) (Compacts command) answer.told (scene (at h files faults looks p places)) (scene (at (record h { store = store; docs = docs }) after more looks q places)) (never (Registers command) other answer.told) (never (Compacts command) kept answer.told)
+      (Grows-length h.store store p q grows) (Grows-pairs h.store store p q grows) (none_placed (length store) (covered_of h.book) places);
+}
+
+-- the store alone grew
+pub grown_same : (h : Held) (store : List Node) (number : ℕ) (command : Command) (answer : Answer) (files after : Option Files) (faults more looks p q places : ℕ) → IsHeld h → Grows h.store store p q
+    → (Registers command → ⊥) → (Compacts command → ⊥) → PaysFor (world (state_of h) files) command (counters looks p) (counters looks q) → after ≡ files → faults ≤ more
+    → Carries (world (state_of h) files) number command answer.told answer.line.items (world (state_of h) files)
+    → Answers (at h files faults looks p places) number command (at (record h { store = store }) after more looks q places) answer
+grown_same h store number command answer files after faults more looks p q places is grows other kept paid same later carries =
+    grown_answers h store h.docs number command answer files after faults more looks p q places is grows (AreLive-grows h.store store p q grows h.docs is.live) other kept paid same later
+    (subst (λ (d : Documents). Carries (world (state_of h) files) number command answer.told answer.line.items (world (with_documents (state_of h) d) files)) (sym (plain-grows h.store store p q grows h.docs is.live)) carries)
+
+-- and the documents stand for the same texts
+pub grown_stays : (h : Held) (store : List Node) (docs : List Doc) (number : ℕ) (command : Command) (files after : Option Files) (faults more looks p q places : ℕ) (why : Stop) → IsHeld h → Grows h.store store p q → AreLive store docs
+    → plain store docs ≡ plain h.store h.docs → PaysForPart (world (state_of h) files) command (counters looks p) (counters looks q) → after ≡ files → faults ≤ more
+    → (why ≡ stop.ShelfFault → IsOfFile command × Rose faults more) → (why ≡ stop.OutFault → ⊥)
+    → Stays (at h files faults looks p places) number command (at (record h { store = store; docs = docs }) after more looks q places) why
+grown_stays h store docs number command files after faults more looks p q places why is grows live texts begun same later shelf sink = record {
+  goes = grown_goes h store docs command files after faults more looks p q places is grows live begun same later;
+  state = inl (grown_state h store docs p q is grows ∙ ap (with_documents (state_of h)) texts);
+  shelf = shelf;
+  sink = sink;
+}
+
+pub no_shelf : {P : Type 0} → stop.NoMemory ≡ stop.ShelfFault → P
+no_shelf is = let bad : ⊥ = cc is in absurd bad
+
+pub no_sink : stop.NoMemory ≡ stop.OutFault → ⊥
+no_sink is = cc is
+
+pub grown_stops : (h : Held) (store : List Node) (docs : List Doc) (number : ℕ) (command : Command) (files after : Option Files) (faults more looks p q places : ℕ) → IsHeld h → Grows h.store store p q → AreLive store docs
+    → plain store docs ≡ plain h.store h.docs → PaysForPart (world (state_of h) files) command (counters looks p) (counters looks q) → after ≡ files → faults ≤ more
+    → Stays (at h files faults looks p places) number command (at (record h { store = store; docs = docs }) after more looks q places) stop.NoMemory
+grown_stops h store docs number command files after faults more looks p q places is grows live texts begun same later =
+    grown_stays h store docs number command files after faults more looks p q places stop.NoMemory is grows live texts begun same later no_shelf no_sink
+
+-- ---- the documents alone are others
+pub free_answers : (h : Held) (docs : List Doc) (number : ℕ) (command : Command) (answer : Answer) (files : Option Files) (faults looks pairs places : ℕ) → IsHeld h → AreLive h.store docs
+    → (Registers command → ⊥) → (Compacts command → ⊥) → IsAllowed (world (state_of h) files) command no_steps
+    → Carries (world (state_of h) files) number command answer.told answer.line.items (world (with_documents (state_of h) (plain h.store docs)) files)
+    → Answers (at h files faults looks pairs places) number command (at (record h { docs = docs }) files faults looks pairs places) answer
+free_answers h docs number command answer files faults looks pairs places is live other kept free carries =
+    grown_answers h h.store docs number command answer files files faults faults looks pairs pairs places is (Grows-none h.store pairs pairs (omega arith)) live other kept (no_steps, free, none_paid looks pairs pairs refl) refl (omega arith) carries
+
+-- nothing was done
+pub stays : (h : Held) (number : ℕ) (command : Command) (files : Option Files) (faults looks pairs places : ℕ) → IsHeld h
+    → Stays (at h files faults looks pairs places) number command (at h files faults looks pairs places) stop.NoMemory
+stays h number command files faults looks pairs places is =
+    grown_stops h h.store h.docs number command files files faults faults looks pairs pairs places is (Grows-none h.store pairs pairs (omega arith)) is.live refl (not_begun (world (state_of h) files) command looks pairs) refl (omega arith)
+
+-- ---- the queries were given tables
+pub placed_goes : (h : Held) (book : List Entry) (command : Command) (files : Option Files) (faults looks more pairs p q : ℕ) → IsHeld h → Serves h.store book
+    → ArePartlyAt (length h.store) (covered_of h.book) (covered_of book) → q + sum_of (covered_of h.book) ≡ p + sum_of (covered_of book)
+    → PaysForPart (world (state_of h) files) command (counters looks pairs) (counters more pairs)
+    → Goes (at h files faults looks pairs p) command (at (record h { book = book }) files faults more pairs q)
+placed_goes h book command files faults looks more pairs p q is serves partly steps begun = record {
+  held = record { live = is.live; kept = is.kept; serves = serves };
+  nodes = inl (omega arith);
+  pairs = omega arith;
+  calls = omega arith;
+  begun = begun;
+  placed = grown_placed_part (length h.store) p q (covered_of h.book) (covered_of book) (covered-within h.store book serves) partly steps;
+  files = inl refl;
+  faults = omega arith;
+}
+
+pub same_queries : (h : Held) (book : List Entry) → queries_of book ≡ queries_of h.book → state_of (record h { book = book }) ≡ state_of h
+same_queries h book same = ap (with_queries (state_of h)) same
+
+pub placed_tallied : (h : Held) (book : List Entry) (command : Command) (told : Told) (files : Option Files) (faults looks more pairs p q : ℕ) → ArePartlyAt (length h.store) (covered_of h.book) (covered_of book) → q + sum_of (covered_of h.book) ≡ p + sum_of (covered_of book)
+    → (Registers command → ⊥) → (Compacts command → ⊥) → Tallies (Registers command) (Compacts command) told (scene (at h files faults looks pairs p)) (scene (at (record h { book = book }) files faults more pairs q))
+placed_tallied h book command told files faults looks more pairs p q partly steps other kept =
+    none_tallied (Registers command) (Compacts command) told (scene (at h files faults looks pairs p)) (scene (at (record h { book = book }) files faults more pairs q)) (never (Registers command) other told) (never (Compacts command) kept told)
+    (omega arith) (omega arith) (grown_placed (length h.store) p q (covered_of h.book) (covered_of book) partly steps)
+
+pub placed_answers : (h : Held) (book : List Entry) (number : ℕ) (command : Command) (answer : Answer) (files : Option Files) (faults looks more pairs p q : ℕ) → IsHeld h → Serves h.store book → queries_of book ≡ queries_of h.book
+    → ArePartlyAt (length h.store) (covered_of h.book) (covered_of book) → q + sum_of (covered_of h.book) ≡ p + sum_of (covered_of book)
+    → (Registers command → ⊥) → (Compacts command → ⊥) → PaysFor (world (state_of h) files) command (counters looks pairs) (counters more pairs)
+    → Carries (world (state_of h) files) number command answer.told answer.line.items (world (state_of h) files)
+    → Answers (at h files faults looks pairs p) number command (at (record h { book = book }) files faults more pairs q) answer
+placed_answers h book number command answer files faults looks more pairs p q is serves same partly steps other kept paid carries = record {
+  goes = placed_goes h book command files faults looks more pairs p q is serves partly steps (part_of_paid (world (state_of h) files) command (counters looks pairs) (counters more pairs) paid);
+  carries = subst (λ (st : State). Carries (world (state_of h) files) number command answer.told answer.line.items (world st files)) (sym (same_queries h book same)) carries;
+  paid = paid;
+  tallies = placed_tallied h book command answer.told files faults looks more pairs p q partly steps other kept;
+}
+
+pub placed_stops : (h : Held) (book : List Entry) (number : ℕ) (command : Command) (files : Option Files) (faults looks more pairs p q : ℕ) → IsHeld h → Serves h.store book → queries_of book ≡ queries_of h.book
+    → ArePartlyAt (length h.store) (covered_of h.book) (covered_of book) → q + sum_of (covered_of h.book) ≡ p + sum_of (covered_of book)
+    → PaysForPart (world (state_of h) files) command (counters looks pairs) (counters more pairs)
+    → Stays (at h files faults looks pairs p) number command (at (record h { book = book }) files faults more pairs q) stop.NoMemory
+placed_stops h book number command files faults looks more pairs p q is serves same partly steps begun = record {
+  goes = placed_goes h book command files faults looks more pairs p q is serves partly steps begun;
+  state = inl (same_queries h book same);
+  shelf = no_shelf;
+  sink = no_sink;
+}
+
+-- ---- the queries are others
+booked_goes : (h : Held) (book : List Entry) (command : Command) (files : Option Files) (faults looks pairs places : ℕ) → IsHeld h → Serves h.store book
+    → Goes (at h files faults looks pairs places) command (at (record h { book = book }) files faults looks pairs places)
+booked_goes h book command files faults looks pairs places is serves = record {
+  held = record { live = is.live; kept = is.kept; serves = serves };
+  nodes = inl (omega arith);
+  pairs = omega arith;
+  calls = omega arith;
+  begun = not_begun (world (state_of h) files) command looks pairs;
+  placed = none_placed_part (length h.store) (length h.store) (covered_of h.book) places (covered-within h.store h.book is.serves);
+  files = inl refl;
+  faults = omega arith;
+}
+
+pub booked_answers : (h : Held) (book : List Entry) (number : ℕ) (command : Command) (answer : Answer) (files : Option Files) (faults looks pairs places count : ℕ) → IsHeld h → Serves h.store book
+    → IsAllowed (world (state_of h) files) command no_steps → IsOnce (Registers command) answer.told count → IsOnce (Compacts command) answer.told 0
+    → Places count 0 (length h.store) (covered_of h.book) (covered_of book) places places
+    → Carries (world (state_of h) files) number command answer.told answer.line.items (world (with_queries (state_of h) (queries_of book)) files)
+    → Answers (at h files faults looks pairs places) number command (at (record h { book = book }) files faults looks pairs places) answer
+booked_answers h book number command answer files faults looks pairs places count is serves free registered kept placed carries = record {
+  goes = booked_goes h book command files faults looks pairs places is serves;
+  carries = carries;
+  paid = (no_steps, free, none_paid looks pairs pairs refl);
+  tallies = record {
+    queries = count;
+    registered = registered;
+    compactions = 0;
+    compacted = kept;
+    dropped = 0;
+    none_dropped = λ _. refl;
+    nodes = omega arith;
+    pairs = omega arith;
+    placed = placed;
+  };
+}
+
+pub booked_stops : (h : Held) (book : List Entry) (number : ℕ) (command : Command) (files : Option Files) (faults looks pairs places : ℕ) → IsHeld h → Serves h.store book
+    → (state_of (record h { book = book }) ≡ state_of h) ⊎ ((IsOfFile command → ⊥) × ((told : Told) × (reply : List ℕ) × Carries (world (state_of h) files) number command told reply (world (state_of (record h { book = book })) files)))
+    → Stays (at h files faults looks pairs places) number command (at (record h { book = book }) files faults looks pairs places) stop.NoMemory
+booked_stops h book number command files faults looks pairs places is serves state = record {
+  goes = booked_goes h book command files faults looks pairs places is serves;
+  state = state;
+  shelf = no_shelf;
+  sink = no_sink;
+}
+
+-- a refused command
+pub refused_answers : (h : Held) (number : ℕ) (command : Command) (answer : Answer) (files : Option Files) (faults looks pairs places : ℕ) → IsHeld h → answer.told ≡ Refused → IsAllowed (world (state_of h) files) command no_steps
+    → Carries (world (state_of h) files) number command answer.told answer.line.items (world (state_of h) files)
+    → Answers (at h files faults looks pairs places) number command (at h files faults looks pairs places) answer
+refused_answers h number command answer files faults looks pairs places is refused free carries =
+    booked_answers h h.book number command answer files faults looks pairs places 0 is is.serves free (refused_never (Registers command) answer.told refused) (refused_never (Compacts command) answer.told refused) (none_placed (length h.store) (covered_of h.book) places) carries
+
+-- ---- files are others
+saved_goes : (h : Held) (command : Command) (files after : Option Files) (faults more looks pairs places : ℕ) → IsHeld h → KeepsFiles (λ file. IsSave file command) files after → faults ≤ more
+    → Goes (at h files faults looks pairs places) command (at h after more looks pairs places)
+saved_goes h command files after faults more looks pairs places is kept later = record {
+  held = is;
+  nodes = inl (omega arith);
+  pairs = omega arith;
+  calls = omega arith;
+  begun = not_begun (world (state_of h) files) command looks pairs;
+  placed = none_placed_part (length h.store) (length h.store) (covered_of h.book) places (covered-within h.store h.book is.serves);
+  files = kept;
+  faults = later;
+}
+
+pub saved_answers : (h : Held) (number : ℕ) (file bytes : List ℕ) (nodes : ℕ) (answer : Answer) (files after : Option Files) (faults more looks pairs places : ℕ) → IsHeld h → IsSaved (plain h.store h.docs) bytes nodes
+    → answer.told ≡ Accepted → answer.line.items ≡ saved_text (length (plain h.store h.docs)) nodes → IsPut files file bytes after → faults ≤ more
+    → Answers (at h files faults looks pairs places) number (form.SaveFile file) (at h after more looks pairs places) answer
+saved_answers h number file bytes nodes answer files after faults more looks pairs places is saved accepted written put later = record {
+  goes = saved_goes h (form.SaveFile file) files after faults more looks pairs places is (inr (file, refl, put.others)) later;
+  carries = subst (λ (t : Told). Carries (world (state_of h) files) number (form.SaveFile file) t answer.line.items (world (state_of h) after)) (sym accepted) (bytes, nodes, saved, written, refl, put);
+  paid = (no_steps, refl, none_paid looks pairs pairs refl);
+  tallies = none_tallied (Registers (form.SaveFile file)) (Compacts (form.SaveFile file)) answer.told (scene (at h files faults looks pairs places)) (scene (at h after more looks pairs places)) (never (Registers (form.SaveFile file)) (λ no. no) answer.told) (never (Compacts (form.SaveFile file)) (λ no. no) answer.told)
+      (omega arith) (omega arith) (none_placed (length h.store) (covered_of h.book) places);
+}
+
+pub saved_stays : (h : Held) (number : ℕ) (file : List ℕ) (files after : Option Files) (faults more looks pairs places : ℕ) (why : Stop) → IsHeld h → KeepsOthers files after file → faults ≤ more → (why ≡ stop.ShelfFault → Rose faults more) → (why ≡ stop.OutFault → ⊥)
+    → Stays (at h files faults looks pairs places) number (form.SaveFile file) (at h after more looks pairs places) why
+saved_stays h number file files after faults more looks pairs places why is others later shelf sink = record {
+  goes = saved_goes h (form.SaveFile file) files after faults more looks pairs places is (inr (file, refl, others)) later;
+  state = inl refl;
+  shelf = λ e. (tt, shelf e);
+  sink = sink;
+}
+
+-- ---- the versions are others, and perhaps the documents
+marked_goes : (h : Held) (docs : List Doc) (versions : Named (List Doc)) (command : Command) (files : Option Files) (faults looks pairs places : ℕ) → IsHeld h → AreLive h.store docs → AreKept h.store versions
+    → Goes (at h files faults looks pairs places) command (at (record h { docs = docs; versions = versions }) files faults looks pairs places)
+marked_goes h docs versions command files faults looks pairs places is live kept = record {
+  held = record { live = live; kept = kept; serves = is.serves };
+  nodes = inl (omega arith);
+  pairs = omega arith;
+  calls = omega arith;
+  begun = not_begun (world (state_of h) files) command looks pairs;
+  placed = none_placed_part (length h.store) (length h.store) (covered_of h.book) places (covered-within h.store h.book is.serves);
+  files = inl refl;
+  faults = omega arith;
+}
+
+pub marked_answers : (h : Held) (docs : List Doc) (versions : Named (List Doc)) (number : ℕ) (command : Command) (answer : Answer) (files : Option Files) (faults looks pairs places : ℕ) → IsHeld h → AreLive h.store docs → AreKept h.store versions
+    → (Registers command → ⊥) → (Compacts command → ⊥) → IsAllowed (world (state_of h) files) command no_steps
+    → Carries (world (state_of h) files) number command answer.told answer.line.items (world (state_of (record h { docs = docs; versions = versions })) files)
+    → Answers (at h files faults looks pairs places) number command (at (record h { docs = docs; versions = versions }) files faults looks pairs places) answer
+marked_answers h docs versions number command answer files faults looks pairs places is live kept other keeps free carries = record {
+  goes = marked_goes h docs versions command files faults looks pairs places is live kept;
+  carries = carries;
+  paid = (no_steps, free, none_paid looks pairs pairs refl);
+  tallies = none_tallied (Registers command) (Compacts command) answer.told (scene (at h files faults looks pairs places)) (scene (at (record h { docs = docs; versions = versions }) files faults looks pairs places)) (never (Registers command) other answer.told) (never (Compacts command) keeps answer.told)
+      (omega arith) (omega arith) (none_placed (length h.store) (covered_of h.book) places);
+}
+
+-- ---- the queries were given tables, and then the store grew, and the documents are others
+moved_goes : (h : Held) (store : List Node) (docs : List Doc) (book : List Entry) (command : Command) (files : Option Files) (faults looks more p q r s : ℕ) → IsHeld h → Grows h.store store p q → AreLive store docs → Serves h.store book
+    → ArePartlyAt (length h.store) (covered_of h.book) (covered_of book) → s + sum_of (covered_of h.book) ≡ r + sum_of (covered_of book)
+    → PaysForPart (world (state_of h) files) command (counters looks p) (counters more q)
+    → Goes (at h files faults looks p r) command (at (record h { store = store; docs = docs; book = book }) files faults more q s)
+moved_goes h store docs book command files faults looks more p q r s is grows live serves partly steps begun = record {
+  held = record { live = live; kept = AreKept-grows h.store store p q grows h.versions is.kept; serves = serves-grows h.store store p q book grows serves };
+  nodes = inl (Grows-length h.store store p q grows);
+  pairs = Grows-pairs h.store store p q grows;
+  calls = omega (arith, grows.paid);
+  begun = begun;
+  placed = λ n few le. grown_placed_part (length h.store) r s (covered_of h.book) (covered_of book) (covered-within h.store book serves) partly steps n few few;
+  files = inl refl;
+  faults = omega arith;
+}
+
+moved_state : (h : Held) (store : List Node) (docs : List Doc) (book : List Entry) (p q : ℕ) → IsHeld h → Grows h.store store p q → queries_of book ≡ queries_of h.book
+    → state_of (record h { store = store; docs = docs; book = book }) ≡ with_documents (state_of h) (plain store docs)
+moved_state h store docs book p q is grows same =
+    ap (λ (qs : Named Query). record { documents = plain store docs; queries = qs; versions = plain_versions store h.versions }) same ∙ grown_state h store docs p q is grows
+
+pub moved_answers : (h : Held) (store : List Node) (docs : List Doc) (book : List Entry) (number : ℕ) (command : Command) (answer : Answer) (files : Option Files) (faults looks more p q r s : ℕ) → IsHeld h → Grows h.store store p q → AreLive store docs → Serves h.store book
+    → queries_of book ≡ queries_of h.book → ArePartlyAt (length h.store) (covered_of h.book) (covered_of book) → s + sum_of (covered_of h.book) ≡ r + sum_of (covered_of book)
+    → (Registers command → ⊥) → (Compacts command → ⊥) → PaysFor (world (state_of h) files) command (counters looks p) (counters more q)
+    → Carries (world (state_of h) files) number command answer.told answer.line.items (world (with_documents (state_of h) (plain store docs)) files)
+    → Answers (at h files faults looks p r) number command (at (record h { store = store; docs = docs; book = book }) files faults more q s) answer
+moved_answers h store docs book number command answer files faults looks more p q r s is grows live serves same partly steps other kept paid carries = record {
+  goes = moved_goes h store docs book command files faults looks more p q r s is grows live serves partly steps (part_of_paid (world (state_of h) files) command (counters looks p) (counters more q) paid);
+  carries = subst (λ (st : State). Carries (world (state_of h) files) number command answer.told answer.line.items (world st files)) (sym (moved_state h store docs book p q is grows same)) carries;
+  paid = paid;
+  tallies = none_tallied (Registers command) (Compacts command) answer.told (scene (at h files faults looks p r)) (scene (at (record h { store = store; docs = docs; book = book }) files faults more q s))
+      (never (Registers command) other answer.told) (never (Compacts command) kept answer.told) (Grows-length h.store store p q grows) (Grows-pairs h.store store p q grows)
+      (λ n le. grown_placed (length h.store) r s (covered_of h.book) (covered_of book) partly steps n (omega (arith, le, Grows-length h.store store p q grows)));
+}
+
+pub moved_stops : (h : Held) (store : List Node) (docs : List Doc) (book : List Entry) (number : ℕ) (command : Command) (files : Option Files) (faults looks more p q r s : ℕ) → IsHeld h → Grows h.store store p q → AreLive store docs → Serves h.store book
+    → queries_of book ≡ queries_of h.book → ArePartlyAt (length h.store) (covered_of h.book) (covered_of book) → s + sum_of (covered_of h.book) ≡ r + sum_of (covered_of book)
+    → plain store docs ≡ plain h.store h.docs → PaysForPart (world (state_of h) files) command (counters looks p) (counters more q)
+    → Stays (at h files faults looks p r) number command (at (record h { store = store; docs = docs; book = book }) files faults more q s) stop.NoMemory
+moved_stops h store docs book number command files faults looks more p q r s is grows live serves same partly steps texts begun = record {
+  goes = moved_goes h store docs book command files faults looks more p q r s is grows live serves partly steps begun;
+  state = inl (moved_state h store docs book p q is grows same ∙ ap (with_documents (state_of h)) texts);
+  shelf = no_shelf;
+  sink = no_sink;
+}

@@ -1,0 +1,170 @@
+-- A reply that was sent, or wasn't, and lines that do nothing.
+use Rattle.std.proofs.Common.{◌≡◌, ◌∙◌, ◌≤◌, ℕ, [], Option, Some, None, inl, inr, refl, sym, subst, arith, length}
+use Rattle.edge_io.specs.Files.{Files}
+use Rattle.report_text.specs.Reply.{refusal_text}
+use Rattle.report_text.specs.declared.refusal.Refusal.TheVariants.{Syntax}
+use Rattle.script_syntax.specs.declared.form.Command.{Command}
+use Rattle.script_syntax.specs.declared.form.Command.TheVariants as form
+use Rattle.query_book.specs.Serving.{covered_of}
+use Rattle.span_language.specs.State.{world}
+use Rattle.span_language.specs.Allowance.{no_steps}
+use Rattle.span_language.specs.Counts.{Compacts, Registers}
+use Rattle.span_language.specs.Means.{Carried, Of, Replies}
+use Rattle.span_language.specs.Step.{Finishes, IsList, Leaves}
+use Rattle.span_language.specs.declared.told.Told.{Told}
+use Rattle.span_language.specs.declared.told.Told.TheVariants.{Quiet, Refused}
+use Rattle.span_language.specs.declared.told.Stop.{Stop}
+use Rattle.span_language.specs.declared.told.Stop.TheVariants as stop
+use Rattle.span_run.specs.declared.answer.Answer.{Answer}
+use Rattle.span_run.specs.declared.held.Held.{Held}
+use Rattle.span_run.specs.Held.{IsHeld, standing_of, state_of}
+use Rattle.span_run.specs.Site.{Site, world_at}
+use Rattle.span_run.specs.Scene.{Tallies, scene, seen}
+use Rattle.span_run.specs.Answers.{Goes, Answers, IsAnswering, Stays}
+use Rattle.span_run.specs.Carried.{Outlet, Passes, Done, Stopped, IsSent, IsUnsent}
+use Rattle.span_run.proofs.Written.{kept_same, nothing_front, nothing_written}
+use Rattle.span_run.proofs.CarryLemmas.{none_paid}
+use Rattle.span_run.proofs.PlacesLemmas.{none_placed, none_placed_part}
+use Rattle.span_run.proofs.BookLemmas.{covered-within}
+use Rattle.span_run.proofs.Goes.{never, none_tallied, no_shelf, no_sink}
+
+pub passes_of : (old new : Site) (command : Command) (before after : Outlet) → Goes old command new → before.faults ≤ after.faults → before.wants ≤ after.wants → Passes (Some command) (scene old) before (scene new) after
+passes_of old new command before after goes later wants_later = record {
+  more_nodes = goes.nodes;
+  more_pairs = goes.pairs;
+  calls = goes.calls;
+  begun = goes.begun;
+  placed = goes.placed;
+  files = goes.files;
+  shelf_later = goes.faults;
+  later = later;
+  wants_later = wants_later;
+}
+
+-- an answer that was sent
+pub answer_done : (old new : Site) (number : ℕ) (command : Command) (answer : Answer) (before after : Outlet) (told : Told) → Answers old number command new answer → told ≡ answer.told → IsSent before answer.line.items after
+    → Done number (Some command) (scene old) before (scene new) after told
+answer_done old new number command answer before after told a is sent = record {
+  passes = passes_of old new command before after a.goes sent.later sent.wants_later;
+  finishes = subst (λ (t : Told). Finishes (Carried (world_at old) number (Some command)) t before.written after.written (world_at new)) (sym is) (answer.line.items, a.carries, sent.appends);
+  paid = a.paid;
+  tallies = subst (λ (t : Told). Tallies (Registers command) (Compacts command) t (scene old) (scene new)) (sym is) a.tallies;
+}
+
+pub replies : (command : Command) → IsAnswering command → Some command ≡ Some form.Nothing → ⊥
+replies command answering is = let same : command ≡ form.Nothing = cc is in subst IsAnswering same answering
+
+lists_none : (command : Command) → IsAnswering command → IsList command → ⊥
+lists_none (form.List q n w k) answering list = answering
+lists_none _ answering list = list
+
+-- an answer that wasn't
+pub answer_stopped : (old new : Site) (number : ℕ) (command : Command) (answer : Answer) (before after : Outlet) (why : Stop) → Replies (Some command) → Answers old number command new answer → IsUnsent before answer.line.items after why
+    → Stopped number (Some command) (scene old) before (scene new) after why
+answer_stopped old new number command answer before after why replied a unsent = record {
+  passes = passes_of old new command before after a.goes unsent.later unsent.wants_later;
+  halts = inr (answer.told, answer.line.items, a.carries, unsent.front);
+  fault = λ is. (replied, unsent.fault is);
+  shelf_fault = λ is. absurd (unsent.no_shelf is);
+  want = λ is. inr (inl (unsent.want is));
+}
+
+-- a command that was stopped before it had an answer
+pub stays_stopped : (old new : Site) (number : ℕ) (command : Command) (before : Outlet) (why : Stop) → IsAnswering command → Stays old number command new why → Stopped number (Some command) (scene old) before (scene new) before why
+stays_stopped old new number command before why answering s = record {
+  passes = passes_of old new command before before s.goes (omega arith) (omega arith);
+  halts = elim s.state [
+    | inl same ↦ inl (record { written = kept_same before.written; state = same })
+    | inr more ↦ inr (more.1.0, more.1.1, more.1.2, nothing_front before.written more.1.1)
+  ];
+  fault = λ is. absurd (s.sink is);
+  shelf_fault = λ is. let file = s.shelf is in (
+    file.0,
+    file.1,
+    elim s.state [
+      | inl same ↦ record { written = kept_same before.written; state = same }
+      | inr more ↦ absurd (more.0 file.0)
+    ],
+  );
+  want = λ is. inl (lists_none command answering);
+}
+
+-- a command that was stopped before it wrote anything
+pub unstarted : (old new : Site) (number : ℕ) (command : Command) (before : Outlet) → Goes old command new → state_of new.held ≡ state_of old.held → Stopped number (Some command) (scene old) before (scene new) before stop.NoMemory
+unstarted old new number command before goes same =
+    let left : Leaves (world_at old) before.written before.written (world_at new) = record { written = kept_same before.written; state = same } in
+    record {
+      passes = passes_of old new command before before goes (omega arith) (omega arith);
+      halts = inl left;
+      fault = λ e. absurd (no_sink e);
+      shelf_fault = λ e. no_shelf e;
+      want = λ e. inr (inr left);
+    }
+
+-- ---- nothing was done to what is held
+pub passes_by : (meaning : Option Command) (h : Held) (files : Option Files) (faults looks pairs places : ℕ) (before after : Outlet) → IsHeld h → before.faults ≤ after.faults → before.wants ≤ after.wants
+    → Passes meaning (seen (standing_of h) files faults looks pairs places) before (seen (standing_of h) files faults looks pairs places) after
+passes_by meaning h files faults looks pairs places before after is later wants_later = record {
+  more_nodes = inl (omega arith);
+  more_pairs = omega arith;
+  calls = omega arith;
+  begun = (no_steps, inl refl, none_paid looks pairs pairs refl);
+  placed = none_placed_part (length h.store) (length h.store) (covered_of h.book) places (covered-within h.store h.book is.serves);
+  files = inl refl;
+  shelf_later = omega arith;
+  later = later;
+  wants_later = wants_later;
+}
+
+pub calm_tallied : (registers compacts : Type 0) (told : Told) (h : Held) (files : Option Files) (faults looks pairs places : ℕ) → (registers → ⊥) → (compacts → ⊥)
+    → Tallies registers compacts told (seen (standing_of h) files faults looks pairs places) (seen (standing_of h) files faults looks pairs places)
+calm_tallied registers compacts told h files faults looks pairs places other kept =
+    none_tallied registers compacts told (seen (standing_of h) files faults looks pairs places) (seen (standing_of h) files faults looks pairs places) (never registers other told) (never compacts kept told) (omega arith) (omega arith) (none_placed (length h.store) (covered_of h.book) places)
+
+-- the memory ran out before anything was done
+pub not_begun : (number : ℕ) (meaning : Option Command) (h : Held) (files : Option Files) (faults looks pairs places : ℕ) (before : Outlet) → IsHeld h
+    → Stopped number meaning (seen (standing_of h) files faults looks pairs places) before (seen (standing_of h) files faults looks pairs places) before stop.NoMemory
+not_begun number meaning h files faults looks pairs places before is =
+    let here = world (state_of h) files in
+    let left : Leaves here before.written before.written here = record { written = kept_same before.written; state = refl } in
+    record {
+      passes = passes_by meaning h files faults looks pairs places before before is (omega arith) (omega arith);
+      halts = inl left;
+      fault = λ e. absurd (no_sink e);
+      shelf_fault = λ e. no_shelf e;
+      want = λ e. inr (inr left);
+    }
+
+pub quiet_done : (number : ℕ) (h : Held) (files : Option Files) (faults looks pairs places : ℕ) (before : Outlet) → IsHeld h
+    → Done number (Some form.Nothing) (seen (standing_of h) files faults looks pairs places) before (seen (standing_of h) files faults looks pairs places) before Quiet
+quiet_done number h files faults looks pairs places before is = record {
+  passes = passes_by (Some form.Nothing) h files faults looks pairs places before before is (omega arith) (omega arith);
+  finishes = ([], (refl, refl, refl), nothing_written before.written);
+  paid = (no_steps, refl, none_paid looks pairs pairs refl);
+  tallies = calm_tallied (Registers form.Nothing) (Compacts form.Nothing) Quiet h files faults looks pairs places (λ no. no) (λ no. no);
+}
+
+none_of : (Kind : Command → Type 0) → Of Kind None → ⊥
+none_of Kind h = h
+
+-- a line that is no command
+pub syntax_done : (number : ℕ) (h : Held) (files : Option Files) (faults looks pairs places : ℕ) (answer : Answer) (before after : Outlet) (told : Told) → IsHeld h → answer.told ≡ Refused
+    → answer.line.items ≡ refusal_text number Syntax → told ≡ answer.told → IsSent before answer.line.items after
+    → Done number None (seen (standing_of h) files faults looks pairs places) before (seen (standing_of h) files faults looks pairs places) after told
+syntax_done number h files faults looks pairs places answer before after told is refused written same sent = record {
+  passes = passes_by None h files faults looks pairs places before after is sent.later sent.wants_later;
+  finishes = (answer.line.items, (same ∙ refused, written, refl), sent.appends);
+  paid = (no_steps, refl, none_paid looks pairs pairs refl);
+  tallies = calm_tallied (Of Registers None) (Of Compacts None) told h files faults looks pairs places (none_of Registers) (none_of Compacts);
+}
+
+pub syntax_stopped : (number : ℕ) (h : Held) (files : Option Files) (faults looks pairs places : ℕ) (answer : Answer) (before after : Outlet) (why : Stop) → IsHeld h → answer.line.items ≡ refusal_text number Syntax
+    → IsUnsent before answer.line.items after why
+    → Stopped number None (seen (standing_of h) files faults looks pairs places) before (seen (standing_of h) files faults looks pairs places) after why
+syntax_stopped number h files faults looks pairs places answer before after why is written unsent = record {
+  passes = passes_by None h files faults looks pairs places before after is unsent.later unsent.wants_later;
+  halts = inr (Refused, answer.line.items, (refl, written, refl), unsent.front);
+  fault = λ e. ((λ nothing. let bad : ⊥ = cc nothing in bad), unsent.fault e);
+  shelf_fault = λ e. absurd (unsent.no_shelf e);
+  want = λ e. inl (λ list. list);
+}

@@ -1,0 +1,28 @@
+use Rattle.std.proofs.Common.{rules, Some, sym, subst}
+use Rattle.script_syntax.specs.declared.form.Command.{Command}
+use Rattle.span_language.specs.declared.told.Told.TheVariants.{Quiet}
+use Rattle.span_run.specs.Answers.{IsLimited}
+use Rattle.span_run.specs.Carried.{Done, outlet}
+use Rattle.span_run.specs.Held.{standing_of}
+use Rattle.span_run.specs.Scene.{seen}
+use Rattle.span_run.proofs.Sending.{quiet_done}
+use Rattle.span_run.proofs.Reserved.{is_answering}
+use Rattle.span_run.proofs.carrying.carry.Goals as goal
+
+pub returns-in-Nothing-clause-done : goal.returns-in-Nothing-clause-done
+returns-in-Nothing-clause-done g c =
+    let f = g.F.Shelf in
+    let k = g.K.Sink in
+    let here = seen (standing_of c.args.held.now) (f.files c.args.shelf.now) (f.faults c.args.shelf.now) c.args.looks.now c.args.pairs.now c.args.places.now in
+    let sink = outlet (k.written c.args.out.now) (k.faults c.args.out.now) (k.wants c.args.out.now) in
+    subst (λ (m : Command). Done c.args.context.number (Some m) here sink here sink Quiet) (sym c.in-Nothing.is)
+    (quiet_done c.args.context.number c.args.held.now (f.files c.args.shelf.now) (f.faults c.args.shelf.now) c.args.looks.now c.args.pairs.now c.args.places.now sink c.requires.held)
+
+pub reply-requires-clause-answering : goal.reply-requires-clause-answering
+reply-requires-clause-answering g c = let answering = is_answering c.args.command c.in_default.not-Nothing c.in_default.not-Names c.in_default.not-List c.in_default.not-ListAll in search rules
+
+pub list_all-requires-clause-some : goal.list_all-requires-clause-some
+list_all-requires-clause-some g c = let some = (subst IsLimited c.in-ListAll.is c.requires.limited).0 in search rules
+
+pub list_all-requires-clause-few : goal.list_all-requires-clause-few
+list_all-requires-clause-few g c = let few = (subst IsLimited c.in-ListAll.is c.requires.limited).1 in search rules

@@ -1,0 +1,40 @@
+use Rattle.std.proofs.lemmas.Result.{err_from_is_err_and}
+use Rattle.span_run.specs.Site.{at}
+use Rattle.span_run.proofs.CarryLemmas.{if_err_map}
+use Rattle.span_run.proofs.Goes.{if_ok_both}
+use Rattle.span_run.proofs.Sending.{answer_done, answer_stopped, replies, stays_stopped}
+use Rattle.span_run.proofs.carrying.reply.Goals as goal
+
+pub returns-in_err-answer-clause-held : goal.returns-in_err-answer-clause-held
+returns-in_err-answer-clause-held g c = c.in_err-answer.ensures.stopped.goes.held
+
+pub returns-in_err-answer-clause-stopped : goal.returns-in_err-answer-clause-stopped
+returns-in_err-answer-clause-stopped g c =
+    let f = g.F.Shelf in
+    let n = c.answer.new in
+    let p = err_from_is_err_and c.from_residual.result c.from_residual.ensures.1 in
+    rw (p.1, p.2) (stays_stopped
+    (at c.args.held.now (f.files c.args.shelf.now) (f.faults c.args.shelf.now) c.args.looks.now c.args.pairs.now c.args.places.now)
+    (at n.held (f.files n.shelf) (f.faults n.shelf) n.looks n.pairs n.places)
+    c.args.context.number c.args.command _ c.in_err-answer.field-0.0 c.requires.answering c.in_err-answer.ensures.stopped)
+
+pub returns-clause-held : goal.returns-clause-held
+returns-clause-held g c = c.in_ok-answer.ensures.done.goes.held
+
+pub returns-clause-done : goal.returns-clause-done
+returns-clause-done g c =
+    let f = g.F.Shelf in
+    let n = c.answer.new in
+    if_ok_both c.send.result _ _ _ (λ told is sent. answer_done
+    (at c.args.held.now (f.files c.args.shelf.now) (f.faults c.args.shelf.now) c.args.looks.now c.args.pairs.now c.args.places.now)
+    (at n.held (f.files n.shelf) (f.faults n.shelf) n.looks n.pairs n.places)
+    c.args.context.number c.args.command c.in_ok-answer.answer _ _ told c.in_ok-answer.ensures.done is sent) c.send.ensures.told c.send.ensures.done
+
+pub returns-clause-stopped : goal.returns-clause-stopped
+returns-clause-stopped g c =
+    let f = g.F.Shelf in
+    let n = c.answer.new in
+    if_err_map c.send.result _ _ (λ why unsent. answer_stopped
+    (at c.args.held.now (f.files c.args.shelf.now) (f.faults c.args.shelf.now) c.args.looks.now c.args.pairs.now c.args.places.now)
+    (at n.held (f.files n.shelf) (f.faults n.shelf) n.looks n.pairs n.places)
+    c.args.context.number c.args.command c.in_ok-answer.answer _ _ why (replies c.args.command c.requires.answering) c.in_ok-answer.ensures.done unsent) c.send.ensures.stopped

@@ -1,0 +1,13 @@
+use Rattle.std.proofs.Common.{◌≤◌, ◌+◌, List}
+use Rattle.span_enum.specs.Members.{Tuple}
+use Rattle.span_run.specs.Every.{AreAnswered, rest_text}
+use Rattle.span_run.proofs.Written.{IsListing}
+use Rattle.span_run.proofs.every.list_batch.Given as goal
+
+abbrev pub invariant-loop-place : goal.invariant-loop-place
+invariant-loop-place g l = record {
+  so_far : (lists : List (List Tuple)) → AreAnswered l.fn.dfa l.fn.view.store.now l.docs lists
+      → IsListing (g.K.Sink.written l.fn.out) (g.K.Sink.written l.out) (rest_text l.vars l.fn.limit l.docs lists (l.first + l.place)) (rest_text l.vars l.fn.limit l.docs lists l.first);
+  later : g.K.Sink.faults l.fn.out ≤ g.K.Sink.faults l.out;
+  wants_later : g.K.Sink.wants l.fn.out ≤ g.K.Sink.wants l.out;
+}

@@ -1,0 +1,17 @@
+use Rattle.std.proofs.Common.{◌≤◌, ◌-◌, List}
+use Rattle.span_enum.specs.Members.{Tuple}
+use Rattle.span_run.specs.Every.{AreAnswered, every_text, rest_text}
+use Rattle.span_run.proofs.Written.{IsListing}
+use Rattle.span_run.proofs.every.list_documents.Given as goal
+
+abbrev pub invariant-loop-first : goal.invariant-loop-first
+invariant-loop-first g l = record {
+  within : l.first ≤ l.all;
+  so_far : (lists : List (List Tuple)) → AreAnswered l.dfa l.view.store.now l.docs lists
+      → IsListing (g.K.Sink.written l.fn.out) (g.K.Sink.written l.out) (rest_text l.vars l.limit l.docs lists l.first) (every_text l.vars l.limit l.docs lists);
+  later : g.K.Sink.faults l.fn.out ≤ g.K.Sink.faults l.out;
+  wants_later : g.K.Sink.wants l.fn.out ≤ g.K.Sink.wants l.out;
+}
+
+abbrev pub decreases-loop-first : goal.decreases-loop-first
+decreases-loop-first g l = l.all - l.first

@@ -1,0 +1,52 @@
+use Rattle.std.proofs.Common.{◌≡◌, ◌∙◌, inl, inr, refl, sym, ap, subst, length, List, ℕ, Option, Some, None}
+use Rattle.std.specs.Prelude.{option_map}
+use Rattle.doc_book.specs.Docs as book
+use Rattle.edit_expr.specs.Values.{plain, text_at}
+use Rattle.query_book.specs.Book.{queries_of}
+use Rattle.span_language.specs.State.{value_of}
+use Rattle.span_types.specs.Query.{Query}
+use Rattle.span_types.specs.Rel.{names_of}
+use Rattle.span_language.specs.State.{world}
+use Rattle.span_run.specs.Held.{state_of}
+use Rattle.span_run.proofs.CarryLemmas.{none_of_err, some_of_ok}
+use Rattle.span_run.proofs.QueryLemmas.{document_is, document_lacks}
+use Rattle.span_run.proofs.ReplaceLemmas.{not_one}
+use Rattle.span_run.proofs.replacing.find_sources.Goals as goal
+
+pub returns-in-Err-NoSuchDocument-clause-err : goal.returns-in-Err-NoSuchDocument-clause-err
+returns-in-Err-NoSuchDocument-clause-err c =
+    let h = c.args.held.now in
+    inl (document_lacks h.store h.docs c.args.source (ap (book.root_of h.docs) (sym c.bytes.ensures.value) ∙ none_of_err _ _ _ c.in-Err-NoSuchDocument.ensures), refl)
+
+pub returns-in-Err-NoSuchDocument-get-clause-err : goal.returns-in-Err-NoSuchDocument-get-clause-err
+returns-in-Err-NoSuchDocument-get-clause-err c =
+    let h = c.args.held.now in
+    let document = document_is h.store h.docs c.args.source c.in-Ok.root (ap (book.root_of h.docs) (sym c.bytes.ensures.value) ∙ some_of_ok _ _ _ c.in-Ok.ensures) in
+    inr (inl (
+      text_at h.store c.in-Ok.root,
+      document,
+      document_lacks h.store h.docs c.args.by (ap (book.root_of h.docs) (sym c.bytes-2.ensures.value) ∙ none_of_err _ _ _ c.in-Err-NoSuchDocument-get.ensures),
+      refl,
+    ))
+
+pub returns-in-Err-clause-err : goal.returns-in-Err-clause-err
+returns-in-Err-clause-err c =
+    let h = c.args.held.now in
+    let document = document_is h.store h.docs c.args.source c.in-Ok.root (ap (book.root_of h.docs) (sym c.bytes.ensures.value) ∙ some_of_ok _ _ _ c.in-Ok.ensures) in
+    let other = document_is h.store h.docs c.args.by c.in-Ok-get.other (ap (book.root_of h.docs) (sym c.bytes-2.ensures.value) ∙ some_of_ok _ _ _ c.in-Ok-get.ensures) in
+    inr (inr (inl (
+      text_at h.store c.in-Ok.root,
+      text_at h.store c.in-Ok-get.other,
+      document,
+      other,
+      ap (λ (n : List ℕ). value_of (queries_of h.book) n) (sym c.bytes-3.ensures.value) ∙ c.in-Err.ensures.none,
+      refl,
+    )))
+
+pub returns-then-count-ne1-clause-err : goal.returns-then-count-ne1-clause-err
+returns-then-count-ne1-clause-err c =
+    let h = c.args.held.now in
+    let document = document_is h.store h.docs c.args.source c.in-Ok.root (ap (book.root_of h.docs) (sym c.bytes.ensures.value) ∙ some_of_ok _ _ _ c.in-Ok.ensures) in
+    let other = document_is h.store h.docs c.args.by c.in-Ok-get.other (ap (book.root_of h.docs) (sym c.bytes-2.ensures.value) ∙ some_of_ok _ _ _ c.in-Ok-get.ensures) in
+    let names : option_map names_of (value_of (queries_of h.book) c.args.query) ≡ Some c.in-Ok-vars.vars.now = ap (λ (n : List ℕ). option_map names_of (value_of (queries_of h.book) n)) (sym c.bytes-3.ensures.value) ∙ c.in-Ok-vars.ensures in
+    inr (inr (inr (not_one (world (state_of h) None) c.args.query c.args.source c.args.by (text_at h.store c.in-Ok.root) (text_at h.store c.in-Ok-get.other) c.in-Ok-vars.vars.now c.count-count.result document other names c.count-count.ensures.count c.if-count-ne1.true)))

@@ -1,0 +1,33 @@
+use Rattle.std.proofs.Common.{◌∙◌, ap, refl, sym, subst, List}
+use Rattle.doc_book.specs.declared.Doc.{Doc}
+use Rattle.script_syntax.specs.declared.form.Command.TheVariants as form
+use Rattle.span_language.specs.State.{Named}
+use Rattle.span_language.specs.declared.told.Stop.TheVariants as stop
+use Rattle.span_run.specs.Answers.{Stays}
+use Rattle.span_run.specs.Held.{AreKept, plain_versions, state_of}
+use Rattle.span_run.specs.Site.{at}
+use Rattle.span_run.proofs.HeldLemmas.{AreKept-put, plain_versions-put}
+use Rattle.span_run.proofs.VersionLemmas.{mark_carries}
+use Rattle.span_run.proofs.Goes.{marked_answers, passed_on, stays}
+use Rattle.span_run.proofs.versions.mark.Goals as goal
+
+pub returns-in_err-line-clause-stopped : goal.returns-in_err-line-clause-stopped
+returns-in_err-line-clause-stopped c = λ files faults looks pairs places. passed_on c.from_residual.result _ c.from_residual.ensures.1 (stays c.args.held.now c.args.number (form.MarkDocs c.args.name) files faults looks pairs places c.requires)
+
+pub returns-in_err-mark-clause-stopped : goal.returns-in_err-mark-clause-stopped
+returns-in_err-mark-clause-stopped c = λ files faults looks pairs places.
+    let h = c.args.held.now in
+    let r = c.from_residual-in_err-mark in
+    passed_on r.result _ r.ensures.1
+    (subst (λ (v : Named (List Doc)). Stays (at h files faults looks pairs places) c.args.number (form.MarkDocs c.args.name) (at (record h { versions = v }) files faults looks pairs places) stop.NoMemory) (sym c.in_err-mark.ensures.err)
+    (stays h c.args.number (form.MarkDocs c.args.name) files faults looks pairs places c.requires))
+
+pub returns-clause-done : goal.returns-clause-done
+returns-clause-done c = λ files faults looks pairs places.
+    let h = c.args.held.now in
+    let is = c.in_ok-mark.ensures.ok in
+    let versions = c.mark.new.self in
+    marked_answers h h.docs versions c.args.number (form.MarkDocs c.args.name) c.accepted.result files faults looks pairs places c.requires c.requires.live
+    (subst (AreKept h.store) (sym is) (AreKept-put h.store h.versions c.args.name h.docs c.requires.kept c.requires.live)) (λ no. no) (λ no. no) refl
+    (mark_carries (state_of h) (plain_versions h.store versions) c.args.number c.args.name c.accepted.result.told c.accepted.result.line.items files
+    (ap (plain_versions h.store) is ∙ plain_versions-put h.store h.versions c.args.name h.docs) c.accepted.ensures.0 (ap (λ v. v.items) c.accepted.ensures.1 ∙ c.in_ok-line.ensures))

@@ -1,0 +1,75 @@
+-- What a command does, and what it costs.
+use Rattle.std.specs.Prelude.{◌≡◌, ◌⊎◌, ℕ, ◌+◌, ◌≤◌, List, Option, Result, IfErr, IfOk, length}
+use Rattle.edge_io.specs.Causes.{Rose}
+use Rattle.edge_io.specs.Files.{Files}
+use Rattle.slp_model.specs.Nodes.{pair_count}
+use Rattle.script_syntax.specs.declared.form.Command.{Command}
+use Rattle.script_syntax.specs.declared.form.Command.TheVariants as form
+use Rattle.query_book.specs.Serving.{covered_of}
+use Rattle.span_language.specs.Allowance.{PaysFor, PaysForPart}
+use Rattle.span_language.specs.Counts.{Compacts, PlacesPart, Registers}
+use Rattle.span_language.specs.Step.{Carries, IsOfFile, IsSave, KeepsFiles}
+use Rattle.span_run.specs.declared.answer.Answer.{Answer}
+use Rattle.span_language.specs.declared.told.Told.{Told}
+use Rattle.span_language.specs.declared.told.Stop.{Stop}
+use Rattle.span_language.specs.declared.told.Stop.TheVariants as stop
+use Rattle.span_run.specs.declared.held.Held.{Held}
+use Rattle.span_run.specs.Held.{IsHeld, state_of}
+use Rattle.span_run.specs.Site.{Site, at, world_at, counters_at}
+use Rattle.span_run.specs.Scene.{Tallies, scene}
+
+-- what holds however a command ends: the invariant, what was paid at most, and that the files stay but perhaps one that is saved to
+pub record Goes (old : Site) (command : Command) (new : Site) : Type 0 where
+  pub held : IsHeld new.held
+  pub nodes : (length old.held.store ≤ length new.held.store) ⊎ Compacts command
+  pub pairs : pair_count new.held.store + old.pairs ≤ pair_count old.held.store + new.pairs
+  pub calls : old.pairs ≤ new.pairs
+  pub begun : PaysForPart (world_at old) command (counters_at old) (counters_at new)
+  pub placed : PlacesPart (length old.held.store) (length new.held.store) (covered_of old.held.book) old.places new.places
+  pub files : KeepsFiles (λ file. IsSave file command) old.files new.files
+  pub faults : old.faults ≤ new.faults
+
+-- the command has this answer here, and leaves that site
+pub record Answers (old : Site) (number : ℕ) (command : Command) (new : Site) (answer : Answer) : Type 0 where
+  pub goes : Goes old command new
+  pub carries : Carries (world_at old) number command answer.told answer.line.items (world_at new)
+  pub paid : PaysFor (world_at old) command (counters_at old) (counters_at new)
+  pub tallies : Tallies (Registers command) (Compacts command) answer.told (scene old) (scene new)
+
+-- the command was stopped for this reason: the state is as before, or, where it is no command of a file, as an answer allows
+pub record Stays (old : Site) (number : ℕ) (command : Command) (new : Site) (why : Stop) : Type 0 where
+  pub goes : Goes old command new
+  pub state : (state_of new.held ≡ state_of old.held)
+      ⊎ ((IsOfFile command → ⊥) × ((told : Told) × (reply : List ℕ) × Carries (world_at old) number command told reply (world_at new)))
+  pub shelf : why ≡ stop.ShelfFault → IsOfFile command × Rose old.faults new.faults
+  pub sink : why ≡ stop.OutFault → ⊥
+
+-- the same of a command that needs neither files nor counters
+abbrev pub AnswersFreely : Held → ℕ → Command → Held → Result Answer Stop → Type 0
+AnswersFreely old number command new result = (files : Option Files) (faults looks pairs places : ℕ)
+    → IfOk result (Answers (at old files faults looks pairs places) number command (at new files faults looks pairs places))
+
+abbrev pub StaysFreely : Held → ℕ → Command → Held → Result Answer Stop → Type 0
+StaysFreely old number command new result = (files : Option Files) (faults looks pairs places : ℕ)
+    → IfErr result (Stays (at old files faults looks pairs places) number command (at new files faults looks pairs places))
+
+-- the command's reply is one value: only Nothing has none, and only the listings have many lines
+abbrev pub IsAnswering : Command → Type 0
+IsAnswering form.Nothing = ⊥
+IsAnswering form.Names = ⊥
+IsAnswering (form.List query name after limit) = ⊥
+IsAnswering (form.ListAll query limit) = ⊥
+IsAnswering _ = Unit {0}
+
+-- the form is reserved, and no command of the program
+abbrev pub IsReserved : Command → Type 0
+IsReserved (form.UnionQuery name left right) = Unit {0}
+IsReserved (form.JoinQuery name left right) = Unit {0}
+IsReserved (form.ProjectQuery name source keep) = Unit {0}
+IsReserved form.Compact = Unit {0}
+IsReserved _ = ⊥
+
+-- a limit on the answers on each document is one that a line can give
+abbrev pub IsLimited : Command → Type 0
+IsLimited (form.ListAll query limit) = (1 ≤ limit) × (limit ≤ 10000)
+IsLimited _ = Unit {0}

@@ -1,0 +1,73 @@
+-- What a line of a meaning does to a session and to the outside.
+use Rattle.std.specs.Prelude.{◌≡◌, ◌⊎◌, ℕ, ◌+◌, ◌≤◌, List, Option}
+use Rattle.std.specs.Io.KnownBytes.{Appends}
+use Rattle.edge_io.specs.Causes.{Rose}
+use Rattle.script_syntax.specs.declared.form.Command.{Command}
+use Rattle.span_language.specs.Allowance.{Allowance, IsPaid, no_steps}
+use Rattle.span_language.specs.Counts.{Compacts, PlacesPart, Registers}
+use Rattle.span_language.specs.Means.{Carried, IsAllowance, Means, Of, Replies}
+use Rattle.span_language.specs.Step.{AppendsFront, Finishes, Halts, IsList, IsOfFile, IsSave, KeepsFiles, Leaves}
+use Rattle.span_language.specs.declared.told.Told.{Told}
+use Rattle.span_language.specs.declared.told.Stop.{Stop}
+use Rattle.span_language.specs.declared.told.Stop.TheVariants as stop
+use Rattle.span_run.specs.Scene.{Scene, Tallies, world_in, counters_in}
+
+-- a sink: what it was given, where it tells, how often it failed, and how often it found no memory
+pub record Outlet : Type 0 where
+  pub written : Option (List ℕ)
+  pub faults : ℕ
+  pub wants : ℕ
+
+abbrev pub outlet : Option (List ℕ) → ℕ → ℕ → Outlet
+outlet written faults wants = record { written = written; faults = faults; wants = wants }
+
+-- what holds however it ends
+pub record Passes (meaning : Option Command) (old : Scene) (before : Outlet) (new : Scene) (after : Outlet) : Type 0 where
+  pub more_nodes : (old.standing.nodes ≤ new.standing.nodes) ⊎ Of Compacts meaning
+  pub more_pairs : new.standing.pairs + old.pairs ≤ old.standing.pairs + new.pairs
+  pub calls : old.pairs ≤ new.pairs
+  pub begun : (a : Allowance) × ((a ≡ no_steps) ⊎ IsAllowance (world_in old) meaning a) × IsPaid a (counters_in old) (counters_in new)
+  pub placed : PlacesPart old.standing.nodes new.standing.nodes old.standing.covered old.places new.places
+  pub files : KeepsFiles (λ file. Of (IsSave file) meaning) old.files new.files
+  pub shelf_later : old.faults ≤ new.faults
+  pub later : before.faults ≤ after.faults
+  pub wants_later : before.wants ≤ after.wants
+
+-- it was done, and told this
+pub record Done (number : ℕ) (meaning : Option Command) (old : Scene) (before : Outlet) (new : Scene) (after : Outlet) (told : Told) : Type 0 where
+  pub passes : Passes meaning old before new after
+  pub finishes : Finishes (Carried (world_in old) number meaning) told before.written after.written (world_in new)
+  pub paid : (a : Allowance) × IsAllowance (world_in old) meaning a × IsPaid a (counters_in old) (counters_in new)
+  pub tallies : Tallies (Of Registers meaning) (Of Compacts meaning) told old new
+
+-- it was stopped for this reason
+pub record Stopped (number : ℕ) (meaning : Option Command) (old : Scene) (before : Outlet) (new : Scene) (after : Outlet) (why : Stop) : Type 0 where
+  pub passes : Passes meaning old before new after
+  pub halts : Halts (Carried (world_in old) number meaning) (world_in old) before.written after.written (world_in new)
+  pub fault : why ≡ stop.OutFault → Replies meaning × Rose before.faults after.faults
+  pub shelf_fault : why ≡ stop.ShelfFault → Of IsOfFile meaning × Rose old.faults new.faults × Leaves (world_in old) before.written after.written (world_in new)
+  pub want : why ≡ stop.NoMemory → (Of IsList meaning → ⊥) ⊎ (Rose before.wants after.wants ⊎ Leaves (world_in old) before.written after.written (world_in new))
+
+-- a piece was written whole
+pub record IsSent (before : Outlet) (piece : List ℕ) (after : Outlet) : Type 0 where
+  pub appends : Appends before.written after.written piece
+  pub later : before.faults ≤ after.faults
+  pub wants_later : before.wants ≤ after.wants
+
+-- a front of it was, and then the sink took no more for this reason
+pub record IsUnsent (before : Outlet) (piece : List ℕ) (after : Outlet) (why : Stop) : Type 0 where
+  pub front : AppendsFront before.written after.written piece
+  pub later : before.faults ≤ after.faults
+  pub wants_later : before.wants ≤ after.wants
+  pub fault : why ≡ stop.OutFault → Rose before.faults after.faults
+  pub want : why ≡ stop.NoMemory → Rose before.wants after.wants
+  pub no_shelf : why ≡ stop.ShelfFault → ⊥
+
+-- the line was done, by what it means, and told this
+abbrev pub IsDone : List ℕ → ℕ → Scene → Outlet → Scene → Outlet → Told → Type 0
+IsDone line number old before new after told = (meaning : Option Command) × Means line meaning × Done number meaning old before new after told
+
+-- the line was stopped for this reason: where the memory ran out while it was read nothing was touched, and else by what it means
+abbrev pub IsStopped : List ℕ → ℕ → Scene → Outlet → Scene → Outlet → Stop → Type 0
+IsStopped line number old before new after why = ((why ≡ stop.NoMemory) × (new ≡ old) × (after ≡ before))
+    ⊎ ((meaning : Option Command) × Means line meaning × Stopped number meaning old before new after why)

@@ -1,0 +1,50 @@
+-- What a listing of the answers on every document writes.
+use Rattle.std.specs.Prelude.{◌≡◌, ℕ, ◌≤◌, ◌^◌, List, [], ◌∷◌, ◌++◌, Option, Some, length, drop, slice_get}
+use Rattle.std.specs.Io.KnownBytes.{Appends}
+use Rattle.slp_model.specs.declared.Node.{Node}
+use Rattle.marker_dfa.specs.Deterministic.{DeterministicAutomaton}
+use Rattle.span_enum.specs.Listing.{text_of}
+use Rattle.span_enum.specs.Members.{Tuple, AreAnswersOf}
+use Rattle.span_types.specs.Query.{Query}
+use Rattle.doc_book.specs.declared.Doc.{Doc}
+use Rattle.edit_expr.specs.Values.{text_at}
+use Rattle.span_language.specs.Listed.{AreListed, doc_line, done_line, first_page_text}
+use Rattle.span_language.specs.State.{Documents, Named, value_of}
+
+-- there is a query of this name
+pub record IsRegistered (queries : Named Query) (name : List ℕ) : Type 0 where
+  pub query : Query
+  pub there : value_of queries name ≡ Some query
+
+-- the texts are no longer than a text may be
+abbrev pub AreShort : List Node → List Doc → Type 0
+AreShort ns ds = (place : ℕ) (d : Doc) → slice_get ds place ≡ Some d → length (text_at ns d.root) ≤ 2 ^ 48
+
+-- for each document the list of the automaton's answers on its text
+abbrev pub AreAnswered : DeterministicAutomaton → List Node → List Doc → List (List Tuple) → Type 0
+AreAnswered a ns [] [] = Unit {0}
+AreAnswered a ns [] (l ∷ ls) = ⊥
+AreAnswered a ns (d ∷ ds) [] = ⊥
+AreAnswered a ns (d ∷ ds) (l ∷ ls) = AreAnswersOf a (text_of ns d.root) l × AreAnswered a ns ds ls
+
+-- for each document its line and the first n of its answers, and last `done`
+abbrev pub every_text : List (List ℕ) → ℕ → List Doc → List (List Tuple) → List ℕ
+every_text names n [] ls = done_line
+every_text names n (d ∷ ds) [] = done_line
+every_text names n (d ∷ ds) (l ∷ ls) = doc_line d.name ++ (first_page_text names n l ++ every_text names n ds ls)
+
+-- the same of the documents from a place on
+abbrev pub rest_text : List (List ℕ) → ℕ → List Doc → List (List Tuple) → ℕ → List ℕ
+rest_text names n ds ls place = every_text names n (drop place ds) (drop place ls)
+
+-- of the whole all was written but what is left
+abbrev pub WritesUpTo : Option (List ℕ) → Option (List ℕ) → List ℕ → List ℕ → Type 0
+WritesUpTo before after left whole = (done : List ℕ) × Appends before after done × (whole ≡ done ++ left)
+
+-- the reply with the answers of the query of this name on each document is written
+pub record ListsEvery (Writes : List ℕ → Type 0) (queries : Named Query) (name : List ℕ) (documents : Documents) (n : ℕ) : Type 0 where
+  pub query : Query
+  pub there : value_of queries name ≡ Some query
+  pub reply : List ℕ
+  pub listed : AreListed query n documents reply
+  pub writes : Writes reply

@@ -1,0 +1,44 @@
+-- A site as callers of a session see it.
+use Rattle.std.specs.Prelude.{◌≡◌, ℕ, ◌+◌, ◌*◌, ◌≤◌, Option}
+use Rattle.edge_io.specs.Files.{Files}
+use Rattle.span_language.specs.State.{World, world}
+use Rattle.span_language.specs.Allowance.{Counters, counters}
+use Rattle.span_language.specs.Counts.{IsOnce, Places}
+use Rattle.span_language.specs.declared.told.Told.{Told}
+use Rattle.span_run.specs.Held.{Standing, standing_of}
+use Rattle.span_run.specs.Site.{Site}
+
+-- what the session shows, the files where they are told, how often the shelf failed, and the counters
+pub record Scene : Type 0 where
+  pub standing : Standing
+  pub files : Option Files
+  pub faults : ℕ
+  pub looks : ℕ
+  pub pairs : ℕ
+  pub places : ℕ
+
+abbrev pub seen : Standing → Option Files → ℕ → ℕ → ℕ → ℕ → Scene
+seen standing files faults looks pairs places =
+    record { standing = standing; files = files; faults = faults; looks = looks; pairs = pairs; places = places }
+
+abbrev pub scene : Site → Scene
+scene s = seen (standing_of s.held) s.files s.faults s.looks s.pairs s.places
+
+abbrev pub world_in : Scene → World
+world_in s = world s.standing.state s.files
+
+abbrev pub counters_in : Scene → Counters
+counters_in s = counters s.looks s.pairs
+
+-- what a line says of nodes, pairs and tables, where such a line may register a query, or compact: only an accepted line that compacts
+-- drops nodes, and beside pairs no more than the 256 bytes
+pub record Tallies (registers compacts : Type 0) (told : Told) (old new : Scene) : Type 0 where
+  pub queries : ℕ
+  pub registered : IsOnce registers told queries
+  pub compactions : ℕ
+  pub compacted : IsOnce compacts told compactions
+  pub dropped : ℕ
+  pub none_dropped : compactions ≡ 0 → dropped ≡ 0
+  pub nodes : old.standing.nodes ≤ new.standing.nodes + dropped
+  pub pairs : new.standing.pairs + dropped + old.pairs ≤ old.standing.pairs + new.pairs + 256 * compactions
+  pub placed : Places queries dropped new.standing.nodes old.standing.covered new.standing.covered old.places new.places

@@ -1,0 +1,90 @@
+//! One match over the commands whose reply is one value.
+ghost use Rattle.std.specs.Prelude.{IfOk, IfErr};
+ghost use Rattle.span_language.specs.Step.{IsShort};
+ghost use Rattle.span_run.specs.Held.{IsHeld};
+ghost use Rattle.span_run.specs.Site.{at};
+ghost use Rattle.span_run.specs.Answers.{Answers, IsAnswering, IsReserved, AnswersFreely, Stays, StaysFreely};
+
+use crate::answer::Answer;
+use crate::context::Context;
+use crate::documents::{drop_document, let_document, show, text};
+use crate::files::{load_file, open_file, save_file};
+use crate::held::Held;
+use crate::queries::{has, query, test, unquery};
+use crate::replacing::{Replacing, replace};
+use crate::versions::{back, mark, unmark};
+use edge_io::Shelf;
+use report_text::Refusal;
+use script_syntax::Command;
+use span_language::Stop;
+use span_types::Steps;
+use std::sync::ledger::Ledger;
+use std::thread::Threads;
+use work_gate::Gate;
+
+/// Refuses a form that is reserved and no command of the program.
+fn reserved(held: &mut Held, number: u64, command: Command) -> Result<Answer, Stop>
+    requires held { IsHeld held.old }
+    requires reserved { IsReserved command }
+    ensures done { AnswersFreely held.old number command held.new result }
+    ensures stopped { StaysFreely held.old number command held.new result }
+{
+    let answer = Answer::refused(held.alloc, number, &Refusal::Syntax)?;
+    Ok(answer)
+}
+
+/// Does a command that needs no sink, and answers with its whole reply.
+pub fn answer<R: Threads + Sync, F: Shelf, G: Gate, P: Ledger, T: Ledger, L: Ledger>(
+    context: Context<'_, R, G>,
+    held: &mut Held,
+    command: Command,
+    shelf: &mut F,
+    pairs: &mut Steps<P>,
+    places: &mut Steps<T>,
+    looks: &mut Steps<L>,
+) -> Result<Answer, Stop>
+    requires held { IsHeld held.old }
+    requires answering { IsAnswering command }
+    requires short { IsShort command }
+    ensures done { IfOk result (Answers (at held.old (F.files shelf.old) (F.faults shelf.old) looks.old pairs.old places.old) context.entry.number command (at held.new (F.files shelf.new) (F.faults shelf.new) looks.new pairs.new places.new)) }
+    ensures stopped { IfErr result (Stays (at held.old (F.files shelf.old) (F.faults shelf.old) looks.old pairs.old places.old) context.entry.number command (at held.new (F.files shelf.new) (F.faults shelf.new) looks.new pairs.new places.new)) }
+{
+    let number = context.number;
+    match command {
+        Command::Text { name, bytes } => text(held, number, name, bytes, pairs),
+        Command::LoadFile { name, file } => load_file(held, number, name, file, shelf, pairs),
+        Command::LetDoc { name, expr } => let_document(held, number, name, expr, pairs),
+        Command::DropDoc { name } => drop_document(held, number, name),
+        Command::Show { name, from, to } => show(held, number, name, from, to),
+        Command::Query { name, formula } => query(held, number, name, formula),
+        Command::Unquery { name } => unquery(held, number, name),
+        Command::Nonempty { query, name } => test(context, held, query, name, places, looks),
+        Command::Has { query, name, tuple } => {
+            has(context, held, query, name, tuple, places, looks)
+        }
+        Command::SaveFile { file } => save_file(held, number, file, shelf),
+        Command::OpenFile { file } => open_file(held, number, file, shelf, pairs),
+        Command::ReplaceDoc {
+            name,
+            query,
+            source,
+            by,
+        } => replace(
+            context,
+            held,
+            Replacing {
+                name,
+                query,
+                source,
+                by,
+            },
+            pairs,
+            places,
+            looks,
+        ),
+        Command::MarkDocs { name } => mark(held, number, name),
+        Command::UnmarkDocs { name } => unmark(held, number, name),
+        Command::BackDocs { name } => back(held, number, name),
+        command => reserved(held, number, command),
+    }
+}

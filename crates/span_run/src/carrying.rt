@@ -1,0 +1,126 @@
+//! What a line does to what is held, and to the outside.
+ghost use Rattle.std.specs.Prelude.{ℕ, Option, Some, IfOk, IfErr};
+ghost use Rattle.edge_io.specs.Files.{Files};
+ghost use Rattle.script_syntax.specs.declared.form.Command.TheVariants as form;
+ghost use Rattle.span_language.specs.Step.{IsShort};
+ghost use Rattle.span_run.specs.Answers.{IsAnswering, IsLimited};
+ghost use Rattle.span_run.specs.Held.{IsHeld, standing_of};
+ghost use Rattle.span_run.specs.Scene.{seen};
+ghost use Rattle.span_run.specs.Carried.{Done, IsDone, IsStopped, Stopped, outlet};
+
+use crate::answer::Answer;
+use crate::answering::answer;
+use crate::context::Context;
+use crate::documents::write_names;
+use crate::every::list_all;
+use crate::held::Held;
+use crate::listing::{Page, list};
+use crate::offer::send;
+use edge_io::{Shelf, Sink};
+use report_text::Refusal;
+use script_syntax::{Command, LineRefusal, command};
+use span_language::{Stop, Told};
+use span_types::Steps;
+use std::sync::ledger::Ledger;
+use std::thread::Threads;
+use work_gate::Gate;
+
+/// Does a command whose reply is one value, and writes it.
+fn reply<R: Threads + Sync, K: Sink, F: Shelf, G: Gate, P: Ledger, T: Ledger, L: Ledger>(
+    context: Context<'_, R, G>,
+    held: &mut Held,
+    command: Command,
+    out: &mut K,
+    shelf: &mut F,
+    pairs: &mut Steps<P>,
+    places: &mut Steps<T>,
+    looks: &mut Steps<L>,
+) -> Result<Told, Stop>
+    requires held { IsHeld held.old }
+    requires answering { IsAnswering command }
+    requires short { IsShort command }
+    ensures held { IsHeld held.new }
+    ensures done { IfOk result (Done context.entry.number (Some command) (seen (standing_of held.old) (F.files shelf.old) (F.faults shelf.old) looks.old pairs.old places.old) (outlet (K.written out.old) (K.faults out.old) (K.wants out.old)) (seen (standing_of held.new) (F.files shelf.new) (F.faults shelf.new) looks.new pairs.new places.new) (outlet (K.written out.new) (K.faults out.new) (K.wants out.new))) }
+    ensures stopped { IfErr result (Stopped context.entry.number (Some command) (seen (standing_of held.old) (F.files shelf.old) (F.faults shelf.old) looks.old pairs.old places.old) (outlet (K.written out.old) (K.faults out.old) (K.wants out.old)) (seen (standing_of held.new) (F.files shelf.new) (F.faults shelf.new) looks.new pairs.new places.new) (outlet (K.written out.new) (K.faults out.new) (K.wants out.new))) }
+{
+    let answer = answer(context, held, command, shelf, pairs, places, looks)?;
+    send(answer, out)
+}
+
+/// `names`: each document's line is offered before the next is made.
+fn names<K: Sink>(held: &mut Held, out: &mut K) -> Result<Told, Stop>
+    requires { IsHeld held.old }
+    ensures held { IsHeld held.new }
+    ensures done { (number : ℕ) (files : Option Files) (faults looks pairs places : ℕ) → IfOk result (Done number (Some form.Names) (seen (standing_of held.old) files faults looks pairs places) (outlet (K.written out.old) (K.faults out.old) (K.wants out.old)) (seen (standing_of held.new) files faults looks pairs places) (outlet (K.written out.new) (K.faults out.new) (K.wants out.new))) }
+    ensures stopped { (number : ℕ) (files : Option Files) (faults looks pairs places : ℕ) → IfErr result (Stopped number (Some form.Names) (seen (standing_of held.old) files faults looks pairs places) (outlet (K.written out.old) (K.faults out.old) (K.wants out.old)) (seen (standing_of held.new) files faults looks pairs places) (outlet (K.written out.new) (K.faults out.new) (K.wants out.new))) }
+{
+    write_names(held.alloc, &held.store, &held.docs, out)?;
+    Ok(Told::Accepted)
+}
+
+/// Does a command, and writes its reply.
+fn carry<R: Threads + Sync, K: Sink, F: Shelf, G: Gate, P: Ledger, T: Ledger, L: Ledger>(
+    context: Context<'_, R, G>,
+    held: &mut Held,
+    command: Command,
+    out: &mut K,
+    shelf: &mut F,
+    pairs: &mut Steps<P>,
+    places: &mut Steps<T>,
+    looks: &mut Steps<L>,
+) -> Result<Told, Stop>
+    requires held { IsHeld held.old }
+    requires short { IsShort command }
+    requires limited { IsLimited command }
+    ensures held { IsHeld held.new }
+    ensures done { IfOk result (Done context.entry.number (Some command) (seen (standing_of held.old) (F.files shelf.old) (F.faults shelf.old) looks.old pairs.old places.old) (outlet (K.written out.old) (K.faults out.old) (K.wants out.old)) (seen (standing_of held.new) (F.files shelf.new) (F.faults shelf.new) looks.new pairs.new places.new) (outlet (K.written out.new) (K.faults out.new) (K.wants out.new))) }
+    ensures stopped { IfErr result (Stopped context.entry.number (Some command) (seen (standing_of held.old) (F.files shelf.old) (F.faults shelf.old) looks.old pairs.old places.old) (outlet (K.written out.old) (K.faults out.old) (K.wants out.old)) (seen (standing_of held.new) (F.files shelf.new) (F.faults shelf.new) looks.new pairs.new places.new) (outlet (K.written out.new) (K.faults out.new) (K.wants out.new))) }
+{
+    match command {
+        Command::Nothing => Ok(Told::Quiet),
+        Command::Names => names(held, out),
+        Command::List {
+            query,
+            name,
+            after,
+            limit,
+        } => list(
+            context,
+            held,
+            query,
+            name,
+            Page { after, limit },
+            out,
+            places,
+            looks,
+        ),
+        Command::ListAll { query, limit } => list_all(context, held, query, limit, out, places),
+        command => reply(context, held, command, out, shelf, pairs, places, looks),
+    }
+}
+
+/// Does a line, and writes its reply.
+pub fn carry_line<R: Threads + Sync, K: Sink, F: Shelf, G: Gate, P: Ledger, T: Ledger, L: Ledger>(
+    context: Context<'_, R, G>,
+    held: &mut Held,
+    line: &[u8],
+    out: &mut K,
+    shelf: &mut F,
+    pairs: &mut Steps<P>,
+    places: &mut Steps<T>,
+    looks: &mut Steps<L>,
+) -> Result<Told, Stop>
+    requires { IsHeld held.old }
+    ensures held { IsHeld held.new }
+    ensures done { IfOk result (IsDone line.now context.entry.number (seen (standing_of held.old) (F.files shelf.old) (F.faults shelf.old) looks.old pairs.old places.old) (outlet (K.written out.old) (K.faults out.old) (K.wants out.old)) (seen (standing_of held.new) (F.files shelf.new) (F.faults shelf.new) looks.new pairs.new places.new) (outlet (K.written out.new) (K.faults out.new) (K.wants out.new))) }
+    ensures stopped { IfErr result (IsStopped line.now context.entry.number (seen (standing_of held.old) (F.files shelf.old) (F.faults shelf.old) looks.old pairs.old places.old) (outlet (K.written out.old) (K.faults out.old) (K.wants out.old)) (seen (standing_of held.new) (F.files shelf.new) (F.faults shelf.new) looks.new pairs.new places.new) (outlet (K.written out.new) (K.faults out.new) (K.wants out.new))) }
+{
+    match command(held.alloc, line) {
+        Ok(command) => carry(context, held, command, out, shelf, pairs, places, looks),
+        Err(LineRefusal::Syntax) => {
+            let answer = Answer::refused(held.alloc, context.number, &Refusal::Syntax)?;
+            send(answer, out)
+        }
+        Err(LineRefusal::NoMemory) => Err(Stop::NoMemory),
+    }
+}

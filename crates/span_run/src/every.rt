@@ -1,0 +1,287 @@
+//! The answers of a query on every document are listed, in batches: a batch's lines are written before the next one is found.
+ghost use Rattle.std.specs.Prelude.{◌≡◌, ◌≤◌, ◌+◌, ◌++◌, ℕ, List, Option, Some, None, true, false, length, slice_get, OnOk, OnErr, IfOk, IfErr};
+ghost use Rattle.std.specs.Io.KnownBytes.{Appends};
+ghost use Rattle.std.specs.List.{flat_map};
+ghost use Rattle.edge_io.specs.Causes.{Rose};
+ghost use Rattle.edge_io.specs.Files.{Files};
+ghost use Rattle.edit_expr.specs.Values.{AreLive, plain};
+ghost use Rattle.script_syntax.specs.declared.form.Command.TheVariants as form;
+ghost use Rattle.state_tables.specs.Dictionary.{AreTables};
+ghost use Rattle.span_enum.specs.Members.{Tuple as ATuple};
+ghost use Rattle.query_book.specs.Book.{queries_of};
+ghost use Rattle.query_book.specs.Named.{value_of};
+ghost use Rattle.query_book.specs.Serving.{Covers};
+ghost use Rattle.span_language.specs.Listed.{doc_line, page_text, tuple_line};
+ghost use Rattle.span_language.specs.Step.{AppendsFront};
+ghost use Rattle.span_run.specs.Carried.{Done, Stopped, outlet};
+ghost use Rattle.span_run.specs.Every.{AreAnswered, AreShort, IsRegistered, ListsEvery, WritesUpTo, every_text, rest_text};
+ghost use Rattle.span_run.specs.Held.{IsHeld, standing_of};
+ghost use Rattle.span_run.specs.Scene.{seen};
+
+use crate::answer::Answer;
+use crate::context::Context;
+use crate::held::Held;
+use crate::listing::write_tuple;
+use crate::offer::{offer, send};
+use crate::reading::root_len;
+use doc_book::Docs;
+use edge_io::Sink;
+use list_all::pages;
+use marker_dfa::Dfa;
+use node_store::Store;
+use query_book::QueryBook;
+use report_text::Refusal;
+use span_language::{Stop, Told};
+use span_types::{Name, NoMemory, Steps, Tuple, Vars};
+use state_tables::View;
+use std::alloc::Global;
+use std::sync::ledger::Ledger;
+use std::thread::Threads;
+use work_gate::Gate;
+
+/// Of how many documents the pages are found before their lines are written.
+const BATCH: usize = 64;
+
+/// Whether a query has this name.
+fn has_query(book: &QueryBook, query: &Name) -> bool
+    ensures there { result ≡ true → IsRegistered (queries_of book.now) query.now }
+    ensures missing { result ≡ false → value_of (queries_of book.now) query.now ≡ None }
+{
+    match book.vars(query.bytes()) {
+        Ok(_) => true,
+        Err(_) => false,
+    }
+}
+
+/// Looks at each text's length: none is longer than the automata speak of.
+fn check_lengths(store: &Store, docs: &Docs)
+    requires { AreLive store.now docs.now }
+    ensures { AreShort store.now docs.now }
+{
+    for place in 0..docs.count() {
+        let (_, root) = docs.at(place);
+        let _len = root_len(store, root);
+    }
+}
+
+/// A document's line.
+fn line_of(alloc: Global, name: &Name) -> Result<Vec<u8>, NoMemory>
+    ensures { IfOk result (λ line. line.items ≡ doc_line name.now) }
+{
+    let mut line = b"doc ".to_vec(alloc)?;
+    line.extend_from_slice(name.bytes())?;
+    line.push(b'\n')?;
+    Ok(line)
+}
+
+/// Writes the lines of a page's tuples.
+fn write_tuples<K: Sink>(tuples: &[Tuple], vars: &Vars, out: &mut K) -> Result<(), Stop>
+    requires { (place : ℕ) (t : ATuple) → slice_get tuples.now place ≡ Some t → length vars.now ≡ length t }
+    ensures done { OnOk result (Appends (K.written out.old) (K.written out.new) (flat_map (tuple_line vars.now) tuples.now)) }
+    ensures stopped { OnErr result (AppendsFront (K.written out.old) (K.written out.new) (flat_map (tuple_line vars.now) tuples.now)) }
+    ensures later { K.faults out.old ≤ K.faults out.new }
+    ensures fault { IfErr result (λ why. why ≡ Stop.OutFault → Rose (K.faults out.old) (K.faults out.new)) }
+    ensures wants_later { K.wants out.old ≤ K.wants out.new }
+    ensures shelf_fault { IfErr result (λ why. why ≡ Stop.ShelfFault → ⊥) }
+{
+    for tuple in tuples {
+        write_tuple(tuple, vars, out)?;
+    }
+    Ok(())
+}
+
+/// Writes a document's line and its page.
+fn write_document<K: Sink>(
+    alloc: Global,
+    name: &Name,
+    tuples: &[Tuple],
+    more: bool,
+    vars: &Vars,
+    out: &mut K,
+) -> Result<(), Stop>
+    requires { (place : ℕ) (t : ATuple) → slice_get tuples.now place ≡ Some t → length vars.now ≡ length t }
+    ensures done { OnOk result (Appends (K.written out.old) (K.written out.new) (doc_line name.now ++ page_text vars.now tuples.now more)) }
+    ensures stopped { OnErr result (AppendsFront (K.written out.old) (K.written out.new) (doc_line name.now ++ page_text vars.now tuples.now more)) }
+    ensures later { K.faults out.old ≤ K.faults out.new }
+    ensures fault { IfErr result (λ why. why ≡ Stop.OutFault → Rose (K.faults out.old) (K.faults out.new)) }
+    ensures wants_later { K.wants out.old ≤ K.wants out.new }
+    ensures shelf_fault { IfErr result (λ why. why ≡ Stop.ShelfFault → ⊥) }
+{
+    let line = line_of(alloc, name)?;
+    offer(out, &line)?;
+    write_tuples(tuples, vars, out)?;
+    if more {
+        offer(out, b"more\n")
+    } else {
+        offer(out, b"end\n")
+    }
+}
+
+/// Finds the pages of the documents at the places from `first` on, and writes their lines.
+fn list_batch<R: Threads + Sync, K: Sink, G: Gate>(
+    context: Context<'_, R, G>,
+    alloc: Global,
+    view: View<'_>,
+    dfa: &Dfa,
+    docs: &Docs,
+    vars: &Vars,
+    first: usize,
+    count: usize,
+    limit: u16,
+    out: &mut K,
+) -> Result<(), Stop>
+    requires places { first + count ≤ length docs.now }
+    requires tables { AreTables dfa.now view.store.now view.tables.now }
+    requires live { AreLive view.store.now docs.now }
+    requires some { 1 ≤ limit }
+    requires few { limit ≤ 10000 }
+    requires variables { length vars.now ≡ dfa.now.variables }
+    requires answered { (lists : List (List ATuple)) × AreAnswered dfa.now view.store.now docs.now lists }
+    ensures done { OnOk result ((lists : List (List ATuple)) → AreAnswered dfa.now view.entry.store.now docs.now lists → WritesUpTo (K.written out.old) (K.written out.new) (rest_text vars.now limit docs.now lists (first + count)) (rest_text vars.now limit docs.now lists first)) }
+    ensures stopped { OnErr result ((lists : List (List ATuple)) → AreAnswered dfa.now view.entry.store.now docs.now lists → AppendsFront (K.written out.old) (K.written out.new) (rest_text vars.now limit docs.now lists first)) }
+    ensures later { K.faults out.old ≤ K.faults out.new }
+    ensures fault { IfErr result (λ why. why ≡ Stop.OutFault → Rose (K.faults out.old) (K.faults out.new)) }
+    ensures wants_later { K.wants out.old ≤ K.wants out.new }
+    ensures shelf_fault { IfErr result (λ why. why ≡ Stop.ShelfFault → ⊥) }
+{
+    let _all = docs.count();
+    let found = pages(
+        context.rt,
+        alloc,
+        view,
+        dfa,
+        docs,
+        first,
+        count,
+        limit,
+        context.workers,
+        context.gate,
+    )?;
+    for place in 0..count {
+        let (name, _) = docs.at(first + place);
+        write_document(
+            alloc,
+            name,
+            found.tuples(place),
+            found.more(place),
+            vars,
+            out,
+        )?;
+    }
+    Ok(())
+}
+
+/// Writes each document's line and its page, and last `done`.
+fn list_documents<R: Threads + Sync, K: Sink, G: Gate>(
+    context: Context<'_, R, G>,
+    alloc: Global,
+    view: View<'_>,
+    dfa: &Dfa,
+    docs: &Docs,
+    vars: &Vars,
+    limit: u16,
+    out: &mut K,
+) -> Result<(), Stop>
+    requires tables { AreTables dfa.now view.store.now view.tables.now }
+    requires live { AreLive view.store.now docs.now }
+    requires some { 1 ≤ limit }
+    requires few { limit ≤ 10000 }
+    requires variables { length vars.now ≡ dfa.now.variables }
+    requires answered { (lists : List (List ATuple)) × AreAnswered dfa.now view.store.now docs.now lists }
+    ensures done { OnOk result ((lists : List (List ATuple)) → AreAnswered dfa.now view.entry.store.now docs.now lists → Appends (K.written out.old) (K.written out.new) (every_text vars.now limit docs.now lists)) }
+    ensures stopped { OnErr result ((lists : List (List ATuple)) → AreAnswered dfa.now view.entry.store.now docs.now lists → AppendsFront (K.written out.old) (K.written out.new) (every_text vars.now limit docs.now lists)) }
+    ensures later { K.faults out.old ≤ K.faults out.new }
+    ensures fault { IfErr result (λ why. why ≡ Stop.OutFault → Rose (K.faults out.old) (K.faults out.new)) }
+    ensures wants_later { K.wants out.old ≤ K.wants out.new }
+    ensures shelf_fault { IfErr result (λ why. why ≡ Stop.ShelfFault → ⊥) }
+{
+    let all = docs.count();
+    let mut first = 0;
+    while first < all {
+        let count = (all - first).min(BATCH);
+        list_batch(
+            context, alloc, view, dfa, docs, vars, first, count, limit, out,
+        )?;
+        first += count;
+    }
+    offer(out, b"done\n")
+}
+
+/// Writes the pages of the query of this name on every document.
+fn list_query<R: Threads + Sync, K: Sink, G: Gate>(
+    context: Context<'_, R, G>,
+    alloc: Global,
+    store: &Store,
+    book: &QueryBook,
+    docs: &Docs,
+    query: &Name,
+    limit: u16,
+    out: &mut K,
+) -> Result<(), Stop>
+    requires covers { Covers store.now book.now }
+    requires live { AreLive store.now docs.now }
+    requires there { IsRegistered (queries_of book.now) query.now }
+    requires some { 1 ≤ limit }
+    requires few { limit ≤ 10000 }
+    ensures done { OnOk result (ListsEvery (Appends (K.written out.old) (K.written out.new)) (queries_of book.now) query.now (plain store.now docs.now) limit) }
+    ensures stopped { OnErr result (ListsEvery (AppendsFront (K.written out.old) (K.written out.new)) (queries_of book.now) query.now (plain store.now docs.now) limit) }
+    ensures later { K.faults out.old ≤ K.faults out.new }
+    ensures fault { IfErr result (λ why. why ≡ Stop.OutFault → Rose (K.faults out.old) (K.faults out.new)) }
+    ensures wants_later { K.wants out.old ≤ K.wants out.new }
+    ensures shelf_fault { IfErr result (λ why. why ≡ Stop.ShelfFault → ⊥) }
+{
+    check_lengths(store, docs);
+    match book.parts(query.bytes(), store) {
+        Ok((view, dfa)) => match book.vars(query.bytes()) {
+            Ok(vars) => list_documents(context, alloc, view, dfa, docs, vars, limit, out),
+            Err(_) => unreachable!(),
+        },
+        Err(_) => unreachable!(),
+    }
+}
+
+/// `listall Q`, and then perhaps `limit NUM`, which is 1 to 10,000. The looks for the pages are not counted.
+pub fn list_all<R: Threads + Sync, K: Sink, G: Gate, T: Ledger>(
+    context: Context<'_, R, G>,
+    held: &mut Held,
+    query: Name,
+    limit: u16,
+    out: &mut K,
+    places: &mut Steps<T>,
+) -> Result<Told, Stop>
+    requires held { IsHeld held.old }
+    requires some { 1 ≤ limit }
+    requires few { limit ≤ 10000 }
+    ensures held { IsHeld held.new }
+    ensures done { (files : Option Files) (faults looks pairs : ℕ) → IfOk result (Done context.entry.number (Some (form.ListAll query limit)) (seen (standing_of held.old) files faults looks pairs places.old) (outlet (K.written out.old) (K.faults out.old) (K.wants out.old)) (seen (standing_of held.new) files faults looks pairs places.new) (outlet (K.written out.new) (K.faults out.new) (K.wants out.new))) }
+    ensures stopped { (files : Option Files) (faults looks pairs : ℕ) → IfErr result (Stopped context.entry.number (Some (form.ListAll query limit)) (seen (standing_of held.old) files faults looks pairs places.old) (outlet (K.written out.old) (K.faults out.old) (K.wants out.old)) (seen (standing_of held.new) files faults looks pairs places.new) (outlet (K.written out.new) (K.faults out.new) (K.wants out.new))) }
+{
+    if has_query(&held.book, &query) {
+        held.book.grow_all(
+            context.rt,
+            held.alloc,
+            &held.store,
+            context.workers,
+            context.gate,
+            places,
+        )?;
+        list_query(
+            context,
+            held.alloc,
+            &held.store,
+            &held.book,
+            &held.docs,
+            &query,
+            limit,
+            out,
+        )?;
+        Ok(Told::Accepted)
+    } else {
+        let answer = Answer::refused(
+            held.alloc,
+            context.number,
+            &Refusal::NoSuchQuery { name: query },
+        )?;
+        send(answer, out)
+    }
+}

@@ -1,0 +1,39 @@
+//! What a session holds.
+ghost use Rattle.std.specs.Prelude.{◌≡◌, []};
+ghost use Rattle.query_book.specs.Serving.{covered_of};
+ghost use Rattle.span_run.specs.Held.{IsHeld, state_of};
+ghost use Rattle.span_language.specs.State.{nothing};
+
+use doc_book::Docs;
+use doc_versions::Versions;
+use node_store::Store;
+use query_book::QueryBook;
+use std::alloc::Global;
+
+/// Named documents, queries and versions over one store of nodes.
+#[derive(Drop)]
+pub struct Held {
+    pub alloc: Global,
+    pub store: Store,
+    pub docs: Docs,
+    pub book: QueryBook,
+    pub versions: Versions,
+}
+
+impl Held {
+    /// No nodes, no documents, no queries and no versions.
+    pub fn new(alloc: Global) -> Held
+        ensures state { state_of result ≡ nothing }
+        ensures held { IsHeld result }
+        ensures store { result.store ≡ [] }
+        ensures covered { covered_of result.book ≡ [] }
+    {
+        Held {
+            alloc,
+            store: Store::new(alloc),
+            docs: Docs::new(alloc),
+            book: QueryBook::new(alloc),
+            versions: Versions::new(alloc),
+        }
+    }
+}

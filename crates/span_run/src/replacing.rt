@@ -1,0 +1,197 @@
+//! Chosen spans of a query are replaced.
+ghost use Rattle.std.specs.Prelude.{◌≡◌, ◌≤◌, ◌+◌, ◌*◌, length, IfOk, IfErr, OnErr, None, Option, ℕ};
+ghost use Rattle.edge_io.specs.Files.{Files};
+ghost use Rattle.edit_expr.specs.Values.{AreLive, plain, text_at};
+ghost use Rattle.query_book.specs.Book.{queries_of};
+ghost use Rattle.query_book.specs.Serving.{Covers};
+ghost use Rattle.script_syntax.specs.declared.form.Command.TheVariants as form;
+ghost use Rattle.slp_model.specs.Nodes.{Grows, IsLive};
+ghost use Rattle.span_language.specs.State.{world};
+ghost use Rattle.span_language.specs.Step.{IsUnreplaced};
+ghost use Rattle.span_replace.specs.Replaced as meaning;
+ghost use Rattle.span_replace.specs.Replaced.{AreApart};
+ghost use Rattle.span_run.specs.Answers.{Answers, Stays};
+ghost use Rattle.span_run.specs.Held.{IsHeld, state_of};
+ghost use Rattle.span_run.specs.Replacing.{AreSources, Chooses, HasOneVariable, Replaces};
+ghost use Rattle.span_run.specs.Site.{at};
+
+use crate::answer::Answer;
+use crate::context::Context;
+use crate::documents::give;
+use crate::held::Held;
+use crate::reading::root_len;
+use doc_book::{Docs, Missing};
+use node_store::Store;
+use query_book::QueryBook;
+use report_text::Refusal;
+use slp_model::NodeId;
+use span_language::Stop;
+use span_replace::{Chosen, ReplaceRefusal, chosen, replaced};
+use span_types::{Name, NoMemory, Steps};
+use std::alloc::Global;
+use std::sync::ledger::Ledger;
+use std::thread::Threads;
+use work_gate::Gate;
+
+/// What a replacement is asked of: the document that gets the result, the query, the document in which its spans are replaced,
+/// and the one whose text is put there.
+#[derive(Drop)]
+pub struct Replacing {
+    pub name: Name,
+    pub query: Name,
+    pub source: Name,
+    pub by: Name,
+}
+
+/// What it works on: the query, the root of the text in which its spans are replaced, and of the text that is put there.
+#[derive(Drop)]
+pub struct Sources {
+    pub query: Name,
+    pub root: Option<NodeId>,
+    pub other: Option<NodeId>,
+}
+
+/// What a replacement works on, or the first refusal.
+fn find_sources(held: &Held, query: Name, source: Name, by: Name) -> Result<Sources, Refusal>
+    ensures ok { IfOk result (AreSources held.now query source by) }
+    ensures err { IfErr result (IsUnreplaced (world (state_of held.now) None) query source by) }
+{
+    let root = match held.docs.get(source.bytes()) {
+        Ok(root) => root,
+        Err(Missing::NoSuchDocument) => return Err(Refusal::NoSuchDocument { name: source }),
+    };
+    let other = match held.docs.get(by.bytes()) {
+        Ok(other) => other,
+        Err(Missing::NoSuchDocument) => return Err(Refusal::NoSuchDocument { name: by }),
+    };
+    let count = match held.book.vars(query.bytes()) {
+        Ok(vars) => vars.count(),
+        Err(_) => return Err(Refusal::NoSuchQuery { name: query }),
+    };
+    if count != 1 {
+        return Err(Refusal::NotOneVariable { count });
+    }
+    Ok(Sources { query, root, other })
+}
+
+/// The chosen spans of a query of one variable on a root's text.
+fn choose<L: Ledger>(
+    alloc: Global,
+    store: &Store,
+    book: &QueryBook,
+    query: &Name,
+    root: Option<NodeId>,
+    looks: &mut Steps<L>,
+) -> Result<Chosen, ReplaceRefusal>
+    requires covers { Covers store.now book.now }
+    requires live { IsLive store.now root }
+    requires one { HasOneVariable (queries_of book.now) query.now }
+    ensures choice { Chooses (queries_of book.now) query.now (text_at store.now root) result looks.old looks.new }
+    ensures apart { IfOk result (λ spans. AreApart (length (text_at store.now root)) spans) }
+{
+    // A text is at most so long that the automaton speaks of it.
+    let _len = root_len(store, root);
+    match book.parts(query.bytes(), store) {
+        Ok((view, dfa)) => chosen(alloc, view, dfa, root, looks),
+        Err(_) => unreachable!(),
+    }
+}
+
+/// Gives the name the text in which the spans are replaced.
+fn put_in_place<P: Ledger>(
+    alloc: Global,
+    store: &mut Store,
+    docs: &mut Docs,
+    number: u64,
+    name: Name,
+    sources: &Sources,
+    spans: &Chosen,
+    pairs: &mut Steps<P>,
+) -> Result<Answer, NoMemory>
+    requires live { AreLive store.old docs.old }
+    requires root { IsLive store.old sources.now.root }
+    requires other { IsLive store.old sources.now.other }
+    requires apart { AreApart (length (text_at store.old sources.now.root)) spans.now }
+    ensures live { AreLive store.new docs.new }
+    ensures grows { Grows store.old store.new pairs.old pairs.new }
+    ensures ok { IfOk result (λ answer. Replaces (plain store.old docs.old) number name (meaning.replaced (text_at store.old sources.now.root) spans.now (text_at store.old sources.now.other)) answer.told answer.line.items (plain store.new docs.new)) }
+    ensures err { OnErr result (plain store.new docs.new ≡ plain store.old docs.old) }
+    ensures cost { pairs.new ≤ pairs.old + 1770 * (length spans.now + 1) }
+{
+    match replaced(store, sources.root, spans, sources.other, pairs) {
+        Ok(root) => {
+            let answer = give(alloc, store, docs, number, name, root)?;
+            Ok(answer)
+        }
+        Err(ReplaceRefusal::TooLong { len }) => {
+            let answer = Answer::refused(alloc, number, &Refusal::TooLong { len })?;
+            Ok(answer)
+        }
+        Err(_) => Err(NoMemory),
+    }
+}
+
+/// `replace NAME Q DOC BY`
+pub fn replace<R: Threads + Sync, G: Gate, P: Ledger, T: Ledger, L: Ledger>(
+    context: Context<'_, R, G>,
+    held: &mut Held,
+    asked: Replacing,
+    pairs: &mut Steps<P>,
+    places: &mut Steps<T>,
+    looks: &mut Steps<L>,
+) -> Result<Answer, Stop>
+    requires { IsHeld held.old }
+    ensures done { (files : Option Files) (faults : ℕ) → IfOk result (Answers (at held.old files faults looks.old pairs.old places.old) context.entry.number (form.ReplaceDoc asked.name asked.query asked.source asked.by) (at held.new files faults looks.new pairs.new places.new)) }
+    ensures stopped { (files : Option Files) (faults : ℕ) → IfErr result (Stays (at held.old files faults looks.old pairs.old places.old) context.entry.number (form.ReplaceDoc asked.name asked.query asked.source asked.by) (at held.new files faults looks.new pairs.new places.new)) }
+{
+    let number = context.number;
+    let Replacing {
+        name,
+        query,
+        source,
+        by,
+    } = asked;
+    match find_sources(held, query, source, by) {
+        Ok(sources) => {
+            held.book.grow_all(
+                context.rt,
+                held.alloc,
+                &held.store,
+                context.workers,
+                context.gate,
+                places,
+            )?;
+            match choose(
+                held.alloc,
+                &held.store,
+                &held.book,
+                &sources.query,
+                sources.root,
+                looks,
+            ) {
+                Ok(spans) => {
+                    let answer = put_in_place(
+                        held.alloc,
+                        &mut held.store,
+                        &mut held.docs,
+                        number,
+                        name,
+                        &sources,
+                        &spans,
+                        pairs,
+                    )?;
+                    Ok(answer)
+                }
+                Err(ReplaceRefusal::TooManyMatches) => {
+                    let answer = Answer::refused(held.alloc, number, &Refusal::TooManyMatches)?;
+                    Ok(answer)
+                }
+                Err(_) => Err(Stop::NoMemory),
+            }
+        }
+        Err(why) => {
+            let answer = Answer::refused(held.alloc, number, &why)?;
+            Ok(answer)
+        }
+    }
+}
