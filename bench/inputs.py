@@ -1,12 +1,17 @@
 #!/usr/bin/env python3
-"""Makes the texts and scripts of the benchmark in a folder: inputs.py [--quick] [--huge] FOLDER
+"""Makes the texts and scripts of the benchmark in a folder: inputs.py [--quick] [--huge] [--text FILE ..] FOLDER
 
-All comes from seeded generators, so it is the same at every run. Without options the log has 1 and 16 MB; --quick makes
-small inputs alone, and --huge adds the log of 256 MB.
+Real texts are found on the machine: sources, lists of packages, a genome; --text adds any file. All else comes from
+seeded generators, so it is the same at every run. Without options the log has 1 and 16 MB; --quick makes small inputs
+alone, and --huge adds the log of 256 MB.
 """
 import argparse
+import gzip
 import pathlib
 import random
+import shutil
+import subprocess
+import sysconfig
 
 MEGABYTE = 1 << 20
 
@@ -87,6 +92,82 @@ def genome(size, seed=4):
     return "".join(piece() for _ in range(size // 300 + 1))[:size].encode()
 
 
+# --------------------------------------------------------------------------------------------------------- real texts
+
+# the genome of phage lambda and reads of it, from Debian's package bowtie2-examples
+EXAMPLES = pathlib.Path("/usr/share/doc/bowtie2/examples")
+
+STATUS_OF_PACKAGES = pathlib.Path("/var/lib/dpkg/status")
+
+
+def sources(size):
+    """The sources of Python's standard library, one file after the other."""
+    parts, have = [], 0
+    for file in sorted(pathlib.Path(sysconfig.get_path("stdlib")).rglob("*.py")):
+        if have >= size:
+            break
+        if "site-packages" not in file.parts:
+            parts.append(file.read_bytes())
+            have += len(parts[-1])
+    return b"".join(parts)[:size]
+
+
+def packages(size):
+    """The list of packages that the machine knows, or of those that it has."""
+    listed = b""
+    if shutil.which("apt-cache"):
+        listed = subprocess.run(["apt-cache", "dumpavail"], stdout=subprocess.PIPE, check=False).stdout
+    if not listed and STATUS_OF_PACKAGES.exists():
+        listed = STATUS_OF_PACKAGES.read_bytes()
+    return listed[:size]
+
+
+def letters(size, folder=EXAMPLES):
+    """A genome, and then the reads of a machine that read it, letters alone."""
+    parts = []
+    for file in [*folder.glob("reference/*.fa.gz"), *sorted(folder.glob("reads/*.fq.gz"))]:
+        with gzip.open(file, "rb") as text:
+            parts += [line for line in text.read().splitlines() if line and not line.strip(b"ACGTN")]
+    return b"".join(parts)[:size]
+
+
+# by its name: a real text, and a formula with one variable
+REAL_TEXTS = {
+    "sources": (sources, r"(.*\n)?def $n{[a-zA-Z0-9_]+}[^\n]*:\n.*"),
+    "packages": (packages, r"(.*\n)?Package: $n{[^\n]*}\n.*"),
+    "letters": (letters, ".*$n{TATA[AT]A[AT]}.*"),
+}
+
+LINES = r"(.*\n)?$n{[^\n]*}\n.*"
+
+
+def text_scripts(name, formula, size):
+    """A real text loaded; asked, with first answers; edited all over, with a page after each edit; and an image opened."""
+    load = [f"load d {name}"]
+    ask = load + [f"query q {formula}", "test q d", "list q d limit 10000"]
+    edits = load + [f"query q {formula}", "text e a line that was put in by an edit"]
+    for part in range(1, 100):
+        at = 1 + size * part // 101
+        edits += [f"let d = insert(delete(d,{at},{at + 1}),e,{at})", f"list q d after {cursor('n', at)} limit 10"]
+    image = load + ["save image", "open image", "names"]
+    return {f"{name}_load": load, f"{name}_ask": ask, f"{name}_edits": edits, f"{name}_image": image}
+
+
+def make_texts(folder, quick, files):
+    """The real texts that the machine has, and the files that were named, each with its scripts."""
+    size = MEGABYTE if quick else 64 * MEGABYTE
+    texts = {name: (make_text(size), formula) for name, (make_text, formula) in REAL_TEXTS.items()}
+    texts |= {f"text{place}": (file.read_bytes(), LINES) for place, file in enumerate(files)}
+    for name, (text, formula) in texts.items():
+        for old in folder.glob(f"{name}_*.script"):
+            old.unlink()
+        if len(text) < 1000:
+            continue
+        (folder / name).write_bytes(text)
+        for script, lines in text_scripts(name, formula, len(text)).items():
+            write_script(folder / f"{script}.script", lines)
+
+
 # -------------------------------------------------------------------------------------------------------------- scripts
 
 # name, formula, and the variables
@@ -130,6 +211,20 @@ def phase_scripts(file, size):
         edits += [f"let d = insert(delete(d,{at},{at + removed}),e,{at})", "test q d"]
         edits += [f"list q d after {cursor('p', at)} limit 10"]
     return scripts | {"edits": edits}
+
+
+HOST = r"(.*\n)?$h{[0-9.]+} [^\n]*\n.*"
+
+
+def chosen_scripts(file, text):
+    """By its name: as many addresses of a log hidden at once as may be; and a page of each of the 256 parts of a log."""
+    load, lines = [f"load d {file}", f"query h {HOST}"], text.splitlines(keepends=True)
+    some = sum(map(len, lines[: min(len(lines) - 1, 1 << 15)]))
+    hide = load + [f"let p = extract(d,1,{some + 1})", "text w x.x.x.x", "replace e h p w", "list h e limit 1"]
+    parts = 256
+    cuts = [1 + len(text) * part // parts for part in range(parts + 1)]
+    cut = [f"let part{part} = extract(d,{cuts[part]},{cuts[part + 1]})" for part in range(parts)]
+    return {"hide": hide, "parts": load + cut + ["drop d", "listall h limit 1000"]}
 
 
 # by the number of variables: a formula that is met in each sentence of a long text
@@ -210,6 +305,12 @@ def versions_script(file, size, words, count):
     return lines + [f"list w {last} limit 10000", "names"]
 
 
+def listed_versions_script(file, size, words, count):
+    """Keeps many versions of one text, and lists a page of each at once."""
+    kept = [line for line in versions_script(file, size, words, count) if line.split()[0] in ("load", "text", "let")]
+    return kept + [f"query w .*[ \\n]$w{{{words[70]}}}[ \\n.].*", "listall w limit 100"]
+
+
 # a start codon, any codons that aren't stops, and a stop
 CODON = "(([ACG][ACGT][ACGT])|T(([CGT][ACGT])|(A[CT])|(G[CGT])))"
 
@@ -268,9 +369,10 @@ def long_script():
 # ----------------------------------------------------------------------------------------------------------------- main
 
 
-def make(folder, quick, huge):
+def make(folder, quick, huge, files):
     """Makes all inputs in a folder. A log that is there is kept, since it takes longest."""
     folder.mkdir(parents=True, exist_ok=True)
+    make_texts(folder, quick, files)
     logs = {"log1m": MEGABYTE}
     if not quick:
         logs["log16m"] = 16 * MEGABYTE
@@ -282,12 +384,14 @@ def make(folder, quick, huge):
             file.write_bytes(web_log(size))
         write_script(folder / f"{name}.script", log_script(name, size))
     file, size = max(((name, size) for name, size in logs.items() if name != "log256m"), key=lambda it: it[1])
-    for name, lines in (phase_scripts(file, size) | doubled_scripts()).items():
+    phases = phase_scripts(file, size) | chosen_scripts(file, (folder / file).read_bytes()) | doubled_scripts()
+    for name, lines in phases.items():
         write_script(folder / f"{name}.script", lines)
     size, count, edits = (MEGABYTE // 8, 100, 1000) if quick else (MEGABYTE, 1000, 20000)
     text, words = prose(size)
     (folder / "prose").write_bytes(text)
     write_script(folder / "versions.script", versions_script("prose", size, words, count))
+    write_script(folder / "listall.script", listed_versions_script("prose", size, words, count))
     (folder / "genome").write_bytes(genome(size))
     write_script(folder / "genome.script", genome_script("genome", size, edits))
     write_script(folder / "long.script", long_script())
@@ -301,9 +405,10 @@ def main():
     reader = argparse.ArgumentParser(description=__doc__, formatter_class=argparse.RawDescriptionHelpFormatter)
     reader.add_argument("--quick", action="store_true")
     reader.add_argument("--huge", action="store_true")
+    reader.add_argument("--text", type=pathlib.Path, action="append", default=[], metavar="FILE")
     reader.add_argument("folder", type=pathlib.Path)
     asked = reader.parse_args()
-    make(asked.folder, asked.quick, asked.huge)
+    make(asked.folder, asked.quick, asked.huge, asked.text)
 
 
 if __name__ == "__main__":
