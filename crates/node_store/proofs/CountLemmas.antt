@@ -8,7 +8,7 @@ use Rattle.slp_model.specs.declared.Node.{Node}
 use Rattle.slp_model.specs.declared.Node.TheVariants.{Byte, Pair}
 use Rattle.slp_model.specs.contracts.NodePartialEq.TheImpl.{ghosts}
 use Rattle.slp_model.specs.Nodes.{pair_weight, pair_count}
-use Rattle.node_store.specs.Stored.{AreOfBytes}
+use Rattle.slp_model.specs.Distinct.{AreOfBytes}
 
 -- the bytes among the nodes
 abbrev byte_values : List Node → List ℕ

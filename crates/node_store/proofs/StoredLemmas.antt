@@ -12,7 +12,8 @@ use Rattle.span_types.specs.Fibonacci.{fibonacci, height_limit}
 use Rattle.slp_model.proofs.TreeLemmas.{height-most, height-enough, height-by_leaves}
 use Rattle.slp_model.proofs.NodesLemmas.{slice_get-push, tree-append, tree-push, tree-at, IsSound-push, Grows-none, Grows-push}
 use Rattle.node_store.specs.declared.Facts.{Facts}
-use Rattle.node_store.specs.Stored.{IsFactsOf, IsStored, IsNext, IsKept, IsOfByte}
+use Rattle.slp_model.specs.Distinct.{IsOfByte}
+use Rattle.node_store.specs.Stored.{IsFactsOf, IsStored, IsNext, IsKept}
 
 pub IsStored-push : (ns : List Node) (fs : List Facts) (n : Node) (f : Facts) → IsStored ns fs → IsNext ns n f → IsStored (ns ++ n ∷ []) (fs ++ f ∷ [])
 IsStored-push ns fs n f s x = record {

@@ -1,8 +1,8 @@
 -- What is true of the fields of each store.
-use Rattle.std.specs.Prelude.{◌≡◌, ◌≢◌, ℕ, ◌^◌, ◌<◌, ◌≤◌, ◌⊎◌, List, [], ◌∷◌, ◌++◌, length, slice_get, Some}
+use Rattle.std.specs.Prelude.{◌≡◌, ◌≢◌, ℕ, ◌^◌, ◌≤◌, ◌⊎◌, List, [], ◌∷◌, ◌++◌, length, slice_get, Some}
 use Rattle.slp_model.specs.declared.Node.{Node}
-use Rattle.slp_model.specs.declared.Node.TheVariants.{Byte, Pair}
 use Rattle.slp_model.specs.Tree.{leaves, height, IsBalanced}
+use Rattle.slp_model.specs.Distinct.{AreOfBytes, IsOfByte}
 use Rattle.slp_model.specs.Nodes.{tree, trees, node_tree, IsSound, IsBelow}
 use Rattle.node_store.specs.declared.Facts.{Facts}
 
@@ -10,15 +10,6 @@ use Rattle.node_store.specs.declared.Facts.{Facts}
 pub record IsFactsOf (ns : List Node) (i : ℕ) (f : Facts) : Type 0 where
   pub len : f.len ≡ leaves (tree ns i)
   pub height_is : f.height ≡ height (tree ns i)
-
--- a byte is below 256
-abbrev pub IsOfByte : Node → Type 0
-IsOfByte (Byte b) = b < 256
-IsOfByte (Pair l r) = Unit {0}
-
--- each byte among the nodes is below 256
-abbrev pub AreOfBytes : List Node → Type 0
-AreOfBytes ns = (i : ℕ) (n : Node) → slice_get ns i ≡ Some n → IsOfByte n
 
 -- the nodes are sound, and the facts are theirs
 pub record IsStored (ns : List Node) (facts : List Facts) : Type 0 where
@@ -43,7 +34,3 @@ IsNew ns n = (i : ℕ) → slice_get ns i ≢ Some n
 -- the nodes stay, or n, which isn't among them, is added last
 abbrev pub IsKept : List Node → List Node → Node → Type 0
 IsKept old new n = (new ≡ old) ⊎ ((new ≡ old ++ n ∷ []) × IsNew old n)
-
--- no two nodes are equal
-abbrev pub AreDistinct : List Node → Type 0
-AreDistinct ns = (i j : ℕ) (n : Node) → slice_get ns i ≡ Some n → slice_get ns j ≡ Some n → i ≡ j

@@ -4,18 +4,26 @@
 ghost use Rattle.std.specs.Prelude.{◌≡◌, ◌+◌, ◌^◌, ◌<◌, ◌≤◌, [], length, slice_get, IfSome, IfOk, OnErr, Some};
 ghost use Rattle.span_types.specs.Fibonacci.{fibonacci, height_limit};
 ghost use Rattle.slp_model.specs.Tree.{Fork, Leaf, leaves, height, IsNear, IsBalanced};
-ghost use Rattle.slp_model.specs.Nodes.{tree, trees, node_tree, pair_count, Grows, IsNodeAt};
-ghost use Rattle.node_store.specs.Stored.{IsNext, IsKept, AreDistinct, AreOfBytes};
+ghost use Rattle.slp_model.specs.Nodes.{tree, trees, node_tree, pair_count, Grows, IsNodeAt, IsSound};
+ghost use Rattle.slp_model.specs.Distinct.{AreDistinct, AreOfBytes};
+ghost use Rattle.slp_model.specs.Kept.{IsPlanOf};
+ghost use Rattle.slp_model.specs.Thin as thinning;
+ghost use Rattle.slp_model.specs.Thin.{IsThinOf};
+ghost use Rattle.node_store.specs.Stored.{IsNext, IsKept};
 
 mod hints;
+mod moves;
+mod thin;
 
 use hints::Hints;
 use indexmap::IndexSet;
+pub use moves::Moves;
 pub use slp_model::{Node, NodeId};
 use span_types::{NoMemory, Steps};
 use std::alloc::Global;
 use std::marker::Model;
 use std::sync::ledger::Ledger;
+use thin::thinned;
 
 /// What is known of a node without a look at the nodes below it.
 #[derive(Clone, Copy, Debug)]
@@ -61,6 +69,7 @@ impl Store {
     /// How many nodes there are: at most one for each byte, and the pairs.
     pub fn count(&self) -> usize
         ensures count { result ≡ length self.now }
+        ensures sound { IsSound self.now }
         ensures distinct { AreDistinct self.now }
         ensures bytes { AreOfBytes self.now }
         ensures few { length self.now ≤ 256 + pair_count self.now }
@@ -182,8 +191,50 @@ impl Store {
         None
     }
 
-    // The id of the node, whose facts are these.
+    /// The kept nodes alone, in their order and under new numbers, and where each one went. Takes time linear in
+    /// the nodes of this store, and no pair call.
+    ///
+    /// # Errors
+    ///
+    /// `NoMemory` where none was found.
+    pub fn thin(&self, alloc: Global, keep: &[bool]) -> Result<(Store, Moves), NoMemory>
+        requires plan { IsPlanOf self.now keep.now }
+        ensures store { IfOk result (λ made. made.0 ≡ thinning.thin self.now keep.now) }
+        ensures moves { IfOk result (λ made. made.1 ≡ keep.now) }
+        ensures thin { IfOk result (λ made. IsThinOf self.now keep.now made.0) }
+    {
+        let (moves, count) = Moves::new(alloc, keep)?;
+        let store = thinned(alloc, self, &moves, count)?;
+        Ok((store, moves))
+    }
+
+    // No nodes, and room for so many.
+    fn with_room(alloc: Global, count: usize) -> Result<Store, NoMemory>
+        ensures { IfOk result (λ store. store ≡ []) }
+    {
+        Ok(Store {
+            nodes: IndexSet::with_capacity(alloc, count)?,
+            facts: Vec::with_capacity(alloc, count)?,
+            hints: Hints::new(alloc),
+        })
+    }
+
+    // The id of the node, whose facts are these. Its place is noted.
     fn intern(&mut self, node: Node, facts: Facts) -> Result<NodeId, NoMemory>
+        requires { IsNext self.old node facts }
+        ensures kept { IsKept self.old self.new node }
+        ensures node { IfOk result (λ id. slice_get self.new id.index ≡ Some node) }
+        ensures live { IfOk result (λ id. id.index < length self.new) }
+        ensures tree { IfOk result (λ id. tree self.new id.index ≡ node_tree (trees self.old) node) }
+        ensures err { OnErr result (self.new ≡ self.old) }
+    {
+        let id = self.insert(node, facts)?;
+        self.hints.note(node, id.index);
+        Ok(id)
+    }
+
+    // The id of the node, whose facts are these.
+    fn insert(&mut self, node: Node, facts: Facts) -> Result<NodeId, NoMemory>
         requires { IsNext self.old node facts }
         ensures kept { IsKept self.old self.new node }
         ensures node { IfOk result (λ id. slice_get self.new id.index ≡ Some node) }
@@ -193,7 +244,6 @@ impl Store {
     {
         self.facts.reserve(1).map_err(|_| NoMemory)?;
         let (index, added) = self.nodes.insert_full(node).map_err(|_| NoMemory)?;
-        self.hints.note(node, index);
         if added {
             self.facts.push_reserved(facts);
         }
@@ -213,6 +263,17 @@ mod tests {
     fn a_pair_of_bytes(rt: HostRuntime) -> Result<(), Fail> {
         let alloc = rt.alloc();
         paired::<Brand>(&rt, alloc, Blank::new(1))
+    }
+
+    #[test]
+    fn nothing_is_kept(rt: HostRuntime) -> Result<(), Fail> {
+        let alloc = rt.alloc();
+        let mut store = Store::new(alloc);
+        let a = store.byte(b'a')?;
+        let keep = vec![in alloc; false; store.count()]?;
+        let (thin, moves) = store.thin(alloc, &keep)?;
+        assert!(rt; thin.count() == 0 && !moves.kept(a));
+        Ok(())
     }
 
     fn paired<L: Ledger>(rt: &impl Abort, alloc: Global, blank: Blank) -> Result<(), Fail>

@@ -1,5 +1,6 @@
 //! Laws of the definitions.
 ghost use Rattle.slp_model.specs.Laws.{TreeLaw, JoinCases, JoinLaw, ShapeLaw, ShapeRows};
+ghost use Rattle.slp_model.specs.Thin.{ThinLaw};
 
 /// A tree of n bytes has n leaves, and a balanced one has height at most H(n).
 pub fn trees()
@@ -25,4 +26,10 @@ pub fn shapes()
 /// The loader's trees of `abc`, `abcde` and `abracadabra`.
 pub fn shape_rows()
     ensures { ShapeRows }
+{}
+
+/// The kept nodes of a plan, in their order and under new numbers, make a store: each has its tree, no two of them are
+/// equal, and where exactly the nodes that some roots reach are kept, these roots reach each node of the new store.
+pub fn thin_store()
+    ensures { ThinLaw }
 {}

@@ -1,8 +1,9 @@
-//! Which nodes of a store stay when it is compacted: those below the roots that are kept.
+//! Which nodes of a store stay when it is compacted: those below the roots that are kept. They make the thin store.
 //!
 //! ```text
 //! let mut plan = Plan::new(alloc, &store)?;
 //! plan.keep_root(&store, root)?;              // and so each root that is to stay
+//! let (thin, moves) = plan.build(alloc, &store)?;
 //! ```
 //!
 //! A plan takes a byte for each node of the store. All calls of `keep_root` on one plan together take time linear in
@@ -14,11 +15,11 @@
 
 ghost use Rattle.std.specs.Prelude.{◌≡◌, ◌<◌, false, length, replicate, IfOk, IsOk};
 ghost use Rattle.slp_model.specs.Nodes.{IsLive};
-ghost use Rattle.store_compact.specs.Kept.{AddsExactly, IsPlanOf, Reaches, RootReaches};
+ghost use Rattle.slp_model.specs.Kept.{AddsExactly, IsPlanOf, Reaches, RootReaches};
+ghost use Rattle.slp_model.specs.Thin as thinning;
+ghost use Rattle.slp_model.specs.Thin.{IsThinOf};
 
-pub mod law;
-
-use node_store::{Node, NodeId, Store};
+use node_store::{Moves, Node, NodeId, Store};
 use span_types::NoMemory;
 use std::alloc::Global;
 use std::marker::Model;
@@ -65,6 +66,21 @@ impl Plan {
             keep_below(store, &mut self.keep, id);
         }
         Ok(())
+    }
+
+    /// The thin store: the nodes that are kept, in their order, each with its tree under a new id, and where each one
+    /// went. The store is the one that the plan was made for. Takes time linear in its nodes.
+    ///
+    /// # Errors
+    ///
+    /// `NoMemory` where none was found.
+    pub fn build(&self, alloc: Global, store: &Store) -> Result<(Store, Moves), NoMemory>
+        requires plan { IsPlanOf store.now self.now }
+        ensures store { IfOk result (λ made. made.0 ≡ thinning.thin store.now self.now) }
+        ensures moves { IfOk result (λ made. made.1 ≡ self.now) }
+        ensures thin { IfOk result (λ made. IsThinOf store.now self.now made.0) }
+    {
+        store.thin(alloc, &self.keep)
     }
 }
 

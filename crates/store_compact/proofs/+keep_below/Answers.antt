@@ -1,6 +1,6 @@
 use Rattle.std.proofs.Common.{◌<◌, true, List, Bool, length, slice_set, sym, subst}
-use Rattle.store_compact.specs.Kept.{AddsExactly, IsPlanOf, Reaches}
-use Rattle.store_compact.proofs.KeptLemmas.{adds-again, adds-byte, adds-pair, plan-byte, plan-pair}
+use Rattle.slp_model.specs.Kept.{AddsExactly, IsPlanOf, Reaches}
+use Rattle.slp_model.proofs.KeptLemmas.{adds-again, adds-byte, adds-pair, plan-byte, plan-pair}
 use Rattle.store_compact.proofs.+keep_below.Goals.{in-Pair, in_default}
 use Rattle.store_compact.proofs.+keep_below.Goals as goal
 

@@ -9,11 +9,11 @@ use Rattle.slp_model.specs.declared.Node.TheVariants.{Byte, Pair}
 use Rattle.slp_model.specs.Tree.{Tree, Fork, leaves, IsBalanced}
 use Rattle.slp_model.specs.Nodes.{tree, trees, node_tree, IsSound, IsNodeAt, IsBelow}
 use Rattle.slp_model.proofs.NodesLemmas.{tree-append, tree-push, node-at, IsSound-push}
-use Rattle.node_store.specs.Stored.{AreDistinct, AreOfBytes, IsOfByte}
-use Rattle.store_compact.specs.Kept.{Keeps, IsPlanOf, Reaches, Here, Left, Right, RootReaches}
-use Rattle.store_compact.specs.Thin.{rank, renumbered, moved, kept_of, thin, AnyReaches, ThinLaw}
-use Rattle.store_compact.proofs.KeptLemmas.{cases_eq}
-use Rattle.store_compact.proofs.RankLemmas.{rank-kept, rank-other, rank-below, rank-apart, kept-within, kept-on, kept-skip}
+use Rattle.slp_model.specs.Distinct.{AreDistinct, AreOfBytes, IsOfByte}
+use Rattle.slp_model.specs.Kept.{Keeps, IsPlanOf, Reaches, Here, Left, Right, RootReaches}
+use Rattle.slp_model.specs.Thin.{rank, renumbered, moved, kept_of, thin, AnyReaches, ThinLaw}
+use Rattle.slp_model.proofs.KeptLemmas.{cases_eq}
+use Rattle.slp_model.proofs.RankLemmas.{rank-kept, rank-other, rank-below, rank-apart, kept-within, kept-on, kept-skip}
 
 -- an element of a list with one more
 get-front : {X : Type 0} (xs : List X) (x y : X) (i : ℕ) → slice_get xs i ≡ Some y → slice_get (xs ++ x ∷ []) i ≡ Some y
@@ -118,8 +118,17 @@ so-far-on ns ks k ms n t sound plan keep at = record {
     new = new-tree ns ks k ms n t node children
 
 -- the kept ones of the first k nodes, under their new numbers
-abbrev thin_to : List Node → List Bool → ℕ → List Node
+abbrev pub thin_to : List Node → List Bool → ℕ → List Node
 thin_to ns ks k = map (renumbered (rank ks)) (kept_of (take k ns) ks)
+
+pub thin-on : (ns : List Node) (ks : List Bool) (k : ℕ) (n : Node) → slice_get ns k ≡ Some n → Keeps ks k → thin_to ns ks (suc k) ≡ thin_to ns ks k ++ renumbered (rank ks) n ∷ []
+thin-on ns ks k n at keep = ap (map (renumbered (rank ks))) (kept-on ns ks k n at keep) ∙ map-append (renumbered (rank ks)) (kept_of (take k ns) ks) (n ∷ [])
+
+pub thin-skip : (ns : List Node) (ks : List Bool) (k : ℕ) → get_or ks k false ≡ false → thin_to ns ks (suc k) ≡ thin_to ns ks k
+thin-skip ns ks k none = ap (map (renumbered (rank ks))) (kept-skip ns ks k none)
+
+pub thin-all : (ns : List Node) (ks : List Bool) → thin_to ns ks (length ns) ≡ thin ns ks
+thin-all ns ks = ap (λ (xs : List Node). map (renumbered (rank ks)) (kept_of xs ks)) (take_all (length ns) ns (omega arith))
 
 so-far : (ns : List Node) (ks : List Bool) → IsSound ns → IsPlanOf ns ks → (k : ℕ) → k ≤ length ns → IsSoFar ns ks k (thin_to ns ks k)
 so-far ns ks sound plan zero le = so-far-none ns ks
@@ -128,15 +137,12 @@ so-far ns ks sound plan (suc k) le = by (get_or ks k false) refl (so-far ns ks s
     by : (b : Bool) → get_or ks k false ≡ b → IsSoFar ns ks k (thin_to ns ks k) → IsSoFar ns ks (suc k) (thin_to ns ks (suc k))
     by true keep t =
         let w = node-of ns k (omega (arith, le)) in
-        let e : thin_to ns ks (suc k) ≡ thin_to ns ks k ++ renumbered (rank ks) w.0 ∷ []
-        = ap (map (renumbered (rank ks))) (kept-on ns ks k w.0 w.1 keep) ∙ map-append (renumbered (rank ks)) (kept_of (take k ns) ks) (w.0 ∷ []) in
-        subst (λ (xs : List Node). IsSoFar ns ks (suc k) xs) (sym e) (so-far-on ns ks k (thin_to ns ks k) w.0 t sound plan keep w.1)
+        subst (λ (xs : List Node). IsSoFar ns ks (suc k) xs) (sym (thin-on ns ks k w.0 w.1 keep)) (so-far-on ns ks k (thin_to ns ks k) w.0 t sound plan keep w.1)
     by false none t =
-        let e : thin_to ns ks (suc k) ≡ thin_to ns ks k = ap (map (renumbered (rank ks))) (kept-skip ns ks k none) in
-        subst (λ (xs : List Node). IsSoFar ns ks (suc k) xs) (sym e) (so-far-skip ns ks k (thin_to ns ks k) t none)
+        subst (λ (xs : List Node). IsSoFar ns ks (suc k) xs) (sym (thin-skip ns ks k none)) (so-far-skip ns ks k (thin_to ns ks k) t none)
 
 thin-whole : (ns : List Node) (ks : List Bool) → IsSound ns → IsPlanOf ns ks → IsSoFar ns ks (length ns) (thin ns ks)
-thin-whole ns ks sound plan = subst (λ (xs : List Node). IsSoFar ns ks (length ns) (map (renumbered (rank ks)) (kept_of xs ks))) (take_all (length ns) ns (omega arith)) (so-far ns ks sound plan (length ns) (omega arith))
+thin-whole ns ks sound plan = subst (λ (xs : List Node). IsSoFar ns ks (length ns) xs) (thin-all ns ks) (so-far ns ks sound plan (length ns) (omega arith))
 
 -- paths among the kept nodes
 path-thin : (ns : List Node) (ks : List Bool) (ms : List Node) → IsSoFar ns ks (length ns) ms → IsPlanOf ns ks → (i j : ℕ) → Keeps ks i → Reaches ns i j → Reaches ms (rank ks i) (rank ks j)
@@ -183,6 +189,30 @@ renumber-apart ks (Pair l r) (Pair m n) p q e =
     let y : r.index ≡ n.index = rank-apart ks r.index n.index a.1 b.1 two in
     λ j. Pair (record { index = x j }) (record { index = y j })
 
+-- the next kept node, under its new number, may follow those before it
+pub next-below : (ns : List Node) (ks : List Bool) (k : ℕ) (n : Node) → IsSound ns → IsPlanOf ns ks → Keeps ks k → slice_get ns k ≡ Some n → IsBelow (length (thin_to ns ks k)) (renumbered (rank ks) n)
+next-below ns ks k n sound plan keep at =
+    let t = so-far ns ks sound plan k (omega (arith, slice_get_within ns k n at)) in
+    new-below ns ks k n (length (thin_to ns ks k)) t.long (node-at ns k n sound at) (λ l r e. plan.closed k l r (at ∙ ap Some e) keep)
+
+pub next-tree : (ns : List Node) (ks : List Bool) (k : ℕ) (n : Node) → IsSound ns → IsPlanOf ns ks → Keeps ks k → slice_get ns k ≡ Some n → node_tree (trees (thin_to ns ks k)) (renumbered (rank ks) n) ≡ tree ns k
+next-tree ns ks k n sound plan keep at =
+    let t = so-far ns ks sound plan k (omega (arith, slice_get_within ns k n at)) in
+    new-tree ns ks k (thin_to ns ks k) n t (node-at ns k n sound at) (λ l r e. plan.closed k l r (at ∙ ap Some e) keep)
+
+-- and it isn't among them
+pub next-new : (ns : List Node) (ks : List Bool) (k : ℕ) (n : Node) → IsSound ns → IsPlanOf ns ks → AreDistinct ns → Keeps ks k → slice_get ns k ≡ Some n → (j : ℕ) → slice_get (thin_to ns ks k) j ≡ Some (renumbered (rank ks) n) → ⊥
+next-new ns ks k n sound plan apart keep at j h =
+    let within : k < length ns = slice_get_within ns k n at in
+    let t = so-far ns ks sound plan k (omega (arith, within)) in
+    let v = t.back j (slice_get_within (thin_to ns ks k) j (renumbered (rank ks) n) h) in
+    let w = node-of ns v.0 (omega (arith, v.1, within)) in
+    let a : slice_get (thin_to ns ks k) j ≡ Some (renumbered (rank ks) w.0) = ap (λ p. slice_get (thin_to ns ks k) p) (sym v.3) ∙ t.node v.0 w.0 v.1 v.2 w.1 in
+    let c : Some (renumbered (rank ks) n) ≡ Some (renumbered (rank ks) w.0) = sym h ∙ a in
+    let e : w.0 ≡ n = renumber-apart ks w.0 n (λ l r q. plan.closed v.0 l r (w.1 ∙ ap Some q) v.2) (λ l r q. plan.closed k l r (at ∙ ap Some q) keep) (sym (cc c)) in
+    let f : v.0 ≡ k = apart v.0 k n (w.1 ∙ ap Some e) at in
+    omega (arith, v.1, f)
+
 -- where a node of the thin store comes from
 record ComesFrom (ns : List Node) (ks : List Bool) (j : ℕ) (m : Node) : Type 0 where
   pub place : ℕ
@@ -208,7 +238,7 @@ thin-distinct ns ks ms t plan apart i j n hi hj =
     let f : v.place ≡ w.place = apart v.place w.place w.node (v.at ∙ ap Some e) w.at in
     sym v.rank_is ∙ (ap (rank ks) f ∙ w.rank_is)
 
-byte-renumbered : (f : ℕ → ℕ) (n : Node) → IsOfByte n → IsOfByte (renumbered f n)
+pub byte-renumbered : (f : ℕ → ℕ) (n : Node) → IsOfByte n → IsOfByte (renumbered f n)
 byte-renumbered f (Byte b) h = h
 byte-renumbered f (Pair l r) h = tt
 
@@ -222,7 +252,9 @@ thin-law ns ks sound plan = record {
   sound = t.sound;
   bytes = thin-bytes ns ks (thin ns ks) t;
   distinct = thin-distinct ns ks (thin ns ks) t plan;
+  long = t.long;
   live = λ i h. omega (arith, rank-below ks i (length ns) h (within i h), t.long);
+  node = λ i n h at. t.node i n (within i h) h at;
   trees = λ i h. t.same i (within i h) h;
   exact = λ j lt. let w = t.back j lt in (w.0, w.2, w.3);
   reached = λ roots exact j lt.

@@ -1,11 +1,11 @@
 -- The kept nodes alone.
-use Rattle.std.specs.Prelude.{◌≡◌, ◌↔◌, ◌⊎◌, ℕ, zero, suc, ◌+◌, ◌<◌, Bool, cond, List, [], ◌∷◌, length, map, Option, option_map}
+use Rattle.std.specs.Prelude.{◌≡◌, ◌↔◌, ◌⊎◌, ℕ, zero, suc, ◌+◌, ◌<◌, Bool, cond, List, [], ◌∷◌, length, map, slice_get, Option, Some, option_map}
 use Rattle.slp_model.specs.declared.NodeId.{NodeId}
 use Rattle.slp_model.specs.declared.Node.{Node}
 use Rattle.slp_model.specs.declared.Node.TheVariants.{Byte, Pair}
 use Rattle.slp_model.specs.Nodes.{tree, IsSound}
-use Rattle.node_store.specs.Stored.{AreDistinct, AreOfBytes}
-use Rattle.store_compact.specs.Kept.{Keeps, IsPlanOf, RootReaches}
+use Rattle.slp_model.specs.Distinct.{AreDistinct, AreOfBytes}
+use Rattle.slp_model.specs.Kept.{Keeps, IsPlanOf, RootReaches}
 
 -- how many of the nodes before this place are kept: the new number of a kept node
 abbrev pub rank : List Bool → ℕ → ℕ
@@ -37,15 +37,21 @@ abbrev pub AnyReaches : List Node → List (Option NodeId) → ℕ → Type 0
 AnyReaches ns [] j = ⊥
 AnyReaches ns (root ∷ roots) j = RootReaches ns root j ⊎ AnyReaches ns roots j
 
+-- exactly the nodes that the roots reach are kept
+abbrev pub KeepsExactly : List Node → List Bool → List (Option NodeId) → Type 0
+KeepsExactly ns keep roots = (j : ℕ) → Keeps keep j ↔ AnyReaches ns roots j
+
 -- ms is a store of exactly the kept nodes, each with its tree, and where these are what the roots reach, so are those of ms
 pub record IsThinOf (ns : List Node) (keep : List Bool) (ms : List Node) : Type 0 where
   pub sound : IsSound ms
   pub bytes : AreOfBytes ns → AreOfBytes ms
   pub distinct : AreDistinct ns → AreDistinct ms
+  pub long : length ms ≡ rank keep (length ns)
   pub live : (i : ℕ) → Keeps keep i → rank keep i < length ms
+  pub node : (i : ℕ) (n : Node) → Keeps keep i → slice_get ns i ≡ Some n → slice_get ms (rank keep i) ≡ Some (renumbered (rank keep) n)
   pub trees : (i : ℕ) → Keeps keep i → tree ms (rank keep i) ≡ tree ns i
   pub exact : (j : ℕ) → j < length ms → (i : ℕ) × Keeps keep i × (rank keep i ≡ j)
-  pub reached : (roots : List (Option NodeId)) → ((i : ℕ) → Keeps keep i ↔ AnyReaches ns roots i) → (j : ℕ) → j < length ms → AnyReaches ms (map (moved keep) roots) j
+  pub reached : (roots : List (Option NodeId)) → KeepsExactly ns keep roots → (j : ℕ) → j < length ms → AnyReaches ms (map (moved keep) roots) j
 
 -- the kept nodes of a plan make a store
 abbrev pub ThinLaw : Type 0

@@ -7,7 +7,7 @@ use Rattle.std.proofs.Common.{inr, true}
 use Rattle.std.specs.List.{IsDistinct}
 use Rattle.slp_model.specs.contracts.NodePartialEq.TheImpl.{ghosts}
 use Rattle.node_store.proofs.StoredLemmas.{IsStored-push, tree-kept, new-added}
-use Rattle.node_store.proofs.Store.intern.Goals as goal
+use Rattle.node_store.proofs.Store.insert.Goals as goal
 
 pub invariant_of-self-then-added : goal.invariant_of-self-then-added
 invariant_of-self-then-added c =

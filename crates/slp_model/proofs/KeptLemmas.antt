@@ -1,12 +1,13 @@
 -- What is kept, one node at a time.
-use Rattle.std.proofs.Common.{◌≡◌, ℕ, zero, suc, ◌<◌, ◌⊎◌, inl, inr, Bool, true, false, List, length, slice_get, slice_set, Some, None, refl, ap, sym, subst, ◌∙◌, arith, length-set, get_or-set_same, get_or-set_other}
+use Rattle.std.proofs.Common.{◌≡◌, ℕ, zero, suc, ◌<◌, ◌⊎◌, inl, inr, Bool, true, false, List, [], ◌∷◌, ◌++◌, length, slice_get, slice_set, Option, Some, None, refl, ap, sym, subst, ◌∙◌, arith, length-set, get_or-set_same, get_or-set_other}
 use Rattle.std.proofs.lemmas.Bool.{cases_lt}
 use Rattle.std.proofs.lemmas.List.{length-replicate}
 use Rattle.std.proofs.Math.ListN.{replicate}
 use Rattle.slp_model.specs.declared.NodeId.{NodeId}
 use Rattle.slp_model.specs.declared.Node.{Node}
 use Rattle.slp_model.specs.declared.Node.TheVariants.{Byte, Pair}
-use Rattle.store_compact.specs.Kept.{Reaches, Here, Left, Right, RootReaches, Keeps, IsPlanOf, AddsExactly}
+use Rattle.slp_model.specs.Kept.{Reaches, Here, Left, Right, RootReaches, Keeps, IsPlanOf, AddsExactly}
+use Rattle.slp_model.specs.Thin.{AnyReaches, KeepsExactly}
 
 pub cases_eq : (m n : ℕ) → (m ≡ n) ⊎ (m ≡ n → ⊥)
 cases_eq m n = elim (cases_lt m n) [
@@ -150,3 +151,34 @@ plan-pair ns old mid new i l r at one two lt p = plan-on ns new i p lt (λ m n h
       subst (λ (y : NodeId). Keeps new y.index) (sym first) ((two l.index).1 (inl ((one l.index).1 (inr (Here ns l.index))))),
       subst (λ (y : NodeId). Keeps new y.index) (sym second) ((two r.index).1 (inr (Here ns r.index))),
     ))
+
+-- what the roots reach, one root at a time
+pub keeps-none : (ns : List Node) (ks : List Bool) (n : ℕ) → ks ≡ replicate n false → KeepsExactly ns ks []
+keeps-none ns ks n e = λ j. (λ h. absurd (none-kept j n (subst (λ (xs : List Bool). Keeps xs j) e h)), λ x. absurd x)
+
+any-before : (ns : List Node) (roots : List (Option NodeId)) (r : Option NodeId) (j : ℕ) → AnyReaches ns roots j → AnyReaches ns (roots ++ r ∷ []) j
+any-before ns [] r j x = absurd x
+any-before ns (q ∷ roots) r j x = elim x [ inl y ↦ inl y | inr y ↦ inr (any-before ns roots r j y) ]
+
+any-last : (ns : List Node) (roots : List (Option NodeId)) (r : Option NodeId) (j : ℕ) → RootReaches ns r j → AnyReaches ns (roots ++ r ∷ []) j
+any-last ns [] r j x = inl x
+any-last ns (q ∷ roots) r j x = inr (any-last ns roots r j x)
+
+any-of : (ns : List Node) (roots : List (Option NodeId)) (r : Option NodeId) (j : ℕ) → AnyReaches ns (roots ++ r ∷ []) j → AnyReaches ns roots j ⊎ RootReaches ns r j
+any-of ns [] r j x = elim x [ inl y ↦ inr y | inr y ↦ absurd y ]
+any-of ns (q ∷ roots) r j x = elim x [
+  | inl y ↦ inl (inl y)
+  | inr y ↦ elim (any-of ns roots r j y) [ inl z ↦ inl (inr z) | inr z ↦ inr z ]
+]
+
+pub keeps-next : (ns : List Node) (old new : List Bool) (roots : List (Option NodeId)) (r : Option NodeId) → KeepsExactly ns old roots → AddsExactly old new (RootReaches ns r) → KeepsExactly ns new (roots ++ r ∷ [])
+keeps-next ns old new roots r a b = λ j. (
+  λ h. elim ((b j).0 h) [
+    | inl k ↦ any-before ns roots r j ((a j).0 k)
+    | inr x ↦ any-last ns roots r j x
+  ],
+  λ x. elim (any-of ns roots r j x) [
+    | inl y ↦ (b j).1 (inl ((a j).1 y))
+    | inr y ↦ (b j).1 (inr y)
+  ],
+)

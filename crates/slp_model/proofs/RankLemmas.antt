@@ -2,8 +2,8 @@
 use Rattle.std.proofs.Common.{◌≡◌, ℕ, zero, suc, ◌+◌, ◌-◌, ◌<◌, ◌≤◌, inl, inr, Bool, true, false, cond, List, [], ◌∷◌, ◌++◌, length, get_or, slice_get, take, Some, refl, ap, sym, subst, ◌∙◌, arith}
 use Rattle.std.proofs.lemmas.Bool.{cases_lt}
 use Rattle.slp_model.specs.declared.Node.{Node}
-use Rattle.store_compact.specs.Kept.{Keeps}
-use Rattle.store_compact.specs.Thin.{rank, kept_of}
+use Rattle.slp_model.specs.Kept.{Keeps}
+use Rattle.slp_model.specs.Thin.{rank, kept_of}
 
 -- one more place
 rank-next : (ks : List Bool) (i : ℕ) → rank ks (suc i) ≡ rank ks i + cond (get_or ks i false) 1 0
@@ -17,6 +17,14 @@ rank-kept ks i h = rank-next ks i ∙ ap (λ b. rank ks i + cond b 1 0) h
 
 pub rank-other : (ks : List Bool) (i : ℕ) → get_or ks i false ≡ false → rank ks (suc i) ≡ rank ks i
 rank-other ks i h = let e : rank ks (suc i) ≡ rank ks i + 0 = rank-next ks i ∙ ap (λ b. rank ks i + cond b 1 0) h in omega (arith, e)
+
+pub rank-most : (ks : List Bool) (i : ℕ) → rank ks i ≤ i
+rank-most ks zero = omega arith
+rank-most ks (suc i) = omega (arith, rank-next ks i, rank-most ks i, bit (get_or ks i false))
+  where
+    bit : (b : Bool) → cond b 1 0 ≤ 1
+    bit true = omega arith
+    bit false = omega arith
 
 rank-rises : (ks : List Bool) (i k : ℕ) → rank ks i ≤ rank ks (k + i)
 rank-rises ks i zero = let e : zero + i ≡ i = omega arith in subst (λ n. rank ks i ≤ rank ks n) (sym e) (omega arith)

@@ -1,0 +1,76 @@
+//! Where the nodes of a store went when it was thinned.
+ghost use Rattle.std.specs.Prelude.{◌≡◌, ◌<◌, false, get_or, length, IfOk};
+ghost use Rattle.slp_model.specs.Kept.{Keeps};
+ghost use Rattle.slp_model.specs.Thin as thinning;
+ghost use Rattle.node_store.specs.Moved.{AreRanks};
+
+use slp_model::NodeId;
+use span_types::NoMemory;
+use std::alloc::Global;
+use std::marker::Model;
+
+/// The new ids of the nodes that were kept when a store was thinned. Contracts see it as a list of truth values, one
+/// for each node of the old store, which says whether the node was kept.
+#[derive(Drop)]
+pub struct Moves {
+    keep: Vec<bool>,
+    // how many of the nodes before each one were kept
+    ranks: Vec<usize>,
+}
+
+impl Model for Moves {
+    ghost use Rattle.std.specs.Prelude.{List, Bool, length};
+
+    ghost Value = { List Bool };
+
+    ghost use Rattle.node_store.specs.Moved.{AreRanks};
+
+    ghost view = { λ m. m.keep.items };
+
+    ghost invariant = { λ m. AreRanks m.keep.items m.ranks.items (length m.keep.items) };
+}
+
+impl Moves {
+    // Where the kept nodes go, and how many they are.
+    pub(crate) fn new(alloc: Global, keep: &[bool]) -> Result<(Moves, usize), NoMemory>
+        ensures { IfOk result (λ made. made.0 ≡ keep.now) }
+    {
+        let (ranks, count) = ranks(alloc, keep)?;
+        let mut kept = Vec::new(alloc);
+        kept.extend_from_slice(keep).map_err(|_| NoMemory)?;
+        Ok((Moves { keep: kept, ranks }, count))
+    }
+
+    /// The new id of a node that was kept. It takes constant time and no memory, as does `kept`.
+    pub fn moved(&self, id: NodeId) -> NodeId
+        requires kept { Keeps self.now id.index }
+        ensures moved { result.index ≡ thinning.rank self.now id.index }
+    {
+        NodeId {
+            index: self.ranks[id.index],
+        }
+    }
+
+    /// Whether this node of the old store was kept.
+    pub fn kept(&self, id: NodeId) -> bool
+        requires live { id.index < length self.now }
+        ensures kept { result ≡ get_or self.now id.index false }
+    {
+        self.keep[id.index]
+    }
+}
+
+// For each node how many before it are kept, and how many are kept at all.
+fn ranks(alloc: Global, keep: &[bool]) -> Result<(Vec<usize>, usize), NoMemory>
+    ensures { IfOk result (λ made. AreRanks keep.now made.0.items (length keep.now)) }
+{
+    let mut numbers = Vec::with_capacity(alloc, keep.len())?;
+    let mut next: usize = 0;
+    for kept in keep {
+        numbers.push(next)?;
+        if *kept {
+            next += 1;
+        }
+    }
+    Ok((numbers, next))
+}

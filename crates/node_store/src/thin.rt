@@ -1,0 +1,47 @@
+//! The kept nodes of a store alone.
+ghost use Rattle.std.specs.Prelude.{◌≡◌, length, IfOk};
+ghost use Rattle.slp_model.specs.Nodes.{IsBelow};
+ghost use Rattle.slp_model.specs.Kept.{IsPlanOf};
+ghost use Rattle.slp_model.specs.Thin as thinning;
+ghost use Rattle.slp_model.specs.Thin.{IsThinOf};
+ghost use Rattle.node_store.specs.Moved.{KeepChildren};
+
+use crate::{Facts, Moves, Node, NodeId, Store};
+use span_types::NoMemory;
+use std::alloc::Global;
+
+// The node with the new ids of its children, which are kept.
+fn renumbered(node: Node, moves: &Moves) -> Node
+    requires { KeepChildren moves.now node }
+    ensures { result ≡ thinning.renumbered (thinning.rank moves.now) node }
+{
+    match node {
+        Node::Byte(b) => Node::Byte(b),
+        Node::Pair(left, right) => Node::Pair(moves.moved(left), moves.moved(right)),
+    }
+}
+
+/// The kept nodes in their order, under their new numbers. They are so many.
+pub(crate) fn thinned(
+    alloc: Global,
+    store: &Store,
+    moves: &Moves,
+    count: usize,
+) -> Result<Store, NoMemory>
+    requires { IsPlanOf store.now moves.now }
+    ensures store { IfOk result (λ made. made ≡ thinning.thin store.now moves.now) }
+    ensures thin { IfOk result (IsThinOf store.now moves.now) }
+{
+    let mut thin = Store::with_room(alloc, count)?;
+    for index in 0..store.count() {
+        let id = NodeId { index };
+        if moves.kept(id) {
+            let facts = Facts {
+                len: store.len(id),
+                height: store.height(id),
+            };
+            thin.insert(renumbered(store.node(id), moves), facts)?;
+        }
+    }
+    Ok(thin)
+}

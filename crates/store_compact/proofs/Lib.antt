@@ -1,3 +1,0 @@
-pub mod KeptLemmas
-pub mod RankLemmas
-pub mod ThinLemmas
