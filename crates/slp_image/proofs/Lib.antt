@@ -3,8 +3,7 @@ pub mod NodeLemmas
 pub mod TextLemmas
 pub mod DocumentLemmas
 pub mod ReadLemmas
-pub mod MarkLemmas
-pub mod ThinLemmas
+pub mod FollowLemmas
 pub mod SavedLemmas
 pub mod WriteLemmas
 pub mod KeptLemmas

@@ -8,8 +8,8 @@ use Rattle.span_types.specs.Names.{is_name}
 use Rattle.doc_book.specs.declared.Doc.{Doc}
 use Rattle.slp_image.specs.Image.{Document}
 use Rattle.slp_image.specs.Written.{document_bytes, documents_bytes}
-use Rattle.slp_image.specs.Marks.{AreSaved, saved}
-use Rattle.slp_image.proofs.MarkLemmas.{cases_eq}
+use Rattle.slp_image.specs.Saved.{AreSaved, saved}
+use Rattle.slp_model.proofs.KeptLemmas.{cases_eq}
 
 -- a name has at most 64 bytes
 pub name-short : (name : List ℕ) → is_name name ≡ true → length name ≤ 64

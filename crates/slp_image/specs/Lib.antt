@@ -4,5 +4,5 @@ pub mod Documents
 pub mod Reads
 pub mod Save
 pub mod Written
-pub mod Marks
+pub mod Saved
 pub mod Rows

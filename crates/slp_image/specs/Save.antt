@@ -1,16 +1,9 @@
 -- What a writer of images may write.
 use Rattle.std.specs.Prelude.{◌≡◌, ◌<◌, ℕ, List, length, map, slice_get, Option, Some, option_map, Ok}
-use Rattle.slp_model.specs.declared.NodeId.{NodeId}
 use Rattle.slp_model.specs.declared.Node.{Node}
-use Rattle.slp_model.specs.declared.Node.TheVariants.{Pair}
+use Rattle.slp_model.specs.Kept.{Reaches}
 use Rattle.doc_book.specs.declared.Doc.{Doc}
 use Rattle.slp_image.specs.Image.{Contents, contents, node_at, version_at}
-
--- the node j is i, or below it
-pub data Reaches : List Node → ℕ → ℕ → Type 0 where
-  Here : (ns : List Node) (i : ℕ) → Reaches ns i i
-  Left : (ns : List Node) (i j : ℕ) (l r : NodeId) → slice_get ns i ≡ Some (Pair l r) → Reaches ns l.index j → Reaches ns i j
-  Right : (ns : List Node) (i j : ℕ) (l r : NodeId) → slice_get ns i ≡ Some (Pair l r) → Reaches ns r.index j → Reaches ns i j
 
 -- one of the roots reaches the node
 pub record IsReached (ns : List Node) (roots : List (Option ℕ)) (j : ℕ) : Type 0 where

@@ -1,15 +1,14 @@
 //! Fields, records and documents as bytes.
-ghost use Rattle.std.specs.Prelude.{◌≡◌, ◌<◌, true, [], ◌∷◌, ◌++◌, length, get_or, option_map, IfOk, OnOk};
+ghost use Rattle.std.specs.Prelude.{◌≡◌, true, [], ◌∷◌, ◌++◌, length, option_map, OnOk};
 ghost use Rattle.byteorder.specs.Endian.{big_bytes};
-ghost use Rattle.slp_model.specs.Nodes.{IsBelow};
-ghost use Rattle.slp_image.specs.Written.{node_bytes, document_bytes};
-ghost use Rattle.slp_image.specs.Marks.{AreClosed, AreRanks, AreThinned, AreSaved, IsWithin, AreWithin};
-ghost use Rattle.slp_image.specs.Marks as marked;
+ghost use Rattle.slp_model.specs.Thin.{rank};
+ghost use Rattle.slp_image.specs.Written.{node_bytes, records_bytes, document_bytes};
+ghost use Rattle.slp_image.specs.Saved.{AreSaved, KeepsRoot, KeepsRoots};
 ghost use Rattle.span_types.specs.Names.{is_name};
 
 use byteorder::{BigEndian, ByteOrder};
 use doc_book::Docs;
-use node_store::{Node, NodeId, Store};
+use node_store::{Moves, Node, NodeId, Store};
 use span_types::{Name, NoMemory};
 
 // A byte after the others.
@@ -47,43 +46,12 @@ pub(crate) fn push_node(out: &mut Vec<u8>, node: Node) -> Result<(), NoMemory>
     }
 }
 
-// The node with the new numbers of its children.
-fn renumbered(node: Node, numbers: &[u64]) -> Node
-    requires { IsBelow (length numbers.now) node }
-    ensures { result ≡ marked.renumbered (λ i. get_or numbers.now i 0) node }
-{
-    match node {
-        Node::Byte(b) => Node::Byte(b),
-        Node::Pair(left, right) => Node::Pair(
-            NodeId {
-                index: numbers[left.index] as usize,
-            },
-            NodeId {
-                index: numbers[right.index] as usize,
-            },
-        ),
-    }
-}
-
-/// The records of the marked nodes, whose numbers are their ranks.
-pub(crate) fn push_nodes(
-    out: &mut Vec<u8>,
-    store: &Store,
-    marks: &[bool],
-    numbers: &[u64],
-) -> Result<(), NoMemory>
-    requires long { length marks.now ≡ length store.now }
-    requires closed { AreClosed store.now marks.now 0 }
-    requires ranks { AreRanks marks.now numbers.now (length store.now) }
-    ensures { OnOk result (AreThinned store.now marks.now (length store.now) out.old.items out.new.items) }
+/// The records of all nodes of the store after the others.
+pub(crate) fn push_nodes(out: &mut Vec<u8>, store: &Store) -> Result<(), NoMemory>
+    ensures { OnOk result (out.new.items ≡ out.old.items ++ records_bytes store.now) }
 {
     for index in 0..store.count() {
-        if marks[index] {
-            let id = NodeId { index };
-            let len = store.len(id);
-            prove!(len <= 1 << 48);
-            push_node(out, renumbered(store.node(id), numbers))?;
-        }
+        push_node(out, store.node(NodeId { index }))?;
     }
     Ok(())
 }
@@ -99,29 +67,25 @@ fn push_document(out: &mut Vec<u8>, name: &Name, root: Option<u64>) -> Result<()
     push_number(out, root.unwrap_or(u64::MAX))
 }
 
-// The number of a root.
-fn number_of(root: Option<NodeId>, numbers: &[u64]) -> Option<u64>
-    requires { IsWithin (length numbers.now) root }
-    ensures { result ≡ option_map (λ id. get_or numbers.now id.index 0) root }
+// The new number of a root.
+fn number_of(root: Option<NodeId>, moves: &Moves) -> Option<u64>
+    requires { KeepsRoot moves.now root }
+    ensures { result ≡ option_map (λ id. rank moves.now id.index) root }
 {
     match root {
-        Some(id) => Some(numbers[id.index]),
+        Some(id) => Some(moves.moved(id).index as u64),
         None => None,
     }
 }
 
-/// All documents, with the numbers of their roots.
-pub(crate) fn push_documents(
-    out: &mut Vec<u8>,
-    docs: &Docs,
-    numbers: &[u64],
-) -> Result<(), NoMemory>
-    requires within { AreWithin (length numbers.now) docs.now }
-    ensures { OnOk result (AreSaved (λ i. get_or numbers.now i 0) docs.now (length docs.now) out.old.items out.new.items) }
+/// All documents, with the new numbers of their roots.
+pub(crate) fn push_documents(out: &mut Vec<u8>, docs: &Docs, moves: &Moves) -> Result<(), NoMemory>
+    requires { KeepsRoots moves.now docs.now }
+    ensures { OnOk result (AreSaved (rank moves.now) docs.now (length docs.now) out.old.items out.new.items) }
 {
     for place in 0..docs.count() {
         let (name, root) = docs.at(place);
-        push_document(out, name, number_of(root, numbers))?;
+        push_document(out, name, number_of(root, moves))?;
     }
     Ok(())
 }

@@ -5,7 +5,6 @@ mod bytes;
 mod documents;
 mod fields;
 pub mod law;
-mod marks;
 mod nodes;
 mod reading;
 mod refusal;

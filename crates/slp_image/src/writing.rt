@@ -3,14 +3,17 @@ ghost use Rattle.std.specs.Prelude.{◌≡◌, ◌∷◌, ◌++◌, [], Ok, IfOk
 ghost use Rattle.byteorder.specs.Endian.{big_bytes};
 ghost use Rattle.slp_image.specs.Image.{image};
 ghost use Rattle.slp_image.specs.Documents.{AreLive, HaveTrees, plain};
+ghost use Rattle.slp_model.specs.Kept.{IsPlanOf};
+ghost use Rattle.slp_model.specs.Thin.{KeepsExactly};
+ghost use Rattle.slp_image.specs.Saved.{roots};
 ghost use Rattle.slp_image.specs.Save.{SaveForm, IsReached, IsCount, roots_of};
 
 use crate::bytes::{push_documents, push_nodes, push_number};
-use crate::marks::{mark_below, marked_roots, ranks};
 use doc_book::Docs;
 use node_store::Store;
 use span_types::NoMemory;
 use std::alloc::Global;
+use store_compact::Plan;
 
 /// An image, written.
 #[derive(Drop)]
@@ -32,6 +35,20 @@ pub(crate) fn push_front(out: &mut Vec<u8>, nodes: u64) -> Result<(), NoMemory>
     push_number(out, nodes)
 }
 
+// The plan that keeps the roots of all documents, and the nodes below them.
+fn plan_of(alloc: Global, docs: &Docs, store: &Store) -> Result<Plan, NoMemory>
+    requires { AreLive store.now docs.now }
+    ensures plan { IfOk result (IsPlanOf store.now) }
+    ensures kept { IfOk result (λ plan. KeepsExactly store.now plan (roots docs.now)) }
+{
+    let mut plan = Plan::new(alloc, store)?;
+    for place in 0..docs.count() {
+        let (_, root) = docs.at(place);
+        plan.keep_root(store, root)?;
+    }
+    Ok(plan)
+}
+
 /// An image of version 1 of the documents, in their order. It has the nodes at and below their
 /// roots, each once, in the order of the store. Takes time linear in the nodes of the store and in
 /// the documents.
@@ -46,13 +63,13 @@ pub fn write(alloc: Global, docs: &Docs, store: &Store) -> Result<Image, NoMemor
     ensures trees { IfOk result (λ saved. HaveTrees saved.bytes.items store.now docs.now) }
     ensures nodes { IfOk result (λ saved. IsCount (IsReached store.now (roots_of docs.now)) saved.nodes) }
 {
-    let mut marks = marked_roots(alloc, docs, store)?;
-    mark_below(store, &mut marks);
-    let (numbers, nodes) = ranks(alloc, &marks)?;
+    let plan = plan_of(alloc, docs, store)?;
+    let (thin, moves) = plan.build(alloc, store)?;
+    let nodes = thin.count() as u64;
     let mut bytes = Vec::new(alloc);
     push_front(&mut bytes, nodes)?;
-    push_nodes(&mut bytes, store, &marks, &numbers)?;
+    push_nodes(&mut bytes, &thin)?;
     push_number(&mut bytes, docs.count() as u64)?;
-    push_documents(&mut bytes, docs, &numbers)?;
+    push_documents(&mut bytes, docs, &moves)?;
     Ok(Image { bytes, nodes })
 }

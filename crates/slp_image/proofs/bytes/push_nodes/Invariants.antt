@@ -1,5 +1,6 @@
-use Rattle.slp_image.specs.Marks.{AreThinned}
+use Rattle.std.proofs.Common.{◌≡◌, ◌++◌, take}
+use Rattle.slp_image.specs.Written.{records_bytes}
 use Rattle.slp_image.proofs.bytes.push_nodes.Given as goal
 
 abbrev pub invariant-loop-index : goal.invariant-loop-index
-invariant-loop-index l = AreThinned l.store l.marks l.index l.initial.out.items l.out.items
+invariant-loop-index l = l.out.items ≡ l.initial.out.items ++ records_bytes (take l.index l.store)

@@ -1,0 +1,56 @@
+-- The nodes of a store may follow one another as records.
+use Rattle.std.proofs.Common.{◌≡◌, ℕ, suc, ◌+◌, ◌<◌, ◌≤◌, ◌^◌, true, List, [], ◌∷◌, ◌++◌, length, slice_get, take, Some, refl, ap, sym, subst, ◌∙◌, arith, nat_le, append_assoc, append-nil, length-append}
+use Rattle.std.proofs.lemmas.Bool.{le-leb}
+use Rattle.std.proofs.lemmas.Option.{slice_get_within, get_or_from_slice_get}
+use Rattle.std.proofs.Math.Seq.{take-suc}
+use Rattle.slp_model.specs.declared.Node.{Node}
+use Rattle.slp_model.specs.declared.Node.TheVariants.{Byte, Pair}
+use Rattle.slp_model.specs.Tree.{Tree, Fork, leaves, height, IsNear, IsBalanced}
+use Rattle.slp_model.specs.Nodes.{tree, IsSound}
+use Rattle.slp_model.specs.Join.{is_near}
+use Rattle.slp_model.proofs.NodesLemmas.{tree-append, node-at}
+use Rattle.slp_image.specs.Written.{node_bytes, records_bytes, MayFollow, AllFollow}
+
+near-test : (g h : ℕ) → IsNear g h → is_near g h ≡ true
+near-test g h n = let a : nat_le g (h + 1) ≡ true = le-leb g (h + 1) n.0 in let b : nat_le h (g + 1) ≡ true = le-leb h (g + 1) n.1 in rw (a, b) refl
+
+middle : (ps more : List Node) (n : Node) → slice_get (ps ++ (n ∷ more)) (length ps) ≡ Some n
+middle [] more n = refl
+middle (p ∷ ps) more n = middle ps more n
+
+-- a node follows those before it
+next-follows : (ps more : List Node) (n : Node) → IsSound (ps ++ (n ∷ more)) → MayFollow ps n
+next-follows ps more (Byte b) s = tt
+next-follows ps more (Pair l r) s =
+    let ms : List Node = ps ++ (Pair l r ∷ more) in
+    let at : slice_get ms (length ps) ≡ Some (Pair l r) = middle ps more (Pair l r) in
+    let node = node-at ms (length ps) (Pair l r) s at in
+    let within : length ps < length ms = slice_get_within ms (length ps) (Pair l r) at in
+    let a : tree ps l.index ≡ tree ms l.index = sym (tree-append ps (Pair l r ∷ more) l.index node.1) in
+    let b : tree ps r.index ≡ tree ms r.index = sym (tree-append ps (Pair l r ∷ more) r.index node.2) in
+    let both : IsBalanced (Fork (tree ms l.index) (tree ms r.index)) = subst IsBalanced node.0 (s.balanced (length ps) within) in
+    let fits : leaves (tree ms l.index) + leaves (tree ms r.index) ≤ 2 ^ 48 = subst (λ (u : Tree). leaves u ≤ 2 ^ 48) node.0 (s.short (length ps) within) in
+    let near : is_near (height (tree ms l.index)) (height (tree ms r.index)) ≡ true = near-test (height (tree ms l.index)) (height (tree ms r.index)) both.0 in
+    let small : nat_le (leaves (tree ms l.index) + leaves (tree ms r.index)) (2 ^ 48) ≡ true = le-leb (leaves (tree ms l.index) + leaves (tree ms r.index)) (2 ^ 48) fits in
+    (node.1, node.2, (λ j. is_near (height (a j)) (height (b j))) ∙ near, (λ j. nat_le (leaves (a j) + leaves (b j)) (2 ^ 48)) ∙ small)
+
+rest-follows : (ps more : List Node) → IsSound (ps ++ more) → length (ps ++ more) < 2 ^ 64 → AllFollow ps more
+rest-follows ps [] s short = tt
+rest-follows ps (n ∷ more) s short =
+    let e : ps ++ (n ∷ more) ≡ (ps ++ n ∷ []) ++ more = sym (append_assoc ps (n ∷ []) more) in
+    (omega (arith, short, length-append ps (n ∷ more)), next-follows ps more n s, rest-follows (ps ++ n ∷ []) more (subst IsSound e s) (subst (λ (xs : List Node). length xs < 2 ^ 64) e short))
+
+pub all-follow : (ms : List Node) → IsSound ms → length ms < 2 ^ 64 → AllFollow [] ms
+all-follow ms s short = rest-follows [] ms s short
+
+-- the bytes of one more record
+records-push : (ms : List Node) (n : Node) → records_bytes (ms ++ n ∷ []) ≡ records_bytes ms ++ node_bytes n
+records-push [] n = append-nil (node_bytes n)
+records-push (m ∷ ms) n = ap (λ bs. node_bytes m ++ bs) (records-push ms n) ∙ sym (append_assoc (node_bytes m) (records_bytes ms) (node_bytes n))
+
+pub records-next : (ms : List Node) (k : ℕ) (n : Node) (old mid new : List ℕ) → slice_get ms k ≡ Some n → mid ≡ old ++ records_bytes (take k ms) → new ≡ mid ++ node_bytes n → new ≡ old ++ records_bytes (take (k + 1) ms)
+records-next ms k n old mid new at before e =
+    let one : suc k ≡ k + 1 = omega arith in
+    let more : take (suc k) ms ≡ take k ms ++ n ∷ [] = take-suc ms k n (slice_get_within ms k n at) ∙ ap (λ (x : Node). take k ms ++ x ∷ []) (get_or_from_slice_get ms k n n at) in
+    let bytes : records_bytes (take (k + 1) ms) ≡ records_bytes (take k ms) ++ node_bytes n = ap (λ m. records_bytes (take m ms)) (sym one) ∙ (ap records_bytes more ∙ records-push (take k ms) n) in
+    e ∙ (ap (λ bs. bs ++ node_bytes n) before ∙ (append_assoc old (records_bytes (take k ms)) (node_bytes n) ∙ ap (λ bs. old ++ bs) (sym bytes)))

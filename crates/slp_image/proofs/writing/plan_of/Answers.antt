@@ -1,0 +1,14 @@
+use Rattle.doc_book.specs.declared.Doc.{Doc}
+use Rattle.slp_image.proofs.KeptLemmas.{live-at, exactly-next}
+use Rattle.slp_image.proofs.writing.plan_of.Goals as goal
+
+pub keep_root-requires-clause-live : goal.keep_root-requires-clause-live
+keep_root-requires-clause-live c = live-at c.args.store.now c.args.docs.now c.loop-place.place _ c.requires c.at-root.ensures
+
+pub loop-place-preserved : goal.loop-place-preserved
+loop-place-preserved c =
+    let d : Doc = record { name = c.at-root.result.0.now; root = c.at-root.result.1 } in
+    record {
+      plan = c.keep_root.ensures.plan;
+      kept = exactly-next c.args.store.now c.loop-place.plan c.keep_root.new.self c.args.docs.now c.loop-place.place d c.loop-place.invariant.kept c.at-root.ensures c.keep_root.ensures.kept;
+    }

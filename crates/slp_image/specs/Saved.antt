@@ -1,0 +1,29 @@
+-- The documents of a thin store.
+use Rattle.std.specs.Prelude.{◌≡◌, ℕ, ◌<◌, true, Bool, List, ◌++◌, map, slice_get, take, Option, Some, None, option_map}
+use Rattle.span_types.specs.Names.{is_name}
+use Rattle.slp_model.specs.declared.NodeId.{NodeId}
+use Rattle.slp_model.specs.Kept.{Keeps}
+use Rattle.doc_book.specs.declared.Doc.{Doc}
+use Rattle.slp_image.specs.Image.{Document}
+use Rattle.slp_image.specs.Written.{documents_bytes}
+
+-- the roots of the documents, in their order
+abbrev pub roots : List Doc → List (Option NodeId)
+roots ds = map (λ d. d.root) ds
+
+-- the root is none or kept
+abbrev pub KeepsRoot : List Bool → Option NodeId → Type 0
+KeepsRoot keep None = Unit {0}
+KeepsRoot keep (Some id) = Keeps keep id.index
+
+abbrev pub KeepsRoots : List Bool → List Doc → Type 0
+KeepsRoots keep ds = (place : ℕ) (d : Doc) → slice_get ds place ≡ Some d → KeepsRoot keep d.root
+
+-- the documents, with other numbers for their roots
+abbrev pub saved : (ℕ → ℕ) → List Doc → List Document
+saved f ds = map (λ d. record { name = d.name; root = option_map (λ id. f id.index) d.root }) ds
+
+-- the names of the first k documents are names, and these were written
+pub record AreSaved (f : ℕ → ℕ) (ds : List Doc) (k : ℕ) (old new : List ℕ) : Type 0 where
+  pub named : (i : ℕ) (d : Doc) → i < k → slice_get ds i ≡ Some d → is_name d.name ≡ true
+  pub bytes : new ≡ old ++ documents_bytes (saved f (take k ds))
