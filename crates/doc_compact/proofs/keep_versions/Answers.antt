@@ -1,0 +1,25 @@
+use Rattle.std.proofs.Common.{sym, subst, take, suc, ℕ, List, add-one}
+use Rattle.slp_model.specs.Kept.{AddsExactly}
+use Rattle.slp_model.specs.Thin.{AnyReaches}
+use Rattle.doc_book.specs.declared.Doc.{Doc}
+use Rattle.doc_compact.specs.Roots.{roots_of, version_roots}
+use Rattle.doc_compact.proofs.Reached.{adds-both, any-next_version, kept-at}
+use Rattle.doc_compact.proofs.keep_versions.Goals as goal
+
+pub keep_docs-requires-clause-live : goal.keep_docs-requires-clause-live
+keep_docs-requires-clause-live c =
+    kept-at c.args.store.now c.args.versions.now c.loop-place.place (c.at.result.0.now, c.at.result.1.now) c.requires.kept c.at.ensures
+
+pub loop-place-preserved : goal.loop-place-preserved
+loop-place-preserved c =
+    let v : List ℕ × List Doc = (c.at.result.0.now, c.at.result.1.now) in
+    let ns = c.args.store.now in
+    let vs = c.args.versions.now in
+    let place = c.loop-place.place in
+    let both = any-next_version ns vs place v c.at.ensures in
+    let more = adds-both c.args.plan.now c.loop-place.plan c.keep_docs.new.plan (AnyReaches ns (version_roots (take place vs))) (AnyReaches ns (roots_of v.1)) (AnyReaches ns (version_roots (take (suc place) vs))) both
+    c.loop-place.invariant.kept c.in_ok-keep_docs.ensures.kept in
+    record {
+      kept = subst (λ (n : ℕ). AddsExactly c.args.plan.now c.keep_docs.new.plan (AnyReaches ns (version_roots (take n vs)))) (sym (add-one place)) more;
+      plan = c.in_ok-keep_docs.ensures.plan;
+    }

@@ -1,0 +1,42 @@
+-- What is left of a store that is compacted.
+use Rattle.std.specs.Prelude.{◌≡◌, ◌<◌, ℕ, Bool, List, [], ◌∷◌, ◌++◌, length, map, Option, Some, None}
+use Rattle.slp_model.specs.declared.NodeId.{NodeId}
+use Rattle.slp_model.specs.declared.Node.{Node}
+use Rattle.slp_model.specs.Kept.{IsPlanOf, Keeps}
+use Rattle.slp_model.specs.Thin.{AnyReaches, IsThinOf, moved, thin}
+use Rattle.doc_book.specs.declared.Doc.{Doc}
+use Rattle.edit_expr.specs.Values.{AreLive, plain}
+use Rattle.name_map.specs.Named.{Named}
+use Rattle.doc_compact.specs.Roots.{AreKept, plain_versions, roots_of, version_roots}
+
+-- the root is none or kept
+abbrev pub IsKeptRoot : List Bool → Option NodeId → Type 0
+IsKeptRoot keep None = Unit {0}
+IsKeptRoot keep (Some id) = Keeps keep id.index
+
+-- the same of each document, and of those of each version
+abbrev pub AreKeptRoots : List Bool → List Doc → Type 0
+AreKeptRoots keep [] = Unit {0}
+AreKeptRoots keep (d ∷ ds) = IsKeptRoot keep d.root × AreKeptRoots keep ds
+
+abbrev pub AreKeptVersions : List Bool → Named (List Doc) → Type 0
+AreKeptVersions keep [] = Unit {0}
+AreKeptVersions keep (v ∷ vs) = AreKeptRoots keep v.1 × AreKeptVersions keep vs
+
+-- the documents with their roots under new numbers, and those of each version
+abbrev pub moved_docs : List Bool → List Doc → List Doc
+moved_docs keep ds = map (λ d. record { name = d.name; root = moved keep d.root }) ds
+
+abbrev pub moved_versions : List Bool → Named (List Doc) → Named (List Doc)
+moved_versions keep vs = map (λ v. (v.0, moved_docs keep v.1)) vs
+
+-- the nodes of a plan are left, under new numbers: each text is as before, and each node is reached from a document, or from one of a version
+pub record IsCompacted (ns : List Node) (ds : List Doc) (vs : Named (List Doc)) (keep : List Bool) (ms : List Node) (es : List Doc) (ws : Named (List Doc)) : Type 0 where
+  pub plan : IsPlanOf ns keep
+  pub thin_is : ms ≡ thin ns keep
+  pub trees : IsThinOf ns keep ms
+  pub live : AreLive ms es
+  pub kept : AreKept ms ws
+  pub texts : plain ms es ≡ plain ns ds
+  pub versions : plain_versions ms ws ≡ plain_versions ns vs
+  pub reached : (j : ℕ) → j < length ms → AnyReaches ms (roots_of es ++ version_roots ws) j

@@ -1,0 +1,143 @@
+//! The documents and their versions in a store that is compacted: the nodes that none of them reaches go, and each document
+//! has its text as before.
+//!
+//! ```text
+//! let moves = compact(alloc, &mut store, &mut docs, &mut versions)?;
+//! ```
+//!
+//! It is a mark and a sweep (McCarthy, "Recursive functions of symbolic expressions and their computation by machine, part I",
+//! 1960): a plan marks what the roots reach, the marked nodes make a thin store, and the roots are given their new numbers. All
+//! memory is taken before anything changes, so that a refusal leaves all as it was. The time is linear in the number of nodes
+//! and of documents in all versions, and the memory is that of the thin store and a few bytes for each node of the old one.
+#![tactic(auto)]
+
+ghost use Rattle.std.specs.Prelude.{◌≡◌, ◌↔◌, ◌++◌, ◌<◌, ℕ, length, OnErr, OnOk, IfOk};
+ghost use Rattle.slp_model.specs.Kept.{AddsExactly, IsPlanOf, Keeps};
+ghost use Rattle.slp_model.specs.Thin.{AnyReaches, moved};
+ghost use Rattle.edit_expr.specs.Values.{AreLive};
+ghost use Rattle.doc_versions.specs.Versions.{docs_at};
+ghost use Rattle.name_map.specs.Named.{with_value};
+ghost use Rattle.doc_compact.specs.Roots.{AreKept, roots_of, version_roots};
+ghost use Rattle.doc_compact.specs.Compacted.{AreKeptRoots, AreKeptVersions, IsCompacted, IsKeptRoot, moved_docs, moved_versions};
+
+use doc_book::Docs;
+use doc_versions::Versions;
+use node_store::{Moves, NodeId, Store};
+use span_types::NoMemory;
+use std::alloc::Global;
+use store_compact::Plan;
+
+/// Keeps what the documents reach.
+fn keep_docs(plan: &mut Plan, store: &Store, docs: &Docs) -> Result<(), NoMemory>
+    requires plan { IsPlanOf store.now plan.old }
+    requires live { AreLive store.now docs.now }
+    ensures kept { OnOk result (AddsExactly plan.old plan.new (AnyReaches store.now (roots_of docs.now))) }
+    ensures plan { OnOk result (IsPlanOf store.now plan.new) }
+{
+    for place in 0..docs.count() {
+        let (_, root) = docs.at(place);
+        plan.keep_root(store, root)?;
+    }
+    Ok(())
+}
+
+/// Keeps what the documents of the versions reach.
+fn keep_versions(plan: &mut Plan, store: &Store, versions: &Versions) -> Result<(), NoMemory>
+    requires plan { IsPlanOf store.now plan.old }
+    requires kept { AreKept store.now versions.now }
+    ensures kept { OnOk result (AddsExactly plan.old plan.new (AnyReaches store.now (version_roots versions.now))) }
+    ensures plan { OnOk result (IsPlanOf store.now plan.new) }
+{
+    for place in 0..versions.count() {
+        let (_, docs) = versions.at(place);
+        keep_docs(plan, store, docs)?;
+    }
+    Ok(())
+}
+
+/// The plan that keeps what documents and versions reach.
+fn plan_of(alloc: Global, store: &Store, docs: &Docs, versions: &Versions) -> Result<Plan, NoMemory>
+    requires live { AreLive store.now docs.now }
+    requires kept { AreKept store.now versions.now }
+    ensures kept { IfOk result (λ plan. (i : ℕ) → Keeps plan i ↔ AnyReaches store.now (roots_of docs.now ++ version_roots versions.now) i) }
+    ensures plan { IfOk result (IsPlanOf store.now) }
+{
+    let mut plan = Plan::new(alloc, store)?;
+    keep_docs(&mut plan, store, docs)?;
+    keep_versions(&mut plan, store, versions)?;
+    Ok(plan)
+}
+
+/// The root under its new number.
+fn moved_root(moves: &Moves, root: Option<NodeId>) -> Option<NodeId>
+    requires { IsKeptRoot moves.now root }
+    ensures { result ≡ moved moves.now root }
+{
+    match root {
+        Some(id) => Some(moves.moved(id)),
+        None => None,
+    }
+}
+
+/// Gives the documents' roots their new numbers.
+fn move_docs(docs: &mut Docs, moves: &Moves)
+    requires { AreKeptRoots moves.now docs.old }
+    ensures { docs.new ≡ moved_docs moves.now docs.old }
+{
+    for place in 0..docs.count() {
+        let (_, root) = docs.at(place);
+        docs.set_root(place, moved_root(moves, root));
+    }
+}
+
+/// Gives the roots of one version their new numbers.
+fn move_version(versions: &mut Versions, place: usize, moves: &Moves)
+    requires place { place < length versions.old }
+    requires kept { AreKeptRoots moves.now (docs_at versions.old place) }
+    ensures { versions.new ≡ with_value versions.old place (moved_docs moves.now (docs_at versions.old place)) }
+{
+    for doc in 0..versions.at(place).1.count() {
+        let (_, root) = versions.at(place).1.at(doc);
+        versions.set_root(place, doc, moved_root(moves, root));
+    }
+}
+
+/// Gives the versions' roots their new numbers.
+fn move_versions(versions: &mut Versions, moves: &Moves)
+    requires { AreKeptVersions moves.now versions.old }
+    ensures { versions.new ≡ moved_versions moves.now versions.old }
+{
+    for place in 0..versions.count() {
+        move_version(versions, place, moves);
+    }
+}
+
+/// Compacts the store: what no document and no document of a version reaches is dropped, and what stays has new numbers, which
+/// the answer tells. Each document and each version has its texts as before. After a refusal all is as it was.
+///
+/// # Errors
+///
+/// `NoMemory` where none was found for the thin store.
+pub fn compact(
+    alloc: Global,
+    store: &mut Store,
+    docs: &mut Docs,
+    versions: &mut Versions,
+) -> Result<Moves, NoMemory>
+    requires live { AreLive store.old docs.old }
+    requires kept { AreKept store.old versions.old }
+    ensures compacted { IfOk result (λ moves. IsCompacted store.old docs.old versions.old moves store.new docs.new versions.new) }
+    ensures store { OnErr result (store.new ≡ store.old) }
+    ensures docs { OnErr result (docs.new ≡ docs.old) }
+    ensures versions { OnErr result (versions.new ≡ versions.old) }
+{
+    let plan = plan_of(alloc, store, docs, versions)?;
+    let (thin, moves) = plan.build(alloc, store)?;
+    move_docs(docs, &moves);
+    move_versions(versions, &moves);
+    *store = thin;
+    Ok(moves)
+}
+
+#[cfg(test)]
+mod tests;
