@@ -5,3 +5,4 @@ pub mod Reach
 pub mod Shapes
 pub mod Meanings
 pub mod Keeping
+pub mod Moving

@@ -5,3 +5,4 @@ pub mod Same
 pub mod Meaning
 pub mod Dictionary
 pub mod Kept
+pub mod Renumbering

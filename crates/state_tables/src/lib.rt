@@ -1,6 +1,7 @@
 //! Which states of a deterministic automaton are reached over the text of each node, and a view that lends one look at a time.
 #![tactic(auto)]
 
+mod renumbering;
 mod rows;
 pub mod state_set;
 pub mod table;

@@ -1,14 +1,19 @@
 //! The tables of the nodes, each distinct one kept once.
 
-ghost use Rattle.std.specs.Prelude.{◌≡◌, ℕ, ◌+◌, ◌<◌, ◌≤◌, ◌-◌, ◌++◌, [], ◌∷◌, length, IfOk, OnOk, OnErr};
-ghost use Rattle.marker_dfa.specs.Deterministic.{states_of};
-ghost use Rattle.state_tables.specs.Dictionary.{IsDictionary, count_of, distinct_of, kept_of, number_of, table_of};
+ghost use Rattle.std.specs.Prelude.{◌≡◌, ℕ, ◌+◌, ◌<◌, ◌≤◌, ◌-◌, ◌++◌, List, [], ◌∷◌, length, IfOk, OnOk, OnErr};
+ghost use Rattle.slp_model.specs.declared.Node.{Node};
+ghost use Rattle.slp_model.specs.Kept.{Keeps};
+ghost use Rattle.slp_model.specs.Thin.{IsThinOf, rank};
+ghost use Rattle.marker_dfa.specs.Deterministic.{DeterministicAutomaton, states_of};
+ghost use Rattle.state_tables.specs.Dictionary.{AreTables, IsDictionary, count_of, distinct_of, kept_of, number_of, table_of};
+ghost use Rattle.state_tables.specs.Renumbering.{kept_numbers};
 
+use crate::renumbering::renumber;
 use crate::table::Table;
 use crate::view::View;
 use indexmap::IndexSet;
 use marker_dfa::Dfa;
-use node_store::{NodeId, Store};
+use node_store::{Moves, NodeId, Store};
 use span_types::{NoMemory, Steps};
 use std::alloc::Global;
 use std::marker::Model;
@@ -122,6 +127,21 @@ impl Tables {
     {
         places.tick();
         self.numbers.push_reserved(number);
+    }
+
+    /// Leaves the tables of the kept nodes alone, each under its node's new id, where the store becomes that of the kept
+    /// nodes. The tables are those of the store's first nodes, or of all. It takes no memory, and time linear in the nodes with
+    /// tables. Each kept table stays under its number, and each number that goes leaves its place to further nodes.
+    pub fn renumber(&mut self, moves: &Moves)
+        requires { count_of self.old ≤ length moves.now }
+        ensures numbers { self.new.numbers ≡ kept_numbers self.old.numbers moves.now }
+        ensures count { count_of self.new ≡ rank moves.now (count_of self.old) }
+        ensures each { (i : ℕ) → i < count_of self.old → Keeps moves.now i → number_of self.new (rank moves.now i) ≡ number_of self.old i }
+        ensures room { self.new.room + count_of self.new ≡ self.old.room + count_of self.old }
+        ensures same { self.new ≡ record self.old { numbers = self.new.numbers; room = self.new.room } }
+        ensures tables { (a : DeterministicAutomaton) (ns ms : List Node) → IsThinOf ns moves.now ms → AreTables a ns self.old → AreTables a ms self.new }
+    {
+        renumber(&mut self.numbers, moves);
     }
 
     /// A way to look at the nodes of the store, each of which has a table.
