@@ -94,6 +94,7 @@ put-new l n b h = by (same-or b n)
 pub no-classes : (a : DeterministicAutomaton) → AreClassesUpTo 0 a []
 no-classes a = record {
   size = λ c k. absurd (omega (arith, k.1));
+  own = λ c k. absurd (omega (arith, k.1));
   alike = λ c b k l. absurd (omega (arith, k.1));
   all = λ b lt. absurd (omega (arith, lt));
 }
@@ -102,6 +103,7 @@ pub class-put : (a : DeterministicAutomaton) (cs : List Class) (n p : ℕ) (c x 
 class-put a cs n p c x h small e alike is =
     record {
       size = λ y k. size_of y (set-cases cs p x y lt k);
+      own = λ y k. own_of y (set-cases cs p x y lt k);
       alike = λ y b k l. alike_of y b l (set-cases cs p x y lt k);
       all = λ b k. found b (cases b n k);
     }
@@ -121,6 +123,12 @@ class-put a cs n p c x h small e alike is =
     size_of : (y : Class) → (y ≡ x) ⊎ Contains cs y → length y.letters ≡ 256
     size_of y (inl s) = ap (λ (z : Class). length z.letters) s ∙ ap length letters ∙ length-set c.letters n true ∙ h.size c here
     size_of y (inr k) = h.size y k
+
+    own_of : (y : Class) → (y ≡ x) ⊎ Contains cs y → slice_index_or y.letters y.first false ≡ true
+    own_of y (inl s) =
+        let m : slice_index_or x.letters c.first false ≡ true = subst (λ (z : List Bool). slice_index_or z c.first false ≡ true) (sym letters) (put-old c.letters n c.first (h.own c here)) in
+        subst (λ (z : Class). slice_index_or z.letters z.first false ≡ true) (sym s) (subst (λ (k : ℕ). slice_index_or x.letters k false ≡ true) (sym first) m)
+    own_of y (inr k) = h.own y k
 
     one : (b : ℕ) → (b ≡ n) ⊎ (slice_index_or c.letters b false ≡ true) → (b < 256) × AreAlike a b c.first
     one b (inl s) = (omega (arith, s, small), subst (λ (k : ℕ). AreAlike a k c.first) (sym s) alike)
@@ -148,6 +156,7 @@ pub class-new : (a : DeterministicAutomaton) (cs : List Class) (n : ℕ) (x : Cl
 class-new a cs n x h small is =
     record {
       size = λ y k. size_of y ((contains_push cs x y).0 k);
+      own = λ y k. own_of y ((contains_push cs x y).0 k);
       alike = λ y b k l. alike_of y b l ((contains_push cs x y).0 k);
       all = λ b k. found b (cases b n k);
     }
@@ -158,6 +167,12 @@ class-new a cs n x h small is =
     size_of : (y : Class) → Contains cs y ⊎ (y ≡ x) → length y.letters ≡ 256
     size_of y (inl k) = h.size y k
     size_of y (inr s) = ap (λ (z : Class). length z.letters) s ∙ ap length letters ∙ length-set (replicate 256 false) n true ∙ length-replicate 256 false
+
+    own_of : (y : Class) → Contains cs y ⊎ (y ≡ x) → slice_index_or y.letters y.first false ≡ true
+    own_of y (inl k) = h.own y k
+    own_of y (inr s) =
+        let m : slice_index_or x.letters n false ≡ true = subst (λ (z : List Bool). slice_index_or z n false ≡ true) (sym letters) (get_or-set_same (replicate 256 false) n true false (omega (arith, small, length-replicate 256 false))) in
+        subst (λ (z : Class). slice_index_or z.letters z.first false ≡ true) (sym s) (subst (λ (k : ℕ). slice_index_or x.letters k false ≡ true) (sym (ap (λ (y : Class). y.first) is)) m)
 
     only : (b : ℕ) → (b ≡ n) ⊎ (slice_index_or (replicate 256 false) b false ≡ true) → b ≡ n
     only b (inl s) = s

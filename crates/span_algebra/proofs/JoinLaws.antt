@@ -7,15 +7,16 @@ use Rattle.span_types.specs.Rel.{Assignment, IsUnion, named, has_name, same_name
 use Rattle.span_types.proofs.Digits.{mark_below}
 use Rattle.formula_law.specs.Accepts.{MarkedText, Reaches, marked_text}
 use Rattle.formula_law.specs.Law.{bytes_of}
-use Rattle.marker_nfa.specs.Automaton.{Automaton, Moves, AcceptsText}
+use Rattle.marker_nfa.specs.Automaton.{Automaton, AcceptsText}
 use Rattle.marker_dfa.specs.Deterministic.{DeterministicAutomaton, IsDeterministic, PathAccepts, AcceptsSame, and_then, path, next_of, ends_of, states_of}
 use Rattle.span_algebra.specs.Renaming.{both_names, mark_for, tuple_for}
 use Rattle.span_algebra.specs.TreeAutomaton.{JoinStep, JoinEnd, pair_of, join_size}
 use Rattle.span_algebra.specs.Answers.{AreBytes, IsText, IsAnswerOf, AnswersBy, GivesJoin}
-use Rattle.span_algebra.specs.Making.{HasParts}
+use Rattle.span_algebra.specs.Products.{HasNumbered}
 use Rattle.span_algebra.proofs.NameLaws.{length-for, named-for, named-none, left-names, right-names, same-self, same-is}
 use Rattle.span_algebra.proofs.TextLaws.{remarked, remarked_text, bytes-word, lies-for, named-span, renamed-text}
-use Rattle.span_algebra.proofs.SetLaws.{reaches-by}
+use Rattle.span_algebra.proofs.NumberLaws.{numbered-to, numbered-from}
+use Rattle.marker_dfa.proofs.Lists.{one_value}
 use Rattle.span_algebra.proofs.CopyLaws.{step-within, end-within}
 
 -- no name stands twice
@@ -95,15 +96,18 @@ module _ (a : DeterministicAutomaton) (va : List (List ℕ)) (b : DeterministicA
     pub right : PathAccepts b (remarked_text (mark_for vb names) w)
     pub small : w.last < 4 ^ length names
 
-  module _ (n : Automaton) (is : HasParts (join_size a) (JoinStep a va b vb) (JoinEnd a va b vb) n) where
+  module _ (pairs : List ℕ) (n : Automaton) (is : HasNumbered (join_size a) (JoinStep a va b vb) (JoinEnd a va b vb) pairs n) where
     pub both-accept : (w : MarkedText) → AcceptsText n w → Both w
     both-accept w h =
         let z : 0 ≡ pair_of 0 0 = refl in
-        let k = apart-to w.pairs 0 0 0 h.state z db.has_start (reaches-by (Moves n) Step is.step_to 0 w.pairs h.state h.reaches) in
-        let e = is.end_to h.state w.last h.ends in
+        let r = numbered-to (join_size a) Step (JoinEnd a va b vb) pairs n is w.pairs 0 0 h.state is.start h.reaches in
+        let k = apart-to w.pairs 0 0 0 r.0 z db.has_start r.2 in
+        let f = is.end_to h.state w.last h.ends in
+        let e = f.2 in
+        let at : f.0 ≡ r.0 = one_value pairs h.state f.0 r.0 f.1 r.1 in
         let few = db.few_states in
         let own : e.right < states_of b = end-within b e.right (mark_for vb names w.last) e.right_end in
-        let same = same-pair e.left e.right k.end_left k.end_right (omega (arith, own, few)) (omega (arith, k.within, few)) (sym e.from ∙ k.here) in
+        let same = same-pair e.left e.right k.end_left k.end_right (omega (arith, own, few)) (omega (arith, k.within, few)) (sym e.from ∙ at ∙ k.here) in
         record {
           left = record { state = k.end_left; leads = k.leads_left; may_end = subst (λ (x : ℕ). Contains (ends_of a x) (mark_for va names w.last)) same.0 e.left_end };
           right = record { state = k.end_right; leads = k.leads_right; may_end = subst (λ (x : ℕ). Contains (ends_of b x) (mark_for vb names w.last)) same.1 e.right_end };
@@ -111,11 +115,13 @@ module _ (a : DeterministicAutomaton) (va : List (List ℕ)) (b : DeterministicA
         }
 
     pub accept-both : (w : MarkedText) → AreBytes (bytes_of w.pairs) → AreSmall (length names) w.pairs → Both w → AcceptsText n w
-    accept-both w bytes small h = record {
-      state = pair_of h.left.state h.right.state;
-      reaches = reaches-by Step (Moves n) is.step_from 0 w.pairs (pair_of h.left.state h.right.state) (joined w.pairs 0 0 h.left.state h.right.state bytes small h.left.leads h.right.leads);
-      ends = is.end_from (pair_of h.left.state h.right.state) w.last (record { left = h.left.state; right = h.right.state; from = refl; mark = h.small; left_end = h.left.may_end; right_end = h.right.may_end });
-    }
+    accept-both w bytes small h =
+        let r = numbered-from (join_size a) Step (JoinEnd a va b vb) pairs n is w.pairs 0 0 (pair_of h.left.state h.right.state) is.start (joined w.pairs 0 0 h.left.state h.right.state bytes small h.left.leads h.right.leads) in
+        record {
+          state = r.0;
+          reaches = r.2;
+          ends = is.end_from r.0 (pair_of h.left.state h.right.state) w.last r.1 (record { left = h.left.state; right = h.right.state; from = refl; mark = h.small; left_end = h.left.may_end; right_end = h.right.may_end });
+        }
 
 -- a tuple made name by name gives each name its span
 named-map : (ns : List (List ℕ)) (g : List ℕ → Option Span) (n : List ℕ) → has_name ns n ≡ true → named ns (map g ns) n ≡ g n
@@ -151,7 +157,7 @@ named-self (m ∷ ns) (x ∷ t) a e =
     other n h true g = let s : true ≡ false = sym h ∙ ap (has_name ns) (sym (same-is m n g)) ∙ a.0 in absurd (cc)
     other n h false g = refl
 
-none-lacking : (va ws : List (List ℕ)) (n : List ℕ) → has_name ws n ≡ false → has_name (lacking va ws) n ≡ false
+pub none-lacking : (va ws : List (List ℕ)) (n : List ℕ) → has_name ws n ≡ false → has_name (lacking va ws) n ≡ false
 none-lacking va [] n h = refl
 none-lacking va (m ∷ ws) n h = by (has_name va m) (same_name m n) refl h (λ k. none-lacking va ws n k)
   where
@@ -208,8 +214,8 @@ length-joined g (n ∷ ns) = ap suc (length-joined g ns)
 
 -- an automaton of the pairs has the joined answers
 pub gives-join : (a : DeterministicAutomaton) (va : List (List ℕ)) (b : DeterministicAutomaton) (vb : List (List ℕ)) → IsDeterministic a → IsDeterministic b → length va ≡ a.variables → length vb ≡ b.variables → AreApart va → AreApart vb
-    → (n : Automaton) → HasParts (join_size a) (JoinStep a va b vb) (JoinEnd a va b vb) n → (d : DeterministicAutomaton) → d.variables ≡ length (both_names va vb) → AcceptsSame n d → GivesJoin a va b vb (both_names va vb) d
-gives-join a va b vb da db size_a size_b apart_a apart_b n is d variables same = record { variables = variables; answers = λ s r text. (to s r text, from s r text) }
+    → (pairs : List ℕ) (n : Automaton) → HasNumbered (join_size a) (JoinStep a va b vb) (JoinEnd a va b vb) pairs n → (d : DeterministicAutomaton) → d.variables ≡ length (both_names va vb) → AcceptsSame n d → GivesJoin a va b vb (both_names va vb) d
+gives-join a va b vb da db size_a size_b apart_a apart_b pairs n is d variables same = record { variables = variables; answers = λ s r text. (to s r text, from s r text) }
   where
     side : (x : DeterministicAutomaton) (vs : List (List ℕ)) (s : List ℕ) (t : List (Option Span)) → length vs ≡ x.variables → length t ≡ length (both_names va vb) → Lies (length s) t → PathAccepts x (remarked_text (mark_for vs (both_names va vb)) (marked_text s t)) → IsAnswerOf x s (tuple_for vs (both_names va vb) t)
     side x vs s t size count lies h = record {
@@ -221,7 +227,7 @@ gives-join a va b vb da db size_a size_b apart_a apart_b n is d variables same =
     to : (s : List ℕ) (r : Assignment) → IsText s → AnswersBy d (both_names va vb) s r → IsUnion va vb (AnswersBy a va s) (AnswersBy b vb s) r
     to s r text h =
         let t = h.tuple in
-        let k = both-accept a va b vb da db n is (marked_text s t) ((same.texts (marked_text s t)).0 h.fits.accepted) in
+        let k = both-accept a va b vb da db pairs n is (marked_text s t) ((same.texts (marked_text s t)).0 h.fits.accepted) in
         let u = tuple_for va (both_names va vb) t in
         let v = tuple_for vb (both_names va vb) t in
         record {
@@ -254,7 +260,7 @@ gives-join a va b vb da db size_a size_b apart_a apart_b n is d variables same =
           fits = record {
             size = count ∙ sym variables;
             lies = lies-joined (length s) va vb u v (both_names va vb) h.in_left.fits.lies h.in_right.fits.lies;
-            accepted = (same.texts w).1 (accept-both a va b vb da db n is w bytes (small-word (length (both_names va vb)) (mark_of t) 1 s below) both);
+            accepted = (same.texts w).1 (accept-both a va b vb da db pairs n is w bytes (small-word (length (both_names va vb)) (mark_of t) 1 s below) both);
           };
           read = λ m. by m (has_name va m) refl (has_name vb m) refl;
         }

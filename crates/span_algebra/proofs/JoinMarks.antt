@@ -7,19 +7,19 @@ use Rattle.span_types.specs.Rel.{named, has_name, same_name}
 use Rattle.span_types.proofs.WriteLaws.{mark-cons}
 use Rattle.formula_law.specs.Accepts.{MarkedText, Reaches, marked_text}
 use Rattle.formula_law.specs.Law.{bytes_of}
-use Rattle.marker_nfa.specs.Automaton.{Automaton, Moves, AcceptsText, IsMarked}
+use Rattle.marker_nfa.specs.Automaton.{Automaton, AcceptsText, IsMarked}
 use Rattle.marker_dfa.specs.Deterministic.{DeterministicAutomaton, IsDeterministic}
 use Rattle.span_algebra.specs.Renaming.{both_names, markers, mark_for}
 use Rattle.span_algebra.specs.TreeAutomaton.{JoinStep, JoinEnd, join_size}
-use Rattle.span_algebra.specs.Making.{HasParts}
+use Rattle.span_algebra.specs.Products.{HasNumbered}
 use Rattle.span_algebra.proofs.NameLaws.{same-self, same-is}
 use Rattle.span_algebra.proofs.MarkLaws.{markers-named, markers-small, last-digit, other-digits}
 use Rattle.span_algebra.proofs.TextLaws.{remarked, remarked_text, bytes-remarked, length-remarked, are-spans}
-use Rattle.span_algebra.proofs.SetLaws.{reaches-by}
+use Rattle.span_algebra.proofs.NumberLaws.{numbered-to}
 use Rattle.span_algebra.proofs.JoinLaws.{AreApart, AreSmall, both-accept, joined_tuple, lies-joined, length-joined, neither}
 
 -- what a list of names keeps of a mark is the same of each of its names
-markers-kept : (to from : List (List ℕ)) (m : ℕ) (n : List ℕ) → has_name to n ≡ true → markers to (mark_for to from m) n ≡ markers from m n
+pub markers-kept : (to from : List (List ℕ)) (m : ℕ) (n : List ℕ) → has_name to n ≡ true → markers to (mark_for to from m) n ≡ markers from m n
 markers-kept [] from m n h = let bad : ⊥ = cc in absurd bad
 markers-kept (x ∷ to) from m n h = by (same_name x n) refl h (λ k. markers-kept to from m n k)
   where
@@ -48,7 +48,7 @@ shifted (y ∷ ys) xs x m h =
     omega (arith, first, rest)
 
 -- a small mark is made of the markers of its names
-mark-whole : (ns : List (List ℕ)) (m : ℕ) → AreApart ns → m < 4 ^ length ns → mark_for ns ns m ≡ m
+pub mark-whole : (ns : List (List ℕ)) (m : ℕ) → AreApart ns → m < 4 ^ length ns → mark_for ns ns m ≡ m
 mark-whole [] m a lt = omega (arith, lt)
 mark-whole (x ∷ xs) m a lt =
     let e : 4 ^ suc (length xs) ≡ 4 ^ length xs * 4 = pow-suc 4 (length xs) in
@@ -124,9 +124,9 @@ length-bytes (c ∷ w) = ap suc (length-bytes w)
 
 -- an accepted text has the marks of a tuple
 pub join-marked : (a : DeterministicAutomaton) (va : List (List ℕ)) (b : DeterministicAutomaton) (vb : List (List ℕ)) (da : IsDeterministic a) (db : IsDeterministic b) → length va ≡ a.variables → length vb ≡ b.variables → AreApart (both_names va vb) → length (both_names va vb) ≤ 8
-    → (n : Automaton) → HasParts (join_size a) (JoinStep a va b vb) (JoinEnd a va b vb) n → (w : MarkedText) → length w.pairs ≤ 281474976710656 → AcceptsText n w → IsMarked (length (both_names va vb)) w
-join-marked a va b vb da db size_a size_b apart few n is w short h =
-    let k = both-accept a va b vb da db n is w h in
+    → (pairs : List ℕ) (n : Automaton) → HasNumbered (join_size a) (JoinStep a va b vb) (JoinEnd a va b vb) pairs n → (w : MarkedText) → length w.pairs ≤ 281474976710656 → AcceptsText n w → IsMarked (length (both_names va vb)) w
+join-marked a va b vb da db size_a size_b apart few pairs n is w short h =
+    let k = both-accept a va b vb da db pairs n is w h in
     let f = mark_for va (both_names va vb) in
     let g = mark_for vb (both_names va vb) in
     let s = bytes_of w.pairs in
@@ -139,7 +139,8 @@ join-marked a va b vb da db size_a size_b apart few n is w short h =
     let t = joined_tuple va vb u v in
     let size_u : length u ≡ length va = x.size ∙ sym size_a in
     let size_v : length v ≡ length vb = y.size ∙ sym size_b in
-    let small = small-path a va b vb w.pairs 0 h.state (reaches-by (Moves n) (JoinStep a va b vb) is.step_to 0 w.pairs h.state h.reaches) in
+    let r = numbered-to (join_size a) (JoinStep a va b vb) (JoinEnd a va b vb) pairs n is w.pairs 0 0 h.state is.start h.reaches in
+    let small = small-path a va b vb w.pairs 0 r.0 r.2 in
     let pairs = word-told va vb u v size_u size_v apart w.pairs 1 s small (ap (λ (z : MarkedText). z.pairs) left) (ap (λ (z : MarkedText). z.pairs) right) in
     let last = told va vb u v size_u size_v apart w.last (suc (length s)) k.small (ap (λ (z : MarkedText). z.last) left) (ap (λ (z : MarkedText). z.last) right) in
     let count : length t ≡ length (both_names va vb) = length-joined (λ m. if has_name va m then named va u m else named vb v m) (both_names va vb) in

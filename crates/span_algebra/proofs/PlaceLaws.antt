@@ -37,7 +37,7 @@ one-place : (ns : List Name) (j k : ℕ) (n : Name) → AllPairs (λ a b. a ≢ 
 one-place ns j k n distinct lt ej ek =
     distinct j k n lt (slice_get_within ns k n ek) (get_or_from_slice_get ns j n n ej ∙ sym (get_or_from_slice_get ns k n n ek))
 
-has-contains : (ns : List Name) (n : Name) → has_name ns n ≡ true → Contains ns n
+pub has-contains : (ns : List Name) (n : Name) → has_name ns n ≡ true → Contains ns n
 has-contains [] n h = let bad : ⊥ = cc in absurd bad
 has-contains (m ∷ ns) n h = by (same_name m n) refl h (has-contains ns n)
   where

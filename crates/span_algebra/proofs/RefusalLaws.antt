@@ -4,7 +4,7 @@ use Rattle.span_algebra.specs.declared.refusal.AlgebraRefusal.{AlgebraRefusal}
 use Rattle.span_algebra.specs.declared.refusal.AlgebraRefusal.TheVariants.{TooManyVariables, TooManyStates, NoMemory}
 use Rattle.span_algebra.specs.Refusals.{IsRefused}
 
-refused-as : (k : ℕ) (P Q : Type 0) (why : AlgebraRefusal) → k ≤ 8 → (P → Q) → IsRefused 0 P why → IsRefused k Q why
+pub refused-as : (k : ℕ) (P Q : Type 0) (why : AlgebraRefusal) → k ≤ 8 → (P → Q) → IsRefused 0 P why → IsRefused k Q why
 refused-as k P Q TooManyVariables le f h = absurd (omega (arith, h))
 refused-as k P Q TooManyStates le f h = (le, f h.1)
 refused-as k P Q NoMemory le f h = tt

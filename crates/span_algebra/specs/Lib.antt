@@ -4,3 +4,8 @@ pub mod TreeAutomaton
 pub mod Answers
 pub mod Refusals
 pub mod Making
+pub mod Joints
+pub mod Pairs
+pub mod Products
+pub mod Trees
+pub mod TreeLaws

@@ -12,9 +12,10 @@ use Rattle.span_algebra.specs.TreeAutomaton.{IsAt, ProjectEnd, ProjectStep, Unio
 abbrev pub AreAlike : DeterministicAutomaton → ℕ → ℕ → Type 0
 AreAlike a b c = (q m : ℕ) → next_of a q m b ≡ next_of a q m c
 
--- the bytes of each class are alike, and each of the first n bytes has a class
+-- the bytes of each class are alike, the first one among them, and each of the first n bytes has a class
 pub record AreClassesUpTo (n : ℕ) (a : DeterministicAutomaton) (classes : List Class) : Type 0 where
   pub size : (c : Class) → Contains classes c → length c.letters ≡ 256
+  pub own : (c : Class) → Contains classes c → slice_index_or c.letters c.first false ≡ true
   pub alike : (c : Class) (b : ℕ) → Contains classes c → slice_index_or c.letters b false ≡ true → (b < 256) × AreAlike a b c.first
   pub all : (b : ℕ) → b < n → (c : Class) × Contains classes c × (slice_index_or c.letters b false ≡ true)
 

@@ -1,29 +1,43 @@
-//! The spanner algebra over deterministic automata (Fagin et al., *Document Spanners*, JACM 2015): an operation on
-//! queries becomes one automaton, which then serves every text by itself.
+//! The spanner algebra over deterministic automata (Fagin et al., *Document Spanners*, JACM 2015): a union, a natural
+//! join or a projection of queries becomes one automaton, which then serves every text by itself.
 //!
-//! An operation takes its occurrences from the states of its operands' automata, with marks renumbered for the variables
-//! of the result, and the subset construction (Rabin and Scott 1959) makes them deterministic. The variables are those of
-//! the left, then those of the right that the left lacks; the answers are exactly those of the operation, where an answer
-//! gives each name a span or none. For two automata and the names of their variables,
+//! An operation takes its occurrences from the states of its operands' automata, and its states are the reached sets
+//! of occurrences (the subset construction of Rabin and Scott 1959). The variables are those of the left, then those of
+//! the right that the left lacks; the answers are exactly those of the operation, where an answer gives each name a
+//! span or none. In a join two answers agree where each name of both has one span in both, or none in both. For
+//! automata and the names of their variables,
 //!
 //! ```text
-//! let (dfa, names) = union(alloc, &left, &left_names, &right, &right_names)?;
-//! let kept = project(alloc, &dfa, &names, &keep)?;
+//! let (either, names) = union(alloc, &left, &left_names, &right, &right_names)?;
+//! let (both, names) = join(alloc, &left, &left_names, &right, &right_names)?;
+//! let kept = project(alloc, &both, &names, &keep)?;
 //! ```
 //!
-//! Bytes that the operands never tell apart share a class, and the work is one step for each state, class and mark of the
-//! operands, and that of the subset construction, which is bounded since it ends at the 129th state.
+//! Bytes that the operands never tell apart share a class. A union or a projection takes one step for each state, class
+//! and mark of its operands. A join takes them for the pairs of states that it reaches and no other, each mark of the
+//! left with each of the right, and ends at the 129th pair. Both sides are deterministic, so a mark and a byte lead
+//! from a pair to one pair at most. The subset construction ends at the 129th state.
 #![tactic(auto)]
 
-pub mod classes;
-pub mod copies;
-pub mod determined;
-pub mod marks;
-pub mod names;
-pub mod projections;
-pub mod refusal;
-pub mod unions;
+mod classes;
+mod copies;
+mod determined;
+mod exploring;
+mod joins;
+mod joints;
+pub mod law;
+mod marks;
+mod names;
+mod pairs;
+mod product;
+mod projections;
+mod refusal;
+mod unions;
 
+pub use joins::join;
 pub use projections::project;
 pub use refusal::AlgebraRefusal;
 pub use unions::union;
+
+#[cfg(test)]
+mod tests;

@@ -1,0 +1,76 @@
+//! The pairs of states that a join reaches, found from the pair of the starts on.
+
+ghost use Rattle.std.specs.Prelude.{◌≡◌, ◌∷◌, ◌++◌, [], IfErr, IfOk, length};
+ghost use Rattle.span_algebra.specs.Products.{IsExplored};
+ghost use Rattle.span_algebra.specs.Reached.{CountIsAbove};
+ghost use Rattle.span_algebra.specs.Refusals.{IsRefused};
+ghost use Rattle.span_algebra.specs.Renaming.{both_names};
+ghost use Rattle.span_algebra.specs.TreeAutomaton.{JoinStep, join_size};
+
+use crate::classes::classes_of;
+use crate::joints::meeting_of;
+use crate::pairs::put_targets;
+use crate::product::edges_of;
+use crate::refusal::AlgebraRefusal;
+use marker_dfa::Dfa;
+use marker_nfa::Edge;
+use span_types::{NoMemory, Vars};
+use std::alloc::Global;
+
+/// Pairs of states, and the edges between them.
+#[derive(Drop)]
+pub struct Explored {
+    pub pairs: Vec<u16>,
+    pub edges: Vec<Edge>,
+}
+
+/// The pair of the starts, alone in a list.
+fn start_pairs(alloc: Global) -> Result<Vec<u16>, NoMemory>
+    ensures { IfOk result (λ pairs. pairs.items ≡ 0 ∷ []) }
+{
+    let mut pairs = Vec::new(alloc);
+    pairs.push(0)?;
+    Ok(pairs)
+}
+
+/// Puts edges last.
+fn put_edges(edges: &mut Vec<Edge>, more: &[Edge]) -> Result<(), NoMemory>
+    ensures { IfOk result (λ _. edges.new.items ≡ edges.old.items ++ more.now) }
+{
+    edges.extend_from_slice(more)?;
+    Ok(())
+}
+
+/// The pairs that are reached and their edges. It ends at the 129th pair.
+pub fn explore(
+    alloc: Global,
+    left: &Dfa,
+    left_names: &Vars,
+    right: &Dfa,
+    right_names: &Vars,
+    names: &Vars,
+) -> Result<Explored, AlgebraRefusal>
+    requires left { length left_names.now ≡ left.now.variables }
+    requires right { length right_names.now ≡ right.now.variables }
+    requires names { names.now ≡ both_names left_names.now right_names.now }
+    ensures explored { IfOk result (IsExplored left.now left_names.now right.now right_names.now) }
+    ensures refused { IfErr result (IsRefused 0 (CountIsAbove 128 (join_size left.now) (JoinStep left.now left_names.now right.now right_names.now))) }
+{
+    let left_states = left.states();
+    let right_states = right.states();
+    let left_count = left_names.count();
+    let right_count = right_names.count();
+    let count = names.count();
+    let meeting = meeting_of(alloc, left_names, right_names, names)?;
+    let classes = classes_of(alloc, left, right)?;
+    let mut pairs = start_pairs(alloc)?;
+    let mut edges = Vec::new(alloc);
+    let mut done = 0;
+    'pairs: while done < pairs.len() {
+        let found = edges_of(alloc, left, right, &meeting, pairs[done], &classes)?;
+        put_targets(&mut pairs, &found)?;
+        put_edges(&mut edges, &found)?;
+        done += 1;
+    }
+    Ok(Explored { pairs, edges })
+}

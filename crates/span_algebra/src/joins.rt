@@ -1,0 +1,106 @@
+//! The natural join of two automata.
+
+ghost use Rattle.std.specs.Prelude.{◌≡◌, IfErr, IfOk, length};
+ghost use Rattle.span_algebra.specs.Answers.{GivesJoin};
+ghost use Rattle.span_algebra.specs.Products.{IsJoinNfa};
+ghost use Rattle.span_algebra.specs.Reached.{CountIsAbove, IsAutomatonOf};
+ghost use Rattle.span_algebra.specs.Refusals.{IsRefused};
+ghost use Rattle.span_algebra.specs.Renaming.{both_names};
+ghost use Rattle.span_algebra.specs.TreeAutomaton.{JoinEnd, JoinStep, join_size};
+
+use crate::determined::determined;
+use crate::exploring::explore;
+use crate::joints::meeting_of;
+use crate::names::names_of_both;
+use crate::pairs::numbered;
+use crate::product::ends_of;
+use crate::refusal::AlgebraRefusal;
+use marker_dfa::Dfa;
+use marker_nfa::Nfa;
+use span_types::Vars;
+use std::alloc::Global;
+
+/// The occurrences of a join that are reached: pairs of a left and a right state, each by its place.
+fn join_nfa(
+    alloc: Global,
+    left: &Dfa,
+    left_names: &Vars,
+    right: &Dfa,
+    right_names: &Vars,
+    names: &Vars,
+) -> Result<Nfa, AlgebraRefusal>
+    requires left { length left_names.now ≡ left.now.variables }
+    requires right { length right_names.now ≡ right.now.variables }
+    requires names { names.now ≡ both_names left_names.now right_names.now }
+    ensures made { IfOk result (IsJoinNfa left.now left_names.now right.now right_names.now) }
+    ensures refused { IfErr result (IsRefused 0 (CountIsAbove 128 (join_size left.now) (JoinStep left.now left_names.now right.now right_names.now))) }
+{
+    let left_states = left.states();
+    let right_states = right.states();
+    let left_count = left_names.count();
+    let right_count = right_names.count();
+    let variables = names.count();
+    let meeting = meeting_of(alloc, left_names, right_names, names)?;
+    let explored = explore(alloc, left, left_names, right, right_names, names)?;
+    let edges = numbered(alloc, &explored.pairs, &explored.edges)?;
+    let ends = ends_of(alloc, left, right, &meeting, &explored.pairs)?;
+    let states = explored.pairs.len() as u16;
+    Ok(Nfa::of_parts(alloc, states, variables, &edges, &ends)?)
+}
+
+/// The automaton of a join, whose variables have these names.
+fn join_dfa(
+    alloc: Global,
+    left: &Dfa,
+    left_names: &Vars,
+    right: &Dfa,
+    right_names: &Vars,
+    names: &Vars,
+) -> Result<Dfa, AlgebraRefusal>
+    requires left { length left_names.now ≡ left.now.variables }
+    requires right { length right_names.now ≡ right.now.variables }
+    requires names { names.now ≡ both_names left_names.now right_names.now }
+    ensures automaton { IfOk result (IsAutomatonOf (join_size left.now) (JoinStep left.now left_names.now right.now right_names.now) (JoinEnd left.now left_names.now right.now right_names.now)) }
+    ensures answers { IfOk result (GivesJoin left.now left_names.now right.now right_names.now (both_names left_names.now right_names.now)) }
+    ensures few { IfOk result (λ _. CountIsAbove 128 (join_size left.now) (JoinStep left.now left_names.now right.now right_names.now) → ⊥) }
+    ensures refused { IfErr result (IsRefused (length (both_names left_names.now right_names.now)) (CountIsAbove 128 (join_size left.now) (JoinStep left.now left_names.now right.now right_names.now))) }
+{
+    let left_states = left.states();
+    let right_states = right.states();
+    let left_count = left_names.count();
+    let right_count = right_names.count();
+    let count = names.count();
+    let nfa = join_nfa(alloc, left, left_names, right, right_names, names)?;
+    determined(alloc, &nfa)
+}
+
+/// The automaton of the unions of an answer of each side, where the two agree on every variable of both, and its
+/// variables: those of the left, then those of the right that the left lacks. A variable without a span agrees only
+/// with one without a span.
+///
+/// Its states are the reached sets of pairs of a left and a right state, each of which is one pair. It takes time in
+/// proportion to the steps of these pairs: for each pair and class of bytes, one for each two marks of its states.
+///
+/// # Errors
+///
+/// `TooManyVariables` exactly where there are more than eight variables, `TooManyStates` exactly where there aren't and
+/// more than 128 states would be needed, and `NoMemory`.
+pub fn join(
+    alloc: Global,
+    left: &Dfa,
+    left_names: &Vars,
+    right: &Dfa,
+    right_names: &Vars,
+) -> Result<(Dfa, Vars), AlgebraRefusal>
+    requires left { length left_names.now ≡ left.now.variables }
+    requires right { length right_names.now ≡ right.now.variables }
+    ensures names { IfOk result (λ r. r.1 ≡ both_names left_names.now right_names.now) }
+    ensures automaton { IfOk result (λ r. IsAutomatonOf (join_size left.now) (JoinStep left.now left_names.now right.now right_names.now) (JoinEnd left.now left_names.now right.now right_names.now) r.0) }
+    ensures answers { IfOk result (λ r. GivesJoin left.now left_names.now right.now right_names.now r.1 r.0) }
+    ensures few { IfOk result (λ _. CountIsAbove 128 (join_size left.now) (JoinStep left.now left_names.now right.now right_names.now) → ⊥) }
+    ensures refused { IfErr result (IsRefused (length (both_names left_names.now right_names.now)) (CountIsAbove 128 (join_size left.now) (JoinStep left.now left_names.now right.now right_names.now))) }
+{
+    let names = names_of_both(alloc, left_names, right_names)?;
+    let dfa = join_dfa(alloc, left, left_names, right, right_names, &names)?;
+    Ok((dfa, names))
+}
