@@ -1,7 +1,6 @@
 -- The automaton of a formula defines its Leaf.
-use Rattle.std.proofs.Common.{◌≡◌, ◌≢◌, ℕ, suc, ◌+◌, ◌<◌, ◌==◌, ◌&&◌, ◌||◌, ◌↔◌, Bool, true, false, List, [], ◌∷◌, length, Option, None, if◌then◌else◌, refl, sym, ap, subst, ◌∙◌, arith, eq-eqb, get_or}
+use Rattle.std.proofs.Common.{◌≡◌, ◌≢◌, ℕ, suc, ◌+◌, ◌<◌, ◌||◌, ◌↔◌, Bool, true, false, List, [], ◌∷◌, length, Option, if◌then◌else◌, refl, sym, ap, subst, ◌∙◌, arith, get_or}
 use Rattle.std.specs.Prelude.{AllPairs}
-use Rattle.std.proofs.lemmas.Bool.{eqb-true}
 use Rattle.span_types.specs.declared.tuple.Span.{Span}
 use Rattle.span_types.specs.FormulaTree.{FormulaTree, var_bound}
 use Rattle.span_types.specs.Marks.{spans_of}
@@ -10,37 +9,21 @@ use Rattle.span_types.specs.Query.{Leaf}
 use Rattle.span_types.specs.VarList.{AreVars}
 use Rattle.span_types.specs.Rel.{same_name, has_name, named}
 use Rattle.span_types.proofs.Digits as digits
-use Rattle.formula_law.specs.Accepts.{marked_text}
+use Rattle.formula_law.specs.Accepts.{MarkedText, Accepts, Steps, marked_text}
 use Rattle.formula_law.specs.Law.{VarsBelow}
 use Rattle.formula_law.proofs.Tuples.{fits-accepted}
-use Rattle.marker_nfa.specs.Automaton.{Automaton}
+use Rattle.marker_nfa.specs.Automaton.{Automaton, AcceptsText, Moves}
 use Rattle.marker_nfa.specs.Occurrences.{IsPositionAutomaton, IsWithinLimits}
 use Rattle.marker_nfa.proofs.Accepting.{vars_below}
 use Rattle.marker_dfa.specs.Deterministic.{DeterministicAutomaton, AcceptsSame}
 use Rattle.span_enum.specs.Members.{IsMember}
+use Rattle.span_algebra.proofs.NameLaws.{same-self, same-is, named-none}
+use Rattle.span_algebra.proofs.SetLaws.{reaches-by}
+use Rattle.span_algebra.proofs.TreeCounts.{position-parts}
 use Rattle.query_book.specs.Answers.{IsAnswer, Defines}
-use Rattle.query_book.proofs.Reached.{same_texts}
-
-same-self : (n : List ℕ) → same_name n n ≡ true
-same-self [] = refl
-same-self (x ∷ n) = ap (λ b. b && same_name n n) (eq-eqb x x refl) ∙ same-self n
-
-both : (x y : Bool) → (x && y) ≡ true → (x ≡ true) × (y ≡ true)
-both true y h = (refl, h)
-both false y h = let bad : ⊥ = cc in absurd bad
-
-same-is : (m n : List ℕ) → same_name m n ≡ true → m ≡ n
-same-is [] [] h = refl
-same-is [] (y ∷ n) h = let bad : ⊥ = cc in absurd bad
-same-is (x ∷ m) [] h = let bad : ⊥ = cc in absurd bad
-same-is (x ∷ m) (y ∷ n) h =
-    let parts = both (x == y) (same_name m n) h in
-    let e : x ≡ y = eqb-true x y parts.0 in
-    let f = same-is m n parts.1 in
-    λ i. e i ∷ f i
 
 -- no name stands twice
-abbrev AreApart : List (List ℕ) → Type 0
+abbrev pub AreApart : List (List ℕ) → Type 0
 AreApart [] = Unit {0}
 AreApart (n ∷ ns) = (has_name ns n ≡ false) × AreApart ns
 
@@ -52,21 +35,12 @@ lacks m (n ∷ ns) h = by (same_name n m) refl (lacks m ns (λ k d lt. h (suc k)
     by true e r = absurd (h 0 [] (omega arith) (sym (same-is n m e)))
     by false e r = r
 
-apart : (ns : List (List ℕ)) → AllPairs (λ a b. a ≢ b) ns → AreApart ns
+pub apart : (ns : List (List ℕ)) → AllPairs (λ a b. a ≢ b) ns → AreApart ns
 apart [] h = tt
 apart (n ∷ ns) h = (lacks n ns (λ k d lt. h 0 (suc k) d (omega arith) (omega (arith, lt))), apart ns (λ i j d a b. h (suc i) (suc j) d (omega (arith, a)) (omega (arith, b))))
 
-named-none : (ns : List (List ℕ)) (t : List (Option Span)) (n : List ℕ) → has_name ns n ≡ false → named ns t n ≡ None
-named-none [] t n h = refl
-named-none (m ∷ ms) [] n h = refl
-named-none (m ∷ ms) (x ∷ t) n h = by (same_name m n) h (λ r. named-none ms t n r)
-  where
-    by : (b : Bool) → (b || has_name ms n) ≡ false → (has_name ms n ≡ false → named ms t n ≡ None) → (if b then x else named ms t n) ≡ None
-    by true h rest = let bad : ⊥ = cc in absurd bad
-    by false h rest = rest h
-
 -- a tuple is told by what it gives to distinct names
-named-tells : (ns : List (List ℕ)) (t u : List (Option Span)) → AreApart ns → length t ≡ length ns → length u ≡ length ns → ((n : List ℕ) → named ns t n ≡ named ns u n) → t ≡ u
+pub named-tells : (ns : List (List ℕ)) (t u : List (Option Span)) → AreApart ns → length t ≡ length ns → length u ≡ length ns → ((n : List ℕ) → named ns t n ≡ named ns u n) → t ≡ u
 named-tells [] [] [] a lt lu h = refl
 named-tells [] [] (y ∷ u) a lt lu h = absurd (omega (arith, lu))
 named-tells [] (x ∷ t) u a lt lu h = absurd (omega (arith, lt))
@@ -89,6 +63,14 @@ leaf-answer f names s t vars = (
   (λ h. (h.0, subst (λ u. Fits f s 1 (length s + 1) (spans_of u)) (named-tells names h.1.tuple t (apart names vars.distinct) h.1.size h.0 (λ n. sym (h.1.read n))) h.1.fits)),
   (λ h. (h.0, record { tuple = t; size = h.0; fits = h.1; read = λ n. refl })),
 )
+
+-- the position automaton accepts by the formula's steps and ends
+same_texts : (f : FormulaTree) (a : Automaton) → IsPositionAutomaton f a → (w : MarkedText) → AcceptsText a w ↔ Accepts f w
+same_texts f a is w =
+    let parts = position-parts f a is in (
+      (λ x. record { state = x.state; reaches = reaches-by (Moves a) (Steps f) parts.step_to 0 w.pairs x.state x.reaches; ends = parts.end_to x.state w.last x.ends }),
+      λ x. record { state = x.state; reaches = reaches-by (Steps f) (Moves a) parts.step_from 0 w.pairs x.state x.reaches; ends = parts.end_from x.state w.last x.ends },
+    )
 
 pub leaf-defines : (f : FormulaTree) (names : List (List ℕ)) (a : Automaton) (d : DeterministicAutomaton) → IsWithinLimits f → var_bound f ≡ length names → AreVars names → IsPositionAutomaton f a → AcceptsSame a d → Defines (Leaf f names) d
 leaf-defines f names a d within count vars is same = record {

@@ -1,6 +1,10 @@
 pub mod Numbered
-pub mod Reached
+pub mod ByteSets
 pub mod Leaves
+pub mod Answering
+pub mod Operations
+pub mod ByName
+pub mod KeptNames
 pub mod Entries
 pub mod Views
 pub mod Served
@@ -8,3 +12,4 @@ pub mod Growth
 pub mod Covered
 pub mod Lists
 pub mod Lent
+pub mod Renumbered

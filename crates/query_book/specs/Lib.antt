@@ -2,6 +2,8 @@ pub mod Named
 pub mod Occurrences
 pub mod Answers
 pub mod Registering
+pub mod Keeping
+pub mod Combining
 pub mod Compiling
 pub mod Book
 pub mod Serving
@@ -10,3 +12,4 @@ pub mod Kept
 pub mod Making
 pub mod Growing
 pub mod Parts
+pub mod Renumbering

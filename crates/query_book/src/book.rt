@@ -4,18 +4,22 @@ ghost use Rattle.std.specs.Option.{option_map};
 ghost use Rattle.span_types.specs.Query.{Query, query_of};
 ghost use Rattle.span_types.specs.Rel.{names_of};
 ghost use Rattle.slp_model.specs.declared.Node.{Node};
+ghost use Rattle.slp_model.specs.Thin.{IsThinOf};
 ghost use Rattle.query_book.specs.Named.{AreDistinctNames, put, taken_out, value_of};
+ghost use Rattle.query_book.specs.Compiling.{IsCompiled};
 ghost use Rattle.query_book.specs.Registering.{IsQueryOf, IsRefused};
 ghost use Rattle.query_book.specs.Book.{IsMissing, entry_of, queries_of, with_entry, without_entry};
 ghost use Rattle.query_book.specs.Serving.{ArePartlyAt, Covers, Serves, all_at, covered_of, sum_of};
 ghost use Rattle.query_book.specs.Kept.{IsSound};
+ghost use Rattle.query_book.specs.Renumbering.{IsPlanFor, ranked};
 
-use crate::compiled::compile;
+use crate::compiled::{Compiled, compile};
 use crate::entry::{Entry, fresh_entry};
 use crate::growing::grow_entries;
 use crate::refusal::{BookRefusal, QueryRefusal};
+use crate::renumbering::renumber_entries;
 use indexmap::IndexMap;
-use node_store::Store;
+use node_store::{Moves, Store};
 use span_types::{Name, NoMemory, Steps, Vars};
 use std::alloc::Global;
 use std::marker::Model;
@@ -73,8 +77,7 @@ impl QueryBook {
         ensures err { OnErr result (self.new ≡ self.old) }
     {
         let query = compile(alloc, text)?;
-        let entry = fresh_entry(alloc, name, query)?;
-        self.put(alloc, entry)?;
+        self.register(alloc, name, query)?;
         Ok(())
     }
 
@@ -124,6 +127,17 @@ impl QueryBook {
         grow_entries(rt, alloc, &mut self.by_name, store, workers, gate, places)
     }
 
+    /// Leaves in each query the tables of the kept nodes alone, under their new ids, where the store becomes that of the kept
+    /// nodes. The old store is the one used before, grown. It takes no memory, and time linear in the tables.
+    pub fn renumber(&mut self, moves: &Moves)
+        requires { IsPlanFor moves.now self.old }
+        ensures queries { queries_of self.new ≡ queries_of self.old }
+        ensures covered { covered_of self.new ≡ ranked moves.now (covered_of self.old) }
+        ensures serves { (ns ms : List Node) → IsThinOf ns moves.now ms → Serves ns self.old → Serves ms self.new }
+    {
+        renumber_entries(&mut self.by_name, moves);
+    }
+
     /// The entry with this name.
     pub(crate) fn entry(&self, name: &[u8]) -> Result<&Entry, BookRefusal>
         ensures found { IfOk result (λ e. entry_of self.now name.now ≡ Some e.now) }
@@ -134,6 +148,25 @@ impl QueryBook {
             Some(entry) => Ok(entry),
             None => Err(BookRefusal::NoSuchQuery),
         }
+    }
+
+    /// Gives the name this query, of which no node has a table yet.
+    pub(crate) fn register(
+        &mut self,
+        alloc: Global,
+        name: Name,
+        query: Compiled,
+    ) -> Result<(), NoMemory>
+        requires { IsCompiled query }
+        ensures ok { OnOk result (queries_of self.new ≡ put (queries_of self.old) name (query_of query.tree)) }
+        ensures covered { OnOk result (covered_of self.new ≡ put (covered_of self.old) name 0) }
+        ensures serves { (ns : List Node) → Serves ns self.old → Serves ns self.new }
+        ensures distinct { OnOk result (AreDistinctNames (queries_of self.new)) }
+        ensures err { OnErr result (self.new ≡ self.old) }
+    {
+        let entry = fresh_entry(alloc, name, query)?;
+        self.put(alloc, entry)?;
+        Ok(())
     }
 
     /// Takes the entry with this name out.

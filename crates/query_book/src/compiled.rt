@@ -15,10 +15,11 @@ use marker_nfa::of_formula;
 use span_types::{Formula, QueryTree, Vars};
 use std::alloc::Global;
 
-/// A query with the names of its variables and its automaton.
+/// A query with the number of its leaves and operations, the names of its variables and its automaton.
 #[derive(Drop)]
 pub struct Compiled {
     pub(crate) tree: QueryTree,
+    pub(crate) parts: u64,
     pub(crate) vars: Vars,
     pub(crate) dfa: Dfa,
 }
@@ -56,6 +57,7 @@ fn compile_leaf(alloc: Global, formula: Formula, vars: Vars) -> Result<Compiled,
     let names = vars.copy(alloc)?;
     Ok(Compiled {
         tree: QueryTree::Leaf(formula, vars),
+        parts: 1,
         vars: names,
         dfa,
     })

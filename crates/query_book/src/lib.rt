@@ -2,16 +2,20 @@
 #![tactic(auto)]
 
 mod book;
+mod combined;
+mod combining;
 mod compiled;
 mod entry;
 mod growing;
+mod keeping;
 pub mod law;
 mod parts;
 mod questions;
 mod refusal;
+mod renumbering;
 
 pub use book::QueryBook;
-pub use refusal::{BookRefusal, QueryRefusal};
+pub use refusal::{BookRefusal, CombineRefusal, QueryRefusal};
 
 #[cfg(test)]
 mod tests;

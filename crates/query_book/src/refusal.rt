@@ -1,9 +1,9 @@
 //! Why a query is not registered, and why a call by name gives nothing.
 ghost use Rattle.std.specs.Prelude.{◌≡◌};
-ghost use Rattle.query_book.specs.declared.refusal.QueryRefusal.TheVariants.{NoMemory};
 
 use formula_syntax::FormulaRefusal;
-use span_types::NoMemory;
+use span_algebra::AlgebraRefusal;
+use span_types::{Name, NoMemory};
 use thiserror::Error;
 
 /// Why a text was not registered as a query.
@@ -23,6 +23,8 @@ pub enum QueryRefusal {
 }
 
 impl From<NoMemory> for QueryRefusal {
+    ghost use Rattle.query_book.specs.declared.refusal.QueryRefusal.TheVariants.{NoMemory};
+
     ghost from_gives = { λ _ e. e ≡ NoMemory };
 
     fn from(_: NoMemory) -> Self {
@@ -40,4 +42,56 @@ pub enum BookRefusal {
     /// No memory was found.
     #[error("no memory")]
     NoMemory,
+}
+
+/// Why no query was made of others.
+#[derive(Debug, Drop, Error)]
+pub enum CombineRefusal {
+    /// No query has this name.
+    #[error("no query is named {name}")]
+    NoSuchQuery { name: Name },
+
+    /// The tree would have `parts` leaves and operations, which is over 128.
+    #[error("a query of {parts} parts is too large")]
+    QueryTooLarge { parts: u64 },
+
+    /// A name to keep isn't a variable of the query, or stands twice.
+    #[error("other variables")]
+    OtherVariables,
+
+    /// The operands have more than eight variables together.
+    #[error("too many variables")]
+    TooManyVariables,
+
+    /// The query's automaton would have more than 128 states.
+    #[error("too many states")]
+    TooManyStates,
+
+    /// No memory was found.
+    #[error("no memory")]
+    NoMemory,
+}
+
+impl From<NoMemory> for CombineRefusal {
+    ghost use Rattle.query_book.specs.declared.refusal.CombineRefusal.TheVariants.{NoMemory};
+
+    ghost from_gives = { λ _ e. e ≡ NoMemory };
+
+    fn from(_: NoMemory) -> Self {
+        CombineRefusal::NoMemory
+    }
+}
+
+impl From<AlgebraRefusal> for CombineRefusal {
+    ghost use Rattle.query_book.specs.Combining.{refusal_of};
+
+    ghost from_gives = { λ why e. e ≡ refusal_of why };
+
+    fn from(why: AlgebraRefusal) -> Self {
+        match why {
+            AlgebraRefusal::TooManyVariables => CombineRefusal::TooManyVariables,
+            AlgebraRefusal::TooManyStates => CombineRefusal::TooManyStates,
+            AlgebraRefusal::NoMemory => CombineRefusal::NoMemory,
+        }
+    }
 }

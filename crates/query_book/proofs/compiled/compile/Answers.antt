@@ -1,6 +1,7 @@
 use Rattle.std.proofs.Common.{◌≡◌, [], length, arith}
 use Rattle.span_types.specs.FormulaTree.{tree_of, var_bound}
 use Rattle.formula_syntax.specs.Grammar.{alt}
+use Rattle.query_book.proofs.ByteSets.{reads-bytes}
 use Rattle.query_book.proofs.Numbered.{reads_bound}
 use Rattle.query_book.proofs.compiled.compile.Goals as goal
 
@@ -14,4 +15,5 @@ compile_leaf-requires c =
     record {
       within = record { functional = fault; few_sets = m.positions; few_variables = omega (arith, numbers, m.variables) };
       numbers = numbers;
+      bytes = reads-bytes alt c.args.text.now (tree_of c.in-Ok.formula) d [] c.in-Ok.vars m.reading;
     }

@@ -1,0 +1,92 @@
+-- What the map's entries say where their tables are renumbered.
+use Rattle.std.proofs.Common.{◌≡◌, ℕ, zero, suc, ◌<◌, ◌≤◌, Bool, List, [], ◌∷◌, length, get_or, slice_get, Some, Vec, Contains, sym, ap, subst, ◌∙◌, arith}
+use Rattle.std.specs.Prelude.{unwrap_or}
+use Rattle.std.specs.Map.{values_of}
+use Rattle.span_types.specs.Query.{query_of}
+use Rattle.slp_model.specs.declared.Node.{Node}
+use Rattle.slp_model.specs.Thin.{rank, IsThinOf}
+use Rattle.slp_model.proofs.RankLemmas.{rank-most}
+use Rattle.marker_dfa.specs.Deterministic.{states_of}
+use Rattle.state_tables.specs.Table.{Row, compose_of}
+use Rattle.state_tables.specs.Dictionary.{Dictionary, AreTables, count_of}
+use Rattle.table_grow.specs.Remembering.{Entry as Remembered, IsTrueEntry}
+use Rattle.query_book.specs.declared.entry.Entry.{Entry}
+use Rattle.query_book.specs.Book.{queries_of}
+use Rattle.query_book.specs.Compiling.{IsCompiled}
+use Rattle.query_book.specs.Serving.{IsServed, Serves, covered_of}
+use Rattle.query_book.specs.Kept.{IsSound, AreKept}
+use Rattle.query_book.specs.Growing.{ChangesFirst}
+use Rattle.query_book.specs.Renumbering.{Renumbers, AreWithin, ranked}
+
+-- ---- how many are kept
+rank-up : (ks : List Bool) (i j : ℕ) → i ≤ j → rank ks i ≤ rank ks j
+rank-up ks zero j h = omega arith
+rank-up ks (suc i) zero h = absurd (omega arith)
+rank-up [] (suc i) (suc j) h = omega arith
+rank-up (b ∷ bs) (suc i) (suc j) h = omega (arith, rank-up bs i j (omega arith))
+
+-- ---- one query
+true-same : (d e : Dictionary) (r : Remembered) → e.kept ≡ d.kept → IsTrueEntry d r → IsTrueEntry e r
+true-same d e r k h = record {
+  left = subst (λ (ks : List (List Row)). r.0.0 < length ks) (sym k) h.left;
+  right = subst (λ (ks : List (List Row)). r.0.1 < length ks) (sym k) h.right;
+  number = subst (λ (ks : List (List Row)). r.1 < length ks) (sym k) h.number;
+  composed = ap (λ (ks : List (List Row)). get_or ks r.1 []) k ∙ (h.composed ∙ ap (λ (ks : List (List Row)). compose_of (get_or ks r.0.0 []) (get_or ks r.0.1 [])) (sym k));
+}
+
+-- what the tables' numbers are tells nothing of the kept tables
+pub sound-same : (old new : Entry) → new.query ≡ old.query → new.memory ≡ old.memory → new.tables.kept ≡ old.tables.kept → new.tables.states ≡ old.tables.states → IsSound old → IsSound new
+sound-same old new query memory kept states s = record {
+  compiled = subst IsCompiled (sym query) s.compiled;
+  states = states ∙ (s.states ∙ ap (λ q. states_of q.dfa) (sym query));
+  memory = λ r there. true-same old.tables new.tables r kept (s.memory r (subst (λ rs. Contains rs r) memory there));
+}
+
+pub served-thin : (ns ms : List Node) (keep : List Bool) (old new : Entry) → IsThinOf ns keep ms → new.query ≡ old.query → count_of new.tables ≡ rank keep (count_of old.tables)
+    → (AreTables old.query.dfa ns old.tables → AreTables old.query.dfa ms new.tables) → IsServed ns old → IsServed ms new
+served-thin ns ms keep old new thin query count tables s = record {
+  covered = omega (arith, count, rank-up keep (count_of old.tables) (length ns) s.covered, thin.long);
+  tables = subst (λ q. AreTables q.dfa ms new.tables) (sym query) (tables s.tables);
+}
+
+some_is : {X : Type 0} {x y : X} → Some x ≡ Some y → x ≡ y
+some_is {X} {x} p = ap (λ o. unwrap_or o x) p
+
+pub within-all : (keep : List Bool) (ns : List Node) (es : List Entry) → length keep ≡ length ns → Serves ns es → AreWithin keep es
+within-all keep ns [] long s = tt
+within-all keep ns (e ∷ es) long s = (omega (arith, long, s.0.covered), within-all keep ns es long s.1)
+
+module _ {Z : Type 0} (keep : List Bool) where
+  pub within-at : (ps : List (Vec ℕ Z × Entry)) (i : ℕ) (v : Entry) → AreWithin keep (values_of ps) → slice_get (values_of ps) i ≡ Some v → count_of v.tables ≤ length keep
+  within-at [] i v h at = let bad : ⊥ = cc in absurd bad
+  within-at (p ∷ ps) zero v h at = subst (λ (e : Entry). count_of e.tables ≤ length keep) (some_is at) h.0
+  within-at (p ∷ ps) (suc i) v h at = within-at ps i v h.1 at
+
+  -- the first ones were renumbered
+  pub within-after : (n : ℕ) (ps qs : List (Vec ℕ Z × Entry)) → AreWithin keep (values_of ps) → ChangesFirst (Renumbers keep) n ps qs → AreWithin keep (values_of qs)
+  within-after zero ps qs w h = subst (λ xs. AreWithin keep (values_of xs)) (sym h) w
+  within-after (suc n) [] qs w h = subst (λ xs. AreWithin keep (values_of xs)) (sym h) tt
+  within-after (suc n) (p ∷ ps) [] w h = absurd h
+  within-after (suc n) (p ∷ ps) (q ∷ qs) w h = (omega (arith, w.0, h.1.count, rank-most keep (count_of p.1.tables)), within-after n ps qs w.1 h.2)
+
+  pub kept-after : (n : ℕ) (ps qs : List (Vec ℕ Z × Entry)) → AreKept ps → ChangesFirst (Renumbers keep) n ps qs → AreKept qs
+  kept-after zero ps qs k h = subst AreKept (sym h) k
+  kept-after (suc n) [] qs k h = subst AreKept (sym h) tt
+  kept-after (suc n) (p ∷ ps) [] k h = absurd h
+  kept-after (suc n) (p ∷ ps) (q ∷ qs) k h = (ap (λ key. key.items) h.0 ∙ (k.0 ∙ sym h.1.name), h.1.sound, kept-after n ps qs k.2 h.2)
+
+  -- all were
+  pub serves-after : (ns ms : List Node) → IsThinOf ns keep ms → (ps qs : List (Vec ℕ Z × Entry)) → ChangesFirst (Renumbers keep) (length ps) ps qs → Serves ns (values_of ps) → Serves ms (values_of qs)
+  serves-after ns ms thin [] qs h s = subst (λ xs. Serves ms (values_of xs)) (sym h) tt
+  serves-after ns ms thin (p ∷ ps) [] h s = absurd h
+  serves-after ns ms thin (p ∷ ps) (q ∷ qs) h s = (h.1.served ns ms thin s.0, serves-after ns ms thin ps qs h.2 s.1)
+
+  pub queries-after : (ps qs : List (Vec ℕ Z × Entry)) → ChangesFirst (Renumbers keep) (length ps) ps qs → queries_of (values_of qs) ≡ queries_of (values_of ps)
+  queries-after [] qs h = ap (λ xs. queries_of (values_of xs)) h
+  queries-after (p ∷ ps) [] h = absurd h
+  queries-after (p ∷ ps) (q ∷ qs) h = λ j. (h.1.name j, query_of (h.1.query j).tree) ∷ queries-after ps qs h.2 j
+
+  pub covered-after : (ps qs : List (Vec ℕ Z × Entry)) → ChangesFirst (Renumbers keep) (length ps) ps qs → covered_of (values_of qs) ≡ ranked keep (covered_of (values_of ps))
+  covered-after [] qs h = ap (λ xs. covered_of (values_of xs)) h
+  covered-after (p ∷ ps) [] h = absurd h
+  covered-after (p ∷ ps) (q ∷ qs) h = λ j. (h.1.name j, h.1.count j) ∷ covered-after ps qs h.2 j

@@ -1,0 +1,74 @@
+-- Operations on queries by name.
+use Rattle.std.specs.Prelude.{◌≡◌, ◌⊎◌, ℕ, suc, ◌+◌, ◌<◌, ◌≤◌, List, length, None}
+use Rattle.span_types.specs.Query.{Query, Leaf, Union, Join, Project}
+use Rattle.span_types.specs.Rel.{names_of}
+use Rattle.span_algebra.specs.declared.refusal.AlgebraRefusal.{AlgebraRefusal}
+use Rattle.span_algebra.specs.declared.refusal.AlgebraRefusal.TheVariants as algebra
+use Rattle.query_book.specs.Named.{Named, value_of}
+use Rattle.query_book.specs.Answers.{IsNamed}
+use Rattle.query_book.specs.Keeping.{IsVarsText, HasOther, IsKeepRefused}
+use Rattle.span_algebra.specs.Trees.{TreeCountIsAbove}
+use Rattle.query_book.specs.declared.refusal.CombineRefusal.{CombineRefusal}
+use Rattle.query_book.specs.declared.refusal.CombineRefusal.TheVariants.{NoSuchQuery, QueryTooLarge, OtherVariables, TooManyVariables, TooManyStates, NoMemory}
+
+-- the leaves and operations of a query
+abbrev pub parts_of : Query → ℕ
+parts_of (Leaf f names) = 1
+parts_of (Union a b) = suc (parts_of a + parts_of b)
+parts_of (Join a b) = suc (parts_of a + parts_of b)
+parts_of (Project a names) = suc (parts_of a)
+
+-- a query within the limits: 128 parts, eight variables and 128 reached sets
+pub record IsAccepted (q : Query) : Type 0 where
+  pub few_parts : parts_of q ≤ 128
+  pub few_names : length (names_of q) ≤ 8
+  pub few : TreeCountIsAbove 128 q → ⊥
+
+-- the first limit that a query passes
+abbrev pub IsPast : Query → CombineRefusal → Type 0
+IsPast q (NoSuchQuery name) = ⊥
+IsPast q (QueryTooLarge parts) = (parts ≡ parts_of q) × (128 < parts)
+IsPast q OtherVariables = ⊥
+IsPast q TooManyVariables = (parts_of q ≤ 128) × (8 < length (names_of q))
+IsPast q TooManyStates = (parts_of q ≤ 128) × (length (names_of q) ≤ 8) × TreeCountIsAbove 128 q
+IsPast q NoMemory = Unit {0}
+
+-- P holds of the tree over the queries of two names, which are there
+abbrev pub HasPair : (Query → Query → Query) → Named Query → List ℕ → List ℕ → (Query → Type 0) → Type 0
+HasPair Tree queries left right P = IsNamed queries left (λ p. IsNamed queries right (λ q. P (Tree p q)))
+
+-- no query has the name, and the refusal says so; memory may run out at any time
+abbrev pub IsAbsent : Named Query → List ℕ → CombineRefusal → Type 0
+IsAbsent queries wanted (NoSuchQuery name) = (name ≡ wanted) × (value_of queries wanted ≡ None)
+IsAbsent queries wanted (QueryTooLarge parts) = ⊥
+IsAbsent queries wanted OtherVariables = ⊥
+IsAbsent queries wanted TooManyVariables = ⊥
+IsAbsent queries wanted TooManyStates = ⊥
+IsAbsent queries wanted NoMemory = Unit {0}
+
+-- why the tree over the queries of two names isn't registered: the left is absent, or the right, or the tree is past a limit
+abbrev pub IsPairRefused : (Query → Query → Query) → Named Query → List ℕ → List ℕ → CombineRefusal → Type 0
+IsPairRefused Tree queries left right why = IsAbsent queries left why ⊎ IsNamed queries left (λ p. IsAbsent queries right why ⊎ IsNamed queries right (λ q. IsPast (Tree p q) why))
+
+-- P holds of the projection of a query to the names of a text
+abbrev pub HasProjection : Query → List ℕ → (Query → Type 0) → Type 0
+HasProjection q keep P = (names : List (List ℕ)) × IsVarsText keep names × (HasOther (names_of q) names → ⊥) × P (Project q names)
+
+-- why the projection of a query to the names of a text isn't registered
+abbrev pub IsProjectionPast : Query → List ℕ → CombineRefusal → Type 0
+IsProjectionPast q keep (NoSuchQuery name) = ⊥
+IsProjectionPast q keep (QueryTooLarge parts) = (parts ≡ suc (parts_of q)) × (128 < parts)
+IsProjectionPast q keep OtherVariables = (suc (parts_of q) ≤ 128) × IsKeepRefused (names_of q) keep OtherVariables
+IsProjectionPast q keep TooManyVariables = ⊥
+IsProjectionPast q keep TooManyStates = HasProjection q keep (λ p. IsPast p TooManyStates)
+IsProjectionPast q keep NoMemory = Unit {0}
+
+-- the same by name: the source is absent, or its projection is past a limit
+abbrev pub IsProjectRefused : Named Query → List ℕ → List ℕ → CombineRefusal → Type 0
+IsProjectRefused queries source keep why = IsAbsent queries source why ⊎ IsNamed queries source (λ q. IsProjectionPast q keep why)
+
+-- a refusal of the algebra, as one of the book
+abbrev pub refusal_of : AlgebraRefusal → CombineRefusal
+refusal_of algebra.TooManyVariables = TooManyVariables
+refusal_of algebra.TooManyStates = TooManyStates
+refusal_of algebra.NoMemory = NoMemory

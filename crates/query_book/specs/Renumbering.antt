@@ -1,0 +1,34 @@
+-- What happens to a book where its store becomes that of the kept nodes.
+use Rattle.std.specs.Prelude.{◌≡◌, ℕ, ◌≤◌, Bool, List, length, map}
+use Rattle.std.specs.List.{AllByRecursion}
+use Rattle.slp_model.specs.declared.Node.{Node}
+use Rattle.slp_model.specs.Kept.{IsPlanOf}
+use Rattle.slp_model.specs.Thin.{rank, IsThinOf}
+use Rattle.state_tables.specs.Dictionary.{count_of}
+use Rattle.query_book.specs.declared.entry.Entry.{Entry}
+use Rattle.query_book.specs.Named.{Named}
+use Rattle.query_book.specs.Book.{Book}
+use Rattle.query_book.specs.Kept.{IsSound}
+use Rattle.query_book.specs.Serving.{IsServed, Serves}
+
+-- the nodes of which it is said which are kept have their tables, or their first ones do
+pub record IsPlanFor (keep : List Bool) (es : Book) : Type 0 where
+  pub nodes : List Node
+  pub plan : IsPlanOf nodes keep
+  pub serves : Serves nodes es
+
+-- of each number, how many are kept of so many first nodes
+abbrev pub ranked : List Bool → Named ℕ → Named ℕ
+ranked keep ps = map (λ p. (p.0, rank keep p.1)) ps
+
+-- the query stays, and exactly the kept ones of the nodes that had tables have them
+pub record Renumbers (keep : List Bool) (old new : Entry) : Type 0 where
+  pub name : new.name ≡ old.name
+  pub query : new.query ≡ old.query
+  pub sound : IsSound new
+  pub count : count_of new.tables ≡ rank keep (count_of old.tables)
+  pub served : (ns ms : List Node) → IsThinOf ns keep ms → IsServed ns old → IsServed ms new
+
+-- in each query it is said of all nodes with tables whether they are kept
+abbrev pub AreWithin : List Bool → List Entry → Type 0
+AreWithin keep es = AllByRecursion (λ e. count_of e.tables ≤ length keep) es

@@ -1,0 +1,127 @@
+//! Queries made of others.
+ghost use Rattle.std.specs.Prelude.{◌≡◌, IfErr, IfOk};
+ghost use Rattle.line_parts.specs.NameList.{IsNameList};
+ghost use Rattle.span_types.specs.Query.{Join, Union, query_of};
+ghost use Rattle.query_book.specs.Combining.{HasProjection, IsAccepted, IsPast, IsProjectionPast};
+ghost use Rattle.query_book.specs.Compiling.{IsCompiled};
+
+use crate::compiled::Compiled;
+use crate::keeping::kept_names;
+use crate::refusal::CombineRefusal;
+use span_algebra::{join, project, union};
+use span_types::{NoMemory, QueryTree};
+use std::alloc::Global;
+use std::boxed::Box;
+
+/// The most leaves and operations of a query.
+const MAX_PARTS: u64 = 128;
+
+/// The union of two queries.
+///
+/// # Errors
+///
+/// The first limit that it passes, and `NoMemory`.
+pub(crate) fn united(
+    alloc: Global,
+    left: &Compiled,
+    right: &Compiled,
+) -> Result<Compiled, CombineRefusal>
+    requires left { IsCompiled left.now }
+    requires right { IsCompiled right.now }
+    ensures tree { IfOk result (λ c. query_of c.tree ≡ Union (query_of left.now.tree) (query_of right.now.tree)) }
+    ensures compiled { IfOk result IsCompiled }
+    ensures accepted { IfOk result (λ c. IsAccepted (query_of c.tree)) }
+    ensures past { IfErr result (IsPast (Union (query_of left.now.tree) (query_of right.now.tree))) }
+{
+    let parts = 1 + left.parts + right.parts;
+    if parts > MAX_PARTS {
+        return Err(CombineRefusal::QueryTooLarge { parts });
+    }
+    let (dfa, vars) = union(alloc, &left.dfa, &left.vars, &right.dfa, &right.vars)?;
+    let _count = vars.count();
+    let left = boxed(alloc, &left.tree)?;
+    let right = boxed(alloc, &right.tree)?;
+    Ok(Compiled {
+        tree: QueryTree::Union(left, right),
+        parts,
+        vars,
+        dfa,
+    })
+}
+
+/// The join of two queries.
+///
+/// # Errors
+///
+/// The first limit that it passes, and `NoMemory`.
+pub(crate) fn joined(
+    alloc: Global,
+    left: &Compiled,
+    right: &Compiled,
+) -> Result<Compiled, CombineRefusal>
+    requires left { IsCompiled left.now }
+    requires right { IsCompiled right.now }
+    ensures tree { IfOk result (λ c. query_of c.tree ≡ Join (query_of left.now.tree) (query_of right.now.tree)) }
+    ensures compiled { IfOk result IsCompiled }
+    ensures accepted { IfOk result (λ c. IsAccepted (query_of c.tree)) }
+    ensures past { IfErr result (IsPast (Join (query_of left.now.tree) (query_of right.now.tree))) }
+{
+    let parts = 1 + left.parts + right.parts;
+    if parts > MAX_PARTS {
+        return Err(CombineRefusal::QueryTooLarge { parts });
+    }
+    let _states = right.dfa.states();
+    let (dfa, vars) = join(alloc, &left.dfa, &left.vars, &right.dfa, &right.vars)?;
+    let _count = vars.count();
+    let left = boxed(alloc, &left.tree)?;
+    let right = boxed(alloc, &right.tree)?;
+    Ok(Compiled {
+        tree: QueryTree::Join(left, right),
+        parts,
+        vars,
+        dfa,
+    })
+}
+
+/// The projection of a query to the names of a text, which is a list of names.
+///
+/// # Errors
+///
+/// `OtherVariables` exactly where it isn't too large and one of them isn't a variable or stands twice, the first limit
+/// that it passes, and `NoMemory`.
+pub(crate) fn projected(
+    alloc: Global,
+    source: &Compiled,
+    keep: &[u8],
+) -> Result<Compiled, CombineRefusal>
+    requires source { IsCompiled source.now }
+    requires keep { IsNameList keep.now }
+    ensures tree { IfOk result (λ c. HasProjection (query_of source.now.tree) keep.now (λ q. query_of c.tree ≡ q)) }
+    ensures compiled { IfOk result IsCompiled }
+    ensures accepted { IfOk result (λ c. IsAccepted (query_of c.tree)) }
+    ensures past { IfErr result (IsProjectionPast (query_of source.now.tree) keep.now) }
+{
+    let parts = 1 + source.parts;
+    if parts > MAX_PARTS {
+        return Err(CombineRefusal::QueryTooLarge { parts });
+    }
+    let vars = kept_names(alloc, &source.vars, keep)?;
+    let _count = vars.count();
+    let dfa = project(alloc, &source.dfa, &source.vars, &vars)?;
+    let names = vars.copy(alloc)?;
+    let tree = boxed(alloc, &source.tree)?;
+    Ok(Compiled {
+        tree: QueryTree::Project(tree, names),
+        parts,
+        vars,
+        dfa,
+    })
+}
+
+/// A copy of a tree.
+fn boxed(alloc: Global, tree: &QueryTree) -> Result<Box<QueryTree>, NoMemory>
+    ensures { IfOk result (λ copy. query_of copy.value ≡ query_of tree.now) }
+{
+    let copy = tree.copy(alloc)?;
+    Ok(Box::new(alloc, copy)?)
+}

@@ -1,0 +1,93 @@
+//! The variables that a projection keeps.
+ghost use Rattle.std.specs.Prelude.{◌≡◌, ◌↔◌, ◌∷◌, ◌++◌, [], Contains, IfErr, IfOk, IsTrue, OnOk};
+ghost use Rattle.span_types.specs.VarList.{AreVars};
+ghost use Rattle.line_parts.specs.NameList.{AreListed, IsName, IsNameList};
+ghost use Rattle.query_book.specs.Keeping.{HasOther, IsKeepRefused, IsOther, IsVarsText};
+
+use crate::refusal::CombineRefusal;
+use line_parts::{cut_at, is_same};
+use span_types::{Name, NameRefusal, NoMemory, Vars, VarsRefusal};
+use std::alloc::Global;
+
+/// The names of a text, which is `()` or one or more names with a comma between each two.
+///
+/// # Errors
+///
+/// `OtherVariables` exactly where one of them isn't a variable or stands twice, and `NoMemory`.
+pub(crate) fn kept_names(alloc: Global, vars: &Vars, keep: &[u8]) -> Result<Vars, CombineRefusal>
+    requires { IsNameList keep.now }
+    ensures names { IfOk result (IsVarsText keep.now) }
+    ensures variables { IfOk result (λ names. HasOther vars.now names → ⊥) }
+    ensures refused { IfErr result (IsKeepRefused vars.now keep.now) }
+{
+    if is_same(keep, b"()") {
+        return Ok(Vars::new(alloc));
+    }
+    listed_names(alloc, vars, keep)
+}
+
+/// The names of a text, with a comma between each two.
+fn listed_names(alloc: Global, vars: &Vars, keep: &[u8]) -> Result<Vars, CombineRefusal>
+    requires { AreListed keep.now }
+    ensures names { IfOk result (IsVarsText keep.now) }
+    ensures variables { IfOk result (λ names. HasOther vars.now names → ⊥) }
+    ensures refused { IfErr result (IsKeepRefused vars.now keep.now) }
+{
+    let mut names = Vars::new(alloc);
+    let mut rest = keep;
+    while let Some((name, more)) = cut_at(rest, b',') {
+        keep_name(alloc, vars, &mut names, name)?;
+        rest = more;
+    }
+    keep_name(alloc, vars, &mut names, rest)?;
+    Ok(names)
+}
+
+/// Puts the name of a variable last, unless it is there.
+fn keep_name(
+    alloc: Global,
+    vars: &Vars,
+    names: &mut Vars,
+    name: &[u8],
+) -> Result<(), CombineRefusal>
+    requires name { IsName name.now }
+    requires variables { HasOther vars.now names.old → ⊥ }
+    ensures ok { OnOk result (Contains vars.now name.now × (Contains names.old name.now → ⊥) × (names.new ≡ names.old ++ name.now ∷ [])) }
+    ensures refused { IfErr result (IsOther vars.now names.old name.now) }
+{
+    if !has_name(vars, name) || has_name(names, name) {
+        return Err(CombineRefusal::OtherVariables);
+    }
+    let name = name_of(alloc, name)?;
+    match names.number_of(name) {
+        Ok(_) => Ok(()),
+        // Different variables are at most as many as the variables.
+        Err(VarsRefusal::Full) => unreachable!(),
+        Err(VarsRefusal::NoMemory) => Err(CombineRefusal::NoMemory),
+    }
+}
+
+/// Whether a name stands in a list.
+fn has_name(names: &Vars, name: &[u8]) -> bool
+    ensures there { IsTrue result ↔ Contains names.now name.now }
+    ensures vars { AreVars names.now }
+{
+    for v in 0..names.count() {
+        if is_same(names.name(v).bytes(), name) {
+            return true;
+        }
+    }
+    false
+}
+
+/// The name with these bytes, which are one.
+pub(crate) fn name_of(alloc: Global, name: &[u8]) -> Result<Name, NoMemory>
+    requires { IsName name.now }
+    ensures { IfOk result (λ n. n ≡ name.now) }
+{
+    match Name::new(alloc, name) {
+        Ok(name) => Ok(name),
+        Err(NameRefusal::NotAName) => unreachable!(),
+        Err(NameRefusal::NoMemory) => Err(NoMemory),
+    }
+}
