@@ -4,11 +4,14 @@ ghost use Rattle.std.specs.List.{AllByRecursion};
 ghost use Rattle.std.specs.Thread.{IsSync};
 ghost use Rattle.slp_model.specs.Nodes.{IsLive};
 ghost use Rattle.state_tables.specs.Dictionary.{AreTables};
-ghost use Rattle.list_all.specs.Every.{AreEach, ArePages, AreRoots};
+ghost use Rattle.list_all.specs.Every.{ArePages, AreRoots};
+ghost use Rattle.list_all.specs.Places.{HaveEach};
 
 use crate::finder::{FindPage, Finder};
-use crate::found::{OnePage, Pages};
+use crate::found::Pages;
+use crate::shared::{Shared, joined, place_of};
 use doc_book::Docs;
+use indexmap::IndexSet;
 use marker_dfa::Dfa;
 use node_store::NodeId;
 use span_types::NoMemory;
@@ -36,25 +39,27 @@ fn roots_of(
     Ok(roots)
 }
 
-/// The pages of the roots in order, on this thread. The first root's place is `at`.
+/// The pages of the roots in order, on this thread, one for equal roots. The first root's place is `at`.
 fn one_piece<F: FindPage, G: Gate>(
     alloc: Global,
     finder: &F,
     roots: &[Option<NodeId>],
     at: usize,
     gate: &G,
-) -> Result<Vec<OnePage>, NoMemory>
+) -> Result<Shared, NoMemory>
     requires can { All (F.can_find finder.now) roots.now }
     requires places { at + length roots.now < 2 ^ 64 }
-    ensures { IfOk result (λ pages. AreEach (F.is_page finder.now) roots.now pages.items) }
+    ensures { IfOk result (λ pages. HaveEach (F.is_page finder.now) pages.found.items roots.now pages.places.items) }
 {
-    let mut pages = Vec::with_capacity(alloc, roots.len())?;
+    let mut seen = IndexSet::new(alloc);
+    let mut found = Vec::new(alloc);
+    let mut places = Vec::with_capacity(alloc, roots.len())?;
     for (index, root) in roots.iter().enumerate() {
         gate.pass(at + index);
-        let next = finder.find(alloc, *root)?;
-        pages.push(next)?;
+        let place = place_of(alloc, finder, &mut seen, &mut found, *root)?;
+        places.push(place)?;
     }
-    Ok(pages)
+    Ok(Shared { found, places })
 }
 
 /// The pages of the roots in order, found in at most `workers` pieces.
@@ -66,10 +71,10 @@ fn in_pieces<R: Threads + Sync, F: FindPage, G: Gate>(
     at: usize,
     workers: u8,
     gate: &G,
-) -> Result<Vec<OnePage>, NoMemory>
+) -> Result<Shared, NoMemory>
     requires can { All (F.can_find finder.now) roots.now }
     requires places { at + length roots.now < 2 ^ 64 }
-    ensures { IfOk result (λ pages. AreEach (F.is_page finder.now) roots.now pages.items) }
+    ensures { IfOk result (λ pages. HaveEach (F.is_page finder.now) pages.found.items roots.now pages.places.items) }
 {
     if workers <= 1 || roots.len() <= 1 {
         return one_piece(alloc, finder, roots, at, gate);
@@ -78,17 +83,17 @@ fn in_pieces<R: Threads + Sync, F: FindPage, G: Gate>(
     let middle = at + left.len();
     let (first, second) = halves(
         rt,
-        || -> Result<Vec<OnePage>, NoMemory>
+        || -> Result<Shared, NoMemory>
             requires sync { IsSync R.row × IsSync F.row × IsSync G.row }
             requires can { All (F.can_find finder.now) left.now }
             requires places { at + length left.now < 2 ^ 64 }
-            ensures pages { IfOk result (λ pages. AreEach (F.is_page finder.entry.now) left.entry.now pages.items) }
+            ensures pages { IfOk result (λ pages. HaveEach (F.is_page finder.entry.now) pages.found.items left.entry.now pages.places.items) }
         { in_pieces(rt, alloc, finder, left, at, workers / 2, gate) },
-        || -> Result<Vec<OnePage>, NoMemory>
+        || -> Result<Shared, NoMemory>
             requires sync { IsSync R.row × IsSync F.row × IsSync G.row }
             requires can { All (F.can_find finder.now) right.now }
             requires places { middle + length right.now < 2 ^ 64 }
-            ensures pages { IfOk result (λ pages. AreEach (F.is_page finder.entry.now) right.entry.now pages.items) }
+            ensures pages { IfOk result (λ pages. HaveEach (F.is_page finder.entry.now) pages.found.items right.entry.now pages.places.items) }
         {
             in_pieces(
                 rt,
@@ -101,14 +106,13 @@ fn in_pieces<R: Threads + Sync, F: FindPage, G: Gate>(
             )
         },
     );
-    let mut pages = first?;
-    pages.append(&mut second?)?;
-    Ok(pages)
+    joined(first?, second?)
 }
 
 /// The page of each of the documents at the places from `first` on: the first `limit` answers of the automaton on its text,
 /// and whether there are more. It is the same for every number of workers.
 ///
+/// Documents with one root share one page in a piece: it is found once, and takes memory once.
 /// The view's tables are those of the automaton, and the documents' roots are its nodes or none. The places are cut into at
 /// most `workers` pieces, 1 to 64, which run at once, and `gate.pass` is called with each place before its page. The limit is
 /// 1 to 10,000.
@@ -136,6 +140,6 @@ pub fn pages<R: Threads + Sync, G: Gate>(
     let _all = docs.count();
     let roots = roots_of(alloc, docs, first, count)?;
     let finder = Finder { view, dfa, limit };
-    let pages = in_pieces(rt, alloc, &finder, &roots, first, workers, gate)?;
-    Ok(Pages { pages })
+    let shared = in_pieces(rt, alloc, &finder, &roots, first, workers, gate)?;
+    Ok(Pages { shared })
 }

@@ -1,6 +1,7 @@
 //! Pages that were found.
 ghost use Rattle.std.specs.Prelude.{◌≡◌, ◌<◌, Some, map, length, slice_get};
 
+use crate::shared::Shared;
 use span_types::Tuple;
 use std::marker::Model;
 
@@ -38,16 +39,19 @@ impl OnePage {
 /// A page for each of some documents, in their order. Contracts see it as the list of the pages.
 #[derive(Drop)]
 pub struct Pages {
-    pub(crate) pages: Vec<OnePage>,
+    pub(crate) shared: Shared,
 }
 
 impl Model for Pages {
-    ghost use Rattle.std.specs.Prelude.{List};
+    ghost use Rattle.std.specs.Prelude.{◌<◌, List, All, length};
     ghost use Rattle.list_all.specs.Page.{Page};
+    ghost use Rattle.list_all.specs.Places.{pages_at};
 
     ghost Value = { List Page };
 
-    ghost view = { λ p. p.pages.items };
+    ghost view = { λ p. pages_at p.shared.found.items p.shared.places.items };
+
+    ghost invariant = { λ p. All (λ k. k < length p.shared.found.items) p.shared.places.items };
 }
 
 impl Pages {
@@ -55,7 +59,15 @@ impl Pages {
     pub fn count(&self) -> usize
         ensures { result ≡ length self.now }
     {
-        self.pages.len()
+        self.shared.places.len()
+    }
+
+    /// The page at this place.
+    fn page(&self, place: usize) -> &OnePage
+        requires { place < length self.now }
+        ensures { slice_get self.now place ≡ Some result.now }
+    {
+        &self.shared.found[self.shared.places[place]]
     }
 
     /// The answers of the page at this place, in mark order. Places count from 0.
@@ -63,7 +75,7 @@ impl Pages {
         requires { place < length self.now }
         ensures { slice_get (map (λ p. p.tuples) self.now) place ≡ Some result.now }
     {
-        self.pages[place].tuples()
+        self.page(place).tuples()
     }
 
     /// Whether there are answers after those of the page at this place.
@@ -71,6 +83,6 @@ impl Pages {
         requires { place < length self.now }
         ensures { slice_get (map (λ p. p.more) self.now) place ≡ Some result }
     {
-        self.pages[place].more()
+        self.page(place).more()
     }
 }

@@ -19,6 +19,7 @@
 mod every;
 mod finder;
 mod found;
+mod shared;
 mod single;
 
 pub use every::pages;

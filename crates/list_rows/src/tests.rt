@@ -134,6 +134,7 @@ fn listed<R: Threads + Sync, G: Gate, L: Ledger>(
     rt: &R,
     alloc: Global,
     blank: Blank,
+    letters: (u8, u8),
     workers: u8,
     gate: &G,
 ) -> Result<Pages, NoMemory>
@@ -145,7 +146,7 @@ fn listed<R: Threads + Sync, G: Gate, L: Ledger>(
 {
     let mut steps = Steps::<L>::new(blank);
     let mut store = Store::new(alloc);
-    let docs = two_letters(alloc, &mut store, b'a', b'b')?;
+    let docs = two_letters(alloc, &mut store, letters.0, letters.1)?;
     let book = grown_book(rt, alloc, &store, &mut steps)?;
     pages_of(rt, alloc, &store, &docs, &book, workers, gate)
 }
@@ -162,9 +163,35 @@ fn seen_at(pages: &Pages, place: usize) -> Option<(usize, bool)> {
 #[test]
 fn pages_on_many_workers(rt: HostRuntime) -> Result<(), Fail> {
     let alloc = rt.alloc();
-    let found = listed::<HostRuntime, OpenGate, Brand>(&rt, alloc, Blank::new(1), 64, &OpenGate)?;
+    let letters = (b'a', b'b');
+    let found = listed::<HostRuntime, OpenGate, Brand>(
+        &rt,
+        alloc,
+        Blank::new(1),
+        letters,
+        64,
+        &OpenGate,
+    )?;
     assert_eq!(rt; seen_at(&found, 0), Some((1, false)));
     assert_eq!(rt; seen_at(&found, 1), Some((0, false)));
+    assert_eq!(rt; seen_at(&found, 2), None);
+    Ok(())
+}
+
+#[test]
+fn one_page_for_equal_roots(rt: HostRuntime) -> Result<(), Fail> {
+    let alloc = rt.alloc();
+    let letters = (b'a', b'a');
+    let found = listed::<HostRuntime, OpenGate, Brand>(
+        &rt,
+        alloc,
+        Blank::new(1),
+        letters,
+        1,
+        &OpenGate,
+    )?;
+    assert_eq!(rt; seen_at(&found, 0), Some((1, false)));
+    assert_eq!(rt; seen_at(&found, 1), Some((1, false)));
     assert_eq!(rt; seen_at(&found, 2), None);
     Ok(())
 }
@@ -176,7 +203,15 @@ fn two_places_meet(rt: HostRuntime) -> Result<(), Fail> {
         arrived: AtomicU64::new(0),
         gave_up: AtomicU64::new(0),
     };
-    let found = listed::<HostRuntime, Meeting, Brand>(&rt, alloc, Blank::new(1), 2, &gate)?;
+    let letters = (b'a', b'b');
+    let found = listed::<HostRuntime, Meeting, Brand>(
+        &rt,
+        alloc,
+        Blank::new(1),
+        letters,
+        2,
+        &gate,
+    )?;
     assert_eq!(rt; found.count(), 2);
     assert_eq!(rt; gate.arrived.load(Ordering::SeqCst), 2);
     assert_eq!(rt; gate.gave_up.load(Ordering::SeqCst), 0);

@@ -1,4 +1,4 @@
-use Rattle.std.proofs.Common.{◌≡◌, ◌+◌, ◌∷◌, [], refl, ap, length, length-append, arith}
+use Rattle.std.proofs.Common.{◌≡◌, ◌+◌, ◌∷◌, [], ap, length, length-append, arith}
 use Rattle.span_types.specs.Fibonacci.{looks_limit}
 use Rattle.list_all.proofs.Taken.{taken-none, taken-next, taken-all, taken-page, taken-looks, looks-next, looks-most}
 use Rattle.list_all.proofs.single.first_answers.Goals as goal
