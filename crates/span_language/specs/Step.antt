@@ -9,12 +9,15 @@ use Rattle.edit_expr.specs.declared.expr.Expr.{Expr}
 use Rattle.edit_expr.specs.declared.refusal.EditRefusal.{EditRefusal}
 use Rattle.edit_expr.specs.Expressions.{ExprReads}
 use Rattle.edit_expr.specs.Eval.{eval}
-use Rattle.span_types.specs.Query.{Query}
+use Rattle.span_types.specs.Query.{Query, Union, Join}
 use Rattle.span_types.specs.Rel.{IsAnswersOf, names_of}
 use Rattle.formula_syntax.specs.FormulaOf.{FormulaOf}
 use Rattle.formula_syntax.specs.FormulaOf as formula
 use Rattle.query_book.specs.Registering.{IsQueryOf, IsTooLarge}
-use Rattle.query_book.specs.Answers.{HasAnswer, IsAnswer}
+use Rattle.query_book.specs.Answers.{HasAnswer, IsAnswer, IsNamed}
+use Rattle.query_book.specs.Combining.{HasPair, HasProjection, IsAccepted, IsPairRefused, IsProjectRefused}
+use Rattle.query_book.specs.declared.refusal.CombineRefusal.{CombineRefusal}
+use Rattle.query_book.specs.declared.refusal.CombineRefusal.TheVariants as combine
 use Rattle.span_enum.specs.Members.{Tuple}
 use Rattle.span_cursor.specs.Tuples.{TupleText}
 use Rattle.slp_image.specs.Fields.{kind_of}
@@ -23,7 +26,7 @@ use Rattle.slp_image.specs.Save.{SaveForm}
 use Rattle.slp_image.specs.declared.refusal.ImageRefusal.{ImageRefusal}
 use Rattle.report_text.specs.Reply.{shown_text, query_text, saved_text, opened_text, refusal_text}
 use Rattle.report_text.specs.declared.refusal.Refusal.{Refusal}
-use Rattle.report_text.specs.declared.refusal.Refusal.TheVariants.{Syntax, NoSuchDocument, NoSuchQuery, FormulaTooLong, BadFormula, TooDeep, TooManyPositions, TooManyVariables, NotFunctional, TooManyStates, NoSuchFile, FileTooLong, BadImage, NoSuchVersion, NotOneVariable, TooManyMatches, TooLong}
+use Rattle.report_text.specs.declared.refusal.Refusal.TheVariants.{Syntax, NoSuchDocument, NoSuchQuery, FormulaTooLong, BadFormula, TooDeep, TooManyPositions, TooManyVariables, NotFunctional, TooManyStates, NoSuchFile, FileTooLong, BadImage, QueryTooLarge, OtherVariables, NoSuchVersion, NotOneVariable, TooManyMatches, TooLong}
 use Rattle.span_language.specs.State.{World, Documents, Named, world, value_of, put, taken_out, with_documents, with_queries, with_versions}
 use Rattle.span_language.specs.Cursors.{IsCursorRefused, IsTupleRefused}
 use Rattle.span_language.specs.Listed.{AreListed, IsListReply}
@@ -82,6 +85,19 @@ IsTextRefused text (NotFunctional name) = FormulaOf text (formula.NotFunctional 
 IsTextRefused text TooManyStates = IsTooLarge text
 IsTextRefused text _ = ⊥
 
+-- why no query was made of others, as a reply has it
+abbrev pub IsCombineRefusal : CombineRefusal → Refusal → Type 0
+IsCombineRefusal (combine.NoSuchQuery name) why = why ≡ NoSuchQuery name
+IsCombineRefusal (combine.QueryTooLarge parts) why = why ≡ QueryTooLarge parts
+IsCombineRefusal combine.OtherVariables why = why ≡ OtherVariables
+IsCombineRefusal combine.TooManyVariables why = why ≡ TooManyVariables
+IsCombineRefusal combine.TooManyStates why = why ≡ TooManyStates
+IsCombineRefusal combine.NoMemory why = ⊥
+
+-- the first refusal of a query that is made of others
+abbrev pub IsUncombined : (CombineRefusal → Type 0) → Refusal → Type 0
+IsUncombined Refuses why = (refusal : CombineRefusal) × Refuses refusal × IsCombineRefusal refusal why
+
 -- the query and the text that a question names
 pub record IsAsked (old : World) (query name : List ℕ) (q : Query) (text : List ℕ) : Type 0 where
   pub document : value_of old.state.documents name ≡ Some text
@@ -126,6 +142,10 @@ most_spans = 32768
 abbrev pub HasQueries : World → World → Named Query → Type 0
 HasQueries old new queries = new ≡ world (with_queries old.state queries) old.files
 
+-- the query is given the name, and the reply has its variables
+abbrev pub IsRegistered : World → World → List ℕ → Query → List ℕ → Type 0
+IsRegistered old new name q reply = (reply ≡ query_text name (names_of q)) × HasQueries old new (put old.state.queries name q)
+
 -- the documents change, and nothing else
 abbrev pub HasDocuments : World → World → Documents → Type 0
 HasDocuments old new documents = new ≡ world (with_documents old.state documents) old.files
@@ -134,7 +154,7 @@ HasDocuments old new documents = new ≡ world (with_documents old.state documen
 abbrev pub HasVersions : World → World → Named Documents → Type 0
 HasVersions old new versions = new ≡ world (with_versions old.state versions) old.files
 
--- an accepted command has this reply and leaves this world: one equation for each command that is built
+-- an accepted command has this reply and leaves this world: one equation for each command
 abbrev pub Does : World → Command → List ℕ → World → Type 0
 Does old (Text name bytes) reply new = (reply ≡ given_text name bytes) × HasDocuments old new (put old.state.documents name bytes)
 Does old (LoadFile name file) reply new = (bytes : List ℕ) × IsWithin old.files file load_size bytes × (reply ≡ given_text name bytes)
@@ -145,8 +165,11 @@ Does old (DropDoc name) reply new = (text : List ℕ) × (value_of old.state.doc
     × (reply ≡ ok_text) × HasDocuments old new (taken_out old.state.documents name)
 Does old Names reply new = (reply ≡ names_text old.state.documents) × (new ≡ old)
 Does old (Show name i j) reply new = (bytes : List ℕ) × (shown old.state.documents name i j ≡ Ok bytes) × (reply ≡ shown_text bytes) × (new ≡ old)
-Does old (form.Query name text) reply new = (q : Query) × IsQueryOf text q × (reply ≡ query_text name (names_of q)) × HasQueries old new (put old.state.queries name q)
+Does old (form.Query name text) reply new = (q : Query) × IsQueryOf text q × IsRegistered old new name q reply
 Does old (form.Unquery name) reply new = (q : Query) × (value_of old.state.queries name ≡ Some q) × (reply ≡ ok_text) × HasQueries old new (taken_out old.state.queries name)
+Does old (form.UnionQuery name left right) reply new = HasPair Union old.state.queries left right (λ q. IsAccepted q × IsRegistered old new name q reply)
+Does old (form.JoinQuery name left right) reply new = HasPair Join old.state.queries left right (λ q. IsAccepted q × IsRegistered old new name q reply)
+Does old (form.ProjectQuery name source keep) reply new = IsNamed old.state.queries source (λ q. HasProjection q keep (λ p. IsAccepted p × IsRegistered old new name p reply))
 Does old (form.List query name word n) reply new = (q : Query) × (text : List ℕ) × IsAsked old query name q text × IsListReply q text word n reply × (new ≡ old)
 Does old (form.Nonempty query name) reply new = (q : Query) × (text : List ℕ) × IsAsked old query name q text × IsYesOrNo (HasAnswer q text) reply × (new ≡ old)
 Does old (form.Has query name word) reply new = (q : Query) × (text : List ℕ) × (tuple : Tuple) × IsAsked old query name q text × TupleText word (names_of q) tuple
@@ -164,9 +187,10 @@ Does old (form.UnmarkDocs name) reply new = (documents : Documents) × (value_of
     × (reply ≡ ok_text) × HasVersions old new (taken_out old.state.versions name)
 Does old (form.BackDocs name) reply new = (documents : Documents) × (value_of old.state.versions name ≡ Some documents)
     × (reply ≡ ok_text) × HasDocuments old new documents
-Does old _ reply new = ⊥
+Does old form.Compact reply new = (reply ≡ ok_text) × (new ≡ old)
+Does old Nothing reply new = ⊥
 
--- the first refusal of a command: a command that isn't built is no line of the language
+-- the first refusal of a command
 abbrev pub IsRefused : World → Command → Refusal → Type 0
 IsRefused old Nothing why = ⊥
 IsRefused old (Text name bytes) why = ⊥
@@ -178,6 +202,9 @@ IsRefused old Names why = ⊥
 IsRefused old (Show name i j) why = shown old.state.documents name i j ≡ Err why
 IsRefused old (form.Query name text) why = IsTextRefused text why
 IsRefused old (form.Unquery name) why = (value_of old.state.queries name ≡ None) × (why ≡ NoSuchQuery name)
+IsRefused old (form.UnionQuery name left right) why = IsUncombined (IsPairRefused Union old.state.queries left right) why
+IsRefused old (form.JoinQuery name left right) why = IsUncombined (IsPairRefused Join old.state.queries left right) why
+IsRefused old (form.ProjectQuery name source keep) why = IsUncombined (IsProjectRefused old.state.queries source keep) why
 IsRefused old (form.List query name word n) why = IsUnasked old query name why
     ⊎ ((q : Query) × (text : List ℕ) × IsAsked old query name q text × IsCursorRefused q word why)
 IsRefused old (form.Nonempty query name) why = IsUnasked old query name why
@@ -194,7 +221,7 @@ IsRefused old (form.ReplaceDoc name query source by) why = IsUnreplaced old quer
 IsRefused old (form.MarkDocs name) why = ⊥
 IsRefused old (form.UnmarkDocs name) why = (value_of old.state.versions name ≡ None) × (why ≡ NoSuchVersion name)
 IsRefused old (form.BackDocs name) why = (value_of old.state.versions name ≡ None) × (why ≡ NoSuchVersion name)
-IsRefused old _ why = why ≡ Syntax
+IsRefused old form.Compact why = ⊥
 
 -- a command that was read, in this world, has this reply and leaves that world
 abbrev pub Carries : World → ℕ → Command → Told → List ℕ → World → Type 0

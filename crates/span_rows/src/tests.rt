@@ -6,7 +6,7 @@ use std::test::Fail;
 /// A script, its whole output and its status.
 type Row = (&'static str, &'static str, Status);
 
-const ROWS: [Row; 28] = [
+const ROWS: [Row; 30] = [
     (
         "text d abracadabra\n",
         "ok d 11 \"abracadabra\"\n",
@@ -131,8 +131,18 @@ const ROWS: [Row; 28] = [
         Status::SomeRefused,
     ),
     (
-        "text d ab\nmark v\nlet d = concat(d,d)\nback v\nnames\nback w\ndrop d\nunmark v\nnames\n",
-        "ok d 2 \"ab\"\nok\nok d 4 \"abab\"\nok\nd 2\nend\nline 6: NoSuchVersion w\nok\nok\nend\n",
+        "text d ab\nmark v\nlet d = concat(d,d)\nback v\nnames\nback w\ndrop d\nunmark v\ncompact\nnames\n",
+        "ok d 2 \"ab\"\nok\nok d 4 \"abab\"\nok\nd 2\nend\nline 6: NoSuchVersion w\nok\nok\nok\nend\n",
+        Status::SomeRefused,
+    ),
+    (
+        "text d abracadabra\ntext e xyz\nquery q .*$x{a}.*\nlist q d limit 1\ndrop e\ncompact\nlist q d after x=[1,2) limit 1\n",
+        "ok d 11 \"abracadabra\"\nok e 3 \"xyz\"\nok q x\nx=[1,2)\nmore\nok\nok\nx=[4,5)\nmore\n",
+        Status::Done,
+    ),
+    (
+        "text d ab\nquery p $x{a}.\nquery q .$x{b}\nunion u p q\nlist u d\nunion u p p\nlist u d\nquery r $y{.}.\njoin j p r\nlist j d\njoin k p q\nlist k d\nproject m j y\nlist m d\nproject m p ()\nlist m d\nproject m p z\nunion m p zz\n",
+        "ok d 2 \"ab\"\nok p x\nok q x\nok u x\nx=[1,2)\nx=[2,3)\nend\nok u x\nx=[1,2)\nend\nok r y\nok j x y\nx=[1,2),y=[1,2)\nend\nok k x\nend\nok m y\ny=[1,2)\nend\nok m\n()\nend\nline 17: OtherVariables\nline 18: NoSuchQuery zz\n",
         Status::SomeRefused,
     ),
 ];

@@ -29,18 +29,19 @@ use Rattle.doc_book.specs.declared.Doc.{Doc}
 use Rattle.edit_expr.specs.Values.{AreLive, plain, text_at}
 use Rattle.span_language.specs.Listed.{AreListed, doc_line, done_line, first_page_text, page_text, tuple_line}
 use Rattle.span_language.specs.Step.{AppendsFront}
-use Rattle.span_run.specs.Answers.{IsLimited}
+use Rattle.span_run.specs.Answers.{IsWellFormed}
 use Rattle.span_run.specs.Every.{AreAnswered, AreShort, IsRegistered, every_text, rest_text}
 use Rattle.span_run.proofs.Written.{IsListing, both_written, listing_ends, listing_goes_on, listing_stops}
 
--- a line's limit is one that a line can give
-pub limited : (line : List ℕ) (command : Command) → Reads line command → IsLimited command
-limited line (form.ListAll q k) (name, given, is, text) = at given is
+-- a line's limit is one that a line can give, and so is its list of names
+pub well_formed : (line : List ℕ) (command : Command) → Reads line command → IsWellFormed command
+well_formed line (form.ListAll q k) (name, given, is, text) = at given is
   where
-    at : (o : Option ℕ) → IsLimit o k → IsLimited (form.ListAll q k)
+    at : (o : Option ℕ) → IsLimit o k → IsWellFormed (form.ListAll q k)
     at None e = (omega (arith, e), omega (arith, e))
     at (Some n) (low, high, e) = (omega (arith, low, e), omega (arith, high, e))
-limited line _ h = tt
+well_formed line (form.ProjectQuery n q k) (name, source, names, text) = names
+well_formed line _ h = tt
 
 -- ---- a part of the whole was written up to what is left of it
 pub listing_part : (a b c : Option (List ℕ)) (left mid whole : List ℕ) → IsListing a b mid whole → IsListing b c left mid → IsListing a c left whole

@@ -27,7 +27,7 @@ use Rattle.span_language.specs.declared.told.Stop.{Stop}
 use Rattle.span_language.specs.declared.told.Stop.TheVariants as stop
 use Rattle.span_run.specs.declared.answer.Answer.{Answer}
 use Rattle.span_run.specs.declared.held.Held.{Held}
-use Rattle.span_run.specs.Held.{AreKept, IsHeld, plain_versions, state_of}
+use Rattle.span_run.specs.Held.{AreKept, IsHeld, nodes_of, pairs_of, plain_versions, state_of}
 use Rattle.span_run.specs.Site.{at, world_at}
 use Rattle.span_run.specs.Scene.{Scene, Tallies, scene}
 use Rattle.span_run.specs.Answers.{Goes, Answers, Stays}
@@ -69,9 +69,12 @@ once_accepted kind is told accepted = subst (λ (t : Told). IsOnce kind t 1) (sy
 pub refused_never : (kind : Type 0) (told : Told) → told ≡ Refused → IsOnce kind told 0
 refused_never kind told refused = subst (λ (t : Told). IsOnce kind t 0) (sym refused) refl
 
+not_one : {P : Type 0} → ◌≡◌ {A = ℕ} 0 1 → P
+not_one is = let bad : ⊥ = cc is in absurd bad
+
 -- no query is registered, and no node dropped
-pub none_tallied : (registers compacts : Type 0) (told : Told) (old new : Scene) → IsOnce registers told 0 → IsOnce compacts told 0 → old.standing.nodes ≤ new.standing.nodes → new.standing.pairs + old.pairs ≤ old.standing.pairs + new.pairs
-    → Places 0 0 new.standing.nodes old.standing.covered new.standing.covered old.places new.places → Tallies registers compacts told old new
+pub none_tallied : (registers compacts : Type 0) (told : Told) (old new : Scene) → IsOnce registers told 0 → IsOnce compacts told 0 → nodes_of old.standing ≤ nodes_of new.standing → pairs_of new.standing + old.pairs ≤ pairs_of old.standing + new.pairs
+    → Places 0 0 (nodes_of new.standing) old.standing.covered new.standing.covered old.places new.places → Tallies registers compacts told old new
 none_tallied registers compacts told old new none kept nodes pairs placed = record {
   queries = 0;
   registered = none;
@@ -79,6 +82,7 @@ none_tallied registers compacts told old new none kept nodes pairs placed = reco
   compacted = kept;
   dropped = 0;
   none_dropped = λ _. refl;
+  reached = not_one;
   nodes = omega (arith, nodes);
   pairs = omega (arith, pairs);
   placed = placed;
@@ -243,6 +247,7 @@ booked_answers h book number command answer files faults looks pairs places coun
     compacted = kept;
     dropped = 0;
     none_dropped = λ _. refl;
+    reached = not_one;
     nodes = omega arith;
     pairs = omega arith;
     placed = placed;

@@ -13,7 +13,9 @@ pub mod HasLemmas
 pub mod ReadingLemmas
 pub mod CarryLemmas
 pub mod Goes
-pub mod Reserved
+pub mod Forms
+pub mod Combined
+pub mod Thinned
 pub mod Sending
 pub mod VersionLemmas
 pub mod ReplaceLemmas

@@ -3,33 +3,33 @@ use Rattle.std.proofs.Common.{ℕ, ◌+◌, ◌*◌, ◌≤◌, [], ◌∷◌, l
 use Rattle.std.specs.List.{AllByRecursion}
 use Rattle.query_book.specs.Serving.{sum_of}
 use Rattle.span_language.specs.State.{Named}
-use Rattle.span_run.specs.Held.{Standing, IsStanding}
+use Rattle.span_run.specs.Held.{Standing, IsStanding, nodes_of}
 use Rattle.span_language.specs.Counts.{Places, PlacesPart}
 
 -- what was placed so far, where so many queries were registered and so many nodes dropped
 abbrev pub PlacesSoFar : ℕ → ℕ → Standing → ℕ → ℕ → Type 0
-PlacesSoFar queries dropped st before now = (n : ℕ) → st.nodes ≤ n → now + n * length st.covered ≤ before + sum_of st.covered + (n + dropped) * queries
+PlacesSoFar queries dropped st before now = (n : ℕ) → nodes_of st ≤ n → now + n * length st.covered ≤ before + sum_of st.covered + (n + dropped) * queries
 
 -- the sum of numbers that are at most n
 pub sum_within : (n m : ℕ) → m ≤ n → (xs : Named ℕ) → AllByRecursion (λ x. x.1 ≤ m) xs → sum_of xs ≤ n * length xs
 sum_within n m le [] h = omega arith
 sum_within n m le (x ∷ xs) h = omega (arith, le, h.0, sum_within n m le xs h.1)
 
-pub places_go_on : (queries dropped count fell : ℕ) (old new : Standing) (before now after : ℕ) → old.nodes ≤ new.nodes + fell → PlacesSoFar queries dropped old before now
-    → Places count fell new.nodes old.covered new.covered now after → PlacesSoFar (queries + count) (dropped + fell) new before after
+pub places_go_on : (queries dropped count fell : ℕ) (old new : Standing) (before now after : ℕ) → nodes_of old ≤ nodes_of new + fell → PlacesSoFar queries dropped old before now
+    → Places count fell (nodes_of new) old.covered new.covered now after → PlacesSoFar (queries + count) (dropped + fell) new before after
 places_go_on queries dropped count fell old new before now after grown so_far step = λ n le.
     let here = so_far (n + fell) (omega (arith, grown, le)) in
     let next = step n le in
     omega (arith, here, next)
 
 -- and so the tables placed are no more than one of each node for each query
-pub places_few : (queries dropped : ℕ) (st : Standing) (before now n : ℕ) → IsStanding st → st.nodes ≤ n → PlacesSoFar queries dropped st before now → now ≤ before + queries * (n + dropped)
+pub places_few : (queries dropped : ℕ) (st : Standing) (before now n : ℕ) → IsStanding st → nodes_of st ≤ n → PlacesSoFar queries dropped st before now → now ≤ before + queries * (n + dropped)
 places_few queries dropped st before now n is le so_far =
     let here = so_far n le in
-    let sums = sum_within n st.nodes le st.covered is.within in
+    let sums = sum_within n (nodes_of st) le st.covered is.within in
     omega (arith, here, sums)
 
-pub places_few_part : (queries dropped : ℕ) (old new : Standing) (before now after n : ℕ) → old.nodes ≤ n → new.nodes ≤ n → PlacesSoFar queries dropped old before now → PlacesPart old.nodes new.nodes old.covered now after
+pub places_few_part : (queries dropped : ℕ) (old new : Standing) (before now after n : ℕ) → nodes_of old ≤ n → nodes_of new ≤ n → PlacesSoFar queries dropped old before now → PlacesPart (nodes_of old) (nodes_of new) old.covered now after
     → after ≤ before + queries * (n + dropped)
 places_few_part queries dropped old new before now after n few le so_far step =
     let here = so_far n few in

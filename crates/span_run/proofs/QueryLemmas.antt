@@ -37,7 +37,7 @@ pub query_carries : (st : State) (new : Named Query) (number : ℕ) (name text :
     → Carries (world st files) number (form.Query name text) told reply (world (with_queries st new) files)
 query_carries st new number name text q told reply files is put_is accepted written =
     subst (λ (t : Told). Carries (world st files) number (form.Query name text) t reply (world (with_queries st new) files)) (sym accepted)
-    (q, is, written, only_queries st (put st.queries name q) new files put_is)
+    (q, is, (written, only_queries st (put st.queries name q) new files put_is))
 
 pub unquery_carries : (st : State) (new : Named Query) (number : ℕ) (name : List ℕ) (told : Told) (reply : List ℕ) (files : Option Files) → IsSome (value_of st.queries name) → new ≡ taken_out st.queries name → told ≡ Accepted → reply ≡ ok_text
     → Carries (world st files) number (form.Unquery name) told reply (world (with_queries st new) files)

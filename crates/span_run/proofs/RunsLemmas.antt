@@ -6,6 +6,7 @@ use Rattle.std.proofs.lemmas.List.{append-nil}
 use Rattle.std.proofs.Math.Nat.{mul-le-mul_left}
 use Rattle.edge_io.specs.Causes.{Rose}
 use Rattle.script_syntax.specs.declared.form.Command.{Command}
+use Rattle.slp_model.specs.Nodes.{pair_count}
 use Rattle.span_language.specs.State.{State, Named, World, world, nothing}
 use Rattle.query_book.specs.Serving.{sum_of}
 use Rattle.span_language.specs.Allowance.{Allowance, Counters, no_steps, both_of, IsPaid}
@@ -15,7 +16,7 @@ use Rattle.span_language.specs.Runs.{Adds, Runs, Sum, both, no_lines, is_refused
 use Rattle.span_language.specs.declared.told.Told.{Told}
 use Rattle.span_language.specs.declared.told.Stop.{Stop}
 use Rattle.span_language.specs.declared.told.Stop.TheVariants as stop
-use Rattle.span_run.specs.Held.{Standing, IsStanding}
+use Rattle.span_run.specs.Held.{Standing, IsStanding, nodes_of, pairs_of}
 use Rattle.span_run.specs.Scene.{Scene, world_in}
 use Rattle.span_run.specs.Carried.{IsDone, IsStopped, Outlet, Stopped}
 use Rattle.span_run.proofs.PlacesLemmas.{PlacesSoFar, places_go_on, places_few, places_few_part}
@@ -37,7 +38,7 @@ pub record IsAt (lines left : List (List ℕ)) (number : ℕ) (refused : Bool) (
   pub paid : IsPaid sum.cost before.counters now.counters
   pub dropped : ℕ
   pub placed : PlacesSoFar sum.queries dropped st before.places now.places
-  pub grown : st.pairs + dropped + before.counters.pairs ≤ now.counters.pairs + 256 * sum.compactions
+  pub grown : pairs_of st + dropped + before.counters.pairs ≤ now.counters.pairs + 256 * sum.compactions
 
 or_false : (a : Bool) → (a || false) ≡ a
 or_false true = refl
@@ -99,7 +100,8 @@ pub each_some : (o : Option (List ℕ)) (P : List ℕ → Type 0) → ((x : List
 each_some None P h = tt
 each_some (Some x) P h = h x
 
-pub at_start : (lines : List (List ℕ)) (before : Outside) (st : Standing) → st.state ≡ nothing → st.covered ≡ [] → st.pairs ≡ 0 → IsAt lines lines 1 false st before before
+pub at_start : (lines : List (List ℕ)) (before : Outside) (st : Standing) → st.state ≡ nothing → st.covered ≡ [] → st.store ≡ [] → IsAt lines lines 1 false st before before
+unfolding pair_count
 at_start lines before st is none new = record {
   done = [];
   cut = refl;
@@ -110,8 +112,8 @@ at_start lines before st is none new = record {
   wrote = nothing_written before.written;
   paid = none_paid before.counters;
   dropped = 0;
-  placed = subst (λ (l : Named ℕ). (n : ℕ) → st.nodes ≤ n → before.places + n * length l ≤ before.places + sum_of l + (n + 0) * 0) (sym none) (λ n le. omega arith);
-  grown = omega (arith, new);
+  placed = subst (λ (l : Named ℕ). (n : ℕ) → nodes_of st ≤ n → before.places + n * length l ≤ before.places + sum_of l + (n + 0) * 0) (sym none) (λ n le. omega arith);
+  grown = omega (arith, ap pair_count new);
 }
 
 -- a count that rose in the last part of a run rose in the run
@@ -171,8 +173,8 @@ module _ (lines left rest : List (List ℕ)) (line : List ℕ) (number : ℕ) (r
   stops : (Ends : Option Command → List ℕ → Type 0) (why : Stop) (meaning : Option Command) → IsStanding old.standing → IsStanding new.standing → Means line meaning → Stopped number meaning old sink new after why → (h : HaltsAt meaning) → Ends meaning (part_of meaning h)
       → RunsFront Ends lines before (told_of new after)
   stops Ends why meaning held stands means s h ends =
-      let n = 256 + old.standing.pairs + (new.pairs - old.pairs) in
-      let few : new.standing.nodes ≤ n = omega (arith, stands.few, s.passes.more_pairs, s.passes.calls) in
+      let n = 256 + pairs_of old.standing + (new.pairs - old.pairs) in
+      let few : nodes_of new.standing ≤ n = omega (arith, stands.few, s.passes.more_pairs, s.passes.calls) in
       let bound : n + at.dropped ≤ 256 * (1 + at.sum.compactions) + (new.pairs - before.counters.pairs) = omega (arith, at.grown, s.passes.calls) in
       record {
         done = at.done;
@@ -221,8 +223,8 @@ module _ (lines left rest : List (List ℕ)) (line : List ℕ) (number : ℕ) (r
         next = inl (refl, refl, refl, (λ no. absurd no));
         wrote = subst (λ (l : List ℕ). Appends before.written sink.written l) (sym (append-nil at.sum.output)) at.wrote;
         paid = both_paid at.sum.cost no_steps before.counters (told_of old sink).counters (told_of old sink).counters at.paid (none_paid (told_of old sink).counters);
-        placed = few_of at.sum before (told_of old sink) (256 + old.standing.pairs + at.dropped) (omega (arith, at.grown))
-            (places_few at.sum.queries at.dropped old.standing before.places old.places (256 + old.standing.pairs) held held.few at.placed);
+        placed = few_of at.sum before (told_of old sink) (256 + pairs_of old.standing + at.dropped) (omega (arith, at.grown))
+            (places_few at.sum.queries at.dropped old.standing before.places old.places (256 + pairs_of old.standing) held held.few at.placed);
       }
   stops_wanting wants later held stands (inr (meaning, means, s)) = by (s.want refl)
     where
@@ -241,7 +243,7 @@ ends lines left number refused st before now none is at =
       refused_is = at.refused_is;
       wrote = at.wrote;
       paid = at.paid;
-      placed = few_of at.sum before now (256 + st.pairs + at.dropped) (omega (arith, at.grown)) (places_few at.sum.queries at.dropped st before.places now.places (256 + st.pairs) is is.few at.placed);
+      placed = few_of at.sum before now (256 + pairs_of st + at.dropped) (omega (arith, at.grown)) (places_few at.sum.queries at.dropped st before.places now.places (256 + pairs_of st) is is.few at.placed);
     }
 
 -- a run that ended before its first line

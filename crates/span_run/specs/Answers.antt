@@ -3,6 +3,7 @@ use Rattle.std.specs.Prelude.{◌≡◌, ◌⊎◌, ℕ, ◌+◌, ◌≤◌, Lis
 use Rattle.edge_io.specs.Causes.{Rose}
 use Rattle.edge_io.specs.Files.{Files}
 use Rattle.slp_model.specs.Nodes.{pair_count}
+use Rattle.line_parts.specs.NameList.{IsNameList}
 use Rattle.script_syntax.specs.declared.form.Command.{Command}
 use Rattle.script_syntax.specs.declared.form.Command.TheVariants as form
 use Rattle.query_book.specs.Serving.{covered_of}
@@ -61,15 +62,8 @@ IsAnswering (form.List query name after limit) = ⊥
 IsAnswering (form.ListAll query limit) = ⊥
 IsAnswering _ = Unit {0}
 
--- the form is reserved, and no command of the program
-abbrev pub IsReserved : Command → Type 0
-IsReserved (form.UnionQuery name left right) = Unit {0}
-IsReserved (form.JoinQuery name left right) = Unit {0}
-IsReserved (form.ProjectQuery name source keep) = Unit {0}
-IsReserved form.Compact = Unit {0}
-IsReserved _ = ⊥
-
--- a limit on the answers on each document is one that a line can give
-abbrev pub IsLimited : Command → Type 0
-IsLimited (form.ListAll query limit) = (1 ≤ limit) × (limit ≤ 10000)
-IsLimited _ = Unit {0}
+-- what every line of the form gives: a limit from 1 to 10,000, and a list of names
+abbrev pub IsWellFormed : Command → Type 0
+IsWellFormed (form.ListAll query limit) = (1 ≤ limit) × (limit ≤ 10000)
+IsWellFormed (form.ProjectQuery name source keep) = IsNameList keep
+IsWellFormed _ = Unit {0}

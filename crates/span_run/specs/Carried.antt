@@ -10,6 +10,7 @@ use Rattle.span_language.specs.Step.{AppendsFront, Finishes, Halts, IsList, IsOf
 use Rattle.span_language.specs.declared.told.Told.{Told}
 use Rattle.span_language.specs.declared.told.Stop.{Stop}
 use Rattle.span_language.specs.declared.told.Stop.TheVariants as stop
+use Rattle.span_run.specs.Held.{nodes_of, pairs_of}
 use Rattle.span_run.specs.Scene.{Scene, Tallies, world_in, counters_in}
 
 -- a sink: what it was given, where it tells, how often it failed, and how often it found no memory
@@ -23,11 +24,11 @@ outlet written faults wants = record { written = written; faults = faults; wants
 
 -- what holds however it ends
 pub record Passes (meaning : Option Command) (old : Scene) (before : Outlet) (new : Scene) (after : Outlet) : Type 0 where
-  pub more_nodes : (old.standing.nodes ≤ new.standing.nodes) ⊎ Of Compacts meaning
-  pub more_pairs : new.standing.pairs + old.pairs ≤ old.standing.pairs + new.pairs
+  pub more_nodes : (nodes_of old.standing ≤ nodes_of new.standing) ⊎ Of Compacts meaning
+  pub more_pairs : pairs_of new.standing + old.pairs ≤ pairs_of old.standing + new.pairs
   pub calls : old.pairs ≤ new.pairs
   pub begun : (a : Allowance) × ((a ≡ no_steps) ⊎ IsAllowance (world_in old) meaning a) × IsPaid a (counters_in old) (counters_in new)
-  pub placed : PlacesPart old.standing.nodes new.standing.nodes old.standing.covered old.places new.places
+  pub placed : PlacesPart (nodes_of old.standing) (nodes_of new.standing) old.standing.covered old.places new.places
   pub files : KeepsFiles (λ file. Of (IsSave file) meaning) old.files new.files
   pub shelf_later : old.faults ≤ new.faults
   pub later : before.faults ≤ after.faults

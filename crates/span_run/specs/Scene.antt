@@ -5,7 +5,7 @@ use Rattle.span_language.specs.State.{World, world}
 use Rattle.span_language.specs.Allowance.{Counters, counters}
 use Rattle.span_language.specs.Counts.{IsOnce, Places}
 use Rattle.span_language.specs.declared.told.Told.{Told}
-use Rattle.span_run.specs.Held.{Standing, standing_of}
+use Rattle.span_run.specs.Held.{IsCompact, Standing, nodes_of, pairs_of, standing_of}
 use Rattle.span_run.specs.Site.{Site}
 
 -- what the session shows, the files where they are told, how often the shelf failed, and the counters
@@ -31,7 +31,7 @@ abbrev pub counters_in : Scene → Counters
 counters_in s = counters s.looks s.pairs
 
 -- what a line says of nodes, pairs and tables, where such a line may register a query, or compact: only an accepted line that compacts
--- drops nodes, and beside pairs no more than the 256 bytes
+-- drops nodes, and beside pairs no more than the 256 bytes; and then each node that is left is reached from a document or a version
 pub record Tallies (registers compacts : Type 0) (told : Told) (old new : Scene) : Type 0 where
   pub queries : ℕ
   pub registered : IsOnce registers told queries
@@ -39,6 +39,7 @@ pub record Tallies (registers compacts : Type 0) (told : Told) (old new : Scene)
   pub compacted : IsOnce compacts told compactions
   pub dropped : ℕ
   pub none_dropped : compactions ≡ 0 → dropped ≡ 0
-  pub nodes : old.standing.nodes ≤ new.standing.nodes + dropped
-  pub pairs : new.standing.pairs + dropped + old.pairs ≤ old.standing.pairs + new.pairs + 256 * compactions
-  pub placed : Places queries dropped new.standing.nodes old.standing.covered new.standing.covered old.places new.places
+  pub nodes : nodes_of old.standing ≤ nodes_of new.standing + dropped
+  pub reached : compactions ≡ 1 → IsCompact new.standing
+  pub pairs : pairs_of new.standing + dropped + old.pairs ≤ pairs_of old.standing + new.pairs + 256 * compactions
+  pub placed : Places queries dropped (nodes_of new.standing) old.standing.covered new.standing.covered old.places new.places

@@ -3,9 +3,11 @@ ghost use Rattle.std.specs.Prelude.{IfOk, IfErr};
 ghost use Rattle.span_language.specs.Step.{IsShort};
 ghost use Rattle.span_run.specs.Held.{IsHeld};
 ghost use Rattle.span_run.specs.Site.{at};
-ghost use Rattle.span_run.specs.Answers.{Answers, IsAnswering, IsReserved, AnswersFreely, Stays, StaysFreely};
+ghost use Rattle.span_run.specs.Answers.{Answers, IsAnswering, IsWellFormed, Stays};
 
 use crate::answer::Answer;
+use crate::combining::{join, project, union};
+use crate::compacting::compact;
 use crate::context::Context;
 use crate::documents::{drop_document, let_document, show, text};
 use crate::files::{load_file, open_file, save_file};
@@ -14,24 +16,12 @@ use crate::queries::{has, query, test, unquery};
 use crate::replacing::{Replacing, replace};
 use crate::versions::{back, mark, unmark};
 use edge_io::Shelf;
-use report_text::Refusal;
 use script_syntax::Command;
 use span_language::Stop;
 use span_types::Steps;
 use std::sync::ledger::Ledger;
 use std::thread::Threads;
 use work_gate::Gate;
-
-/// Refuses a form that is reserved and no command of the program.
-fn reserved(held: &mut Held, number: u64, command: Command) -> Result<Answer, Stop>
-    requires held { IsHeld held.old }
-    requires reserved { IsReserved command }
-    ensures done { AnswersFreely held.old number command held.new result }
-    ensures stopped { StaysFreely held.old number command held.new result }
-{
-    let answer = Answer::refused(held.alloc, number, &Refusal::Syntax)?;
-    Ok(answer)
-}
 
 /// Does a command that needs no sink, and answers with its whole reply.
 pub fn answer<R: Threads + Sync, F: Shelf, G: Gate, P: Ledger, T: Ledger, L: Ledger>(
@@ -46,6 +36,7 @@ pub fn answer<R: Threads + Sync, F: Shelf, G: Gate, P: Ledger, T: Ledger, L: Led
     requires held { IsHeld held.old }
     requires answering { IsAnswering command }
     requires short { IsShort command }
+    requires well_formed { IsWellFormed command }
     ensures done { IfOk result (Answers (at held.old (F.files shelf.old) (F.faults shelf.old) looks.old pairs.old places.old) context.entry.number command (at held.new (F.files shelf.new) (F.faults shelf.new) looks.new pairs.new places.new)) }
     ensures stopped { IfErr result (Stays (at held.old (F.files shelf.old) (F.faults shelf.old) looks.old pairs.old places.old) context.entry.number command (at held.new (F.files shelf.new) (F.faults shelf.new) looks.new pairs.new places.new)) }
 {
@@ -58,6 +49,9 @@ pub fn answer<R: Threads + Sync, F: Shelf, G: Gate, P: Ledger, T: Ledger, L: Led
         Command::Show { name, from, to } => show(held, number, name, from, to),
         Command::Query { name, formula } => query(held, number, name, formula),
         Command::Unquery { name } => unquery(held, number, name),
+        Command::UnionQuery { name, left, right } => union(held, number, name, left, right),
+        Command::JoinQuery { name, left, right } => join(held, number, name, left, right),
+        Command::ProjectQuery { name, source, keep } => project(held, number, name, source, keep),
         Command::Nonempty { query, name } => test(context, held, query, name, places, looks),
         Command::Has { query, name, tuple } => {
             has(context, held, query, name, tuple, places, looks)
@@ -85,6 +79,9 @@ pub fn answer<R: Threads + Sync, F: Shelf, G: Gate, P: Ledger, T: Ledger, L: Led
         Command::MarkDocs { name } => mark(held, number, name),
         Command::UnmarkDocs { name } => unmark(held, number, name),
         Command::BackDocs { name } => back(held, number, name),
-        command => reserved(held, number, command),
+        Command::Compact => compact(held, number),
+        Command::Nothing | Command::Names | Command::List { .. } | Command::ListAll { .. } => {
+            unreachable!()
+        }
     }
 }

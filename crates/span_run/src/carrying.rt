@@ -3,7 +3,7 @@ ghost use Rattle.std.specs.Prelude.{ℕ, Option, Some, IfOk, IfErr};
 ghost use Rattle.edge_io.specs.Files.{Files};
 ghost use Rattle.script_syntax.specs.declared.form.Command.TheVariants as form;
 ghost use Rattle.span_language.specs.Step.{IsShort};
-ghost use Rattle.span_run.specs.Answers.{IsAnswering, IsLimited};
+ghost use Rattle.span_run.specs.Answers.{IsAnswering, IsWellFormed};
 ghost use Rattle.span_run.specs.Held.{IsHeld, standing_of};
 ghost use Rattle.span_run.specs.Scene.{seen};
 ghost use Rattle.span_run.specs.Carried.{Done, IsDone, IsStopped, Stopped, outlet};
@@ -39,6 +39,7 @@ fn reply<R: Threads + Sync, K: Sink, F: Shelf, G: Gate, P: Ledger, T: Ledger, L:
     requires held { IsHeld held.old }
     requires answering { IsAnswering command }
     requires short { IsShort command }
+    requires well_formed { IsWellFormed command }
     ensures held { IsHeld held.new }
     ensures done { IfOk result (Done context.entry.number (Some command) (seen (standing_of held.old) (F.files shelf.old) (F.faults shelf.old) looks.old pairs.old places.old) (outlet (K.written out.old) (K.faults out.old) (K.wants out.old)) (seen (standing_of held.new) (F.files shelf.new) (F.faults shelf.new) looks.new pairs.new places.new) (outlet (K.written out.new) (K.faults out.new) (K.wants out.new))) }
     ensures stopped { IfErr result (Stopped context.entry.number (Some command) (seen (standing_of held.old) (F.files shelf.old) (F.faults shelf.old) looks.old pairs.old places.old) (outlet (K.written out.old) (K.faults out.old) (K.wants out.old)) (seen (standing_of held.new) (F.files shelf.new) (F.faults shelf.new) looks.new pairs.new places.new) (outlet (K.written out.new) (K.faults out.new) (K.wants out.new))) }
@@ -71,7 +72,7 @@ fn carry<R: Threads + Sync, K: Sink, F: Shelf, G: Gate, P: Ledger, T: Ledger, L:
 ) -> Result<Told, Stop>
     requires held { IsHeld held.old }
     requires short { IsShort command }
-    requires limited { IsLimited command }
+    requires well_formed { IsWellFormed command }
     ensures held { IsHeld held.new }
     ensures done { IfOk result (Done context.entry.number (Some command) (seen (standing_of held.old) (F.files shelf.old) (F.faults shelf.old) looks.old pairs.old places.old) (outlet (K.written out.old) (K.faults out.old) (K.wants out.old)) (seen (standing_of held.new) (F.files shelf.new) (F.faults shelf.new) looks.new pairs.new places.new) (outlet (K.written out.new) (K.faults out.new) (K.wants out.new))) }
     ensures stopped { IfErr result (Stopped context.entry.number (Some command) (seen (standing_of held.old) (F.files shelf.old) (F.faults shelf.old) looks.old pairs.old places.old) (outlet (K.written out.old) (K.faults out.old) (K.wants out.old)) (seen (standing_of held.new) (F.files shelf.new) (F.faults shelf.new) looks.new pairs.new places.new) (outlet (K.written out.new) (K.faults out.new) (K.wants out.new))) }

@@ -4,6 +4,8 @@
 mod answer;
 mod answering;
 mod carrying;
+mod combining;
+mod compacting;
 mod context;
 mod documents;
 mod every;

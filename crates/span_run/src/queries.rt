@@ -66,7 +66,7 @@ fn text_denied(alloc: Global, number: u64, why: QueryRefusal) -> Result<Answer, 
 }
 
 /// The reply that tells the variables of a query that is there.
-fn registered(alloc: Global, book: &QueryBook, name: &Name) -> Result<Answer, NoMemory>
+pub fn registered(alloc: Global, book: &QueryBook, name: &Name) -> Result<Answer, NoMemory>
     requires { IsSome (value_of (queries_of book.now) name.now) }
     ensures told { IfOk result (λ answer. answer.told ≡ told.Accepted) }
     ensures line { IfOk result (λ answer. (q : Query) → value_of (queries_of book.now) name.now ≡ Some q → answer.line.items ≡ query_text name.now (names_of q)) }

@@ -1,7 +1,7 @@
 //! A session: named documents over one store, and what a line does to it.
 ghost use Rattle.std.specs.Prelude.{◌≡◌, ◌≤◌, [], IfOk, IfErr};
 ghost use Rattle.span_language.specs.State.{nothing};
-ghost use Rattle.span_run.specs.Held.{IsStanding};
+ghost use Rattle.span_run.specs.Held.{IsStanding, nodes_of};
 ghost use Rattle.span_run.specs.Scene.{seen};
 ghost use Rattle.span_run.specs.Carried.{IsDone, IsStopped, outlet};
 
@@ -18,14 +18,16 @@ use std::thread::Threads;
 use work_gate::Gate;
 
 /// Named documents, queries and versions over one store of nodes. Contracts see it as the plain state, where each document is
-/// its text, beside how many nodes and pairs there are and of how many nodes each query has the table.
+/// its text, beside the nodes of the store, the roots of the documents and of those of the versions, and of how many nodes each
+/// query has the table.
 #[derive(Drop)]
 pub struct Session {
     held: Held,
 }
 
 impl Model for Session {
-    ghost use Rattle.span_run.specs.Held.{Standing, standing_code};
+    ghost use Rattle.span_run.specs.Codes.{standing_code};
+    ghost use Rattle.span_run.specs.Held.{Standing};
 
     ghost Value = { Standing };
 
@@ -42,8 +44,7 @@ impl Session {
     /// No documents, no queries and no versions, and no node.
     pub fn new(alloc: Global) -> Session
         ensures state { result.state ≡ nothing }
-        ensures nodes { result.nodes ≡ 0 }
-        ensures pairs { result.pairs ≡ 0 }
+        ensures store { result.store ≡ [] }
         ensures covered { result.covered ≡ [] }
         ensures standing { IsStanding result }
     {
@@ -54,7 +55,7 @@ impl Session {
 
     /// How many nodes the store has.
     pub fn nodes(&self) -> usize
-        ensures { result ≡ self.now.nodes }
+        ensures { result ≡ nodes_of self.now }
     {
         self.held.store.count()
     }

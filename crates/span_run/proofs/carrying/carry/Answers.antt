@@ -1,12 +1,12 @@
 use Rattle.std.proofs.Common.{rules, Some, sym, subst}
 use Rattle.script_syntax.specs.declared.form.Command.{Command}
 use Rattle.span_language.specs.declared.told.Told.TheVariants.{Quiet}
-use Rattle.span_run.specs.Answers.{IsLimited}
+use Rattle.span_run.specs.Answers.{IsWellFormed}
 use Rattle.span_run.specs.Carried.{Done, outlet}
 use Rattle.span_run.specs.Held.{standing_of}
 use Rattle.span_run.specs.Scene.{seen}
 use Rattle.span_run.proofs.Sending.{quiet_done}
-use Rattle.span_run.proofs.Reserved.{is_answering}
+use Rattle.span_run.proofs.Forms.{is_answering}
 use Rattle.span_run.proofs.carrying.carry.Goals as goal
 
 pub returns-in-Nothing-clause-done : goal.returns-in-Nothing-clause-done
@@ -22,7 +22,7 @@ pub reply-requires-clause-answering : goal.reply-requires-clause-answering
 reply-requires-clause-answering g c = let answering = is_answering c.args.command c.in_default.not-Nothing c.in_default.not-Names c.in_default.not-List c.in_default.not-ListAll in search rules
 
 pub list_all-requires-clause-some : goal.list_all-requires-clause-some
-list_all-requires-clause-some g c = let some = (subst IsLimited c.in-ListAll.is c.requires.limited).0 in search rules
+list_all-requires-clause-some g c = let some = (subst IsWellFormed c.in-ListAll.is c.requires.well_formed).0 in search rules
 
 pub list_all-requires-clause-few : goal.list_all-requires-clause-few
-list_all-requires-clause-few g c = let few = (subst IsLimited c.in-ListAll.is c.requires.limited).1 in search rules
+list_all-requires-clause-few g c = let few = (subst IsWellFormed c.in-ListAll.is c.requires.well_formed).1 in search rules

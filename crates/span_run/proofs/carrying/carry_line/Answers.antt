@@ -1,12 +1,12 @@
 use Rattle.std.proofs.Common.{rules, inl, inr, refl, None, Some}
 use Rattle.span_run.proofs.CarryLemmas.{if_ok_map, if_err_map}
-use Rattle.span_run.proofs.EveryLemmas.{limited}
+use Rattle.span_run.proofs.EveryLemmas.{well_formed}
 use Rattle.span_run.proofs.Goes.{if_ok_both, passed_on}
 use Rattle.span_run.proofs.Sending.{not_begun, syntax_done, syntax_stopped}
 use Rattle.span_run.proofs.carrying.carry_line.Goals as goal
 
-pub carry-requires-clause-limited : goal.carry-requires-clause-limited
-carry-requires-clause-limited g c = let limits = limited c.args.line.now c.in-Ok.command c.in-Ok.ensures.ok.form in search rules
+pub carry-requires-clause-well_formed : goal.carry-requires-clause-well_formed
+carry-requires-clause-well_formed g c = let given = well_formed c.args.line.now c.in-Ok.command c.in-Ok.ensures.ok.form in search rules
 
 pub returns-in-Ok-clause-done : goal.returns-in-Ok-clause-done
 returns-in-Ok-clause-done g c = if_ok_map c.carry.result _ _ (λ told d. (Some c.in-Ok.command, c.in-Ok.ensures.ok, d)) c.carry.ensures.done

@@ -1,0 +1,61 @@
+use Rattle.std.proofs.Common.{rules, ◌≡◌, ◌∙◌, inl, inr, sym, ap, subst, List, ℕ, refl}
+use Rattle.report_text.specs.Reply.{query_text}
+use Rattle.report_text.specs.declared.refusal.Refusal.{Refusal}
+use Rattle.script_syntax.specs.declared.form.Command.TheVariants as form
+use Rattle.span_types.specs.Query.{Query, Project}
+use Rattle.span_types.specs.Rel.{names_of}
+use Rattle.query_book.specs.declared.entry.Entry.{Entry}
+use Rattle.query_book.specs.Book.{queries_of}
+use Rattle.query_book.specs.Combining.{HasProjection, IsAccepted}
+use Rattle.span_language.specs.State.{Named, put, with_queries, world}
+use Rattle.span_language.specs.Step.{Does}
+use Rattle.span_language.specs.declared.told.Stop.TheVariants as stop
+use Rattle.span_run.specs.Held.{state_of}
+use Rattle.span_run.specs.Site.{at}
+use Rattle.span_run.specs.Answers.{Stays}
+use Rattle.span_run.proofs.Combined.{combined_answers, combined_stops, is_there, made, projection_does, projection_refused, uncombined_answers}
+use Rattle.span_run.proofs.Goes.{passed_on, stays}
+use Rattle.span_run.proofs.combining.project.Goals as goal
+
+pub registered-requires : goal.registered-requires
+registered-requires c =
+    let m = c.in-Ok.ensures.ok in
+    is_there _ (Project m.query m.holds.0) (made (queries_of c.args.held.now.book) (queries_of c.project.new.self) c.args.name (Project m.query m.holds.0) m.holds.3.1 c.in_ok-kept.kept c.in_ok-kept.ensures)
+
+pub returns-in_err-kept-clause-stopped : goal.returns-in_err-kept-clause-stopped
+returns-in_err-kept-clause-stopped c = λ files faults looks pairs places. passed_on c.from_residual.result _ c.from_residual.ensures.1 (stays c.args.held.now c.args.number (form.ProjectQuery c.args.name c.args.source c.args.keep) files faults looks pairs places c.requires.held)
+
+pub returns-in_err-answer-in-Ok-clause-stopped : goal.returns-in_err-answer-in-Ok-clause-stopped
+returns-in_err-answer-in-Ok-clause-stopped c = λ files faults looks pairs places.
+    let h = c.args.held.now in
+    let r = c.from_residual-in_err-answer-in-Ok in
+    let m = c.in-Ok.ensures.ok in
+    let q = Project m.query m.holds.0 in
+    passed_on r.result _ r.ensures.1 (combined_stops h c.project.new.self c.args.number (form.ProjectQuery c.args.name c.args.source c.args.keep) c.args.name files faults looks pairs places c.requires.held (c.project.ensures.serves h.store c.requires.held.serves) (λ no. no)
+    (query_text c.args.name (names_of q)) (λ no. no) (projection_does (state_of h) files (queries_of c.project.new.self) c.args.name c.args.source c.args.keep c.bytes.result.now c.bytes-2.result.now c.bytes.ensures.value c.bytes-2.ensures m))
+
+pub returns-in_err-answer-in-Err-clause-stopped : goal.returns-in_err-answer-in-Err-clause-stopped
+returns-in_err-answer-in-Err-clause-stopped c = λ files faults looks pairs places.
+    let h = c.args.held.now in
+    let r = c.from_residual-in_err-answer-in-Err in
+    passed_on r.result _ r.ensures.1
+    (subst (λ (es : List Entry). Stays (at h files faults looks pairs places) c.args.number (form.ProjectQuery c.args.name c.args.source c.args.keep) (at (record h { book = es }) files faults looks pairs places) stop.NoMemory) (sym c.in-Err.ensures.err)
+    (stays h c.args.number (form.ProjectQuery c.args.name c.args.source c.args.keep) files faults looks pairs places c.requires.held))
+
+pub returns-in-Ok-clause-done : goal.returns-in-Ok-clause-done
+returns-in-Ok-clause-done c = λ files faults looks pairs places.
+    let h = c.args.held.now in
+    let a = c.in_ok-answer-in-Ok in
+    let m = c.in-Ok.ensures.ok in
+    let q = Project m.query m.holds.0 in
+    let line : a.answer.line.items ≡ query_text c.args.name (names_of q) = a.ensures.line q (made (queries_of c.args.held.now.book) (queries_of c.project.new.self) c.args.name (Project m.query m.holds.0) m.holds.3.1 c.in_ok-kept.kept c.in_ok-kept.ensures) ∙ ap (λ (n : List ℕ). query_text n (names_of q)) c.in_ok-kept.ensures in
+    combined_answers h c.project.new.self c.args.number (form.ProjectQuery c.args.name c.args.source c.args.keep) c.args.name files faults looks pairs places c.requires.held (c.project.ensures.serves h.store c.requires.held.serves) (λ no. no)
+    a.answer (query_text c.args.name (names_of q)) c.in-Ok.ensures.covered tt refl a.ensures.told line
+    (projection_does (state_of h) files (queries_of c.project.new.self) c.args.name c.args.source c.args.keep c.bytes.result.now c.bytes-2.result.now c.bytes.ensures.value c.bytes-2.ensures m)
+
+pub returns-clause-done : goal.returns-clause-done
+returns-clause-done c = λ files faults looks pairs places.
+    let h = c.args.held.now in
+    let a = c.in_ok-answer-in-Err in
+    uncombined_answers h c.project.new.self c.args.number (form.ProjectQuery c.args.name c.args.source c.args.keep) a.answer c.in-Err.why files faults looks pairs places c.requires.held c.in-Err.ensures.err refl
+    (λ kept means. (c.in-Err.why, projection_refused (queries_of h.book) c.args.source c.args.keep c.bytes.result.now c.bytes-2.result.now c.bytes.ensures.value c.bytes-2.ensures c.in-Err.why c.in-Err.ensures.refused, means)) a.ensures
