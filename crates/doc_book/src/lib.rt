@@ -1,4 +1,18 @@
 //! Documents by name, each with the root of its text, in the order in which their names came.
+//!
+//! ```text
+//! let mut docs = Docs::new(alloc);
+//! docs.set(alloc, name, root)?;                            // `name` is called "d"
+//! assert_eq!(docs.get(b"d"), Ok(root));
+//! let copy = docs.copy(alloc)?;                            // the same names and roots
+//! docs.take_out(b"d")?;
+//! assert_eq!(docs.get(b"d"), Err(Missing::NoSuchDocument));
+//! ```
+//!
+//! A document is a name and a root, so it takes memory for these alone and none for its text, which stands in the node
+//! store. `set` and `get` take expected constant time, `take_out` and `copy` time linear in the number of documents. It
+//! is a map in order of insertion (the crate `indexmap`), so that `names` lists documents in the order in which they
+//! came.
 #![tactic(auto)]
 
 ghost use Rattle.std.specs.Prelude.{◌≡◌, ◌<◌, ◌≤◌, [], length, slice_get, ok_or, Some, None, IsSome, IfOk, OnOk, OnErr};
@@ -58,8 +72,11 @@ impl Docs {
         }
     }
 
-    /// Gives the name this root. A present name keeps its place, and a new one goes last. Where
-    /// memory runs out, the documents are as before. Takes expected constant time.
+    /// Gives the name this root. A present name keeps its place, and a new one goes last. Takes expected constant time.
+    ///
+    /// # Errors
+    ///
+    /// `NoMemory` where none was found; the documents are then as before.
     pub fn set(&mut self, alloc: Global, name: Name, root: Option<NodeId>) -> Result<(), NoMemory>
         ensures ok { OnOk result (self.new ≡ put self.old name root) }
         ensures err { OnErr result (self.new ≡ self.old) }
@@ -71,7 +88,11 @@ impl Docs {
         }
     }
 
-    /// The root of the document with this name, or `NoSuchDocument` exactly where there is none.
+    /// The root of the document with this name. Takes expected constant time.
+    ///
+    /// # Errors
+    ///
+    /// `NoSuchDocument` exactly where there is none.
     pub fn get(&self, name: &[u8]) -> Result<Option<NodeId>, Missing>
         ensures { result ≡ ok_or (root_of self.now name.now) Missing.NoSuchDocument }
     {
@@ -81,8 +102,11 @@ impl Docs {
         }
     }
 
-    /// Takes the document with this name out, and the rest close up. It is refused exactly where
-    /// there is none, and the documents are then as before. Takes time linear in their number.
+    /// Takes the document with this name out, and the rest close up. Takes time linear in the number of documents.
+    ///
+    /// # Errors
+    ///
+    /// `NoSuchDocument` exactly where there is none; the documents are then as before.
     pub fn take_out(&mut self, name: &[u8]) -> Result<(), Missing>
         ensures ok { OnOk result (IsSome (root_of self.old name.now)) }
         ensures rest { self.new ≡ taken_out self.old name.now }
@@ -124,7 +148,11 @@ impl Docs {
         }
     }
 
-    /// The same names and roots in the same order. Takes time linear in their number.
+    /// The same names and roots in the same order. Takes time and memory linear in their number.
+    ///
+    /// # Errors
+    ///
+    /// `NoMemory` where none was found.
     pub fn copy(&self, alloc: Global) -> Result<Docs, NoMemory>
         ensures { IfOk result (λ copy. copy ≡ self.now) }
     {

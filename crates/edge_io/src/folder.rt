@@ -8,8 +8,15 @@ use std::marker::Model;
 use std::rt::Files;
 use std::{fs, io, str};
 
-/// A shelf over files named from the current folder. It tells nothing of their content. A name with `/` is a path; one
-/// that names a folder, or isn't text, is a fault. A read takes a system call to open the file, one to seek and one to read.
+/// A shelf over files named from the current folder. It tells nothing of their content. A name with `/` is a path.
+///
+/// - A read is `Absent` where the system knows no file of this name, or a part of the path is a plain file. It takes a
+///   system call to open the file, one to seek and one to read.
+/// - A put makes or empties the file first and then writes the bytes to it, without asking the system to bring them to
+///   the disk. So a put that fails leaves the file as it was where it couldn't be opened, and else with some front of
+///   the bytes, perhaps none; a reader in between may see such a front. Who needs the old bytes puts under a new name.
+/// - A want of memory is what the system tells as one. All else is a fault: a name that isn't text or names a folder, a
+///   missing right, a full disk, a put below a folder that isn't there, a read that a signal interrupted.
 #[derive(Drop)]
 pub struct DirShelf<'a, R> {
     rt: &'a R,

@@ -1,4 +1,22 @@
 //! The outside as traits: a source of bytes, a sink of bytes and a shelf of files, in memory and over std.
+//!
+//! ```text
+//! let mut shelf = DirShelf::new(&rt);                      // files named from the current folder
+//! match shelf.read_at(b"day.log", 0, &mut piece) {
+//!     Ok(0) => done(),                                     // the end of the file
+//!     Ok(count) => take(&piece[..count]),                  // some of its bytes, perhaps fewer than there are
+//!     Err(ShelfRefusal::Absent) => no_such_file(),
+//!     Err(ShelfRefusal::Failed | ShelfRefusal::NoMemory) => stop(),
+//! }
+//! ```
+//!
+//! Each trait has an object over std (`StdSource`, `StdSink`, `DirShelf`), one in memory that never fails (`Sure..`),
+//! and one in memory that gives pieces of a chosen size and fails at chosen calls (`Mem..`), for tests of what a caller
+//! does then. Every object counts its faults, so that a caller's contract can say that it blames the outside only with
+//! cause.
+//!
+//! Those over std keep no buffer: a call takes a few system calls. Those in memory keep all bytes, and look a file up
+//! in time linear in the number of files.
 #![tactic(auto)]
 
 mod folder;
@@ -36,7 +54,7 @@ pub enum WriteRefusal {
     #[error("a write failed")]
     Failed,
     /// Want of memory.
-    #[error("no memory was found")]
+    #[error("no memory")]
     NoMemory,
 }
 
@@ -47,7 +65,7 @@ pub enum ShelfRefusal {
     #[error("a read failed")]
     Failed,
     /// Want of memory.
-    #[error("no memory was found")]
+    #[error("no memory")]
     NoMemory,
     /// There is no file of this name.
     #[error("no such file")]
@@ -65,7 +83,11 @@ pub trait Source {
     ghost faults: { Self → ℕ };
 
     /// Reads the next bytes to the front of `into`, which isn't empty, and answers how many. `Ok(0)` is the end of input:
-    /// it comes where no byte is left, and only there. A fault has read nothing.
+    /// it comes where no byte is left, and only there.
+    ///
+    /// # Errors
+    ///
+    /// `Failed` where the source failed: it has read nothing then, and may be asked again.
     fn read(&mut self, into: &mut [u8]) -> Result<usize, Failed>
         requires { 0 < length into.old }
         ensures bound { ReadsAtMost result into.new }
@@ -87,8 +109,11 @@ pub trait Sink {
     /// How often it found no memory.
     ghost wants: { Self → ℕ };
 
-    /// Appends bytes from the front of the piece, which isn't empty, and answers how many: at least one. A refusal has
-    /// appended nothing.
+    /// Appends bytes from the front of the piece, which isn't empty, and answers how many: at least one.
+    ///
+    /// # Errors
+    ///
+    /// `Failed` where the sink failed, and `NoMemory` where it found none. Either has appended nothing.
     fn write(&mut self, piece: &[u8]) -> Result<usize, WriteRefusal>
         requires { 0 < length piece.now }
         ensures some { IfOk result (λ n. 0 < n) }
@@ -112,7 +137,11 @@ pub trait Shelf {
     ghost wants: { Self → ℕ };
 
     /// Reads bytes of a file from the offset `from` on to the front of `into`, which isn't empty, and answers how many. The
-    /// files stay. `Ok(0)` says that none is left there, and `Absent` that no file has the name.
+    /// files stay. `Ok(0)` says that none is left there.
+    ///
+    /// # Errors
+    ///
+    /// `Absent` where no file has the name, `Failed` where the shelf failed, and `NoMemory` where it found none.
     fn read_at(&mut self, name: &[u8], from: u64, into: &mut [u8]) -> Result<usize, ShelfRefusal>
         requires { 0 < length into.old }
         ensures bound { ReadsAtMost result into.new }
@@ -121,8 +150,13 @@ pub trait Shelf {
         ensures absent { IfErr result (λ why. why ≡ ShelfRefusal.Absent → IfSome (files self.old) (λ all. file_of all name.now ≡ None)) }
         ensures cause { HasShelfCause (faults self.old) (faults self.new) (wants self.old) (wants self.new) result };
 
-    /// Gives the file of this name these bytes, whole, and makes it where there is none. The other files stay, also where
-    /// the call is refused. A refusal says nothing of the file itself.
+    /// Gives the file of this name these bytes, whole, and makes it where there is none. The other files stay, also
+    /// where the call is refused.
+    ///
+    /// # Errors
+    ///
+    /// `Failed` where the shelf failed, and `NoMemory` where it found none. Neither says what the file itself has now:
+    /// the objects in memory leave it as it was, and [`DirShelf`] may not.
     fn put(&mut self, name: &[u8], bytes: &[u8]) -> Result<(), WriteRefusal>
         ensures done { OnOk result (Holds (files self.new) name.now bytes.now) }
         ensures others { KeepsOthers (files self.old) (files self.new) name.now }

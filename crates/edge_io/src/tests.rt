@@ -70,13 +70,13 @@ fn texts(rt: HostRuntime) -> Result<(), Fail> {
     assert_eq!(rt; Failed.to_string(alloc)?.as_str(), "a read failed");
     for (refusal, want) in [
         (WriteRefusal::Failed, "a write failed"),
-        (WriteRefusal::NoMemory, "no memory was found"),
+        (WriteRefusal::NoMemory, "no memory"),
     ] {
         assert_eq!(rt; refusal.to_string(alloc)?.as_str(), want);
     }
     for (refusal, want) in [
         (ShelfRefusal::Failed, "a read failed"),
-        (ShelfRefusal::NoMemory, "no memory was found"),
+        (ShelfRefusal::NoMemory, "no memory"),
         (ShelfRefusal::Absent, "no such file"),
     ] {
         assert_eq!(rt; refusal.to_string(alloc)?.as_str(), want);

@@ -18,12 +18,22 @@ use std::sync::ledger::Ledger;
 
 /// The root of the value of an expression, in which a name stands for its document's text.
 ///
-/// Parts are evaluated from left to right and inner ones first, and the first refusal is the
-/// answer. After a refusal the store may have more nodes.
+/// Parts are evaluated from left to right and inner ones first, and the first refusal is the answer.
 ///
-/// At most 48·m·(H(N) + 1) pairs are made for m operations. N is the greatest length of a value
-/// that is met, operands and results included, and H(N) is the greatest height of a balanced tree
-/// of N bytes. The recursion is as deep as the expression is nested.
+/// At most 48·m·(H(N) + 1) pairs are made for m operations. N is the greatest length of a value that is met, operands
+/// and results included, and H(N) is the greatest height of a balanced tree of N bytes. Memory is taken for new nodes
+/// alone, and the recursion is as deep as the expression is nested.
+///
+/// # Errors
+///
+/// The first of these that is met, after which the store may have more nodes:
+///
+/// - `NoSuchDocument` where no document has a name of the expression;
+/// - `OutOfRange` where a range or a place isn't in its text: not 1 ≤ I ≤ J ≤ n + 1, or not 1 ≤ K ≤ n + 1, told as a
+///   range from K to K. `copy` looks at its range before its place;
+/// - `TooLong` with the length where a concatenation, an insertion or a copy would have more than 2^48 bytes, behind
+///   the ranges of the same operation;
+/// - `NoMemory` where memory for a node or a name wasn't found.
 pub fn eval<L: Ledger>(
     alloc: Global,
     expr: &Expr,

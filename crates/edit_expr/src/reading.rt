@@ -43,6 +43,11 @@ struct Front<'a> {
 ///
 /// It takes time linear in the text, memory for the expression alone, and a recursion as deep as
 /// the nesting.
+///
+/// # Errors
+///
+/// - `Syntax` exactly where no expression nested at most 64 deep is written so.
+/// - `NoMemory` where memory for the expression wasn't found.
 pub fn read(alloc: Global, text: &[u8]) -> Result<Expr, ExprRefusal>
     ensures ok { IfOk result (λ expr. ExprReads text.now expr) }
     ensures syntax { IfErr result (λ why. why ≡ ExprRefusal.Syntax → (expr : Expr) → ExprReads text.now expr → ⊥) }

@@ -1,4 +1,12 @@
 //! Times the automata of the largest formulas within the limits. The figures go to standard error.
+//!
+//! ```text
+//! rt try        # a line for each formula: microseconds for the position automaton and for the deterministic one
+//! ```
+//!
+//! It is no part of the database: it shows the worst that `marker_nfa` and `marker_dfa` meet, formulas of 2,048 bytes
+//! with eight variables whose marks stand between many occurrences. It takes no input, and memory for one automaton at
+//! a time.
 #![tactic(auto)]
 
 use formula_syntax::read;

@@ -9,13 +9,22 @@ use crate::refusal::FormulaRefusal;
 use span_types::{Formula, Name, Vars};
 use std::alloc::Global;
 
-/// The formula of a text, and the names of its variables, which are numbered by first appearance from the left. Chains nest to the right.
+/// The formula of a text, and the names of its variables, which are numbered by first appearance from the left. Chains
+/// nest to the right.
 ///
-/// It takes time linear in the length of the text, but for the copies of at most eight names. The recursions over the formula are as deep as its text is long, at most 2,048.
+/// It takes time linear in the length of the text, memory linear in the formula's parts, and copies of at most eight
+/// names. The recursions over the formula are as deep as its text is long, at most 2,048.
 ///
 /// # Errors
 ///
-/// The first refusal of `FormulaRefusal` that holds, and `NoMemory`.
+/// The first of these that holds, and `NoMemory`, which may come in place of any but the first:
+///
+/// - `TooLong` where the text has more than 2,048 bytes;
+/// - `BadText` where it isn't in the grammar;
+/// - `TooDeep` where more than 64 groups and captures are open at some byte;
+/// - `TooManyPositions` where it has more than 512 byte sets;
+/// - `TooManyVariables` where it has more than 8 variables;
+/// - `NotFunctional` where it breaks the rule on variables.
 pub fn read(alloc: Global, text: &[u8]) -> Result<(Formula, Vars), FormulaRefusal>
     ensures { Says result text.now }
 {

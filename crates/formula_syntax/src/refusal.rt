@@ -25,7 +25,10 @@ pub enum FormulaRefusal {
     #[error("more than 8 variables")]
     TooManyVariables,
 
-    /// The rule on variables fails first at this one.
+    /// The rule on variables fails first at this one. The rule is one of syntax: the two parts of a concatenation share
+    /// no variable, nothing under `*` or `+` has one, and a capture has its variable no second time inside. So it also
+    /// refuses a formula that fits no text, as `[]$x{a}$x{b}`. The parts of a formula are judged before the whole, from
+    /// the left, and of two shared variables the one that appears first is told.
     #[error("not functional in {name}")]
     NotFunctional { name: Name },
 

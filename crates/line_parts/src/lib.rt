@@ -1,4 +1,14 @@
 //! What every line is made of: words, numbers and lists of names.
+//!
+//! ```text
+//! assert_eq!(cut_word(b"show d 1 4"), Some((b"show", b"d 1 4")));
+//! assert_eq!(number(b"4096"), Some(4096));
+//! assert_eq!(number(b"007"), None);                        // a number is written in one way only
+//! assert!(is_name_list(b"x,y"));
+//! ```
+//!
+//! A number is exactly what prints as that number: no sign, no leading zero, below 2^64. Every call takes one pass over
+//! the bytes that it looks at, and no memory: what it gives are parts of what it got.
 #![tactic(auto)]
 
 mod list;

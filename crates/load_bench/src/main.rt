@@ -1,4 +1,12 @@
 //! Times the loading of a generated log of 16 MB in pieces of 64 KB. The figures go to standard error.
+//!
+//! ```text
+//! rt try        # one line: B bytes, N nodes, T ns
+//! ```
+//!
+//! It is no part of the database: it shows what `pair_loader` makes of text that repeats itself a little, in bytes,
+//! nodes and nanoseconds. The text is made while it runs, from one seed, so each run loads the same bytes. It takes
+//! memory for one piece and for the nodes.
 #![tactic(auto)]
 
 ghost use Rattle.std.specs.Prelude.{◌≡◌, ◌<◌};

@@ -23,6 +23,10 @@ impl Model for Buckets {
 
 impl Buckets {
     /// Empty buckets.
+    ///
+    /// # Errors
+    ///
+    /// `NoMemory` where none was found.
     pub fn new(alloc: Global, count: usize) -> Result<Buckets, NoMemory>
         ensures { IfOk result (λ b. b ≡ replicate count []) }
     {
@@ -34,6 +38,10 @@ impl Buckets {
     }
 
     /// Puts a number into a bucket.
+    ///
+    /// # Errors
+    ///
+    /// `NoMemory` where none was found.
     pub fn put(&mut self, bucket: usize, number: usize) -> Result<(), NoMemory>
         requires { bucket < length self.old }
         ensures { OnOk result (AddsTo self.old self.new (λ k i. (k ≡ bucket) × (i ≡ number))) }
@@ -64,6 +72,10 @@ impl Buckets {
     }
 
     /// The buckets that aren't empty, falling.
+    ///
+    /// # Errors
+    ///
+    /// `NoMemory` where none was found.
     pub fn filled(&self, alloc: Global) -> Result<Vec<u16>, NoMemory>
         requires { length self.now ≤ 65536 }
         ensures { IfOk result (λ ks. AreFilled self.now ks.items) }

@@ -113,6 +113,10 @@ fn put_edge(
 }
 
 /// All edges, in bundles. The bytes are those that will be asked for.
+///
+/// # Errors
+///
+/// `NoMemory` where none was found.
 pub fn bundles_of(alloc: Global, nfa: &Nfa, bytes: &[u8]) -> Result<Vec<Bundle>, NoMemory>
     requires { IsAutomaton nfa.now }
     ensures { IfOk result (λ bundles. AreBundles nfa.now bytes.now bundles.items) }

@@ -116,6 +116,10 @@ fn fitted(alloc: Global, classes: ByteClasses, letters: &ByteSet) -> Result<Byte
 }
 
 /// Classes such that the letters of an edge have all bytes of a class or none.
+///
+/// # Errors
+///
+/// `NoMemory` where none was found.
 pub fn classes_of(alloc: Global, nfa: &Nfa) -> Result<ByteClasses, NoMemory>
     ensures classes { IfOk result AreClasses }
     ensures fit { IfOk result (λ s. (e : Edge) → Contains nfa.now.edges e → IsFit s e.letters) }

@@ -39,6 +39,10 @@ fn put_bundle(
 }
 
 /// The bundles that leave a set.
+///
+/// # Errors
+///
+/// `NoMemory` where none was found.
 pub fn exits_of(
     alloc: Global,
     nfa: &Nfa,
@@ -82,6 +86,10 @@ fn bundle_at(bundles: &[Bundle], place: usize) -> &Bundle
 }
 
 /// The states to which the bundles at some places lead with a byte.
+///
+/// # Errors
+///
+/// `NoMemory` where none was found.
 pub fn targets_of(
     alloc: Global,
     nfa: &Nfa,
@@ -114,6 +122,10 @@ fn put_end(by_mark: &mut Buckets, from: &StateSet, end: End) -> Result<(), NoMem
 }
 
 /// The marks with which a text may end in a set, falling.
+///
+/// # Errors
+///
+/// `NoMemory` where none was found.
 pub fn ends_of_set(alloc: Global, nfa: &Nfa, from: &StateSet) -> Result<Vec<u16>, NoMemory>
     requires automaton { IsAutomaton nfa.now }
     requires size { length from.now ≡ nfa.now.states }

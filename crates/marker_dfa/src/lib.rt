@@ -1,4 +1,18 @@
 //! Deterministic automata of marked texts, by the subset construction.
+//!
+//! ```text
+//! let nfa = marker_nfa::of_formula(alloc, &formula)?;
+//! let dfa = determinise(alloc, &nfa)?;                     // TooManyStates exactly past 128 states
+//! let next = dfa.next(0, 0, b'a');                         // from state 0 with no mark and the byte a
+//! let marks = dfa.marks(0, b'a');                          // the marks that lead on from there, falling
+//! ```
+//!
+//! Each tuple has one run at most, so no answer can come twice. Bytes that the automaton never tells apart share a
+//! class, edges that differ in their sources alone are gone through as one, and a state keeps a list of marks for each
+//! class. The construction ends at the 129th set of states, so at most 128 sets are worked on, each for every class and
+//! every mark that leads on. The automaton takes memory for these marks and where they lead; a look at it takes none.
+//!
+//! The construction is that of M. O. Rabin and D. Scott, *Finite automata and their decision problems*, 1959.
 #![tactic(auto)]
 
 ghost use Rattle.std.specs.Prelude.{◌≡◌, ◌≤◌, Bool, List, IfOk};
@@ -25,7 +39,11 @@ use std::alloc::Global;
 use subsets::rows_of;
 
 /// The deterministic automaton of an automaton, by the subset construction (Rabin and Scott 1959). Its states stand for
-/// the nonempty sets of states that are reached from the start's set, exactly one for each, and state 0 for that of the start.
+/// the nonempty sets of states that are reached from the start's set, exactly one for each, and state 0 for that of the
+/// start.
+///
+/// At most 128 sets are worked on, each for every class of bytes and every mark that leads on, and memory is taken for
+/// these marks and where they lead.
 ///
 /// # Errors
 ///

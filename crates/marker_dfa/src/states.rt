@@ -31,6 +31,10 @@ impl Model for StateSet {
 
 impl StateSet {
     /// The set with no member, of so many states.
+    ///
+    /// # Errors
+    ///
+    /// `NoMemory` where none was found.
     pub fn empty(alloc: Global, states: u16) -> Result<StateSet, NoMemory>
         ensures { IfOk result (λ s. s ≡ replicate states false) }
     {
@@ -42,6 +46,10 @@ impl StateSet {
     }
 
     /// The same set, in memory of its own.
+    ///
+    /// # Errors
+    ///
+    /// `NoMemory` where none was found.
     pub fn copy(&self, alloc: Global) -> Result<StateSet, NoMemory>
         ensures { IfOk result (λ s. s ≡ self.now) }
     {

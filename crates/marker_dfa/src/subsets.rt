@@ -163,6 +163,10 @@ fn start_sets(alloc: Global, nfa: &Nfa) -> Result<Vec<StateSet>, NoMemory>
 }
 
 /// The rows of all reached sets, with a cell for each of the bytes.
+///
+/// # Errors
+///
+/// `TooManyStates` exactly where more than 128 sets are reached, and `NoMemory`.
 pub fn rows_of(alloc: Global, nfa: &Nfa, bytes: &[u8]) -> Result<Vec<Row>, DfaRefusal>
     requires { IsAutomaton nfa.now }
     ensures rows { IfOk result (λ rows. AreAllRows nfa.now bytes.now rows.items) }

@@ -1,4 +1,20 @@
-//! Position automata of formulas: automata that read a mark before each byte of a text (Glushkov 1961; Florenzano et al., PODS 2018).
+//! Position automata of formulas: automata that read a mark before each byte of a text.
+//!
+//! ```text
+//! let (formula, vars) = formula_syntax::read(alloc, b".*$x{a}.*")?;
+//! let nfa = of_formula(alloc, &formula)?;
+//! assert_eq!(nfa.states(), 4);                             // the start, and the three occurrences of byte sets
+//! assert_eq!(nfa.variables(), 1);
+//! ```
+//!
+//! A mark says which variables' spans start and end at a position. The automaton has a state for each occurrence of a
+//! byte set in the formula, and an edge for each way from one to the next, which carries the mark between the two and
+//! the byte set of the second. Time and memory are in proportion to the edges: for p occurrences at most p·(p+1) times
+//! the marks that stand between two of them, of which a formula has few, although there may be 256.
+//!
+//! The states are those of V. Glushkov, *The abstract theory of automata*, 1961, made without a hop twice as in A.
+//! Brüggemann-Klein, *Regular expressions into finite automata*, 1993; the marks are those of F. Florenzano et al.,
+//! *Constant Delay Algorithms for Regular Document Spanners*, PODS 2018.
 #![tactic(auto)]
 
 ghost use Rattle.std.specs.Prelude.{◌≡◌, Bool, List, IfOk};

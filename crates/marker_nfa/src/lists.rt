@@ -16,6 +16,10 @@ pub struct Hop {
 }
 
 /// Puts a value last.
+///
+/// # Errors
+///
+/// `NoMemory` where none was found.
 pub fn put<T: Drop>(list: &mut Vec<T>, value: T) -> Result<(), NoMemory>
     ensures { OnOk result (Adds list.old.items list.new.items (λ x. x ≡ value)) }
 {
@@ -24,6 +28,10 @@ pub fn put<T: Drop>(list: &mut Vec<T>, value: T) -> Result<(), NoMemory>
 }
 
 /// Puts a mark into a list, unless it is there.
+///
+/// # Errors
+///
+/// `NoMemory` where none was found.
 pub fn push_new(marks: &mut Vec<u16>, mark: u16) -> Result<(), NoMemory>
     ensures { OnOk result (Adds marks.old.items marks.new.items (λ m. m ≡ mark)) }
 {
@@ -34,6 +42,10 @@ pub fn push_new(marks: &mut Vec<u16>, mark: u16) -> Result<(), NoMemory>
 }
 
 /// Puts each mark of a list into another, unless it is there.
+///
+/// # Errors
+///
+/// `NoMemory` where none was found.
 pub fn push_marks(marks: &mut Vec<u16>, more: &[u16]) -> Result<(), NoMemory>
     ensures { OnOk result (Adds marks.old.items marks.new.items (λ x. (y : ℕ) × Contains more.now y × (x ≡ y))) }
 {
@@ -44,6 +56,10 @@ pub fn push_marks(marks: &mut Vec<u16>, more: &[u16]) -> Result<(), NoMemory>
 }
 
 /// Puts each mark at a state of a list into another.
+///
+/// # Errors
+///
+/// `NoMemory` where none was found.
 pub fn push_ends(out: &mut Vec<End>, more: &[End]) -> Result<(), NoMemory>
     ensures { OnOk result (Adds out.old.items out.new.items (λ x. (y : End) × Contains more.now y × (x ≡ y))) }
 {
@@ -54,6 +70,10 @@ pub fn push_ends(out: &mut Vec<End>, more: &[End]) -> Result<(), NoMemory>
 }
 
 /// Puts each mark into a list, at the start's state.
+///
+/// # Errors
+///
+/// `NoMemory` where none was found.
 pub fn push_at_start(out: &mut Vec<End>, marks: &[u16]) -> Result<(), NoMemory>
     ensures { OnOk result (Adds out.old.items out.new.items (λ x. (y : ℕ) × Contains marks.now y × (x ≡ record { state = 0; mark = y }))) }
 {
@@ -68,6 +88,10 @@ pub fn push_at_start(out: &mut Vec<End>, marks: &[u16]) -> Result<(), NoMemory>
 }
 
 /// Puts the sums of one mark and each of a list into a list.
+///
+/// # Errors
+///
+/// `NoMemory` where none was found.
 pub fn push_sums(marks: &mut Vec<u16>, left: u16, right: &[u16]) -> Result<(), NoMemory>
     requires { (y : ℕ) → Contains right.now y → left + y < 65536 }
     ensures { OnOk result (Adds marks.old.items marks.new.items (λ m. (y : ℕ) × Contains right.now y × (m ≡ left + y))) }
@@ -79,6 +103,10 @@ pub fn push_sums(marks: &mut Vec<u16>, left: u16, right: &[u16]) -> Result<(), N
 }
 
 /// Puts the sums of each mark of one list and each of another into a list.
+///
+/// # Errors
+///
+/// `NoMemory` where none was found.
 pub fn push_all_sums(marks: &mut Vec<u16>, left: &[u16], right: &[u16]) -> Result<(), NoMemory>
     requires { AreShort left.now right.now }
     ensures { OnOk result (Adds marks.old.items marks.new.items (λ m. (x : ℕ) × Contains left.now x × ((y : ℕ) × Contains right.now y × (m ≡ x + y)))) }
@@ -90,6 +118,10 @@ pub fn push_all_sums(marks: &mut Vec<u16>, left: &[u16], right: &[u16]) -> Resul
 }
 
 /// Puts the marks at states into a list, with one mark added.
+///
+/// # Errors
+///
+/// `NoMemory` where none was found.
 pub fn push_raised(out: &mut Vec<End>, by: u16, ends: &[End]) -> Result<(), NoMemory>
     requires { (y : End) → Contains ends.now y → by + y.mark < 65536 }
     ensures { OnOk result (Adds out.old.items out.new.items (IsRaised by ends.now)) }
@@ -105,6 +137,10 @@ pub fn push_raised(out: &mut Vec<End>, by: u16, ends: &[End]) -> Result<(), NoMe
 }
 
 /// Puts the marks at states into a list, with each of some marks added.
+///
+/// # Errors
+///
+/// `NoMemory` where none was found.
 pub fn push_all_raised(out: &mut Vec<End>, marks: &[u16], ends: &[End]) -> Result<(), NoMemory>
     requires { AreShortAt marks.now ends.now }
     ensures { OnOk result (Adds out.old.items out.new.items (IsRaisedBy marks.now ends.now)) }
@@ -116,6 +152,10 @@ pub fn push_all_raised(out: &mut Vec<End>, marks: &[u16], ends: &[End]) -> Resul
 }
 
 /// Puts the ways from one last occurrence to the first ones into a list.
+///
+/// # Errors
+///
+/// `NoMemory` where none was found.
 pub fn push_hops(hops: &mut Vec<Hop>, last: End, firsts: &[End]) -> Result<(), NoMemory>
     requires { (y : End) → Contains firsts.now y → last.mark + y.mark < 65536 }
     ensures { OnOk result (Adds hops.old.items hops.new.items (IsHop last firsts.now)) }
@@ -132,6 +172,10 @@ pub fn push_hops(hops: &mut Vec<Hop>, last: End, firsts: &[End]) -> Result<(), N
 }
 
 /// Puts the ways from the last occurrences to the first ones into a list.
+///
+/// # Errors
+///
+/// `NoMemory` where none was found.
 pub fn push_all_hops(hops: &mut Vec<Hop>, lasts: &[End], firsts: &[End]) -> Result<(), NoMemory>
     requires { AreShortHops lasts.now firsts.now }
     ensures { OnOk result (Adds hops.old.items hops.new.items (IsHopIn lasts.now firsts.now)) }

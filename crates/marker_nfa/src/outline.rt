@@ -20,6 +20,10 @@ pub struct Outline {
 }
 
 /// The byte sets, edges and ends of a formula.
+///
+/// # Errors
+///
+/// `NoMemory` where none was found.
 pub fn outline_of(alloc: Global, formula: &Formula) -> Result<Outline, NoMemory>
     requires small { IsSmall (tree_of formula.now) }
     requires few { sets (tree_of formula.now) ≤ 512 }

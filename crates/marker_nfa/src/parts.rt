@@ -195,6 +195,10 @@ fn covers(covered: bool, beside: &Formula) -> bool
 ///
 /// A part is covered where a star or a plus around it makes all hops from its last occurrences to its first ones.
 /// They are left out then, so that no hop is made twice (Brüggemann-Klein 1993).
+///
+/// # Errors
+///
+/// `NoMemory` where none was found.
 pub fn part_of(
     alloc: Global,
     formula: &Formula,

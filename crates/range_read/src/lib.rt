@@ -1,4 +1,16 @@
 //! The bytes of a range of a text, read from its nodes in order.
+//!
+//! ```text
+//! let mut bytes = RangeBytes::new(alloc, &store, root, 1000, 1004)?;    // the positions 1000 to 1003
+//! while let Some(byte) = bytes.next() {
+//!     out.push(byte)?;
+//! }
+//! ```
+//!
+//! The start takes time in proportion to the height of the text's tree, at most 69 steps, and all the memory that is
+//! needed: a place for each level. A byte then takes constant time on average and no memory, so m bytes from the middle
+//! of a text of any length take time in proportion to m and to the height. It is a walk in order over a tree with a
+//! stack of what is still to come (D. Knuth, *The Art of Computer Programming*, volume 1, section 2.3.1).
 #![tactic(auto)]
 
 #[cfg(test)]
@@ -84,6 +96,10 @@ fn first_byte(store: &Store, trail: &mut Vec<NodeId>, id: NodeId) -> u8
 impl<'a> RangeBytes<'a> {
     /// The bytes at the positions `i` to `j - 1` of the root's text, whose positions are counted from 1. All the memory that
     /// the walk needs is taken here. It takes time in proportion to the height of the text's tree.
+    ///
+    /// # Errors
+    ///
+    /// `NoMemory` where room for a place for each level of the tree, at most 69, wasn't found.
     pub fn new(
         alloc: Global,
         store: &'a Store,

@@ -33,7 +33,8 @@ pub enum Refusal {
     TooManyPositions,
     /// The query would have more than 8 variables.
     TooManyVariables,
-    /// A text could give this variable two spans.
+    /// The formula breaks the rule on variables at this one: it stands in two parts of a concatenation, under `*` or
+    /// `+`, or in its own capture. The rule is one of syntax, so it also refuses a formula that fits no text.
     NotFunctional { name: Name },
     /// The query would have more than 128 deterministic states.
     TooManyStates,
@@ -142,7 +143,11 @@ fn refusal_line_of(alloc: Global, number: u64, why: &Refusal) -> Result<Vec<u8>,
 }
 
 /// Puts `line N: WORD`, then each value that the refusal keeps behind a space, and a newline
-/// behind `into`. Where memory runs out, `into` is as before. Takes memory for the line.
+/// behind `into`. Takes time and memory linear in the line.
+///
+/// # Errors
+///
+/// `NoMemory` where memory for the line wasn't found; `into` is then as before.
 pub fn refusal_line(
     alloc: Global,
     number: u64,

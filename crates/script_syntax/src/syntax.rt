@@ -25,8 +25,8 @@ pub enum LineRefusal {
     /// The line has none of the forms, or more than 65,536 bytes.
     #[error("the line has none of the forms")]
     Syntax,
-    /// Memory ran out.
-    #[error("out of memory")]
+    /// No memory was found for the parts of the command.
+    #[error("no memory")]
     NoMemory,
 }
 
@@ -90,9 +90,13 @@ fn bare(line: &[u8]) -> Result<Command, LineRefusal>
 
 /// The command that a line is. A line of no bytes, and one that begins with `#`, is `Nothing`.
 ///
-/// Refusals: `Syntax` exactly where the line has none of the forms or has more than 65,536 bytes,
-/// whatever they are. Expressions, formulas and tuples are any bytes here. It looks at each byte a
-/// few times, and takes memory for the parts that the command keeps.
+/// Expressions, formulas and tuples are any bytes here. It looks at each byte a few times, and takes memory for the
+/// parts that the command keeps.
+///
+/// # Errors
+///
+/// - `Syntax` exactly where the line has none of the forms or has more than 65,536 bytes, whatever they are.
+/// - `NoMemory` where memory for the parts wasn't found.
 pub fn command(alloc: Global, line: &[u8]) -> Result<Command, LineRefusal>
     ensures ok { IfOk result (λ command. LineText line.now command) }
     ensures syntax { IfErr result (λ why. why ≡ LineRefusal.Syntax → (command : Command) → LineText line.now command → ⊥) }

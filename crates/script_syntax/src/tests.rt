@@ -155,7 +155,7 @@ fn texts_of_refusals(rt: HostRuntime) -> Result<(), Fail> {
     );
     assert_eq!(rt;
         LineRefusal::NoMemory.to_string(alloc)?.as_str(),
-        "out of memory"
+        "no memory"
     );
     Ok(())
 }

@@ -1,5 +1,19 @@
-//! A list of nodes of a store, one per rule of a grammar whose pairs and runs need not be balanced. Each
-//! entry is balanced again as it comes (W. Rytter, Theoretical Computer Science 302, 2003).
+//! A list of nodes of a store, one per rule of a grammar whose pairs and runs need not be balanced. Each entry is
+//! balanced again as it comes.
+//!
+//! ```text
+//! let mut roots = Roots::new(alloc);
+//! roots.byte(&mut store, b'a')?;                           // entry 0: a
+//! roots.byte(&mut store, b'b')?;                           // entry 1: b
+//! roots.pair(&mut store, 0, 1, &mut pairs)?;               // entry 2: ab
+//! roots.repeat(&mut store, 2, 1000, &mut pairs)?;          // entry 3: ab a thousand times
+//! ```
+//!
+//! So a grammar from anywhere, however deep, becomes a store of low trees. A pair makes at most 205 pair calls (one
+//! where its two sides are about as high), a run of c times at most 206 for each binary digit of c but the first, and
+//! an entry takes the memory of a number.
+//!
+//! Balancing a grammar by joining height-balanced trees is due to W. Rytter, Theoretical Computer Science 302, 2003.
 #![tactic(auto)]
 
 ghost use Rattle.std.specs.Prelude.{◌≡◌, ℕ, ◌+◌, ◌*◌, ◌^◌, ◌<◌, ◌≤◌, [], ◌∷◌, ◌++◌, length, get_or, slice_get, IfOk, OnOk, OnErr, Some};

@@ -78,9 +78,12 @@ fn is_tuple_text(text: &[u8]) -> bool
 /// each two, where an entry is `NAME=[NUM,NUM)`, or `NAME=-` for a variable without a span. The
 /// first number is at least 1 and at most the second, which is at most 2^48 + 1.
 ///
-/// Refusals: `BadTuple` exactly where the text is not of this form, whatever the names; else
-/// `OtherVariables` exactly where its names are not those of the variables in number order. Takes
-/// two passes over the text at most, and no memory.
+/// Takes two passes over the text at most, and no memory.
+///
+/// # Errors
+///
+/// - `BadTuple` exactly where the text is not of this form, whatever the names.
+/// - `OtherVariables` exactly where it is, and its names are not those of the variables in number order.
 pub fn read(text: &[u8], vars: &Vars) -> Result<Tuple, TupleRefusal>
     ensures ok { IfOk result (λ tuple. TupleText text.now vars.now tuple) }
     ensures read_back { (tuple : List (Option Span)) → TupleText text.now vars.now tuple → result ≡ Ok tuple }

@@ -48,6 +48,10 @@ impl<'a> Answers<'a> {
     /// Stands before the first answer. It makes no look, and takes the memory that `next` will need.
     ///
     /// The view's tables are those of the automaton, and the root is one of its nodes or none.
+    ///
+    /// # Errors
+    ///
+    /// `NoMemory` where room for a way of 68 nodes down the tree wasn't found.
     pub fn start<L: Ledger>(
         alloc: Global,
         view: View<'a>,
@@ -71,6 +75,10 @@ impl<'a> Answers<'a> {
 
     /// Stands before the first answer that comes strictly after the tuple, which needn't be an answer and may lie past the
     /// text. It makes no look, and takes the memory that `next` will need.
+    ///
+    /// # Errors
+    ///
+    /// `NoMemory` where room for a way of 68 nodes down the tree wasn't found.
     pub fn seek<L: Ledger>(
         alloc: Global,
         view: View<'a>,

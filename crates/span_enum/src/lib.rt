@@ -1,7 +1,8 @@
 //! The answers of an automaton on a compressed text, in mark order, each found from where the last one stands.
 //!
 //! `Answers::start(alloc, view, &dfa, root, &mut looks)?` stands before the first answer, `seek` after any tuple, and each
-//! `next(&mut looks)` gives the next answer. It makes at most B(k, n) looks at nodes, mostly as many as the distance asks.
+//! `next(&mut looks)` gives the next answer. It makes at most B(k, n) looks at nodes, mostly as many as the distance asks,
+//! and takes no memory: room for the way below is taken at the start.
 //!
 //! An answer is a text with marks at some letters. Between two answers the way from the root to the last mark is kept:
 //!

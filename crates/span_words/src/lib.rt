@@ -1,4 +1,13 @@
 //! The words of the command line, read by `clap`.
+//!
+//! ```text
+//! let options = read_words(alloc, &words)?;                // the words --workers 4
+//! assert_eq!((options.workers, options.demo), (4, None));
+//! let text = usage_text(alloc, &words)?;                   // why words are refused, and empty where they aren't
+//! ```
+//!
+//! Words are taken exactly where `clap` takes them for the two options of the program, `--workers 1..64` and `--demo
+//! 1..46`, and a law says that what is taken has one reading. Time and memory are linear in the words.
 #![tactic(auto)]
 
 mod command;

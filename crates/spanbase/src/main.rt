@@ -1,4 +1,14 @@
 //! Reads a script from standard input, and writes its replies to standard output.
+//!
+//! ```text
+//! spanbase < logs.script                                   # the replies
+//! spanbase --workers 4 < logs.script                       # the same replies, tables made on four threads
+//! spanbase --demo 46                                       # a script of its own
+//! ```
+//!
+//! `main` reads the words, lends the source, the sink and the folder of files to `span_run::run`, and turns its status
+//! into the program's exit status: 0 where every line was done, 1 where one was refused, and 2 to 7 where the run was
+//! stopped, with the word of the status on standard error. The cost of a run is that of its lines.
 #![tactic(auto)]
 
 ghost use Rattle.std.specs.Prelude.{◌≡◌, ◌<◌, ◌⊎◌, ◌^◌, IfSome, length, map, string_bytes};

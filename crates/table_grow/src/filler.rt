@@ -35,6 +35,10 @@ impl Model for Filler {
 
 impl Filler {
     /// An empty place for each node of the store that has no table, and room in `tables` for all of them.
+    ///
+    /// # Errors
+    ///
+    /// `NoMemory` where none was found. The tables are then as before.
     pub fn new(alloc: Global, tables: &mut Tables, store: &Store) -> Result<Filler, NoMemory>
         requires { count_of tables.old ≤ length store.now }
         ensures fits { IfOk result (Fits store.now tables.new) }
@@ -75,7 +79,12 @@ impl Filler {
         }
     }
 
-    /// The table of a new node, whose children are old or placed and have the tables of their texts.
+    /// The table of a new node, whose children are old or placed and have the tables of their texts. It takes at most
+    /// as many steps as the square of the automaton's states, and memory for the table.
+    ///
+    /// # Errors
+    ///
+    /// `NoMemory` where memory for the table wasn't found.
     pub fn compute(
         &self,
         alloc: Global,
@@ -151,7 +160,11 @@ impl Filler {
     }
 
     /// Keeps the table of a new node, which isn't placed yet and whose children are old or placed, and gives the node
-    /// its number. After a refusal the places are as before, and one table more may be kept. No node's table changes.
+    /// its number. No node's table changes.
+    ///
+    /// # Errors
+    ///
+    /// `NoMemory`: the places are then as before, and one table more may be kept.
     pub fn place(
         &mut self,
         tables: &mut Tables,

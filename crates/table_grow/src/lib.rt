@@ -1,4 +1,22 @@
 //! The tables of the nodes that have none yet.
+//!
+//! ```text
+//! let mut memory = Memory::new(alloc, 4096)?;
+//! grow(&rt, alloc, &mut tables, &store, &dfa, &mut memory, workers, &gate, &mut places)?;
+//! ```
+//!
+//! A table says of a node's text which states of an automaton are reached from which. That of a pair is composed from
+//! those of its children and reads no text, so after an edit only the new nodes are worked on, one step each. Nodes of
+//! the same height don't depend on each other: they are cut into at most `workers` pieces that run at once.
+//! Compositions of tables that have been seen are remembered, and the memory is emptied where it is full, so most nodes
+//! cost one look. The result depends neither on the memory nor on the workers.
+//!
+//! A composition takes at most as many steps as the square of the automaton's states, a remembered one expected
+//! constant time. Beside the tables memory is taken for a place for each new node, and for the compositions that are
+//! remembered.
+//!
+//! It is the preparation of M. L. Schmid and N. Schweikardt, *Spanner Evaluation over SLP-Compressed Documents*, PODS
+//! 2021.
 #![tactic(auto)]
 
 pub mod filler;

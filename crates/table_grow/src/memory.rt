@@ -36,6 +36,10 @@ impl Model for Memory {
 
 impl Memory {
     /// A memory with no entries, for at most `size` of them. No room is made for them yet.
+    ///
+    /// # Errors
+    ///
+    /// `NoMemory` where none was found.
     pub fn new(alloc: Global, size: usize) -> Result<Memory, NoMemory>
         requires some { 1 ≤ size }
         requires few { size ≤ 65536 }

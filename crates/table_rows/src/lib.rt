@@ -1,4 +1,11 @@
 //! Worked rows of tables, and a gate that shows that two pieces of a height run at once.
+//!
+//! ```text
+//! row    abracadabra, with 1, 4 and 64 workers    15 nodes, 15 tables, of which one is distinct
+//! ```
+//!
+//! The crate has tests alone. They stand apart from `table_grow` because they load texts by `pair_loader`, which that
+//! crate doesn't know. They take little time and memory.
 #![tactic(auto)]
 
 #[cfg(test)]

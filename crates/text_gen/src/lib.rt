@@ -1,4 +1,13 @@
 //! Demo scripts: small scripts whose documents are very long.
+//!
+//! ```text
+//! let script = demo(alloc, 46)?;                           // the longest document has 2^48 - 1 bytes
+//! ```
+//!
+//! A script of 9 + n lines doubles a text n times and then asks about what it has become, so that one sees what a
+//! compressed text is for: 55 lines make a document that no disk holds. The script is made in time and memory linear in
+//! its lines, which are at most 55. That n doublings of a text are n rules is the first example of a straight-line
+//! grammar (as in M. Lohrey, *Algorithmics on SLP-compressed strings: a survey*, 2012).
 #![tactic(auto)]
 
 ghost use Rattle.std.specs.Prelude.{◌≡◌, ◌^◌, ◌≤◌, IfOk, length};

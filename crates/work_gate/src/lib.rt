@@ -1,4 +1,17 @@
 //! Two pieces of work at once, and a gate that each piece passes.
+//!
+//! ```text
+//! let (low, high) = halves(&rt, || sum(&list[..middle]), || sum(&list[middle..]));
+//! gate.pass(7);                                            // the work on node 7 begins
+//! ```
+//!
+//! `halves` is a fork and a join (as in M. Conway, *A multiprocessor system design*, 1963): it starts a thread for one
+//! piece, does the other on its own, and returns both results. Where no thread can be started it does one after the
+//! other, so it has no refusal. A call costs the start of a thread, so the pieces should be much longer than that.
+//!
+//! A gate sees the numbers of the nodes at which work begins and gives nothing back, so no result depends on it.
+//! `OpenGate` does nothing; tests have gates that hold a thread until another has come, and so show that two run at
+//! once.
 #![tactic(auto)]
 
 #[cfg(test)]
