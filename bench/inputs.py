@@ -7,9 +7,11 @@ alone, and --huge adds the log of 256 MB.
 """
 import argparse
 import gzip
+import itertools
 import pathlib
 import random
 import shutil
+import string
 import subprocess
 import sysconfig
 
@@ -227,6 +229,88 @@ def chosen_scripts(file, text):
     return {"hide": hide, "parts": load + cut + ["drop d", "listall h limit 1000"]}
 
 
+# queries of a log that are put together
+FAILED = r'(.*\n)?$h{[0-9.]+} [^\n]*" [45][0-9][0-9] [^\n]*\n.*'
+GOT = r'(.*\n)?$h{[0-9.]+} [^\n]*"GET $p{[^ "\n]*} HTTP[^\n]*\n.*'
+POSTED = r'(.*\n)?$h{[0-9.]+} [^\n]*"POST $p{[^ "\n]*} HTTP[^\n]*\n.*'
+
+
+def made_scripts(file):
+    """By its name: queries of a log that are made of queries, made ready, with their first 10,000 answers."""
+    load = [f"load d {file}", f"query failed {FAILED}", f"query got {GOT}", f"query posted {POSTED}"]
+    union = load + ["union q got posted"]
+    join = union + ["join q failed q"]
+    project = join + ["project q q p"]
+    kept = {"union": union, "join": join, "project": project}
+    rid = ["unquery failed", "unquery got", "unquery posted", "list q d limit 10000"]
+    return {name: lines + rid for name, lines in kept.items()}
+
+
+LETTERS = string.ascii_letters + string.digits + "_"
+EIGHT = "abcdefgh"
+
+
+def each_optional(names):
+    """A formula in which each of the variables has an empty span at one place, or none."""
+    return "".join(f"(${name}{{}})?" for name in names)
+
+
+def many_marks():
+    """A formula of few states and 3,072 marks at one of them: each of eight variables has an empty span at one place or
+    none, or one or two of them have a span of one byte from there."""
+    parts = [each_optional(EIGHT)]
+    parts += [each_optional(EIGHT.replace(one, "")) + f"${one}{{.}}" for one in EIGHT]
+    for one, two in itertools.combinations(EIGHT, 2):
+        others = EIGHT.replace(one, "").replace(two, "")
+        parts += [each_optional(others) + f"${one}{{${two}{{.}}}}"]
+    return f".*({'|'.join(parts)}).*"
+
+
+def algebra_script():
+    """Queries made of queries, dear to make: up to 128 states, eight variables, many marks; asked of a short text."""
+    last_letter = f"({'|'.join(LETTERS)})*"
+    captured = "".join(f"${name}{{{LETTERS[:7]}}}{LETTERS[7:14]}" for name in EIGHT) + LETTERS[:14]
+    few = lambda times: f"({'b*a' * times})*b*c"
+    some = lambda times: f"({'a*b' * times})*a*c"
+    return [
+        "text d abcabc",
+        # 127 states, 63 letters, and 256 marks in each second state
+        f"query last {last_letter}",
+        f"query all .*{each_optional(EIGHT)}.*",
+        "join j last all",
+        "union u j j",
+        "project p j h,g,f,e,d,c,b,a",
+        "project p p g,e,c,a",
+        "project p p ()",
+        "test p d",
+        # each mark of one side meets each of the other
+        f"query w {many_marks()}",
+        "join k w w",
+        "union k k w",
+        "project k k a,b,c,d",
+        "list k d limit 10000",
+        # 127 states of which eight variables take a part
+        f"query chain {captured}",
+        "union v chain chain",
+        "join v v chain",
+        "project v v d,c,b,a",
+        # a product of 128 states, and one of more
+        f"query x {few(7)}",
+        f"query y {some(9)}",
+        "join z x y",
+        f"query x {few(7)}c",
+        f"query y {some(9)}c",
+        "join z x y",
+        # a projection of few states to more than 128, and one of 128 to 128
+        "query n $x{[ab]*}a[ab][ab][ab][ab][ab][ab]",
+        "project z n ()",
+        f"query n $x{{.*}}{'.' * 126}",
+        "project z n ()",
+        # as many parts as may be, 127
+        *["query t .*$x{a}.*", *["union t t t"] * 6, "list t d limit 10000"],
+    ]
+
+
 # by the number of variables: a formula that is met in each sentence of a long text
 SENTENCE = "the quick brown fox; jumps=17 over the lazy dog."
 SENTENCE_QUERIES = [
@@ -271,6 +355,47 @@ def log_script(file, size):
             "test t0 d",
         ]
     return lines + ["list s2 d limit 10000", "names"]
+
+
+def compact_scripts(file, size):
+    """By its name: a log of which half is let go, compacted; the edits of `edits`, compacted after each tenth."""
+    ask = phase_scripts(file, size)["ask1"]
+    half = ask + [f"let d = extract(d,1,{size // 2})", "compact", f"list q d after {cursor('p', size // 4)} limit 10"]
+    edits, count = [], 0
+    for line in phase_scripts(file, size)["edits"]:
+        edits += [line]
+        count += line.startswith("let ")
+        if line.startswith("list ") and count % 10 == 0:
+            edits += ["compact"]
+    return {"compact": half, "compacts": edits}
+
+
+def marks_script(count):
+    """So many marks of so many documents, and a compaction, which goes through all of them; then the marks go."""
+    lines = [f"text doc{place} {place} {'x' * (place % 7)}" for place in range(count)]
+    lines += ["query q .*$x{7}.*"]
+    for version in range(count):
+        lines += [f"text doc{version} {version} changed", f"mark v{version}"]
+    lines += ["listall q limit 1", "compact", "listall q limit 1"]
+    lines += [f"unmark v{version}" for version in range(count - 1)]
+    return lines + ["compact", f"back v{count - 1}", "listall q limit 1"]
+
+
+def marked_script(file, size, words, count):
+    """A text in many versions, each an edit of the one before and marked; then asked one after another, those behind
+    taken out, with a compaction after every hundredth."""
+    rng = random.Random(3)
+    lines = [f"load d {file}", f"query w .*[ \\n]$w{{{words[70]}}}[ \\n.].*", "mark v0"]
+    for version in range(1, count + 1):
+        at, to = rng.randint(1, size * 9 // 10), rng.randint(1, size * 9 // 10)
+        lines += [f"text a {rng.choice(words)} {rng.choice(words)} "]
+        copied, removed = at + rng.randint(1, 3000), rng.randint(2, 3000)
+        lines += [f"let d = delete(copy(insert(d,a,{at}),{at},{copied},{to}),1,{removed})"]
+        lines += [f"mark v{version}"]
+    for version in range(1, count + 1):
+        lines += [f"back v{version}", "list w d limit 10", f"unmark v{version - 1}"]
+        lines += ["compact"] if version % 100 == 0 else []
+    return lines + ["names"]
 
 
 def versions_script(file, size, words, count):
@@ -385,6 +510,7 @@ def make(folder, quick, huge, files):
         write_script(folder / f"{name}.script", log_script(name, size))
     file, size = max(((name, size) for name, size in logs.items() if name != "log256m"), key=lambda it: it[1])
     phases = phase_scripts(file, size) | chosen_scripts(file, (folder / file).read_bytes()) | doubled_scripts()
+    phases |= made_scripts(file) | compact_scripts(file, size) | {"algebra": algebra_script()}
     for name, lines in phases.items():
         write_script(folder / f"{name}.script", lines)
     size, count, edits = (MEGABYTE // 8, 100, 1000) if quick else (MEGABYTE, 1000, 20000)
@@ -392,6 +518,8 @@ def make(folder, quick, huge, files):
     (folder / "prose").write_bytes(text)
     write_script(folder / "versions.script", versions_script("prose", size, words, count))
     write_script(folder / "listall.script", listed_versions_script("prose", size, words, count))
+    write_script(folder / "marked.script", marked_script("prose", size, words, count))
+    write_script(folder / "marks.script", marks_script(count))
     (folder / "genome").write_bytes(genome(size))
     write_script(folder / "genome.script", genome_script("genome", size, edits))
     write_script(folder / "long.script", long_script())
