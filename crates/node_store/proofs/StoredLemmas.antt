@@ -13,34 +13,39 @@ use Rattle.slp_model.proofs.TreeLemmas.{height-most, height-enough, height-by_le
 use Rattle.slp_model.proofs.NodesLemmas.{slice_get-push, tree-append, tree-push, tree-at, IsSound-push, Grows-none, Grows-push}
 use Rattle.node_store.specs.declared.Facts.{Facts}
 use Rattle.slp_model.specs.Distinct.{IsOfByte}
-use Rattle.node_store.specs.Stored.{IsFactsOf, IsStored, IsNext, IsKept}
+use Rattle.node_store.specs.Stored.{AreOfTrees, IsStored, IsNext, IsKept}
 
-pub IsStored-push : (ns : List Node) (fs : List Facts) (n : Node) (f : Facts) → IsStored ns fs → IsNext ns n f → IsStored (ns ++ n ∷ []) (fs ++ f ∷ [])
-IsStored-push ns fs n f s x = record {
-  sound = IsSound-push ns n s.sound x.below x.balanced x.short;
-  bytes = λ i m h. elim (slice_get-push ns n m i h) [ inl old ↦ s.bytes i m old.1 | inr new ↦ subst IsOfByte new.1 x.byte ];
-  as_long = omega (arith, length-append ns (n ∷ []), length-append fs (f ∷ []), s.as_long);
-  facts_are = facts;
+-- one more of them, for one more node
+pub AreOfTrees-push : (f : Tree → ℕ) (ns : List Node) (xs : List ℕ) (n : Node) (x : ℕ) → AreOfTrees f ns xs → x ≡ f (node_tree (trees ns) n) → AreOfTrees f (ns ++ n ∷ []) (xs ++ x ∷ [])
+AreOfTrees-push f ns xs n x a is = record {
+  as_long = omega (arith, length-append ns (n ∷ []), length-append xs (x ∷ []), a.as_long);
+  each = each;
 }
   where
-    facts : (i : ℕ) (g : Facts) → slice_get (fs ++ f ∷ []) i ≡ Some g → IsFactsOf (ns ++ n ∷ []) i g
-    facts i g h =
-        let within : i < length (fs ++ f ∷ []) = slice_get_within (fs ++ f ∷ []) i g h in
-        let here : get_or (fs ++ f ∷ []) i g ≡ g = get_or_from_slice_get (fs ++ f ∷ []) i g g h in
-        elim (cases_lt i (length fs)) [
+    each : (i y : ℕ) → slice_get (xs ++ x ∷ []) i ≡ Some y → y ≡ f (tree (ns ++ n ∷ []) i)
+    each i y h =
+        let within : i < length (xs ++ x ∷ []) = slice_get_within (xs ++ x ∷ []) i y h in
+        let here : get_or (xs ++ x ∷ []) i y ≡ y = get_or_from_slice_get (xs ++ x ∷ []) i y y h in
+        elim (cases_lt i (length xs)) [
           | inl lt ↦
-              let old : slice_get fs i ≡ Some g = slice_get-get_or fs i g lt ∙ ap Some (sym (get_or_append_left fs (f ∷ []) g i lt) ∙ here) in
-              let inside : i < length ns = omega (arith, s.as_long) in
-              let same : tree (ns ++ n ∷ []) i ≡ tree ns i = tree-append ns (n ∷ []) i inside in
-              let known : IsFactsOf ns i g = s.facts_are i g old in
-              record { len = known.len ∙ ap leaves (sym same); height_is = known.height_is ∙ ap height (sym same) }
+              let old : slice_get xs i ≡ Some y = slice_get-get_or xs i y lt ∙ ap Some (sym (get_or_append_left xs (x ∷ []) y i lt) ∙ here) in
+              let inside : i < length ns = omega (arith, a.as_long) in
+              a.each i y old ∙ ap f (sym (tree-append ns (n ∷ []) i inside))
           | inr ge ↦
-              let e : length ns ≡ i = omega (arith, length-append fs (f ∷ []), s.as_long) in
-              let e2 : length fs ≡ i = omega (arith, s.as_long) in
-              let new : f ≡ g = sym (get_or_push fs f g i e2) ∙ here in
+              let e : length ns ≡ i = omega (arith, length-append xs (x ∷ []), a.as_long) in
+              let e2 : length xs ≡ i = omega (arith, a.as_long) in
+              let new : y ≡ x = sym here ∙ get_or_push xs x y i e2 in
               let top : tree (ns ++ n ∷ []) i ≡ node_tree (trees ns) n = subst (λ k. tree (ns ++ n ∷ []) k ≡ node_tree (trees ns) n) e (tree-push ns n) in
-              record { len = ap (λ y. y.len) (sym new) ∙ (x.len ∙ ap leaves (sym top)); height_is = ap (λ y. y.height) (sym new) ∙ (x.height_is ∙ ap height (sym top)) }
+              new ∙ (is ∙ ap f (sym top))
         ]
+
+pub IsStored-push : (ns : List Node) (lens heights : List ℕ) (n : Node) (f : Facts) → IsStored ns lens heights → IsNext ns n f → IsStored (ns ++ n ∷ []) (lens ++ f.len ∷ []) (heights ++ f.height ∷ [])
+IsStored-push ns lens heights n f s x = record {
+  sound = IsSound-push ns n s.sound x.below x.balanced x.short;
+  bytes = λ i m h. elim (slice_get-push ns n m i h) [ inl old ↦ s.bytes i m old.1 | inr new ↦ subst IsOfByte new.1 x.byte ];
+  lens_are = AreOfTrees-push leaves ns lens n f.len s.lens_are x.len;
+  heights_are = AreOfTrees-push height ns heights n f.height s.heights_are x.height_is;
+}
 
 -- a node that is there, before or after it was added last
 pub tree-kept : (ns : List Node) (n : Node) (i : ℕ) → IsSound ns → slice_get (ns ++ n ∷ []) i ≡ Some n → tree (ns ++ n ∷ []) i ≡ node_tree (trees ns) n
@@ -87,15 +92,19 @@ new-added eq same ns n d i h =
     let e : i ≡ length ns = distinct-at eq same (ns ++ n ∷ []) d i (length ns) n at top in
     omega arith
 
+-- what stands at a place
+pub at-place : (f : Tree → ℕ) (ns : List Node) (xs : List ℕ) (i x : ℕ) → AreOfTrees f ns xs → i < length ns → x ≡ get_or xs i x → x ≡ f (tree ns i)
+at-place f ns xs i x a h e =
+    let inside : i < length xs = omega (arith, a.as_long) in
+    a.each i x (slice_get-get_or xs i x inside ∙ ap Some (sym e))
+
 -- a height at a place, with what the tree has of bytes
-pub facts-height : (ns : List Node) (fs : List Facts) (i : ℕ) (f : Facts) → IsStored ns fs → i < length ns → f ≡ get_or fs i f → IsHeightOf (tree ns i) f.height
-facts-height ns fs i f s h e =
-    let inside : i < length fs = omega (arith, s.as_long) in
-    let at : slice_get fs i ≡ Some f = slice_get-get_or fs i f inside ∙ ap Some (sym e) in
-    let is : f.height ≡ height (tree ns i) = (s.facts_are i f at).height_is in
-    let bal : IsBalanced (tree ns i) = s.sound.balanced i h in
+pub height-at : (ns : List Node) (lens heights : List ℕ) (i h : ℕ) → IsStored ns lens heights → i < length ns → h ≡ get_or heights i h → IsHeightOf (tree ns i) h
+height-at ns lens heights i h s within e =
+    let is : h ≡ height (tree ns i) = at-place height ns heights i h s.heights_are within e in
+    let bal : IsBalanced (tree ns i) = s.sound.balanced i within in
     record {
       enough = subst (λ g. fibonacci (g + 2) ≤ leaves (tree ns i)) (sym is) (height-enough (tree ns i) bal);
       limit = omega (arith, is, height-by_leaves (tree ns i) bal);
-      low = omega (arith, is, height-most (tree ns i) bal (s.sound.short i h));
+      low = omega (arith, is, height-most (tree ns i) bal (s.sound.short i within));
     }

@@ -1,22 +1,22 @@
 -- What is true of the fields of each store.
 use Rattle.std.specs.Prelude.{◌≡◌, ◌≢◌, ℕ, ◌^◌, ◌≤◌, ◌⊎◌, List, [], ◌∷◌, ◌++◌, length, slice_get, Some}
 use Rattle.slp_model.specs.declared.Node.{Node}
-use Rattle.slp_model.specs.Tree.{leaves, height, IsBalanced}
+use Rattle.slp_model.specs.Tree.{Tree, leaves, height, IsBalanced}
 use Rattle.slp_model.specs.Distinct.{AreOfBytes, IsOfByte}
 use Rattle.slp_model.specs.Nodes.{tree, trees, node_tree, IsSound, IsBelow}
 use Rattle.node_store.specs.declared.Facts.{Facts}
 
--- the facts of the node with index i
-pub record IsFactsOf (ns : List Node) (i : ℕ) (f : Facts) : Type 0 where
-  pub len : f.len ≡ leaves (tree ns i)
-  pub height_is : f.height ≡ height (tree ns i)
+-- each of the nodes has here what f says of its tree
+pub record AreOfTrees (f : Tree → ℕ) (ns : List Node) (xs : List ℕ) : Type 0 where
+  pub as_long : length xs ≡ length ns
+  pub each : (i x : ℕ) → slice_get xs i ≡ Some x → x ≡ f (tree ns i)
 
--- the nodes are sound, and the facts are theirs
-pub record IsStored (ns : List Node) (facts : List Facts) : Type 0 where
+-- the nodes are sound, and these are the lengths of their texts and their heights
+pub record IsStored (ns : List Node) (lens heights : List ℕ) : Type 0 where
   pub sound : IsSound ns
   pub bytes : AreOfBytes ns
-  pub as_long : length facts ≡ length ns
-  pub facts_are : (i : ℕ) (f : Facts) → slice_get facts i ≡ Some f → IsFactsOf ns i f
+  pub lens_are : AreOfTrees leaves ns lens
+  pub heights_are : AreOfTrees height ns heights
 
 -- a node that may follow ns, with its facts
 pub record IsNext (ns : List Node) (n : Node) (f : Facts) : Type 0 where

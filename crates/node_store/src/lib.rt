@@ -1,4 +1,22 @@
 //! Nodes kept once each, with the length and the height of the text below them.
+//!
+//! ```text
+//! let mut store = Store::new(alloc);
+//! let a = store.byte(b'a')?;
+//! let twice = store.pair(a, a, &mut pairs)?;               // the text `aa`; asked for again, the same id
+//! assert_eq!((store.len(twice), store.height(twice)), (2, 1));
+//! ```
+//!
+//! All texts stand in one store, and a stretch that comes again, in one text or in many, costs nothing a second time.
+//! Nodes are only added and never change, so an id means the same text ever after.
+//!
+//! `byte` and `pair` take expected constant time, amortized where the store grows, the other calls on a node constant
+//! time, and `thin` linear time. The first node takes a table of guesses where nodes stand, 2 MiB. A node takes 36
+//! bytes where the vectors are full: 12 itself, 9 its length and height, and 15 in the index. Full vectors double.
+//!
+//! Nodes that are made once each are hash consing (A. Ershov, *On programming of arithmetic operations*, 1958). That
+//! the trees are balanced is from M. L. Schmid and N. Schweikardt, *Query evaluation over SLP-represented document
+//! databases with complex document editing*, PODS 2022.
 #![tactic(auto)]
 
 ghost use Rattle.std.specs.Prelude.{◌≡◌, ◌+◌, ◌^◌, ◌<◌, ◌≤◌, [], length, slice_get, IfSome, IfOk, OnErr, Some};
@@ -13,11 +31,12 @@ ghost use Rattle.node_store.specs.Stored.{IsNext, IsKept};
 
 mod hints;
 mod moves;
+mod nodes;
 mod thin;
 
 use hints::Hints;
-use indexmap::IndexSet;
 pub use moves::Moves;
+use nodes::Nodes;
 pub use slp_model::{Node, NodeId};
 use span_types::{NoMemory, Steps};
 use std::alloc::Global;
@@ -32,12 +51,18 @@ pub(crate) struct Facts {
     pub(crate) height: u8,
 }
 
-/// The nodes of a straight-line program in the order in which they came, each once. A child comes
-/// before its parent, and nodes never change.
+/// The nodes of a straight-line program in the order in which they came, each once. A child comes before its parent,
+/// and nodes never change.
+///
+/// Without a node it takes no memory. The first node that `byte` or `pair` adds takes a table of 2^18 guesses of 8
+/// bytes each, 2 MiB; where there is no memory for it, calls go on without. Beside that a node takes 36 bytes where
+/// the vectors are full. Full vectors are doubled, and the old one stands until the new one is filled. There are at
+/// most 9·2^28 nodes.
 #[derive(Drop)]
 pub struct Store {
-    nodes: IndexSet<Node>,
-    facts: Vec<Facts>,
+    nodes: Nodes,
+    lens: Vec<u64>,
+    heights: Vec<u8>,
     hints: Hints,
 }
 
@@ -49,9 +74,9 @@ impl Model for Store {
 
     ghost use Rattle.node_store.specs.Stored.{IsStored};
 
-    ghost view = { λ s. s.nodes.keys };
+    ghost view = { λ s. s.nodes };
 
-    ghost invariant = { λ s. IsStored s.nodes.keys s.facts.items };
+    ghost invariant = { λ s. IsStored s.nodes s.lens.items s.heights.items };
 }
 
 impl Store {
@@ -60,8 +85,9 @@ impl Store {
         ensures { result ≡ [] }
     {
         Store {
-            nodes: IndexSet::new(alloc),
-            facts: Vec::new(alloc),
+            nodes: Nodes::new(alloc),
+            lens: Vec::new(alloc),
+            heights: Vec::new(alloc),
             hints: Hints::new(alloc),
         }
     }
@@ -84,7 +110,7 @@ impl Store {
         ensures tree { IsNodeAt self.now id.index result }
         ensures balanced { IsBalanced (tree self.now id.index) }
     {
-        self.nodes.as_slice()[id.index]
+        self.nodes.at(id.index)
     }
 
     /// How many bytes the node's text has, at most 2^48.
@@ -94,7 +120,7 @@ impl Store {
         ensures short { result ≤ 2 ^ 48 }
         ensures balanced { IsBalanced (tree self.now id.index) }
     {
-        self.facts[id.index].len
+        self.lens[id.index]
     }
 
     /// The height of the node's tree: 0 for a byte, and for a pair one more than the higher of its
@@ -107,7 +133,7 @@ impl Store {
         ensures low { result ≤ 68 }
         ensures balanced { IsBalanced (tree self.now id.index) }
     {
-        self.facts[id.index].height
+        self.heights[id.index]
     }
 
     /// The two children of a node that isn't a byte.
@@ -126,7 +152,11 @@ impl Store {
         }
     }
 
-    /// The id of the byte's node, which is added last where it isn't there.
+    /// The id of the byte's node, which is added last where it isn't there. It takes expected constant time.
+    ///
+    /// # Errors
+    ///
+    /// `NoMemory` where none was found; the store is then as before.
     pub fn byte(&mut self, b: u8) -> Result<NodeId, NoMemory>
         ensures grows { Grows self.old self.new 0 0 }
         ensures kept { IsKept self.old self.new (Node.Byte b) }
@@ -143,10 +173,14 @@ impl Store {
         self.intern(node, facts)
     }
 
-    /// The id of the pair, which is added last where it isn't there. It is one step, and takes
-    /// constant time but where the store grows.
+    /// The id of the pair, which is added last where it isn't there. It is one step, and takes expected constant time,
+    /// amortized where the store grows.
     ///
     /// The children's heights differ by at most one, and the text has at most 2^48 bytes.
+    ///
+    /// # Errors
+    ///
+    /// `NoMemory` where none was found, or no further node fits; the store is then as before, and the step is counted.
     pub fn pair<L: Ledger>(
         &mut self,
         left: NodeId,
@@ -184,8 +218,7 @@ impl Store {
         ensures tree { IfSome result (λ id. tree self.now id.index ≡ node_tree (trees self.now) node) }
     {
         let index = self.hints.guess(node)?;
-        let nodes = self.nodes.as_slice();
-        if index < nodes.len() && nodes[index] == node {
+        if index < self.nodes.len() && self.nodes.at(index) == node {
             return Some(NodeId { index });
         }
         None
@@ -213,8 +246,9 @@ impl Store {
         ensures { IfOk result (λ store. store ≡ []) }
     {
         Ok(Store {
-            nodes: IndexSet::with_capacity(alloc, count)?,
-            facts: Vec::with_capacity(alloc, count)?,
+            nodes: Nodes::with_capacity(alloc, count)?,
+            lens: Vec::with_capacity(alloc, count)?,
+            heights: Vec::with_capacity(alloc, count)?,
             hints: Hints::new(alloc),
         })
     }
@@ -242,10 +276,12 @@ impl Store {
         ensures tree { IfOk result (λ id. tree self.new id.index ≡ node_tree (trees self.old) node) }
         ensures err { OnErr result (self.new ≡ self.old) }
     {
-        self.facts.reserve(1).map_err(|_| NoMemory)?;
-        let (index, added) = self.nodes.insert_full(node).map_err(|_| NoMemory)?;
+        self.lens.reserve(1).map_err(|_| NoMemory)?;
+        self.heights.reserve(1).map_err(|_| NoMemory)?;
+        let (index, added) = self.nodes.insert(node)?;
         if added {
-            self.facts.push_reserved(facts);
+            self.lens.push_reserved(facts.len);
+            self.heights.push_reserved(facts.height);
         }
         Ok(NodeId { index })
     }

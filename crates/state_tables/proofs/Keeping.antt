@@ -1,5 +1,5 @@
 -- Each distinct table once.
-use Rattle.std.proofs.Common.{zero, suc, ◌≡◌, ℕ, ◌<◌, ◌≤◌, Bool, true, false, ◌&&◌, nat_eq, refl, sym, subst, arith, inl, inr, List, [], ◌∷◌, ◌++◌, length, length-append, get_or, Option, Some, None, slice_get}
+use Rattle.std.proofs.Common.{zero, suc, ◌≡◌, ℕ, ◌+◌, ◌<◌, ◌≤◌, ◌^◌, Bool, true, false, ◌&&◌, nat_eq, refl, ap, sym, subst, arith, inl, inr, List, [], ◌∷◌, ◌++◌, length, length-append, get_or, Option, Some, None, slice_get}
 use Rattle.std.specs.Prelude.{if◌then◌else◌}
 use Rattle.std.specs.Option.{option_eq}
 use Rattle.std.specs.List.{IsDistinct}
@@ -45,6 +45,10 @@ longer : (kept : List (List Row)) (t : List Row) (b : Bool) → length kept ≤ 
 longer kept t true = omega arith
 longer kept t false = omega (arith, length-append kept (t ∷ []))
 
+no-longer : (kept : List (List Row)) (t : List Row) (b : Bool) → length (if b then kept else kept ++ t ∷ []) ≤ length kept + 1
+no-longer kept t true = omega arith
+no-longer kept t false = omega (arith, length-append kept (t ∷ []))
+
 shapes : (states : ℕ) (kept : List (List Row)) (t : List Row) (b : Bool) (n : ℕ) → ((n : ℕ) → n < length kept → IsTableOf states (get_or kept n [])) → IsTableOf states t
     → n < length (if b then kept else kept ++ t ∷ []) → IsTableOf states (get_or (if b then kept else kept ++ t ∷ []) n [])
 shapes states kept t true n old new h = old n h
@@ -55,9 +59,10 @@ shapes states kept t false n old new h = elim (cases_lt n (length kept)) [
 
 -- a table is kept
 pub IsDictionary-keep : (d : Dictionary) (kept : List (List Row)) (t : List Row) (b : Bool) → IsDictionary d → IsTableOf d.states t
-    → kept ≡ (if b then d.kept else d.kept ++ t ∷ []) → IsDistinct table_eq kept → IsDictionary (record d { kept = kept })
-IsDictionary-keep d kept t b is shape e apart = record {
+    → kept ≡ (if b then d.kept else d.kept ++ t ∷ []) → IsDistinct table_eq kept → length d.kept < 2 ^ 32 → IsDictionary (record d { kept = kept })
+IsDictionary-keep d kept t b is shape e apart room = record {
   few = is.few;
+  narrow = omega (arith, ap length e, no-longer d.kept t b, room);
   numbers_kept = λ id h. subst (λ k. number_of d id < length k) (sym e) (omega (arith, is.numbers_kept id h, longer d.kept t b));
   shapes = λ n h. subst (λ k. IsTableOf d.states (get_or k n [])) (sym e) (shapes d.states d.kept t b n is.shapes shape (subst (λ k. n < length k) e h));
   distinct = distinct-tables kept apart;

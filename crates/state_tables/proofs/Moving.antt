@@ -100,6 +100,7 @@ module _ (old : List ℕ) (ks : List Bool) (i : ℕ) (now : List ℕ) (k : ℕ) 
 pub IsDictionary-kept : (d : Dictionary) (ks : List Bool) (numbers : List ℕ) (room : ℕ) → IsDictionary d → numbers ≡ kept_numbers d.numbers ks → IsDictionary (record d { numbers = numbers; room = room })
 IsDictionary-kept d ks numbers room is e = record {
   few = is.few;
+  narrow = is.narrow;
   numbers_kept = λ j lt.
       let o = kept-back d.numbers ks j (subst (λ (xs : List ℕ). j < length xs) e lt) in
       subst (λ (xs : List ℕ). get_or xs j 0 < length d.kept) (sym e) (subst (λ n. n < length d.kept) (sym o.number) (is.numbers_kept o.place o.within));

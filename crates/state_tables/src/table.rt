@@ -125,7 +125,11 @@ fn composed(unmarked: Option<u8>, marked: u128, right: &Table) -> u128
     }
 }
 
-/// The table of two texts joined, from the tables of the two.
+/// The table of two texts joined, from the tables of the two. It takes time at most quadratic in the states.
+///
+/// # Errors
+///
+/// `NoMemory` where none was found for the table.
 pub fn compose(alloc: Global, left: &Table, right: &Table) -> Result<Table, NoMemory>
     requires { length left.now ≡ length right.now }
     ensures value { IfOk result (λ t. t ≡ compose_of left.now right.now) }
@@ -167,7 +171,12 @@ fn reached_by_marks(dfa: &Dfa, p: u8, byte: u8) -> u128
     all
 }
 
-/// The table of one byte.
+/// The table of one byte. It asks for the automaton's next state once for each state and each mark that leads on
+/// there.
+///
+/// # Errors
+///
+/// `NoMemory` where none was found for the table.
 pub fn of_byte(alloc: Global, dfa: &Dfa, byte: u8) -> Result<Table, NoMemory>
     ensures { IfOk result (λ t. IsTable dfa.now (byte ∷ []) t) }
 {

@@ -19,12 +19,15 @@ use std::alloc::Global;
 use std::marker::Model;
 use std::sync::ledger::Ledger;
 
+// The most tables that are kept, so that a number takes 32 bits.
+const MAX_TABLES: usize = 1 << 32;
+
 /// Each distinct table once, under a number from 0, and for each node the number of its table.
 #[derive(Drop)]
 pub struct Tables {
     states: u8,
     kept: IndexSet<Table>,
-    numbers: Vec<usize>,
+    numbers: Vec<u32>,
 }
 
 impl Model for Tables {
@@ -72,7 +75,7 @@ impl Tables {
         ensures number { result ≡ number_of self.now id.index }
         ensures kept { result < distinct_of self.now }
     {
-        self.numbers[id.index]
+        self.numbers[id.index] as usize
     }
 
     /// The kept table with this number.
@@ -93,6 +96,10 @@ impl Tables {
 
     /// The number of an equal kept table, else the table is added last. It takes time linear in the states, and expected
     /// constant time beside that. No node's table changes.
+    ///
+    /// # Errors
+    ///
+    /// `NoMemory` where none was found; the tables are then as before.
     pub fn keep(&mut self, table: Table) -> Result<usize, NoMemory>
         requires { length table ≡ self.old.states }
         ensures number { IfOk result (λ n. (n < distinct_of self.new) × (kept_of self.new n ≡ table)) }
@@ -102,6 +109,9 @@ impl Tables {
         ensures err { OnErr result (self.new ≡ self.old) }
     {
         let _ = table.states();
+        if self.kept.len() >= MAX_TABLES {
+            return Err(NoMemory);
+        }
         let Ok((number, _)) = self.kept.insert_full(table) else {
             return Err(NoMemory);
         };
@@ -109,6 +119,10 @@ impl Tables {
     }
 
     /// Makes room for so many further nodes.
+    ///
+    /// # Errors
+    ///
+    /// `NoMemory` where none was found; the tables are then as before.
     pub fn reserve(&mut self, more: usize) -> Result<(), NoMemory>
         ensures ok { OnOk result (more ≤ self.new.room) }
         ensures room { self.old.room ≤ self.new.room }
@@ -126,7 +140,7 @@ impl Tables {
         ensures step { places.new ≡ places.old + 1 }
     {
         places.tick();
-        self.numbers.push_reserved(number);
+        self.numbers.push_reserved(number as u32);
     }
 
     /// Leaves the tables of the kept nodes alone, each under its node's new id, where the store becomes that of the kept

@@ -20,7 +20,7 @@ use std::sync::ledger::Ledger;
 #[derive(Drop)]
 pub struct Filler {
     known: usize,
-    places: Vec<Option<usize>>,
+    places: Vec<Option<u32>>,
 }
 
 impl Model for Filler {
@@ -74,7 +74,7 @@ impl Filler {
             return tables.number(id);
         }
         match self.places[id.index - self.known] {
-            Some(number) => number,
+            Some(number) => number as usize,
             None => unreachable!(),
         }
     }
@@ -112,14 +112,16 @@ impl Filler {
         }
     }
 
-    // Gives the new node this number.
-    fn set(&mut self, id: NodeId, number: usize)
+    // Gives the new node this number of a kept table.
+    fn set(&mut self, tables: &Tables, id: NodeId, number: usize)
+        requires kept { number < distinct_of tables.now }
         requires new { self.old.known ≤ id.index }
         requires live { id.index < self.old.known + length self.old.places }
         ensures { self.new ≡ with_place self.old id.index number }
     {
+        let _ = tables.count();
         let place = id.index - self.known;
-        self.places[place] = Some(number);
+        self.places[place] = Some(number as u32);
     }
 
     /// Gives a new node, which isn't placed yet and whose children are old or placed, the kept table of this number. It
@@ -133,7 +135,7 @@ impl Filler {
         requires kept { number < distinct_of tables.now }
         ensures { self.new ≡ with_place self.old id.index number }
     {
-        self.set(id, number);
+        self.set(tables, id, number);
     }
 
     /// The same as `place`, and answers the number of the table.
@@ -155,7 +157,7 @@ impl Filler {
         ensures kept { AreKept tables.old tables.new }
     {
         let number = tables.keep(table)?;
-        self.set(id, number);
+        self.set(tables, id, number);
         Ok(number)
     }
 
@@ -198,7 +200,7 @@ impl Filler {
     {
         for place in &self.places {
             match place {
-                Some(number) => tables.push(*number, places),
+                Some(number) => tables.push(*number as usize, places),
                 None => unreachable!(),
             }
         }

@@ -1,0 +1,17 @@
+-- Nodes whose ids take 32 bits.
+use Rattle.std.specs.Prelude.{ℕ, List}
+use Rattle.std.specs.List.{IsDistinct}
+use Rattle.slp_model.specs.declared.Node.{Node}
+use Rattle.slp_model.specs.declared.Node.TheVariants as node
+use Rattle.slp_model.specs.contracts.NodePartialEq.TheImpl.{ghosts}
+use Rattle.node_store.specs.declared.nodes.Narrow.{Narrow}
+use Rattle.node_store.specs.declared.nodes.Narrow.TheVariants.{Byte, Pair}
+
+-- the node that a narrow one stands for
+abbrev pub wide : Narrow → Node
+wide (Byte b) = node.Byte b
+wide (Pair l r) = node.Pair (record { index = l }) (record { index = r })
+
+-- no two nodes are equal
+abbrev pub AreUnique : List Node → Type 0
+AreUnique ns = IsDistinct ghosts.eq ns
