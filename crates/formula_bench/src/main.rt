@@ -1,23 +1,29 @@
-//! Times the automata of the largest formulas within the limits. The figures go to standard error.
+//! Times the automata of the largest formulas within the limits, and those of the dearest queries that are made of
+//! queries. The figures go to standard error.
 //!
 //! ```text
-//! rt try        # a line for each formula: microseconds for the position automaton and for the deterministic one
+//! rt try        # a line for each formula: microseconds for the position automaton and for the deterministic one;
+//!               # for each two queries the microseconds of their union, their join and a projection
 //! ```
 //!
-//! It is no part of the database: it shows the worst that `marker_nfa` and `marker_dfa` meet, formulas of 2,048 bytes
-//! with eight variables whose marks stand between many occurrences. It takes no input, and memory for one automaton at
-//! a time.
+//! It is no part of the database: it shows the worst that `marker_nfa`, `marker_dfa` and `span_algebra` meet, formulas
+//! of 2,048 bytes with eight variables whose marks stand between many occurrences, and two automata of up to 128 states
+//! with eight variables, with products of just 128 states and of more. It takes no input, and memory for the automata of
+//! one line at a time.
 #![tactic(auto)]
+
+mod queries;
 
 use formula_syntax::read;
 use marker_dfa::determinise;
 use marker_nfa::of_formula;
+use queries::measure_queries;
 use std::alloc::{AllocError, Global};
 use std::io;
 use std::time::Instant;
 
 // Puts a text behind another so many times.
-fn repeat(out: &mut Vec<u8>, text: &[u8], times: u32) -> Result<(), AllocError> {
+pub(crate) fn repeat(out: &mut Vec<u8>, text: &[u8], times: u32) -> Result<(), AllocError> {
     for _ in 0..times {
         out.extend_from_slice(text)?;
     }
@@ -25,7 +31,7 @@ fn repeat(out: &mut Vec<u8>, text: &[u8], times: u32) -> Result<(), AllocError> 
 }
 
 // So many copies of a text, all eight variables with this between their braces, and the copies again.
-fn around(
+pub(crate) fn around(
     alloc: Global,
     side: &[u8],
     times: u32,
@@ -146,5 +152,6 @@ fn main(rt: HostRuntime) -> io::Result<()> {
         &rt,
         "126 letters, 8 of them captured or left out",
         around(alloc, b"a", 59, b"a", b"}?"),
-    )
+    )?;
+    measure_queries(&rt)
 }

@@ -1,8 +1,6 @@
 -- Classes of bytes that are cut.
 use Rattle.std.proofs.Common.{◌≡◌, ℕ, ◌+◌, ◌<◌, ◌≤◌, ◌⊎◌, inl, inr, refl, sym, ap, subst, ◌∙◌, arith, Bool, false, List, [], ◌∷◌, ◌++◌, length, length-append, Some, Contains, slice_get, slice_index_or}
 use Rattle.std.proofs.lemmas.Option.{slice_get-get_or, get_or_from_slice_get}
-use Rattle.marker_nfa.specs.Automaton.{AreLettersOf}
-use Rattle.marker_nfa.specs.declared.nfa.Edge.{Edge}
 use Rattle.marker_dfa.specs.declared.classes.ByteClasses.{ByteClasses}
 use Rattle.marker_dfa.specs.Making.{AreClasses, GoesWith, IsFiner, IsFit, IsSplitUpTo}
 use Rattle.marker_dfa.proofs.Lists.{get_push, get_within}
@@ -120,8 +118,6 @@ pub record FitsLetters (all : List (List Bool)) (n : ℕ) (classes : ByteClasses
   pub classes_are : AreClasses classes
   pub fit : (j : ℕ) (letters : List Bool) → j < n → slice_get all j ≡ Some letters → IsFit classes letters
 
--- the byte sets of the edges fit, where all do
-pub edges_fit : (edges : List Edge) (all : List (List Bool)) (n : ℕ) (classes : ByteClasses) → AreLettersOf edges all → FitsLetters all n classes → length all ≤ n → (e : Edge) → Contains edges e → IsFit classes e.letters
-edges_fit edges all n classes among h le e c =
-    let k = among e c in
-    h.fit k.0 e.letters (omega (arith, k.1, le)) (slice_get-get_or all k.0 e.letters k.1 ∙ ap Some k.2)
+-- each of the byte sets fits, once all were gone through
+pub sets_fit : (all : List (List Bool)) (n : ℕ) (classes : ByteClasses) → FitsLetters all n classes → length all ≤ n → (letters : List Bool) → Contains all letters → IsFit classes letters
+sets_fit all n classes h le letters k = h.fit k.0 letters (omega (arith, k.1, le)) (slice_get-get_or all k.0 letters k.1 ∙ ap Some k.2)

@@ -45,6 +45,10 @@ next_of d q m b = and_then (cell_of d q b) (λ c. find_target c.marks.items c.ta
 abbrev pub marks_of : DeterministicAutomaton → ℕ → ℕ → List ℕ
 marks_of d q b = marks_in (cell_of d q b)
 
+-- two bytes lead from each state to the same states, with the same marks
+abbrev pub AreAlike : DeterministicAutomaton → ℕ → ℕ → Type 0
+AreAlike d b c = (q m : ℕ) → next_of d q m b ≡ next_of d q m c
+
 -- the marks with which a text may end
 abbrev pub ends_of : DeterministicAutomaton → ℕ → List ℕ
 ends_of d q = ends_in (slice_get d.rows q)

@@ -1,11 +1,9 @@
 //! Classes of bytes that no byte set of an automaton tells apart.
 
-ghost use Rattle.std.specs.Prelude.{◌≡◌, ◌+◌, ◌≤◌, ℕ, Contains, Some, length, slice_get, IfOk, OnOk};
+ghost use Rattle.std.specs.Prelude.{◌≡◌, ◌+◌, ◌≤◌, ℕ, Bool, List, Contains, Some, length, slice_get, IfOk, OnOk};
 ghost use Rattle.std.specs.Bool.{OnTrue};
-ghost use Rattle.marker_nfa.specs.declared.nfa.Edge.{Edge};
 ghost use Rattle.marker_dfa.specs.Making.{AreClasses, GoesWith, IsFiner, IsFit, IsSplitUpTo};
 
-use marker_nfa::Nfa;
 use span_types::{ByteSet, NoMemory};
 use std::alloc::Global;
 
@@ -115,17 +113,17 @@ fn fitted(alloc: Global, classes: ByteClasses, letters: &ByteSet) -> Result<Byte
     split(alloc, &classes, letters)
 }
 
-/// Classes such that the letters of an edge have all bytes of a class or none.
+/// Classes such that each of some byte sets has all bytes of a class or none. Each set is looked at byte by byte.
 ///
 /// # Errors
 ///
 /// `NoMemory` where none was found.
-pub fn classes_of(alloc: Global, nfa: &Nfa) -> Result<ByteClasses, NoMemory>
+pub fn classes_of(alloc: Global, sets: &[ByteSet]) -> Result<ByteClasses, NoMemory>
     ensures classes { IfOk result AreClasses }
-    ensures fit { IfOk result (λ s. (e : Edge) → Contains nfa.now.edges e → IsFit s e.letters) }
+    ensures fit { IfOk result (λ s. (letters : List Bool) → Contains sets.now letters → IsFit s letters) }
 {
     let mut classes = one_class(alloc)?;
-    for letters in nfa.letters() {
+    for letters in sets {
         classes = fitted(alloc, classes, letters)?;
     }
     Ok(classes)

@@ -1,7 +1,7 @@
 //! Automata with at most one next state for each mark and byte.
 
-ghost use Rattle.std.specs.Prelude.{◌≡◌, ◌<◌, ◌+◌, Option, Some};
-ghost use Rattle.marker_dfa.specs.Deterministic.{DeterministicAutomaton, IsDeterministic, IsWide, cell_of, ends_of, find_target, marks_of, next_of, states_of};
+ghost use Rattle.std.specs.Prelude.{◌≡◌, ◌<◌, ◌+◌, ℕ, AllPairs, Option, Some, slice_get};
+ghost use Rattle.marker_dfa.specs.Deterministic.{AreAlike, DeterministicAutomaton, IsDeterministic, IsWide, cell_of, ends_of, find_target, marks_of, next_of, states_of};
 
 use std::marker::Model;
 
@@ -15,14 +15,13 @@ pub struct Cell {
 impl Cell {
     /// Where a mark leads.
     fn target(&self, mark: u16) -> Option<u8>
+        requires { AllPairs (λ x y. y < x) self.now.marks.items }
         ensures { result ≡ find_target self.now.marks.items self.now.targets.items mark }
     {
-        for (place, other) in self.marks.iter().enumerate() {
-            if *other == mark {
-                return self.targets.get(place).copied();
-            }
+        match self.marks.binary_search_by(|other| mark.cmp(other)) {
+            Ok(place) => self.targets.get(place).copied(),
+            Err(_) => None,
         }
-        None
     }
 }
 
@@ -84,7 +83,7 @@ impl Dfa {
         self.variables
     }
 
-    /// The state after a mark and a byte, if there is one. It takes one step for each mark that leads on.
+    /// The state after a mark and a byte, if there is one. It takes steps by the logarithm of how many marks lead on.
     pub fn next(&self, state: u8, mark: u16, byte: u8) -> Option<u8>
         requires { state < states_of self.now }
         ensures { result ≡ next_of self.now state mark byte }
@@ -108,12 +107,20 @@ impl Dfa {
         &self.rows[state as usize].ends
     }
 
+    /// The class of a byte. Bytes of one class lead from each state to the same states, with the same marks.
+    pub fn class(&self, byte: u8) -> u8
+        ensures value { slice_get self.now.classes byte ≡ Some result }
+        ensures alike { (other : ℕ) → slice_get self.now.classes other ≡ Some result → AreAlike self.now byte other }
+    {
+        self.classes[byte as usize]
+    }
+
     /// The cell of a state and a byte.
     fn cell(&self, state: u8, byte: u8) -> &Cell
         requires { state < states_of self.now }
-        ensures { cell_of self.now state byte ≡ Some result.now }
+        ensures value { cell_of self.now state byte ≡ Some result.now }
+        ensures automaton { IsDeterministic self.now }
     {
-        let class = self.classes[byte as usize];
-        &self.rows[state as usize].cells[class as usize]
+        &self.rows[state as usize].cells[self.class(byte) as usize]
     }
 }

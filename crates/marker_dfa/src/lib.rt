@@ -17,6 +17,7 @@
 
 ghost use Rattle.std.specs.Prelude.{◌≡◌, ◌≤◌, Bool, List, IfOk};
 ghost use Rattle.span_types.specs.FormulaTree.{Set, tree_of};
+ghost use Rattle.marker_nfa.specs.Automaton.{AreLettersOf};
 ghost use Rattle.marker_nfa.specs.Occurrences.{IsWithinLimits};
 ghost use Rattle.marker_dfa.specs.Deterministic.{AcceptsSame, StandsFor};
 ghost use Rattle.marker_dfa.specs.Refusals.{IfTooMany};
@@ -35,6 +36,7 @@ use classes::classes_of;
 pub use dfa::Dfa;
 use marker_nfa::Nfa;
 pub use refusal::DfaRefusal;
+use span_types::ByteSet;
 use std::alloc::Global;
 use subsets::rows_of;
 
@@ -54,8 +56,24 @@ pub fn determinise(alloc: Global, nfa: &Nfa) -> Result<Dfa, DfaRefusal>
     ensures few { IfOk result (λ _. AreTooMany nfa.now → ⊥) }
     ensures too_many { IfTooMany result (AreTooMany nfa.now) }
 {
+    determinise_over(alloc, nfa, nfa.letters())
+}
+
+/// What `determinise` gives, where some byte sets are known among which are those of all edges. The classes of bytes are
+/// found by these, and not by the set of each edge, so it is for automata with many edges and few byte sets.
+///
+/// # Errors
+///
+/// `TooManyStates` exactly where more than 128 sets of states are reached, and `NoMemory`.
+pub fn determinise_over(alloc: Global, nfa: &Nfa, letters: &[ByteSet]) -> Result<Dfa, DfaRefusal>
+    requires { AreLettersOf nfa.now.edges letters.now }
+    ensures states { IfOk result (StandsFor nfa.now) }
+    ensures accepts { IfOk result (AcceptsSame nfa.now) }
+    ensures few { IfOk result (λ _. AreTooMany nfa.now → ⊥) }
+    ensures too_many { IfTooMany result (AreTooMany nfa.now) }
+{
     let variables = nfa.variables();
-    let classes = classes_of(alloc, nfa)?;
+    let classes = classes_of(alloc, letters)?;
     let rows = rows_of(alloc, nfa, &classes.firsts)?;
     Ok(Dfa::from_rows(variables, classes.of, rows))
 }
@@ -64,7 +82,7 @@ pub fn determinise(alloc: Global, nfa: &Nfa) -> Result<Dfa, DfaRefusal>
 mod tests {
     use super::*;
     use marker_nfa::of_formula;
-    use span_types::{ByteSet, Formula, NoMemory};
+    use span_types::{Formula, NoMemory};
     use std::test::Fail;
 
     fn letters(bytes: &[u8]) -> Formula

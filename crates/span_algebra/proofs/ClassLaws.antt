@@ -1,43 +1,14 @@
 -- Classes of bytes.
-use Rattle.std.proofs.Common.{◌≡◌, ℕ, ◌+◌, ◌<◌, ◌≤◌, ◌==◌, ◌⊎◌, inl, inr, Bool, true, false, List, [], ◌∷◌, ◌++◌, length, replicate, Option, Some, None, Contains, set, slice_get, slice_index_or, get_or, refl, sym, ap, subst, ◌∙◌, arith, get_or-set_other, get_or-set_same}
-use Rattle.std.proofs.lemmas.List.{get_or_default, length-replicate, get_or_past}
+use Rattle.std.proofs.Common.{◌≡◌, ℕ, ◌+◌, ◌<◌, ◌≤◌, ◌==◌, ◌⊎◌, inl, inr, Bool, true, false, List, [], ◌∷◌, ◌++◌, length, replicate, Some, Contains, set, slice_get, slice_index_or, get_or, refl, sym, ap, subst, ◌∙◌, arith, get_or-set_other, get_or-set_same}
+use Rattle.std.proofs.lemmas.List.{length-replicate, get_or_past}
 use Rattle.std.proofs.Math.ListN.{length-set}
 use Rattle.std.proofs.lemmas.Bool.Decides.{eqb_tells}
 use Rattle.std.proofs.lemmas.Option.{slice_get_within, get_or_from_slice_get}
-use Rattle.marker_dfa.specs.Deterministic.{DeterministicAutomaton, IsDeterministic, marks_of, next_of, states_of}
+use Rattle.marker_dfa.specs.Deterministic.{AreAlike, DeterministicAutomaton, next_of}
 use Rattle.marker_dfa.proofs.Lists.{contains_push}
 use Rattle.marker_dfa.proofs.Tracks.{blank_out}
 use Rattle.span_algebra.specs.declared.classes.Class.{Class}
-use Rattle.span_algebra.specs.Making.{AreAlike, AreClassesUpTo}
-use Rattle.span_algebra.proofs.CopyLaws.{step-within}
-
-pub alike-from : (a : DeterministicAutomaton) (q b c : ℕ) → IsDeterministic a → marks_of a q b ≡ marks_of a q c
-    → ((k : ℕ) → k < length (marks_of a q b) → next_of a q (get_or (marks_of a q b) k 0) b ≡ next_of a q (get_or (marks_of a q b) k 0) c)
-    → (m : ℕ) → next_of a q m b ≡ next_of a q m c
-alike-from a q b c det e h m = by (next_of a q m b) refl
-  where
-    other : (o : Option ℕ) → next_of a q m c ≡ o → next_of a q m b ≡ None → next_of a q m b ≡ next_of a q m c
-    other None g n = n ∙ sym g
-    other (Some r) g n =
-        let there = (det.marks q c m).1 (r, g) in
-        let here = (det.marks q b m).0 (subst (λ (l : List ℕ). Contains l m) (sym e) there) in
-        let bad : None ≡ Some here.0 = sym n ∙ here.1 in
-        absurd (cc)
-
-    by : (o : Option ℕ) → next_of a q m b ≡ o → next_of a q m b ≡ next_of a q m c
-    by None g = other (next_of a q m c) refl g
-    by (Some r) g =
-        let c1 = (det.marks q b m).1 (r, g) in
-        let at : get_or (marks_of a q b) c1.0 0 ≡ m = get_or_default (marks_of a q b) c1.0 0 m c1.1 ∙ c1.2 in
-        subst (λ (x : ℕ). next_of a q x b ≡ next_of a q x c) at (h c1.0 c1.1)
-
-pub alike-all : (a : DeterministicAutomaton) (b c n : ℕ) → n ≡ states_of a → ((q : ℕ) → q < n → (m : ℕ) → next_of a q m b ≡ next_of a q m c) → AreAlike a b c
-alike-all a b c n count h q m = by (next_of a q m b) refl (next_of a q m c) refl
-  where
-    by : (x : Option ℕ) → next_of a q m b ≡ x → (y : Option ℕ) → next_of a q m c ≡ y → next_of a q m b ≡ next_of a q m c
-    by None e None f = e ∙ sym f
-    by (Some r) e y f = h q (omega (arith, count, step-within a q m b r e)) m
-    by None e (Some r) f = h q (omega (arith, count, step-within a q m c r f)) m
+use Rattle.span_algebra.specs.Making.{AreClassesUpTo}
 
 cases : (b n : ℕ) → b < n + 1 → (b < n) ⊎ (b ≡ n)
 cases b n lt = grind arith

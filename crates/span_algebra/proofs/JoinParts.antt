@@ -3,14 +3,14 @@ use Rattle.std.proofs.Common.{◌≡◌, ℕ, ◌/◌, ◌%◌, ◌^◌, ◌<◌
 use Rattle.marker_nfa.specs.declared.nfa.Edge.{Edge}
 use Rattle.marker_nfa.specs.declared.nfa.End.{End}
 use Rattle.marker_nfa.specs.Automaton.{Automaton, Moves, MayEnd, IsAutomaton, IsMarked}
-use Rattle.marker_dfa.specs.Deterministic.{DeterministicAutomaton, IsDeterministic, ends_of}
+use Rattle.marker_dfa.specs.Deterministic.{AreAlike, DeterministicAutomaton, IsDeterministic, ends_of}
 use Rattle.marker_dfa.proofs.Lists.{at_contains, contains_at, get_within}
 use Rattle.span_algebra.specs.declared.classes.Class.{Class}
 use Rattle.span_algebra.specs.declared.joints.Joint.{Joint}
 use Rattle.span_algebra.specs.declared.joints.Meeting.{Meeting}
 use Rattle.span_algebra.specs.Renaming.{both_names, mark_for}
 use Rattle.span_algebra.specs.Joints.{IsJointAmong, IsMeeting}
-use Rattle.span_algebra.specs.Making.{AreAlike, AreClasses}
+use Rattle.span_algebra.specs.Making.{AreClasses}
 use Rattle.span_algebra.specs.Pairs.{IsNumbered}
 use Rattle.span_algebra.specs.Products.{AreFound, HasNumbered, IsJoinNfa, IsPairEnd}
 use Rattle.span_algebra.specs.TreeAutomaton.{JoinEnd, JoinStep, join_size, pair_of}

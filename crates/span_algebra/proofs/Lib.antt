@@ -29,3 +29,4 @@ pub mod TreeAutomata
 pub mod TreeCounts
 pub mod TreeRows
 pub mod TreeCalls
+pub mod LetterLaws

@@ -1,16 +1,12 @@
 -- How an operation's automaton is made.
-use Rattle.std.specs.Prelude.{◌≡◌, ℕ, ◌+◌, ◌*◌, ◌/◌, ◌%◌, ◌^◌, ◌<◌, false, true, List, [], ◌∷◌, length, Option, Some, None, slice_get, slice_index_or, Contains}
+use Rattle.std.specs.Prelude.{◌≡◌, ℕ, ◌+◌, ◌*◌, ◌/◌, ◌%◌, ◌^◌, ◌<◌, false, true, Bool, List, [], ◌∷◌, length, map, Option, Some, None, slice_get, slice_index_or, Contains}
 use Rattle.marker_nfa.specs.declared.nfa.Edge.{Edge}
 use Rattle.marker_nfa.specs.declared.nfa.End.{End}
 use Rattle.marker_nfa.specs.Automaton.{Automaton, Moves, MayEnd}
-use Rattle.marker_dfa.specs.Deterministic.{DeterministicAutomaton, next_of, ends_of, states_of}
+use Rattle.marker_dfa.specs.Deterministic.{AreAlike, DeterministicAutomaton, next_of, ends_of, states_of}
 use Rattle.span_algebra.specs.declared.classes.Class.{Class}
 use Rattle.span_algebra.specs.Renaming.{both_names, mark_for}
 use Rattle.span_algebra.specs.TreeAutomaton.{IsAt, ProjectEnd, ProjectStep, UnionEnd, UnionStep, union_size}
-
--- two bytes lead to the same states
-abbrev pub AreAlike : DeterministicAutomaton → ℕ → ℕ → Type 0
-AreAlike a b c = (q m : ℕ) → next_of a q m b ≡ next_of a q m c
 
 -- the bytes of each class are alike, the first one among them, and each of the first n bytes has a class
 pub record AreClassesUpTo (n : ℕ) (a : DeterministicAutomaton) (classes : List Class) : Type 0 where
@@ -22,6 +18,10 @@ pub record AreClassesUpTo (n : ℕ) (a : DeterministicAutomaton) (classes : List
 -- the same of all bytes
 abbrev pub AreClasses : DeterministicAutomaton → List Class → Type 0
 AreClasses a classes = AreClassesUpTo 256 a classes
+
+-- the byte sets of classes
+abbrev pub letters_of : List Class → List (List Bool)
+letters_of classes = map (λ c. c.letters) classes
 
 -- the digit of a mark at a place, if there is one
 abbrev pub digit_at : Option ℕ → ℕ → ℕ

@@ -9,7 +9,6 @@ use Rattle.span_algebra.specs.declared.exploring.Explored.{Explored}
 use Rattle.span_algebra.specs.declared.joints.Joint.{Joint}
 use Rattle.span_algebra.specs.declared.joints.Meeting.{Meeting}
 use Rattle.marker_nfa.specs.Automaton.{Automaton, Moves, MayEnd}
-use Rattle.span_algebra.specs.Making.{AreClasses}
 use Rattle.span_algebra.specs.Joints.{AreShortWith, IsJointAmong}
 use Rattle.span_algebra.specs.Pairs.{AreFew}
 use Rattle.span_algebra.specs.Reached.{IsReached}
@@ -86,11 +85,8 @@ pub record HasNumbered (n : ℕ) (Step : ℕ → ℕ → ℕ → ℕ → Type 0)
   pub end_to : (i m : ℕ) → MayEnd a i m → (o : ℕ) × (slice_get pairs i ≡ Some o) × End o m
   pub end_from : (i o m : ℕ) → slice_get pairs i ≡ Some o → End o m → MayEnd a i m
 
--- the pairs that a join reaches, and their edges by classes of bytes that neither side tells apart
-pub record IsExplored (a : DeterministicAutomaton) (va : List (List ℕ)) (b : DeterministicAutomaton) (vb : List (List ℕ)) (x : Explored) : Type 0 where
-  pub classes : List Class
-  pub of_left : AreClasses a classes
-  pub of_right : AreClasses b classes
+-- the pairs that a join reaches, and their edges by classes of bytes
+pub record IsExplored (a : DeterministicAutomaton) (va : List (List ℕ)) (b : DeterministicAutomaton) (vb : List (List ℕ)) (classes : List Class) (x : Explored) : Type 0 where
   pub found : AreFound a b (join_size a) (JoinStep a va b vb) classes (length x.pairs.items) x.pairs.items x.edges.items
 
 -- an automaton of a join's reached pairs

@@ -1,8 +1,8 @@
 //! Bytes that automata never tell apart.
 
-ghost use Rattle.std.specs.Prelude.{◌≡◌, ℕ, ◌+◌, ◌<◌, IfOk, IfSome, IsTrue, Some, slice_get};
-ghost use Rattle.marker_dfa.specs.Deterministic.{marks_of, next_of, states_of};
-ghost use Rattle.span_algebra.specs.Making.{AreAlike, AreClasses, AreClassesUpTo, IsClassOf};
+ghost use Rattle.std.specs.Prelude.{◌+◌, IfOk, IfSome, IsTrue};
+ghost use Rattle.marker_dfa.specs.Deterministic.{AreAlike};
+ghost use Rattle.span_algebra.specs.Making.{AreClasses, AreClassesUpTo, IsClassOf};
 
 use marker_dfa::Dfa;
 use span_types::{ByteSet, NoMemory};
@@ -15,41 +15,11 @@ pub struct Class {
     pub letters: ByteSet,
 }
 
-/// Whether the same marks lead on from a state with two bytes.
-fn have_same_marks(dfa: &Dfa, state: u8, byte: u8, other: u8) -> bool
-    requires { state < states_of dfa.now }
-    ensures { IsTrue result → marks_of dfa.now state byte ≡ marks_of dfa.now state other }
-{
-    dfa.marks(state, byte) == dfa.marks(state, other)
-}
-
-/// Whether two bytes lead to the same states from one state.
-fn are_alike_from(dfa: &Dfa, state: u8, byte: u8, other: u8) -> bool
-    requires { state < states_of dfa.now }
-    ensures { IsTrue result → (m : ℕ) → next_of dfa.now state m byte ≡ next_of dfa.now state m other }
-{
-    let states = dfa.states();
-    if !have_same_marks(dfa, state, byte, other) {
-        return false;
-    }
-    for mark in dfa.marks(state, byte) {
-        if dfa.next(state, *mark, byte) != dfa.next(state, *mark, other) {
-            return false;
-        }
-    }
-    true
-}
-
-/// Whether two bytes lead to the same states.
+/// Whether two bytes have one class in an automaton, so that they lead to the same states.
 fn are_alike(dfa: &Dfa, byte: u8, other: u8) -> bool
     ensures { IsTrue result → AreAlike dfa.now byte other }
 {
-    for state in 0..dfa.states() {
-        if !are_alike_from(dfa, state, byte, other) {
-            return false;
-        }
-    }
-    true
+    dfa.class(byte) == dfa.class(other)
 }
 
 /// The place of a class whose bytes are like this one in both automata.
@@ -87,7 +57,7 @@ fn put_byte(classes: &mut Vec<Class>, left: &Dfa, right: &Dfa, byte: u8) -> Resu
 
 /// The classes of bytes that neither automaton tells apart.
 ///
-/// It looks at each state of both for each byte and for each class.
+/// Each byte is compared with one of each class that was met before it, by its class in either automaton.
 pub fn classes_of(alloc: Global, left: &Dfa, right: &Dfa) -> Result<Vec<Class>, NoMemory>
     ensures left { IfOk result (λ classes. AreClasses left.now classes.items) }
     ensures right { IfOk result (λ classes. AreClasses right.now classes.items) }

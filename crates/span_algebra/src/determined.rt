@@ -1,23 +1,36 @@
 //! The deterministic automaton of an operation's occurrences.
 
-ghost use Rattle.std.specs.Prelude.{IfErr, IfOk};
+ghost use Rattle.std.specs.Prelude.{◌≡◌, IfErr, IfOk};
+ghost use Rattle.marker_nfa.specs.Automaton.{AreLettersOf};
 ghost use Rattle.marker_dfa.specs.Deterministic.{AcceptsSame, StandsFor};
 ghost use Rattle.marker_dfa.specs.Subsets.{AreTooMany};
+ghost use Rattle.span_algebra.specs.Making.{letters_of};
 ghost use Rattle.span_algebra.specs.Refusals.{IsRefused};
 
+use crate::classes::Class;
 use crate::refusal::AlgebraRefusal;
-use marker_dfa::{Dfa, DfaRefusal, determinise};
+use marker_dfa::{Dfa, DfaRefusal, determinise_over};
 use marker_nfa::Nfa;
+use span_types::{ByteSet, NoMemory};
 use std::alloc::Global;
 
-/// The automaton whose states are the reached sets of occurrences.
-pub fn determined(alloc: Global, nfa: &Nfa) -> Result<Dfa, AlgebraRefusal>
+/// The byte sets of classes.
+fn sets_of(alloc: Global, classes: &[Class]) -> Result<Vec<ByteSet>, NoMemory>
+    ensures { IfOk result (λ sets. sets.items ≡ letters_of classes.now) }
+{
+    Ok(classes.iter().map(|class| class.letters).collect(alloc)?)
+}
+
+/// The automaton whose states are the reached sets of occurrences. The byte set of each edge is that of a class.
+pub fn determined(alloc: Global, nfa: &Nfa, classes: &[Class]) -> Result<Dfa, AlgebraRefusal>
+    requires { AreLettersOf nfa.now.edges (letters_of classes.now) }
     ensures states { IfOk result (StandsFor nfa.now) }
     ensures accepts { IfOk result (AcceptsSame nfa.now) }
     ensures few { IfOk result (λ _. AreTooMany nfa.now → ⊥) }
     ensures refused { IfErr result (IsRefused 0 (AreTooMany nfa.now)) }
 {
-    match determinise(alloc, nfa) {
+    let sets = sets_of(alloc, classes)?;
+    match determinise_over(alloc, nfa, &sets) {
         Ok(dfa) => Ok(dfa),
         Err(DfaRefusal::TooManyStates) => Err(AlgebraRefusal::TooManyStates),
         Err(DfaRefusal::NoMemory) => Err(AlgebraRefusal::NoMemory),

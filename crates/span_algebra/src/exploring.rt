@@ -1,13 +1,14 @@
 //! The pairs of states that a join reaches, found from the pair of the starts on.
 
 ghost use Rattle.std.specs.Prelude.{◌≡◌, ◌∷◌, ◌++◌, [], IfErr, IfOk, length};
+ghost use Rattle.span_algebra.specs.Making.{AreClasses};
 ghost use Rattle.span_algebra.specs.Products.{IsExplored};
 ghost use Rattle.span_algebra.specs.Reached.{CountIsAbove};
 ghost use Rattle.span_algebra.specs.Refusals.{IsRefused};
 ghost use Rattle.span_algebra.specs.Renaming.{both_names};
 ghost use Rattle.span_algebra.specs.TreeAutomaton.{JoinStep, join_size};
 
-use crate::classes::classes_of;
+use crate::classes::Class;
 use crate::joints::meeting_of;
 use crate::pairs::put_targets;
 use crate::product::edges_of;
@@ -49,11 +50,14 @@ pub fn explore(
     right: &Dfa,
     right_names: &Vars,
     names: &Vars,
+    classes: &[Class],
 ) -> Result<Explored, AlgebraRefusal>
     requires left { length left_names.now ≡ left.now.variables }
     requires right { length right_names.now ≡ right.now.variables }
     requires names { names.now ≡ both_names left_names.now right_names.now }
-    ensures explored { IfOk result (IsExplored left.now left_names.now right.now right_names.now) }
+    requires of_left { AreClasses left.now classes.now }
+    requires of_right { AreClasses right.now classes.now }
+    ensures explored { IfOk result (IsExplored left.now left_names.now right.now right_names.now classes.now) }
     ensures refused { IfErr result (IsRefused 0 (CountIsAbove 128 (join_size left.now) (JoinStep left.now left_names.now right.now right_names.now))) }
 {
     let left_states = left.states();
@@ -62,12 +66,11 @@ pub fn explore(
     let right_count = right_names.count();
     let count = names.count();
     let meeting = meeting_of(alloc, left_names, right_names, names)?;
-    let classes = classes_of(alloc, left, right)?;
     let mut pairs = start_pairs(alloc)?;
     let mut edges = Vec::new(alloc);
     let mut done = 0;
     'pairs: while done < pairs.len() {
-        let found = edges_of(alloc, left, right, &meeting, pairs[done], &classes)?;
+        let found = edges_of(alloc, left, right, &meeting, pairs[done], classes)?;
         put_targets(&mut pairs, &found)?;
         put_edges(&mut edges, &found)?;
         done += 1;

@@ -1,13 +1,16 @@
 //! The natural join of two automata.
 
 ghost use Rattle.std.specs.Prelude.{◌≡◌, IfErr, IfOk, length};
+ghost use Rattle.marker_nfa.specs.Automaton.{AreLettersOf};
 ghost use Rattle.span_algebra.specs.Answers.{GivesJoin};
+ghost use Rattle.span_algebra.specs.Making.{AreClasses, letters_of};
 ghost use Rattle.span_algebra.specs.Products.{IsJoinNfa};
 ghost use Rattle.span_algebra.specs.Reached.{CountIsAbove, IsAutomatonOf};
 ghost use Rattle.span_algebra.specs.Refusals.{IsRefused};
 ghost use Rattle.span_algebra.specs.Renaming.{both_names};
 ghost use Rattle.span_algebra.specs.TreeAutomaton.{JoinEnd, JoinStep, join_size};
 
+use crate::classes::{Class, classes_of};
 use crate::determined::determined;
 use crate::exploring::explore;
 use crate::joints::meeting_of;
@@ -28,11 +31,15 @@ fn join_nfa(
     right: &Dfa,
     right_names: &Vars,
     names: &Vars,
+    classes: &[Class],
 ) -> Result<Nfa, AlgebraRefusal>
     requires left { length left_names.now ≡ left.now.variables }
     requires right { length right_names.now ≡ right.now.variables }
     requires names { names.now ≡ both_names left_names.now right_names.now }
+    requires of_left { AreClasses left.now classes.now }
+    requires of_right { AreClasses right.now classes.now }
     ensures made { IfOk result (IsJoinNfa left.now left_names.now right.now right_names.now) }
+    ensures letters { IfOk result (λ nfa. AreLettersOf nfa.edges (letters_of classes.now)) }
     ensures refused { IfErr result (IsRefused 0 (CountIsAbove 128 (join_size left.now) (JoinStep left.now left_names.now right.now right_names.now))) }
 {
     let left_states = left.states();
@@ -41,7 +48,7 @@ fn join_nfa(
     let right_count = right_names.count();
     let variables = names.count();
     let meeting = meeting_of(alloc, left_names, right_names, names)?;
-    let explored = explore(alloc, left, left_names, right, right_names, names)?;
+    let explored = explore(alloc, left, left_names, right, right_names, names, classes)?;
     let edges = numbered(alloc, &explored.pairs, &explored.edges)?;
     let ends = ends_of(alloc, left, right, &meeting, &explored.pairs)?;
     let states = explored.pairs.len() as u16;
@@ -70,8 +77,9 @@ fn join_dfa(
     let left_count = left_names.count();
     let right_count = right_names.count();
     let count = names.count();
-    let nfa = join_nfa(alloc, left, left_names, right, right_names, names)?;
-    determined(alloc, &nfa)
+    let classes = classes_of(alloc, left, right)?;
+    let nfa = join_nfa(alloc, left, left_names, right, right_names, names, &classes)?;
+    determined(alloc, &nfa, &classes)
 }
 
 /// The automaton of the unions of an answer of each side, where the two agree on every variable of both, and its

@@ -13,10 +13,11 @@
 //! let kept = project(alloc, &both, &names, &keep)?;
 //! ```
 //!
-//! Bytes that the operands never tell apart share a class. A union or a projection takes one step for each state, class
-//! and mark of its operands. A join takes them for the pairs of states that it reaches and no other, each mark of the
-//! left with each of the right, and ends at the 129th pair. Both sides are deterministic, so a mark and a byte lead
-//! from a pair to one pair at most. The subset construction ends at the 129th state.
+//! Bytes that share a class in each operand share one, and no byte is gone through by itself. A union or a projection
+//! takes one step for each state, class and mark of its operands. A join takes them for the pairs of states that it
+//! reaches and no other, each mark of the left with each of the right, and ends at the 129th pair. Both sides are
+//! deterministic, so a mark and a byte lead from a pair to one pair at most. The subset construction ends at the 129th
+//! state.
 #![tactic(auto)]
 
 mod classes;

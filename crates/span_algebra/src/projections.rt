@@ -1,14 +1,15 @@
 //! The projection of an automaton.
 
 ghost use Rattle.std.specs.Prelude.{◌≡◌, ◌≤◌, IfErr, IfOk, length};
+ghost use Rattle.marker_nfa.specs.Automaton.{AreLettersOf};
 ghost use Rattle.marker_dfa.specs.Deterministic.{states_of};
 ghost use Rattle.span_algebra.specs.Answers.{GivesProjection};
-ghost use Rattle.span_algebra.specs.Making.{IsProjectNfa};
+ghost use Rattle.span_algebra.specs.Making.{AreClasses, IsProjectNfa, letters_of};
 ghost use Rattle.span_algebra.specs.Reached.{CountIsAbove, IsAutomatonOf};
 ghost use Rattle.span_algebra.specs.Refusals.{IsRefused};
 ghost use Rattle.span_algebra.specs.TreeAutomaton.{ProjectEnd, ProjectStep};
 
-use crate::classes::classes_of;
+use crate::classes::{Class, classes_of};
 use crate::copies::{push_edges, push_ends};
 use crate::determined::determined;
 use crate::names::places_of;
@@ -19,16 +20,23 @@ use span_types::{NoMemory, Vars};
 use std::alloc::Global;
 
 /// The occurrences of a projection: the states of the source, whose marks lose the markers of the other variables.
-fn project_nfa(alloc: Global, source: &Dfa, names: &Vars, keep: &Vars) -> Result<Nfa, NoMemory>
-    requires { length names.now ≡ source.now.variables }
-    ensures { IfOk result (IsProjectNfa source.now names.now keep.now) }
+fn project_nfa(
+    alloc: Global,
+    source: &Dfa,
+    names: &Vars,
+    keep: &Vars,
+    classes: &[Class],
+) -> Result<Nfa, NoMemory>
+    requires names { length names.now ≡ source.now.variables }
+    requires classes { AreClasses source.now classes.now }
+    ensures made { IfOk result (IsProjectNfa source.now names.now keep.now) }
+    ensures letters { IfOk result (λ nfa. AreLettersOf nfa.edges (letters_of classes.now)) }
 {
     let states = source.states();
     let variables = keep.count();
     let places = places_of(alloc, keep, names)?;
-    let classes = classes_of(alloc, source, source)?;
     let mut edges = Vec::new(alloc);
-    push_edges(source, &places, 0, &classes, &mut edges)?;
+    push_edges(source, &places, 0, classes, &mut edges)?;
     let mut ends = Vec::new(alloc);
     push_ends(source, &places, 0, &mut ends)?;
     Nfa::of_parts(alloc, u16::from(states), variables, &edges, &ends)
@@ -58,6 +66,7 @@ pub fn project(
 {
     let states = source.states();
     let variables = keep.count();
-    let nfa = project_nfa(alloc, source, names, keep)?;
-    determined(alloc, &nfa)
+    let classes = classes_of(alloc, source, source)?;
+    let nfa = project_nfa(alloc, source, names, keep, &classes)?;
+    determined(alloc, &nfa, &classes)
 }

@@ -1,14 +1,15 @@
 //! The union of two automata.
 
 ghost use Rattle.std.specs.Prelude.{◌≡◌, IfErr, IfOk, length};
+ghost use Rattle.marker_nfa.specs.Automaton.{AreLettersOf};
 ghost use Rattle.span_algebra.specs.Answers.{GivesUnion};
-ghost use Rattle.span_algebra.specs.Making.{IsUnionNfa};
+ghost use Rattle.span_algebra.specs.Making.{AreClasses, IsUnionNfa, letters_of};
 ghost use Rattle.span_algebra.specs.Reached.{CountIsAbove, IsAutomatonOf};
 ghost use Rattle.span_algebra.specs.Refusals.{IsRefused};
 ghost use Rattle.span_algebra.specs.Renaming.{both_names};
 ghost use Rattle.span_algebra.specs.TreeAutomaton.{UnionEnd, UnionStep, union_size};
 
-use crate::classes::classes_of;
+use crate::classes::{Class, classes_of};
 use crate::copies::{push_edges, push_ends};
 use crate::determined::determined;
 use crate::names::{names_of_both, places_of};
@@ -26,22 +27,25 @@ fn union_nfa(
     right: &Dfa,
     right_names: &Vars,
     names: &Vars,
+    classes: &[Class],
 ) -> Result<Nfa, NoMemory>
     requires left { length left_names.now ≡ left.now.variables }
     requires right { length right_names.now ≡ right.now.variables }
     requires names { names.now ≡ both_names left_names.now right_names.now }
-    ensures { IfOk result (IsUnionNfa left.now left_names.now right.now right_names.now) }
+    requires of_left { AreClasses left.now classes.now }
+    requires of_right { AreClasses right.now classes.now }
+    ensures made { IfOk result (IsUnionNfa left.now left_names.now right.now right_names.now) }
+    ensures letters { IfOk result (λ nfa. AreLettersOf nfa.edges (letters_of classes.now)) }
 {
     let left_states = left.states();
     let right_states = right.states();
     let variables = names.count();
     let left_places = places_of(alloc, names, left_names)?;
     let right_places = places_of(alloc, names, right_names)?;
-    let classes = classes_of(alloc, left, right)?;
     let base = 1 + u16::from(left_states);
     let mut edges = Vec::new(alloc);
-    push_edges(left, &left_places, 1, &classes, &mut edges)?;
-    push_edges(right, &right_places, base, &classes, &mut edges)?;
+    push_edges(left, &left_places, 1, classes, &mut edges)?;
+    push_edges(right, &right_places, base, classes, &mut edges)?;
     let mut ends = Vec::new(alloc);
     push_ends(left, &left_places, 1, &mut ends)?;
     push_ends(right, &right_places, base, &mut ends)?;
@@ -74,8 +78,9 @@ fn union_dfa(
     let left_states = left.states();
     let right_states = right.states();
     let variables = names.count();
-    let nfa = union_nfa(alloc, left, left_names, right, right_names, names)?;
-    determined(alloc, &nfa)
+    let classes = classes_of(alloc, left, right)?;
+    let nfa = union_nfa(alloc, left, left_names, right, right_names, names, &classes)?;
+    determined(alloc, &nfa, &classes)
 }
 
 /// The automaton of the answers of either side, and its variables: those of the left, then those of the right that the

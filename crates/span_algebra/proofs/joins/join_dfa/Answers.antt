@@ -2,6 +2,7 @@ use Rattle.std.proofs.Common.{◌≤◌, ◌∙◌, length, ap, arith}
 use Rattle.span_algebra.specs.Renaming.{both_names}
 use Rattle.span_algebra.specs.TreeAutomaton.{JoinEnd, JoinStep, join_size}
 use Rattle.span_algebra.proofs.EdgeLaws.{ok-map}
+use Rattle.span_algebra.proofs.LetterLaws.{same-letters}
 use Rattle.span_algebra.proofs.RefusalLaws.{refused-by}
 use Rattle.span_algebra.proofs.NumberLaws.{above_from, automaton_of, many_from}
 use Rattle.span_algebra.proofs.JoinLaws.{gives-join}
@@ -24,3 +25,6 @@ pub returns-clause-refused : goal.returns-clause-refused
 returns-clause-refused c = let a = c.args.left.now in let va = c.args.left_names.now in let b = c.args.right.now in let vb = c.args.right_names.now in
     let few : length (both_names va vb) ≤ 8 = omega (arith, c.count-count.ensures.vars.few, ap length c.requires.names) in
     refused-by c.determined.result _ _ _ few (above_from (join_size a) (JoinStep a va b vb) (JoinEnd a va b vb) c.in_ok-nfa.ensures.made.pairs c.in_ok-nfa.nfa c.in_ok-nfa.ensures.made.parts) c.determined.ensures.refused
+
+pub determined-requires : goal.determined-requires
+determined-requires c = same-letters c.in_ok-nfa.nfa.edges c.deref.result.now c.deref-2.result.now c.in_ok-classes.classes.items c.deref.ensures.value c.deref-2.ensures.value c.in_ok-nfa.ensures.letters

@@ -1,17 +1,25 @@
-use Rattle.std.proofs.Common.{◌≡◌, ◌<◌, ap, sym, ◌∙◌, arith, length, slice_get, get_or}
-use Rattle.marker_dfa.proofs.Finding.{found, missing, copied_get}
+use Rattle.std.proofs.Common.{ℕ, List, sym, ap, subst, ◌∙◌, length, slice_get, rules}
+use Rattle.std.proofs.lemmas.Fn.{always_returns_same}
+use Rattle.std.specs.List.Sorted.{IsBinarySearchResult, IsSearchInRange}
+use Rattle.std.specs.Ordering.{nat_cmp}
+use Rattle.marker_dfa.proofs.Finding.{copied_get, found_by, missing_by}
 use Rattle.marker_dfa.proofs.dfa.Cell.target.Goals as goal
 
-pub returns-then-other-mark : goal.returns-then-other-mark
-returns-then-other-mark c =
-    let items = c.loop-place.invariant.items in
-    let lt : c.loop-place.place < length c.args.self.now.marks.items = omega (arith, c.loop-place-test.true, ap length items) in
-    let at : get_or c.args.self.now.marks.items c.loop-place.place 0 ≡ c.args.mark = sym (ap (λ l. get_or l c.loop-place.place 0) items) ∙ c.if-other-mark.true in
-    let f = found c.args.self.now.marks.items c.args.self.now.targets.items c.args.mark c.loop-place.place (λ j l e. c.loop-place.invariant.passed j l (ap (λ z. get_or z j 0) items ∙ e)) lt at in
-    c.copied.ensures ∙ copied_get c.get.result c.deref.result.now c.loop-place.place c.get.ensures.lookup ∙ ap (λ l. slice_get l c.loop-place.place) c.deref.ensures.value ∙ sym f
+pub returns-in-Ok : goal.returns-in-Ok
+returns-in-Ok c =
+    let ms = c.args.self.now.marks.items in
+    let facts = c.binary_search_by.ensures in
+    let by_mark = facts.position (λ y. nat_cmp c.args.mark y) (always_returns_same _ _ _ (λ a r f called. search rules)) in
+    let bound = subst (λ (l : List ℕ). IsSearchInRange c.binary_search_by.result (length l)) c.deref.ensures.value facts.bound in
+    let position = subst (λ (l : List ℕ). IsBinarySearchResult (λ y. nat_cmp c.args.mark y) l c.binary_search_by.result) c.deref.ensures.value by_mark in
+    let f = found_by ms c.args.self.now.targets.items c.args.mark c.binary_search_by.result c.in-Ok.place c.in-Ok.is c.requires bound position in
+    c.copied.ensures ∙ copied_get c.get.result c.deref-in-Ok.result.now c.in-Ok.place c.get.ensures.lookup ∙ ap (λ l. slice_get l c.in-Ok.place) c.deref-in-Ok.ensures.value ∙ sym f
 
-pub returns : goal.returns
-returns c =
-    let items = c.loop-place.invariant.items in
-    let n : c.loop-place.place ≡ length c.args.self.now.marks.items = omega (arith, c.loop-place-test.false, c.loop-place.auto.place-end, ap length items) in
-    sym (missing c.args.self.now.marks.items c.args.self.now.targets.items c.args.mark (λ j l e. c.loop-place.invariant.passed j (omega (arith, l, n)) (ap (λ z. get_or z j 0) items ∙ e)))
+pub returns-in-Err : goal.returns-in-Err
+returns-in-Err c =
+    let ms = c.args.self.now.marks.items in
+    let facts = c.binary_search_by.ensures in
+    let by_mark = facts.position (λ y. nat_cmp c.args.mark y) (always_returns_same _ _ _ (λ a r f called. search rules)) in
+    let bound = subst (λ (l : List ℕ). IsSearchInRange c.binary_search_by.result (length l)) c.deref.ensures.value facts.bound in
+    let position = subst (λ (l : List ℕ). IsBinarySearchResult (λ y. nat_cmp c.args.mark y) l c.binary_search_by.result) c.deref.ensures.value by_mark in
+    sym (missing_by ms c.args.self.now.targets.items c.args.mark c.binary_search_by.result c.in-Err.field-0 c.in-Err.is c.requires bound position)

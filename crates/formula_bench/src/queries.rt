@@ -1,0 +1,266 @@
+//! Times the dearest queries that are made of queries.
+
+ghost use Rattle.std.specs.Prelude.{◌≡◌, IfSome, length};
+
+use crate::{around, repeat};
+use formula_syntax::read;
+use marker_dfa::{Dfa, determinise};
+use marker_nfa::of_formula;
+use span_algebra::{join, project, union};
+use span_types::Vars;
+use std::alloc::{AllocError, Global};
+use std::io;
+use std::time::{Duration, Instant};
+
+/// An automaton, and the names of its variables.
+#[derive(Drop)]
+struct Query {
+    dfa: Dfa,
+    names: Vars,
+}
+
+// An automaton and its names, if there is one for each variable.
+fn named(dfa: Dfa, names: Vars) -> Option<Query>
+    ensures { IfSome result (λ q. length q.names ≡ q.dfa.variables) }
+{
+    if names.count() != dfa.variables() {
+        return None;
+    }
+    Some(Query { dfa, names })
+}
+
+// The query of a formula, unless it is refused.
+fn read_query(alloc: Global, text: Result<Vec<u8>, AllocError>) -> Option<Query>
+    ensures { IfSome result (λ q. length q.names ≡ q.dfa.variables) }
+{
+    let Ok(text) = text else {
+        return None;
+    };
+    let Ok((formula, names)) = read(alloc, &text) else {
+        return None;
+    };
+    let Ok(nfa) = of_formula(alloc, &formula) else {
+        return None;
+    };
+    match determinise(alloc, &nfa) {
+        Ok(dfa) => named(dfa, names),
+        Err(_) => None,
+    }
+}
+
+// A star of 63 letters, each of which leads to a state of its own.
+fn last_letter(alloc: Global) -> Result<Vec<u8>, AllocError> {
+    let mut text = Vec::new(alloc);
+    text.push(b'(')?;
+    for letter in b"abcdefghijklmnopqrstuvwxyzABCDEFGHIJKLMNOPQRSTUVWXYZ0123456789" {
+        text.push(*letter)?;
+        text.push(b'|')?;
+    }
+    text.extend_from_slice(b"_)*")?;
+    Ok(text)
+}
+
+// A variable's name and its opening brace.
+fn open(text: &mut Vec<u8>, name: u8) -> Result<(), AllocError> {
+    text.push(b'$')?;
+    text.push(name)?;
+    Ok(text.push(b'{')?)
+}
+
+// All eight variables but two with an empty span here or none, and then a span of one byte for the two.
+fn push_part(text: &mut Vec<u8>, one: u8, two: u8) -> Result<(), AllocError> {
+    text.push(b'|')?;
+    for name in b"stuvwxyz" {
+        if *name != one && *name != two {
+            open(text, *name)?;
+            text.extend_from_slice(b"}?")?;
+        }
+    }
+    open(text, one)?;
+    if one == two {
+        return text.extend_from_slice(b".}");
+    }
+    open(text, two)?;
+    text.extend_from_slice(b".}}")
+}
+
+// A formula of few states and 3,072 marks at one of them.
+fn many_marks(alloc: Global) -> Result<Vec<u8>, AllocError> {
+    let mut text = Vec::new(alloc);
+    text.extend_from_slice(b".*(")?;
+    text.extend_from_slice(&around(alloc, b"", 0, b"", b"}?")?)?;
+    for one in b"stuvwxyz" {
+        for two in b"stuvwxyz" {
+            if *one <= *two {
+                push_part(&mut text, *one, *two)?;
+            }
+        }
+    }
+    text.extend_from_slice(b").*")?;
+    Ok(text)
+}
+
+// A star of a text so many times, and what ends it.
+fn star(alloc: Global, part: &[u8], times: u32, end: &[u8]) -> Result<Vec<u8>, AllocError> {
+    let mut text = Vec::new(alloc);
+    text.push(b'(')?;
+    repeat(&mut text, part, times)?;
+    text.extend_from_slice(b")*")?;
+    text.extend_from_slice(end)?;
+    Ok(text)
+}
+
+fn tell(rt: &HostRuntime, name: &str, states: Option<u8>, took: Duration) -> io::Result<()> {
+    let took = took.as_micros();
+    match states {
+        Some(states) => eprintln!(rt; "  {name}: {states} states in {took} us"),
+        None => eprintln!(rt; "  {name}: refused in {took} us"),
+    }
+}
+
+fn measure_union(rt: &HostRuntime, left: &Query, right: &Query) -> io::Result<()>
+    requires left { length left.now.names ≡ left.now.dfa.variables }
+    requires right { length right.now.names ≡ right.now.dfa.variables }
+{
+    let start = Instant::now(rt)?;
+    let made = union(rt.alloc(), &left.dfa, &left.names, &right.dfa, &right.names);
+    let took = start.elapsed(rt)?;
+    match made {
+        Ok((dfa, _)) => tell(rt, "union", Some(dfa.states()), took),
+        Err(_) => tell(rt, "union", None, took),
+    }
+}
+
+fn measure_join(rt: &HostRuntime, left: &Query, right: &Query) -> io::Result<()>
+    requires left { length left.now.names ≡ left.now.dfa.variables }
+    requires right { length right.now.names ≡ right.now.dfa.variables }
+{
+    let start = Instant::now(rt)?;
+    let made = join(rt.alloc(), &left.dfa, &left.names, &right.dfa, &right.names);
+    let took = start.elapsed(rt)?;
+    match made {
+        Ok((dfa, _)) => tell(rt, "join", Some(dfa.states()), took),
+        Err(_) => tell(rt, "join", None, took),
+    }
+}
+
+// A projection to the variables of another query.
+fn measure_project(rt: &HostRuntime, source: &Query, keep: &Query) -> io::Result<()>
+    requires { length source.now.names ≡ source.now.dfa.variables }
+{
+    let start = Instant::now(rt)?;
+    let made = project(rt.alloc(), &source.dfa, &source.names, &keep.names);
+    let took = start.elapsed(rt)?;
+    match made {
+        Ok(dfa) => tell(rt, "project", Some(dfa.states()), took),
+        Err(_) => tell(rt, "project", None, took),
+    }
+}
+
+// The union and the join of two queries, and the projection of the first to four of its variables.
+fn measure_both(
+    rt: &HostRuntime,
+    name: &str,
+    left: Option<Query>,
+    right: Option<Query>,
+) -> io::Result<()>
+    requires left { IfSome left (λ q. length q.names ≡ q.dfa.variables) }
+    requires right { IfSome right (λ q. length q.names ≡ q.dfa.variables) }
+{
+    let Some(left) = left else {
+        return eprintln!(rt; "{name}: refused");
+    };
+    let Some(right) = right else {
+        return eprintln!(rt; "{name}: refused");
+    };
+    let states = left.dfa.states();
+    let others = right.dfa.states();
+    eprintln!(rt; "{name}: {states} and {others} states")?;
+    measure_union(rt, &left, &right)?;
+    measure_join(rt, &left, &right)?;
+    match read_query(rt.alloc(), four(rt.alloc())) {
+        Some(keep) => measure_project(rt, &left, &keep),
+        None => Ok(()),
+    }
+}
+
+// A formula with four of the variables.
+fn four(alloc: Global) -> Result<Vec<u8>, AllocError> {
+    let mut text = Vec::new(alloc);
+    for name in b"zxvt" {
+        open(&mut text, *name)?;
+        text.push(b'}')?;
+    }
+    Ok(text)
+}
+
+// The join of two queries, unless one is refused.
+fn joined(alloc: Global, left: Option<Query>, right: Option<Query>) -> Option<Query>
+    requires left { IfSome left (λ q. length q.names ≡ q.dfa.variables) }
+    requires right { IfSome right (λ q. length q.names ≡ q.dfa.variables) }
+    ensures { IfSome result (λ q. length q.names ≡ q.dfa.variables) }
+{
+    let Some(left) = left else {
+        return None;
+    };
+    let Some(right) = right else {
+        return None;
+    };
+    match join(alloc, &left.dfa, &left.names, &right.dfa, &right.names) {
+        Ok((dfa, names)) => named(dfa, names),
+        Err(_) => None,
+    }
+}
+
+// An automaton of 127 states over 63 letters, with 256 marks at each second state.
+fn many_letters(alloc: Global) -> Option<Query>
+    ensures { IfSome result (λ q. length q.names ≡ q.dfa.variables) }
+{
+    joined(
+        alloc,
+        read_query(alloc, last_letter(alloc)),
+        read_query(alloc, around(alloc, b".*", 1, b"", b"}?")),
+    )
+}
+
+// An automaton of 127 states, of which eight variables take a part.
+fn chain(alloc: Global) -> Option<Query>
+    ensures { IfSome result (λ q. length q.names ≡ q.dfa.variables) }
+{
+    read_query(alloc, around(alloc, b"a", 59, b"a", b"}?"))
+}
+
+/// Times unions, joins and projections of the dearest queries.
+pub fn measure_queries(rt: &HostRuntime) -> io::Result<()> {
+    let alloc = rt.alloc();
+    measure_both(
+        rt,
+        "63 letters, and 256 marks at each second state",
+        many_letters(alloc),
+        many_letters(alloc),
+    )?;
+    measure_both(
+        rt,
+        "3,072 marks at a state",
+        read_query(alloc, many_marks(alloc)),
+        read_query(alloc, many_marks(alloc)),
+    )?;
+    measure_both(
+        rt,
+        "126 letters, 8 of them captured or left out",
+        chain(alloc),
+        chain(alloc),
+    )?;
+    measure_both(
+        rt,
+        "a product of 128 states",
+        read_query(alloc, star(alloc, b"b*a", 7, b"b*c")),
+        read_query(alloc, star(alloc, b"a*b", 9, b"a*c")),
+    )?;
+    measure_both(
+        rt,
+        "a product of more",
+        read_query(alloc, star(alloc, b"b*a", 7, b"b*cc")),
+        read_query(alloc, star(alloc, b"a*b", 9, b"a*cc")),
+    )
+}
