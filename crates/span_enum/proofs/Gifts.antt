@@ -1,5 +1,5 @@
 -- The first answer that is left, from what the walks find.
-use Rattle.std.proofs.Common.{suc, ◌≡◌, ℕ, ◌+◌, ◌-◌, ◌*◌, ◌<◌, ◌≤◌, Bool, true, false, ◌&&◌, not, refl, ap, sym, subst, ◌∙◌, arith, List, [], ◌∷◌, ◌++◌, length, length-append, length-drop, drop, get_or, Option, Some, None, inl, inr}
+use Rattle.std.proofs.Common.{suc, ◌≡◌, ℕ, ◌+◌, ◌-◌, ◌*◌, ◌<◌, ◌≤◌, Bool, true, false, ◌&&◌, not, refl, ap, sym, subst, ◌∙◌, arith, List, [], ◌∷◌, ◌++◌, append_assoc, length, length-append, length-drop, drop, get_or, Option, Some, None, inl, inr}
 use Rattle.std.proofs.lemmas.Bool.{cases_eq}
 use Rattle.std.proofs.lemmas.List.{map-append, drop-append-le}
 use Rattle.std.proofs.Math.Seq.{drop-append-add}
@@ -30,6 +30,7 @@ use Rattle.span_enum.proofs.Firsts.{IsFirst-fork, IsFirst-byte, mark_count-appen
 use Rattle.span_enum.proofs.Nexts.{none-byte, lowers-byte, none-fork, IsNext-lowered}
 use Rattle.span_enum.proofs.Written.{write_word-append, over-bytes, read-cut}
 use Rattle.span_enum.proofs.Lowerings.{length-bytes, over-length, lowers-on, lowers-behind}
+use Rattle.span_enum.proofs.Comings.{append-same, letter-at}
 use Rattle.span_enum.proofs.LastLetters.{member-one, final-end, run-end, reach-end, onward-end, fit-end}
 use Rattle.span_enum.proofs.TupleLaws.{few-marks, few-marks_of, read-back, end_mark-same, lies-reaches, reaches-lies}
 
@@ -141,7 +142,7 @@ same-front t u p (b ∷ s) x y (f ∷ front) back rest e k q from to within = el
 
 pub gives-lowered : (a : DeterministicAutomaton) (s : List ℕ) (t u : Tuple) (place m q : ℕ) (y : Marked) → Wellmarked a s → IsTupleOf a.variables t
     → (l : LowersAt a 0 (ended s) 1 (word_of t s) place m q) → IsFirst a q (bytes_of l.back) 1 y 0
-    → u ≡ write_word (place + 2) y (write_mark m (place + 1) (cut (place + 1) t)) → Gives a s (Some t) u × (mark_count y ≤ 2 * a.variables) × Agree t u (place + 1)
+    → u ≡ write_word (place + 2) y (write_mark m (place + 1) (cut (place + 1) t)) → Gives a s (Some t) u × (mark_count y ≤ 2 * a.variables) × Agree t u (place + 1) × (word_of u s ≡ l.front ++ (m, l.byte) ∷ y)
 gives-lowered a s t u place m q y well is l first written =
     let next : IsNext a 0 (ended s) 1 (word_of t s) (l.front ++ (m, l.byte) ∷ y) 0 = IsNext-lowered a 0 (ended s) 1 (word_of t s) y place m q 0 l first in
     let both = gives a s (Some t) (l.front ++ (m, l.byte) ∷ y) u well next.is_after.bytes next.is_after.ends next
@@ -150,6 +151,7 @@ gives-lowered a s t u place m q y well is l first written =
       less l.front m l.byte both.1,
       λ p from to. same-front t u 1 s (end_mark t (length s + 1), 256) (end_mark u (length s + 1), 256) l.front ((l.mark, l.byte) ∷ l.back) ((m, l.byte) ∷ y) l.cut (sym both.2)
           p from (omega (arith, l.at)) (omega (arith, (back-bytes a 0 (ended s) 1 (word_of t s) place m q l).1, length-append s (256 ∷ []))),
+      sym both.2,
     )
   where
     less : (front : Marked) (m b : ℕ) → mark_count (front ++ (m, b) ∷ y) ≤ 2 * a.variables → mark_count y ≤ 2 * a.variables
@@ -205,8 +207,7 @@ module _ (a : DeterministicAutomaton) (auto : IsDeterministic a) where
         → IsGreatestMark a q 256 1 (end_mark t (length s + 1)) m 0 → u ≡ write_mark m (length s + 1) (cut (length s + 1) t) → Gives a s (Some t) u × Agree t u (length s + 1)
     next-at_end t u l q m is lowering alive best e =
         let found : Lowers a 0 (ended s) 1 (word_of t s) 1 (record { at = 1 + length s; mark = m; state = 0 }) =
-        lowers-behind a auto s (256 ∷ []) 0 1 finals auto.has_start (reach-end a auto finals all s 0 auto.has_start) (onward-end a auto finals all)
-        (word_over t 1 s) ((end_mark t (length s + 1), 256) ∷ []) (over-bytes t 1 s) refl 1 q (record { at = 1 + length s; mark = m; state = 0 })
+        lowers-behind a s (256 ∷ []) 0 1 (word_over t 1 s) ((end_mark t (length s + 1), 256) ∷ []) (over-bytes t 1 s) refl 1 q (record { at = 1 + length s; mark = m; state = 0 })
         (sym lowering.ends ∙ alive)
         (record { place = 0; place_is = omega arith; lowers = lowers-byte a q 256 1 (end_mark t (length s + 1)) m 0 best }) in
         let place : found.place ≡ length s = omega (arith, found.place_is) in
@@ -232,9 +233,9 @@ module _ (a : DeterministicAutomaton) (auto : IsDeterministic a) where
         → ((q : ℕ) → l.state ≡ Some q → (m : ℕ) → IsNoMark a q 256 1 (end_mark t (length s + 1)) m) → Lowers a 0 s finals (word_over t 1 s) 1 b
         → b.state < states_of a
         → out0 ≡ write_mark b.mark b.at (cut b.at t)
-        → FindsRest a b.state (drop (b.at - 1 + 1) s) finals h mid after r (b.at + 1) out0 out → IsGreatestMark a r 256 1 65536 e 0
+        → (f : FindsRest a b.state (drop (b.at - 1 + 1) s) finals h mid after r (b.at + 1) out0 out) → IsGreatestMark a r 256 1 65536 e 0
         → u ≡ write_mark e (length s + 1) out → now ≡ before + 1 → mid ≤ now + 2 * (h * mark_count (word_over t 1 s))
-        → Gives a s (Some t) u × (after ≤ before + bound a.variables h) × Agree t u b.at
+        → Gives a s (Some t) u × (after ≤ before + bound a.variables h) × Agree t u b.at × (mark_of u b.at ≡ b.mark) × (word_over u (b.at + 1) (drop (b.at - 1 + 1) s) ≡ f.word)
     next-in_text h before now mid after r e t out0 out u l b is lowering none inside low e0 f best written en em =
         let found : Lowers a 0 (ended s) 1 (word_of t s) 1 b =
         lowers-on a auto s (256 ∷ []) 0 1 finals auto.has_start (reach-end a auto finals all s 0 auto.has_start) (onward-end a auto finals all)
@@ -258,7 +259,18 @@ module _ (a : DeterministicAutomaton) (auto : IsDeterministic a) where
         ∙ sym (write_word-append (found.place + 2) f.word ((e, 256) ∷ []) (write_mark b.mark (found.place + 1) (cut (found.place + 1) t))) in
         let both = gives-lowered a s t u found.place b.mark b.state (f.word ++ (e, 256) ∷ []) well is found.lowers (rw back first) all-marks in
         let few : mark_count f.word ≤ 2 * a.variables = omega (arith, both.1, mark_count-append f.word ((e, 256) ∷ [])) in
-        (both.0, cost (mark_count (word_over t 1 s)) (mark_count f.word) (few-marks a.variables t s is.size) few f.cost em, rw (sym at1) at both.2)
+        let l' = found.lowers in
+        let letters = append-same (word_over u 1 s) ((end_mark u (length s + 1), 256) ∷ []) (l'.front ++ (b.mark, l'.byte) ∷ f.word) ((e, 256) ∷ [])
+        (over-length u 1 s ∙ omega (arith, len, l'.at, length-append l'.front ((b.mark, l'.byte) ∷ f.word)))
+        (both.3 ∙ sym (append_assoc l'.front ((b.mark, l'.byte) ∷ f.word) ((e, 256) ∷ []))) in
+        let at-place = letter-at u 1 s l'.front (b.mark, l'.byte) f.word b.at (omega (arith, at1, l'.at)) letters.0 in
+        let drops : b.at - 1 + 1 ≡ length l'.front + 1 = omega (arith, minus, l'.at) in (
+          both.0,
+          cost (mark_count (word_over t 1 s)) (mark_count f.word) (few-marks a.variables t s is.size) few f.cost em,
+          rw (sym at1) at both.2,
+          at-place.0,
+          ap (λ n. word_over u (b.at + 1) (drop n s)) drops ∙ at-place.1,
+        )
       where
         cost : (c d : ℕ) → c ≤ 2 * a.variables → d ≤ 2 * a.variables → after ≤ mid + 2 * h + 2 * (h * d) → mid ≤ now + 2 * (h * c) → after ≤ before + bound a.variables h
         cost c d ec ed f1 f2 =

@@ -13,7 +13,9 @@ mod TupleLaws
 mod Membership
 mod Gifts
 mod Given
+mod Comings
 mod Trails
 mod Ways
+mod Enterings
 pub mod Pages
 pub mod Exists

@@ -1,5 +1,5 @@
 -- The last place at which a word can be lowered, by the parts of a text.
-use Rattle.std.proofs.Common.{◌≡◌, ℕ, ◌+◌, ◌*◌, ◌<◌, ◌≤◌, ◌^◌, true, refl, ap, sym, ◌∙◌, arith, List, [], ◌∷◌, ◌++◌, length, max, Option, Some, None, MatchOption}
+use Rattle.std.proofs.Common.{◌≡◌, ℕ, ◌+◌, ◌*◌, ◌<◌, ◌≤◌, true, refl, ap, sym, ◌∙◌, arith, List, [], ◌∷◌, ◌++◌, length, max, Option, Some, None, MatchOption}
 use Rattle.span_enum.proofs.Paths.{onto, Tells}
 use Rattle.std.proofs.lemmas.List.{map-append}
 use Rattle.std.proofs.Math.Nat.{mul-le-mul_right}
@@ -9,10 +9,9 @@ use Rattle.formula_law.specs.Law.{bytes_of}
 use Rattle.span_enum.specs.Letters.{step_of, reached}
 use Rattle.marker_dfa.specs.Deterministic.{IsDeterministic}
 use Rattle.state_tables.specs.StateSet.{member}
-use Rattle.state_tables.specs.Table.{unmarked_of, marked_of}
+use Rattle.state_tables.specs.Table.{unmarked_of}
 use Rattle.state_tables.specs.Table.{Row}
 use Rattle.span_enum.proofs.Paths.{run-append, run-within, then-join, then-some}
-use Rattle.span_enum.specs.Sets.{can_reach_of}
 use Rattle.span_enum.specs.Words.{CanRun, IsGreatestMark, IsNoMark}
 use Rattle.span_types.specs.Marks.{mark_of}
 use Rattle.span_enum.specs.Tuples.{word_over}
@@ -21,7 +20,7 @@ use Rattle.span_enum.specs.Lowering.{Lowers, IsLowering}
 use Rattle.span_enum.specs.declared.walk.Lowered.{Lowered}
 use Rattle.span_enum.specs.declared.walk.Lowering.{Lowering}
 use Rattle.span_enum.specs.Members.{Tuple}
-use Rattle.span_enum.proofs.Firsts.{run-from_table, table-from_run, mark_count-append}
+use Rattle.span_enum.proofs.Firsts.{mark_count-append}
 use Rattle.span_enum.proofs.Nexts.{none-plain, none-byte, lowers-byte, none-fork, lowers-left, lowers-right}
 use Rattle.span_enum.proofs.Written.{over-append, over-bytes, over-plain}
 
@@ -67,18 +66,27 @@ lowering-byte_some a p goals at b old m q s t o is e step best = rw (is, ← e) 
   best = record { place = 0; place_is = omega arith; lowers = lowers-byte a p b goals old m q best };
 })
 
--- runs and a set of states between two texts, by the right table
-module _ (a : DeterministicAutomaton) (auto : IsDeterministic a) (u : List ℕ) (rows : List Row) (goals between : ℕ) (ir : Tells a u rows)
-    (before : (k : ℕ) → k < length rows → member between k ≡ can_reach_of rows k goals) where
-  pub reach-by_table : (s : List ℕ) (p : ℕ) → p < states_of a → (n : ℕ) (x : Marked) → bytes_of x ≡ s → reached a p x ≡ Some n → CanRun a n u goals → member between n ≡ true
-  reach-by_table s p low n x e t run =
-      let below : n < states_of a = run-within a auto p n x low t in
-      before n (omega (arith, ir.shape.states)) ∙ table-from_run a u rows n goals ir below run
+-- two texts, and the last place is in the right one
+module _ (a : DeterministicAutomaton) (s u : List ℕ) (p goals : ℕ) (w1 w2 : Marked) (e1 : bytes_of w1 ≡ s) (e2 : bytes_of w2 ≡ u) where
+  both-ends : (q : ℕ) (o : Option ℕ) → reached a p w1 ≡ Some q → o ≡ reached a q w2 → o ≡ reached a p (w1 ++ w2)
+  both-ends q o alive e = e ∙ sym (run-append a p w1 w2 ∙ then-join (λ n. reached a n w2) (reached a p w1) q alive)
 
-  pub onward-by_table : ((k : ℕ) → k < length rows → marked_of rows k < 2 ^ 128) → (n : ℕ) → n < states_of a → member between n ≡ true → CanRun a n u goals
-  onward-by_table small n low h =
-      let inside : n < length rows = omega (arith, ir.shape.states) in
-      run-from_table a u rows n goals ir low (small n inside) (sym (before n inside) ∙ h)
+  pub lowers-behind : (at q : ℕ) (b : Lowered) → reached a p w1 ≡ Some q → Lowers a q u goals w2 (at + length s) b → Lowers a p (s ++ u) goals (w1 ++ w2) at b
+  lowers-behind at q b alive found = record {
+    place = length w1 + found.place;
+    place_is = omega (arith, length-bytes w1, ap length e1, found.place_is);
+    lowers = lowers-right a s u p goals w1 w2 e1 e2 q found.place b.mark b.state alive found.lowers;
+  }
+
+  pub lowering-right : (at q : ℕ) (r : Lowering) (b : Lowered) → reached a p w1 ≡ Some q → IsLowering a q u goals w2 (at + length s) r → r.best ≡ Some b
+      → IsLowering a p (s ++ u) goals (w1 ++ w2) at r
+  lowering-right at q r b alive right is = record {
+    ends = both-ends q r.state alive right.ends;
+    best = rw is (lowers-behind at q b alive found);
+  }
+    where
+      found : Lowers a q u goals w2 (at + length s) b
+      found = rw is at right.best
 
 -- two texts
 module _ (a : DeterministicAutomaton) (auto : IsDeterministic a) (s u : List ℕ) (p goals between : ℕ) (low : p < states_of a)
@@ -125,36 +133,11 @@ module _ (a : DeterministicAutomaton) (auto : IsDeterministic a) (s u : List ℕ
       clash : (n : ℕ) → reached a p w1 ≡ Some n → NoneAfter a n u goals w2
       clash n e = cc
 
-  both-ends : (q : ℕ) (o1 o2 : Option ℕ) → o1 ≡ reached a p w1 → o1 ≡ Some q → o2 ≡ reached a q w2 → o2 ≡ reached a p (w1 ++ w2)
-  both-ends q o1 o2 e1 is e2 =
-      e2 ∙ sym (run-append a p w1 w2 ∙ then-join (λ n. reached a n w2) (reached a p w1) q (sym e1 ∙ is))
-
-  -- the last place is in the right part
-  pub lowers-behind : (at q : ℕ) (b : Lowered) → reached a p w1 ≡ Some q → Lowers a q u goals w2 (at + length s) b → Lowers a p (s ++ u) goals (w1 ++ w2) at b
-  lowers-behind at q b alive found = record {
-    place = length w1 + found.place;
-    place_is = place-is;
-    lowers = lowers-right a s u p goals between w1 w2 e1 e2 reach q found.place b.mark b.state alive found.lowers;
-  }
-    where
-      place-is : at + (length w1 + found.place) ≡ b.at
-      place-is = omega (arith, length-bytes w1, ap length e1, found.place_is)
-
-  pub lowering-right : (at q : ℕ) (l r : Lowering) (b : Lowered) → IsLowering a p s between w1 at l → l.state ≡ Some q
-      → IsLowering a q u goals w2 (at + length s) r → r.best ≡ Some b → IsLowering a p (s ++ u) goals (w1 ++ w2) at r
-  lowering-right at q l r b left alive right is = record {
-    ends = both-ends q l.state r.state left.ends alive right.ends;
-    best = rw is (lowers-behind at q b (sym left.ends ∙ alive) found);
-  }
-    where
-      found : Lowers a q u goals w2 (at + length s) b
-      found = rw is at right.best
-
   -- the right part can't be lowered
   pub lowering-left : (at q : ℕ) (l r : Lowering) → IsLowering a p s between w1 at l → l.state ≡ Some q
       → IsLowering a q u goals w2 (at + length s) r → r.best ≡ None → IsLowering a p (s ++ u) goals (w1 ++ w2) at (record { state = r.state; best = l.best })
   lowering-left at q l r left alive right is = record {
-    ends = both-ends q l.state r.state left.ends alive right.ends;
+    ends = both-ends a s u p goals w1 w2 e1 e2 q r.state (sym left.ends ∙ alive) right.ends;
     best = best-left at l.best left.best
         (λ n e. let same : n ≡ q = same-state n q (reached a p w1) e (sym left.ends ∙ alive) in rw same none);
   }

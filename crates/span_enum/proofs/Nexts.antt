@@ -153,7 +153,8 @@ module _ (a : DeterministicAutomaton) (s u : List ℕ) (p goals between : ℕ) (
         ];
   }
 
-  -- the last place is in the right part
+-- the last place is in the right part
+module _ (a : DeterministicAutomaton) (s u : List ℕ) (p goals : ℕ) (w1 w2 : Marked) (e1 : bytes_of w1 ≡ s) (e2 : bytes_of w2 ≡ u) where
   pub lowers-right : (q0 place m q : ℕ) → reached a p w1 ≡ Some q0 → LowersAt a q0 u goals w2 place m q → LowersAt a p (s ++ u) goals (w1 ++ w2) (length w1 + place) m q
   lowers-right q0 place m q t l = record {
     front = w1 ++ l.front;
@@ -169,11 +170,11 @@ module _ (a : DeterministicAutomaton) (s u : List ℕ) (p goals between : ℕ) (
     can = l.can;
     most = λ v r h.
         let k = parts a p s u goals v r h.bytes h.ends in
-        elim (cases-after v r h k) [
-          | inl before ↦ inr (λ tail. rw (k.joined, append_assoc w1 l.front ((m, l.byte) ∷ tail)) (precedes-append w1 k.left (l.front ++ (m, l.byte) ∷ tail) k.right before.after))
+        elim (precedes-split w1 k.left w2 k.right (e1 ∙ sym k.left_bytes) (subst (λ x. Precedes (w1 ++ w2) x) k.joined h.after)) [
+          | inl before ↦ inr (λ tail. rw (k.joined, append_assoc w1 l.front ((m, l.byte) ∷ tail)) (precedes-append w1 k.left (l.front ++ (m, l.byte) ∷ tail) k.right before))
           | inr rest ↦
               let mid : k.middle ≡ q0 = same-some k.middle q0 (reached a p w1) (ap (reached a p) rest.0 ∙ k.left_ends) t in
-              let after : IsAfter a q0 u goals w2 k.right r = subst (λ n. IsAfter a n u goals w2 k.right r) mid rest.1 in
+              let after : IsAfter a q0 u goals w2 k.right r = record { bytes = k.right_bytes; ends = ap (λ n. reached a n k.right) (sym mid) ∙ k.right_ends; goal = h.goal; after = rest.1 } in
               elim (l.most k.right r after) [
                 | inl same ↦ inl (same.0, k.joined ∙ rw (← rest.0, same.1) (sym (append_assoc w1 l.front ((m, l.byte) ∷ same.0))))
                 | inr less ↦ inr (λ tail. rw (k.joined, ← rest.0, append_assoc w1 l.front ((m, l.byte) ∷ tail)) (precedes-prefix w1 (l.front ++ (m, l.byte) ∷ tail) k.right (less tail)))

@@ -4,17 +4,18 @@ use Rattle.span_types.specs.Marks.{mark_of}
 use Rattle.slp_model.specs.declared.Node.{Node}
 use Rattle.slp_model.specs.Tree.{text, height}
 use Rattle.slp_model.specs.Nodes.{tree}
-use Rattle.marker_dfa.specs.Deterministic.{DeterministicAutomaton, IsDeterministic, states_of}
+use Rattle.marker_dfa.specs.Deterministic.{DeterministicAutomaton, IsDeterministic}
 use Rattle.state_tables.specs.Dictionary.{Dictionary, AreTables, count_of}
 use Rattle.span_enum.specs.Members.{Tuple}
 use Rattle.span_enum.specs.Words.{CanRun}
+use Rattle.span_enum.specs.Entries.{Comes}
 use Rattle.span_enum.specs.Trail.{AreKept, frame_of, Agree, StandsOver, IsFrame, IsBelow, Descends, LeadsBy, IsQuiet, Follows, looks_over}
 use Rattle.span_enum.specs.declared.walk.Lowered.{Lowered}
 use Rattle.span_enum.specs.declared.walk.Lowering.{Lowering}
 use Rattle.span_enum.specs.declared.trail.Frame.{Frame}
 use Rattle.span_enum.specs.declared.trail.Beside.{Beside}
-use Rattle.span_enum.specs.declared.trail.Beside.TheVariants.{Right, Left}
-use Rattle.span_enum.proofs.Trails.{child-fewer, child-can, child-inside, child-lower, child-found, child-same}
+use Rattle.span_enum.specs.declared.trail.Beside.TheVariants.{Right, Left, Passed}
+use Rattle.span_enum.proofs.Trails.{child-fewer, child-comes, child-can, child-inside, child-lower, child-found, child-same}
 
 -- ---- the frames of a list
 pub slice-at : (fs : List (Option Frame)) (n : ℕ) (o x : Option Frame) → n < length fs → o ≡ get_or fs n o → o ≡ x → slice_get fs n ≡ Some x
@@ -34,6 +35,28 @@ frame-append zero f fs gs le = refl
 frame-append (suc n) f [] gs le = absurd (omega arith)
 frame-append (suc n) f (None ∷ fs) gs le = refl
 frame-append (suc n) f (Some g ∷ fs) gs le = frame-append n g fs gs (omega arith)
+
+-- a frame at the end
+pub frame-push : (e g : Frame) (fs : List (Option Frame)) → AreKept fs → frame_of (length fs + 1) e (fs ++ Some g ∷ []) ≡ g
+frame-push e g [] kept = refl
+frame-push e g (None ∷ fs) kept = absurd (kept zero refl)
+frame-push e g (Some x ∷ fs) kept =
+    let n : length (Some x ∷ fs) + 1 ≡ suc (length fs + 1) = omega arith in
+    ap (λ k. frame_of k e (Some x ∷ (fs ++ Some g ∷ []))) n ∙ frame-push x g fs (λ k h. kept (suc k) h)
+
+-- the first frames
+pub frame-less : (m n : ℕ) (f : Frame) (fs : List (Option Frame)) → m ≤ n → frame_of m f (take n fs) ≡ frame_of m f fs
+frame-less zero n f fs le = refl
+frame-less (suc m) zero f fs le = absurd (omega arith)
+frame-less (suc m) (suc n) f [] le = refl
+frame-less (suc m) (suc n) f (None ∷ fs) le = refl
+frame-less (suc m) (suc n) f (Some g ∷ fs) le = frame-less m n g fs (omega arith)
+
+pub slice-take : (m n : ℕ) (fs : List (Option Frame)) → m < n → slice_get (take n fs) m ≡ slice_get fs m
+slice-take m zero fs lt = absurd (omega arith)
+slice-take m (suc n) [] lt = refl
+slice-take zero (suc n) (g ∷ fs) lt = refl
+slice-take (suc m) (suc n) (g ∷ fs) lt = slice-take m n fs (omega arith)
 
 pub frame-take : (n : ℕ) (f : Frame) (fs : List (Option Frame)) → frame_of n f (take n fs) ≡ frame_of n f fs
 frame-take zero f fs = refl
@@ -66,6 +89,13 @@ module _ (a : DeterministicAutomaton) (nodes : List Node) (d : Dictionary) (t : 
   descends-take (suc n) f (None ∷ fs) h = absurd h
   descends-take (suc n) f (Some g ∷ fs) h = (h.0, descends-take n g fs h.1)
 
+  pub descends-less : (m n : ℕ) (f : Frame) (fs : List (Option Frame)) → m ≤ n → Descends a nodes d t f (take n fs) → Descends a nodes d t f (take m fs)
+  descends-less zero n f fs le h = tt
+  descends-less (suc m) zero f fs le h = absurd (omega arith)
+  descends-less (suc m) (suc n) f [] le h = tt
+  descends-less (suc m) (suc n) f (None ∷ fs) le h = absurd h
+  descends-less (suc m) (suc n) f (Some g ∷ fs) le h = (h.0, descends-less m n g fs (omega arith) h.1)
+
   pub descends-append : (n : ℕ) (f : Frame) (fs gs : List (Option Frame)) → length fs ≡ n → Descends a nodes d t f fs → Descends a nodes d t (frame_of n f fs) gs
       → Descends a nodes d t f (fs ++ gs)
   descends-append zero f [] gs e h k = k
@@ -73,6 +103,9 @@ module _ (a : DeterministicAutomaton) (nodes : List Node) (d : Dictionary) (t : 
   descends-append (suc n) f [] gs e h k = absurd (omega arith)
   descends-append (suc n) f (None ∷ fs) gs e h k = absurd h
   descends-append (suc n) f (Some g ∷ fs) gs e h k = (h.0, descends-append n g fs gs (omega arith) h.1 k)
+
+  pub descends-push : (e g : Frame) (fs : List (Option Frame)) → Descends a nodes d t e fs → IsBelow a nodes d t (frame_of (length fs) e fs) g → Descends a nodes d t e (fs ++ Some g ∷ [])
+  descends-push e g fs h b = descends-append (length fs) e fs (Some g ∷ []) refl h (b, tt)
 
 -- the last mark stands below g, or g is f
 pub quiet-from : (t : Tuple) (f g : Frame) (last : ℕ) → ((p : ℕ) → last < p → p < f.at + f.look.len → mark_of t p ≡ 0) → (StandsOver g last) ⊎ (g ≡ f) → IsQuiet t f g
@@ -113,24 +146,28 @@ module _ (a : DeterministicAutomaton) (nodes : List Node) (d : Dictionary) (all 
       let more = fewer-looks n g fs h.0.frame h.1 in
       omega (arith, one, more)
 
-  -- a run from a place below the frame at a depth
-  pub can-below : (n : ℕ) (f : Frame) (fs : List (Option Frame)) (b : Lowered) → IsFrame a nodes d f → Descends a nodes d t f fs → b.state < states_of a → StandsOver (frame_of n f fs) b.at
+  -- the place is reached, and there is a run from it, also below the frame at a depth
+  pub comes-below : (n : ℕ) (f : Frame) (fs : List (Option Frame)) (b : Lowered) → IsFrame a nodes d f → Descends a nodes d t f fs → StandsOver (frame_of n f fs) b.at
+      → Comes a t f.state f.at (text (tree nodes f.id.index)) b
       → CanRun a b.state (drop (b.at - f.at + 1) (text (tree nodes f.id.index))) f.goals
-      → CanRun a b.state (drop (b.at - (frame_of n f fs).at + 1) (text (tree nodes (frame_of n f fs).id.index))) (frame_of n f fs).goals
-  can-below zero f fs b isf h low over can = can
-  can-below (suc n) f [] b isf h low over can = can
-  can-below (suc n) f (None ∷ fs) b isf h low over can = absurd h
-  can-below (suc n) f (Some g ∷ fs) b isf h low over can =
+      → Comes a t (frame_of n f fs).state (frame_of n f fs).at (text (tree nodes (frame_of n f fs).id.index)) b
+      × CanRun a b.state (drop (b.at - (frame_of n f fs).at + 1) (text (tree nodes (frame_of n f fs).id.index))) (frame_of n f fs).goals
+  comes-below zero f fs b isf h over comes can = (comes, can)
+  comes-below (suc n) f [] b isf h over comes can = (comes, can)
+  comes-below (suc n) f (None ∷ fs) b isf h over comes can = absurd h
+  comes-below (suc n) f (Some g ∷ fs) b isf h over comes can =
       let isg = h.0.frame in
       let more = inside n g fs isg h.1 in
       let from : g.at ≤ b.at = omega (arith, more.0, over.from) in
-      let lt : b.at - g.at < length (text (tree nodes g.id.index)) = omega (arith, more.1, over.from, over.before, more.0, isg.look.len_is) in
-      can-below n g fs b isg h.1 low over (child-can a nodes d all counted auto t f g isf isg g.beside h.0.child b low from lt can)
+      let lt : b.at < g.at + length (text (tree nodes g.id.index)) = omega (arith, more.1, over.from, over.before, more.0, isg.look.len_is) in
+      let on = child-comes a nodes d all counted auto t f g isf isg g.beside h.0.child b from lt comes in
+      comes-below n g fs b isg h.1 over on (child-can a nodes d all counted auto t f g isf isg g.beside h.0.child b from on can)
 
   -- behind the frame there is no mark, so the way leads to it
   pub leads : (f g e : Frame) → IsQuiet t e g → f.at + f.look.len ≤ e.at + e.look.len → (b : Beside) → LeadsBy t f g b
   leads f g e quiet in-f (Right r look) = λ p from to. quiet p from (omega (arith, in-f))
   leads f g e quiet in-f (Left best) = tt
+  leads f g e quiet in-f (Passed l look) = tt
 
   -- where the marks below the frame at a depth can be lowered, there those below the first can
   pub found-up : (n : ℕ) (f : Frame) (fs : List (Option Frame)) (l : Lowering) (x : Lowered) → IsFrame a nodes d f → Descends a nodes d t f fs → IsQuiet t f (frame_of n f fs)

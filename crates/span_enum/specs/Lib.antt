@@ -11,3 +11,4 @@ pub mod Between
 pub mod Lowering
 pub mod Ends
 pub mod Trail
+pub mod Entries

@@ -1,5 +1,5 @@
 -- The way down to the last mark of a tuple, as it is kept from answer to answer.
-use Rattle.std.specs.Prelude.{zero, suc, ◌≡◌, ℕ, ◌+◌, ◌*◌, ◌<◌, ◌≤◌, ◌^◌, List, [], ◌∷◌, ◌++◌, length, slice_get, Option, Some, None, IfSome}
+use Rattle.std.specs.Prelude.{zero, suc, ◌≡◌, ℕ, ◌+◌, ◌*◌, ◌<◌, ◌≤◌, List, [], ◌∷◌, ◌++◌, length, slice_get, Option, Some, None, IfSome}
 use Rattle.span_types.specs.Marks.{mark_of}
 use Rattle.slp_model.specs.declared.Node.{Node}
 use Rattle.slp_model.specs.declared.Node.TheVariants.{Pair}
@@ -9,11 +9,11 @@ use Rattle.slp_model.specs.Tree.{text, height}
 use Rattle.slp_model.specs.Nodes.{tree, IsNodeAt}
 use Rattle.marker_dfa.specs.Deterministic.{DeterministicAutomaton, states_of}
 use Rattle.state_tables.specs.StateSet.{member}
-use Rattle.state_tables.specs.Table.{Row, marked_of}
 use Rattle.state_tables.specs.Dictionary.{Dictionary, IsLook}
 use Rattle.state_tables.specs.declared.view.Look.{Look}
 use Rattle.span_enum.specs.Members.{Tuple}
-use Rattle.span_enum.specs.Sets.{can_reach_of, is_final}
+use Rattle.span_enum.specs.Letters.{reached}
+use Rattle.span_enum.specs.Sets.{is_final}
 use Rattle.span_enum.specs.Tuples.{word_over}
 use Rattle.span_enum.specs.Between.{AreBetween}
 use Rattle.span_enum.specs.Lowering.{IsLowering}
@@ -21,7 +21,7 @@ use Rattle.span_enum.specs.declared.walk.Lowered.{Lowered}
 use Rattle.span_enum.specs.declared.walk.Lowering.{Lowering}
 use Rattle.span_enum.specs.declared.trail.Frame.{Frame}
 use Rattle.span_enum.specs.declared.trail.Beside.{Beside}
-use Rattle.span_enum.specs.declared.trail.Beside.TheVariants.{Right, Left}
+use Rattle.span_enum.specs.declared.trail.Beside.TheVariants.{Right, Left, Passed}
 
 -- a frame shows its node, and stands in a text that isn't too long
 pub record IsFrame (a : DeterministicAutomaton) (nodes : List Node) (d : Dictionary) (f : Frame) : Type 0 where
@@ -31,19 +31,14 @@ pub record IsFrame (a : DeterministicAutomaton) (nodes : List Node) (d : Diction
   pub positive : 1 ≤ f.at
   pub low : f.at + length (text (tree nodes f.id.index)) ≤ 281474976710657
 
--- the states from which the text of a table leads into a goal
-pub record AreBefore (rows : List Row) (goals before : ℕ) : Type 0 where
-  pub is : (k : ℕ) → k < length rows → member before k ≡ can_reach_of rows k goals
-  pub small : (k : ℕ) → k < length rows → marked_of rows k < 2 ^ 128
-
 -- g is the left child of f, and its right sibling is this node
-pub record IsLeftChild (nodes : List Node) (d : Dictionary) (f g : Frame) (r : NodeId) (look : Look) : Type 0 where
+pub record IsLeftChild (a : DeterministicAutomaton) (nodes : List Node) (d : Dictionary) (f g : Frame) (r : NodeId) (look : Look) : Type 0 where
   pub node : IsNodeAt nodes f.id.index (Pair g.id r)
   pub live : r.index < length nodes
   pub look_is : IsLook nodes d r.index look.node look.len look.table.now
   pub at : g.at ≡ f.at
   pub state : g.state ≡ f.state
-  pub goals : AreBefore look.table.now f.goals g.goals
+  pub goals : AreBetween a f.state (text (tree nodes g.id.index)) (text (tree nodes r.index)) f.goals g.goals
 
 -- g is the right child of f, behind the marks of t over its left sibling, the last of which that can be lowered is this one
 pub record IsRightChild (a : DeterministicAutomaton) (nodes : List Node) (t : Tuple) (f g : Frame) (best : Option Lowered) : Type 0 where
@@ -56,9 +51,25 @@ pub record IsRightChild (a : DeterministicAutomaton) (nodes : List Node) (t : Tu
   pub lowering : IsLowering a f.state (text (tree nodes left.index)) between (word_over t f.at (text (tree nodes left.index))) f.at (record { state = Some g.state; best = best })
   pub within : IfSome best (λ b. b.state < states_of a)
 
+-- g is the right child of f, behind the marks of t over its left sibling, which is this node
+pub record IsPassed (a : DeterministicAutomaton) (nodes : List Node) (d : Dictionary) (t : Tuple) (f g : Frame) (l : NodeId) (look : Look) : Type 0 where
+  pub node : IsNodeAt nodes f.id.index (Pair l g.id)
+  pub live : l.index < length nodes
+  pub look_is : IsLook nodes d l.index look.node look.len look.table.now
+  pub at : g.at ≡ f.at + length (text (tree nodes l.index))
+  pub goals : g.goals ≡ f.goals
+  pub state : reached a f.state (word_over t f.at (text (tree nodes l.index))) ≡ Some g.state
+
 abbrev pub IsChild : DeterministicAutomaton → List Node → Dictionary → Tuple → Frame → Frame → Beside → Type 0
-IsChild a nodes d t f g (Right r look) = IsLeftChild nodes d f g r look
+IsChild a nodes d t f g (Right r look) = IsLeftChild a nodes d f g r look
 IsChild a nodes d t f g (Left best) = IsRightChild a nodes t f g best
+IsChild a nodes d t f g (Passed l look) = IsPassed a nodes d t f g l look
+
+-- what the marks over the left sibling tell is known, or not needed
+abbrev pub IsKnown : Beside → Type 0
+IsKnown (Right r look) = Unit {0}
+IsKnown (Left best) = Unit {0}
+IsKnown (Passed l look) = ⊥
 
 -- g is a frame of a child of f
 pub record IsBelow (a : DeterministicAutomaton) (nodes : List Node) (d : Dictionary) (t : Tuple) (f g : Frame) : Type 0 where
@@ -92,10 +103,6 @@ pub record AddsTo (a : DeterministicAutomaton) (nodes : List Node) (d : Dictiona
 abbrev pub Agree : Tuple → Tuple → ℕ → Type 0
 Agree t u at = (p : ℕ) → 1 ≤ p → p < at → mark_of t p ≡ mark_of u p
 
--- the frames lead down for each tuple that has the marks of t before the position
-abbrev pub DescendsTo : DeterministicAutomaton → List Node → Dictionary → Tuple → ℕ → Frame → List (Option Frame) → Type 0
-DescendsTo a nodes d t at f fs = (u : Tuple) → Agree t u at → Descends a nodes d u f fs
-
 -- the letter at the position stands below the frame
 pub record StandsOver (f : Frame) (at : ℕ) : Type 0 where
   pub from : f.at ≤ at
@@ -105,6 +112,7 @@ pub record StandsOver (f : Frame) (at : ℕ) : Type 0 where
 abbrev pub LeadsBy : Tuple → Frame → Frame → Beside → Type 0
 LeadsBy t f g (Right r look) = (p : ℕ) → g.at + g.look.len ≤ p → p < f.at + f.look.len → mark_of t p ≡ 0
 LeadsBy t f g (Left best) = Unit {0}
+LeadsBy t f g (Passed l look) = Unit {0}
 
 abbrev pub LeadsTo : Tuple → Frame → Frame → Type 0
 LeadsTo t f g = LeadsBy t f g g.beside

@@ -4,7 +4,8 @@
 //! `next(&mut looks)` gives the next answer. It makes at most B(k, n) looks at nodes, mostly as many as the distance asks,
 //! and takes no memory: room for the way below is taken at the start.
 //!
-//! An answer is a text with marks at some letters. Between two answers the way from the root to the last mark is kept:
+//! An answer is a text with marks at some letters. Between two answers the way from the root to the last mark is kept, and
+//! the walk that writes an answer's marks lays it:
 //!
 //! ```text
 //!         top               `next` goes up from the last mark to the first node below which a mark can be lowered, here
@@ -17,6 +18,9 @@
 //!      |
 //!   last mark
 //! ```
+//!
+//! Where the walk has just passed the left sibling of a right child, it keeps that sibling, and looks for the place there
+//! only once none is found further on.
 //!
 //! Each node's table tells which states its text leads to, without marks and with some (M. L. Schmid and N. Schweikardt,
 //! Spanner evaluation over SLP-compressed documents, PODS 2021). With the states after a node from which the rest is

@@ -1,24 +1,29 @@
 //! The way down to the last mark of an answer, kept for the next one.
-ghost use Rattle.std.specs.Prelude.{◌≡◌, ◌<◌, ◌≤◌, ◌+◌, ◌-◌, [], drop, length, true, IfOk, IfErr};
+ghost use Rattle.std.specs.Prelude.{◌≡◌, ◌<◌, ◌≤◌, ◌+◌, ◌-◌, ◌*◌, ◌^◌, [], bit_and, drop, take, length, true, IfOk, IfErr, IfSome, MatchOption};
 ghost use Rattle.slp_model.specs.Tree.{text, height};
 ghost use Rattle.slp_model.specs.Nodes.{tree, IsNodeAt};
 ghost use Rattle.slp_model.specs.declared.Node.TheVariants.{Pair};
 ghost use Rattle.marker_dfa.specs.Deterministic.{states_of};
 ghost use Rattle.state_tables.specs.Dictionary.{AreTables};
-ghost use Rattle.span_enum.specs.Tuples.{IsMarkedBetween};
-ghost use Rattle.span_enum.specs.Words.{FindsRest, CanRun};
-ghost use Rattle.span_enum.specs.Trail.{frame_of, IsFrame, IsBelow, Descends, AddsTo, DescendsTo, StandsOver, LeadsTo, IsQuiet, Follows, FollowsUp, looks_over};
+ghost use Rattle.span_enum.specs.Sets.{can_reach_of};
+ghost use Rattle.state_tables.specs.Table.{marked_of, unmarked_of};
+ghost use Rattle.span_enum.specs.Words.{CanRun};
+ghost use Rattle.span_enum.specs.Trail.{frame_of, IsFrame, IsBelow, IsKnown, IsPassed, IsRightChild, Descends, AddsTo, StandsOver, LeadsTo, IsQuiet, Follows, FollowsUp, looks_over};
+ghost use Rattle.span_enum.specs.Entries.{Comes, Completes, Enters};
 ghost use Rattle.span_enum.specs.declared.trail.Frame.{Frame};
+ghost use Rattle.span_enum.specs.declared.trail.Beside.TheVariants.{Right, Passed};
+ghost use Rattle.span_enum.specs.Tuples.{IsMarkedBetween, word_over};
+ghost use Rattle.span_types.specs.Words.{mark_count};
 
 use crate::sets::goals_between;
 use crate::walk::{
-    Lowered, Lowering, complete, first, goals_before, is_marked_between, last_mark, lower,
+    Lowered, Lowering, complete, greatest_mark, is_marked_between, last_mark, lower,
 };
 use marker_dfa::Dfa;
 use node_store::{Node, NodeId};
 use smallvec::SmallVec;
 use span_types::{NoMemory, Steps, Tuple};
-use state_tables::{Look, View};
+use state_tables::{Look, Table, View};
 use std::alloc::Global;
 use std::sync::ledger::Ledger;
 
@@ -29,6 +34,8 @@ pub(crate) enum Beside<'a> {
     Right(NodeId, Look<'a>),
     /// Beside a right child the last place in its left sibling at which the marks can be lowered.
     Left(Option<Lowered>),
+    /// Beside a right child its left sibling, where that place wasn't asked for.
+    Passed(NodeId, Look<'a>),
 }
 
 /// A node on the way down: the place of its first letter, the state before it, and the states after it from which the rest
@@ -70,7 +77,7 @@ fn frame_at<'t, 'a>(
     depth: usize,
 ) -> &'t Frame<'a>
     requires frame { IsFrame dfa.now view.now.store.now view.now.tables.now top.now }
-    requires trail { Descends dfa.now view.now.store.now view.now.tables.now t.now top.now trail.now.items }
+    requires trail { Descends dfa.now view.now.store.now view.now.tables.now t.now top.now (take depth trail.now.items) }
     requires depth { depth ≤ length trail.now.items }
     ensures value { result.now ≡ frame_of depth top.now trail.now.items }
     ensures frame { IsFrame dfa.now view.now.store.now view.now.tables.now result.now }
@@ -156,6 +163,7 @@ fn new_child<'a, L: Ledger>(
     requires marked { IsMarkedBetween t.now frame.now.at (frame.now.at + frame.now.look.len) }
     ensures below { IfOk result (λ g. IsBelow dfa.now view.now.store.now view.now.tables.now t.now frame.now g) }
     ensures leads { IfOk result (λ g. LeadsTo t.now frame.now g) }
+    ensures known { IfOk result (λ g. IsKnown g.beside) }
     ensures dead { IfErr result (λ lowering. Follows dfa.now view.now.store.now t.now frame.now lowering) }
     ensures cost { IfOk result (λ g. looks.new + looks_over view.now.store.now t.now g ≤ looks.old + looks_over view.now.store.now t.now frame.now) }
     ensures dead_cost { IfErr result (λ lowering. looks.new ≤ looks.old + looks_over view.now.store.now t.now frame.now) }
@@ -163,17 +171,6 @@ fn new_child<'a, L: Ledger>(
     let _states = dfa.states();
     let left = view.look(l, looks);
     let right = view.look(r, looks);
-    let behind = frame.at + left.len;
-    if !is_marked_between(t, behind, frame.at + frame.look.len) {
-        return Ok(Frame {
-            id: l,
-            look: left,
-            at: frame.at,
-            state: frame.state,
-            goals: goals_before(right.table, frame.goals),
-            beside: Beside::Right(r, right),
-        });
-    }
     let between = goals_between(
         dfa,
         frame.look.table,
@@ -182,6 +179,17 @@ fn new_child<'a, L: Ledger>(
         frame.state,
         frame.goals,
     );
+    let behind = frame.at + left.len;
+    if !is_marked_between(t, behind, frame.at + frame.look.len) {
+        return Ok(Frame {
+            id: l,
+            look: left,
+            at: frame.at,
+            state: frame.state,
+            goals: between,
+            beside: Beside::Right(r, right),
+        });
+    }
     let over = lower(
         view,
         dfa,
@@ -207,20 +215,23 @@ fn new_child<'a, L: Ledger>(
 }
 
 /// What the marks over a pair tell, by what they tell over the child that leads to the last of them.
-fn joined(
+fn joined<L: Ledger>(
     view: &View<'_>,
     dfa: &Dfa,
     frame: &Frame<'_>,
     child: &Frame<'_>,
     t: &Tuple,
     over: Lowering,
+    looks: &mut Steps<L>,
 ) -> Lowering
     requires tables { AreTables dfa.now view.now.store.now view.now.tables.now }
     requires frame { IsFrame dfa.now view.now.store.now view.now.tables.now frame.now }
     requires below { IsBelow dfa.now view.now.store.now view.now.tables.now t.now frame.now child.now }
     requires leads { LeadsTo t.now frame.now child.now }
     requires over { Follows dfa.now view.now.store.now t.now child.now over }
-    ensures { Follows dfa.now view.now.store.now t.now frame.now result }
+    ensures follows { Follows dfa.now view.now.store.now t.now frame.now result }
+    ensures cost { looks.new + looks_over view.now.store.now t.now child.now ≤ looks.old + looks_over view.now.store.now t.now frame.now }
+    ensures free { IsKnown child.now.beside → looks.new ≡ looks.old }
 {
     let _states = dfa.states();
     match child.beside {
@@ -238,7 +249,47 @@ fn joined(
                 best,
             },
         },
+        Beside::Passed(l, left) => match over.best {
+            Some(_) => over,
+            None => {
+                let beside = lower_beside(view, dfa, frame, child, l, &left, t, looks);
+                Lowering {
+                    state: over.state,
+                    best: beside.best,
+                }
+            }
+        },
     }
+}
+
+/// Follows the marks over the left sibling of a child.
+fn lower_beside<L: Ledger>(
+    view: &View<'_>,
+    dfa: &Dfa,
+    frame: &Frame<'_>,
+    child: &Frame<'_>,
+    l: NodeId,
+    left: &Look<'_>,
+    t: &Tuple,
+    looks: &mut Steps<L>,
+) -> Lowering
+    requires tables { AreTables dfa.now view.now.store.now view.now.tables.now }
+    requires frame { IsFrame dfa.now view.now.store.now view.now.tables.now frame.now }
+    requires child { IsFrame dfa.now view.now.store.now view.now.tables.now child.now }
+    requires passed { IsPassed dfa.now view.now.store.now view.now.tables.now t.now frame.now child.now l left.now }
+    ensures beside { IsRightChild dfa.now view.now.store.now t.now frame.now child.now result.best }
+    ensures cost { looks.new ≤ looks.old + 2 * (height (tree view.now.store.now l.index) * mark_count (word_over t.now frame.now.at (text (tree view.now.store.now l.index)))) }
+{
+    let _states = dfa.states();
+    let between = goals_between(
+        dfa,
+        frame.look.table,
+        left.table,
+        child.look.table,
+        frame.state,
+        frame.goals,
+    );
+    lower(view, dfa, l, left, frame.state, between, frame.at, t, looks)
 }
 
 /// Goes down from the lowest frame to the last mark of the tuple over it, keeps the way, and follows the marks.
@@ -277,7 +328,7 @@ fn descend<'a, L: Ledger>(
         Ok(child) => {
             trail.push_reserved(Some(child));
             let over = descend(view, dfa, &child, trail, t, looks);
-            joined(view, dfa, frame, &child, t, over)
+            joined(view, dfa, frame, &child, t, over, looks)
         }
         Err(over) => over,
     }
@@ -285,7 +336,7 @@ fn descend<'a, L: Ledger>(
 
 /// Goes up from the frame at this depth, behind which the tuple has no mark, as far as a place is found at which the marks
 /// can be lowered, or to the top if a mark below the limit is looked for at the end.
-fn ascend<'a>(
+fn ascend<'a, L: Ledger>(
     view: &View<'a>,
     dfa: &Dfa,
     top: &Frame<'a>,
@@ -294,6 +345,7 @@ fn ascend<'a>(
     from: usize,
     lowest: Lowering,
     limit: u32,
+    looks: &mut Steps<L>,
 ) -> Lowering
     requires tables { AreTables dfa.now view.now.store.now view.now.tables.now }
     requires frame { IsFrame dfa.now view.now.store.now view.now.tables.now top.now }
@@ -301,7 +353,8 @@ fn ascend<'a>(
     requires depth { from ≤ length trail.now.items }
     requires quiet { IsQuiet t.now top.now (frame_of from top.now trail.now.items) }
     requires follows { Follows dfa.now view.now.store.now t.now (frame_of from top.now trail.now.items) lowest }
-    ensures { FollowsUp dfa.now view.now.store.now t.now top.now limit result }
+    ensures follows { FollowsUp dfa.now view.now.store.now t.now top.now limit result }
+    ensures cost { looks.new + looks_over view.now.store.now t.now (frame_of from top.now trail.now.items) ≤ looks.old + looks_over view.now.store.now t.now top.now }
 {
     let _states = dfa.states();
     let mut over = lowest;
@@ -315,7 +368,7 @@ fn ascend<'a>(
         let child = frame_at(view, dfa, &*top, &*trail, t, level);
         level -= 1;
         let frame = frame_at(view, dfa, &*top, &*trail, t, level);
-        over = joined(view, dfa, frame, child, t, over);
+        over = joined(view, dfa, frame, child, t, over, looks);
     }
     over
 }
@@ -350,11 +403,122 @@ pub(crate) fn lower_kept<'a, L: Ledger>(
     );
     let depth = trail.len();
     let over = descend(view, dfa, &lowest, trail, t, looks);
-    ascend(view, dfa, top, &*trail, t, depth, over, limit)
+    ascend(view, dfa, top, &*trail, t, depth, over, limit, looks)
+}
+
+/// The state after the text without marks, if there is no run with marks into a goal.
+fn plain_into(table: &Table, q: u8, goals: u128) -> Option<u8>
+    requires state { q < length table.now }
+    requires can { can_reach_of table.now q goals ≡ true }
+    ensures plain { MatchOption result (bit_and (marked_of table.now q) goals ≡ 0 → ⊥)
+        (λ n. (bit_and (marked_of table.now q) goals ≡ 0) × (unmarked_of table.now q ≡ Some n)) }
+    ensures within { IfSome result (λ n. n < length table.now) }
+    ensures small { marked_of table.now q < 2 ^ 128 }
+{
+    if table.marked(q) & goals != 0 {
+        return None;
+    }
+    match table.unmarked(q) {
+        Some(n) => Some(n),
+        None => unreachable!(),
+    }
+}
+
+/// The left child of a frame.
+fn left_of<'a>(
+    frame: &Frame<'a>,
+    l: NodeId,
+    left: &Look<'a>,
+    r: NodeId,
+    right: &Look<'a>,
+    between: u128,
+) -> Frame<'a>
+    ensures { result ≡ record { id = l; look = left.now; at = frame.now.at; state = frame.now.state; goals = between; beside = Right r right.now } }
+{
+    Frame {
+        id: l,
+        look: *left,
+        at: frame.at,
+        state: frame.state,
+        goals: between,
+        beside: Beside::Right(r, *right),
+    }
+}
+
+/// The right sibling of a left child, from the state after the child.
+fn right_of<'a>(child: &Frame<'a>, r: NodeId, right: &Look<'a>, q: u8, goals: u128) -> Frame<'a>
+    requires { child.now.at + child.now.look.len < 2 ^ 64 }
+    ensures { result ≡ record { id = r; look = right.now; at = child.now.at + child.now.look.len; state = q; goals = goals; beside = Passed child.now.id child.now.look } }
+{
+    Frame {
+        id: r,
+        look: *right,
+        at: child.at + child.look.len,
+        state: q,
+        goals,
+        beside: Beside::Passed(child.id, child.look),
+    }
+}
+
+/// Writes the marks of the first marked text over the frame's node, from its state into a goal. Where there are any, it adds
+/// the frame and the way down to the last of them.
+fn enter<'a, L: Ledger>(
+    view: &View<'a>,
+    dfa: &Dfa,
+    frame: &Frame<'a>,
+    trail: &mut Trail<'a>,
+    out: &mut Tuple,
+    looks: &mut Steps<L>,
+) -> u8
+    requires tables { AreTables dfa.now view.now.store.now view.now.tables.now }
+    requires frame { IsFrame dfa.now view.now.store.now view.now.tables.now frame.now }
+    requires can { can_reach_of frame.now.look.table.now frame.now.state frame.now.goals ≡ true }
+    requires room { length trail.old.items + height (tree view.now.store.now frame.now.id.index) + 1 ≤ trail.old.capacity }
+    ensures enters { Enters dfa.now view.now.store.now view.now.tables.now frame.now looks.old looks.new result out.old out.new trail.old.items trail.new.items }
+    ensures within { result < states_of dfa.now }
+    ensures room { trail.new.capacity ≡ trail.old.capacity }
+{
+    let _states = dfa.states();
+    let Frame {
+        look,
+        at,
+        state,
+        goals,
+        ..
+    } = *frame;
+    if let Some(q) = plain_into(look.table, state, goals) {
+        return q;
+    }
+    trail.push_reserved(Some(*frame));
+    match look.node {
+        Node::Byte(b) => match greatest_mark(dfa, state, b, goals, 65536) {
+            Some(step) => {
+                *out = out.with_mark(step.mark, at);
+                step.state
+            }
+            None => unreachable!(),
+        },
+        Node::Pair(l, r) => {
+            let depth = trail.len();
+            let left = view.look(l, looks);
+            let right = view.look(r, looks);
+            let between = goals_between(dfa, look.table, left.table, right.table, state, goals);
+            let child = left_of(frame, l, &left, r, &right, between);
+            let q = enter(view, dfa, &child, trail, out, looks);
+            match plain_into(right.table, q, goals) {
+                Some(n) => n,
+                None => {
+                    trail.truncate(depth);
+                    let sibling = right_of(&child, r, &right, q, goals);
+                    enter(view, dfa, &sibling, trail, out, looks)
+                }
+            }
+        }
+    }
 }
 
 /// The first marked text over the part of the top behind the place, from the state there into a goal, on the way that is
-/// kept. Of that way the part to the place is left, also for a tuple that has other marks from there on.
+/// kept. Of that way the part to the place is left, and from there it leads on to the last mark that was written.
 pub(crate) fn complete_kept<'a, L: Ledger>(
     view: &View<'a>,
     dfa: &Dfa,
@@ -368,13 +532,13 @@ pub(crate) fn complete_kept<'a, L: Ledger>(
     requires tables { AreTables dfa.now view.now.store.now view.now.tables.now }
     requires frame { IsFrame dfa.now view.now.store.now view.now.tables.now top.now }
     requires trail { Descends dfa.now view.now.store.now view.now.tables.now t.now top.now trail.old.items }
+    requires room { height (tree view.now.store.now top.now.id.index) ≤ trail.old.capacity }
     requires state { from.now.state < states_of dfa.now }
     requires over { StandsOver top.now from.now.at }
+    requires comes { Comes dfa.now t.now top.now.state top.now.at (text (tree view.now.store.now top.now.id.index)) from.now }
     requires can { CanRun dfa.now from.now.state (drop (from.now.at - top.now.at + 1) (text (tree view.now.store.now top.now.id.index))) top.now.goals }
-    ensures rest { FindsRest dfa.now from.now.state (drop (from.now.at - top.now.at + 1) (text (tree view.now.store.now top.now.id.index))) top.now.goals
-        (height (tree view.now.store.now top.now.id.index)) looks.old looks.new result (from.now.at + 1) out.old out.new }
+    ensures completes { Completes dfa.now view.now.store.now view.now.tables.now t.now top.now top.now from.now looks.old looks.new result out.old out.new trail.new.items }
     ensures within { result < states_of dfa.now }
-    ensures trail { DescendsTo dfa.now view.now.store.now view.now.tables.now t.now from.now.at top.now trail.new.items }
     ensures room { trail.new.capacity ≡ trail.old.capacity }
 {
     let _states = dfa.states();
@@ -396,17 +560,14 @@ pub(crate) fn complete_kept<'a, L: Ledger>(
         depth -= 1;
         let frame = frame_at(view, dfa, &*top, &*trail, t, depth);
         if let Beside::Right(r, right) = &child.beside {
-            q = first(
-                view,
-                dfa,
-                *r,
-                right,
-                q,
-                frame.goals,
-                frame.at + child.look.len,
-                out,
-                looks,
-            );
+            q = match plain_into(right.table, q, frame.goals) {
+                Some(n) => n,
+                None => {
+                    let sibling = right_of(child, *r, right, q, frame.goals);
+                    trail.truncate(depth);
+                    enter(view, dfa, &sibling, trail, out, looks)
+                }
+            };
         }
     }
     q

@@ -12,6 +12,8 @@ use Rattle.span_enum.specs.declared.walk.Lowering.{Lowering}
 use Rattle.span_enum.specs.declared.trail.Frame.{Frame}
 use Rattle.span_enum.proofs.TupleLaws.{few-marks}
 use Rattle.span_enum.proofs.Gifts.{some-end, next-of_empty, none-after_empty, next-at_end, next-in_text, none-left, rest-can, cost-lower, within-limit, back-bytes}
+use Rattle.span_enum.proofs.Comings.{comes-lowered}
+use Rattle.span_enum.proofs.Enterings.{rest-of}
 use Rattle.span_enum.proofs.Given.{IsText, no-text, look-text, well, first-member, none-member}
 use Rattle.slp_model.proofs.TreeLemmas.{length-text, height-most}
 use Rattle.span_enum.specs.declared.trail.Beside.TheVariants.{Left}
@@ -145,10 +147,24 @@ complete_kept-q-requires-clause-state g c =
     let low : c.in-Some-best.from.state < _ = rw c.in-Some-best.is at c.lower_kept-over.ensures.follows.follows.best_within in
     low
 
+pub complete_kept-q-requires-clause-comes : goal.complete_kept-q-requires-clause-comes
+complete_kept-q-requires-clause-comes g c =
+    let a = c.args.dfa.now in
+    let s = text (tree c.args.view.now.store.now c.in-Some.id.index) in
+    let found : Lowers a 0 s c.args.goals (word_over c.args.t.now 1 s) 1 c.in-Some-best.from = rw c.in-Some-best.is at c.lower_kept-over.ensures.follows.follows.lowering.best in
+    comes-lowered a c.args.goals 0 1 s c.args.t.now c.in-Some-best.from found
+
+pub complete_kept-q-requires-clause-room : goal.complete_kept-q-requires-clause-room
+complete_kept-q-requires-clause-room g c =
+    let t = tree c.args.view.now.store.now c.in-Some.id.index in
+    let look = c.look-look.ensures.look in
+    let most : height t ≤ 68 = height-most t look.balanced (omega (arith, length-text t, look.len_is, look.short)) in
+    omega (arith, most, c.requires.room, c.lower_kept-over.ensures.room)
+
 pub unreachable-requires : goal.unreachable-requires
 unreachable-requires g c =
     some-end c.args.dfa.now c.states-states.ensures.automaton c.complete_kept-q.result
-    (sym (c.requires.goals c.complete_kept-q.result c.complete_kept-q.ensures.within) ∙ c.complete_kept-q.ensures.rest.first.goal) c.in-None-greatest_end-2.ensures
+    (sym (c.requires.goals c.complete_kept-q.result c.complete_kept-q.ensures.within) ∙ c.complete_kept-q.ensures.completes.first.goal) c.in-None-greatest_end-2.ensures
 
 pub returns-in-Some-greatest_end-2-clause-answer : goal.returns-in-Some-greatest_end-2-clause-answer
 returns-in-Some-greatest_end-2-clause-answer g c =
@@ -172,7 +188,7 @@ returns-in-Some-greatest_end-2-clause-answer g c =
     (height (tree nodes c.in-Some.id.index)) c.args.looks.now _ _ c.complete_kept-q.new.looks c.complete_kept-q.result c.in-Some-greatest_end-2.mark
     c.args.t.now c.with_mark-out.result c.complete_kept-q.new.out c.with_mark-in-Some-greatest_end-2.result l b of up.follows.lowering
     none found low (c.with_mark-out.ensures.value ∙ ap (write_mark b.mark b.at) c.cut_at-in-Some-best.ensures)
-    c.complete_kept-q.ensures.rest c.in-Some-greatest_end-2.ensures
+    (rest-of c.complete_kept-q.ensures.completes) c.in-Some-greatest_end-2.ensures
     (c.with_mark-in-Some-greatest_end-2.ensures.value ∙ ap (λ n. write_mark c.in-Some-greatest_end-2.mark (n + 1) c.complete_kept-q.new.out) len)
     c.look-look.ensures.step c.lower_kept-over.ensures.cost in
     rw c.in-Some.is (first-member a auto s k (Some c.args.t.now) _ of both.0)
@@ -199,7 +215,7 @@ returns-in-Some-greatest_end-2-clause-cost g c =
     (height (tree nodes c.in-Some.id.index)) c.args.looks.now _ _ c.complete_kept-q.new.looks c.complete_kept-q.result c.in-Some-greatest_end-2.mark
     c.args.t.now c.with_mark-out.result c.complete_kept-q.new.out c.with_mark-in-Some-greatest_end-2.result l b of up.follows.lowering
     none found low (c.with_mark-out.ensures.value ∙ ap (write_mark b.mark b.at) c.cut_at-in-Some-best.ensures)
-    c.complete_kept-q.ensures.rest c.in-Some-greatest_end-2.ensures
+    (rest-of c.complete_kept-q.ensures.completes) c.in-Some-greatest_end-2.ensures
     (c.with_mark-in-Some-greatest_end-2.ensures.value ∙ ap (λ n. write_mark c.in-Some-greatest_end-2.mark (n + 1) c.complete_kept-q.new.out) len)
     c.look-look.ensures.step c.lower_kept-over.ensures.cost in
     rw c.in-Some.is (within-limit a.variables c.args.looks.now _ (tree nodes c.in-Some.id.index) c.look-look.ensures.look.balanced both.1)
@@ -270,9 +286,9 @@ returns-in-Some-greatest_end-2-clause-trail g c =
     (height (tree nodes c.in-Some.id.index)) c.args.looks.now _ _ c.complete_kept-q.new.looks c.complete_kept-q.result c.in-Some-greatest_end-2.mark
     c.args.t.now c.with_mark-out.result c.complete_kept-q.new.out c.with_mark-in-Some-greatest_end-2.result l b of up.follows.lowering
     none found low (c.with_mark-out.ensures.value ∙ ap (write_mark b.mark b.at) c.cut_at-in-Some-best.ensures)
-    c.complete_kept-q.ensures.rest c.in-Some-greatest_end-2.ensures
+    (rest-of c.complete_kept-q.ensures.completes) c.in-Some-greatest_end-2.ensures
     (c.with_mark-in-Some-greatest_end-2.ensures.value ∙ ap (λ n. write_mark c.in-Some-greatest_end-2.mark (n + 1) c.complete_kept-q.new.out) len)
     c.look-look.ensures.step c.lower_kept-over.ensures.cost in
     is-trail a nodes view.tables.now c.args.root c.args.goals c.in-Some.id c.with_mark-in-Some-greatest_end-2.result
     (record { id = c.in-Some.id; look = c.look-look.result; at = 1; state = 0; goals = c.args.goals; beside = Left None }) c.complete_kept-q.new.trail.items c.in-Some.is
-    (record { id_is = refl; at = refl; state = refl; goals_are = refl }) (c.complete_kept-q.ensures.trail c.with_mark-in-Some-greatest_end-2.result both.2)
+    (record { id_is = refl; at = refl; state = refl; goals_are = refl }) (c.complete_kept-q.ensures.completes.leads c.with_mark-in-Some-greatest_end-2.result (record { agree = both.2; mark = both.3; rest = both.4 }))

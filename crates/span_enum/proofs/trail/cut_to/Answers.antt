@@ -7,7 +7,10 @@ use Rattle.span_enum.proofs.trail.cut_to.Goals as goal
 pub frame_at-requires-clause-trail : goal.frame_at-requires-clause-trail
 frame_at-requires-clause-trail c =
     let view = c.args.view.now in
-    rw c.truncate.ensures.items (descends-take c.args.dfa.now view.store.now view.tables.now c.args.t.now c.depth_over-depth.result c.args.top.now c.args.trail.now.items c.requires.trail)
+    let nodes = view.store.now in
+    let top = c.args.top.now in
+    descends-take c.args.dfa.now nodes view.tables.now c.args.t.now c.depth_over-depth.result top c.truncate.new.self.items
+    (rw c.truncate.ensures.items (descends-take c.args.dfa.now nodes view.tables.now c.args.t.now c.depth_over-depth.result top c.args.trail.now.items c.requires.trail))
 
 pub returns : goal.returns
 returns c =

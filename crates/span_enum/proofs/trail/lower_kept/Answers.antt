@@ -1,7 +1,7 @@
-use Rattle.std.proofs.Common.{◌≡◌, ap, ◌∙◌, arith, refl, length, inl, inr}
+use Rattle.std.proofs.Common.{◌≡◌, ap, sym, ◌∙◌, arith, refl, length, inl, inr}
 use Rattle.std.proofs.lemmas.Bool.{cases_lt}
 use Rattle.span_enum.specs.Trail.{frame_of}
-use Rattle.span_enum.proofs.Ways.{heights, fewer-looks, descends-append, frame-append, quiet-from}
+use Rattle.span_enum.proofs.Ways.{heights, descends-append, frame-append, quiet-from}
 use Rattle.span_enum.proofs.trail.lower_kept.Goals as goal
 
 pub descend-over-requires-clause-room : goal.descend-over-requires-clause-room
@@ -48,7 +48,9 @@ returns-clause-trail g c =
 pub returns-clause-cost : goal.returns-clause-cost
 returns-clause-cost g c =
     let view = c.args.view.now in
+    let top = c.args.top.now in
     let items = c.cut_to-lowest.new.trail.items in
-    let fewer = fewer-looks c.args.dfa.now view.store.now view.tables.now c.requires.tables view.counted c.states-states.ensures.automaton c.args.t.now
-    (length items) c.args.top.now items c.requires.frame c.cut_to-lowest.ensures.trail in
-    omega (arith, rw c.cut_to-lowest.ensures.value at c.descend-over.ensures.cost, fewer)
+    let adds = c.descend-over.ensures.trail in
+    let same : frame_of c.len-depth.result top c.descend-over.new.trail.items ≡ c.cut_to-lowest.result =
+    rw (adds.new_is, c.len-depth.ensures.value, frame-append (length items) top items adds.more (omega arith)) (sym c.cut_to-lowest.ensures.value) in
+    omega (arith, c.descend-over.ensures.cost, rw same at c.ascend.ensures.cost)

@@ -1,4 +1,4 @@
-use Rattle.std.proofs.Common.{◌<◌, ◌+◌, arith, refl, length}
+use Rattle.std.proofs.Common.{◌<◌, ◌+◌, arith, refl, sym, ◌∙◌, length}
 use Rattle.slp_model.specs.Tree.{text}
 use Rattle.slp_model.specs.Nodes.{tree, IsNodeAt}
 use Rattle.slp_model.specs.declared.Node.TheVariants.{Byte, Pair}
@@ -63,12 +63,10 @@ returns-in-Some-best-clause-lowering g t c =
     (look-is a nodes view.tables.now c.requires.tables view.counted c.in-Pair.r.index _ _ _ live-r c.look-right.ensures.look) in
     rw (pair-text nodes c.args.id.index _ _ pair)
     (rw (over-append c.args.t.now c.args.at (text (tree nodes c.in-Pair.l.index)) (text (tree nodes c.in-Pair.r.index)))
-    (lowering-right a c.states-states.ensures.automaton (text (tree nodes c.in-Pair.l.index)) (text (tree nodes c.in-Pair.r.index)) c.args.p c.args.goals c.goals_between-between.result c.requires.state
-    b.reach
-    (λ n low h. b.onward n h)
+    (lowering-right a (text (tree nodes c.in-Pair.l.index)) (text (tree nodes c.in-Pair.r.index)) c.args.p c.args.goals
     (word_over c.args.t.now c.args.at (text (tree nodes c.in-Pair.l.index))) (word_over c.args.t.now (c.args.at + length (text (tree nodes c.in-Pair.l.index))) (text (tree nodes c.in-Pair.r.index)))
-    (over-bytes c.args.t.now c.args.at _) (over-bytes c.args.t.now _ _) c.args.at c.in-Some-state.q c.lower-over_left.result c.lower-over_right.result c.in-Some-best.field-0
-    c.lower-over_left.ensures.lowering c.in-Some-state.is (rw c.look-left.ensures.look.len_is at c.lower-over_right.ensures.lowering) c.in-Some-best.is))
+    (over-bytes c.args.t.now c.args.at _) (over-bytes c.args.t.now _ _) c.args.at c.in-Some-state.q c.lower-over_right.result c.in-Some-best.field-0
+    (sym c.lower-over_left.ensures.lowering.ends ∙ c.in-Some-state.is) (rw c.look-left.ensures.look.len_is at c.lower-over_right.ensures.lowering) c.in-Some-best.is))
 
 pub returns-in-None-best-clause-lowering : goal.returns-in-None-best-clause-lowering
 returns-in-None-best-clause-lowering g t c =
