@@ -1,0 +1,35 @@
+-- A listing has one reply, and the spans that are chosen are one list.
+use Rattle.std.proofs.Common.{◌≡◌, ℕ, Bool, List, [], ◌∷◌, ◌++◌, Option, None, sym, ◌∙◌, ap, subst}
+use Rattle.span_types.specs.Query.{Query}
+use Rattle.span_types.specs.Rel.{IsAnswersOf, names_of}
+use Rattle.span_types.specs.Answers.{IsPage}
+use Rattle.span_types.specs.declared.tuple.Span.{Span}
+use Rattle.span_types.proofs.LeafLaws.{one-query-list}
+use Rattle.span_types.proofs.PageLaws.{one-page}
+use Rattle.span_enum.specs.Members.{Tuple}
+use Rattle.span_replace.specs.Chosen.{chosen}
+use Rattle.span_language.specs.State.{Documents}
+use Rattle.span_language.specs.Listed.{AreListed, IsListReply, IsPageOf, doc_line, page_text}
+use Rattle.span_language.specs.Step.{IsChosenOf}
+use Rattle.span_language.proofs.Texts.{one_cursor}
+
+one_page_of : (q : Query) (s : List ℕ) (c d : Option Tuple) (n : ℕ) (page other : List Tuple) (more less : Bool) → c ≡ d
+    → IsPageOf q s c n page more → IsPageOf q s d n other less → (page ≡ other) × (more ≡ less)
+one_page_of q s c d n page other more less same h k =
+    one-page h.all c n page other more less h.is (subst (λ z. IsPage z c n other less) (one-query-list q s k.all h.all k.answers h.answers) (subst (λ z. IsPage k.all z n other less) (sym same) k.is))
+
+pub one_list_reply : (q : Query) (s : List ℕ) (after : Option (List ℕ)) (n : ℕ) (reply other : List ℕ) → IsListReply q s after n reply → IsListReply q s after n other → reply ≡ other
+one_list_reply q s after n reply other h k =
+    let same = one_page_of q s h.cursor k.cursor n h.page k.page h.more k.more (one_cursor q after h.cursor k.cursor h.cursor_is k.cursor_is) h.page_is k.page_is in
+    h.reply_is ∙ (λ i. page_text (names_of q) (same.0 i) (same.1 i)) ∙ sym k.reply_is
+
+pub one_listed : (q : Query) (n : ℕ) (docs : Documents) (reply other : List ℕ) → AreListed q n docs reply → AreListed q n docs other → reply ≡ other
+one_listed q n [] reply other h k = h ∙ sym k
+one_listed q n (d ∷ docs) reply other (page, more, rest, h, listed, e) (page2, more2, rest2, k, listed2, f) =
+    let same = one_page_of q d.1 None None n page page2 more more2 (λ i. None) h k in
+    let left = one_listed q n docs rest rest2 listed listed2 in
+    e ∙ (λ i. doc_line d.0 ++ (page_text (names_of q) (same.0 i) (same.1 i) ++ left i)) ∙ sym f
+
+pub one_choice : (q p : Query) (s t : List ℕ) (spans other : List Span) → q ≡ p → s ≡ t → IsChosenOf q s spans → IsChosenOf p t other → spans ≡ other
+one_choice q p s t spans other e f h k =
+    h.is ∙ ap chosen (one-query-list q s h.all k.all h.answers (subst (λ z. IsAnswersOf z s k.all) (sym e) (subst (λ z. IsAnswersOf p z k.all) (sym f) k.answers))) ∙ sym k.is

@@ -1,0 +1,149 @@
+-- What the texts of a query, of a tuple and of kept variables say is one.
+use Rattle.std.proofs.Common.{◌≡◌, ℕ, List, [], ◌∷◌, ◌++◌, Option, Some, None, refl, sym, ◌∙◌, ap, subst, inl, inr, codes, arith}
+use Rattle.line_parts.specs.NameList.{AreNames, IsName, with_commas}
+use Rattle.line_parts.proofs.Cuts.{NoByte, name_plain, no_cut, one_cut}
+use Rattle.line_parts.proofs.Names.{name_no_comma}
+use Rattle.span_types.specs.FormulaTree.{FormulaTree}
+use Rattle.span_types.specs.Query.{Query, Leaf}
+use Rattle.span_types.specs.Rel.{names_of}
+use Rattle.span_enum.specs.Members.{Tuple}
+use Rattle.formula_syntax.specs.FormulaOf.{Formula, FormulaOf, Outcome}
+use Rattle.formula_syntax.specs.FormulaOf as formula
+use Rattle.formula_syntax.proofs.Outcomes.{is-outcome}
+use Rattle.query_book.specs.Keeping.{IsVarsText}
+use Rattle.query_book.specs.Occurrences.{CountIsAbove}
+use Rattle.query_book.specs.Registering.{IsQueryOf}
+use Rattle.span_cursor.specs.Tuples.{TupleText}
+use Rattle.span_cursor.proofs.TupleLemmas.{one_tuple_of}
+use Rattle.report_text.specs.declared.refusal.Refusal.{Refusal}
+use Rattle.report_text.specs.declared.refusal.Refusal.TheVariants as why
+use Rattle.span_language.specs.Cursors.{IsCursorOf, IsCursorRefused, IsTupleRefused}
+use Rattle.span_language.specs.Step.{IsTextRefused}
+
+abbrev Name : Type 0
+Name = List ℕ
+
+first_byte : (a b : ℕ) (xs ys : List ℕ) → a ∷ xs ≡ b ∷ ys → a ≡ b
+first_byte a b xs ys e = cc
+
+-- no list of names is a pair of brackets
+no_brackets : (name : Name) (names : List Name) → IsName name → codes "()" ≡ with_commas name names → ⊥
+no_brackets name names named e = by name names (name_plain 40 name refl named) e
+  where
+    by : (name : Name) (names : List Name) → NoByte 40 name → codes "()" ≡ with_commas name names → ⊥
+    by [] [] plain e = let bad : ⊥ = cc in bad
+    by [] (next ∷ names) plain e = let same = first_byte 40 44 (codes ")") (with_commas next names) e in omega (arith, same)
+    by (b ∷ bs) [] plain e = plain.0 (first_byte b 40 bs (codes ")") (sym e))
+    by (b ∷ bs) (next ∷ names) plain e = plain.0 (first_byte b 40 (bs ++ 44 ∷ with_commas next names) (codes ")") (sym e))
+
+one_listed : (n m : Name) (ns ms : List Name) → AreNames (n ∷ ns) → AreNames (m ∷ ms) → with_commas n ns ≡ with_commas m ms → n ∷ ns ≡ m ∷ ms
+one_listed n m [] [] h k e = ap (λ (z : Name). z ∷ []) e
+one_listed n m [] (y ∷ ms) h k e = absurd (no_cut 44 m (with_commas y ms) (subst (NoByte 44) e (name_no_comma n h.0)))
+one_listed n m (x ∷ ns) [] h k e = absurd (no_cut 44 n (with_commas x ns) (subst (NoByte 44) (sym e) (name_no_comma m k.0)))
+one_listed n m (x ∷ ns) (y ∷ ms) h k e =
+    let cut = one_cut 44 n (with_commas x ns) m (with_commas y ms) (name_no_comma n h.0) (name_no_comma m k.0) e in
+    let rest = one_listed x y ns ms h.1 k.1 cut.1 in
+    λ i. cut.0 i ∷ rest i
+
+pub one_names : (text : List ℕ) (ns ms : List Name) → IsVarsText text ns → IsVarsText text ms → ns ≡ ms
+one_names text [] [] h k = refl
+one_names text [] (m ∷ ms) h k = absurd (no_brackets m ms k.0.0 (sym h ∙ k.1))
+one_names text (n ∷ ns) [] h k = absurd (no_brackets n ns h.0.0 (sym k ∙ h.1))
+one_names text (n ∷ ns) (m ∷ ms) h k = one_listed n m ns ms h.0 k.0 (sym h.1 ∙ k.1)
+
+-- the text has other names than its own, or is none
+pub tuple_once : (q : Query) (word : List ℕ) (tuple : Tuple) (r : Refusal) → TupleText word (names_of q) tuple → IsTupleRefused q word r → ⊥
+tuple_once q word tuple r h (inl k) = k.0 (names_of q, tuple, h)
+tuple_once q word tuple r h (inr ((names, values, text, other), is)) = other (one_tuple_of word names (names_of q) values tuple text h).0
+
+pub one_tuple : (q : Query) (word : List ℕ) (t u : Tuple) → TupleText word (names_of q) t → TupleText word (names_of q) u → t ≡ u
+one_tuple q word t u h k = (one_tuple_of word (names_of q) (names_of q) t u h k).1
+
+pub one_tuple_refusal : (q : Query) (word : List ℕ) (r s : Refusal) → IsTupleRefused q word r → IsTupleRefused q word s → r ≡ s
+one_tuple_refusal q word r s (inl h) (inl k) = h.1 ∙ sym k.1
+one_tuple_refusal q word r s (inl h) (inr ((names, values, text, other), is)) = absurd (h.0 (names, values, text))
+one_tuple_refusal q word r s (inr ((names, values, text, other), is)) (inl k) = absurd (k.0 (names, values, text))
+one_tuple_refusal q word r s (inr h) (inr k) = h.1 ∙ sym k.1
+
+pub one_cursor : (q : Query) (after : Option (List ℕ)) (c d : Option Tuple) → IsCursorOf q after c → IsCursorOf q after d → c ≡ d
+one_cursor q None c d h k = h ∙ sym k
+one_cursor q (Some word) c d (t, h, e) (u, k, f) = e ∙ ap Some (one_tuple q word t u h k) ∙ sym f
+
+pub cursor_once : (q : Query) (after : Option (List ℕ)) (c : Option Tuple) (r : Refusal) → IsCursorOf q after c → IsCursorRefused q after r → ⊥
+cursor_once q None c r h k = k
+cursor_once q (Some word) c r (t, h, e) k = tuple_once q word t r h k
+
+pub one_cursor_refusal : (q : Query) (after : Option (List ℕ)) (r s : Refusal) → IsCursorRefused q after r → IsCursorRefused q after s → r ≡ s
+one_cursor_refusal q None r s h k = absurd h
+one_cursor_refusal q (Some word) r s h k = one_tuple_refusal q word r s h k
+
+one_outcome : (s : List ℕ) (o p : Outcome) → FormulaOf s o → FormulaOf s p → o ≡ p
+one_outcome s o p h k = is-outcome s o h ∙ sym (is-outcome s p k)
+
+same_formulas : (f g : FormulaTree) (n m : List Name) → Formula f n ≡ Formula g m → (f ≡ g) × (n ≡ m)
+same_formulas f g n m e = (cc, cc)
+
+pub one_query : (s : List ℕ) (q p : Query) → IsQueryOf s q → IsQueryOf s p → q ≡ p
+one_query s q p h k =
+    let same = same_formulas h.formula k.formula h.names k.names (one_outcome s (Formula h.formula h.names) (Formula k.formula k.names) h.outcome k.outcome) in
+    h.query ∙ (λ i. Leaf (same.0 i) (same.1 i)) ∙ sym k.query
+
+-- the refusal that an outcome is; that of a formula is of its reached sets
+abbrev Tells : Outcome → Refusal → Type 0
+Tells (formula.TooLong len) r = r ≡ why.FormulaTooLong len
+Tells formula.BadText r = r ≡ why.BadFormula
+Tells formula.TooDeep r = r ≡ why.TooDeep
+Tells formula.TooManyPositions r = r ≡ why.TooManyPositions
+Tells formula.TooManyVariables r = r ≡ why.TooManyVariables
+Tells (formula.NotFunctional name) r = r ≡ why.NotFunctional name
+Tells (Formula f names) r = CountIsAbove 128 f × (r ≡ why.TooManyStates)
+
+tells_one : (o : Outcome) (r s : Refusal) → Tells o r → Tells o s → r ≡ s
+tells_one (formula.TooLong len) r s h k = h ∙ sym k
+tells_one formula.BadText r s h k = h ∙ sym k
+tells_one formula.TooDeep r s h k = h ∙ sym k
+tells_one formula.TooManyPositions r s h k = h ∙ sym k
+tells_one formula.TooManyVariables r s h k = h ∙ sym k
+tells_one (formula.NotFunctional name) r s h k = h ∙ sym k
+tells_one (Formula f names) r s h k = h.1 ∙ sym k.1
+
+record Refuses (s : List ℕ) (r : Refusal) : Type 0 where
+  outcome : Outcome
+  of : FormulaOf s outcome
+  tells : Tells outcome r
+
+refuses : (s : List ℕ) (r : Refusal) → IsTextRefused s r → Refuses s r
+refuses s (why.FormulaTooLong len) h = record { outcome = formula.TooLong len; of = h; tells = refl }
+refuses s why.BadFormula h = record { outcome = formula.BadText; of = h; tells = refl }
+refuses s why.TooDeep h = record { outcome = formula.TooDeep; of = h; tells = refl }
+refuses s why.TooManyPositions h = record { outcome = formula.TooManyPositions; of = h; tells = refl }
+refuses s why.TooManyVariables h = record { outcome = formula.TooManyVariables; of = h; tells = refl }
+refuses s (why.NotFunctional name) h = record { outcome = formula.NotFunctional name; of = h; tells = refl }
+refuses s why.TooManyStates h = record { outcome = Formula h.formula h.names; of = h.outcome; tells = (h.many, refl) }
+refuses s why.Syntax h = absurd h
+refuses s (why.NoSuchDocument name) h = absurd h
+refuses s (why.NoSuchQuery name) h = absurd h
+refuses s (why.OutOfRange first last len) h = absurd h
+refuses s (why.TooLong len) h = absurd h
+refuses s (why.RangeTooWide width) h = absurd h
+refuses s why.BadTuple h = absurd h
+refuses s why.OtherVariables h = absurd h
+refuses s (why.NoSuchFile file) h = absurd h
+refuses s (why.FileTooLong file) h = absurd h
+refuses s (why.BadImage kind) h = absurd h
+refuses s (why.QueryTooLarge parts) h = absurd h
+refuses s (why.NotOneVariable count) h = absurd h
+refuses s why.TooManyMatches h = absurd h
+refuses s (why.NoSuchVersion name) h = absurd h
+
+pub one_text_refusal : (s : List ℕ) (r t : Refusal) → IsTextRefused s r → IsTextRefused s t → r ≡ t
+one_text_refusal s r t h k = by (refuses s r h) (refuses s t k)
+  where
+    by : Refuses s r → Refuses s t → r ≡ t
+    by a b = tells_one b.outcome r t (subst (λ o. Tells o r) (one_outcome s a.outcome b.outcome a.of b.of) a.tells) b.tells
+
+pub text_once : (s : List ℕ) (q : Query) (r : Refusal) → IsQueryOf s q → IsTextRefused s r → ⊥
+text_once s q r h k = by (refuses s r k)
+  where
+    by : Refuses s r → ⊥
+    by a = h.few (subst (λ o. Tells o r) (one_outcome s a.outcome (Formula h.formula h.names) a.of h.outcome) a.tells).0
