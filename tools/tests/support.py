@@ -15,6 +15,9 @@ sys.path.insert(0, str(TOOLS))
 from program import Reply, replies_of, run_script  # noqa: E402
 
 PROGRAM = Path(os.environ["SPANBASE_PROGRAM"])
+STAND_IN = TOOLS / "tests/shell"
+# a shell of the language, or what stands in for it where none was given
+SHELL = Path(os.environ.get("SPANBASE_SHELL") or STAND_IN)
 # the random tests try so many times as many inputs
 TIMES = int(os.environ.get("SPANBASE_TIMES", "1"))
 
@@ -28,9 +31,9 @@ def tool(name: str, *words: str | bytes | Path, folder: Path | None = None) -> s
     return subprocess.run([TOOLS / name, *words], capture_output=True, cwd=folder, check=False)
 
 
-def tool_as_module(name: str) -> ModuleType:
-    """A tool as a module, so that its functions can be called thousands of times."""
-    loader = importlib.machinery.SourceFileLoader(name, str(TOOLS / name))
+def tool_as_module(name: str, folder: Path = TOOLS) -> ModuleType:
+    """A tool, or a script of another folder, as a module, so that its functions can be called thousands of times."""
+    loader = importlib.machinery.SourceFileLoader(name, str(folder / name))
     module = importlib.util.module_from_spec(importlib.util.spec_from_loader(name, loader))
     sys.modules[name] = module
     loader.exec_module(module)

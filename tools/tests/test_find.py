@@ -6,7 +6,7 @@ import tempfile
 import unittest
 from pathlib import Path
 
-from support import PROGRAM, TOOLS, replies, tool, tool_as_module
+from support import PROGRAM, SHELL, replies, tool, tool_as_module
 
 find = tool_as_module("find")
 
@@ -80,7 +80,7 @@ class Find(unittest.TestCase):
 
     def test_a_shell(self):
         self.write("text", b"ab" * 10010)
-        self.assertEqual(self.found("--shell", TOOLS / "tests/shell", "--count", "ab", "text"), [b"text\t10010"])
+        self.assertEqual(self.found("--shell", SHELL, "--count", "ab", "text"), [b"text\t10010"])
 
     def test_forms(self):
         self.write("text", b"k=\xff;l;")

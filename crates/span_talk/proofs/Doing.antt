@@ -1,0 +1,102 @@
+-- A line of which at most 65,537 bytes are kept is done as the line itself.
+use Rattle.std.proofs.Common.{◌≡◌, ℕ, ◌+◌, ◌≤◌, Bool, List, [], ◌∷◌, ◌++◌, take, refl, sym, ◌∙◌, ap, subst, arith, inl, inr}
+use Rattle.std.specs.Prelude.{◌||◌, Option, Some, None}
+use Rattle.std.specs.Io.KnownBytes.{Appends}
+use Rattle.std.proofs.lemmas.List.{append-nil}
+use Rattle.edge_io.specs.Causes.{Rose}
+use Rattle.script_syntax.specs.Syntax.{LineText}
+use Rattle.script_syntax.specs.declared.form.Command.{Command}
+use Rattle.span_language.specs.State.{world}
+use Rattle.span_language.specs.Allowance.{no_steps}
+use Rattle.span_language.specs.Means.{Means}
+use Rattle.span_language.specs.Runs.{Outside, is_refused, Anywhere, InFileLine, UnlessList, RunsFront}
+use Rattle.span_language.specs.declared.told.Told.{Told}
+use Rattle.span_language.specs.declared.told.Stop.{Stop}
+use Rattle.span_language.specs.declared.told.Stop.TheVariants as stop
+use Rattle.span_run.specs.Held.{Standing, IsStanding}
+use Rattle.span_run.specs.Scene.{Scene}
+use Rattle.span_run.specs.Carried.{IsDone, IsStopped, Outlet}
+use Rattle.span_run.proofs.RunsLemmas.{IsAt, told_of, goes_on, stops_anywhere, stops_in_file, stops_wanting, ends}
+use Rattle.span_talk.specs.Progress.{Does, Place, StandsAt, StopsIn, place}
+use Rattle.span_talk.proofs.Cuts.{short_take, take_all}
+
+pub means_kept : (line : List ℕ) (meaning : Option Command) → Means (take 65537 line) meaning → Means line meaning
+means_kept line None h = λ command text. h command (subst (λ (l : List ℕ). LineText l command) (sym (take_all 65537 line (omega (arith, text.short)))) text)
+means_kept line (Some command) h = subst (λ (l : List ℕ). LineText l command) (short_take 65537 line (omega (arith, h.short))) h
+
+-- the lines that follow may be told before they are done
+pub further : (lines more : List (List ℕ)) (number : ℕ) (refused : Bool) (st : Standing) (before now : Outside) → IsAt lines [] number refused st before now → IsAt (lines ++ more) more number refused st before now
+further lines more number refused st before now at = record {
+  done = at.done;
+  cut = ap (λ (l : List (List ℕ)). l ++ more) (at.cut ∙ append-nil at.done);
+  counted = at.counted;
+  sum = at.sum;
+  ran = at.ran;
+  refused_is = at.refused_is;
+  wrote = at.wrote;
+  paid = at.paid;
+  dropped = at.dropped;
+  placed = at.placed;
+  grown = at.grown;
+}
+
+-- a run that was stopped where no line had begun
+pub stopped_between : (Ends : Option Command → List ℕ → Type 0) (lines left : List (List ℕ)) (before : Outside) (p : Place) → IsStanding p.standing → Ends None [] → StandsAt lines before p
+    → RunsFront Ends (lines ++ left) before p.now
+stopped_between Ends lines left before p held ends_so at =
+    let all = ends lines [] p.number p.refused p.standing before p.now refl held at in
+    record {
+      done = lines;
+      left = left;
+      cut = refl;
+      sum = all.sum;
+      mid = world all.state p.now.files;
+      ran = all.ran;
+      part = [];
+      last = no_steps;
+      next = inl (refl, refl, refl, ends_so);
+      wrote = subst (λ (l : List ℕ). Appends before.written p.now.written l) (sym (append-nil all.sum.output)) all.wrote;
+      paid = record { looks = omega (arith, all.paid.looks); pairs = omega (arith, all.paid.pairs) };
+      placed = all.placed;
+    }
+
+module _ (kept : List ℕ) (number : ℕ) (old : Scene) (sink : Outlet) (new : Scene) (after : Outlet) where
+  done_as : (line : List ℕ) (told : Told) → kept ≡ take 65537 line → IsDone kept number old sink new after told → IsDone line number old sink new after told
+  done_as line told is (meaning, means, d) = (meaning, means_kept line meaning (subst (λ (l : List ℕ). Means l meaning) is means), d)
+
+  stopped_as : (line : List ℕ) (why : Stop) → kept ≡ take 65537 line → IsStopped kept number old sink new after why → IsStopped line number old sink new after why
+  stopped_as line why is (inl unread) = inl unread
+  stopped_as line why is (inr (meaning, means, s)) = inr (meaning, means_kept line meaning (subst (λ (l : List ℕ). Means l meaning) is means), s)
+
+  pub does : (refused : Bool) (told : Told) → IsDone kept number old sink new after told
+      → Does kept (place number refused old.standing (told_of old sink)) (place (number + 1) (refused || is_refused told) new.standing (told_of new after))
+  does refused told done = λ line lines before is at.
+      goes_on (lines ++ line ∷ []) (line ∷ []) [] line number refused before old sink new after refl (further lines (line ∷ []) number refused old.standing before (told_of old sink) at) told (done_as line told is done)
+
+  -- the counts never fall
+  pub later : (why : Stop) → IsStopped kept number old sink new after why → (sink.faults ≤ after.faults) × (sink.wants ≤ after.wants) × (old.faults ≤ new.faults)
+  later why (inl (other, same, unsaid)) =
+      subst (λ (o : Outlet). (sink.faults ≤ o.faults) × (sink.wants ≤ o.wants) × (old.faults ≤ new.faults)) (sym unsaid)
+      (subst (λ (s : Scene). (sink.faults ≤ sink.faults) × (sink.wants ≤ sink.wants) × (old.faults ≤ s.faults)) (sym same) (omega arith, omega arith, omega arith))
+  later why (inr (meaning, means, s)) = (s.passes.later, s.passes.wants_later, s.passes.shelf_later)
+
+  pub out_rose : IsStopped kept number old sink new after stop.OutFault → Rose sink.faults after.faults
+  out_rose (inl (other, same, unsaid)) = let bad : ⊥ = cc other in absurd bad
+  out_rose (inr (meaning, means, s)) = (s.fault refl).1
+
+  pub shelf_rose : IsStopped kept number old sink new after stop.ShelfFault → Rose old.faults new.faults
+  shelf_rose (inl (other, same, unsaid)) = let bad : ⊥ = cc other in absurd bad
+  shelf_rose (inr (meaning, means, s)) = (s.shelf_fault refl).1
+
+  module _ (refused : Bool) (held : IsStanding old.standing) (stands : IsStanding new.standing) where
+    pub stops_out : IsStopped kept number old sink new after stop.OutFault → StopsIn Anywhere kept (place number refused old.standing (told_of old sink)) (told_of new after)
+    stops_out stopped = λ line lines more before is at.
+        (stops_anywhere (lines ++ line ∷ more) (line ∷ more) more line number refused before old sink new after refl (further lines (line ∷ more) number refused old.standing before (told_of old sink) at) held stands (stopped_as line stop.OutFault is stopped)).1
+
+    pub stops_shelf : IsStopped kept number old sink new after stop.ShelfFault → StopsIn InFileLine kept (place number refused old.standing (told_of old sink)) (told_of new after)
+    stops_shelf stopped = λ line lines more before is at.
+        (stops_in_file (lines ++ line ∷ more) (line ∷ more) more line number refused before old sink new after refl (further lines (line ∷ more) number refused old.standing before (told_of old sink) at) held stands (stopped_as line stop.ShelfFault is stopped)).1
+
+    pub stops_want : IsStopped kept number old sink new after stop.NoMemory → (wants : ℕ) → wants ≤ sink.wants → StopsIn (UnlessList wants after.wants) kept (place number refused old.standing (told_of old sink)) (told_of new after)
+    stops_want stopped wants few = λ line lines more before is at.
+        stops_wanting (lines ++ line ∷ more) (line ∷ more) more line number refused before old sink new after refl (further lines (line ∷ more) number refused old.standing before (told_of old sink) at) wants few held stands (stopped_as line stop.NoMemory is stopped)

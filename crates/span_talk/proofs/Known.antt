@@ -1,0 +1,56 @@
+-- What a client tells.
+use Rattle.std.proofs.Common.{ℕ, List, [], ◌∷◌, ◌++◌, refl, sym, ◌∙◌, ap, subst, append_assoc}
+use Rattle.std.specs.Prelude.{Option, Some, None}
+use Rattle.std.specs.List.{AllByRecursion}
+use Rattle.std.specs.Io.KnownBytes.{Consumes, IsAtEnd, Keeps}
+use Rattle.std.proofs.lemmas.List.{append-nil}
+use Rattle.span_language.specs.Runs.{Outside}
+use Rattle.span_talk.specs.Talk.{AreServed, IsServed, Moment, Notes, OfSent}
+
+pub none_consumed : (a : Option (List ℕ)) → Consumes a a []
+none_consumed None = tt
+none_consumed (Some a) = refl
+
+pub both_consumed : (a b c : Option (List ℕ)) (xs ys : List ℕ) → Consumes a b xs → Consumes b c ys → Consumes a c (xs ++ ys)
+both_consumed None b c xs ys first second = tt
+both_consumed (Some a) None c xs ys first second = absurd first
+both_consumed (Some a) (Some b) None xs ys first second = absurd second
+both_consumed (Some a) (Some b) (Some c) xs ys first second = first ∙ ap (λ l. xs ++ l) second ∙ sym (append_assoc xs ys c)
+
+pub kept_consumed : (a b c : Option (List ℕ)) (xs : List ℕ) → Consumes a b xs → Keeps b c → Consumes a c xs
+kept_consumed None b c xs first kept = tt
+kept_consumed (Some a) None c xs first kept = absurd first
+kept_consumed (Some a) (Some b) None xs first kept = absurd kept
+kept_consumed (Some a) (Some b) (Some c) xs first kept = first ∙ ap (λ l. xs ++ l) (sym kept)
+
+-- what holds of the bytes that were heard, whatever follows, holds of all that is sent
+pub of_sent : (old new : Option (List ℕ)) (heard : List ℕ) (Holds : List ℕ → Type 0) → Consumes old new heard → ((tail : List ℕ) → Holds (heard ++ tail)) → OfSent old Holds
+of_sent None new heard Holds consumed h = (heard ++ [], h [])
+of_sent (Some a) None heard Holds consumed h = absurd consumed
+of_sent (Some a) (Some b) heard Holds consumed h = subst Holds (sym consumed) (h b)
+
+-- and so does what holds of them at the end
+pub of_all : (old new : Option (List ℕ)) (heard : List ℕ) (Holds : List ℕ → Type 0) → Consumes old new heard → IsAtEnd new → Holds heard → OfSent old Holds
+of_all None new heard Holds consumed end h = (heard, h)
+of_all (Some a) None heard Holds consumed end h = absurd consumed
+of_all (Some a) (Some b) heard Holds consumed end h = subst Holds (sym (consumed ∙ ap (λ l. heard ++ l) end ∙ append-nil heard)) h
+
+pub each_sent : (old : Option (List ℕ)) (P Q : List ℕ → Type 0) → ((sent : List ℕ) → P sent → Q sent) → OfSent old P → OfSent old Q
+each_sent None P Q f (sent, h) = (sent, f sent h)
+each_sent (Some sent) P Q f h = f sent h
+
+all_and_one : (P : Moment → Type 0) (ms : List Moment) (m : Moment) → AllByRecursion P ms → P m → AllByRecursion P (ms ++ m ∷ [])
+all_and_one P [] m all one = (one, tt)
+all_and_one P (x ∷ ms) m all one = (all.0, all_and_one P ms m all.1 one)
+
+pub none_served : (sent : Option (List ℕ)) (before : Outside) (ms : Option (List Moment)) → AreServed sent before ms ms
+none_served sent before None = tt
+none_served sent before (Some ms) = ([], sym (append-nil ms), tt)
+
+-- one more moment
+pub more_served : (sent : Option (List ℕ)) (before : Outside) (a b c : Option (List Moment)) (m : Moment) → AreServed sent before a b → Notes b c m → IsServed sent before m → AreServed sent before a c
+more_served sent before None b c m served notes one = tt
+more_served sent before (Some a) None c m served notes one = absurd served
+more_served sent before (Some a) (Some b) None m served notes one = absurd notes
+more_served sent before (Some a) (Some b) (Some c) m (further, is, all) notes one =
+    (further ++ m ∷ [], notes ∙ ap (λ l. l ++ m ∷ []) is ∙ append_assoc a further (m ∷ []), all_and_one (IsServed sent before) further m all one)

@@ -1,0 +1,5 @@
+pub mod Cuts
+pub mod Known
+pub mod Doing
+pub mod Ends
+pub mod Talking

@@ -1,0 +1,125 @@
+-- A conversation goes on by a line, and by a part of one.
+use Rattle.std.proofs.Common.{◌≡◌, ◌≢◌, ℕ, ◌<◌, false, List, [], ◌∷◌, ◌++◌, length, take, refl, sym, ◌∙◌, ap, subst, arith, append_assoc}
+use Rattle.std.specs.Prelude.{All, Option, None, Result, Ok, Err, IfErr}
+use Rattle.std.specs.Io.KnownBytes.{Consumes}
+use Rattle.std.proofs.lemmas.List.{append-nil}
+use Rattle.script_syntax.specs.declared.form.Command.{Command}
+use Rattle.span_language.specs.State.{nothing, world}
+use Rattle.span_language.specs.Lines.{lines_of}
+use Rattle.span_language.specs.Runs.{Outside, Runs, RunsAll, RunsFront, start}
+use Rattle.span_run.specs.Held.{Standing, IsStanding}
+use Rattle.span_run.proofs.LinesLemmas.{no_newline}
+use Rattle.span_run.proofs.RunsLemmas.{at_start, ends}
+use Rattle.span_talk.specs.Talk.{AreReplied, HaveRun, OfSent, whole_lines}
+use Rattle.span_talk.specs.Progress.{Does, Hears, IsTalking, Place, StopsIn, StopsWithin, place}
+use Rattle.span_talk.proofs.Cuts.{ended_with, ended_without, kept_goes_on, line_cut, none_kept, nothing_cut, part_cut, some_begun, whole_is}
+use Rattle.span_talk.proofs.Doing.{stopped_between}
+use Rattle.span_talk.proofs.Known.{both_consumed, of_sent}
+
+pub begins : (before : Outside) (st : Standing) (kept : List ℕ) → kept ≡ [] → st.state ≡ nothing → st.covered ≡ [] → st.store ≡ [] → IsTalking [] before kept (place 1 false st before)
+begins before st kept none state covered store = record { done = []; begun = []; cut = nothing_cut; kept_is = none; at = at_start [] before st state covered store }
+
+module _ (bytes : List ℕ) (before : Outside) (kept : List ℕ) (p : Place) (t : IsTalking bytes before kept p) where
+  module _ (part kept_after : List ℕ) (plain : All (λ b. b ≢ 10) part) (is : kept_after ≡ take 65537 (kept ++ part)) where
+    kept_of : kept_after ≡ take 65537 (t.begun ++ part)
+    kept_of = is ∙ ap (λ l. take 65537 (l ++ part)) t.kept_is ∙ kept_goes_on 65537 t.begun part
+
+    pub talks_on : IsTalking (bytes ++ part) before kept_after p
+    talks_on = record { done = t.done; begun = t.begun ++ part; cut = part_cut bytes t.done t.begun part t.cut (no_newline part plain); kept_is = kept_of; at = t.at }
+
+    pub ends_line : (new : Place) (empty : List ℕ) → empty ≡ [] → Does kept_after p new → IsTalking (bytes ++ (part ++ 10 ∷ [])) before empty new
+    ends_line new empty none does = record {
+      done = t.done ++ (t.begun ++ part) ∷ [];
+      begun = [];
+      cut = line_cut bytes t.done t.begun part t.cut (no_newline part plain);
+      kept_is = none;
+      at = does (t.begun ++ part) t.done before kept_of t.at;
+    }
+
+    pub stops_in_line : (Ends : Option Command → List ℕ → Type 0) (after : Outside) (tail : List ℕ) → StopsIn Ends kept_after p after → RunsFront Ends (lines_of (bytes ++ (part ++ 10 ∷ tail))) before after
+    stops_in_line Ends after tail stops =
+        let cut = line_cut bytes t.done t.begun part t.cut (no_newline part plain) in
+        let joined : (bytes ++ (part ++ 10 ∷ [])) ++ tail ≡ bytes ++ (part ++ 10 ∷ tail) = append_assoc bytes (part ++ 10 ∷ []) tail ∙ ap (λ l. bytes ++ l) (append_assoc part (10 ∷ []) tail) in
+        let lines : lines_of (bytes ++ (part ++ 10 ∷ tail)) ≡ t.done ++ (t.begun ++ part) ∷ lines_of tail =
+        sym (ap lines_of joined) ∙ cut.lines tail ∙ append_assoc t.done ((t.begun ++ part) ∷ []) (lines_of tail)
+        in subst (λ (l : List (List ℕ)). RunsFront Ends l before after) (sym lines) (stops (t.begun ++ part) t.done (lines_of tail) before kept_of t.at)
+
+  -- stopped where no further line had begun
+  pub stops_here : (Ends : Option Command → List ℕ → Type 0) (tail : List ℕ) → IsStanding p.standing → Ends None [] → RunsFront Ends (lines_of (bytes ++ tail)) before p.now
+  stops_here Ends tail held so =
+      subst (λ (l : List (List ℕ)). RunsFront Ends l before p.now) (sym (t.cut.lines tail)) (stopped_between Ends t.done (lines_of (t.begun ++ tail)) before p held so t.at)
+
+  -- the replies to the whole lines were written
+  pub replied : AreReplied (whole_lines bytes) before p.now.written
+  replied =
+      let same : whole_lines bytes ≡ t.at.done = whole_is bytes t.done t.begun t.cut ∙ t.at.cut ∙ append-nil t.at.done in
+      record {
+        sum = t.at.sum;
+        mid = world p.standing.state p.now.files;
+        ran = subst (λ (l : List (List ℕ)). Runs (start before) 1 l t.at.sum (world p.standing.state p.now.files)) (sym same) t.at.ran;
+        wrote = t.at.wrote;
+      }
+
+  pub have_run : IsStanding p.standing → HaveRun (whole_lines bytes) before p.now
+  have_run held = (p.refused, subst (λ (l : List (List ℕ)). RunsAll l p.refused before p.now) (sym (whole_is bytes t.done t.begun t.cut)) (ends t.done [] p.number p.refused p.standing before p.now refl held t.at))
+
+  -- the end of the bytes, where no line has begun, and where one has
+  pub ends_so : IsStanding p.standing → kept ≡ [] → RunsAll (lines_of bytes) p.refused before p.now
+  ends_so held none =
+      let begun : t.begun ≡ [] = none_kept 65537 t.begun (omega arith) (sym t.kept_is ∙ none) in
+      subst (λ (l : List (List ℕ)). RunsAll l p.refused before p.now) (sym (ended_without bytes t.done t.begun t.cut begun)) (ends t.done [] p.number p.refused p.standing before p.now refl held t.at)
+
+  last_of : 0 < length kept → lines_of bytes ≡ t.done ++ t.begun ∷ []
+  last_of some = ended_with bytes t.done t.begun t.cut (some_begun 65537 t.begun (omega (arith, some, ap length t.kept_is)))
+
+  pub ends_with_last : (new : Place) → IsStanding new.standing → 0 < length kept → Does kept p new → RunsAll (lines_of bytes) new.refused before new.now
+  ends_with_last new held some does =
+      subst (λ (l : List (List ℕ)). RunsAll l new.refused before new.now) (sym (last_of some))
+      (ends (t.done ++ t.begun ∷ []) [] new.number new.refused new.standing before new.now refl held (does t.begun t.done before t.kept_is t.at))
+
+  pub stops_in_last : (Ends : Option Command → List ℕ → Type 0) (after : Outside) → 0 < length kept → StopsIn Ends kept p after → RunsFront Ends (lines_of bytes) before after
+  stops_in_last Ends after some stops =
+      subst (λ (l : List (List ℕ)). RunsFront Ends l before after) (sym (last_of some)) (stops t.begun t.done [] before t.kept_is t.at)
+
+-- what holds for every error
+pub any_err : {T E : Type 0} (r : Result T E) (P : E → Type 0) → ((why : E) → P why) → IfErr r P
+any_err (Ok x) P f = tt
+any_err (Err why) P f = f why
+
+-- a piece of which a part has been read
+module _ (piece read rest : List ℕ) (kept : List ℕ) (p : Place) (kept_now : List ℕ) (now : Place) (is : piece ≡ read ++ rest) (hears : Hears read kept p kept_now now) where
+  split : (bytes tail : List ℕ) → bytes ++ (piece ++ tail) ≡ (bytes ++ read) ++ (rest ++ tail)
+  split bytes tail = ap (λ l. bytes ++ (l ++ tail)) is ∙ ap (λ l. bytes ++ l) (append_assoc read rest tail) ∙ sym (append_assoc bytes read (rest ++ tail))
+
+  -- stopped where nothing of the rest had begun
+  pub stops_between : (Ends : Option Command → List ℕ → Type 0) → IsStanding now.standing → Ends None [] → StopsWithin Ends piece kept p now.now
+  stops_between Ends held so = λ bytes tail before t.
+      subst (λ l. RunsFront Ends (lines_of l) before now.now) (sym (split bytes tail)) (stops_here (bytes ++ read) before kept_now now (hears bytes before t) Ends (rest ++ tail) held so)
+
+  -- the rest belongs to the line that has begun
+  pub hears_rest : (kept_after : List ℕ) → All (λ b. b ≢ 10) rest → kept_after ≡ take 65537 (kept_now ++ rest) → Hears piece kept p kept_after now
+  hears_rest kept_after plain kept_is = λ bytes before t.
+      subst (λ l. IsTalking l before kept_after now) (append_assoc bytes read rest ∙ ap (λ l. bytes ++ l) (sym is)) (talks_on (bytes ++ read) before kept_now now (hears bytes before t) rest kept_after plain kept_is)
+
+  module _ (part left kept_whole : List ℕ) (cut : rest ≡ part ++ 10 ∷ left) (plain : All (λ b. b ≢ 10) part) (kept_is : kept_whole ≡ take 65537 (kept_now ++ part)) where
+    -- stopped in the line that ends in the rest
+    pub stops_line : (Ends : Option Command → List ℕ → Type 0) (after : Outside) → StopsIn Ends kept_whole now after → StopsWithin Ends piece kept p after
+    stops_line Ends after stops = λ bytes tail before t.
+        let same : bytes ++ (piece ++ tail) ≡ (bytes ++ read) ++ (part ++ 10 ∷ (left ++ tail)) =
+        split bytes tail ∙ ap (λ l. (bytes ++ read) ++ (l ++ tail)) cut ∙ ap (λ l. (bytes ++ read) ++ l) (append_assoc part (10 ∷ left) tail)
+        in subst (λ l. RunsFront Ends (lines_of l) before after) (sym same) (stops_in_line (bytes ++ read) before kept_now now (hears bytes before t) part kept_whole plain kept_is Ends after (left ++ tail) stops)
+
+    -- that line is done
+    pub hears_line : (new : Place) (empty : List ℕ) → empty ≡ [] → Does kept_whole now new → (more : List ℕ) × (piece ≡ more ++ left) × Hears more kept p empty new
+    hears_line new empty none does = (
+      read ++ (part ++ 10 ∷ []),
+      is ∙ ap (λ l. read ++ l) (cut ∙ sym (append_assoc part (10 ∷ []) left)) ∙ sym (append_assoc read (part ++ 10 ∷ []) left),
+      (λ bytes before t. subst (λ l. IsTalking l before empty new) (append_assoc bytes read (part ++ 10 ∷ [])) (ends_line (bytes ++ read) before kept_now now (hears bytes before t) part kept_whole plain kept_is new empty none does)),
+    )
+
+-- a run that was stopped in a piece
+pub stops_sent : (a b c : Option (List ℕ)) (bytes piece : List ℕ) (before : Outside) (kept : List ℕ) (p : Place) (Ends : Option Command → List ℕ → Type 0) (after : Outside)
+    → Consumes a b bytes → Consumes b c piece → IsTalking bytes before kept p → StopsWithin Ends piece kept p after → OfSent a (λ sent. RunsFront Ends (lines_of sent) before after)
+stops_sent a b c bytes piece before kept p Ends after first second t stops =
+    of_sent a c (bytes ++ piece) (λ sent. RunsFront Ends (lines_of sent) before after) (both_consumed a b c bytes piece first second)
+    (λ tail. subst (λ l. RunsFront Ends (lines_of l) before after) (sym (append_assoc bytes piece tail)) (stops bytes tail before t))

@@ -1,0 +1,63 @@
+-- Where a conversation stands, between two lines and between two pieces.
+use Rattle.std.specs.Prelude.{◌≡◌, ℕ, Bool, List, [], ◌∷◌, ◌++◌, Option, take}
+use Rattle.script_syntax.specs.declared.form.Command.{Command}
+use Rattle.span_language.specs.Lines.{lines_of}
+use Rattle.span_language.specs.Runs.{Outside, RunsAll, RunsFront}
+use Rattle.span_run.specs.Held.{Standing}
+use Rattle.span_run.proofs.LinesLemmas.{NoNewline}
+use Rattle.span_run.proofs.RunsLemmas.{IsAt}
+use Rattle.span_talk.specs.Talk.{whole_lines}
+
+-- the number of the next line, whether one was refused, what the session shows, and what is told of the outside
+pub record Place : Type 0 where
+  pub number : ℕ
+  pub refused : Bool
+  pub standing : Standing
+  pub now : Outside
+
+abbrev pub place : ℕ → Bool → Standing → Outside → Place
+place number refused standing now = record { number = number; refused = refused; standing = standing; now = now }
+
+-- these lines ran, and led here
+abbrev pub StandsAt : List (List ℕ) → Outside → Place → Type 0
+StandsAt lines before p = IsAt lines [] p.number p.refused p.standing before p.now
+
+-- these bytes are those lines and the beginning of one more
+pub record IsCut (bytes : List ℕ) (done : List (List ℕ)) (begun : List ℕ) : Type 0 where
+  pub lines : (tail : List ℕ) → lines_of (bytes ++ tail) ≡ done ++ lines_of (begun ++ tail)
+  pub whole : (tail : List ℕ) → whole_lines (bytes ++ tail) ≡ done ++ whole_lines (begun ++ tail)
+  pub plain : NoNewline begun
+
+-- the whole lines of these bytes ran, and of the line that has begun this is kept
+pub record IsTalking (bytes : List ℕ) (before : Outside) (kept : List ℕ) (p : Place) : Type 0 where
+  pub done : List (List ℕ)
+  pub begun : List ℕ
+  pub cut : IsCut bytes done begun
+  pub kept_is : kept ≡ take 65537 begun
+  pub at : StandsAt done before p
+
+-- a line of which this is kept was done
+abbrev pub Does : List ℕ → Place → Place → Type 0
+Does kept old new = (line : List ℕ) (lines : List (List ℕ)) (before : Outside) → kept ≡ take 65537 line → StandsAt lines before old → StandsAt (lines ++ line ∷ []) before new
+
+-- a run was stopped in such a line
+abbrev pub StopsIn : (Option Command → List ℕ → Type 0) → List ℕ → Place → Outside → Type 0
+StopsIn Ends kept old after = (line : List ℕ) (lines more : List (List ℕ)) (before : Outside) → kept ≡ take 65537 line → StandsAt lines before old
+    → RunsFront Ends (lines ++ line ∷ more) before after
+
+-- the lines that these bytes end were done
+abbrev pub Hears : List ℕ → List ℕ → Place → List ℕ → Place → Type 0
+Hears piece kept old kept_after new = (bytes : List ℕ) (before : Outside) → IsTalking bytes before kept old → IsTalking (bytes ++ piece) before kept_after new
+
+-- a run was stopped in one of them
+abbrev pub StopsWithin : (Option Command → List ℕ → Type 0) → List ℕ → List ℕ → Place → Outside → Type 0
+StopsWithin Ends piece kept old after = (bytes tail : List ℕ) (before : Outside) → IsTalking bytes before kept old
+    → RunsFront Ends (lines_of (bytes ++ (piece ++ tail))) before after
+
+-- and the end of the bytes ended the script
+abbrev pub Finishes : Bool → List ℕ → Place → Outside → Type 0
+Finishes refused kept old after = (sent : List ℕ) (before : Outside) → IsTalking sent before kept old → RunsAll (lines_of sent) refused before after
+
+-- or a run was stopped in a last line that no newline ends
+abbrev pub StopsAtEnd : (Option Command → List ℕ → Type 0) → List ℕ → Place → Outside → Type 0
+StopsAtEnd Ends kept old after = (sent : List ℕ) (before : Outside) → IsTalking sent before kept old → RunsFront Ends (lines_of sent) before after

@@ -1,0 +1,60 @@
+-- A conversation: lines that come when they are sent, each with its reply before more is heard.
+use Rattle.std.specs.Prelude.{◌≡◌, ℕ, ◌==◌, Bool, List, [], ◌∷◌, ◌++◌, Option, Some, None, if◌then◌else◌}
+use Rattle.std.specs.List.{AllByRecursion}
+use Rattle.std.specs.Io.KnownBytes.{Appends, Consumes}
+use Rattle.span_language.specs.State.{World}
+use Rattle.span_language.specs.Runs.{Outside, Runs, RunsAll, Sum, start}
+
+-- the byte stands first in the first line, where there is one
+abbrev pub onto_whole : ℕ → List (List ℕ) → List (List ℕ)
+onto_whole b [] = []
+onto_whole b (line ∷ lines) = (b ∷ line) ∷ lines
+
+-- the lines that a newline ends
+abbrev pub whole_lines : List ℕ → List (List ℕ)
+whole_lines [] = []
+whole_lines (b ∷ rest) = if b == 10 then [] ∷ whole_lines rest else onto_whole b (whole_lines rest)
+
+-- what holds of all bytes that the client sends, where it tells them, and else of some bytes
+abbrev pub OfSent : Option (List ℕ) → (List ℕ → Type 0) → Type 0
+OfSent None Holds = (sent : List ℕ) × Holds sent
+OfSent (Some sent) Holds = Holds sent
+
+-- what holds of the bytes that were heard, by what was left before and after, where the client tells that
+abbrev pub OfHeard : Option (List ℕ) → Option (List ℕ) → (List ℕ → Type 0) → Type 0
+OfHeard old new Holds = (heard : List ℕ) × Consumes old new heard × Holds heard
+
+-- all these lines ran, refused or not
+abbrev pub HaveRun : List (List ℕ) → Outside → Outside → Type 0
+HaveRun lines before after = (refused : Bool) × RunsAll lines refused before after
+
+-- a moment at which the client was heard: what it had left to send, and what had been written for it
+pub record Moment : Type 0 where
+  pub left : Option (List ℕ)
+  pub written : Option (List ℕ)
+
+abbrev pub moment : Option (List ℕ) → Option (List ℕ) → Moment
+moment left written = record { left = left; written = written }
+
+-- where moments are told, they are those of before and this one
+abbrev pub Notes : Option (List Moment) → Option (List Moment) → Moment → Type 0
+Notes None new m = Unit {0}
+Notes (Some old) None m = ⊥
+Notes (Some old) (Some new) m = new ≡ old ++ m ∷ []
+
+-- the whole output of these lines was written, and nothing else
+pub record AreReplied (lines : List (List ℕ)) (before : Outside) (written : Option (List ℕ)) : Type 0 where
+  pub sum : Sum
+  pub mid : World
+  pub ran : Runs (start before) 1 lines sum mid
+  pub wrote : Appends before.written written sum.output
+
+-- the reply to each whole line that had come by this moment had been written
+abbrev pub IsServed : Option (List ℕ) → Outside → Moment → Type 0
+IsServed sent before m = OfHeard sent m.left (λ heard. AreReplied (whole_lines heard) before m.written)
+
+-- so it was at each further moment that is told
+abbrev pub AreServed : Option (List ℕ) → Outside → Option (List Moment) → Option (List Moment) → Type 0
+AreServed sent before None new = Unit {0}
+AreServed sent before (Some old) None = ⊥
+AreServed sent before (Some old) (Some new) = (further : List Moment) × (new ≡ old ++ further) × AllByRecursion (IsServed sent before) further

@@ -1,0 +1,90 @@
+//! The other side of a conversation.
+ghost use Rattle.std.specs.Prelude.{◌≡◌, ◌<◌, List, ℕ, None, length};
+ghost use Rattle.std.specs.declared.option.Option.{Option};
+ghost use Rattle.std.specs.Io.{ReadsAtMost};
+ghost use Rattle.std.specs.Io.KnownBytes.{ReadConsumes};
+ghost use Rattle.edge_io.specs.Causes.{HasCause};
+ghost use Rattle.span_talk.specs.Talk.{Moment, Notes, moment};
+
+use edge_io::{Failed, Sink, Source};
+use itoa::Buffer;
+use std::io::Write;
+use std::marker::Model;
+
+/// Who sends lines, and has their replies from a sink.
+///
+/// A client counts its faults, and a call answers `Failed` only where this count rose in it.
+pub trait Client<K: Sink> {
+    /// The bytes that are left to be sent, where the client tells them.
+    ghost left: { Self → Option (List ℕ) };
+
+    /// How often it has failed.
+    ghost faults: { Self → ℕ };
+
+    /// What was left and what had been written each time that it was heard, where the client tells that.
+    ghost moments: { Self → Option (List Moment) };
+
+    /// Waits for the next bytes, reads them to the front of `into`, which isn't empty, and answers how many, as
+    /// `Source::read` does. `number` is that of the line that comes next, and `said` what replies are written to.
+    fn hear(&mut self, number: u64, said: &K, into: &mut [u8]) -> Result<usize, Failed>
+        requires { 0 < length into.old }
+        ensures bound { ReadsAtMost result into.new }
+        ensures bytes { ReadConsumes (left self.old) (left self.new) result into.new }
+        ensures cause { HasCause (faults self.old) (faults self.new) result }
+        ensures moment { Notes (moments self.old) (moments self.new) (moment (left self.old) (K.written said.now)) };
+}
+
+/// A client whose bytes come from a source. It is prompted for each line where there is something to prompt it on, as a
+/// terminal. Prompts that can't be written are left out.
+#[derive(Drop)]
+pub struct Listener<S: Source, W: Write> {
+    source: S,
+    prompts: Option<W>,
+    prompted: u64,
+}
+
+impl<S: Source, W: Write> Model for Listener<S, W> {
+    ghost use Rattle.edge_io.specs.Outside.{ReaderInput};
+
+    ghost Value = { ReaderInput };
+
+    ghost view = { λ s. record { left = S.left s.source; faults = S.faults s.source } };
+}
+
+impl<S: Source, W: Write> Listener<S, W> {
+    /// A client whose bytes come from this source.
+    pub fn new(source: S, prompts: Option<W>) -> Listener<S, W>
+        ensures { result ≡ record { left = S.left source; faults = S.faults source } }
+    {
+        Listener {
+            source,
+            prompts,
+            prompted: 0,
+        }
+    }
+}
+
+/// Prompts for the line of this number, as `3> `.
+fn prompt<W: Write>(prompts: &mut W, number: u64) {
+    let mut buffer = Buffer::new();
+    let _ = prompts.write_all(buffer.format(number).as_bytes());
+    let _ = prompts.write_all(b"> ");
+}
+
+impl<S: Source, W: Write, K: Sink> Client<K> for Listener<S, W> {
+    ghost left = { λ s. s.left };
+
+    ghost faults = { λ s. s.faults };
+
+    ghost moments = { λ _. None };
+
+    fn hear(&mut self, number: u64, _said: &K, into: &mut [u8]) -> Result<usize, Failed> {
+        if let Some(prompts) = &mut self.prompts {
+            if self.prompted != number {
+                prompt(prompts, number);
+                self.prompted = number;
+            }
+        }
+        self.source.read(into)
+    }
+}

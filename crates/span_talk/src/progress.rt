@@ -1,0 +1,292 @@
+//! How a conversation goes on, by a line, by a piece, and to its end.
+ghost use Rattle.std.specs.Prelude.{◌≡◌, ℕ, ◌+◌, ◌^◌, ◌<◌, ◌≤◌, [], ◌||◌, IfOk, IfErr, OnOk, length};
+ghost use Rattle.std.specs.Io.KnownBytes.{IsAtEnd};
+ghost use Rattle.edge_io.specs.Causes.{Rose};
+ghost use Rattle.span_language.specs.Lines.{lines_of};
+ghost use Rattle.span_language.specs.Runs.{is_refused, outside, Anywhere, InFileLine, UnlessList, RunsAll, RunsFront};
+ghost use Rattle.span_run.specs.Held.{IsStanding};
+ghost use Rattle.span_talk.specs.Talk.{whole_lines, AreServed, HaveRun, OfHeard, OfSent};
+ghost use Rattle.span_talk.specs.Progress.{place, Does, Finishes, Hears, IsTalking, StopsAtEnd, StopsIn, StopsWithin};
+
+use crate::client::Client;
+use crate::lines::{cut_line, keep};
+use edge_io::{Shelf, Sink};
+use span_run::{Session, Stop, Told};
+use span_types::Steps;
+use std::alloc::Global;
+use std::sync::ledger::Ledger;
+use std::thread::Threads;
+use work_gate::Gate;
+
+/// The most bytes of a script.
+const MAX_SCRIPT: u64 = 1 << 62;
+
+/// What the lines so far have left, and what is kept of the one that has begun.
+#[derive(Drop)]
+pub struct Progress {
+    pub session: Session,
+    pub kept: Vec<u8>,
+    /// The number of the line that has begun.
+    pub number: u64,
+    /// Whether a line was refused.
+    pub refused: bool,
+}
+
+/// Why a conversation ended before its script did.
+#[derive(Clone, Copy, Debug, PartialEq, Eq)]
+pub enum End {
+    Fault,
+    TooLong,
+    Stopped(Stop),
+}
+
+/// Whether a line was refused, in this one or before.
+fn with_refusal(before: bool, told: Told) -> bool
+    ensures { result ≡ (before || is_refused told) }
+{
+    before || matches!(told, Told::Refused)
+}
+
+/// Does the line that has begun, and begins the next one.
+fn end_line<R: Threads + Sync, K: Sink, F: Shelf, G: Gate, P: Ledger, T: Ledger, L: Ledger>(
+    rt: &R,
+    progress: &mut Progress,
+    workers: u8,
+    out: &mut K,
+    shelf: &mut F,
+    gate: &G,
+    pairs: &mut Steps<P>,
+    places: &mut Steps<T>,
+    looks: &mut Steps<L>,
+) -> Result<(), Stop>
+    requires least { 1 ≤ workers }
+    requires most { workers ≤ 64 }
+    requires standing { IsStanding progress.old.session }
+    requires few { progress.old.number < 2 ^ 63 }
+    ensures standing { IsStanding progress.new.session }
+    ensures next { OnOk result (progress.new.number ≡ progress.old.number + 1) }
+    ensures empty { OnOk result (progress.new.kept.items ≡ []) }
+    ensures later { K.faults out.old ≤ K.faults out.new }
+    ensures wants_later { K.wants out.old ≤ K.wants out.new }
+    ensures shelf_later { F.faults shelf.old ≤ F.faults shelf.new }
+    ensures done { OnOk result (Does progress.old.kept.items (place progress.old.number progress.old.refused progress.old.session (outside (K.written out.old) (F.files shelf.old) looks.old pairs.old places.old)) (place progress.new.number progress.new.refused progress.new.session (outside (K.written out.new) (F.files shelf.new) looks.new pairs.new places.new))) }
+    ensures out_fault { IfErr result (λ why. why ≡ Stop.OutFault → Rose (K.faults out.old) (K.faults out.new) × StopsIn Anywhere progress.old.kept.items (place progress.old.number progress.old.refused progress.old.session (outside (K.written out.old) (F.files shelf.old) looks.old pairs.old places.old)) (outside (K.written out.new) (F.files shelf.new) looks.new pairs.new places.new)) }
+    ensures shelf_fault { IfErr result (λ why. why ≡ Stop.ShelfFault → Rose (F.faults shelf.old) (F.faults shelf.new) × StopsIn InFileLine progress.old.kept.items (place progress.old.number progress.old.refused progress.old.session (outside (K.written out.old) (F.files shelf.old) looks.old pairs.old places.old)) (outside (K.written out.new) (F.files shelf.new) looks.new pairs.new places.new)) }
+    ensures want { IfErr result (λ why. why ≡ Stop.NoMemory → (wants : ℕ) → wants ≤ K.wants out.old → StopsIn (UnlessList wants (K.wants out.new)) progress.old.kept.items (place progress.old.number progress.old.refused progress.old.session (outside (K.written out.old) (F.files shelf.old) looks.old pairs.old places.old)) (outside (K.written out.new) (F.files shelf.new) looks.new pairs.new places.new)) }
+{
+    let told = progress.session.line(
+        rt,
+        progress.number,
+        &progress.kept,
+        workers,
+        out,
+        shelf,
+        gate,
+        pairs,
+        places,
+        looks,
+    )?;
+    progress.refused = with_refusal(progress.refused, told);
+    progress.number += 1;
+    progress.kept.clear();
+    Ok(())
+}
+
+/// Does the lines that end in a piece, and keeps what follows them.
+fn hear_piece<R: Threads + Sync, K: Sink, F: Shelf, G: Gate, P: Ledger, T: Ledger, L: Ledger>(
+    rt: &R,
+    progress: &mut Progress,
+    piece: &[u8],
+    workers: u8,
+    out: &mut K,
+    shelf: &mut F,
+    gate: &G,
+    pairs: &mut Steps<P>,
+    places: &mut Steps<T>,
+    looks: &mut Steps<L>,
+) -> Result<(), Stop>
+    requires least { 1 ≤ workers }
+    requires most { workers ≤ 64 }
+    requires standing { IsStanding progress.old.session }
+    requires few { progress.old.number + length piece.now < 2 ^ 63 }
+    requires kept { length progress.old.kept.items ≤ 65537 }
+    ensures standing { IsStanding progress.new.session }
+    ensures next { OnOk result (progress.new.number ≤ progress.old.number + length piece.now) }
+    ensures kept { OnOk result (length progress.new.kept.items ≤ 65537) }
+    ensures later { K.faults out.old ≤ K.faults out.new }
+    ensures wants_later { K.wants out.old ≤ K.wants out.new }
+    ensures shelf_later { F.faults shelf.old ≤ F.faults shelf.new }
+    ensures done { OnOk result (Hears piece.now progress.old.kept.items (place progress.old.number progress.old.refused progress.old.session (outside (K.written out.old) (F.files shelf.old) looks.old pairs.old places.old)) progress.new.kept.items (place progress.new.number progress.new.refused progress.new.session (outside (K.written out.new) (F.files shelf.new) looks.new pairs.new places.new))) }
+    ensures out_fault { IfErr result (λ why. why ≡ Stop.OutFault → Rose (K.faults out.old) (K.faults out.new) × StopsWithin Anywhere piece.now progress.old.kept.items (place progress.old.number progress.old.refused progress.old.session (outside (K.written out.old) (F.files shelf.old) looks.old pairs.old places.old)) (outside (K.written out.new) (F.files shelf.new) looks.new pairs.new places.new)) }
+    ensures shelf_fault { IfErr result (λ why. why ≡ Stop.ShelfFault → Rose (F.faults shelf.old) (F.faults shelf.new) × StopsWithin InFileLine piece.now progress.old.kept.items (place progress.old.number progress.old.refused progress.old.session (outside (K.written out.old) (F.files shelf.old) looks.old pairs.old places.old)) (outside (K.written out.new) (F.files shelf.new) looks.new pairs.new places.new)) }
+    ensures want { IfErr result (λ why. why ≡ Stop.NoMemory → (wants : ℕ) → wants ≤ K.wants out.old → StopsWithin (UnlessList wants (K.wants out.new)) piece.now progress.old.kept.items (place progress.old.number progress.old.refused progress.old.session (outside (K.written out.old) (F.files shelf.old) looks.old pairs.old places.old)) (outside (K.written out.new) (F.files shelf.new) looks.new pairs.new places.new)) }
+{
+    let mut rest = piece;
+    'lines: while let Some(parts) = cut_line(rest) {
+        keep(&mut progress.kept, parts.0)?;
+        end_line(
+            rt, progress, workers, out, shelf, gate, pairs, places, looks,
+        )?;
+        rest = parts.1;
+    }
+    keep(&mut progress.kept, rest)?;
+    Ok(())
+}
+
+/// Hears a client to the end of its script, and does each line when its newline has come.
+fn hear_all<
+    R: Threads + Sync,
+    C: Client<K>,
+    K: Sink,
+    F: Shelf,
+    G: Gate,
+    P: Ledger,
+    T: Ledger,
+    L: Ledger,
+>(
+    rt: &R,
+    alloc: Global,
+    client: &mut C,
+    workers: u8,
+    out: &mut K,
+    shelf: &mut F,
+    gate: &G,
+    pairs: &mut Steps<P>,
+    places: &mut Steps<T>,
+    looks: &mut Steps<L>,
+) -> Result<Progress, End>
+    requires least { 1 ≤ workers }
+    requires most { workers ≤ 64 }
+    ensures standing { IfOk result (λ progress. IsStanding progress.session) }
+    ensures few { IfOk result (λ progress. progress.number < 2 ^ 63) }
+    ensures later { K.faults out.old ≤ K.faults out.new }
+    ensures wants_later { K.wants out.old ≤ K.wants out.new }
+    ensures shelf_later { F.faults shelf.old ≤ F.faults shelf.new }
+    ensures at_end { OnOk result (IsAtEnd (C.left client.new)) }
+    ensures all { IfOk result (λ progress. OfSent (C.left client.old) (λ sent. IsTalking sent (outside (K.written out.old) (F.files shelf.old) looks.old pairs.old places.old) progress.kept.items (place progress.number progress.refused progress.session (outside (K.written out.new) (F.files shelf.new) looks.new pairs.new places.new)))) }
+    ensures fault { IfErr result (λ why. why ≡ End.Fault → Rose (C.faults client.old) (C.faults client.new) × OfHeard (C.left client.old) (C.left client.new) (λ heard. HaveRun (whole_lines heard) (outside (K.written out.old) (F.files shelf.old) looks.old pairs.old places.old) (outside (K.written out.new) (F.files shelf.new) looks.new pairs.new places.new))) }
+    ensures too_long { IfErr result (λ why. why ≡ End.TooLong → OfHeard (C.left client.old) (C.left client.new) (λ heard. (2 ^ 62 ≤ length heard) × HaveRun (whole_lines heard) (outside (K.written out.old) (F.files shelf.old) looks.old pairs.old places.old) (outside (K.written out.new) (F.files shelf.new) looks.new pairs.new places.new))) }
+    ensures out_fault { IfErr result (λ why. why ≡ End.Stopped Stop.OutFault → Rose (K.faults out.old) (K.faults out.new) × OfSent (C.left client.old) (λ sent. RunsFront Anywhere (lines_of sent) (outside (K.written out.old) (F.files shelf.old) looks.old pairs.old places.old) (outside (K.written out.new) (F.files shelf.new) looks.new pairs.new places.new))) }
+    ensures shelf_fault { IfErr result (λ why. why ≡ End.Stopped Stop.ShelfFault → Rose (F.faults shelf.old) (F.faults shelf.new) × OfSent (C.left client.old) (λ sent. RunsFront InFileLine (lines_of sent) (outside (K.written out.old) (F.files shelf.old) looks.old pairs.old places.old) (outside (K.written out.new) (F.files shelf.new) looks.new pairs.new places.new))) }
+    ensures want { IfErr result (λ why. why ≡ End.Stopped Stop.NoMemory → OfSent (C.left client.old) (λ sent. RunsFront (UnlessList (K.wants out.old) (K.wants out.new)) (lines_of sent) (outside (K.written out.old) (F.files shelf.old) looks.old pairs.old places.old) (outside (K.written out.new) (F.files shelf.new) looks.new pairs.new places.new))) }
+    ensures served { AreServed (C.left client.old) (outside (K.written out.old) (F.files shelf.old) looks.old pairs.old places.old) (C.moments client.old) (C.moments client.new) }
+{
+    let session = Session::new(alloc);
+    let kept = Vec::new(alloc);
+    let mut progress = Progress {
+        session,
+        kept,
+        number: 1,
+        refused: false,
+    };
+    let mut chunk = [0u8; 4096];
+    let mut heard = 0u64;
+    'pieces: while heard < MAX_SCRIPT {
+        let count = match client.hear(progress.number, out, &mut chunk) {
+            Ok(count) => count,
+            Err(_) => return Err(End::Fault),
+        };
+        if count == 0 {
+            return Ok(progress);
+        }
+        let piece = &chunk[..count];
+        match hear_piece(
+            rt,
+            &mut progress,
+            piece,
+            workers,
+            out,
+            shelf,
+            gate,
+            pairs,
+            places,
+            looks,
+        ) {
+            Ok(()) => heard += count as u64,
+            Err(stop) => return Err(End::Stopped(stop)),
+        }
+    }
+    Err(End::TooLong)
+}
+
+/// Does a last line that no newline ends, where there is one, and answers whether any line was refused.
+fn finish<R: Threads + Sync, K: Sink, F: Shelf, G: Gate, P: Ledger, T: Ledger, L: Ledger>(
+    rt: &R,
+    progress: &mut Progress,
+    workers: u8,
+    out: &mut K,
+    shelf: &mut F,
+    gate: &G,
+    pairs: &mut Steps<P>,
+    places: &mut Steps<T>,
+    looks: &mut Steps<L>,
+) -> Result<bool, Stop>
+    requires least { 1 ≤ workers }
+    requires most { workers ≤ 64 }
+    requires standing { IsStanding progress.old.session }
+    requires few { progress.old.number < 2 ^ 63 }
+    ensures done { IfOk result (λ refused. Finishes refused progress.old.kept.items (place progress.old.number progress.old.refused progress.old.session (outside (K.written out.old) (F.files shelf.old) looks.old pairs.old places.old)) (outside (K.written out.new) (F.files shelf.new) looks.new pairs.new places.new)) }
+    ensures out_fault { IfErr result (λ why. why ≡ Stop.OutFault → Rose (K.faults out.old) (K.faults out.new) × StopsAtEnd Anywhere progress.old.kept.items (place progress.old.number progress.old.refused progress.old.session (outside (K.written out.old) (F.files shelf.old) looks.old pairs.old places.old)) (outside (K.written out.new) (F.files shelf.new) looks.new pairs.new places.new)) }
+    ensures shelf_fault { IfErr result (λ why. why ≡ Stop.ShelfFault → Rose (F.faults shelf.old) (F.faults shelf.new) × StopsAtEnd InFileLine progress.old.kept.items (place progress.old.number progress.old.refused progress.old.session (outside (K.written out.old) (F.files shelf.old) looks.old pairs.old places.old)) (outside (K.written out.new) (F.files shelf.new) looks.new pairs.new places.new)) }
+    ensures want { IfErr result (λ why. why ≡ Stop.NoMemory → (wants : ℕ) → wants ≤ K.wants out.old → StopsAtEnd (UnlessList wants (K.wants out.new)) progress.old.kept.items (place progress.old.number progress.old.refused progress.old.session (outside (K.written out.old) (F.files shelf.old) looks.old pairs.old places.old)) (outside (K.written out.new) (F.files shelf.new) looks.new pairs.new places.new)) }
+{
+    if progress.kept.is_empty() {
+        return Ok(progress.refused);
+    }
+    end_line(
+        rt, progress, workers, out, shelf, gate, pairs, places, looks,
+    )?;
+    Ok(progress.refused)
+}
+
+/// Hears a client to the end of its script and does all lines, and answers whether one was refused.
+pub fn hear_script<
+    R: Threads + Sync,
+    C: Client<K>,
+    K: Sink,
+    F: Shelf,
+    G: Gate,
+    P: Ledger,
+    T: Ledger,
+    L: Ledger,
+>(
+    rt: &R,
+    alloc: Global,
+    client: &mut C,
+    workers: u8,
+    out: &mut K,
+    shelf: &mut F,
+    gate: &G,
+    pairs: &mut Steps<P>,
+    places: &mut Steps<T>,
+    looks: &mut Steps<L>,
+) -> Result<bool, End>
+    requires least { 1 ≤ workers }
+    requires most { workers ≤ 64 }
+    ensures at_end { OnOk result (IsAtEnd (C.left client.new)) }
+    ensures done { IfOk result (λ refused. OfSent (C.left client.old) (λ sent. RunsAll (lines_of sent) refused (outside (K.written out.old) (F.files shelf.old) looks.old pairs.old places.old) (outside (K.written out.new) (F.files shelf.new) looks.new pairs.new places.new))) }
+    ensures fault { IfErr result (λ why. why ≡ End.Fault → Rose (C.faults client.old) (C.faults client.new) × OfHeard (C.left client.old) (C.left client.new) (λ heard. HaveRun (whole_lines heard) (outside (K.written out.old) (F.files shelf.old) looks.old pairs.old places.old) (outside (K.written out.new) (F.files shelf.new) looks.new pairs.new places.new))) }
+    ensures too_long { IfErr result (λ why. why ≡ End.TooLong → OfHeard (C.left client.old) (C.left client.new) (λ heard. (2 ^ 62 ≤ length heard) × HaveRun (whole_lines heard) (outside (K.written out.old) (F.files shelf.old) looks.old pairs.old places.old) (outside (K.written out.new) (F.files shelf.new) looks.new pairs.new places.new))) }
+    ensures out_fault { IfErr result (λ why. why ≡ End.Stopped Stop.OutFault → Rose (K.faults out.old) (K.faults out.new) × OfSent (C.left client.old) (λ sent. RunsFront Anywhere (lines_of sent) (outside (K.written out.old) (F.files shelf.old) looks.old pairs.old places.old) (outside (K.written out.new) (F.files shelf.new) looks.new pairs.new places.new))) }
+    ensures shelf_fault { IfErr result (λ why. why ≡ End.Stopped Stop.ShelfFault → Rose (F.faults shelf.old) (F.faults shelf.new) × OfSent (C.left client.old) (λ sent. RunsFront InFileLine (lines_of sent) (outside (K.written out.old) (F.files shelf.old) looks.old pairs.old places.old) (outside (K.written out.new) (F.files shelf.new) looks.new pairs.new places.new))) }
+    ensures want { IfErr result (λ why. why ≡ End.Stopped Stop.NoMemory → OfSent (C.left client.old) (λ sent. RunsFront (UnlessList (K.wants out.old) (K.wants out.new)) (lines_of sent) (outside (K.written out.old) (F.files shelf.old) looks.old pairs.old places.old) (outside (K.written out.new) (F.files shelf.new) looks.new pairs.new places.new))) }
+    ensures served { AreServed (C.left client.old) (outside (K.written out.old) (F.files shelf.old) looks.old pairs.old places.old) (C.moments client.old) (C.moments client.new) }
+{
+    let mut progress = hear_all(
+        rt, alloc, client, workers, out, shelf, gate, pairs, places, looks,
+    )?;
+    match finish(
+        rt,
+        &mut progress,
+        workers,
+        out,
+        shelf,
+        gate,
+        pairs,
+        places,
+        looks,
+    ) {
+        Ok(refused) => Ok(refused),
+        Err(stop) => Err(End::Stopped(stop)),
+    }
+}

@@ -1,0 +1,73 @@
+//! The top call: a conversation with a client, to its end.
+ghost use Rattle.std.specs.Prelude.{◌≡◌, ◌⊎◌, ◌^◌, ◌≤◌, true, false, length};
+ghost use Rattle.std.specs.Io.KnownBytes.{IsAtEnd};
+ghost use Rattle.edge_io.specs.Causes.{Rose};
+ghost use Rattle.span_language.specs.Lines.{lines_of};
+ghost use Rattle.span_language.specs.Runs.{outside, Anywhere, InFileLine, UnlessList, RunsAll, RunsFront};
+ghost use Rattle.span_talk.specs.Talk.{whole_lines, AreServed, HaveRun, OfHeard, OfSent};
+
+use crate::client::Client;
+use crate::progress::{End, hear_script};
+use edge_io::{Shelf, Sink};
+use span_run::{Status, Stop};
+use span_types::Steps;
+use std::alloc::Global;
+use std::sync::ledger::Ledger;
+use std::thread::Threads;
+use work_gate::Gate;
+
+/// Talks with a client: hears its script, does each line when it has come, and writes the reply to it before more is heard. The
+/// end of what the client sends ends the last line and the conversation, and so does the first fault or want of memory. Of a
+/// line no more than 65,537 bytes are kept.
+pub fn talk<
+    R: Threads + Sync,
+    C: Client<K>,
+    K: Sink,
+    F: Shelf,
+    G: Gate,
+    P: Ledger,
+    T: Ledger,
+    L: Ledger,
+>(
+    rt: &R,
+    alloc: Global,
+    client: &mut C,
+    workers: u8,
+    out: &mut K,
+    shelf: &mut F,
+    gate: &G,
+    pairs: &mut Steps<P>,
+    places: &mut Steps<T>,
+    looks: &mut Steps<L>,
+) -> Status
+    requires least { 1 ≤ workers }
+    requires most { workers ≤ 64 }
+    ensures done { result ≡ Status.Done → OfSent (C.left client.old) (λ sent. RunsAll (lines_of sent) false (outside (K.written out.old) (F.files shelf.old) looks.old pairs.old places.old) (outside (K.written out.new) (F.files shelf.new) looks.new pairs.new places.new)) }
+    ensures some_refused { result ≡ Status.SomeRefused → OfSent (C.left client.old) (λ sent. RunsAll (lines_of sent) true (outside (K.written out.old) (F.files shelf.old) looks.old pairs.old places.old) (outside (K.written out.new) (F.files shelf.new) looks.new pairs.new places.new)) }
+    ensures at_end { (result ≡ Status.Done) ⊎ (result ≡ Status.SomeRefused) → IsAtEnd (C.left client.new) }
+
+    // The client failed, or has sent 2^62 bytes: the lines that had come were done, and the one that had begun wasn't.
+    ensures script_fault { result ≡ Status.ScriptFault → Rose (C.faults client.old) (C.faults client.new) × OfHeard (C.left client.old) (C.left client.new) (λ heard. HaveRun (whole_lines heard) (outside (K.written out.old) (F.files shelf.old) looks.old pairs.old places.old) (outside (K.written out.new) (F.files shelf.new) looks.new pairs.new places.new)) }
+    ensures too_long { result ≡ Status.ScriptTooLong → OfHeard (C.left client.old) (C.left client.new) (λ heard. (2 ^ 62 ≤ length heard) × HaveRun (whole_lines heard) (outside (K.written out.old) (F.files shelf.old) looks.old pairs.old places.old) (outside (K.written out.new) (F.files shelf.new) looks.new pairs.new places.new)) }
+
+    // What was written is a prefix of the whole output.
+    ensures out_fault { result ≡ Status.OutFault → Rose (K.faults out.old) (K.faults out.new) × OfSent (C.left client.old) (λ sent. RunsFront Anywhere (lines_of sent) (outside (K.written out.old) (F.files shelf.old) looks.old pairs.old places.old) (outside (K.written out.new) (F.files shelf.new) looks.new pairs.new places.new)) }
+    ensures shelf_fault { result ≡ Status.ShelfFault → Rose (F.faults shelf.old) (F.faults shelf.new) × OfSent (C.left client.old) (λ sent. RunsFront InFileLine (lines_of sent) (outside (K.written out.old) (F.files shelf.old) looks.old pairs.old places.old) (outside (K.written out.new) (F.files shelf.new) looks.new pairs.new places.new)) }
+    ensures want { result ≡ Status.NoMemory → OfSent (C.left client.old) (λ sent. RunsFront (UnlessList (K.wants out.old) (K.wants out.new)) (lines_of sent) (outside (K.written out.old) (F.files shelf.old) looks.old pairs.old places.old) (outside (K.written out.new) (F.files shelf.new) looks.new pairs.new places.new)) }
+    ensures no_words { result ≡ Status.Usage → ⊥ }
+
+    // Each time that the client was heard, the reply to each line that had come had been written, and nothing else.
+    ensures served { AreServed (C.left client.old) (outside (K.written out.old) (F.files shelf.old) looks.old pairs.old places.old) (C.moments client.old) (C.moments client.new) }
+{
+    match hear_script(
+        rt, alloc, client, workers, out, shelf, gate, pairs, places, looks,
+    ) {
+        Ok(false) => Status::Done,
+        Ok(true) => Status::SomeRefused,
+        Err(End::Fault) => Status::ScriptFault,
+        Err(End::TooLong) => Status::ScriptTooLong,
+        Err(End::Stopped(Stop::OutFault)) => Status::OutFault,
+        Err(End::Stopped(Stop::ShelfFault)) => Status::ShelfFault,
+        Err(End::Stopped(Stop::NoMemory)) => Status::NoMemory,
+    }
+}

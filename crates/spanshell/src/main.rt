@@ -1,0 +1,201 @@
+//! Reads a script from standard input line by line, and writes the reply to each line to standard output before it
+//! reads on.
+//!
+//! ```text
+//! $ printf 'text d abc\nshow d 1 3\n' | spanshell
+//! ok d 3 "abc"
+//! "ab"
+//! ```
+//!
+//! The words are those of spanbase, `--workers N` and `--demo N`, and so are the exit statuses. At a terminal the number
+//! of the next line is shown on standard error. What is done with the lines is `talk` of span_talk; this crate takes the
+//! words, and lends it standard input and output and the files of the current folder.
+#![tactic(auto)]
+
+ghost use Rattle.std.specs.Prelude.{◌≡◌, ◌≤◌, ◌<◌, IfErr, IfOk, map, string_bytes};
+ghost use Rattle.edge_io.specs.Causes.{Rose};
+ghost use Rattle.span_words.specs.Words.{Refused, Words};
+ghost use Rattle.spanshell.specs.Exit.{exit_of};
+
+use edge_io::{DirShelf, Sink, Source, StdSink, StdSource, SureSource};
+use span_run::{Status, usage_text};
+use span_talk::{Client, Listener, talk};
+use span_types::Steps;
+use span_words::{Options, WordsRefusal, read_words};
+use std::alloc::Global;
+use std::io::{ErrorKind, IsTerminal, Print, Write};
+use std::marker::Brand;
+use std::process::ExitCode;
+use std::rt::{Env, Files, Stderr};
+use std::sync::ledger::{Blank, Ledger};
+use std::thread::Threads;
+use std::{env, io};
+use text_gen::demo;
+use work_gate::OpenGate;
+
+/// The words after the program's name, or how the run ends without them: a word that is no text is a faulty command line.
+fn words_of(rt: &(impl Env + AllocGlobal)) -> Result<Vec<String>, Status> {
+    match env::args(rt) {
+        Ok(args) => match args.skip(1).collect(rt.alloc()) {
+            Ok(words) => Ok(words),
+            Err(_) => Err(Status::NoMemory),
+        },
+        Err(error) if error.kind() == ErrorKind::OutOfMemory => Err(Status::NoMemory),
+        Err(_) => Err(Status::Usage),
+    }
+}
+
+/// What the words ask for, or how the run ends without that.
+fn options_of(alloc: Global, words: &[String]) -> Result<Options, Status>
+    ensures taken { IfOk result (λ options. Words (map string_bytes words.now) options.workers options.demo) }
+    ensures usage { IfErr result (λ status. status ≡ Status.Usage → Refused (map string_bytes words.now)) }
+{
+    match read_words(alloc, words) {
+        Ok(options) => Ok(options),
+        Err(WordsRefusal::Usage) => Err(Status::Usage),
+        Err(WordsRefusal::NoMemory) => Err(Status::NoMemory),
+    }
+}
+
+/// The word and the number of a status.
+fn name_of(status: Status) -> (&'static str, u8)
+    ensures { result.1 ≡ exit_of status }
+{
+    match status {
+        Status::Done => ("Done", 0),
+        Status::SomeRefused => ("SomeRefused", 1),
+        Status::Usage => ("Usage", 2),
+        Status::ScriptFault => ("ScriptFault", 3),
+        Status::OutFault => ("OutFault", 4),
+        Status::ShelfFault => ("ShelfFault", 5),
+        Status::NoMemory => ("NoMemory", 6),
+        Status::ScriptTooLong => ("ScriptTooLong", 7),
+    }
+}
+
+/// Talks with a client, with a counter on each of three ledgers, over the files of the current folder.
+fn talk_with<
+    R: Threads + Sync + Files + AllocGlobal,
+    C: Client<K>,
+    K: Sink,
+    P: Ledger,
+    T: Ledger,
+    L: Ledger,
+>(
+    rt: &R,
+    client: &mut C,
+    workers: u8,
+    out: &mut K,
+    pairs: Blank,
+    places: Blank,
+    looks: Blank,
+) -> Status
+    requires least { 1 ≤ workers }
+    requires most { workers ≤ 64 }
+    requires pairs { (pairs.name ≡ P.name) × (pairs.parts ≡ P.parts) × (0 < P.parts) }
+    requires places { (places.name ≡ T.name) × (places.parts ≡ T.parts) × (0 < T.parts) }
+    requires looks { (looks.name ≡ L.name) × (looks.parts ≡ L.parts) × (0 < L.parts) }
+    ensures script_fault { result ≡ Status.ScriptFault → Rose (C.faults client.old) (C.faults client.new) }
+    ensures out_fault { result ≡ Status.OutFault → Rose (K.faults out.old) (K.faults out.new) }
+{
+    let mut shelf = DirShelf::new(rt);
+    let mut pairs = Steps::<P>::new(pairs);
+    let mut places = Steps::<T>::new(places);
+    let mut looks = Steps::<L>::new(looks);
+    talk(
+        rt,
+        rt.alloc(),
+        client,
+        workers,
+        out,
+        &mut shelf,
+        &OpenGate,
+        &mut pairs,
+        &mut places,
+        &mut looks,
+    )
+}
+
+/// Talks with who sends the bytes of a source, by so many workers, and writes the replies to standard output.
+fn talk_over<R: Threads + Sync + Files + AllocGlobal + Print, S: Source + Drop>(
+    rt: &R,
+    source: S,
+    prompts: Option<Stderr>,
+    workers: u8,
+) -> Status
+    requires least { 1 ≤ workers }
+    requires most { workers ≤ 64 }
+{
+    let mut client = Listener::new(source, prompts);
+    let mut out = StdSink::new(io::writer(rt));
+    talk_with::<_, _, _, Brand, Brand, Brand>(
+        rt,
+        &mut client,
+        workers,
+        &mut out,
+        Blank::new(1),
+        Blank::new(1),
+        Blank::new(1),
+    )
+}
+
+/// What prompts are written to: standard error, where it and standard input are a terminal.
+fn prompts_of(rt: &HostRuntime) -> Option<Stderr> {
+    if rt.stdin().is_terminal() && rt.stderr().is_terminal() {
+        Some(rt.stderr())
+    } else {
+        None
+    }
+}
+
+/// Tells the word of a status on standard error, where the lines weren't done to the end.
+fn tell_word(rt: &HostRuntime, status: Status) {
+    let (word, number) = name_of(status);
+    if number >= 2 {
+        let _ = eprintln!(rt; "spanbase: {word}");
+    }
+}
+
+/// Tells on standard error how a run ended: for refused words also why they are refused.
+fn tell(rt: &HostRuntime, status: Status, words: &[String]) {
+    if status == Status::Usage {
+        if let Ok(text) = usage_text(rt.alloc(), words) {
+            let _ = rt.stderr().write_all(text.bytes());
+            return;
+        }
+    }
+    tell_word(rt, status);
+}
+
+fn main(rt: HostRuntime) -> io::Result<ExitCode> {
+    let status = match words_of(&rt) {
+        Ok(words) => {
+            let status = match options_of(rt.alloc(), &words) {
+                Ok(
+                    Options {
+                        workers,
+                        demo: None,
+                    },
+                ) => talk_over(&rt, StdSource::new(rt.reader()), prompts_of(&rt), workers),
+                Ok(
+                    Options {
+                        workers,
+                        demo: Some(number),
+                    },
+                ) => match demo(rt.alloc(), number) {
+                    Ok(script) => talk_over(&rt, SureSource::new(script), None, workers),
+                    Err(_) => Status::NoMemory,
+                },
+                Err(status) => status,
+            };
+            tell(&rt, status, &words);
+            status
+        }
+        Err(status) => {
+            tell_word(&rt, status);
+            status
+        }
+    };
+    let (_, number) = name_of(status);
+    Ok(ExitCode::from(number))
+}
