@@ -1,0 +1,4 @@
+use Rattle.library_example.proofs.listing.book_of.Goals as goal
+
+pub returns-in-Ok : goal.returns-in-Ok
+returns-in-Ok c = λ ns. c.add.ensures.serves ns (c.new-book.ensures.serves ns)
