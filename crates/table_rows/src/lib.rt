@@ -1,4 +1,5 @@
-//! Worked rows of tables, and a gate that shows that two pieces of a height run at once.
+//! Worked rows of tables, gates that show that each node passes and that two pieces of a height run at once, and an order
+//! of nodes that isn't that of their ids.
 //!
 //! ```text
 //! row    abracadabra, with 1, 4 and 64 workers    15 nodes, 15 tables, of which one is distinct

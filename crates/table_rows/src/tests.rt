@@ -2,6 +2,7 @@ ghost use Rattle.std.specs.Prelude.{◌≡◌, ◌<◌, ◌≤◌, Bool, List, I
 ghost use Rattle.span_types.specs.FormulaTree.{Set, tree_of};
 ghost use Rattle.slp_model.specs.Nodes.{IsLive};
 ghost use Rattle.marker_nfa.specs.Occurrences.{IsWithinLimits};
+ghost use Rattle.table_grow.specs.Schedule.{IsSchedule};
 
 use marker_dfa::{Dfa, determinise};
 use marker_nfa::of_formula;
@@ -15,23 +16,37 @@ use std::sync::atomic::{AtomicU64, Ordering};
 use std::sync::ledger::{Blank, Ledger};
 use std::test::Fail;
 use std::thread::Threads;
-use table_grow::{Memory, grow};
+use table_grow::{Memory, fill, grow};
 use work_gate::{Gate, OpenGate};
 
 /// How many turns the first of two nodes waits for the other one.
 const TURNS: u32 = 50_000_000;
 
-/// Holds the first of two nodes until the second has arrived, for a stated number of turns.
+/// Counts the nodes that pass.
+#[derive(Drop)]
+struct Counter {
+    passed: AtomicU64,
+}
+
+impl Gate for Counter {
+    fn pass(&self, _node: usize) {
+        self.passed.fetch_add(1, Ordering::SeqCst);
+    }
+}
+
+/// Counts the nodes that pass, and holds the first of two until the second has arrived, for a stated number of turns.
 #[derive(Drop)]
 struct Meeting {
     left: usize,
     right: usize,
+    passed: AtomicU64,
     arrived: AtomicU64,
     gave_up: AtomicU64,
 }
 
 impl Gate for Meeting {
     fn pass(&self, node: usize) {
+        self.passed.fetch_add(1, Ordering::SeqCst);
         if node != self.left && node != self.right {
             return;
         }
@@ -118,13 +133,14 @@ fn grown<R: Threads + Sync, G: Gate, L: Ledger>(
     })
 }
 
+/// What there is after growth over the row's text, and how many nodes passed the gate.
 fn of_row<R: Threads + Sync, L: Ledger>(
     rt: &R,
     alloc: Global,
     blank: Blank,
     size: usize,
     workers: u8,
-) -> Result<Counts, Fail>
+) -> Result<(Counts, u64), Fail>
     requires name { blank.name ≡ L.name }
     requires parts { blank.parts ≡ L.parts }
     requires some { 0 < L.parts }
@@ -137,9 +153,11 @@ fn of_row<R: Threads + Sync, L: Ledger>(
     let mut store = Store::new(alloc);
     let _ = load(alloc, &mut store, b"abracadabra", &mut steps)?;
     let dfa = automaton(alloc)?;
-    Ok(grown(
-        rt, alloc, &store, &dfa, size, workers, &OpenGate, &mut steps,
-    )?)
+    let gate = Counter {
+        passed: AtomicU64::new(0),
+    };
+    let counts = grown(rt, alloc, &store, &dfa, size, workers, &gate, &mut steps)?;
+    Ok((counts, gate.passed.load(Ordering::SeqCst)))
 }
 
 const ROW: Counts = Counts {
@@ -153,9 +171,9 @@ const ROW: Counts = Counts {
 fn one_table_on_one_worker(rt: HostRuntime) -> Result<(), Fail> {
     let alloc = rt.alloc();
     let small = of_row::<HostRuntime, Brand>(&rt, alloc, Blank::new(1), 1, 1)?;
-    assert_eq!(rt; small, ROW);
+    assert_eq!(rt; small, (ROW, 15));
     let large = of_row::<HostRuntime, Brand>(&rt, alloc, Blank::new(1), 4096, 1)?;
-    assert_eq!(rt; large, ROW);
+    assert_eq!(rt; large, (ROW, 15));
     Ok(())
 }
 
@@ -163,9 +181,9 @@ fn one_table_on_one_worker(rt: HostRuntime) -> Result<(), Fail> {
 fn one_table_on_many_workers(rt: HostRuntime) -> Result<(), Fail> {
     let alloc = rt.alloc();
     let small = of_row::<HostRuntime, Brand>(&rt, alloc, Blank::new(1), 1, 4)?;
-    assert_eq!(rt; small, ROW);
+    assert_eq!(rt; small, (ROW, 15));
     let large = of_row::<HostRuntime, Brand>(&rt, alloc, Blank::new(1), 4096, 64)?;
-    assert_eq!(rt; large, ROW);
+    assert_eq!(rt; large, (ROW, 15));
     Ok(())
 }
 
@@ -178,6 +196,7 @@ fn held_children(store: &Store, root: Option<NodeId>) -> Result<Meeting, Fail>
         Node::Pair(left, right) => Ok(Meeting {
             left: left.index,
             right: right.index,
+            passed: AtomicU64::new(0),
             arrived: AtomicU64::new(0),
             gave_up: AtomicU64::new(0),
         }),
@@ -185,8 +204,12 @@ fn held_children(store: &Store, root: Option<NodeId>) -> Result<Meeting, Fail>
     }
 }
 
-/// Whether the gate gave up, where two workers grow the tables of `abcd`.
-fn met<R: Threads + Sync, L: Ledger>(rt: &R, alloc: Global, blank: Blank) -> Result<u64, Fail>
+/// How many nodes passed the gate, and whether it gave up, where two workers grow the tables of `abcd`.
+fn met<R: Threads + Sync, L: Ledger>(
+    rt: &R,
+    alloc: Global,
+    blank: Blank,
+) -> Result<(u64, u64), Fail>
     requires name { blank.name ≡ L.name }
     requires parts { blank.parts ≡ L.parts }
     requires some { 0 < L.parts }
@@ -197,13 +220,67 @@ fn met<R: Threads + Sync, L: Ledger>(rt: &R, alloc: Global, blank: Blank) -> Res
     let gate = held_children(&store, root)?;
     let dfa = automaton(alloc)?;
     let _ = grown(rt, alloc, &store, &dfa, 4096, 2, &gate, &mut steps)?;
-    Ok(gate.gave_up.load(Ordering::SeqCst))
+    let passed = gate.passed.load(Ordering::SeqCst);
+    Ok((passed, gate.gave_up.load(Ordering::SeqCst)))
 }
 
 #[test]
 fn two_nodes_meet(rt: HostRuntime) -> Result<(), Fail> {
     let alloc = rt.alloc();
-    let gave_up = met::<HostRuntime, Brand>(&rt, alloc, Blank::new(1))?;
-    assert_eq!(rt; gave_up, 0);
+    let (passed, gave_up) = met::<HostRuntime, Brand>(&rt, alloc, Blank::new(1))?;
+    assert_eq!(rt; (passed, gave_up), (7, 0));
+    Ok(())
+}
+
+/// The two nodes of a store of two bytes, the last one first.
+fn backwards(store: &Store) -> Result<[NodeId; 2], Fail>
+    ensures { IfOk result (λ ids. IsSchedule store.now 0 ids) }
+{
+    if store.count() != 2 {
+        return Err("two nodes".into());
+    }
+    match (
+        store.node(NodeId { index: 0 }),
+        store.node(NodeId { index: 1 }),
+    ) {
+        (Node::Byte(_), Node::Byte(_)) => Ok([NodeId { index: 1 }, NodeId { index: 0 }]),
+        _ => Err("two bytes".into()),
+    }
+}
+
+/// Whether two bytes get the same tables by growth as in an order that isn't that of their ids.
+fn agree<R: Threads + Sync, L: Ledger>(rt: &R, alloc: Global, blank: Blank) -> Result<bool, Fail>
+    requires name { blank.name ≡ L.name }
+    requires parts { blank.parts ≡ L.parts }
+    requires some { 0 < L.parts }
+{
+    let mut steps = Steps::<L>::new(blank);
+    let mut store = Store::new(alloc);
+    let first = store.byte(b'a')?;
+    let second = store.byte(b'x')?;
+    let dfa = automaton(alloc)?;
+    let mut filled = Tables::new(alloc, &dfa);
+    let schedule = backwards(&store)?;
+    fill(alloc, &mut filled, &store, &dfa, &schedule, &mut steps)?;
+    let mut tables = Tables::new(alloc, &dfa);
+    let mut memory = Memory::new(alloc, 4096)?;
+    grow(
+        rt,
+        alloc,
+        &mut tables,
+        &store,
+        &dfa,
+        &mut memory,
+        1,
+        &OpenGate,
+        &mut steps,
+    )?;
+    Ok(filled.table(first) == tables.table(first) && filled.table(second) == tables.table(second))
+}
+
+#[test]
+fn any_order_gives_the_same(rt: HostRuntime) -> Result<(), Fail> {
+    let alloc = rt.alloc();
+    assert!(rt; agree::<HostRuntime, Brand>(&rt, alloc, Blank::new(1))?);
     Ok(())
 }
