@@ -1,0 +1,179 @@
+"""Chosen keys: texts whose pairs are searched for having like hashes, beside texts of the same make that are random.
+
+The store of nodes finds a pair by a hash without a key, which anyone can work out. Its index has groups of twelve places;
+a pair that finds its group full goes on to the next one. So pairs whose hashes all lead into one stretch of the groups
+make long walks, and the walks grow with the pairs.
+
+A text for this has each word of two bytes once at its front, so that their numbers are known, and then words of four bytes
+that are searched for. An image may name any two nodes as a pair, and so needs no front.
+"""
+import random
+from collections.abc import Iterator
+from pathlib import Path
+
+from .images import image_of, pair
+from .running import Limits, Report, fault_of, room, run
+
+MASK = (1 << 64) - 1
+SEED = 0x243F_6A88_85A3_08D3
+MULTIPLIER = 0x9E37_79B9_7F4A_7C15
+# a number of eight bytes is fed to the hash, or one byte, which then stands in it three times
+FACTOR, BYTE_FACTOR, THRICE = MULTIPLIER ^ 16, MULTIPLIER ^ 2, 0x010101
+NAME_BYTES = b"abcdefghijklmnopqrstuvwxyz0123456789_.-"
+# the text is cut into blocks of so many bytes at first
+BLOCK = 512
+# a stranger's text may make loading slower by this factor
+MOST_SLOWER = 10.0
+
+
+def folded(state: int, factor: int = FACTOR) -> int:
+    product = state * factor
+    return (product & MASK) ^ (product >> 64)
+
+
+FIRST = folded(SEED ^ 1)
+
+
+def hash_of(left: int, right: int) -> int:
+    """The hash of a pair in the index of the store, 32 bits."""
+    found = folded(folded(FIRST ^ left) ^ right)
+    return (found ^ (found >> 32)) & 0xFFFF_FFFF
+
+
+class Numbers:
+    """The numbers that nodes get as a text is loaded."""
+
+    def __init__(self) -> None:
+        self.numbers: dict[object, int] = {}
+
+    def number(self, node: object) -> int:
+        return self.numbers.setdefault(node, len(self.numbers))
+
+    def block(self, text: bytes) -> int:
+        if len(text) == 1:
+            return self.number(text[0])
+        middle = len(text) // 2
+        return self.number((self.block(text[:middle]), self.block(text[middle:])))
+
+    def load(self, text: bytes) -> None:
+        """Full blocks from the front, of which two of equal height become one at once."""
+        blocks: list[tuple[int, int]] = []
+        for at in range(0, len(text), BLOCK):
+            height, block = 0, self.block(text[at : at + BLOCK])
+            while blocks and blocks[-1][0] == height:
+                block = self.number((blocks.pop()[1], block))
+                height += 1
+            blocks.append((height, block))
+
+
+def all_words() -> tuple[bytes, list[tuple[int, bytes]]]:
+    """A text with each word of two bytes, and their numbers in a store that has loaded it."""
+    words = [bytes([one, other]) for one in range(256) for other in range(256)]
+    front = b"".join(words)
+    numbers = Numbers()
+    numbers.load(front)
+    byte_of = {it: numbers.numbers[it] for it in range(256)}
+    return front, [(numbers.numbers[byte_of[it[0]], byte_of[it[1]]], it) for it in words]
+
+
+def stretch_of(nodes: int) -> range:
+    """The bits of a hash that are 0 where it leads into the first sixteenth of the groups, once so many nodes are there: the
+    index has a power of two of groups, with at most nine nodes in each on the mean."""
+    groups = 1
+    while 9 * groups < nodes:
+        groups *= 2
+    high = groups.bit_length() - 1
+    return range(high - 4, high)
+
+
+def leads_into(bits: range, hashed: int) -> bool:
+    """Whether these bits of the hash are 0."""
+    return (hashed >> bits.start) & ((1 << len(bits)) - 1) == 0
+
+
+def chosen_words(words: list[tuple[int, bytes]], count: int, bits: range, chance: random.Random) -> Iterator[bytes]:
+    """So many different words of four bytes whose pairs lead into one stretch."""
+    found = 0
+    for left, first in chance.sample(words, len(words)):
+        state = folded(FIRST ^ left)
+        for right, second in words[:: chance.randrange(1, 4)]:
+            hashed = folded(state ^ right)
+            if leads_into(bits, (hashed ^ (hashed >> 32)) & 0xFFFF_FFFF):
+                yield first + second
+                found += 1
+                if found == count:
+                    return
+
+
+def texts(count: int) -> tuple[bytes, bytes]:
+    """A text with so many words of four bytes that are searched for, and one with as many that are random."""
+    front, words = all_words()
+    # the words of eight bytes and more above those of four are as many again
+    chance = random.Random(23)
+    searched = b"".join(chosen_words(words, count, stretch_of(2 * count + len(front)), chance))
+    return front + searched, front + chance.randbytes(4 * count)
+
+
+def seconds(program: Path, report: Report, name: str, file: bytes, script: bytes | None, limit: float) -> float | None:
+    with room({"f": file}) as folder:
+        ran = run(program, file if script is None else script, folder, Limits(seconds=limit))
+    report.runs += 1
+    report.check(name, fault_of(ran, ran.status if ran.status in (0, 1) else 0))
+    return None if ran.late else ran.seconds
+
+
+def compare(
+    program: Path, report: Report, name: str, searched: bytes, other: bytes, script: bytes | None, limit: float
+) -> None:
+    """Times the script over both files, or the files as scripts, and compares. The time is that of the whole run."""
+    kinds = (("random", other), ("searched", searched))
+    took = [seconds(program, report, f"{name}, {kind}", it, script, limit) for kind, it in kinds]
+    if took[0] is None or took[1] is None:
+        return
+    slower = took[1] / took[0]
+    fault = f"the searched one takes {slower:.0f} times as long" if slower > MOST_SLOWER and took[1] > 0.5 else None
+    report.check(f"{name}: how much slower", fault)
+    report.figure(f"{name}: random, searched", f"{took[0]:.2f} s, {took[1]:.2f} s", f"{MOST_SLOWER:.0f} times")
+
+
+def images_of(count: int) -> tuple[bytes, bytes]:
+    """An image with so many pairs of pairs that are searched for, and one with as many that are random."""
+    letters = [bytes([0, it]) for it in range(256)]
+    low = [pair(one, other) for one in range(256) for other in range(256)]
+    nodes = range(256, 256 + len(low))
+    chance = random.Random(23)
+    words = [(it, it.to_bytes(4)) for it in nodes]
+    found = chosen_words(words, count, stretch_of(count + len(low)), chance)
+    searched = [pair(int.from_bytes(it[:4]), int.from_bytes(it[4:])) for it in found]
+    other = [pair(chance.choice(nodes), chance.choice(nodes)) for _ in range(count)]
+    document = [(b"d", 0)]
+    return image_of(1, letters + low + searched, document), image_of(1, letters + low + other, document)
+
+
+def names_of(count: int) -> tuple[bytes, bytes]:
+    """Lines that make so many documents whose names are searched for, and as many whose names are numbers."""
+    bits, searched = stretch_of(count), []
+    before = 0
+    while len(searched) < count:
+        before += 1
+        front = b"n%09d" % before
+        state = folded(SEED ^ (len(front) + 1))
+        for it in front:
+            state = folded(state ^ it * THRICE, BYTE_FACTOR)
+        for it in NAME_BYTES:
+            hashed = folded(state ^ it * THRICE, BYTE_FACTOR)
+            if leads_into(bits, (hashed ^ (hashed >> 32)) & 0xFFFF_FFFF):
+                searched.append(front + bytes([it]))
+    others = [b"n%09da" % it for it in range(count)]
+    return b"".join(b"text %s x\n" % it for it in searched[:count]), b"".join(b"text %s x\n" % it for it in others)
+
+
+def keys(program: Path, report: Report) -> None:
+    counts = [4_000] if report.quick else [16_000, 64_000]
+    for count in counts:
+        compare(program, report, f"`load` of {count:,} words of four bytes", *texts(count), b"load d f\n", 60)
+    for count in counts:
+        compare(program, report, f"`open` of {count:,} pairs", *images_of(count), b"open f\n", 60)
+    for count in counts:
+        searched, others = names_of(count)
+        compare(program, report, f"{count:,} documents", searched, others, None, 60)
