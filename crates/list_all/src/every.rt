@@ -116,6 +116,10 @@ fn in_pieces<R: Threads + Sync, F: FindPage, G: Gate>(
 /// The view's tables are those of the automaton, and the documents' roots are its nodes or none. The places are cut into at
 /// most `workers` pieces, 1 to 64, which run at once, and `gate.pass` is called with each place before its page. The limit is
 /// 1 to 10,000.
+///
+/// # Errors
+///
+/// `NoMemory` where none was found, in whatever piece.
 pub fn pages<R: Threads + Sync, G: Gate>(
     rt: &R,
     alloc: Global,

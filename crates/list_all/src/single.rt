@@ -17,6 +17,10 @@ use std::sync::ledger::Ledger;
 ///
 /// The view's tables are those of the automaton, and the root is one of its nodes or none. A page of a answers of k variables
 /// on a text of n bytes makes at most (a+2)·B(k, n) looks, and takes memory for these answers alone.
+///
+/// # Errors
+///
+/// `NoMemory` where none was found.
 pub fn page<L: Ledger>(
     alloc: Global,
     view: View<'_>,

@@ -81,8 +81,11 @@ impl QueryBook {
         Ok(())
     }
 
-    /// Takes the query with this name out, and the rest close up. It is refused exactly where there is none, and the book
-    /// is then as before. Takes time linear in the number of queries.
+    /// Takes the query with this name out, and the rest close up. Takes time linear in the number of queries.
+    ///
+    /// # Errors
+    ///
+    /// `NoSuchQuery` exactly where no query has the name; the book is then as before.
     pub fn remove(&mut self, name: &[u8]) -> Result<(), BookRefusal>
         ensures ok { OnOk result (IsSome (value_of (queries_of self.old) name.now)) }
         ensures rest { queries_of self.new ≡ taken_out (queries_of self.old) name.now }
@@ -95,7 +98,11 @@ impl QueryBook {
         self.take(name)
     }
 
-    /// The names of the query's variables, by number. It is refused exactly where no query has the name.
+    /// The names of the query's variables, by number.
+    ///
+    /// # Errors
+    ///
+    /// `NoSuchQuery` exactly where no query has the name.
     pub fn vars(&self, name: &[u8]) -> Result<&Vars, BookRefusal>
         ensures { MatchResult result (λ vars. option_map names_of (value_of (queries_of self.now) name.now) ≡ Some vars.now) (IsMissing (queries_of self.now) name.now) }
     {
@@ -103,8 +110,12 @@ impl QueryBook {
     }
 
     /// Gives each node of the store that has no table in some query its table. The store is the one used before, grown.
-    /// Each table that is given is one step. After a refusal some queries have all tables, and the others those that they
-    /// had. The work on the nodes of one height runs in at most `workers` pieces at once, 1 to 64.
+    /// Each table that is given is one step. The work on the nodes of one height runs in at most `workers` pieces at
+    /// once, 1 to 64.
+    ///
+    /// # Errors
+    ///
+    /// `NoMemory` where none was found. Some queries have all tables then, and the others those that they had.
     pub fn grow_all<R: Threads + Sync, G: Gate, L: Ledger>(
         &mut self,
         rt: &R,

@@ -1,4 +1,20 @@
 //! Nodes of a shared straight-line program, the trees below them, and how trees are joined.
+//!
+//! ```text
+//! let nodes = [Node::Byte(b'a'), Node::Byte(b'b'), Node::Pair(NodeId { index: 0 }, NodeId { index: 1 })];
+//! law::trees();                                            // what a proof may use from here on, at no cost
+//! ```
+//!
+//! A text is the tree below one node, and a node that many trees share stands once: the node 2 above is the text `ab`.
+//! The crate has the two types, in definitions (folder `specs`) what a list of nodes means, when a tree is balanced,
+//! what a join and the loader make of trees and which nodes a compaction keeps, and in the module `law` what holds of
+//! these: a balanced tree of n bytes is at most H(n) high, and joins keep trees balanced.
+//!
+//! Nodes and ids are values of a few words. The calls of `law` do nothing when the program runs, and take no time.
+//!
+//! Straight-line programs whose sibling trees differ by at most one in height are the strongly balanced ones of M. L.
+//! Schmid and N. Schweikardt, *Query evaluation over SLP-represented document databases with complex document
+//! editing*, PODS 2022; the rule itself is that of G. Adelson-Velsky and E. Landis, 1962.
 #![tactic(auto)]
 
 pub mod law;

@@ -23,6 +23,8 @@ use work_gate::Gate;
 const MAX_SCRIPT: usize = 1 << 24;
 
 /// How a run ended. The program's exit status is the number of the status.
+///
+/// Where a fault or want of memory stopped the run, what was written is a prefix of the whole output.
 #[derive(Clone, Copy, Debug, PartialEq, Eq)]
 pub enum Status {
     /// 0: every line was executed, and none refused.

@@ -54,7 +54,11 @@ impl Plan {
     }
 
     /// Keeps the root and all nodes below it, beside those that are kept already. The store is the one that the plan
-    /// was made for. Takes no memory, and so always accepts.
+    /// was made for. Takes no memory.
+    ///
+    /// # Errors
+    ///
+    /// None: it always accepts.
     pub fn keep_root(&mut self, store: &Store, root: Option<NodeId>) -> Result<(), NoMemory>
         requires plan { IsPlanOf store.now self.old }
         requires live { IsLive store.now root }
