@@ -1,6 +1,6 @@
 //! The number of byte sets, and the rule on variables that accepted formulas keep.
-ghost use Rattle.std.specs.Prelude.{◌≡◌, ℕ, ◌<◌, Bool, false, slice_index_or, ◌&&◌, ◌||◌, min};
-ghost use Rattle.span_types.specs.FormulaTree.{FormulaTree, Star, Plus, Capture, tree_of, sets, least_below};
+ghost use Rattle.std.specs.Prelude.{◌≡◌, ℕ, ◌<◌, Bool, false, slice_index_or, ◌&&◌, ◌||◌, min, None};
+ghost use Rattle.span_types.specs.FormulaTree.{FormulaTree, Cat, Alt, Star, Plus, Capture, tree_of, sets, least_below};
 ghost use Rattle.formula_syntax.specs.Below.{Below, IsVerdict};
 
 use span_types::Formula;
@@ -56,51 +56,96 @@ pub fn check(formula: &Formula) -> Verdict
     requires { Below 8 (tree_of formula.now) }
     ensures { IsVerdict result (tree_of formula.now) }
 {
+    let mut verdict = nothing();
+    judge(formula, &mut verdict);
+    verdict
+}
+
+/// Puts the verdict on a formula in a place. A result by value would take several places on the stack for each level.
+fn judge(formula: &Formula, verdict: &mut Verdict)
+    requires { Below 8 (tree_of formula.now) }
+    ensures { IsVerdict verdict.new (tree_of formula.now) }
+{
+    let mut right = nothing();
     match formula {
-        Formula::Set(_) | Formula::Empty => Verdict {
-            held: [false; 8],
-            fault: None,
-        },
+        Formula::Set(_) | Formula::Empty => *verdict = right,
         Formula::Cat(a, b) => {
-            let left = check(a);
-            let right = check(b);
-            let fault = left.fault.or(right.fault);
-            let common = least_common(&left.held, &right.held);
-            Verdict {
-                held: either(&left.held, &right.held),
-                fault: fault.or(common),
-            }
+            judge(a, verdict);
+            judge(b, &mut right);
+            both(verdict, &right);
         }
         Formula::Alt(a, b) => {
-            let left = check(a);
-            let right = check(b);
-            Verdict {
-                held: either(&left.held, &right.held),
-                fault: left.fault.or(right.fault),
-            }
+            judge(a, verdict);
+            judge(b, &mut right);
+            one_of(verdict, &right);
         }
-        Formula::Star(a) => repeated(check(a)),
-        Formula::Plus(a) => repeated(check(a)),
-        Formula::Opt(a) => check(a),
-        Formula::Capture(x, a) => captured(*x, check(a)),
+        Formula::Star(a) | Formula::Plus(a) => {
+            judge(a, verdict);
+            repeated(verdict);
+        }
+        Formula::Opt(a) => judge(a, verdict),
+        Formula::Capture(x, a) => {
+            judge(a, verdict);
+            captured(*x, verdict);
+        }
     }
 }
 
-/// The verdict on a star or a plus, from that on its part.
-fn repeated(inner: Verdict) -> Verdict
-    ensures star { (f : FormulaTree) → Below 8 f → IsVerdict inner f → IsVerdict result (Star f) }
-    ensures plus { (f : FormulaTree) → Below 8 f → IsVerdict inner f → IsVerdict result (Plus f) }
+/// The verdict on what has no variable.
+fn nothing() -> Verdict
+    ensures held { (v : ℕ) → v < 8 → slice_index_or result.held v false ≡ false }
+    ensures fault { result.fault ≡ None }
 {
     Verdict {
-        held: inner.held,
-        fault: inner.fault.or(least_common(&inner.held, &inner.held)),
+        held: [false; 8],
+        fault: None,
     }
 }
 
-/// The verdict on a capture, from that on its part.
-fn captured(x: u8, inner: Verdict) -> Verdict
+// The functions below aren't inlined, so that a level of `judge` takes little of the stack.
+
+/// Makes the left verdict that on a concatenation.
+#[inline(never)]
+fn both(left: &mut Verdict, right: &Verdict)
+    ensures { (f g : FormulaTree) → Below 8 (Cat f g) → IsVerdict left.old f → IsVerdict right.now g → IsVerdict left.new (Cat f g) }
+{
+    let fault = left.fault.or(right.fault);
+    let common = least_common(&left.held, &right.held);
+    *left = Verdict {
+        held: either(&left.held, &right.held),
+        fault: fault.or(common),
+    };
+}
+
+/// Makes the left verdict that on one or the other.
+#[inline(never)]
+fn one_of(left: &mut Verdict, right: &Verdict)
+    ensures { (f g : FormulaTree) → IsVerdict left.old f → IsVerdict right.now g → IsVerdict left.new (Alt f g) }
+{
+    *left = Verdict {
+        held: either(&left.held, &right.held),
+        fault: left.fault.or(right.fault),
+    };
+}
+
+/// Makes the verdict that on a star or a plus.
+#[inline(never)]
+fn repeated(inner: &mut Verdict)
+    ensures star { (f : FormulaTree) → Below 8 f → IsVerdict inner.old f → IsVerdict inner.new (Star f) }
+    ensures plus { (f : FormulaTree) → Below 8 f → IsVerdict inner.old f → IsVerdict inner.new (Plus f) }
+{
+    let common = least_common(&inner.held, &inner.held);
+    *inner = Verdict {
+        held: inner.held,
+        fault: inner.fault.or(common),
+    };
+}
+
+/// Makes the verdict that on a capture.
+#[inline(never)]
+fn captured(x: u8, inner: &mut Verdict)
     requires { x < 8 }
-    ensures { (f : FormulaTree) → IsVerdict inner f → IsVerdict result (Capture x f) }
+    ensures { (f : FormulaTree) → IsVerdict inner.old f → IsVerdict inner.new (Capture x f) }
 {
     let twice = if inner.held[x as usize] {
         Some(x)
@@ -109,8 +154,8 @@ fn captured(x: u8, inner: Verdict) -> Verdict
     };
     let mut held = inner.held;
     held[x as usize] = true;
-    Verdict {
+    *inner = Verdict {
         held,
         fault: inner.fault.or(twice),
-    }
+    };
 }

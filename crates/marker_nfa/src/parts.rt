@@ -1,6 +1,6 @@
 //! The automaton of a formula from those of its parts (Glushkov 1961).
 
-ghost use Rattle.std.specs.Prelude.{◌≡◌, ◌+◌, ◌*◌, ◌≤◌, ◌++◌, ℕ, Bool, List, IfOk, length};
+ghost use Rattle.std.specs.Prelude.{◌≡◌, ◌+◌, ◌*◌, ◌≤◌, ◌++◌, ◌<◌, ◌∷◌, [], ℕ, Bool, List, IfOk, length};
 ghost use Rattle.std.specs.Bool.{OnTrue};
 ghost use Rattle.span_types.specs.FormulaTree.{FormulaTree, Set, Empty, Cat, Alt, Star, Opt, Capture, tree_of, sets, var_bound};
 ghost use Rattle.formula_law.specs.Positions.{IsNull};
@@ -13,6 +13,8 @@ use crate::lists::{
 use crate::nfa::End;
 use span_types::{ByteSet, Formula, NoMemory};
 use std::alloc::Global;
+use std::boxed::Box;
+use std::mem::swap;
 
 /// What of a part of a formula counts at its borders.
 #[derive(Drop)]
@@ -25,6 +27,21 @@ pub struct Part {
 
     /// The last occurrences, each with the mark after it.
     pub lasts: Vec<End>,
+}
+
+impl Part {
+    /// A part that nothing crosses.
+    fn new(alloc: Global) -> Part
+        ensures nulls { result.nulls.items ≡ [] }
+        ensures firsts { result.firsts.items ≡ [] }
+        ensures lasts { result.lasts.items ≡ [] }
+    {
+        Part {
+            nulls: Vec::new(alloc),
+            firsts: Vec::new(alloc),
+            lasts: Vec::new(alloc),
+        }
+    }
 }
 
 /// The part of one byte set.
@@ -60,98 +77,113 @@ fn empty_part(alloc: Global) -> Result<Part, NoMemory>
     })
 }
 
-/// The part of one after another. The hops between them are left out where something around them makes these too.
+// The functions from here to `put_part` aren't inlined, and put their parts in places, so that a level of its recursion
+// takes little of the stack.
+
+/// A place for a part.
+#[inline(never)]
+fn room(alloc: Global) -> Result<Box<Part>, NoMemory> {
+    Ok(Box::new(alloc, Part::new(alloc))?)
+}
+
+/// Puts the part of one byte set, which goes to the end of a list.
+#[inline(never)]
+fn put_set(
+    alloc: Global,
+    bytes: &ByteSet,
+    letters: &mut Vec<ByteSet>,
+    part: &mut Part,
+) -> Result<(), NoMemory>
+    requires { length letters.old.items < 512 }
+    ensures part { IfOk result (λ _. (b : List Bool) → IsPart (Set b) (length letters.old.items + 1) part.new) }
+    ensures letters { IfOk result (λ _. letters.new.items ≡ letters.old.items ++ (bytes.now ∷ [])) }
+{
+    letters.push(*bytes)?;
+    *part = set_part(alloc, letters.len() as u16)?;
+    Ok(())
+}
+
+/// Puts the part of the empty word.
+#[inline(never)]
+fn put_empty(alloc: Global, part: &mut Part) -> Result<(), NoMemory>
+    ensures { IfOk result (λ _. (n : ℕ) → IsPart Empty n part.new) }
+{
+    *part = empty_part(alloc)?;
+    Ok(())
+}
+
+/// Makes the left part that of both, one after another. The hops between them are left out where something around them makes these too.
+#[inline(never)]
 fn cat_part(
     alloc: Global,
-    left: Part,
-    right: Part,
+    left: &mut Part,
+    right: &mut Part,
     left_out: bool,
     hops: &mut Vec<Hop>,
-) -> Result<Part, NoMemory>
-    requires { MayFollow left right }
-    ensures part { IfOk result (λ p. (a b : FormulaTree) (n : ℕ) → IsPart a n left → IsPart b (n + sets a) right → IsPart (Cat a b) n p) }
-    ensures hops { IfOk result (λ _. AddsUnless left_out hops.old.items hops.new.items (IsHopIn left.lasts.items right.firsts.items)) }
+) -> Result<(), NoMemory>
+    requires { MayFollow left.old right.old }
+    ensures part { IfOk result (λ _. (a b : FormulaTree) (n : ℕ) → IsPart a n left.old → IsPart b (n + sets a) right.old → IsPart (Cat a b) n left.new) }
+    ensures hops { IfOk result (λ _. AddsUnless left_out hops.old.items hops.new.items (IsHopIn left.old.lasts.items right.old.firsts.items)) }
 {
     push_joins(hops, &left.lasts, &right.firsts, left_out)?;
     let mut nulls = Vec::new(alloc);
     push_all_sums(&mut nulls, &left.nulls, &right.nulls)?;
-    let mut firsts = left.firsts;
-    push_all_raised(&mut firsts, &left.nulls, &right.firsts)?;
-    let mut lasts = right.lasts;
-    push_all_raised(&mut lasts, &right.nulls, &left.lasts)?;
-    Ok(Part {
-        nulls,
-        firsts,
-        lasts,
-    })
+    push_all_raised(&mut left.firsts, &left.nulls, &right.firsts)?;
+    push_all_raised(&mut right.lasts, &right.nulls, &left.lasts)?;
+    left.nulls = nulls;
+    swap(&mut left.lasts, &mut right.lasts);
+    Ok(())
 }
 
-/// The part of one or another.
-fn alt_part(left: Part, right: Part) -> Result<Part, NoMemory>
-    ensures { IfOk result (λ p. (a b : FormulaTree) (n : ℕ) → IsPart a n left → IsPart b (n + sets a) right → IsPart (Alt a b) n p) }
+/// Makes the left part that of one or the other.
+#[inline(never)]
+fn alt_part(left: &mut Part, right: &Part) -> Result<(), NoMemory>
+    ensures { IfOk result (λ _. (a b : FormulaTree) (n : ℕ) → IsPart a n left.old → IsPart b (n + sets a) right.now → IsPart (Alt a b) n left.new) }
 {
-    let mut nulls = left.nulls;
-    push_marks(&mut nulls, &right.nulls)?;
-    let mut firsts = left.firsts;
-    push_ends(&mut firsts, &right.firsts)?;
-    let mut lasts = left.lasts;
-    push_ends(&mut lasts, &right.lasts)?;
-    Ok(Part {
-        nulls,
-        firsts,
-        lasts,
-    })
+    push_marks(&mut left.nulls, &right.nulls)?;
+    push_ends(&mut left.firsts, &right.firsts)?;
+    push_ends(&mut left.lasts, &right.lasts)?;
+    Ok(())
 }
 
-/// The part of any number in a row.
-fn star_part(part: Part, left_out: bool, hops: &mut Vec<Hop>) -> Result<Part, NoMemory>
-    requires { AreShortHops part.lasts.items part.firsts.items }
-    ensures part { IfOk result (λ p. (a : FormulaTree) (n : ℕ) → IsPart a n part → IsPart (Star a) n p) }
-    ensures hops { IfOk result (λ _. AddsUnless left_out hops.old.items hops.new.items (IsHopIn part.lasts.items part.firsts.items)) }
+/// Makes the part that of any number in a row.
+#[inline(never)]
+fn star_part(part: &mut Part, left_out: bool, hops: &mut Vec<Hop>) -> Result<(), NoMemory>
+    requires { AreShortHops part.old.lasts.items part.old.firsts.items }
+    ensures part { IfOk result (λ _. (a : FormulaTree) (n : ℕ) → IsPart a n part.old → IsPart (Star a) n part.new) }
+    ensures hops { IfOk result (λ _. AddsUnless left_out hops.old.items hops.new.items (IsHopIn part.old.lasts.items part.old.firsts.items)) }
 {
     push_joins(hops, &part.lasts, &part.firsts, left_out)?;
-    let mut nulls = part.nulls;
-    push_new(&mut nulls, 0)?;
-    Ok(Part {
-        nulls,
-        firsts: part.firsts,
-        lasts: part.lasts,
-    })
+    push_new(&mut part.nulls, 0)?;
+    Ok(())
 }
 
-/// The part of one or none.
-fn opt_part(part: Part) -> Result<Part, NoMemory>
-    ensures { IfOk result (λ p. (a : FormulaTree) (n : ℕ) → IsPart a n part → IsPart (Opt a) n p) }
+/// Makes the part that of one or none.
+#[inline(never)]
+fn opt_part(part: &mut Part) -> Result<(), NoMemory>
+    ensures { IfOk result (λ _. (a : FormulaTree) (n : ℕ) → IsPart a n part.old → IsPart (Opt a) n part.new) }
 {
-    let mut nulls = part.nulls;
-    push_new(&mut nulls, 0)?;
-    Ok(Part {
-        nulls,
-        firsts: part.firsts,
-        lasts: part.lasts,
-    })
+    push_new(&mut part.nulls, 0)?;
+    Ok(())
 }
 
-/// The part of a variable's span.
-fn capture_part(alloc: Global, variable: u8, part: Part) -> Result<Part, NoMemory>
-    requires { MayName variable part }
-    ensures { IfOk result (λ p. (a : FormulaTree) (n : ℕ) → IsPart a n part → IsPart (Capture variable a) n p) }
+/// Makes the part that of a variable's span.
+#[inline(never)]
+fn capture_part(alloc: Global, variable: u8, part: &mut Part) -> Result<(), NoMemory>
+    requires { MayName variable part.old }
+    ensures { IfOk result (λ _. (a : FormulaTree) (n : ℕ) → IsPart a n part.old → IsPart (Capture variable a) n part.new) }
 {
     let opening = 4u16.pow(variable as u32);
-    let mut nulls = Vec::new(alloc);
-    push_sums(&mut nulls, 3 * opening, &part.nulls)?;
-    let mut firsts = Vec::new(alloc);
-    push_raised(&mut firsts, opening, &part.firsts)?;
-    let mut lasts = Vec::new(alloc);
-    push_raised(&mut lasts, 2 * opening, &part.lasts)?;
-    Ok(Part {
-        nulls,
-        firsts,
-        lasts,
-    })
+    let mut captured = Part::new(alloc);
+    push_sums(&mut captured.nulls, 3 * opening, &part.nulls)?;
+    push_raised(&mut captured.firsts, opening, &part.firsts)?;
+    push_raised(&mut captured.lasts, 2 * opening, &part.lasts)?;
+    *part = captured;
+    Ok(())
 }
 
 /// Puts the hops from the last occurrences to the first ones into a list, unless they may be left out.
+#[inline(never)]
 fn push_joins(
     hops: &mut Vec<Hop>,
     lasts: &[End],
@@ -185,10 +217,62 @@ fn takes_nothing(formula: &Formula) -> bool
 }
 
 /// Whether a part is covered, and what stands beside it takes nothing.
+#[inline(never)]
 fn covers(covered: bool, beside: &Formula) -> bool
     ensures { CoversPart covered result (tree_of beside.now) }
 {
     covered && takes_nothing(beside)
+}
+
+/// Makes the part of a formula in a place. A result by value would take several places on the stack for each level.
+fn put_part(
+    alloc: Global,
+    formula: &Formula,
+    covered: bool,
+    letters: &mut Vec<ByteSet>,
+    hops: &mut Vec<Hop>,
+    part: &mut Part,
+) -> Result<(), NoMemory>
+    requires small { IsSmall (tree_of formula.now) }
+    requires room { length letters.old.items + sets (tree_of formula.now) ≤ 512 }
+    ensures part { IfOk result (λ _. IsPart (tree_of formula.now) (length letters.old.items + 1) part.new) }
+    ensures letters { IfOk result (λ _. letters.new.items ≡ letters.old.items ++ letters_in (tree_of formula.now)) }
+    ensures hops { IfOk result (λ _. AddsFollow covered (tree_of formula.now) (length letters.old.items + 1) hops.old.items hops.new.items) }
+{
+    match formula {
+        Formula::Set(bytes) => put_set(alloc, bytes, letters, part),
+        Formula::Empty => put_empty(alloc, part),
+        Formula::Cat(a, b) => {
+            let left_covered = covers(covered, b);
+            let right_covered = covers(covered, a);
+            let mut right = room(alloc)?;
+            put_part(alloc, a, left_covered, letters, hops, part)?;
+            put_part(alloc, b, right_covered, letters, hops, &mut right)?;
+            cat_part(alloc, part, &mut right, left_covered & right_covered, hops)
+        }
+        Formula::Alt(a, b) => {
+            let mut right = room(alloc)?;
+            put_part(alloc, a, covered, letters, hops, part)?;
+            put_part(alloc, b, covered, letters, hops, &mut right)?;
+            alt_part(part, &right)
+        }
+        Formula::Star(a) => {
+            put_part(alloc, a, true, letters, hops, part)?;
+            star_part(part, covered, hops)
+        }
+        Formula::Plus(a) => {
+            put_part(alloc, a, true, letters, hops, part)?;
+            push_joins(hops, &part.lasts, &part.firsts, covered)
+        }
+        Formula::Opt(a) => {
+            put_part(alloc, a, covered, letters, hops, part)?;
+            opt_part(part)
+        }
+        Formula::Capture(x, a) => {
+            put_part(alloc, a, false, letters, hops, part)?;
+            capture_part(alloc, *x, part)
+        }
+    }
 }
 
 /// The part of a formula, whose byte sets go to the end of one list and whose hops into another.
@@ -212,42 +296,9 @@ pub fn part_of(
     ensures letters { IfOk result (λ _. letters.new.items ≡ letters.old.items ++ letters_in (tree_of formula.now)) }
     ensures hops { IfOk result (λ _. AddsFollow covered (tree_of formula.now) (length letters.old.items + 1) hops.old.items hops.new.items) }
 {
-    match formula {
-        Formula::Set(bytes) => {
-            letters.push(*bytes)?;
-            set_part(alloc, letters.len() as u16)
-        }
-        Formula::Empty => empty_part(alloc),
-        Formula::Cat(a, b) => {
-            let left_covered = covers(covered, b);
-            let right_covered = covers(covered, a);
-            let left = part_of(alloc, a, left_covered, letters, hops)?;
-            let right = part_of(alloc, b, right_covered, letters, hops)?;
-            cat_part(alloc, left, right, left_covered & right_covered, hops)
-        }
-        Formula::Alt(a, b) => {
-            let left = part_of(alloc, a, covered, letters, hops)?;
-            let right = part_of(alloc, b, covered, letters, hops)?;
-            alt_part(left, right)
-        }
-        Formula::Star(a) => {
-            let inner = part_of(alloc, a, true, letters, hops)?;
-            star_part(inner, covered, hops)
-        }
-        Formula::Plus(a) => {
-            let inner = part_of(alloc, a, true, letters, hops)?;
-            push_joins(hops, &inner.lasts, &inner.firsts, covered)?;
-            Ok(inner)
-        }
-        Formula::Opt(a) => {
-            let inner = part_of(alloc, a, covered, letters, hops)?;
-            opt_part(inner)
-        }
-        Formula::Capture(x, a) => {
-            let inner = part_of(alloc, a, false, letters, hops)?;
-            capture_part(alloc, *x, inner)
-        }
-    }
+    let mut part = Part::new(alloc);
+    put_part(alloc, formula, covered, letters, hops, &mut part)?;
+    Ok(part)
 }
 
 /// The number past the greatest variable, 0 where there is none.

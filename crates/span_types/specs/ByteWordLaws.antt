@@ -113,6 +113,9 @@ words_of-members ws h =
     (λ k lt. let l : k < 4 = omega (arith, lt, length-map-range_with_len (word_of (members ws)) 0 4) in
     get_or-map-range_with_len (word_of (members ws)) 0 4 k k 0 l (omega arith) ∙ same_word ws k h l)
 
+pub words-same : (ws vs : List ℕ) → AreWords ws → AreWords vs → members ws ≡ members vs → ws ≡ vs
+words-same ws vs h i e = sym (words_of-members ws h) ∙ ap words_of e ∙ words_of-members vs i
+
 pub AreWords-with : (ws : List ℕ) (b : ℕ) → AreWords ws → b < 256 → AreWords (with_byte ws b)
 AreWords-with ws b h lt = record {
   size = length-set ws (b / 64) (bit_or (get_or ws (b / 64) 0) (1 * 2 ^ (b % 64) % 2 ^ 64)) ∙ h.size;

@@ -1,5 +1,5 @@
 //! Sets of bytes, and lists of bytes.
-ghost use Rattle.std.specs.Prelude.{◌≡◌, ◌<◌, ◌↔◌, false, true, not, map, replicate, slice_set, slice_index_or, length, IfOk};
+ghost use Rattle.std.specs.Prelude.{◌≡◌, ◌<◌, ◌↔◌, false, true, not, map, replicate, slice_set, slice_index_or, length, IfOk, IsTrue};
 
 use crate::refusal::NoMemory;
 use std::alloc::Global;
@@ -66,6 +66,13 @@ impl ByteSet {
     {
         let byte = b as usize;
         self.words[byte / WORD_BITS] >> (byte % WORD_BITS) & 1 == 1
+    }
+
+    /// Whether another set has the same members.
+    pub fn is_same(&self, other: &ByteSet) -> bool
+        ensures { IsTrue result ↔ (self.now ≡ other.now) }
+    {
+        self.words == other.words
     }
 }
 

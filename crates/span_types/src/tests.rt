@@ -132,6 +132,8 @@ fn sets_and_copies(rt: HostRuntime) -> Result<(), Fail> {
     let mut set = ByteSet::empty();
     set.insert(97);
     let other = set.complement();
+    assert!(rt; !set.is_same(&other));
+    assert!(rt; set.is_same(&other.complement()));
     for b in 0..=255u8 {
         assert_eq!(rt; set.contains(b), b == 97);
         assert_eq!(rt; other.contains(b), b != 97);

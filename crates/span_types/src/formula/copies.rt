@@ -13,27 +13,62 @@ impl Formula {
     /// # Errors
     ///
     /// `NoMemory` where memory for it wasn't found.
-    #[cycle(copies)]
     pub fn copy(&self, alloc: Global) -> Result<Formula, NoMemory>
         ensures { IfOk result (λ copy. tree_of copy ≡ tree_of self.now) }
     {
-        Ok(match self {
-            Formula::Set(bytes) => Formula::Set(*bytes),
-            Formula::Empty => Formula::Empty,
-            Formula::Cat(a, b) => Formula::Cat(boxed(alloc, a)?, boxed(alloc, b)?),
-            Formula::Alt(a, b) => Formula::Alt(boxed(alloc, a)?, boxed(alloc, b)?),
-            Formula::Star(a) => Formula::Star(boxed(alloc, a)?),
-            Formula::Plus(a) => Formula::Plus(boxed(alloc, a)?),
-            Formula::Opt(a) => Formula::Opt(boxed(alloc, a)?),
-            Formula::Capture(v, a) => Formula::Capture(*v, boxed(alloc, a)?),
-        })
+        let mut whole = Formula::Empty;
+        copy_to(self, alloc, &mut whole)?;
+        Ok(whole)
     }
 }
 
-#[cycle(copies)]
-fn boxed(alloc: Global, formula: &Formula) -> Result<Box<Formula>, NoMemory>
-    ensures { IfOk result (λ copy. tree_of copy.value ≡ tree_of formula.now) }
+// A place for a formula. Not inlined, so that a level of `copy_to` takes little of the stack.
+#[inline(never)]
+fn room(alloc: Global) -> Result<Box<Formula>, NoMemory> {
+    Ok(Box::new(alloc, Formula::Empty)?)
+}
+
+// Puts a copy of the formula in a place. A result by value would take several places on the stack for each level.
+fn copy_to(formula: &Formula, alloc: Global, place: &mut Formula) -> Result<(), NoMemory>
+    ensures { IfOk result (λ _. tree_of place.new ≡ tree_of formula.now) }
 {
-    let copy = formula.copy(alloc)?;
-    Ok(Box::new(alloc, copy)?)
+    match formula {
+        Formula::Set(bytes) => *place = Formula::Set(*bytes),
+        Formula::Empty => *place = Formula::Empty,
+        Formula::Cat(a, b) => {
+            let mut left = room(alloc)?;
+            copy_to(a, alloc, &mut left)?;
+            let mut right = room(alloc)?;
+            copy_to(b, alloc, &mut right)?;
+            *place = Formula::Cat(left, right);
+        }
+        Formula::Alt(a, b) => {
+            let mut left = room(alloc)?;
+            copy_to(a, alloc, &mut left)?;
+            let mut right = room(alloc)?;
+            copy_to(b, alloc, &mut right)?;
+            *place = Formula::Alt(left, right);
+        }
+        Formula::Star(a) => {
+            let mut inner = room(alloc)?;
+            copy_to(a, alloc, &mut inner)?;
+            *place = Formula::Star(inner);
+        }
+        Formula::Plus(a) => {
+            let mut inner = room(alloc)?;
+            copy_to(a, alloc, &mut inner)?;
+            *place = Formula::Plus(inner);
+        }
+        Formula::Opt(a) => {
+            let mut inner = room(alloc)?;
+            copy_to(a, alloc, &mut inner)?;
+            *place = Formula::Opt(inner);
+        }
+        Formula::Capture(v, a) => {
+            let mut inner = room(alloc)?;
+            copy_to(a, alloc, &mut inner)?;
+            *place = Formula::Capture(*v, inner);
+        }
+    }
+    Ok(())
 }

@@ -27,4 +27,4 @@ returns c a n ip =
     let s = rw (c.deref.ensures.value) at c.in_ok-push_sums.ensures in
     let f = rw (c.deref-2.ensures.value) at c.in_ok-push_raised.ensures in
     let l = rw (c.deref-3.ensures.value) at c.in_ok-push_raised-2.ensures in
-    part_of_capture c.args.variable a n c.pow-opening.result c.args.part _ c.pow-opening.ensures (from_none _ _ _ c.new-nulls.ensures.items s) (from_none _ _ _ c.new-firsts.ensures.items f) (from_none _ _ _ c.new-lasts.ensures.items l) ip
+    part_of_capture c.args.variable a n c.pow-opening.result c.args.part.now _ c.pow-opening.ensures (from_none _ _ _ c.new-captured.ensures.nulls s) (from_none _ _ _ c.new-captured.ensures.firsts f) (from_none _ _ _ c.new-captured.ensures.lasts l) ip

@@ -19,7 +19,7 @@ returns-clause-part c a b n ip iq =
     let s = rw (c.deref-3.ensures.value, c.deref-4.ensures.value) at c.in_ok-push_all_sums.ensures in
     let f = rw (c.deref-5.ensures.value, c.deref-6.ensures.value) at c.in_ok-push_all_raised.ensures in
     let l = rw (c.deref-7.ensures.value, c.deref-8.ensures.value) at c.in_ok-push_all_raised-2.ensures in
-    part_of_cat a b n c.args.left c.args.right _ (from_none _ _ _ c.new-nulls.ensures.items s) f l ip iq
+    rw (c.swap.ensures.x_after) (part_of_cat a b n c.args.left.now c.args.right.now _ (from_none _ _ _ c.new-nulls.ensures.items s) f l ip iq)
 
 pub returns-clause-hops : goal.returns-clause-hops
 returns-clause-hops c = rw (c.deref.ensures.value, c.deref-2.ensures.value) at c.in_ok-push_joins.ensures
