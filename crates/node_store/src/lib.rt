@@ -12,7 +12,8 @@
 //!
 //! `byte` and `pair` take expected constant time, amortized where the store grows, the other calls on a node constant
 //! time, and `thin` linear time. The first node takes a table of guesses where nodes stand, 2 MiB. A node takes 36
-//! bytes where the vectors are full: 12 itself, 9 its length and height, and 15 in the index. Full vectors double.
+//! bytes where the vectors are full: 12 itself, 9 its length and height, and 15 in the index. Full vectors double, and a
+//! full index grows fourfold.
 //!
 //! Nodes that are made once each are hash consing (A. Ershov, *On programming of arithmetic operations*, 1958). That
 //! the trees are balanced is from M. L. Schmid and N. Schweikardt, *Query evaluation over SLP-represented document
@@ -56,8 +57,8 @@ pub(crate) struct Facts {
 ///
 /// Without a node it takes no memory. The first node that `byte` or `pair` adds takes a table of 2^18 guesses of 8
 /// bytes each, 2 MiB; where there is no memory for it, calls go on without. Beside that a node takes 36 bytes where
-/// the vectors are full. Full vectors are doubled, and the old one stands until the new one is filled. There are at
-/// most 9·2^28 nodes.
+/// the vectors are full. Full vectors are doubled and a full index grows fourfold, and the old one stands until the new one
+/// is filled. There are at most 9·2^28 nodes.
 #[derive(Drop)]
 pub struct Store {
     nodes: Nodes,

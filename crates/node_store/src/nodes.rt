@@ -111,7 +111,19 @@ impl Nodes {
         let Some(narrow) = Narrow::of(node) else {
             return Err(NoMemory);
         };
+        make_room(&mut self.narrow);
         let (index, added) = self.narrow.insert_full(narrow).map_err(|_| NoMemory)?;
         Ok((index, added))
+    }
+}
+
+// A full index grows fourfold where there is memory for it. As it grows each node is put in anew, at a place of its own in
+// memory, and by doubling that would come to one more time for each node, by four to a third.
+fn make_room(narrow: &mut IndexSet<Narrow>)
+    ensures { narrow.new.keys ≡ narrow.old.keys }
+{
+    let len = narrow.len();
+    if len == narrow.capacity() {
+        let _grown = narrow.reserve(len.saturating_mul(3));
     }
 }
