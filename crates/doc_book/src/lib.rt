@@ -10,15 +10,15 @@
 //! ```
 //!
 //! A document is a name and a root, so it takes memory for these alone and none for its text, which stands in the node
-//! store. `set` and `get` take expected constant time, `take_out` and `copy` time linear in the number of documents. It
-//! is a map in order of insertion (the crate `indexmap`), so that `names` lists documents in the order in which they
-//! came.
+//! store. It is a map of the crate `name_map`, which lists documents in the order in which they came and has the costs:
+//! `set` and `get` take expected constant time, `take_out` of the first document amortised constant time and of another,
+//! as `copy`, time linear in the number of documents.
 #![tactic(auto)]
 
 ghost use Rattle.std.specs.Prelude.{◌≡◌, ◌<◌, ◌≤◌, [], length, slice_get, ok_or, Some, None, IsSome, IfOk, OnOk, OnErr};
 ghost use Rattle.doc_book.specs.Docs.{AreDistinctNames, put, root_of, taken_out, with_root};
 
-use indexmap::IndexMap;
+use name_map::NameMap;
 use slp_model::NodeId;
 use span_types::{Name, NoMemory};
 use std::alloc::Global;
@@ -46,20 +46,17 @@ pub struct Doc {
 /// list. A look-up by name takes expected constant time.
 #[derive(Drop)]
 pub struct Docs {
-    by_name: IndexMap<Vec<u8>, Doc>,
+    by_name: NameMap<Option<NodeId>>,
 }
 
 impl Model for Docs {
     ghost use Rattle.std.specs.Prelude.{List};
-    ghost use Rattle.indexmap.specs.IndexMap.{values};
     ghost use Rattle.doc_book.specs.declared.Doc.{Doc};
-    ghost use Rattle.doc_book.specs.Named.{AreNamed};
+    ghost use Rattle.doc_book.specs.Named.{docs_of};
 
     ghost Value = { List Doc };
 
-    ghost view = { λ d. values d.by_name };
-
-    ghost invariant = { λ d. AreNamed d.by_name.entries };
+    ghost view = { λ d. docs_of d.by_name };
 }
 
 impl Docs {
@@ -68,7 +65,7 @@ impl Docs {
         ensures { result ≡ [] }
     {
         Docs {
-            by_name: IndexMap::new(alloc),
+            by_name: NameMap::new(alloc),
         }
     }
 
@@ -81,11 +78,8 @@ impl Docs {
         ensures ok { OnOk result (self.new ≡ put self.old name root) }
         ensures err { OnErr result (self.new ≡ self.old) }
     {
-        let key = name.bytes().to_vec(alloc)?;
-        match self.by_name.insert(key, Doc { name, root }) {
-            Ok(_) => Ok(()),
-            Err(_) => Err(NoMemory),
-        }
+        self.by_name.set(alloc, name, root)?;
+        Ok(())
     }
 
     /// The root of the document with this name. Takes expected constant time.
@@ -97,12 +91,13 @@ impl Docs {
         ensures { result ≡ ok_or (root_of self.now name.now) Missing.NoSuchDocument }
     {
         match self.by_name.get(name) {
-            Some(doc) => Ok(doc.root),
+            Some(root) => Ok(*root),
             None => Err(Missing::NoSuchDocument),
         }
     }
 
-    /// Takes the document with this name out, and the rest close up. Takes time linear in the number of documents.
+    /// Takes the document with this name out, and the rest close up. The first document takes amortised expected constant
+    /// time, and another time linear in the number of documents.
     ///
     /// # Errors
     ///
@@ -113,7 +108,7 @@ impl Docs {
         ensures err { OnErr result (root_of self.old name.now ≡ None) }
         ensures same { OnErr result (self.new ≡ self.old) }
     {
-        match self.by_name.shift_remove(name) {
+        match self.by_name.take_out(name) {
             Some(_) => Ok(()),
             None => Err(Missing::NoSuchDocument),
         }
@@ -124,7 +119,7 @@ impl Docs {
         ensures count { result ≡ length self.now }
         ensures distinct { AreDistinctNames self.now }
     {
-        self.by_name.len()
+        self.by_name.count()
     }
 
     /// The name and the root of the document at this place. Places count from 0.
@@ -132,10 +127,8 @@ impl Docs {
         requires { place < length self.now }
         ensures { slice_get self.now place ≡ Some (record { name = result.0.now; root = result.1 }) }
     {
-        match self.by_name.get_index(place) {
-            Some((_, doc)) => (&doc.name, doc.root),
-            None => unreachable!(),
-        }
+        let (name, root) = self.by_name.at(place);
+        (name, *root)
     }
 
     /// Gives the document at this place another root. Takes no memory.
@@ -143,9 +136,7 @@ impl Docs {
         requires { place < length self.old }
         ensures { self.new ≡ with_root self.old place root }
     {
-        if let Some(doc) = self.by_name.get_index_mut(place) {
-            doc.root = root;
-        }
+        *self.by_name.value_mut(place) = root;
     }
 
     /// The same names and roots in the same order. Takes time and memory linear in their number.

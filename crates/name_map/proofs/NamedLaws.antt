@@ -1,7 +1,10 @@
 -- Laws of values by name.
-use Rattle.std.proofs.Common.{◌≡◌, ℕ, Bool, true, false, cond, List, [], ◌∷◌, Some, None, refl, sym, ap, subst, ◌∙◌}
+use Rattle.std.proofs.Common.{◌≡◌, ℕ, suc, Bool, true, false, cond, List, [], ◌∷◌, length, map, Option, Some, None, refl, sym, ap, subst, ◌∙◌}
 use Rattle.std.specs.Cmp.Lexicographic.{same_text, bytes_decides}
-use Rattle.name_map.specs.Named.{Named, is_same, value_of, put, taken_out}
+use Rattle.std.specs.Prelude.{IfNone}
+use Rattle.std.specs.List.{AllByRecursion}
+use Rattle.std.proofs.lemmas.Map.Keys.{IsDistinct-head, IsDistinct-tail}
+use Rattle.name_map.specs.Named.{Named, is_same, value_of, put, taken_out, AreDistinctNames}
 
 same-self : (n : List ℕ) → is_same n n ≡ true
 same-self n = (bytes_decides n n).1 refl
@@ -37,3 +40,40 @@ module _ {A : Type 0} where
           let other : is_same m p.0 ≡ false = subst (λ k. is_same m k ≡ false) (same_text n p.0 q) o in
           sym (ap (λ b. cond b (Some p.1) (value_of ps m)) other)
       by false q rest = ap (λ r. cond (is_same m p.0) (Some p.1) r) rest
+
+  -- where there is no such name, nothing is taken out
+  pub taken_out-missing : (ps : Named A) (n : List ℕ) → value_of ps n ≡ None → taken_out ps n ≡ ps
+  taken_out-missing [] n q = refl
+  taken_out-missing (p ∷ ps) n q = by (is_same n p.0) q (taken_out-missing ps n)
+    where
+      by : (b : Bool) → cond b (Some p.1) (value_of ps n) ≡ None → (value_of ps n ≡ None → taken_out ps n ≡ ps) → cond b ps (p ∷ taken_out ps n) ≡ p ∷ ps
+      by true r rest = absurd (cc r)
+      by false r rest = ap (λ qs. p ∷ qs) (rest r)
+
+  -- and where there is one, one is
+  pub length-taken_out : (ps : Named A) (n : List ℕ) (v : A) → value_of ps n ≡ Some v → suc (length (taken_out ps n)) ≡ length ps
+  length-taken_out [] n v q = absurd (cc q)
+  length-taken_out (p ∷ ps) n v q = by (is_same n p.0) q (length-taken_out ps n v)
+    where
+      by : (b : Bool) → cond b (Some p.1) (value_of ps n) ≡ Some v → (value_of ps n ≡ Some v → suc (length (taken_out ps n)) ≡ length ps) → suc (length (cond b ps (p ∷ taken_out ps n))) ≡ suc (length ps)
+      by true r rest = refl
+      by false r rest = ap suc (rest r)
+
+  -- a name that is apart from all isn't there
+  apart-missing : (ps : Named A) (n : List ℕ) → AllByRecursion (λ m. is_same n m ≡ false) (map (λ p. p.0) ps) → value_of ps n ≡ None
+  apart-missing [] n a = refl
+  apart-missing (p ∷ ps) n a = ap (λ b. cond b (Some p.1) (value_of ps n)) a.0 ∙ apart-missing ps n a.1
+
+  -- the name that is taken out is gone
+  pub value_of-taken_out : (ps : Named A) (n : List ℕ) → AreDistinctNames ps → value_of (taken_out ps n) n ≡ None
+  value_of-taken_out [] n d = refl
+  value_of-taken_out (p ∷ ps) n d = by (is_same n p.0) refl (value_of-taken_out ps n (IsDistinct-tail is_same p.0 (map (λ q. q.0) ps) d)) (apart-missing ps p.0 (IsDistinct-head is_same p.0 (map (λ q. q.0) ps) d))
+    where
+      by : (b : Bool) → b ≡ is_same n p.0 → value_of (taken_out ps n) n ≡ None → value_of ps p.0 ≡ None → value_of (cond b ps (p ∷ taken_out ps n)) n ≡ None
+      by true q rest apart = subst (λ m. value_of ps m ≡ None) (sym (same_text n p.0 q)) apart
+      by false q rest apart = ap (λ b. cond b (Some p.1) (value_of (taken_out ps n) n)) (sym q) ∙ rest
+
+  -- a name without a value changes nothing where it is taken out
+  pub taken_out-none : (ps : Named A) (n : List ℕ) (o : Option A) → o ≡ value_of ps n → IfNone o (taken_out ps n ≡ ps)
+  taken_out-none ps n None q = taken_out-missing ps n (sym q)
+  taken_out-none ps n (Some v) q = tt

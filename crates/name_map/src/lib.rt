@@ -9,9 +9,12 @@
 //! ```
 //!
 //! Names keep the order in which they came, whatever values they are given later. A look-up by name, by place, and a
-//! value that is set take expected constant time, and taking a name out is linear in the number of names. It is the
-//! map in order of insertion of the crate `indexmap`, with the two things that it lacks for names: the name itself at
-//! a place, and look-ups that contracts see as those of a list of pairs.
+//! value that is set take expected constant time. It is the map in order of insertion of the crate `indexmap`, with
+//! three things that it lacks for names: the name itself at a place, look-ups that contracts see as those of a list of
+//! pairs, and names that are taken out from the first on in amortised constant time. Such a name leaves an empty slot,
+//! so that the empty slots are the first ones and the others keep their distance. When more than half of the slots are
+//! empty they are dropped. To take out any other name is linear in the number of names, and so is to set one that still
+//! has an empty slot.
 #![tactic(auto)]
 
 ghost use Rattle.std.specs.Prelude.{◌≡◌, ◌<◌, ℕ, List, [], false, length, slice_get, Some, None, IfNone, OnOk, OnErr};
@@ -19,6 +22,7 @@ ghost use Rattle.std.specs.Option.{option_copied, option_map};
 ghost use Rattle.std.specs.Borrow.{sem};
 ghost use Rattle.name_map.specs.Named.{AreDistinctNames, is_same, put, taken_out, value_of};
 
+use crate::slots::{Slots, close_up, forget, is_front, slot_of, take_any, take_front};
 use indexmap::IndexMap;
 use span_types::{Name, NoMemory};
 use std::alloc::Global;
@@ -28,19 +32,18 @@ use std::marker::Model;
 /// of pairs of a name's bytes and a value. A look-up by name takes expected constant time.
 #[derive(Drop)]
 pub struct NameMap<V> {
-    by_name: IndexMap<Vec<u8>, (Name, V)>,
+    slots: Slots<V>,
 }
 
 impl<V> Model for NameMap<V> {
-    ghost use Rattle.indexmap.specs.IndexMap.{values};
     ghost use Rattle.name_map.specs.Named.{Named};
-    ghost use Rattle.name_map.specs.Kept.{AreKept};
+    ghost use Rattle.name_map.specs.Kept.{AreSlots, live};
 
     ghost Value = { Named V };
 
-    ghost view = { λ m. values m.by_name };
+    ghost view = { λ m. live m.slots.map.entries };
 
-    ghost invariant = { λ m. AreKept m.by_name.entries };
+    ghost invariant = { λ m. AreSlots m.slots.map.entries m.slots.gone };
 }
 
 impl<V> NameMap<V> {
@@ -51,11 +54,15 @@ impl<V> NameMap<V> {
         ensures { result ≡ [] }
     {
         NameMap {
-            by_name: IndexMap::new(alloc),
+            slots: Slots {
+                map: IndexMap::new(alloc),
+                gone: 0,
+            },
         }
     }
 
-    /// Gives the name this value. A present name keeps its place, and a new one goes last. Takes expected constant time.
+    /// Gives the name this value. A present name keeps its place, and a new one goes last. Takes expected constant time,
+    /// or time linear in the number of names where the name was among the first and was taken out shortly before.
     ///
     /// # Errors
     ///
@@ -69,7 +76,8 @@ impl<V> NameMap<V> {
         ensures err { OnErr result (self.new ≡ self.old) }
     {
         let key = name.bytes().to_vec(alloc)?;
-        match self.by_name.insert(key, (name, value)) {
+        forget(&mut self.slots, name.bytes());
+        match self.slots.map.insert(key, Some((name, value))) {
             Ok(_) => Ok(()),
             Err(_) => Err(NoMemory),
         }
@@ -79,24 +87,34 @@ impl<V> NameMap<V> {
     pub fn get(&self, name: &[u8]) -> Option<&V>
         ensures { option_copied result ≡ value_of self.now name.now }
     {
-        match self.by_name.get(name) {
-            Some(named) => Some(&named.1),
+        match self.slots.map.get(name) {
+            Some(held) => match held {
+                Some(named) => Some(&named.1),
+                None => None,
+            },
             None => None,
         }
     }
 
-    /// Takes the name out and gives its value, if it is there. The rest close up. Takes time linear in the number of names.
+    /// Takes the name out and gives its value, if it is there. The rest close up. The first name takes amortised
+    /// expected constant time, and another time linear in the number of names.
     pub fn take_out(&mut self, name: &[u8]) -> Option<V>
+    where
+        V: Drop,
         ensures value { result ≡ value_of self.old name.now }
         ensures rest { self.new ≡ taken_out self.old name.now }
         ensures gone { value_of self.new name.now ≡ None }
         ensures others { (other : List ℕ) → is_same other name.now ≡ false → value_of self.new other ≡ value_of self.old other }
         ensures same { IfNone result (self.new ≡ self.old) }
     {
-        match self.by_name.shift_remove(name) {
-            Some((_, value)) => Some(value),
-            None => None,
+        if !is_front(&self.slots, name) {
+            return take_any(&mut self.slots, name);
         }
+        let value = take_front(&mut self.slots, name);
+        if self.slots.gone > self.slots.map.len() / 2 {
+            close_up(&mut self.slots);
+        }
+        value
     }
 
     /// How many names there are.
@@ -104,7 +122,7 @@ impl<V> NameMap<V> {
         ensures count { result ≡ length self.now }
         ensures distinct { AreDistinctNames self.now }
     {
-        self.by_name.len()
+        self.slots.map.len() - self.slots.gone
     }
 
     /// The name and the value at this place. Places count from 0.
@@ -112,8 +130,12 @@ impl<V> NameMap<V> {
         requires { place < length self.now }
         ensures { slice_get self.now place ≡ Some (result.0.now, result.1.now) }
     {
-        match self.by_name.get_index(place) {
-            Some((_, named)) => (&named.0, &named.1),
+        let slot = slot_of(&self.slots, place);
+        match self.slots.map.get_index(slot) {
+            Some((_, held)) => match held {
+                Some(named) => (&named.0, &named.1),
+                None => unreachable!(),
+            },
             None => unreachable!(),
         }
     }
@@ -124,12 +146,19 @@ impl<V> NameMap<V> {
         ensures* writes_back { sem 𝓛 (lends_value V.row self.entry place result) }
         ensures value { option_map (λ p. p.1) (slice_get self.old place) ≡ Some result.now }
     {
-        match self.by_name.get_index_mut(place) {
-            Some(named) => &mut named.1,
+        let slot = slot_of(&self.slots, place);
+        let slots = &mut self.slots;
+        let map = &mut slots.map;
+        match map.get_index_mut(slot) {
+            Some(held) => match held {
+                Some(named) => &mut named.1,
+                None => unreachable!(),
+            },
             None => unreachable!(),
         }
     }
 }
 
+mod slots;
 #[cfg(test)]
 mod tests;
