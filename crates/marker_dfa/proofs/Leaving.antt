@@ -1,5 +1,5 @@
 -- The bundles that leave a set of states, gathered one by one.
-use Rattle.std.proofs.Common.{◌≡◌, ℕ, zero, suc, ◌+◌, ◌^◌, ◌<◌, ◌≤◌, ◌↔◌, ◌⊎◌, inl, inr, refl, sym, ap, subst, ◌∙◌, arith, Bool, true, false, List, [], ◌∷◌, length, Some, slice_get, slice_index_or, get_or, set, Contains, replicate, length-set, nat_eq, Result, Ok, Err, IfOk}
+use Rattle.std.proofs.Common.{◌≡◌, ℕ, zero, suc, ◌+◌, ◌^◌, ◌<◌, ◌≤◌, ◌↔◌, ◌⊎◌, inl, inr, refl, sym, ap, subst, ◌∙◌, arith, Bool, true, false, List, [], length, Some, slice_get, slice_index_or, get_or, set, Contains, replicate, length-set, nat_eq, Result, Ok, Err, IfOk}
 use Rattle.std.proofs.lemmas.List.{get_or-set_same, get_or-set_other, length-replicate}
 use Rattle.std.proofs.lemmas.Bool.Decides.{eqb_tells}
 use Rattle.marker_nfa.specs.Automaton.{Automaton, Moves, MayEnd}
@@ -170,11 +170,8 @@ gains_nothing old b t e = record { size = refl; members = λ p. ((λ c. inl c), 
     back p (inl c) = c
     back p (inr q) = let bad : false ≡ true = sym e ∙ q.0 in absurd (cc)
 
-one_byte : (b : ℕ) → Contains (b ∷ []) b
-one_byte b = (0, omega arith, refl)
-
 -- the places of one mark lead where the mark does
-pub move_is : (a : Automaton) (bundles : List Bundle) (exits : Exits) (m b : ℕ) (y : Subset) → AreBundles a (b ∷ []) bundles → AreExits a bundles exits → AreTargets a bundles (slice_index_or exits.by_mark m []) b y → IsMove a exits.from m b y
+pub move_is : (a : Automaton) (bundles : List Bundle) (exits : Exits) (m b : ℕ) (y : Subset) → AreBundles a bundles → AreExits a bundles exits → AreTargets a bundles (slice_index_or exits.by_mark m []) b y → IsMove a exits.from m b y
 move_is a bundles exits m b y h x t = record { size = t.size; members = λ p. ((λ c. to p ((t.members p).0 c)), λ s. (t.members p).1 (from p s)) }
   where
     to : (p : ℕ) → (i : ℕ) × InBucket exits.by_mark m i × BundleAt bundles i (λ w. (slice_index_or w.letters b false ≡ true) × (w.to ≡ p)) → (o : ℕ) × IsIn exits.from o × Moves a o m b p
@@ -189,18 +186,18 @@ move_is a bundles exits m b y h x t = record { size = t.size; members = λ p. ((
           letter = ap (λ (e : Bundle). slice_index_or e.letters b false) (sym same) ∙ w.2.0;
           to = ap (λ (e : Bundle). e.to) (sym same) ∙ w.2.1;
         } in
-        (f.0, f.2, (h.moves f.0 m b p (one_byte b)).0 (s.0, (l.0, l.1, carries)))
+        (f.0, f.2, (h.moves f.0 m b p).0 (s.0, (l.0, l.1, carries)))
 
     from : (p : ℕ) → (o : ℕ) × IsIn exits.from o × Moves a o m b p → (i : ℕ) × InBucket exits.by_mark m i × BundleAt bundles i (λ w. (slice_index_or w.letters b false ≡ true) × (w.to ≡ p))
     from p s =
-        let c = (h.moves s.0 m b p (one_byte b)).1 s.2 in
+        let c = (h.moves s.0 m b p).1 s.2 in
         let w = c.1 in
         (c.0, (x.members m c.0).1 (w.0, w.1, record { from = (s.0, w.2.from, s.1); mark = w.2.mark }), (w.0, w.1, (w.2.letter, w.2.to)))
 
 -- the mark of a move is among those of the exits
-pub mark_among : (a : Automaton) (bundles : List Bundle) (exits : Exits) (m b o p : ℕ) → AreBundles a (b ∷ []) bundles → AreExits a bundles exits → IsIn exits.from o → Moves a o m b p → Contains exits.marks.items m
+pub mark_among : (a : Automaton) (bundles : List Bundle) (exits : Exits) (m b o p : ℕ) → AreBundles a bundles → AreExits a bundles exits → IsIn exits.from o → Moves a o m b p → Contains exits.marks.items m
 mark_among a bundles exits m b o p h x i mv =
-    let c = (h.moves o m b p (one_byte b)).1 mv in
+    let c = (h.moves o m b p).1 mv in
     let w = c.1 in
     (x.marks.members m).1 (c.0, (x.members m c.0).1 (w.0, w.1, record { from = (o, w.2.from, i); mark = w.2.mark }))
 

@@ -62,10 +62,10 @@ pub record AreWellmade (a : Automaton) (bundles : List Bundle) : Type 0 where
   pub marks : (i : ℕ) (w : Bundle) → slice_get bundles i ≡ Some w → w.mark < 4 ^ a.variables
   pub targets : (i : ℕ) (w : Bundle) → slice_get bundles i ≡ Some w → w.to < a.states
 
--- the steps of the bundles with these bytes are those of the automaton
-pub record AreBundles (a : Automaton) (bytes : List ℕ) (bundles : List Bundle) : Type 0 where
+-- the steps of the bundles are those of the automaton
+pub record AreBundles (a : Automaton) (bundles : List Bundle) : Type 0 where
   pub wellmade : AreWellmade a bundles
-  pub moves : (o m b p : ℕ) → Contains bytes b → SomeCarries bundles o m b p ↔ Moves a o m b p
+  pub moves : (o m b p : ℕ) → SomeCarries bundles o m b p ↔ Moves a o m b p
 
 -- an edge's step from o to p that reads a mark and then a byte
 pub record EdgeMoves (e : Edge) (o m b p : ℕ) : Type 0 where
@@ -75,14 +75,14 @@ pub record EdgeMoves (e : Edge) (o m b p : ℕ) : Type 0 where
   pub to : e.to ≡ p
 
 -- an edge's steps come to those of the bundles
-abbrev pub GainsEdge : List ℕ → List Bundle → List Bundle → Edge → Type 0
-GainsEdge bytes old new e = (o m b p : ℕ) → Contains bytes b → SomeCarries new o m b p ↔ SomeCarries old o m b p ⊎ EdgeMoves e o m b p
+abbrev pub GainsEdge : List Bundle → List Bundle → Edge → Type 0
+GainsEdge old new e = (o m b p : ℕ) → SomeCarries new o m b p ↔ SomeCarries old o m b p ⊎ EdgeMoves e o m b p
 
--- an edge has the mark and the target of a bundle, and the same of some bytes
-pub record IsLike (w : Bundle) (e : Edge) (bytes : List ℕ) : Type 0 where
+-- an edge has the mark, the target and the letters of a bundle
+pub record IsLike (w : Bundle) (e : Edge) : Type 0 where
   pub mark : w.mark ≡ e.mark
   pub to : w.to ≡ e.to
-  pub letters : (b : ℕ) → Contains bytes b → slice_index_or w.letters b false ≡ slice_index_or e.letters b false
+  pub letters : w.letters ≡ e.letters
 
 -- a bundle leaves a set with this mark
 pub record Leaves (x : Subset) (m : ℕ) (w : Bundle) : Type 0 where

@@ -30,7 +30,7 @@ impl Buckets {
     pub fn new(alloc: Global, count: usize) -> Result<Buckets, NoMemory>
         ensures { IfOk result (λ b. b ≡ replicate count []) }
     {
-        let mut lists = Vec::new(alloc);
+        let mut lists = Vec::with_capacity(alloc, count)?;
         for bucket in 0..count {
             lists.push(Vec::new(alloc))?;
         }

@@ -1,7 +1,7 @@
 //! Edges in bundles: those with one mark, one target and the same letters, as one.
 
-ghost use Rattle.std.specs.Prelude.{◌≡◌, ◌<◌, ◌^◌, ℕ, Contains, IsTrue, slice_index_or, false, IfOk};
-ghost use Rattle.marker_nfa.specs.Automaton.{IsAutomaton};
+ghost use Rattle.std.specs.Prelude.{◌≡◌, ◌<◌, ◌^◌, IsTrue, IfOk};
+ghost use Rattle.marker_nfa.specs.Automaton.{Automaton, IsAutomaton};
 ghost use Rattle.marker_dfa.specs.Making.{AreBundles, AreWellmade, GainsEdge, IsLike};
 
 use crate::states::StateSet;
@@ -62,23 +62,11 @@ impl Hints {
     }
 }
 
-/// Whether two byte sets have the same of some bytes.
-fn agree(letters: &ByteSet, others: &ByteSet, bytes: &[u8]) -> bool
-    ensures { IsTrue result → (b : ℕ) → Contains bytes.now b → slice_index_or letters.now b false ≡ slice_index_or others.now b false }
+/// Whether an edge has the mark, the target and the letters of a bundle.
+fn is_like(bundle: &Bundle, edge: &Edge) -> bool
+    ensures { IsTrue result → IsLike bundle.now edge.now }
 {
-    for byte in bytes {
-        if letters.contains(*byte) != others.contains(*byte) {
-            return false;
-        }
-    }
-    true
-}
-
-/// Whether an edge has the mark and the target of a bundle, and the same of some bytes.
-fn is_like(bundle: &Bundle, edge: &Edge, bytes: &[u8]) -> bool
-    ensures { IsTrue result → IsLike bundle.now edge.now bytes.now }
-{
-    bundle.mark == edge.mark && bundle.to == edge.to && agree(&bundle.letters, &edge.letters, bytes)
+    bundle.mark == edge.mark && bundle.to == edge.to && bundle.letters.is_same(&edge.letters)
 }
 
 /// Puts an edge into the bundle at a place, if it is like it, or else into a bundle of its own. It gives the bundle's place.
@@ -87,16 +75,15 @@ fn put_edge(
     bundles: &mut Vec<Bundle>,
     nfa: &Nfa,
     edge: &Edge,
-    bytes: &[u8],
     hint: usize,
 ) -> Result<usize, NoMemory>
     requires bundles { AreWellmade nfa.now bundles.old.items }
     requires mark { edge.now.mark < 4 ^ nfa.now.variables }
     requires states { (edge.now.from < nfa.now.states) × (edge.now.to < nfa.now.states) }
     ensures bundles { IfOk result (λ _. AreWellmade nfa.now bundles.new.items) }
-    ensures gains { IfOk result (λ _. GainsEdge bytes.now bundles.old.items bundles.new.items edge.now) }
+    ensures gains { IfOk result (λ _. GainsEdge bundles.old.items bundles.new.items edge.now) }
 {
-    if hint < bundles.len() && is_like(&bundles[hint], edge, bytes) {
+    if hint < bundles.len() && is_like(&bundles[hint], edge) {
         bundles[hint].sources.insert(edge.from);
         return Ok(hint);
     }
@@ -112,23 +99,31 @@ fn put_edge(
     Ok(place)
 }
 
-/// All edges, in bundles. The bytes are those that will be asked for.
+// Bundles with one mark are gone through one after another, so they stand side by side.
+fn put_in_order(bundles: &mut Vec<Bundle>)
+    ensures { (a : Automaton) → AreBundles a bundles.old.items → AreBundles a bundles.new.items }
+{
+    bundles.sort_unstable_by_key(|bundle| bundle.mark);
+}
+
+/// All edges, in bundles. Those with one mark stand side by side.
 ///
 /// # Errors
 ///
 /// `NoMemory` where none was found.
-pub fn bundles_of(alloc: Global, nfa: &Nfa, bytes: &[u8]) -> Result<Vec<Bundle>, NoMemory>
+pub fn bundles_of(alloc: Global, nfa: &Nfa) -> Result<Vec<Bundle>, NoMemory>
     requires { IsAutomaton nfa.now }
-    ensures { IfOk result (λ bundles. AreBundles nfa.now bytes.now bundles.items) }
+    ensures { IfOk result (λ bundles. AreBundles nfa.now bundles.items) }
 {
     let mut bundles = Vec::new(alloc);
     let mut hints = Hints::new(alloc, nfa);
     for edge in nfa.edges() {
         let hint = hints.get(edge);
-        let place = put_edge(alloc, &mut bundles, nfa, edge, bytes, hint)?;
+        let place = put_edge(alloc, &mut bundles, nfa, edge, hint)?;
         if place != hint {
             hints.set(alloc, edge, place)?;
         }
     }
+    put_in_order(&mut bundles);
     Ok(bundles)
 }

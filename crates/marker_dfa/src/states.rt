@@ -83,8 +83,8 @@ impl StateSet {
         ensures yes { IsTrue result → (p : ℕ) × IsIn self.now p }
         ensures none { IsFalse result → (p : ℕ) → IsIn self.now p → ⊥ }
     {
-        for member in &self.members {
-            if *member {
+        for state in self.low..self.end {
+            if self.members[state as usize] {
                 return true;
             }
         }
@@ -107,10 +107,20 @@ impl StateSet {
         false
     }
 
-    /// Whether two sets have the same members.
+    /// Whether two sets have the same members. It compares what lies between the least and the greatest of both.
     pub fn same(&self, other: &StateSet) -> bool
         ensures { IsTrue result ↔ self.now ≡ other.now }
     {
-        self.members == other.members
+        if self.members.len() != other.members.len() {
+            return false;
+        }
+        let low = self.low.min(other.low);
+        let end = self.end.max(other.end);
+        for state in low..end {
+            if self.members[state as usize] != other.members[state as usize] {
+                return false;
+            }
+        }
+        true
     }
 }

@@ -73,7 +73,7 @@ fn cell_of(
     sets: &mut Vec<StateSet>,
 ) -> Result<Cell, DfaRefusal>
     requires automaton { IsAutomaton nfa.now }
-    requires bundles { AreBundles nfa.now (byte ∷ []) bundles.now }
+    requires bundles { AreBundles nfa.now bundles.now }
     requires exits { AreExits nfa.now bundles.now exits.now }
     requires reached { IsReached nfa.now exits.now.from }
     requires found { AreFound nfa.now sets.old.items }
@@ -108,7 +108,7 @@ fn cells_of(
     sets: &mut Vec<StateSet>,
 ) -> Result<Vec<Cell>, DfaRefusal>
     requires automaton { IsAutomaton nfa.now }
-    requires bundles { AreBundles nfa.now bytes.now bundles.now }
+    requires bundles { AreBundles nfa.now bundles.now }
     requires exits { AreExits nfa.now bundles.now exits.now }
     requires reached { IsReached nfa.now exits.now.from }
     requires found { AreFound nfa.now sets.old.items }
@@ -135,7 +135,7 @@ fn row_of(
     sets: &mut Vec<StateSet>,
 ) -> Result<Row, DfaRefusal>
     requires automaton { IsAutomaton nfa.now }
-    requires bundles { AreBundles nfa.now bytes.now bundles.now }
+    requires bundles { AreBundles nfa.now bundles.now }
     requires place { place < vec_len sets.old }
     requires found { AreFound nfa.now sets.old.items }
     ensures found { IfOk result (λ _. AreFound nfa.now sets.new.items) }
@@ -172,7 +172,7 @@ pub fn rows_of(alloc: Global, nfa: &Nfa, bytes: &[u8]) -> Result<Vec<Row>, DfaRe
     ensures rows { IfOk result (λ rows. AreAllRows nfa.now bytes.now rows.items) }
     ensures refused { IfTooMany result (AreTooMany nfa.now) }
 {
-    let bundles = bundles_of(alloc, nfa, bytes)?;
+    let bundles = bundles_of(alloc, nfa)?;
     let mut sets = start_sets(alloc, nfa)?;
     let mut rows = Vec::new(alloc);
     'rows: while rows.len() < sets.len() {

@@ -5,5 +5,5 @@ use Rattle.marker_dfa.proofs.bundles.bundles_of.Given as goal
 abbrev pub invariant-loop-edge : goal.invariant-loop-edge
 invariant-loop-edge l = record {
   items : l.edge-items ≡ l.nfa.edges;
-  bundled : BundledUpTo l.nfa l.bytes l.edge-index l.bundles.items;
+  bundled : BundledUpTo l.nfa l.edge-index l.bundles.items;
 }

@@ -1,11 +1,6 @@
 use Rattle.std.proofs.lemmas.Option.{slice_get-get_or}
-use Rattle.std.proofs.lemmas.List.Elements.{Contains-get_or}
-use Rattle.marker_dfa.proofs.Bundling.{one_of_them}
 use Rattle.marker_dfa.proofs.RowsGrow.{so_far_more}
 use Rattle.marker_dfa.proofs.subsets.cells_of.Goals as goal
-
-pub cell_of-requires-clause-bundles : goal.cell_of-requires-clause-bundles
-cell_of-requires-clause-bundles c = one_of_them c.args.nfa.now c.args.bytes.now c.args.bundles.now _ (Contains-get_or c.args.bytes.now c.loop-byte.byte-index 0 c.loop-byte-test.true) c.requires.bundles
 
 pub loop-byte-preserved : goal.loop-byte-preserved
 loop-byte-preserved c =
