@@ -1,5 +1,5 @@
 -- The states between two texts, by the tables of both.
-use Rattle.std.proofs.Common.{◌≡◌, ℕ, ◌<◌, ◌^◌, Bool, true, false, ap, sym, ◌∙◌, arith, List, ◌++◌, length, Option, Some, None, inl, inr}
+use Rattle.std.proofs.Common.{◌≡◌, ℕ, ◌<◌, ◌^◌, Bool, true, false, ap, sym, ◌∙◌, arith, subst, List, ◌++◌, length, Option, Some, None, inl, inr}
 use Rattle.std.specs.Prelude.{if◌then◌else◌}
 use Rattle.std.proofs.lemmas.Bool.{cases_eq}
 use Rattle.slp_model.specs.declared.Node.{Node}
@@ -17,6 +17,7 @@ use Rattle.state_tables.proofs.Members.{or-left, or-right, not-both, bool-cases}
 use Rattle.span_enum.specs.Letters.{reached}
 use Rattle.span_enum.specs.Sets.{can_reach_of}
 use Rattle.span_enum.specs.Between.{AreAmong, AreBetween}
+use Rattle.span_enum.specs.Words.{CanRun}
 use Rattle.span_enum.proofs.Paths.{Tells, tells, run-append, run-within, then-between, split-marked, plain-from_no_mark}
 use Rattle.span_enum.proofs.Firsts.{run-from_table, table-from_run}
 
@@ -72,6 +73,33 @@ between-left a s u t tl p goals between it il low small is can =
     let mid = then-between (λ k. reached a k x2) (reached a p x1) run.state (sym (run-append a p x1 x2) ∙ ap (reached a p) (sym cut.1.1.0) ∙ run.ends) in
     let goal : member between mid.0 ≡ true = is.reach mid.0 x1 cut.1.1.1 mid.1 (record { word = x2; state = run.state; bytes = cut.1.1.2; ends = mid.2; goal = run.goal }) in
     table-from_run a s tl p between il low (record { word = x1; state = mid.0; bytes = cut.1.1.1; ends = mid.1; goal = goal })
+
+-- where no run over the first text has marks, the plain state alone is between
+pub between-sole : (a : DeterministicAutomaton) (s u : List ℕ) (t tl : List Row) (p q goals : ℕ) → Tells a (s ++ u) t → Tells a s tl → p < states_of a → marked_of t p < 2 ^ 128
+    → marked_of tl p ≡ 0 → unmarked_of tl p ≡ Some q → can_reach_of t p goals ≡ true → AreBetween a p s u goals (2 ^ q) × CanRun a q u goals
+between-sole a s u t tl p q goals it il low small none at can =
+    let run = run-from_table a (s ++ u) t p goals it low small can in
+    let cut = split-marked s u run.word run.bytes in
+    let x1 = cut.0 in
+    let x2 = cut.1.0 in
+    let mid = then-between (λ k. reached a k x2) (reached a p x1) run.state (sym (run-append a p x1 x2) ∙ ap (reached a p) (sym cut.1.1.0) ∙ run.ends) in
+    let same = sole mid.0 x1 cut.1.1.1 mid.1 in
+    let on : CanRun a q u goals = record { word = x2; state = run.state; bytes = cut.1.1.2; ends = ap (λ k. reached a k x2) (sym same) ∙ mid.2; goal = run.goal } in (
+      record {
+        reach = λ n x e ends h. ap (member (2 ^ q)) (sole n x e ends) ∙ member-single_same q;
+        onward = λ n h. subst (λ k. CanRun a k u goals) (one q n (single-is (Some q) n h)) on;
+      },
+      on,
+    )
+  where
+    one : (m n : ℕ) → ◌≡◌ {A = Option ℕ} (Some m) (Some n) → m ≡ n
+    one m n e = cc
+
+    sole : (n : ℕ) (x : Marked) → bytes_of x ≡ s → reached a p x ≡ Some n → n ≡ q
+    sole n x e ends = elim (bool-cases (has_mark x)) [
+      | inl marked ↦ not-both (member 0 n) (ap (λ m. member m n) (sym none) ∙ (il.marked p n low).1 (record { word = x; bytes = e; mark = marked; ends = ends })) (member-zero n)
+      | inr bare ↦ sym (one q n (sym at ∙ il.unmarked p low ∙ ap (reached a p) (sym (plain-from_no_mark x bare ∙ ap plain e)) ∙ ends))
+    ]
 
 pub if-in : (b : Bool) (p q : ℕ) → q ≡ p → b ≡ true → member (if b then 2 ^ p else 0) q ≡ true
 if-in false p q same h = cc

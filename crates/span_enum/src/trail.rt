@@ -424,6 +424,19 @@ fn plain_into(table: &Table, q: u8, goals: u128) -> Option<u8>
     }
 }
 
+/// The state after the text, if every run over it has no marks.
+fn sole_state(table: &Table, p: u8) -> Option<u8>
+    requires { p < length table.now }
+    ensures sole { IfSome result (λ q. (marked_of table.now p ≡ 0) × (unmarked_of table.now p ≡ Some q)) }
+    ensures within { IfSome result (λ q. q < length table.now) }
+{
+    if table.marked(p) == 0 {
+        table.unmarked(p)
+    } else {
+        None
+    }
+}
+
 /// The left child of a frame.
 fn left_of<'a>(
     frame: &Frame<'a>,
@@ -457,6 +470,28 @@ fn right_of<'a>(child: &Frame<'a>, r: NodeId, right: &Look<'a>, q: u8, goals: u1
         state: q,
         goals,
         beside: Beside::Passed(child.id, child.look),
+    }
+}
+
+/// The right child of a frame, from the state after the left one.
+fn right_in<'a>(
+    frame: &Frame<'a>,
+    l: NodeId,
+    left: &Look<'a>,
+    r: NodeId,
+    right: &Look<'a>,
+    q: u8,
+) -> Frame<'a>
+    requires { frame.now.at + left.now.len < 2 ^ 64 }
+    ensures { result ≡ record { id = r; look = right.now; at = frame.now.at + left.now.len; state = q; goals = frame.now.goals; beside = Passed l left.now } }
+{
+    Frame {
+        id: r,
+        look: *right,
+        at: frame.at + left.len,
+        state: q,
+        goals: frame.goals,
+        beside: Beside::Passed(l, *left),
     }
 }
 
@@ -502,6 +537,10 @@ fn enter<'a, L: Ledger>(
             let depth = trail.len();
             let left = view.look(l, looks);
             let right = view.look(r, looks);
+            if let Some(q) = sole_state(left.table, state) {
+                let rest = right_in(frame, l, &left, r, &right, q);
+                return enter(view, dfa, &rest, trail, out, looks);
+            }
             let between = goals_between(dfa, look.table, left.table, right.table, state, goals);
             let child = left_of(frame, l, &left, r, &right, between);
             let q = enter(view, dfa, &child, trail, out, looks);
@@ -509,7 +548,7 @@ fn enter<'a, L: Ledger>(
                 Some(n) => n,
                 None => {
                     trail.truncate(depth);
-                    let sibling = right_of(&child, r, &right, q, goals);
+                    let sibling = right_in(frame, l, &left, r, &right, q);
                     enter(view, dfa, &sibling, trail, out, looks)
                 }
             }
