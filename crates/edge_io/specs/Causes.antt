@@ -5,9 +5,13 @@ use Rattle.edge_io.specs.declared.ShelfRefusal.TheVariants as shelf
 use Rattle.edge_io.specs.declared.WriteRefusal.{WriteRefusal}
 use Rattle.edge_io.specs.declared.WriteRefusal.TheVariants.{Failed, NoMemory}
 
+-- a count of 64 bits with one more, which stops at its last value
+abbrev pub one_more : ℕ → ℕ
+one_more n = min (n + 1) (2 ^ 64 - 1)
+
 -- a count of 64 bits rose, or stands at its last value
 abbrev pub Rose : ℕ → ℕ → Type 0
-Rose before now = min (before + 1) (2 ^ 64 - 1) ≤ now
+Rose before now = one_more before ≤ now
 
 -- the count never falls, and an `Err` comes only where it rose
 pub record HasCause {T E : Type 0} (before now : ℕ) (result : Result T E) : Type 0 where

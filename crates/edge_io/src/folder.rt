@@ -1,6 +1,8 @@
 // The trusted edge: files named from the current folder.
-ghost use Rattle.std.specs.Prelude.{◌≡◌, None};
+ghost use Rattle.std.specs.Prelude.{◌≡◌, ◌<◌, length, take, None, IfErr, IfOk, IfSome, IsErrOf, OnOk};
 ghost use Rattle.std.specs.Io.{ReadsAtMost};
+ghost use Rattle.edge_io.specs.Causes.{HasWriteCause, HasShelfCause, one_more};
+ghost use Rattle.edge_io.specs.Files.{HasPiece, Holds, file_of};
 
 use crate::{Shelf, ShelfRefusal, WriteRefusal};
 use std::io::{ErrorKind, Read, Seek, SeekFrom};
@@ -68,7 +70,17 @@ impl<'a, R: Files + AllocGlobal> Shelf for DirShelf<'a, R> {
 
     ghost wants = { λ s. s.wants };
 
-    fn read_at(&mut self, name: &[u8], from: u64, into: &mut [u8]) -> Result<usize, ShelfRefusal> {
+    fn read_at(&mut self, name: &[u8], from: u64, into: &mut [u8]) -> Result<usize, ShelfRefusal>
+        requires { 0 < length into.old }
+        ensures bound { ReadsAtMost result into.new }
+        ensures bytes { IfOk result (λ n. IfSome None (λ all. HasPiece all name.now from (take n into.new))) }
+        ensures untold { IfErr result (λ why. why ≡ ShelfRefusal.Absent → IfSome None (λ all. file_of all name.now ≡ None)) }
+        ensures cause { HasShelfCause self.old.faults self.new.faults self.old.wants self.new.wants result }
+        ensures kept { OnOk result (self.new ≡ self.old) }
+        ensures absent { IsErrOf result ShelfRefusal.Absent → self.new ≡ self.old }
+        ensures failed { IsErrOf result ShelfRefusal.Failed → self.new ≡ record self.old { faults = one_more self.old.faults } }
+        ensures want { IsErrOf result ShelfRefusal.NoMemory → self.new ≡ record self.old { wants = one_more self.old.wants } }
+    {
         let error = match read_file(self.rt, name, from, into) {
             Ok(count) => return Ok(count),
             Err(error) => error,
@@ -87,7 +99,13 @@ impl<'a, R: Files + AllocGlobal> Shelf for DirShelf<'a, R> {
         }
     }
 
-    fn put(&mut self, name: &[u8], bytes: &[u8]) -> Result<(), WriteRefusal> {
+    fn put(&mut self, name: &[u8], bytes: &[u8]) -> Result<(), WriteRefusal>
+        ensures done { OnOk result (Holds None name.now bytes.now) }
+        ensures cause { HasWriteCause self.old.faults self.new.faults self.old.wants self.new.wants result }
+        ensures kept { OnOk result (self.new ≡ self.old) }
+        ensures failed { IsErrOf result WriteRefusal.Failed → self.new ≡ record self.old { faults = one_more self.old.faults } }
+        ensures want { IsErrOf result WriteRefusal.NoMemory → self.new ≡ record self.old { wants = one_more self.old.wants } }
+    {
         let error = match write_file(self.rt, name, bytes) {
             Ok(()) => return Ok(()),
             Err(error) => error,

@@ -2,7 +2,7 @@
 ghost use Rattle.std.specs.Prelude.{◌≡◌, ◌≤◌, ◌<◌, ◌↔◌, ◌≢◌, [], Some, None, length, take, option_map, IsTrue, IsErr, IsErrOf, IfOk, IfErr, OnOk, OnErr};
 ghost use Rattle.std.specs.Io.{ReadsAtMost};
 ghost use Rattle.std.specs.Io.KnownBytes.{ReadConsumes, WriteAppends};
-ghost use Rattle.edge_io.specs.Causes.{HasCause, HasWriteCause, HasShelfCause};
+ghost use Rattle.edge_io.specs.Causes.{HasCause, HasWriteCause, HasShelfCause, one_more};
 ghost use Rattle.edge_io.specs.Files.{HasPiece, KeepsOthers, file_of, put_file};
 ghost use Rattle.edge_io.specs.Injection.{fresh, fails_next, after_call};
 ghost use Rattle.edge_io.specs.Told.{told};
@@ -133,6 +133,8 @@ impl Sink for MemSink {
         ensures failing { IsErrOf result WriteRefusal.Failed ↔ IsTrue (fails_next self.old.injection) }
         ensures injection { self.new.injection ≡ after_call self.old.injection }
         ensures wants { OnOk result (self.new.wants ≡ self.old.wants) }
+        ensures want { IsErrOf result WriteRefusal.NoMemory → self.new.wants ≡ one_more self.old.wants }
+        ensures no_want { IsErrOf result WriteRefusal.Failed → self.new.wants ≡ self.old.wants }
         ensures same { self.new.piece ≡ self.old.piece }
     {
         if self.plan.next_fails() {
@@ -228,6 +230,8 @@ impl Shelf for MemShelf {
         ensures failing { IsErrOf result WriteRefusal.Failed ↔ IsTrue (fails_next self.old.injection) }
         ensures injection { self.new.injection ≡ after_call self.old.injection }
         ensures wants { OnOk result (self.new.wants ≡ self.old.wants) }
+        ensures want { IsErrOf result WriteRefusal.NoMemory → self.new.wants ≡ one_more self.old.wants }
+        ensures no_want { IsErrOf result WriteRefusal.Failed → self.new.wants ≡ self.old.wants }
         ensures same { self.new.piece ≡ self.old.piece }
     {
         if self.plan.next_fails() {

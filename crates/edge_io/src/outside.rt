@@ -1,5 +1,8 @@
 // The trusted edge: a source over any reader of std, and a sink over any writer.
-ghost use Rattle.std.specs.Prelude.{◌≡◌};
+ghost use Rattle.std.specs.Prelude.{◌≡◌, ◌<◌, ◌≤◌, length, IfOk, OnErr, OnOk};
+ghost use Rattle.std.specs.Io.{ReadsAtMost};
+ghost use Rattle.std.specs.Io.KnownBytes.{ReadConsumes, WriteAppends};
+ghost use Rattle.edge_io.specs.Causes.{HasCause, HasWriteCause, one_more};
 
 use crate::{Failed, Sink, Source, WriteRefusal};
 use std::io::{ErrorKind, Read, Write};
@@ -41,7 +44,14 @@ impl<R: Read> Source for StdSource<R> {
 
     ghost faults = { λ s. s.faults };
 
-    fn read(&mut self, into: &mut [u8]) -> Result<usize, Failed> {
+    fn read(&mut self, into: &mut [u8]) -> Result<usize, Failed>
+        requires { 0 < length into.old }
+        ensures bound { ReadsAtMost result into.new }
+        ensures bytes { ReadConsumes self.old.left self.new.left result into.new }
+        ensures cause { HasCause self.old.faults self.new.faults result }
+        ensures kept { OnOk result (self.new.faults ≡ self.old.faults) }
+        ensures failed { OnErr result (self.new.faults ≡ one_more self.old.faults) }
+    {
         for _ in 0..=REPEATS {
             match self.reader.read(into) {
                 Ok(count) => return Ok(count),
@@ -90,7 +100,15 @@ impl<W: Write> Sink for StdSink<W> {
 
     ghost wants = { λ _. 0 };
 
-    fn write(&mut self, piece: &[u8]) -> Result<usize, WriteRefusal> {
+    fn write(&mut self, piece: &[u8]) -> Result<usize, WriteRefusal>
+        requires { 0 < length piece.now }
+        ensures some { IfOk result (λ n. 0 < n) }
+        ensures bound { IfOk result (λ n. n ≤ length piece.now) }
+        ensures bytes { WriteAppends self.old.written self.new.written result piece.now }
+        ensures cause { HasWriteCause self.old.faults self.new.faults 0 0 result }
+        ensures kept { OnOk result (self.new.faults ≡ self.old.faults) }
+        ensures failed { OnErr result (self.new.faults ≡ one_more self.old.faults) }
+    {
         for _ in 0..=REPEATS {
             match self.writer.write(piece) {
                 Ok(0) => break,

@@ -2,7 +2,7 @@
 ghost use Rattle.std.specs.Prelude.{◌≡◌, ◌≤◌, ◌<◌, [], Some, None, length, take, option_map, IsOk, IfOk, IfErr, OnOk, OnErr, IsOkUnless};
 ghost use Rattle.std.specs.Io.{ReadsAtMost};
 ghost use Rattle.std.specs.Io.KnownBytes.{ReadConsumes, WriteAppends};
-ghost use Rattle.edge_io.specs.Causes.{HasCause, HasWriteCause, HasShelfCause};
+ghost use Rattle.edge_io.specs.Causes.{HasCause, HasWriteCause, HasShelfCause, one_more};
 ghost use Rattle.edge_io.specs.Files.{HasPiece, KeepsOthers, file_of, put_file};
 ghost use Rattle.edge_io.specs.Told.{told};
 
@@ -105,6 +105,7 @@ impl Sink for SureSink {
         ensures cause { HasWriteCause 0 0 self.old.wants self.new.wants result }
         ensures sure { IsOkUnless result WriteRefusal.NoMemory }
         ensures wants { OnOk result (self.new.wants ≡ self.old.wants) }
+        ensures want { OnErr result (self.new.wants ≡ one_more self.old.wants) }
         ensures whole { IfOk result (λ n. n ≡ length piece.now) }
     {
         if self.bytes.extend_from_slice(piece).is_err() {
@@ -179,6 +180,7 @@ impl Shelf for SureShelf {
         ensures cause { HasWriteCause 0 0 self.old.wants self.new.wants result }
         ensures sure { IsOkUnless result WriteRefusal.NoMemory }
         ensures wants { OnOk result (self.new.wants ≡ self.old.wants) }
+        ensures want { OnErr result (self.new.wants ≡ one_more self.old.wants) }
     {
         if self.files.put(name, bytes).is_err() {
             self.wants = self.wants.saturating_add(1);
