@@ -163,62 +163,107 @@ fn file_too_long(rt: HostRuntime) -> Result<(), Fail> {
     Ok(())
 }
 
-/// Each command over files once, and questions after them.
-const SCRIPT: &str =
-    "text d a\nload e f\nsave f\nopen f\nquery q .*$x{ab}.*\ntest q e\nhas q e x=[3,5)\n";
+/// A script for runs in which one call fails, over one file, and objects that move one byte a call.
+#[derive(Clone, Copy)]
+struct Faulted {
+    name: &'static str,
+    bytes: &'static [u8],
+    script: &'static str,
+    output: &'static str,
 
-const OUTPUT: &str = "ok d 1 \"a\"\nok e 4 \"abab\"\nok 2 4\nok 2\nok q x\nyes\nyes\n";
+    /// The first number that no call of the source has: it is called for each byte and once more for the end.
+    reads: u64,
 
-/// How often the script calls a shelf that gives one byte a call. A file is first asked for the byte behind its limit, and
-/// last for its end; `f` has 4 bytes at first and then 79.
-const LOAD_CALLS: u64 = 1 + 4 + 1;
+    /// The first number that no call of the sink has: it is called for each byte.
+    writes: u64,
 
-const SAVE_CALL: u64 = LOAD_CALLS + 1;
-
-const ALL_CALLS: u64 = SAVE_CALL + 1 + 79 + 1;
-
-#[test]
-fn each_call_of_a_shelf_fails(rt: HostRuntime) -> Result<(), Fail> {
-    let alloc = rt.alloc();
-    for call in 1..=ALL_CALLS + 1 {
-        let remains = remains_of(&rt, alloc, "f", b"abab", 1, call, SCRIPT)?;
-        let (status, length, file) = match call {
-            _ if call <= LOAD_CALLS => (Status::ShelfFault, 11, 4),
-            SAVE_CALL => (Status::ShelfFault, 25, 4),
-            _ if call <= ALL_CALLS => (Status::ShelfFault, 32, 79),
-            _ => (Status::Done, OUTPUT.len(), 79),
-        };
-        assert_eq!(rt; remains.status, status, "{call}");
-        assert_eq!(rt; remains.written.len(), length, "{call}");
-        assert!(rt; OUTPUT.as_bytes().starts_with(&remains.written), "{call}");
-        assert_eq!(rt; remains.file.len(), file, "{call}");
-    }
-    Ok(())
+    /// Of calls of the shelf with these numbers: how many bytes are written where one of them fails, and how many `f` has
+    /// then. In the last row no call has the number.
+    calls: &'static [(u64, u64, usize, usize)],
 }
 
-/// Each command over files but `load`, and listings.
-const LISTING: &str = "text d abab\nsave f\nopen f\nquery q .*$x{ab}.*\nlist q d\nlistall q\n";
+/// A file is first asked for the byte behind its limit, then for each byte, and last for its end; it is put by one call.
+const FAULTED: [Faulted; 3] = [
+    // Each command over files once, and questions after them.
+    Faulted {
+        name: "f",
+        bytes: b"abab",
+        script: "text d a\nload e f\nsave f\nopen f\nquery q .*$x{ab}.*\ntest q e\nhas q e x=[3,5)\n",
+        output: "ok d 1 \"a\"\nok e 4 \"abab\"\nok 2 4\nok 2\nok q x\nyes\nyes\n",
+        reads: 78,
+        writes: 53,
+        calls: &[
+            (1, 6, 11, 4),
+            (7, 7, 25, 4),
+            (8, 88, 32, 79),
+            (89, 89, 52, 79),
+        ],
+    },
+    // Each command over files but `load`, and listings.
+    Faulted {
+        name: "g",
+        bytes: b"",
+        script: "text d abab\nsave f\nopen f\nquery q .*$x{ab}.*\nlist q d\nlistall q\n",
+        output: "ok d 4 \"abab\"\nok 1 4\nok 1\nok q x\nx=[1,3)\nx=[3,5)\nend\ndoc d\nx=[1,3)\nx=[3,5)\nend\ndone\n",
+        reads: 66,
+        writes: 85,
+        calls: &[(1, 1, 14, 0), (2, 72, 21, 69), (73, 73, 84, 69)],
+    },
+    // Every command.
+    Faulted {
+        name: "h",
+        bytes: b"abab",
+        script: "text d abab\ntext w X\nquery q .*$x{ab}.*\nquery p $x{a}.*\nunion u q p\njoin j q p\nproject m u ()\ntest m d\nhas q d x=[1,3)\nlist u d limit 2\nlistall m limit 1\nreplace e q d w\nmark v\nlet d = concat(d,e)\nshow d 1 3\nnames\nsave f\nopen f\nload g h\nback v\ndrop w\nunmark v\nunquery j\ncompact\nnames\n",
+        output: "ok d 4 \"abab\"\nok w 1 \"X\"\nok q x\nok p x\nok u x\nok j x\nok m\nyes\nyes\nx=[1,2)\nx=[1,3)\nmore\ndoc d\n()\nend\ndoc w\nend\ndone\nok e 2 \"XX\"\nok\nok d 6 \"ababXX\"\n\"ab\"\nd 6\nw 1\ne 2\nend\nok 3 7\nok 3\nok g 4 \"abab\"\nok\nok\nok\nok\nok\nd 4\ne 2\nend\n",
+        reads: 286,
+        writes: 221,
+        calls: &[
+            (1, 1, 167, 0),
+            (2, 128, 174, 125),
+            (129, 134, 179, 125),
+            (135, 135, 220, 125),
+        ],
+    },
+];
 
-const LISTED: &str =
-    "ok d 4 \"abab\"\nok 1 4\nok 1\nok q x\nx=[1,3)\nx=[3,5)\nend\ndoc d\nx=[1,3)\nx=[3,5)\nend\ndone\n";
+/// What a run of the script leaves whose source, sink or shelf fails at the call with this number.
+fn remains_with<R: Threads + Sync>(
+    rt: &R,
+    alloc: Global,
+    case: &Faulted,
+    bad_read: u64,
+    bad_write: u64,
+    bad_call: u64,
+) -> Result<Remains, AllocError> {
+    let setting = Setting {
+        piece: 1,
+        bad_read,
+        bad_write,
+        ..plain()
+    };
+    let mut shelf = shelf_of(alloc, case.name, case.bytes, 1, bad_call)?;
+    let script = case.script.as_bytes().to_vec(alloc)?;
+    let (status, written) = ran_over(rt, alloc, script, setting, &mut shelf)?;
+    let file = shelf.file(b"f").unwrap_or(&[]).to_vec(alloc)?;
+    Ok(Remains {
+        status,
+        written,
+        file,
+    })
+}
 
 #[test]
 fn each_call_of_a_source_fails(rt: HostRuntime) -> Result<(), Fail> {
     let alloc = rt.alloc();
-    // one call for each of 64 bytes, and one that finds the end
-    for bad_read in 1..=66 {
-        let setting = Setting {
-            piece: 1,
-            bad_read,
-            ..plain()
-        };
-        let (status, written) = ran(&rt, alloc, LISTING.as_bytes().to_vec(alloc)?, setting)?;
-        let (wanted, length) = match bad_read {
-            66 => (Status::Done, LISTED.len()),
-            _ => (Status::ScriptFault, 0),
-        };
-        assert_eq!(rt; status, wanted, "{bad_read}");
-        assert_eq!(rt; written.len(), length, "{bad_read}");
+    for case in &FAULTED {
+        for read in 1..case.reads {
+            let remains = remains_with(&rt, alloc, case, read, 0, 0)?;
+            assert_eq!(rt; remains.status, Status::ScriptFault, "{read}");
+            assert_eq!(rt; remains.written.len(), 0, "{read}");
+        }
+        let remains = remains_with(&rt, alloc, case, case.reads, 0, 0)?;
+        assert_eq!(rt; remains.status, Status::Done);
+        assert_eq!(rt; remains.written.as_slice(), case.output.as_bytes());
     }
     Ok(())
 }
@@ -226,40 +271,41 @@ fn each_call_of_a_source_fails(rt: HostRuntime) -> Result<(), Fail> {
 #[test]
 fn each_call_of_a_sink_fails(rt: HostRuntime) -> Result<(), Fail> {
     let alloc = rt.alloc();
-    // one call for each of 84 bytes
-    for bad_write in 1..=85 {
-        let setting = Setting {
-            piece: 1,
-            bad_write,
-            ..plain()
-        };
-        let (status, written) = ran(&rt, alloc, LISTING.as_bytes().to_vec(alloc)?, setting)?;
-        let wanted = match bad_write {
-            85 => Status::Done,
-            _ => Status::OutFault,
-        };
-        assert_eq!(rt; status, wanted, "{bad_write}");
-        assert_eq!(rt; written.len() as u64, bad_write - 1, "{bad_write}");
-        assert!(rt; LISTED.as_bytes().starts_with(&written), "{bad_write}");
+    for case in &FAULTED {
+        for write in 1..case.writes {
+            let remains = remains_with(&rt, alloc, case, 0, write, 0)?;
+            assert_eq!(rt; remains.status, Status::OutFault, "{write}");
+            assert_eq!(rt; remains.written.len() as u64, write - 1, "{write}");
+            assert!(rt;
+                case.output.as_bytes().starts_with(&remains.written),
+                "{write}"
+            );
+        }
     }
     Ok(())
 }
 
 #[test]
-fn each_call_of_a_shelf_fails_before_a_listing(rt: HostRuntime) -> Result<(), Fail> {
+fn each_call_of_a_shelf_fails(rt: HostRuntime) -> Result<(), Fail> {
     let alloc = rt.alloc();
-    // one call that puts `f`, one for the byte behind its limit, one for each of its 69 bytes, and one that finds its end
-    for call in 1..=73 {
-        let remains = remains_of(&rt, alloc, "g", b"", 1, call, LISTING)?;
-        let (status, length, file) = match call {
-            1 => (Status::ShelfFault, 14, 0),
-            73 => (Status::Done, LISTED.len(), 69),
-            _ => (Status::ShelfFault, 21, 69),
-        };
-        assert_eq!(rt; remains.status, status, "{call}");
-        assert_eq!(rt; remains.written.len(), length, "{call}");
-        assert!(rt; LISTED.as_bytes().starts_with(&remains.written), "{call}");
-        assert_eq!(rt; remains.file.len(), file, "{call}");
+    for case in &FAULTED {
+        for (first, last, length, file) in case.calls {
+            for call in *first..=*last {
+                let remains = remains_with(&rt, alloc, case, 0, 0, call)?;
+                let status = if *length == case.output.len() {
+                    Status::Done
+                } else {
+                    Status::ShelfFault
+                };
+                assert_eq!(rt; remains.status, status, "{call}");
+                assert_eq!(rt; remains.written.len(), *length, "{call}");
+                assert!(rt;
+                    case.output.as_bytes().starts_with(&remains.written),
+                    "{call}"
+                );
+                assert_eq!(rt; remains.file.len(), *file, "{call}");
+            }
+        }
     }
     Ok(())
 }

@@ -1,10 +1,10 @@
 -- The pieces of a file, put together.
-use Rattle.std.proofs.Common.{rules, ◌≡◌, inr, ℕ, ◌+◌, ◌*◌, ◌<◌, ◌≤◌, List, [], ◌++◌, length, take, drop, refl, sym, ap, subst, ◌∙◌, arith, length-append, length-drop}
+use Rattle.std.proofs.Common.{◌≡◌, inr, ℕ, ◌+◌, ◌*◌, ◌<◌, ◌≤◌, List, [], ◌++◌, length, take, drop, refl, sym, ap, subst, ◌∙◌, arith, append_assoc, length-append, length-drop}
 use Rattle.std.specs.Prelude.{Option, Some, None, IfSome}
+use Rattle.std.specs.Io.KnownBytes.{Consumes}
 use Rattle.std.proofs.Math.Seq.{take-add}
 use Rattle.std.proofs.lemmas.List.{take_all, length-take, length-take-le, length-replicate}
 use Rattle.std.specs.Prelude.{replicate}
-use Rattle.slp_model.specs.declared.Node.{Node}
 use Rattle.span_types.specs.Fibonacci.{height_limit}
 use Rattle.edge_io.specs.Files.{Files, Holds, HasPiece}
 use Rattle.span_language.specs.Step.{IsWithin, load_size}
@@ -12,6 +12,13 @@ use Rattle.span_run.specs.Reading.{IsFileFront, IsLoadPaid}
 
 some_is : {A : Type 0} (x y : A) → Some x ≡ Some y → x ≡ y
 some_is x y e = cc e
+
+-- what was taken of a source's bytes, and then some more
+pub Consumes-more : (old mid new : Option (List ℕ)) (xs ys : List ℕ) → Consumes old mid xs → Consumes mid new ys → Consumes old new (xs ++ ys)
+Consumes-more None mid new xs ys h i = tt
+Consumes-more (Some a) None new xs ys h i = absurd h
+Consumes-more (Some a) (Some b) None xs ys h i = absurd i
+Consumes-more (Some a) (Some b) (Some c) xs ys h i = h ∙ ap (λ t. xs ++ t) i ∙ sym (append_assoc xs ys c)
 
 -- nothing of a file was read, and none stands behind the limit
 pub none_behind : (files : Option Files) (name : List ℕ) (limit : ℕ) → IfSome files (λ all. HasPiece all name limit []) → IsFileFront files name limit []

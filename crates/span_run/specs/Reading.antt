@@ -1,5 +1,6 @@
 -- Files that are read in pieces.
 use Rattle.std.specs.Prelude.{◌≡◌, ◌⊎◌, ℕ, ◌+◌, ◌<◌, ◌≤◌, List, Option, Some, IfSome, length, take}
+use Rattle.std.specs.Io.KnownBytes.{Consumes}
 use Rattle.edge_io.specs.Files.{Files, Holds, file_of}
 use Rattle.edge_io.specs.declared.ShelfRefusal.{ShelfRefusal}
 use Rattle.edge_io.specs.declared.ShelfRefusal.TheVariants as shelf
@@ -8,6 +9,10 @@ use Rattle.span_language.specs.Step.{IsWithin, Lacks, load_size, open_size}
 use Rattle.span_language.specs.Allowance.{load_limit}
 use Rattle.span_run.specs.declared.reading.FileRefusal.{FileRefusal}
 use Rattle.span_run.specs.declared.reading.FileRefusal.TheVariants.{Absent, TooLong, Failed, NoMemory}
+
+-- at most so many bytes are taken from what is left
+abbrev pub TakesAtMost : ℕ → Option (List ℕ) → Option (List ℕ) → Type 0
+TakesAtMost n old new = (taken : List ℕ) × Consumes old new taken × (length taken ≤ n)
 
 -- a shelf's refusal, as the reader of a file gives it
 abbrev pub of_shelf : ShelfRefusal → FileRefusal

@@ -3,6 +3,7 @@ ghost use Rattle.std.specs.Prelude.{◌≡◌, ◌⊎◌, ℕ, ◌+◌, ◌^◌,
 ghost use Rattle.std.specs.Io.KnownBytes.{Consumes, Keeps};
 ghost use Rattle.edge_io.specs.Causes.{Rose};
 ghost use Rattle.span_words.specs.Words.{Refused, Words};
+ghost use Rattle.span_run.specs.Reading.{TakesAtMost};
 ghost use Rattle.span_language.specs.Lines.{lines_of};
 ghost use Rattle.span_language.specs.Runs.{is_refused, outside, Anywhere, InFileLine, UnlessList, RunsAll, RunsFront};
 ghost use Rattle.span_language.specs.Scripts.{script_of, AsksForNoDemo, OfScript};
@@ -52,18 +53,20 @@ enum Unread {
     NoMemory,
 }
 
-/// All the bytes of a source, where they are at most 2^24.
+/// All the bytes of a source, where they are at most 2^24. At most one byte more is taken from it.
 fn read_script<S: Source>(alloc: Global, script: &mut S) -> Result<Vec<u8>, Unread>
     ensures all { IfOk result (λ bytes. IfSome (S.left script.old) (λ left. bytes.items ≡ left)) }
     ensures short { IfOk result (λ bytes. length bytes.items ≤ 2 ^ 24) }
     ensures too_long { IfErr result (λ why. why ≡ Unread.TooLong → IfSome (S.left script.old) (λ left. 2 ^ 24 < length left)) }
+    ensures taken { TakesAtMost (2 ^ 24 + 1) (S.left script.old) (S.left script.new) }
     ensures later { S.faults script.old ≤ S.faults script.new }
     ensures fault { IfErr result (λ why. why ≡ Unread.Fault → Rose (S.faults script.old) (S.faults script.new)) }
 {
     let mut bytes = Vec::new(alloc);
     let mut chunk = [0u8; 4096];
     while bytes.len() <= MAX_SCRIPT {
-        let Ok(count) = script.read(&mut chunk) else {
+        let room = chunk.len().min(MAX_SCRIPT + 1 - bytes.len());
+        let Ok(count) = script.read(&mut chunk[..room]) else {
             return Err(Unread::Fault);
         };
         if count == 0 {
@@ -86,6 +89,7 @@ fn asked_script<S: Source>(
     ensures all { IfOk result (λ bytes. IfSome (script_of number (S.left script.old)) (λ told. bytes.items ≡ told)) }
     ensures short { IfOk result (λ bytes. length bytes.items ≤ 2 ^ 24) }
     ensures too_long { IfErr result (λ why. why ≡ Unread.TooLong → (number ≡ None) × IfSome (S.left script.old) (λ left. 2 ^ 24 < length left)) }
+    ensures taken { TakesAtMost (2 ^ 24 + 1) (S.left script.old) (S.left script.new) }
     ensures fault { IfErr result (λ why. why ≡ Unread.Fault → (number ≡ None) × Rose (S.faults script.old) (S.faults script.new)) }
     ensures unread { IfSome number (λ _. script.new ≡ script.old) }
 {
@@ -180,7 +184,8 @@ pub fn run<
     ensures too_long { result ≡ Status.ScriptTooLong → AsksForNoDemo (map string_bytes words.now) × IfSome (S.left script.old) (λ bytes. 2 ^ 24 < length bytes) }
     ensures short { (result ≡ Status.Done) ⊎ (result ≡ Status.SomeRefused) ⊎ (result ≡ Status.OutFault) ⊎ (result ≡ Status.ShelfFault) → OfScript (map string_bytes words.now) (S.left script.old) (λ bytes. length bytes ≤ 2 ^ 24) }
 
-    // The source isn't read for a demo, nor where the words are refused.
+    // At most one byte past the limit of a script is read. The source isn't read for a demo, nor where the words are refused.
+    ensures taken { TakesAtMost (2 ^ 24 + 1) (S.left script.old) (S.left script.new) }
     ensures unread { (AsksForNoDemo (map string_bytes words.now) → ⊥) → script.new ≡ script.old }
 
     // Nothing is written, and no file and no counter changes.
