@@ -1,13 +1,12 @@
 """The quick part of tools/hostile, and what its own reader of images says."""
 import unittest
 from collections.abc import Callable
-from dataclasses import replace
 from pathlib import Path
 
 from support import PROGRAM, tool
 
 from hostility import extremes, faults, images, keys, memory
-from hostility.running import Limits, Report
+from hostility.running import Report
 from hostility.scripts import SMALL
 
 # the example of docs/IMAGES.md
@@ -55,9 +54,6 @@ class Hostile(unittest.TestCase):
     def test_deep_expressions_and_formulas(self) -> None:
         def deep(program: Path, report: Report) -> None:
             for extreme in extremes.small_stacks():
-                if "formula" in extreme.name:
-                    # under the stack of most systems
-                    extreme = replace(extreme, limits=Limits(stack=8 << 20))
                 extremes.try_one(program, report, extreme, measured=False)
 
         self.tried(deep)
