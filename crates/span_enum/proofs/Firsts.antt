@@ -26,7 +26,7 @@ use Rattle.span_enum.specs.Words.{CanRun, IsFirst}
 one-zero : ◌≡◌ {A = ℕ} 1 0 → ⊥
 one-zero h = omega arith
 
-shared-none : (a b q : ℕ) → (bit_and a b == 0) ≡ true → member a q ≡ true → member b q ≡ true → ⊥
+pub shared-none : (a b q : ℕ) → (bit_and a b == 0) ≡ true → member a q ≡ true → member b q ≡ true → ⊥
 shared-none a b q e ha hb =
     let none : bit_and a b ≡ 0 = eqb-true (bit_and a b) 0 e in
     let both : min 1 1 ≡ bit_at (bit_and a b) q = rw (bit_at_and a b q, bit-member a q ha, bit-member b q hb) refl in
@@ -34,13 +34,13 @@ shared-none a b q e ha hb =
     let clash : ◌≡◌ {A = ℕ} 1 0 = both ∙ zero' in
     absurd (one-zero clash)
 
-positive : (n : ℕ) → (n == 0) ≡ false → 0 < n
+pub positive : (n : ℕ) → (n == 0) ≡ false → 0 < n
 positive n e = elim (cases_lt 0 n) [
   | inl lt ↦ lt
   | inr ge ↦ let none : n ≡ 0 = omega arith in not-both (n == 0) (eq-eqb n 0 none) e
 ]
 
-shared-some : (a b : ℕ) → a < 2 ^ 128 → (bit_and a b == 0) ≡ false → (q : ℕ) × (member a q ≡ true) × (member b q ≡ true)
+pub shared-some : (a b : ℕ) → a < 2 ^ 128 → (bit_and a b == 0) ≡ false → (q : ℕ) × (member a q ≡ true) × (member b q ≡ true)
 shared-some a b ha e =
     let n = bit_and a b in
     let pos : 0 < n = positive n e in
@@ -196,22 +196,3 @@ above-zero m n h = elim (bool-cases (m == 0)) [
   | inl e ↦ let none : m ≡ 0 = eqb-true m 0 e in absurd (omega arith)
   | inr e ↦ e
 ]
-
--- where a marked run reaches a goal, the first marked text has a mark
-pub first-has_mark : (a : DeterministicAutomaton) (s : List ℕ) (t : List Row) (p goals r : ℕ) (w : Marked) → Tells a s t → p < states_of a → marked_of t p < 2 ^ 128
-    → (bit_and (marked_of t p) goals == 0) ≡ false → IsFirst a p s goals w r → has_mark w ≡ true
-first-has_mark a s t p goals r w is h low some first =
-    let found = shared-some (marked_of t p) goals low some in
-    let run = (is.marked p found.0 h).0 found.1 in
-    elim (first.least run.word found.0 run.bytes run.ends found.2) [
-      | inl same ↦ ap has_mark (sym same) ∙ run.mark
-      | inr before ↦ marked-first w run.word before
-    ]
-  where
-    marked-first : (x y : Marked) → Precedes x y → has_mark x ≡ true
-    marked-first [] y h = absurd h
-    marked-first (m ∷ x) [] h = absurd h
-    marked-first (m ∷ x) (n ∷ y) h = elim h [
-      | inl lt ↦ or-left _ _ (false-not (m.0 == 0) (above-zero m.0 n.0 lt))
-      | inr e ↦ or-right _ _ (marked-first x y e.1)
-    ]

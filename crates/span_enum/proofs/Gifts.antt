@@ -18,20 +18,19 @@ use Rattle.span_enum.specs.Letters.{step_of, reached}
 use Rattle.span_enum.specs.Members.{Tuple}
 use Rattle.span_enum.specs.Sets.{is_final}
 use Rattle.span_enum.specs.Tuples.{IsTupleOf, reaches, end_mark, word_over, word_of, write_word}
-use Rattle.span_enum.specs.Words.{CanRun, IsFirst, IsGreatestMark, IsNoMark, FindsFirst, FindsRest}
+use Rattle.span_enum.specs.Words.{IsFirst, IsGreatestMark, IsNoMark, FindsFirst, FindsRest}
 use Rattle.span_enum.specs.Next.{NoneAfter, IsNext, LowersAt}
-use Rattle.span_enum.specs.Lowering.{Lowers, IsLowering}
+use Rattle.span_enum.specs.Lowering.{Lowers}
 use Rattle.span_enum.specs.Trail.{Agree}
-use Rattle.span_enum.specs.Ends.{Accepted, AcceptsWord, AcceptsEnd, Wellmarked, IsFirstLeft, NoneLeft, Gives}
+use Rattle.span_enum.specs.Ends.{AcceptsWord, AcceptsEnd, Wellmarked, IsFirstLeft, NoneLeft, Gives}
 use Rattle.span_enum.specs.declared.walk.Lowered.{Lowered}
-use Rattle.span_enum.specs.declared.walk.Lowering.{Lowering}
 use Rattle.span_enum.proofs.Paths.{onto, run-append, then-some}
 use Rattle.span_enum.proofs.Firsts.{IsFirst-fork, IsFirst-byte, mark_count-append}
-use Rattle.span_enum.proofs.Nexts.{none-byte, lowers-byte, none-fork, IsNext-lowered}
+use Rattle.span_enum.proofs.Nexts.{none-byte, none-fork, IsNext-lowered}
 use Rattle.span_enum.proofs.Written.{write_word-append, over-bytes, read-cut}
-use Rattle.span_enum.proofs.Lowerings.{length-bytes, over-length, lowers-on, lowers-behind}
-use Rattle.span_enum.proofs.Comings.{append-same, letter-at}
-use Rattle.span_enum.proofs.LastLetters.{member-one, final-end, run-end, reach-end, onward-end, fit-end}
+use Rattle.span_enum.proofs.Lowerings.{length-bytes, over-length, lowers-on}
+use Rattle.span_enum.proofs.Cuts.{append-same, letter-at}
+use Rattle.span_enum.proofs.LastLetters.{member-one, final-end, reach-end, onward-end, fit-end}
 use Rattle.span_enum.proofs.TupleLaws.{few-marks, few-marks_of, read-back, end_mark-same, lies-reaches, reaches-lies}
 
 -- looks of one call, for k variables and a tree of height h
@@ -159,35 +158,10 @@ gives-lowered a s t u place m q y well is l first written =
 
 -- ---- the calls
 module _ (a : DeterministicAutomaton) (auto : IsDeterministic a) where
-  pub first-of_empty : (m : ℕ) (u : Tuple) → Wellmarked a [] → IsGreatestMark a 0 256 1 65536 m 0 → u ≡ write_mark m 1 (blanks a.variables) → Gives a [] None u
-  first-of_empty m u well best e =
-      let first : IsFirst a 0 (ended []) 1 ((m, 256) ∷ []) 0 = first-end a auto 0 m best in
-      (gives a [] None ((m, 256) ∷ []) u well first.bytes first.ends first e).0
-
-  pub none-of_empty : ((m : ℕ) → IsNoMark a 0 256 1 65536 m) → Accepted a [] → ⊥
-  none-of_empty none run = some-end a auto 0 (run-end a 0 run) none
-
-  pub next-of_empty : (t u : Tuple) (m : ℕ) → Wellmarked a [] → IsTupleOf a.variables t → IsGreatestMark a 0 256 1 (end_mark t 1) m 0 → u ≡ write_mark m 1 (cut 1 t) → Gives a [] (Some t) u
-  next-of_empty t u m well is best e =
-      let l : LowersAt a 0 (ended []) 1 (word_of t []) 0 m 0 = lowers-byte a 0 256 1 (end_mark t 1) m 0 best in
-      let rest = back-bytes a 0 (ended []) 1 (word_of t []) 0 m 0 l in
-      let none : bytes_of l.back ≡ [] = rest.0 in
-      (gives-lowered a [] t u 0 m 0 [] well is l (rw none nothing) e).0
-    where
-      nothing : IsFirst a 0 [] 1 [] 0
-      nothing = record { bytes = refl; ends = refl; goal = member-one; least = λ v r bytes ends goal. inl (empty v bytes) }
-        where
-          empty : (v : Marked) → bytes_of v ≡ [] → v ≡ []
-          empty [] e = refl
-          empty (x ∷ v) e = cc
-
-  pub none-after_empty : (t : Tuple) → ((m : ℕ) → IsNoMark a 0 256 1 (end_mark t 1) m) → NoneLeft a [] (Some t)
-  none-after_empty t none = none-byte a 0 256 1 (end_mark t 1) none
-
   module _ (finals : ℕ) (all : (p : ℕ) → p < states_of a → member finals p ≡ is_final a p) (s : List ℕ) (well : Wellmarked a s) where
     -- the first answer
-    pub first-of : (h before after r e : ℕ) (out u : Tuple) → FindsFirst a 0 s finals h before after r 1 (blanks a.variables) out → IsGreatestMark a r 256 1 65536 e 0
-        → u ≡ write_mark e (length s + 1) out → Gives a s None u × (after ≤ before + 4 * (h * a.variables))
+    pub first-of : (h before after r e : ℕ) (out u : Tuple) → (f : FindsFirst a 0 s finals h before after r 1 (blanks a.variables) out) → IsGreatestMark a r 256 1 65536 e 0
+        → u ≡ write_mark e (length s + 1) out → Gives a s None u × (after ≤ before + 4 * (h * a.variables)) × (word_over u 1 s ≡ f.word)
     first-of h before after r e out u f best written =
         let first : IsFirst a 0 (ended s) 1 (f.word ++ (e, 256) ∷ []) 0 = first-ended a auto finals all 0 s f.word r e auto.has_start f.first best in
         let len : 1 + length f.word ≡ length s + 1 = omega (arith, length-bytes f.word, ap length f.first.bytes) in
@@ -197,49 +171,26 @@ module _ (a : DeterministicAutomaton) (auto : IsDeterministic a) where
         ∙ sym (write_word-append 1 f.word ((e, 256) ∷ []) (blanks a.variables))) in
         let few : mark_count f.word ≤ 2 * a.variables = omega (arith, both.1, mark_count-append f.word ((e, 256) ∷ [])) in
         let x : mark_count f.word * h ≤ (2 * a.variables) * h = mul-le-mul_right h few in
-        (both.0, omega (arith, f.cost))
+        let letters = append-same (word_over u 1 s) ((end_mark u (length s + 1), 256) ∷ []) f.word ((e, 256) ∷ []) (over-length u 1 s ∙ omega (arith, len)) (sym both.2) in
+        (both.0, omega (arith, f.cost), letters.0)
 
-    w1-of : Tuple → Marked
-    w1-of t = word_over t 1 s
-
-    -- lowered at the end
-    pub next-at_end : (t u : Tuple) (l : Lowering) (q m : ℕ) → IsTupleOf a.variables t → IsLowering a 0 s finals (word_over t 1 s) 1 l → l.state ≡ Some q
-        → IsGreatestMark a q 256 1 (end_mark t (length s + 1)) m 0 → u ≡ write_mark m (length s + 1) (cut (length s + 1) t) → Gives a s (Some t) u × Agree t u (length s + 1)
-    next-at_end t u l q m is lowering alive best e =
-        let found : Lowers a 0 (ended s) 1 (word_of t s) 1 (record { at = 1 + length s; mark = m; state = 0 }) =
-        lowers-behind a s (256 ∷ []) 0 1 (word_over t 1 s) ((end_mark t (length s + 1), 256) ∷ []) (over-bytes t 1 s) refl 1 q (record { at = 1 + length s; mark = m; state = 0 })
-        (sym lowering.ends ∙ alive)
-        (record { place = 0; place_is = omega arith; lowers = lowers-byte a q 256 1 (end_mark t (length s + 1)) m 0 best }) in
-        let place : found.place ≡ length s = omega (arith, found.place_is) in
-        let rest = back-bytes a 0 (ended s) 1 (word_of t s) found.place m 0 found.lowers in
-        let none : bytes_of found.lowers.back ≡ [] = rest.0 ∙ ap (λ n. drop (n + 1) (ended s)) place ∙ drop-append-add s (256 ∷ []) 1 in
-        let both = gives-lowered a s t u found.place m 0 [] well is found.lowers (rw none nothing) (rw place e) in
-        (both.0, rw place at both.2)
-      where
-        nothing : IsFirst a 0 [] 1 [] 0
-        nothing = record { bytes = refl; ends = refl; goal = member-one; least = λ v r bytes ends goal. inl (empty v bytes) }
-          where
-            empty : (v : Marked) → bytes_of v ≡ [] → v ≡ []
-            empty [] e = refl
-            empty (x ∷ v) e = cc
-
-    no-end : (t : Tuple) (l : Lowering) → IsLowering a 0 s finals (word_over t 1 s) 1 l
-        → ((q : ℕ) → l.state ≡ Some q → (m : ℕ) → IsNoMark a q 256 1 (end_mark t (length s + 1)) m)
+    no-end : (t : Tuple) (o : Option ℕ) → o ≡ reached a 0 (word_over t 1 s)
+        → ((q : ℕ) → o ≡ Some q → (m : ℕ) → IsNoMark a q 256 1 (end_mark t (length s + 1)) m)
         → (n : ℕ) → reached a 0 (word_over t 1 s) ≡ Some n → NoneAfter a n (256 ∷ []) 1 ((end_mark t (length s + 1), 256) ∷ [])
-    no-end t l lowering none n e = none-byte a n 256 1 (end_mark t (length s + 1)) (none n (lowering.ends ∙ e))
+    no-end t o is none n e = none-byte a n 256 1 (end_mark t (length s + 1)) (none n (is ∙ e))
 
     -- lowered in the text
-    pub next-in_text : (h before now mid after r e : ℕ) (t out0 out u : Tuple) (l : Lowering) (b : Lowered) → IsTupleOf a.variables t → IsLowering a 0 s finals (word_over t 1 s) 1 l
-        → ((q : ℕ) → l.state ≡ Some q → (m : ℕ) → IsNoMark a q 256 1 (end_mark t (length s + 1)) m) → Lowers a 0 s finals (word_over t 1 s) 1 b
+    pub next-in_text : (h before now mid after r e : ℕ) (t out0 out u : Tuple) (o : Option ℕ) (b : Lowered) → IsTupleOf a.variables t → o ≡ reached a 0 (word_over t 1 s)
+        → ((q : ℕ) → o ≡ Some q → (m : ℕ) → IsNoMark a q 256 1 (end_mark t (length s + 1)) m) → Lowers a 0 s finals (word_over t 1 s) 1 b
         → b.state < states_of a
         → out0 ≡ write_mark b.mark b.at (cut b.at t)
         → (f : FindsRest a b.state (drop (b.at - 1 + 1) s) finals h mid after r (b.at + 1) out0 out) → IsGreatestMark a r 256 1 65536 e 0
         → u ≡ write_mark e (length s + 1) out → now ≡ before + 1 → mid ≤ now + 2 * (h * mark_count (word_over t 1 s))
         → Gives a s (Some t) u × (after ≤ before + bound a.variables h) × Agree t u b.at × (mark_of u b.at ≡ b.mark) × (word_over u (b.at + 1) (drop (b.at - 1 + 1) s) ≡ f.word)
-    next-in_text h before now mid after r e t out0 out u l b is lowering none inside low e0 f best written en em =
+    next-in_text h before now mid after r e t out0 out u o b is state none inside low e0 f best written en em =
         let found : Lowers a 0 (ended s) 1 (word_of t s) 1 b =
         lowers-on a auto s (256 ∷ []) 0 1 finals auto.has_start (reach-end a auto finals all s 0 auto.has_start) (onward-end a auto finals all)
-        (word_over t 1 s) ((end_mark t (length s + 1), 256) ∷ []) (over-bytes t 1 s) refl 1 b inside (no-end t l lowering none) in
+        (word_over t 1 s) ((end_mark t (length s + 1), 256) ∷ []) (over-bytes t 1 s) refl 1 b inside (no-end t o state none) in
         let short = back-bytes a 0 s finals (word_over t 1 s) inside.place b.mark b.state inside.lowers in
         let same : found.place ≡ inside.place = omega (arith, found.place_is, inside.place_is) in
         let minus : b.at - 1 + 1 ≡ found.place + 1 = omega (arith, found.place_is) in
@@ -278,18 +229,11 @@ module _ (a : DeterministicAutomaton) (auto : IsDeterministic a) where
             let y : d * h ≤ (2 * a.variables) * h = mul-le-mul_right h ed in
             omega (arith, en)
 
-    pub none-left : (t : Tuple) (l : Lowering) → IsLowering a 0 s finals (word_over t 1 s) 1 l
-        → ((q : ℕ) → l.state ≡ Some q → (m : ℕ) → IsNoMark a q 256 1 (end_mark t (length s + 1)) m) → l.best ≡ None → NoneLeft a s (Some t)
-    none-left t l lowering none is =
+    pub none-left : (t : Tuple) (o : Option ℕ) → o ≡ reached a 0 (word_over t 1 s)
+        → ((q : ℕ) → o ≡ Some q → (m : ℕ) → IsNoMark a q 256 1 (end_mark t (length s + 1)) m) → NoneAfter a 0 s finals (word_over t 1 s) → NoneLeft a s (Some t)
+    none-left t o state none after =
         none-fork a s (256 ∷ []) 0 1 finals (word_over t 1 s) ((end_mark t (length s + 1), 256) ∷ []) (over-bytes t 1 s) refl (reach-end a auto finals all s 0 auto.has_start)
-        (rw is at lowering.best) (no-end t l lowering none)
-
-    -- the run for `complete`
-    pub rest-can : (t : Tuple) (b : Lowered) → Lowers a 0 s finals (word_over t 1 s) 1 b → CanRun a b.state (drop (b.at - 1 + 1) s) finals
-    rest-can t b found =
-        let minus : b.at - 1 + 1 ≡ found.place + 1 = omega (arith, found.place_is) in
-        let rest = back-bytes a 0 s finals (word_over t 1 s) found.place b.mark b.state found.lowers in
-        rw (minus, ← rest.0) found.lowers.can
+        after (no-end t o state none)
 
 pub cost-lower : (k h before now after c : ℕ) → now ≡ before + 1 → c ≤ 2 * k → after ≤ now + 2 * (h * c) → after ≤ before + bound k h
 cost-lower k h before now after c en ec ea =
@@ -332,17 +276,11 @@ end-both a q m t end false past em ep to from = ((λ h. cc), (λ h. absurd (fals
 end-both a q m t end true false em ep to from =
     ((λ h. record { lies = sym ep; ends = ap (λ n. step_of a q n 256) (end_mark-same t end (sym ep) ∙ sym em) ∙ to refl }), (λ h. refl))
 
-pub end-none_state : (a : DeterministicAutomaton) (t : Tuple) (end : ℕ) → AcceptsEnd a None t end → ⊥
-end-none_state a t end h = clash h.ends
-  where
-    clash : ◌≡◌ {A = Option ℕ} None (Some 0) → ⊥
-    clash e = cc
-
 pub first-cost : (k h before now after : ℕ) → now ≡ before + 1 → after ≤ now + 4 * (h * k) → after ≤ before + bound k h
 first-cost k h before now after en ea = omega (arith, en)
 
 -- ---- looks by the length of the text
-limit-from : (k h n before after : ℕ) → h ≤ height_limit n → after ≤ before + bound k h → after ≤ before + looks_limit k n
+pub limit-from : (k h n before after : ℕ) → h ≤ height_limit n → after ≤ before + bound k h → after ≤ before + looks_limit k n
 limit-from k h n before after e le =
     let x : (2 * k + 1) * (h + 3) ≤ (2 * k + 1) * (height_limit n + 3) = mul-le-mul_left (2 * k + 1) (omega arith) in
     omega (arith, le, mul_assoc 4 (2 * k + 1) (height_limit n + 3))
@@ -350,8 +288,3 @@ limit-from k h n before after e le =
 pub within-limit : (k before after : ℕ) (t : Tree) → IsBalanced t → after ≤ before + bound k (height t) → after ≤ before + looks_limit k (length (text t))
 within-limit k before after t bal le =
     limit-from k (height t) (length (text t)) before after (rw (length-text t) (height-by_leaves t bal)) le
-
-pub one-within : (k n before after : ℕ) → after ≤ before + 1 → after ≤ before + looks_limit k n
-one-within k n before after le =
-    let x : 1 * (height_limit n + 3) ≤ (2 * k + 1) * (height_limit n + 3) = mul-le-mul_right (height_limit n + 3) (omega arith) in
-    omega (arith, le, mul_assoc 4 (2 * k + 1) (height_limit n + 3))

@@ -4,18 +4,28 @@ mod Choices
 mod Nexts
 mod Written
 mod Lowerings
+mod Runs
 mod Steps
 mod Betweens
-mod Rests
+mod Chains
+mod Keeps
+mod Turns
+mod Meets
+mod Passes
+mod Completes
 mod LastLetters
 mod Bounds
 mod TupleLaws
+mod Cuts
 mod Membership
 mod Gifts
 mod Given
-mod Comings
-mod Trails
-mod Ways
-mod Enterings
+mod Roots
+mod LowerEnds
+mod Behinds
+mod Forgets
+mod Answerings
+mod Follows
+mod Leads
 pub mod Pages
 pub mod Exists

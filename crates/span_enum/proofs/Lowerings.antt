@@ -1,28 +1,23 @@
 -- The last place at which a word can be lowered, by the parts of a text.
-use Rattle.std.proofs.Common.{◌≡◌, ℕ, ◌+◌, ◌*◌, ◌<◌, ◌≤◌, true, refl, ap, sym, ◌∙◌, arith, List, [], ◌∷◌, ◌++◌, length, max, Option, Some, None, MatchOption}
-use Rattle.span_enum.proofs.Paths.{onto, Tells}
+use Rattle.std.proofs.Common.{◌≡◌, ℕ, ◌+◌, ◌*◌, ◌<◌, ◌≤◌, true, refl, ap, sym, ◌∙◌, arith, List, [], ◌∷◌, ◌++◌, length, max, Option, Some}
 use Rattle.std.proofs.lemmas.List.{map-append}
 use Rattle.std.proofs.Math.Nat.{mul-le-mul_right}
 use Rattle.marker_dfa.specs.Deterministic.{DeterministicAutomaton, states_of}
 use Rattle.span_types.specs.Words.{Marked, mark_count}
 use Rattle.formula_law.specs.Law.{bytes_of}
-use Rattle.span_enum.specs.Letters.{step_of, reached}
+use Rattle.span_enum.specs.Letters.{reached}
 use Rattle.marker_dfa.specs.Deterministic.{IsDeterministic}
 use Rattle.state_tables.specs.StateSet.{member}
-use Rattle.state_tables.specs.Table.{unmarked_of}
-use Rattle.state_tables.specs.Table.{Row}
-use Rattle.span_enum.proofs.Paths.{run-append, run-within, then-join, then-some}
-use Rattle.span_enum.specs.Words.{CanRun, IsGreatestMark, IsNoMark}
-use Rattle.span_types.specs.Marks.{mark_of}
+use Rattle.span_enum.proofs.Paths.{run-append, run-within, then-join}
+use Rattle.span_enum.specs.Words.{CanRun}
 use Rattle.span_enum.specs.Tuples.{word_over}
 use Rattle.span_enum.specs.Next.{NoneAfter}
-use Rattle.span_enum.specs.Lowering.{Lowers, IsLowering}
+use Rattle.span_enum.specs.Lowering.{Lowers}
 use Rattle.span_enum.specs.declared.walk.Lowered.{Lowered}
-use Rattle.span_enum.specs.declared.walk.Lowering.{Lowering}
 use Rattle.span_enum.specs.Members.{Tuple}
 use Rattle.span_enum.proofs.Firsts.{mark_count-append}
-use Rattle.span_enum.proofs.Nexts.{none-plain, none-byte, lowers-byte, none-fork, lowers-left, lowers-right}
-use Rattle.span_enum.proofs.Written.{over-append, over-bytes, over-plain}
+use Rattle.span_enum.proofs.Nexts.{lowers-left, lowers-right}
+use Rattle.span_enum.proofs.Written.{over-append, over-bytes}
 
 pub length-bytes : (w : Marked) → length (bytes_of w) ≡ length w
 length-bytes [] = refl
@@ -41,31 +36,6 @@ run-join a q n goals s u w e t rest = record {
   goal = rest.goal;
 }
 
--- no mark
-pub lowering-plain : (a : DeterministicAutomaton) (p goals at : ℕ) (s : List ℕ) (t : Tuple) (tb : List Row) (o : Option ℕ) → Tells a s tb → p < states_of a
-    → ((q : ℕ) → at ≤ q → q < at + length s → mark_of t q ≡ 0) → o ≡ unmarked_of tb p
-    → IsLowering a p s goals (word_over t at s) at (record { state = o; best = None })
-lowering-plain a p goals at s t tb o is low none e = rw (over-plain t at s none) (record {
-  ends = e ∙ is.unmarked p low;
-  best = none-plain a p s goals;
-})
-
--- one byte
-pub lowering-byte_none : (a : DeterministicAutomaton) (p goals at b old : ℕ) (s : List ℕ) (t : Tuple) (o : Option ℕ) → s ≡ b ∷ [] → old ≡ mark_of t at → o ≡ step_of a p old b
-    → ((m : ℕ) → IsNoMark a p b goals old m) → IsLowering a p s goals (word_over t at s) at (record { state = o; best = None })
-lowering-byte_none a p goals at b old s t o is e step none = rw (is, ← e) (record {
-  ends = step ∙ sym (then-some (step_of a p old b));
-  best = none-byte a p b goals old none;
-})
-
-pub lowering-byte_some : (a : DeterministicAutomaton) (p goals at b old m q : ℕ) (s : List ℕ) (t : Tuple) (o : Option ℕ) → s ≡ b ∷ [] → old ≡ mark_of t at → o ≡ step_of a p old b
-    → IsGreatestMark a p b goals old m q
-    → IsLowering a p s goals (word_over t at s) at (record { state = o; best = Some (record { at = at; mark = m; state = q }) })
-lowering-byte_some a p goals at b old m q s t o is e step best = rw (is, ← e) (record {
-  ends = step ∙ sym (then-some (step_of a p old b));
-  best = record { place = 0; place_is = omega arith; lowers = lowers-byte a p b goals old m q best };
-})
-
 -- two texts, and the last place is in the right one
 module _ (a : DeterministicAutomaton) (s u : List ℕ) (p goals : ℕ) (w1 w2 : Marked) (e1 : bytes_of w1 ≡ s) (e2 : bytes_of w2 ≡ u) where
   both-ends : (q : ℕ) (o : Option ℕ) → reached a p w1 ≡ Some q → o ≡ reached a q w2 → o ≡ reached a p (w1 ++ w2)
@@ -77,16 +47,6 @@ module _ (a : DeterministicAutomaton) (s u : List ℕ) (p goals : ℕ) (w1 w2 : 
     place_is = omega (arith, length-bytes w1, ap length e1, found.place_is);
     lowers = lowers-right a s u p goals w1 w2 e1 e2 q found.place b.mark b.state alive found.lowers;
   }
-
-  pub lowering-right : (at q : ℕ) (r : Lowering) (b : Lowered) → reached a p w1 ≡ Some q → IsLowering a q u goals w2 (at + length s) r → r.best ≡ Some b
-      → IsLowering a p (s ++ u) goals (w1 ++ w2) at r
-  lowering-right at q r b alive right is = record {
-    ends = both-ends q r.state alive right.ends;
-    best = rw is (lowers-behind at q b alive found);
-  }
-    where
-      found : Lowers a q u goals w2 (at + length s) b
-      found = rw is at right.best
 
 -- two texts
 module _ (a : DeterministicAutomaton) (auto : IsDeterministic a) (s u : List ℕ) (p goals between : ℕ) (low : p < states_of a)
@@ -109,44 +69,6 @@ module _ (a : DeterministicAutomaton) (auto : IsDeterministic a) (s u : List ℕ
         lowers = lowers-left a s u p goals between w1 w2 e1 e2 reach h.place b.mark b.state (λ x. tt) l
             (carry b.state (bytes_of l.back) (run-within a auto p b.state (l.front ++ (b.mark, l.byte) ∷ []) low l.step) l.can) right;
       }
-
-  best-left : (at : ℕ) (o : Option Lowered)
-      → MatchOption o (NoneAfter a p s between w1) (λ b. Lowers a p s between w1 at b)
-      → ((n : ℕ) → reached a p w1 ≡ Some n → NoneAfter a n u goals w2)
-      → MatchOption o (NoneAfter a p (s ++ u) goals (w1 ++ w2)) (λ b. Lowers a p (s ++ u) goals (w1 ++ w2) at b)
-  best-left at None h right = none-fork a s u p goals between w1 w2 e1 e2 reach h right
-  best-left at (Some b) h right = lowers-on at b h right
-
-  -- the left part has no path
-  pub lowering-dead : (at : ℕ) (l : Lowering) → IsLowering a p s between w1 at l → l.state ≡ None → IsLowering a p (s ++ u) goals (w1 ++ w2) at l
-  lowering-dead at l left dead = record {
-    ends = dead ∙ sym (run-append a p w1 w2 ∙ none-after);
-    best = best-left at l.best left.best (λ n e. clash n e);
-  }
-    where
-      gone : reached a p w1 ≡ None
-      gone = sym left.ends ∙ dead
-
-      none-after : onto (λ q. reached a q w2) (reached a p w1) ≡ None
-      none-after = rw gone refl
-
-      clash : (n : ℕ) → reached a p w1 ≡ Some n → NoneAfter a n u goals w2
-      clash n e = cc
-
-  -- the right part can't be lowered
-  pub lowering-left : (at q : ℕ) (l r : Lowering) → IsLowering a p s between w1 at l → l.state ≡ Some q
-      → IsLowering a q u goals w2 (at + length s) r → r.best ≡ None → IsLowering a p (s ++ u) goals (w1 ++ w2) at (record { state = r.state; best = l.best })
-  lowering-left at q l r left alive right is = record {
-    ends = both-ends a s u p goals w1 w2 e1 e2 q r.state (sym left.ends ∙ alive) right.ends;
-    best = best-left at l.best left.best
-        (λ n e. let same : n ≡ q = same-state n q (reached a p w1) e (sym left.ends ∙ alive) in rw same none);
-  }
-    where
-      none : NoneAfter a q u goals w2
-      none = rw is at right.best
-
-      same-state : (x y : ℕ) (o : Option ℕ) → o ≡ Some x → o ≡ Some y → x ≡ y
-      same-state x y o h k = cc
 
 -- ---- looks
 -- two looks at the children, and the looks below them

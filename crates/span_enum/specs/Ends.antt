@@ -1,14 +1,20 @@
 -- What is accepted at the end of a text, and what is left there.
-use Rattle.std.specs.Prelude.{◌≡◌, ℕ, ◌+◌, false, List, length, Option, Some, None}
+use Rattle.std.specs.Prelude.{◌≡◌, ℕ, ◌+◌, ◌<◌, false, List, length, Option, Some, None}
 use Rattle.span_types.specs.Marks.{Lies}
 use Rattle.span_types.specs.Words.{Marked, ended}
 use Rattle.formula_law.specs.Law.{bytes_of}
-use Rattle.marker_dfa.specs.Deterministic.{DeterministicAutomaton, and_then}
+use Rattle.marker_dfa.specs.Deterministic.{DeterministicAutomaton, states_of, and_then}
+use Rattle.state_tables.specs.StateSet.{member}
 use Rattle.span_enum.specs.Letters.{step_of, reached}
 use Rattle.span_enum.specs.Members.{Tuple}
+use Rattle.span_enum.specs.Sets.{is_final}
 use Rattle.span_enum.specs.Tuples.{IsTupleOf, reaches, end_mark, word_of}
-use Rattle.span_enum.specs.Words.{CanRun, IsFirst, IsGreatestMark}
+use Rattle.span_enum.specs.Words.{CanRun, IsFirst}
 use Rattle.span_enum.specs.Next.{NoneAfter, IsNext}
+
+-- the states in which a text may end
+abbrev pub AreFinals : DeterministicAutomaton → ℕ → Type 0
+AreFinals a finals = (p : ℕ) → p < states_of a → member finals p ≡ is_final a p
 
 -- the automaton accepts the text with some marks: the end leads to state 0, and 1 is the set of state 0 alone
 abbrev pub Accepted : DeterministicAutomaton → List ℕ → Type 0
@@ -23,12 +29,6 @@ pub record AcceptsWord (a : DeterministicAutomaton) (s : List ℕ) (t : Tuple) :
 pub record AcceptsEnd (a : DeterministicAutomaton) (state : Option ℕ) (t : Tuple) (end : ℕ) : Type 0 where
   pub lies : reaches (end + 1) t ≡ false
   pub ends : and_then state (λ q. step_of a q (end_mark t end) 256) ≡ Some 0
-
--- m is the greatest mark below the limit with which a text may end in the state
-pub record LowersEnd (a : DeterministicAutomaton) (state : Option ℕ) (limit m : ℕ) : Type 0 where
-  pub before : ℕ
-  pub state_is : state ≡ Some before
-  pub best : IsGreatestMark a before 256 1 limit m 0
 
 -- w is the word of a tuple of k variables that lies in the text
 pub record IsWord (k : ℕ) (s : List ℕ) (w : Marked) : Type 0 where

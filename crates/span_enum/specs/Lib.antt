@@ -10,5 +10,5 @@ pub mod Next
 pub mod Between
 pub mod Lowering
 pub mod Ends
+pub mod OverLeft
 pub mod Trail
-pub mod Entries

@@ -1,13 +1,12 @@
 -- The fields of `Answers` as contracts see them.
-use Rattle.std.specs.Prelude.{◌≤◌}
-use Rattle.span_enum.specs.Listing.{Listing, text_of, IsReady, IsCursor}
-use Rattle.span_enum.specs.Trail.{AreFinals, IsTrail}
+use Rattle.std.specs.Prelude.{◌≡◌, ◌+◌, ◌≤◌, length}
+use Rattle.span_enum.specs.Listing.{Listing, IsCursor}
+use Rattle.span_enum.specs.Trail.{IsGround, whole_text, IsTrail, IsStateAt, HasRoom}
 use Rattle.span_enum.specs.declared.answers.Answers.TheInside.{Inside}
 
 abbrev pub view_of : Inside → Listing
-view_of a = record { automaton = a.dfa.now; text = text_of a.view.store.now a.root; after = a.last }
+view_of a = record { automaton = a.ground.dfa.now; text = whole_text a.ground; after = a.last }
 
 abbrev pub IsListing : Inside → Type 0
-IsListing a = IsReady a.dfa.now a.view.store.now a.view.tables.now a.root × IsCursor a.dfa.now a.last
-    × AreFinals a.dfa.now a.finals × IsTrail a.dfa.now a.view.store.now a.view.tables.now a.root a.finals a.last a.trail.items
-    × (68 ≤ a.trail.capacity)
+IsListing a = IsGround a.ground × IsCursor a.ground.dfa.now a.last × (a.end ≡ length (whole_text a.ground) + 1) × (a.end ≤ 281474976710657) × IsStateAt a.ground a.last a.state
+    × IsTrail a.ground a.last a.trail.marks.items a.trail.ahead.items × HasRoom a.ground.dfa.now.variables a.trail.marks.capacity a.trail.ahead.capacity

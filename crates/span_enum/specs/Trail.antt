@@ -1,154 +1,386 @@
--- The way down to the last mark of a tuple, as it is kept from answer to answer.
-use Rattle.std.specs.Prelude.{zero, suc, ◌≡◌, ℕ, ◌+◌, ◌*◌, ◌<◌, ◌≤◌, List, [], ◌∷◌, ◌++◌, length, slice_get, Option, Some, None, IfSome}
+-- What is kept of the last answer: its marks, and the nodes ahead of each.
+use Rattle.std.specs.Prelude.{suc, ◌≡◌, ℕ, ◌+◌, ◌-◌, ◌*◌, ◌^◌, ◌<◌, ◌≤◌, true, List, [], ◌∷◌, ◌++◌, length, take, slice_get, bit_and, Option, Some, None}
 use Rattle.span_types.specs.Marks.{mark_of}
-use Rattle.slp_model.specs.declared.Node.{Node}
-use Rattle.slp_model.specs.declared.Node.TheVariants.{Pair}
-use Rattle.slp_model.specs.declared.NodeId.{NodeId}
-use Rattle.span_types.specs.Words.{mark_count}
+use Rattle.span_types.specs.Words.{Marked, mark_count}
+use Rattle.span_types.specs.Writes.{write_mark}
+use Rattle.span_types.specs.Fibonacci.{height_limit}
 use Rattle.slp_model.specs.Tree.{text, height}
-use Rattle.slp_model.specs.Nodes.{tree, IsNodeAt}
-use Rattle.marker_dfa.specs.Deterministic.{DeterministicAutomaton, states_of}
+use Rattle.slp_model.specs.Nodes.{tree}
+use Rattle.formula_law.specs.Law.{bytes_of}
+use Rattle.marker_dfa.specs.Deterministic.{IsDeterministic, states_of}
 use Rattle.state_tables.specs.StateSet.{member}
-use Rattle.state_tables.specs.Dictionary.{Dictionary, IsLook}
-use Rattle.state_tables.specs.declared.view.Look.{Look}
+use Rattle.state_tables.specs.Meaning.{plain}
+use Rattle.state_tables.specs.Table.{marked_of}
+use Rattle.state_tables.specs.Dictionary.{IsLook}
 use Rattle.span_enum.specs.Members.{Tuple}
-use Rattle.span_enum.specs.Letters.{reached}
-use Rattle.span_enum.specs.Sets.{is_final}
-use Rattle.span_enum.specs.Tuples.{word_over}
+use Rattle.span_enum.specs.Letters.{step_of, reached}
+use Rattle.span_enum.specs.Listing.{text_of, IsReady}
+use Rattle.span_enum.specs.Ends.{AreFinals}
+use Rattle.span_enum.specs.Tuples.{word_over, write_word}
 use Rattle.span_enum.specs.Between.{AreBetween}
-use Rattle.span_enum.specs.Lowering.{IsLowering}
+use Rattle.span_enum.specs.Next.{NoneAfter}
+use Rattle.span_enum.specs.Words.{CanRun, IsFirst, IsGreatestMark}
+use Rattle.span_enum.specs.declared.ground.Ground.{Ground}
+use Rattle.span_enum.specs.declared.trail.Ahead.{Ahead}
+use Rattle.span_enum.specs.declared.trail.Mark.{Mark}
+use Rattle.span_enum.specs.declared.trail.Place.{Place}
+use Rattle.span_enum.specs.declared.trail.Turn.{Turn}
 use Rattle.span_enum.specs.declared.walk.Lowered.{Lowered}
-use Rattle.span_enum.specs.declared.walk.Lowering.{Lowering}
-use Rattle.span_enum.specs.declared.trail.Frame.{Frame}
-use Rattle.span_enum.specs.declared.trail.Beside.{Beside}
-use Rattle.span_enum.specs.declared.trail.Beside.TheVariants.{Right, Left, Passed}
+use Rattle.span_enum.specs.declared.answers.Found.{Found}
 
--- a frame shows its node, and stands in a text that isn't too long
-pub record IsFrame (a : DeterministicAutomaton) (nodes : List Node) (d : Dictionary) (f : Frame) : Type 0 where
-  pub live : f.id.index < length nodes
-  pub look : IsLook nodes d f.id.index f.look.node f.look.len f.look.table.now
-  pub state : f.state < states_of a
-  pub positive : 1 ≤ f.at
-  pub low : f.at + length (text (tree nodes f.id.index)) ≤ 281474976710657
+-- the tables are those of the automaton, the root is there, and the final states are known
+pub record IsGround (g : Ground) : Type 0 where
+  pub ready : IsReady g.dfa.now g.view.store.now g.view.tables.now g.root
+  pub automaton : IsDeterministic g.dfa.now
+  pub all : AreFinals g.dfa.now g.finals
 
--- g is the left child of f, and its right sibling is this node
-pub record IsLeftChild (a : DeterministicAutomaton) (nodes : List Node) (d : Dictionary) (f g : Frame) (r : NodeId) (look : Look) : Type 0 where
-  pub node : IsNodeAt nodes f.id.index (Pair g.id r)
-  pub live : r.index < length nodes
-  pub look_is : IsLook nodes d r.index look.node look.len look.table.now
-  pub at : g.at ≡ f.at
-  pub state : g.state ≡ f.state
-  pub goals : AreBetween a f.state (text (tree nodes g.id.index)) (text (tree nodes r.index)) f.goals g.goals
-
--- g is the right child of f, behind the marks of t over its left sibling, the last of which that can be lowered is this one
-pub record IsRightChild (a : DeterministicAutomaton) (nodes : List Node) (t : Tuple) (f g : Frame) (best : Option Lowered) : Type 0 where
-  pub left : NodeId
-  pub between : ℕ
-  pub node : IsNodeAt nodes f.id.index (Pair left g.id)
-  pub at : g.at ≡ f.at + length (text (tree nodes left.index))
-  pub goals : g.goals ≡ f.goals
-  pub between_is : AreBetween a f.state (text (tree nodes left.index)) (text (tree nodes g.id.index)) f.goals between
-  pub lowering : IsLowering a f.state (text (tree nodes left.index)) between (word_over t f.at (text (tree nodes left.index))) f.at (record { state = Some g.state; best = best })
-  pub within : IfSome best (λ b. b.state < states_of a)
-
--- g is the right child of f, behind the marks of t over its left sibling, which is this node
-pub record IsPassed (a : DeterministicAutomaton) (nodes : List Node) (d : Dictionary) (t : Tuple) (f g : Frame) (l : NodeId) (look : Look) : Type 0 where
-  pub node : IsNodeAt nodes f.id.index (Pair l g.id)
-  pub live : l.index < length nodes
-  pub look_is : IsLook nodes d l.index look.node look.len look.table.now
-  pub at : g.at ≡ f.at + length (text (tree nodes l.index))
-  pub goals : g.goals ≡ f.goals
-  pub state : reached a f.state (word_over t f.at (text (tree nodes l.index))) ≡ Some g.state
-
-abbrev pub IsChild : DeterministicAutomaton → List Node → Dictionary → Tuple → Frame → Frame → Beside → Type 0
-IsChild a nodes d t f g (Right r look) = IsLeftChild a nodes d f g r look
-IsChild a nodes d t f g (Left best) = IsRightChild a nodes t f g best
-IsChild a nodes d t f g (Passed l look) = IsPassed a nodes d t f g l look
-
--- what the marks over the left sibling tell is known, or not needed
-abbrev pub IsKnown : Beside → Type 0
-IsKnown (Right r look) = Unit {0}
-IsKnown (Left best) = Unit {0}
-IsKnown (Passed l look) = ⊥
-
--- g is a frame of a child of f
-pub record IsBelow (a : DeterministicAutomaton) (nodes : List Node) (d : Dictionary) (t : Tuple) (f g : Frame) : Type 0 where
-  pub frame : IsFrame a nodes d g
-  pub child : IsChild a nodes d t f g g.beside
-
--- each frame is that of a child of the one before, the first of a child of f
-abbrev pub Descends : DeterministicAutomaton → List Node → Dictionary → Tuple → Frame → List (Option Frame) → Type 0
-Descends a nodes d t f [] = Unit {0}
-Descends a nodes d t f (None ∷ gs) = ⊥
-Descends a nodes d t f (Some g ∷ gs) = IsBelow a nodes d t f g × Descends a nodes d t g gs
-
--- each item is there
-abbrev pub AreKept : List (Option Frame) → Type 0
-AreKept fs = (n : ℕ) → slice_get fs n ≡ Some None → ⊥
-
--- the frame at a depth: f at 0, and below it those of the list
-abbrev pub frame_of : ℕ → Frame → List (Option Frame) → Frame
-frame_of zero f fs = f
-frame_of (suc n) f [] = f
-frame_of (suc n) f (None ∷ fs) = f
-frame_of (suc n) f (Some g ∷ fs) = frame_of n g fs
-
--- the frames new are those of old, and then some that lead down from f
-pub record AddsTo (a : DeterministicAutomaton) (nodes : List Node) (d : Dictionary) (t : Tuple) (f : Frame) (old new : List (Option Frame)) : Type 0 where
-  pub more : List (Option Frame)
-  pub new_is : new ≡ old ++ more
-  pub leads : Descends a nodes d t f more
+-- the whole text
+abbrev pub whole_text : Ground → List ℕ
+whole_text g = text_of g.view.store.now g.root
 
 -- the marks before a position are the same
 abbrev pub Agree : Tuple → Tuple → ℕ → Type 0
 Agree t u at = (p : ℕ) → 1 ≤ p → p < at → mark_of t p ≡ mark_of u p
 
--- the letter at the position stands below the frame
-pub record StandsOver (f : Frame) (at : ℕ) : Type 0 where
-  pub from : f.at ≤ at
-  pub before : at < f.at + f.look.len
+-- the text of a node
+abbrev pub text_at : Ground → ℕ → List ℕ
+text_at g id = text (tree g.view.store.now id)
 
--- the tuple has no mark in f behind the child g
-abbrev pub LeadsBy : Tuple → Frame → Frame → Beside → Type 0
-LeadsBy t f g (Right r look) = (p : ℕ) → g.at + g.look.len ≤ p → p < f.at + f.look.len → mark_of t p ≡ 0
-LeadsBy t f g (Left best) = Unit {0}
-LeadsBy t f g (Passed l look) = Unit {0}
+abbrev pub height_at : Ground → ℕ → ℕ
+height_at g id = height (tree g.view.store.now id)
 
-abbrev pub LeadsTo : Tuple → Frame → Frame → Type 0
-LeadsTo t f g = LeadsBy t f g g.beside
+-- a node ahead is one of the store, with its look, and stands in a text that isn't too long
+pub record IsAhead (g : Ground) (h : Ahead) : Type 0 where
+  pub live : h.id.index < length g.view.store.now
+  pub look : IsLook g.view.store.now g.view.tables.now h.id.index h.look.node h.look.len h.look.table.now
+  pub positive : 1 ≤ h.at
+  pub low : h.at + length (text_at g h.id.index) ≤ 281474976710657
 
--- the tuple has no mark over f behind g
-abbrev pub IsQuiet : Tuple → Frame → Frame → Type 0
-IsQuiet t f g = (p : ℕ) → g.at + g.look.len ≤ p → p < f.at + f.look.len → mark_of t p ≡ 0
+-- the list has h at this place, counted from 1, and what h names as the next one stands before it
+pub record HasAhead (hs : List (Option Ahead)) (place : ℕ) (h : Ahead) : Type 0 where
+  pub before : ℕ
+  pub counted : place ≡ suc before
+  pub there : slice_get hs before ≡ Some (Some h)
+  pub earlier : h.next ≤ before
 
--- what the marks of t over the frame's node tell
-pub record Follows (a : DeterministicAutomaton) (nodes : List Node) (t : Tuple) (f : Frame) (l : Lowering) : Type 0 where
-  pub lowering : IsLowering a f.state (text (tree nodes f.id.index)) f.goals (word_over t f.at (text (tree nodes f.id.index))) f.at l
-  pub within : IfSome l.state (λ q. q < states_of a)
-  pub best_within : IfSome l.best (λ b. b.state < states_of a)
+-- the nodes ahead, from the one with this place in the list on
+abbrev pub AreAhead : List (Option Ahead) → ℕ → List Ahead → Type 0
+AreAhead hs place [] = place ≡ 0
+AreAhead hs place (h ∷ c) = HasAhead hs place h × AreAhead hs h.next c
 
--- the last place at which the marks of t over the frame's node can be lowered, and the state after them if a mark below the limit is looked for at the end
-pub record FollowsUp (a : DeterministicAutomaton) (nodes : List Node) (t : Tuple) (f : Frame) (limit : ℕ) (l : Lowering) : Type 0 where
-  pub state : Option ℕ
-  pub follows : Follows a nodes t f (record { state = state; best = l.best })
-  pub within : IfSome l.state (λ q. q < states_of a)
-  pub whole : 0 < limit → state ≡ l.state
+-- their text
+abbrev pub text_ahead : Ground → List Ahead → List ℕ
+text_ahead g [] = []
+text_ahead g (h ∷ c) = text_at g h.id.index ++ text_ahead g c
 
--- two looks for each mark of t over the frame's node and each level below it
-abbrev pub looks_over : List Node → Tuple → Frame → ℕ
-looks_over nodes t f = 2 * (height (tree nodes f.id.index) * mark_count (word_over t f.at (text (tree nodes f.id.index))))
+-- each node begins where the one before it ends, the first at this position
+abbrev pub Join : Ground → ℕ → List Ahead → Type 0
+Join g at [] = Unit {0}
+Join g at (h ∷ c) = (h.at ≡ at) × Join g (at + length (text_at g h.id.index)) c
 
--- the frame of the root, where these are the goals
-pub record IsTop (root : NodeId) (goals : ℕ) (f : Frame) : Type 0 where
-  pub id_is : f.id ≡ root
-  pub at : f.at ≡ 1
-  pub state : f.state ≡ 0
-  pub goals_are : f.goals ≡ goals
+-- of the states reached from p over s and then over the nodes up to one, its goals are those from which the rest is accepted
+abbrev pub AreGoals : Ground → ℕ → List ℕ → List Ahead → Type 0
+AreGoals g p s [] = Unit {0}
+AreGoals g p s (h ∷ c) = IsAhead g h × AreBetween g.dfa.now p (s ++ text_at g h.id.index) (text_ahead g c) g.finals h.goals × AreGoals g p (s ++ text_at g h.id.index) c
 
--- the frames lead down from the root along the marks of the cursor, if there are both
-abbrev pub IsTrail : DeterministicAutomaton → List Node → Dictionary → Option NodeId → ℕ → Option Tuple → List (Option Frame) → Type 0
-IsTrail a nodes d root goals cursor fs = (id : NodeId) (t : Tuple) (f : Frame) → root ≡ Some id → cursor ≡ Some t → IsTop id goals f → Descends a nodes d t f fs
+-- at this position the walk stands in a state, and these are the nodes ahead
+pub record Stands (g : Ground) (hs : List (Option Ahead)) (at : ℕ) (place : Place) (c : List Ahead) : Type 0 where
+  pub ahead : AreAhead hs place.next c
+  pub join : Join g at c
+  pub goals : AreGoals g place.state [] c
+  pub state : place.state < states_of g.dfa.now
 
--- the states in which a text may end
-abbrev pub AreFinals : DeterministicAutomaton → ℕ → Type 0
-AreFinals a finals = (p : ℕ) → p < states_of a → member finals p ≡ is_final a p
+-- from there the rest is accepted with some marks
+abbrev pub CanEnd : Ground → ℕ → List Ahead → Type 0
+CanEnd g p c = CanRun g.dfa.now p (text_ahead g c) g.finals
+
+-- and with at most so many
+abbrev pub AtMost : Ground → ℕ → List Ahead → ℕ → Type 0
+AtMost g p c most = (w : Marked) (r : ℕ) → bytes_of w ≡ text_ahead g c → reached g.dfa.now p w ≡ Some r → member g.finals r ≡ true → mark_count w ≤ most
+
+-- what the walk needs to go on
+pub record CanGo (g : Ground) (hs : List (Option Ahead)) (place : Place) : Type 0 where
+  pub at : ℕ
+  pub chain : List Ahead
+  pub stands : Stands g hs at place chain
+  pub can : CanEnd g place.state chain
+
+-- the same with the marks counted
+pub record CanFinish (g : Ground) (hs : List (Option Ahead)) (place : Place) (most : ℕ) : Type 0 where
+  pub at : ℕ
+  pub chain : List Ahead
+  pub stands : Stands g hs at place chain
+  pub can : CanEnd g place.state chain
+  pub few : AtMost g place.state chain most
+
+-- the next node, if there is one, has a run with marks into its goals
+abbrev pub Turns : ℕ → List Ahead → Type 0
+Turns q [] = Unit {0}
+Turns q (h ∷ c) = (marked_of h.look.table.now q < 2 ^ 128) × (bit_and (marked_of h.look.table.now q) h.goals ≡ 0 → ⊥)
+
+-- the nodes in front are passed without marks
+pub record PassesPlain (g : Ground) (hs : List (Option Ahead)) (at : ℕ) (from to : Place) (c : List Ahead) : Type 0 where
+  pub front : List Ahead
+  pub back : List Ahead
+  pub parts : c ≡ front ++ back
+  pub stands : Stands g hs (at + length (text_ahead g front)) to back
+  pub can : CanEnd g to.state back
+  pub step : reached g.dfa.now from.state (plain (text_ahead g front)) ≡ Some to.state
+  pub first : (w : Marked) (r : ℕ) → IsFirst g.dfa.now to.state (text_ahead g back) g.finals w r
+      → IsFirst g.dfa.now from.state (text_ahead g c) g.finals (plain (text_ahead g front) ++ w) r
+
+-- the walk stands in this state before a node, behind which are these
+pub record StandsBefore (g : Ground) (hs : List (Option Ahead)) (h : Ahead) (q : ℕ) (c : List Ahead) : Type 0 where
+  pub ahead : AreAhead hs h.next c
+  pub join : Join g h.at (h ∷ c)
+  pub goals : AreGoals g q [] (h ∷ c)
+  pub state : q < states_of g.dfa.now
+
+-- m is a mark over its letter, from its state, and these are the nodes ahead of it
+pub record IsMark (g : Ground) (hs : List (Option Ahead)) (m : Mark) (c : List Ahead) : Type 0 where
+  pub ahead : AreAhead hs m.next c
+  pub join : Join g (m.at + 1) c
+  pub letter : AreBetween g.dfa.now m.state (m.byte ∷ []) (text_ahead g c) g.finals m.goals
+  pub goals : AreGoals g m.state (m.byte ∷ []) c
+  pub state : m.state < states_of g.dfa.now
+
+-- m is the first mark of the first marked text over the nodes, from the state before them
+pub record Meets (g : Ground) (hs : List (Option Ahead)) (at q : ℕ) (c : List Ahead) (m : Mark) (to : Place) : Type 0 where
+  pub front : List ℕ
+  pub back : List Ahead
+  pub parts : text_ahead g c ≡ front ++ m.byte ∷ text_ahead g back
+  pub at_is : m.at ≡ at + length front
+  pub is_mark : IsMark g hs m back
+  pub some : 0 < m.mark
+  pub before : reached g.dfa.now q (plain front) ≡ Some m.state
+  pub step : step_of g.dfa.now m.state m.mark m.byte ≡ Some to.state
+  pub next : to.next ≡ m.next
+  pub can : CanEnd g to.state back
+  pub first : (w : Marked) (r : ℕ) → IsFirst g.dfa.now to.state (text_ahead g back) g.finals w r
+      → IsFirst g.dfa.now q (text_ahead g c) g.finals (plain front ++ (m.mark, m.byte) ∷ w) r
+
+-- a node this far behind the base is as much lower than the tallest tree
+abbrev pub FitsAt : Ground → ℕ → Option Ahead → Type 0
+FitsAt g n None = ⊥
+FitsAt g n (Some h) = height_at g h.id.index + n ≤ 68
+
+-- from the base of the list on, each node is at least a level lower than what led to the one before
+abbrev pub Fits : Ground → ℕ → List (Option Ahead) → Type 0
+Fits g base hs = (k : ℕ) (o : Option Ahead) → base ≤ k → slice_get hs k ≡ Some o → FitsAt g (k - base) o
+
+-- the walk may go down into the node: there is room for a mark and for what stands beside the way to it
+pub record CanGoDown (g : Ground) (h : Ahead) (q base : ℕ) (marks : List (Option Mark)) (marks_room : ℕ) (hs : List (Option Ahead)) (ahead_room : ℕ) : Type 0 where
+  pub is_ahead : IsAhead g h
+  pub state : q < states_of g.dfa.now
+  pub next : h.next ≤ length hs
+  pub marks_fit : length marks < marks_room
+  pub ahead_fit : base + 69 ≤ ahead_room
+  pub low : base ≤ length hs
+  pub fits : Fits g base hs
+  pub deep : height_at g h.id.index + (length hs - base) ≤ 68
+
+-- the way down to the first mark was laid: the mark is kept, and the nodes ahead of it
+pub record Descends (g : Ground) (h : Ahead) (q base : ℕ) (marks more : List (Option Mark)) (old new : List (Option Ahead)) (before after : ℕ) (out out' : Tuple) (to : Place) : Type 0 where
+  pub mark : Mark
+  pub kept : more ≡ marks ++ Some mark ∷ []
+  pub base_is : mark.base ≡ base
+  pub beside : List (Option Ahead)
+  pub ahead : new ≡ old ++ beside
+  pub fits : Fits g base new
+  pub meets : (c : List Ahead) → StandsBefore g old h q c → CanEnd g q (h ∷ c) → Meets g new h.at q (h ∷ c) mark to
+  pub written : out' ≡ write_mark mark.mark mark.at out
+  pub cost : after ≤ before + 2 * height_at g h.id.index
+
+-- m is the mark number n of the tuple, the first one from this position on: its nodes stand in the list from lo to hi, and those behind it from hi on
+pub record IsKept (g : Ground) (t : Tuple) (hs : List (Option Ahead)) (from n lo hi : ℕ) (m : Mark) : Type 0 where
+  pub front : List ℕ
+  pub chain : List Ahead
+  pub is_mark : IsMark g hs m chain
+  pub parts : whole_text g ≡ front ++ m.byte ∷ text_ahead g chain
+  pub at : m.at ≡ 1 + length front
+  pub after : from ≤ m.at
+  pub before : reached g.dfa.now 0 (word_over t 1 front) ≡ Some m.state
+  pub mark_is : mark_of t m.at ≡ m.mark
+  pub some : 0 < m.mark
+  pub quiet : (p : ℕ) → from ≤ p → p < m.at → mark_of t p ≡ 0
+  pub count : mark_count (word_over t 1 front) ≡ n
+  pub base : m.base ≡ lo
+  pub next : m.next ≤ hi
+  pub rises : lo ≤ hi
+  pub fits : Fits g lo (take hi hs)
+
+-- these are the marks of the tuple from a position on, from number n on, in turn
+abbrev pub AreKept : Ground → Tuple → List (Option Ahead) → ℕ → ℕ → ℕ → List (Option Mark) → Type 0
+AreKept g t hs from n lo [] = lo ≡ length hs
+AreKept g t hs from n lo (None ∷ ms) = ⊥
+AreKept g t hs from n lo (Some m ∷ ms) = (hi : ℕ) × IsKept g t hs from n lo hi m × AreKept g t hs (m.at + 1) (suc n) hi ms
+
+-- the tuple has these letters before a position, which lead to the state, and so many marks
+pub record Leads (g : Ground) (t : Tuple) (at q n : ℕ) (back : List ℕ) : Type 0 where
+  pub front : List ℕ
+  pub parts : whole_text g ≡ front ++ back
+  pub at_is : at ≡ 1 + length front
+  pub before : reached g.dfa.now 0 (word_over t 1 front) ≡ Some q
+  pub count : mark_count (word_over t 1 front) ≡ n
+
+-- the position of the last mark, or else this one
+abbrev pub last_at : ℕ → List (Option Mark) → ℕ
+last_at at [] = at
+last_at at (None ∷ ms) = last_at at ms
+last_at at (Some m ∷ ms) = last_at m.at ms
+
+-- the first marked text from the place on was found and written, and its marks are kept for each tuple that has them there
+pub record Finds (g : Ground) (at : ℕ) (from : Place) (c : List Ahead) (n base : ℕ) (more : List (Option Mark)) (hs : List (Option Ahead)) (before after r : ℕ) (old new : Tuple) : Type 0 where
+  pub word : Marked
+  pub first : IsFirst g.dfa.now from.state (text_ahead g c) g.finals word r
+  pub cost : (len : ℕ) → length (text_ahead g c) ≤ len → after ≤ before + 2 * (height_limit len * mark_count word)
+  pub written : new ≡ write_word at word old
+  pub kept : (t : Tuple) → Leads g t at from.state n (text_ahead g c) → word_over t at (text_ahead g c) ≡ word → AreKept g t hs at n base more
+  pub last : last_at (at - 1) more ≤ at - 1 + length (text_ahead g c)
+  pub quiet : (t : Tuple) → word_over t at (text_ahead g c) ≡ word → (p : ℕ) → last_at (at - 1) more < p → p < at + length (text_ahead g c) → mark_of t p ≡ 0
+
+-- the rest was completed: the nodes up to the base stay, and marks are added
+pub record Completes (g : Ground) (from : Place) (base : ℕ) (marks ms : List (Option Mark)) (old new : List (Option Ahead)) (before after r : ℕ) (out out' : Tuple) : Type 0 where
+  pub more : List (Option Mark)
+  pub marks_are : ms ≡ marks ++ more
+  pub same : take base new ≡ take base old
+  pub low : base ≤ length new
+  pub finds : (at : ℕ) (c : List Ahead) → Stands g old at from c → CanEnd g from.state c → Finds g at from c (length marks) base more new before after r out out'
+
+-- no accepted text that has the tuple's first k letters comes after the tuple
+abbrev pub NoneBehind : Ground → Tuple → ℕ → Type 0
+NoneBehind g t k = (front back : List ℕ) (q : ℕ) → whole_text g ≡ front ++ back → length front ≡ k → reached g.dfa.now 0 (word_over t 1 front) ≡ Some q
+    → NoneAfter g.dfa.now q back g.finals (word_over t (1 + k) back)
+
+-- nothing is read yet
+pub record IsFresh (g : Ground) (ms : List (Option Mark)) (hs : List (Option Ahead)) : Type 0 where
+  pub no_marks : ms ≡ []
+  pub chain : List Ahead
+  pub stands : Stands g hs 1 (record { state = 0; next = length hs }) chain
+  pub text_is : text_ahead g chain ≡ whole_text g
+  pub one : length hs ≤ 1
+
+-- the marks of the tuple are kept, behind the last of which nothing that comes after the tuple is accepted
+pub record IsTrailOf (g : Ground) (t : Tuple) (ms : List (Option Mark)) (hs : List (Option Ahead)) : Type 0 where
+  pub base : ℕ
+  pub one : base ≤ 1
+  pub kept : AreKept g t hs 1 0 base ms
+  pub none : NoneBehind g t (last_at 0 ms)
+
+abbrev pub IsTrail : Ground → Option Tuple → List (Option Mark) → List (Option Ahead) → Type 0
+IsTrail g None ms hs = IsFresh g ms hs
+IsTrail g (Some t) ms hs = IsTrailOf g t ms hs
+
+-- the state after the tuple's marks over the text, if there is one
+abbrev pub IsStateAt : Ground → Option Tuple → Option ℕ → Type 0
+IsStateAt g None q = Unit {0}
+IsStateAt g (Some t) q = q ≡ reached g.dfa.now 0 (word_over t 1 (whole_text g))
+
+-- room for the marks of a tuple of so many variables, and for the nodes ahead of them
+pub record HasRoom (variables marks ahead : ℕ) : Type 0 where
+  pub marks_fit : 2 * variables ≤ marks
+  pub ahead_fits : 1 + 69 * (2 * variables) ≤ ahead
+
+-- ---- the way along the marks of a given tuple
+-- what the walk along a tuple's marks needs to go on
+pub record CanFollow (g : Ground) (t : Tuple) (hs : List (Option Ahead)) (at : ℕ) (place : Place) (n : ℕ) : Type 0 where
+  pub chain : List Ahead
+  pub stands : Stands g hs at place chain
+  pub leads : Leads g t at place.state n (text_ahead g chain)
+
+-- no run without marks over the text up to this position
+abbrev pub Dies : Ground → ℕ → ℕ → List ℕ → ℕ → Type 0
+Dies g q at s position = reached g.dfa.now q (plain (take (position - at) s)) ≡ None
+
+-- the nodes in front are passed without marks, up to the one over the position or to the end
+pub record PassesTo (g : Ground) (hs : List (Option Ahead)) (at position : ℕ) (from to : Place) (c : List Ahead) : Type 0 where
+  pub front : List Ahead
+  pub back : List Ahead
+  pub parts : c ≡ front ++ back
+  pub stands : Stands g hs (at + length (text_ahead g front)) to back
+  pub step : reached g.dfa.now from.state (plain (text_ahead g front)) ≡ Some to.state
+  pub before : at + length (text_ahead g front) ≤ position
+  pub over : (h : Ahead) (b : List Ahead) → back ≡ h ∷ b → position < h.at + length (text_at g h.id.index)
+
+-- m is the tuple's mark at the position, over which the node stands
+pub record Reaches (g : Ground) (t : Tuple) (hs : List (Option Ahead)) (h : Ahead) (q position : ℕ) (c : List Ahead) (m : Mark) : Type 0 where
+  pub front : List ℕ
+  pub back : List Ahead
+  pub parts : text_ahead g (h ∷ c) ≡ front ++ m.byte ∷ text_ahead g back
+  pub at : m.at ≡ h.at + length front
+  pub position_is : m.at ≡ position
+  pub is_mark : IsMark g hs m back
+  pub before : reached g.dfa.now q (plain front) ≡ Some m.state
+  pub mark_is : m.mark ≡ mark_of t position
+
+-- the way down to the position was laid: the tuple's mark there is kept, and the nodes ahead of it
+pub record Lays (g : Ground) (t : Tuple) (h : Ahead) (q position base : ℕ) (marks more : List (Option Mark)) (old new : List (Option Ahead)) : Type 0 where
+  pub mark : Mark
+  pub kept : more ≡ marks ++ Some mark ∷ []
+  pub base_is : mark.base ≡ base
+  pub beside : List (Option Ahead)
+  pub ahead : new ≡ old ++ beside
+  pub fits : Fits g base new
+  pub reaches : (c : List Ahead) → StandsBefore g old h q c → Reaches g t new h q position c mark
+
+-- no run came to the position, and what was kept on the way is forgotten
+pub record Fails (g : Ground) (h : Ahead) (q position base : ℕ) (marks more : List (Option Mark)) (old new : List (Option Ahead)) : Type 0 where
+  pub dies : Dies g q h.at (text_at g h.id.index) position
+  pub kept : more ≡ marks
+  pub ahead : new ≡ take base old
+
+-- the tuple's marks were kept from the position on, as far as a run follows them
+pub record Followed (g : Ground) (t : Tuple) (at : ℕ) (marks ms : List (Option Mark)) (old new : List (Option Ahead)) (before after : ℕ) (end : Option ℕ) : Type 0 where
+  pub more : List (Option Mark)
+  pub marks_are : ms ≡ marks ++ more
+  pub beside : List (Option Ahead)
+  pub ahead : new ≡ old ++ beside
+  pub kept : AreKept g t new at (length marks) (length old) more
+  pub none : NoneBehind g t (last_at (at - 1) more)
+  pub end_is : end ≡ reached g.dfa.now 0 (word_over t 1 (whole_text g))
+  pub cost : after ≤ before + 2 * (height_limit (length (whole_text g)) * length more) + 2 * height_limit (length (whole_text g))
+
+-- ---- the last mark that can be lowered
+-- the last mark is the one that l lowers
+pub record LowersLast (g : Ground) (ms : List (Option Mark)) (l : Lowered) : Type 0 where
+  pub others : List (Option Mark)
+  pub mark : Mark
+  pub parts : ms ≡ others ++ Some mark ∷ []
+  pub at : l.at ≡ mark.at
+  pub step : step_of g.dfa.now mark.state l.mark mark.byte ≡ Some l.state
+  pub goal : member mark.goals l.state ≡ true
+  pub lower : l.mark < mark.mark
+
+-- the tuples with t's marks before the place, and there the lower one
+pub record IsLowered (t u : Tuple) (l : Lowered) : Type 0 where
+  pub agree : Agree t u l.at
+  pub mark : mark_of u l.at ≡ l.mark
+
+-- the last mark is lowered: what is kept up to the base is that of each such tuple, and the walk can go on from there
+pub record IsTurned (g : Ground) (t : Tuple) (l : Lowered) (turn : Turn) (ms : List (Option Mark)) (hs : List (Option Ahead)) : Type 0 where
+  pub base : ℕ
+  pub one : base ≤ 1
+  pub chain : List Ahead
+  pub stands : Stands g hs (l.at + 1) (record { state = l.state; next = turn.next }) chain
+  pub can : CanEnd g l.state chain
+  pub fits : Fits g turn.base hs
+  pub low : turn.base ≤ length hs
+  pub kept : (u : Tuple) → IsLowered t u l → AreKept g u (take turn.base hs) 1 0 base ms
+  pub quiet : (u : Tuple) → IsLowered t u l → (p : ℕ) → last_at 0 ms < p → p ≤ l.at → mark_of u p ≡ 0
+  pub before : last_at 0 ms ≤ l.at
+  pub leads : (u : Tuple) → IsLowered t u l → Leads g u (l.at + 1) l.state (length ms) (text_ahead g chain)
+  pub word : Marked
+  pub bytes : whole_text g ≡ bytes_of word ++ text_ahead g chain
+  pub ends : reached g.dfa.now 0 word ≡ Some l.state
+  pub count : mark_count word ≡ length ms
+  pub place : length word ≡ l.at
+  pub short : turn.base ≤ base + 69 * length ms
+
+-- ---- the next answer
+-- the rest was completed, and the greatest mark was written at the end
+pub record Finishes (g : Ground) (from : Place) (base : ℕ) (marks ms : List (Option Mark)) (old new : List (Option Ahead)) (before after : ℕ) (out : Tuple) (end : ℕ) (found : Found) : Type 0 where
+  pub written : Tuple
+  pub mark : ℕ
+  pub completes : Completes g from base marks ms old new before after found.state out written
+  pub greatest : IsGreatestMark g.dfa.now found.state 256 1 65536 mark 0
+  pub tuple_is : found.tuple ≡ write_mark mark end written

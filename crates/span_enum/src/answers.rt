@@ -1,17 +1,23 @@
 //! The answers of an automaton on a text.
-ghost use Rattle.std.specs.Prelude.{◌≡◌, ℕ, ◌+◌, ◌*◌, ◌<◌, ◌≤◌, None, Some, length, IsTrue, ◌↔◌, MatchOption, IfSome, IfOk};
+ghost use Rattle.std.specs.Prelude.{◌≡◌, ℕ, ◌+◌, ◌-◌, ◌*◌, ◌^◌, ◌<◌, ◌≤◌, [], None, Some, length, IsTrue, ◌↔◌, MatchOption, IfSome, IfOk};
 ghost use Rattle.span_types.specs.Fibonacci.{looks_limit};
 ghost use Rattle.span_enum.specs.Listing.{text_of, IsReady, IsCursor};
-ghost use Rattle.span_enum.specs.Trail.{AreFinals, IsTrail};
 ghost use Rattle.span_enum.specs.Members.{IsMember, IsFirstMember, NoMemberLeft, HasMember};
+ghost use Rattle.span_enum.specs.Trail.{IsGround, whole_text, Agree, CanFinish, Finishes, Fits, HasRoom, IsFresh, IsStateAt, IsTrailOf};
+ghost use Rattle.span_enum.specs.Tuples.{end_mark};
+ghost use Rattle.span_enum.specs.Words.{CanRun, IsNoMark};
 
-use crate::ends::{accepts_end, end_limit, greatest_end, lower_end};
-use crate::trail::{Beside, Frame, Trail, complete_kept, empty_trail, lower_kept};
-use crate::walk::{can_reach, final_states, first, lower};
+use crate::ends::{accepts_end, end_limit, greatest_end};
+use crate::follow::follow;
+use crate::ground::Ground;
+use crate::onward::complete;
+use crate::trail::{Ahead, Place, Trail, ahead_at, empty_trail, lower_last, lower_to};
+use crate::walk::{can_reach, final_states, state_over};
 use marker_dfa::Dfa;
 use node_store::NodeId;
 use span_types::{NoMemory, Steps, Tuple};
 use state_tables::View;
+use state_tables::state_set::holds;
 use std::alloc::Global;
 use std::marker::Model;
 use std::sync::ledger::Ledger;
@@ -20,15 +26,15 @@ use std::sync::ledger::Ledger;
 /// Contracts see it as the automaton, the text and the cursor.
 ///
 /// The answers are found in the tables of the text's nodes (M. L. Schmid and N. Schweikardt, Spanner evaluation over
-/// SLP-compressed documents, PODS 2021), in mark order, a tuple at a time and without reading the text. The way down to the
-/// last answer is kept, so the next one costs looks by its distance and not by the height of the tree.
+/// SLP-compressed documents, PODS 2021), in mark order, a tuple at a time and without reading the text. The marks of
+/// the last answer are kept with the nodes ahead of them, so the next one costs looks by its distance and not by the height of
+/// the tree.
 #[derive(Drop)]
 pub struct Answers<'a> {
-    view: View<'a>,
-    dfa: &'a Dfa,
-    root: Option<NodeId>,
+    ground: Ground<'a>,
     last: Option<Tuple>,
-    finals: u128,
+    end: u64,
+    state: Option<u8>,
     trail: Trail<'a>,
 }
 
@@ -45,13 +51,13 @@ impl<'a> Model for Answers<'a> {
 }
 
 impl<'a> Answers<'a> {
-    /// Stands before the first answer. It makes no look, and takes the memory that `next` will need.
+    /// Stands before the first answer. It makes a look at the root, and takes the memory that `next` will need.
     ///
     /// The view's tables are those of the automaton, and the root is one of its nodes or none.
     ///
     /// # Errors
     ///
-    /// `NoMemory` where room for a way of 68 nodes down the tree wasn't found.
+    /// `NoMemory` where room for the marks of an answer, and for 69 nodes ahead of each, wasn't found.
     pub fn start<L: Ledger>(
         alloc: Global,
         view: View<'a>,
@@ -63,22 +69,24 @@ impl<'a> Answers<'a> {
         ensures listing { IfOk result (λ a. a ≡ record { automaton = dfa.now; text = text_of view.entry.store.now root; after = None }) }
         ensures cost { looks.new ≤ looks.old + looks_limit dfa.now.variables (length (text_of view.entry.store.now root)) }
     {
+        let ground = Ground::new(view, dfa, root);
+        let mut trail = empty_trail(alloc, dfa.variables())?;
+        let end = put_root(&ground, &mut trail, looks);
         Ok(Answers {
-            view,
-            dfa,
-            root,
+            ground,
             last: None,
-            finals: final_states(dfa),
-            trail: empty_trail(alloc)?,
+            end,
+            state: None,
+            trail,
         })
     }
 
     /// Stands before the first answer that comes strictly after the tuple, which needn't be an answer and may lie past the
-    /// text. It makes no look, and takes the memory that `next` will need.
+    /// text. It goes along the tuple's marks, and takes the memory that `next` will need.
     ///
     /// # Errors
     ///
-    /// `NoMemory` where room for a way of 68 nodes down the tree wasn't found.
+    /// `NoMemory` where room for the marks of an answer, and for 69 nodes ahead of each, wasn't found.
     pub fn seek<L: Ledger>(
         alloc: Global,
         view: View<'a>,
@@ -92,13 +100,20 @@ impl<'a> Answers<'a> {
         ensures listing { IfOk result (λ a. a ≡ record { automaton = dfa.now; text = text_of view.entry.store.now root; after = Some after.now }) }
         ensures cost { looks.new ≤ looks.old + 2 * looks_limit dfa.now.variables (length (text_of view.entry.store.now root)) }
     {
+        let ground = Ground::new(view, dfa, root);
+        let mut trail = empty_trail(alloc, dfa.variables())?;
+        let end = put_root(&ground, &mut trail, looks);
+        let first = Place {
+            state: 0,
+            next: trail.ahead.len(),
+        };
+        let state = follow(&ground, &mut trail, first, after, 1, end, looks);
         Ok(Answers {
-            view,
-            dfa,
-            root,
+            ground,
             last: Some(*after),
-            finals: final_states(dfa),
-            trail: empty_trail(alloc)?,
+            end,
+            state,
+            trail,
         })
     }
 
@@ -118,149 +133,204 @@ impl<'a> Answers<'a> {
         ensures listing { MatchOption result (self.new ≡ self.old) (λ u. self.new ≡ record self.old { after = Some u }) }
         ensures cost { looks.new ≤ looks.old + looks_limit self.old.automaton.variables (length self.old.text) }
     {
-        let kept = &mut self.trail;
-        match first_left(
-            &self.view,
-            self.dfa,
-            self.root,
-            self.finals,
-            self.last,
-            kept,
-            looks,
-        ) {
-            Some(u) => {
-                self.last = Some(u);
-                Some(u)
+        let found = match self.last {
+            None => first_answer(&self.ground, self.end, &mut self.trail, looks),
+            Some(t) => answer_after(
+                &self.ground,
+                self.end,
+                self.state,
+                &t,
+                &mut self.trail,
+                looks,
+            ),
+        };
+        match found {
+            Some(found) => {
+                self.last = Some(found.tuple);
+                self.state = Some(found.state);
+                Some(found.tuple)
             }
             None => None,
         }
     }
 }
 
-/// The first answer.
-fn first_answer<L: Ledger>(
-    view: &View<'_>,
-    dfa: &Dfa,
-    root: Option<NodeId>,
-    looks: &mut Steps<L>,
-) -> Option<Tuple>
-    requires { IsReady dfa.now view.now.store.now view.now.tables.now root }
-    ensures answer { MatchOption result (NoMemberLeft dfa.now (text_of view.now.store.now root) None)
-        (IsFirstMember dfa.now (text_of view.now.store.now root) None) }
-    ensures cost { looks.new ≤ looks.old + looks_limit dfa.now.variables (length (text_of view.now.store.now root)) }
-{
-    let _states = dfa.states();
-    let mut out = Tuple::none(dfa.variables());
-    match root {
-        None => match greatest_end(dfa, 0, 65536) {
-            Some(mark) => Some(out.with_mark(mark, 1)),
-            None => None,
-        },
-        Some(id) => {
-            let look = view.look(id, looks);
-            let goals = final_states(dfa);
-            let can = can_reach(look.table, 0, goals);
-            if !can {
-                return None;
-            }
-            let q = first(view, dfa, id, &look, 0, goals, 1, &mut out, looks);
-            match greatest_end(dfa, q, 65536) {
-                Some(mark) => Some(out.with_mark(mark, look.len + 1)),
-                None => unreachable!(),
-            }
-        }
-    }
+/// An answer, and the state after its marks over the text.
+#[derive(Clone, Copy)]
+pub(crate) struct Found {
+    pub(crate) tuple: Tuple,
+    pub(crate) state: u8,
 }
 
-/// The first answer strictly after the tuple, to which the trail leads. From then on it leads to that answer.
-fn answer_after<'a, L: Ledger>(
-    view: &View<'a>,
-    dfa: &Dfa,
-    root: Option<NodeId>,
-    goals: u128,
-    t: &Tuple,
-    trail: &mut Trail<'a>,
-    looks: &mut Steps<L>,
-) -> Option<Tuple>
-    requires ready { IsReady dfa.now view.now.store.now view.now.tables.now root }
-    requires goals { AreFinals dfa.now goals }
-    requires tuple { length t.now ≡ dfa.now.variables }
-    requires trail { IsTrail dfa.now view.now.store.now view.now.tables.now root goals (Some t.now) trail.old.items }
-    requires room { 68 ≤ trail.old.capacity }
-    ensures answer { MatchOption result (NoMemberLeft dfa.now (text_of view.now.store.now root) (Some t.now))
-        (IsFirstMember dfa.now (text_of view.now.store.now root) (Some t.now)) }
-    ensures trail { MatchOption result (IsTrail dfa.now view.now.store.now view.now.tables.now root goals (Some t.now) trail.new.items)
-        (λ u. IsTrail dfa.now view.now.store.now view.now.tables.now root goals (Some u) trail.new.items) }
-    ensures room { trail.new.capacity ≡ trail.old.capacity }
-    ensures cost { looks.new ≤ looks.old + looks_limit dfa.now.variables (length (text_of view.now.store.now root)) }
+/// Puts the root ahead of the first letter, and gives the position behind the text.
+fn put_root<'a, L: Ledger>(ground: &Ground<'a>, trail: &mut Trail<'a>, looks: &mut Steps<L>) -> u64
+    requires ground { IsGround ground.now }
+    requires ahead { trail.old.ahead.items ≡ [] }
+    requires marks { trail.old.marks.items ≡ [] }
+    requires room { 0 < trail.old.ahead.capacity }
+    ensures fresh { IsFresh ground.now trail.new.marks.items trail.new.ahead.items }
+    ensures end { result ≡ length (whole_text ground.now) + 1 }
+    ensures low { result ≤ 281474976710657 }
+    ensures cost { looks.new ≤ looks.old + 1 }
+    ensures marks_room { trail.new.marks.capacity ≡ trail.old.marks.capacity }
+    ensures ahead_room { trail.new.ahead.capacity ≡ trail.old.ahead.capacity }
 {
-    let _states = dfa.states();
-    let _count = t.count();
-    match root {
-        None => match greatest_end(dfa, 0, end_limit(t, 1)) {
-            Some(mark) => Some(t.cut_at(1).with_mark(mark, 1)),
-            None => None,
-        },
+    match ground.root {
+        None => 1,
         Some(id) => {
-            let look = view.look(id, looks);
-            let end = look.len + 1;
-            let top = Frame {
+            let look = ground.view.look(id, looks);
+            trail.ahead.push_reserved(Some(Ahead {
                 id,
                 look,
                 at: 1,
-                state: 0,
-                goals,
-                beside: Beside::Left(None),
-            };
-            let limit = end_limit(t, end);
-            let over = lower_kept(view, dfa, &top, trail, t, limit, looks);
-            if let Some(mark) = lower_end(dfa, over.state, limit) {
-                return Some(t.cut_at(end).with_mark(mark, end));
-            }
-            match over.best {
-                None => None,
-                Some(from) => {
-                    let mut out = t.cut_at(from.at).with_mark(from.mark, from.at);
-                    let q = complete_kept(view, dfa, &top, trail, t, &from, &mut out, looks);
-                    match greatest_end(dfa, q, 65536) {
-                        Some(mark) => Some(out.with_mark(mark, end)),
-                        None => unreachable!(),
-                    }
-                }
-            }
+                goals: ground.finals,
+                next: 0,
+            }));
+            look.len + 1
         }
     }
 }
 
-/// The first answer that is left after the cursor, to which the trail leads if there is one.
-fn first_left<'a, L: Ledger>(
-    view: &View<'a>,
-    dfa: &Dfa,
-    root: Option<NodeId>,
-    goals: u128,
-    last: Option<Tuple>,
+/// The first answer behind a place, with these marks before it.
+fn finish<'a, L: Ledger>(
+    ground: &Ground<'a>,
+    end: u64,
+    trail: &mut Trail<'a>,
+    from: Place,
+    base: usize,
+    marks: Tuple,
+    looks: &mut Steps<L>,
+) -> Found
+    requires ground { IsGround ground.now }
+    requires finish { CanFinish ground.now trail.old.ahead.items from (2 * ground.now.dfa.now.variables - length trail.old.marks.items) }
+    requires fits { Fits ground.now base trail.old.ahead.items }
+    requires low { base ≤ length trail.old.ahead.items }
+    requires marks_fit { 2 * ground.now.dfa.now.variables ≤ trail.old.marks.capacity }
+    requires ahead_fit { base + 69 * (2 * ground.now.dfa.now.variables - length trail.old.marks.items) ≤ trail.old.ahead.capacity }
+    requires positive { 1 ≤ end }
+    requires short { end ≤ 281474976710657 }
+    ensures finishes { Finishes ground.now from base trail.old.marks.items trail.new.marks.items trail.old.ahead.items trail.new.ahead.items looks.old looks.new marks end result }
+    ensures marks_room { trail.new.marks.capacity ≡ trail.old.marks.capacity }
+    ensures ahead_room { trail.new.ahead.capacity ≡ trail.old.ahead.capacity }
+{
+    let mut out = marks;
+    let state = complete(ground, trail, from, base, &mut out, looks);
+    match greatest_end(ground.dfa, state, 65536) {
+        Some(mark) => Found {
+            tuple: out.with_mark(mark, end),
+            state,
+        },
+        None => unreachable!(),
+    }
+}
+
+/// Whether there is an answer, where nothing is read yet.
+fn has_first(ground: &Ground<'_>, trail: &Trail<'_>) -> bool
+    requires ground { IsGround ground.now }
+    requires fresh { IsFresh ground.now trail.now.marks.items trail.now.ahead.items }
+    ensures { IsTrue result ↔ CanRun ground.now.dfa.now 0 (whole_text ground.now) ground.now.finals }
+{
+    let count = trail.ahead.len();
+    if count == 0 {
+        return holds(ground.finals, 0);
+    }
+    can_reach(ahead_at(trail, count).look.table, 0, ground.finals)
+}
+
+/// The first answer.
+fn first_answer<'a, L: Ledger>(
+    ground: &Ground<'a>,
+    end: u64,
     trail: &mut Trail<'a>,
     looks: &mut Steps<L>,
-) -> Option<Tuple>
-    requires ready { IsReady dfa.now view.now.store.now view.now.tables.now root }
-    requires goals { AreFinals dfa.now goals }
-    requires tuple { IsCursor dfa.now last }
-    requires trail { IsTrail dfa.now view.now.store.now view.now.tables.now root goals last trail.old.items }
-    requires room { 68 ≤ trail.old.capacity }
-    ensures answer { MatchOption result (NoMemberLeft dfa.now (text_of view.now.store.now root) last)
-        (IsFirstMember dfa.now (text_of view.now.store.now root) last) }
-    ensures trail { MatchOption result (IsTrail dfa.now view.now.store.now view.now.tables.now root goals last trail.new.items)
-        (λ u. IsTrail dfa.now view.now.store.now view.now.tables.now root goals (Some u) trail.new.items) }
-    ensures room { trail.new.capacity ≡ trail.old.capacity }
-    ensures cost { looks.new ≤ looks.old + looks_limit dfa.now.variables (length (text_of view.now.store.now root)) }
+) -> Option<Found>
+    requires ground { IsGround ground.now }
+    requires end { end ≡ length (whole_text ground.now) + 1 }
+    requires fresh { IsFresh ground.now trail.old.marks.items trail.old.ahead.items }
+    requires room { HasRoom ground.now.dfa.now.variables trail.old.marks.capacity trail.old.ahead.capacity }
+    ensures answer { MatchOption result (NoMemberLeft ground.now.dfa.now (whole_text ground.now) None)
+        (λ f. IsFirstMember ground.now.dfa.now (whole_text ground.now) None f.tuple) }
+    ensures trail { MatchOption result (IsFresh ground.now trail.new.marks.items trail.new.ahead.items)
+        (λ f. IsTrailOf ground.now f.tuple trail.new.marks.items trail.new.ahead.items) }
+    ensures state { IfSome result (λ f. IsStateAt ground.now (Some f.tuple) (Some f.state)) }
+    ensures cost { looks.new ≤ looks.old + looks_limit ground.now.dfa.now.variables (length (whole_text ground.now)) }
+    ensures marks_room { trail.new.marks.capacity ≡ trail.old.marks.capacity }
+    ensures ahead_room { trail.new.ahead.capacity ≡ trail.old.ahead.capacity }
 {
-    match last {
-        None => {
-            trail.truncate(0);
-            first_answer(view, dfa, root, looks)
-        }
-        Some(t) => answer_after(view, dfa, root, goals, &t, trail, looks),
+    if !has_first(ground, &*trail) {
+        return None;
     }
+    let count = trail.ahead.len();
+    let first = Place {
+        state: 0,
+        next: count,
+    };
+    let none = Tuple::none(ground.dfa.variables());
+    Some(finish(ground, end, trail, first, count, none, looks))
+}
+
+/// The first answer strictly after the tuple whose marks are kept. From then on those of the answer are.
+fn answer_after<'a, L: Ledger>(
+    ground: &Ground<'a>,
+    end: u64,
+    state: Option<u8>,
+    t: &Tuple,
+    trail: &mut Trail<'a>,
+    looks: &mut Steps<L>,
+) -> Option<Found>
+    requires ground { IsGround ground.now }
+    requires end { end ≡ length (whole_text ground.now) + 1 }
+    requires low { end ≤ 281474976710657 }
+    requires tuple { length t.now ≡ ground.now.dfa.now.variables }
+    requires state { IsStateAt ground.now (Some t.now) state }
+    requires trail { IsTrailOf ground.now t.now trail.old.marks.items trail.old.ahead.items }
+    requires room { HasRoom ground.now.dfa.now.variables trail.old.marks.capacity trail.old.ahead.capacity }
+    ensures answer { MatchOption result (NoMemberLeft ground.now.dfa.now (whole_text ground.now) (Some t.now))
+        (λ f. IsFirstMember ground.now.dfa.now (whole_text ground.now) (Some t.now) f.tuple) }
+    ensures trail { MatchOption result (IsTrailOf ground.now t.now trail.new.marks.items trail.new.ahead.items)
+        (λ f. IsTrailOf ground.now f.tuple trail.new.marks.items trail.new.ahead.items) }
+    ensures state { IfSome result (λ f. IsStateAt ground.now (Some f.tuple) (Some f.state)) }
+    ensures cost { looks.new ≤ looks.old + looks_limit ground.now.dfa.now.variables (length (whole_text ground.now)) }
+    ensures marks_room { trail.new.marks.capacity ≡ trail.old.marks.capacity }
+    ensures ahead_room { trail.new.ahead.capacity ≡ trail.old.ahead.capacity }
+{
+    let _count = t.count();
+    if let Some(found) = lowered_at_end(ground, end, state, t) {
+        return Some(found);
+    }
+    match lower_last(ground, trail, t) {
+        None => None,
+        Some(lowered) => {
+            let turn = lower_to(ground, trail, t, &lowered);
+            let from = Place {
+                state: lowered.state,
+                next: turn.next,
+            };
+            let marks = t.cut_at(lowered.at).with_mark(lowered.mark, lowered.at);
+            Some(finish(ground, end, trail, from, turn.base, marks, looks))
+        }
+    }
+}
+
+/// The first answer after the tuple, if only its mark at the end is lower.
+fn lowered_at_end(ground: &Ground<'_>, end: u64, state: Option<u8>, t: &Tuple) -> Option<Found>
+    requires ground { IsGround ground.now }
+    requires end { end ≡ length (whole_text ground.now) + 1 }
+    requires low { end ≤ 281474976710657 }
+    requires tuple { length t.now ≡ ground.now.dfa.now.variables }
+    requires state { IsStateAt ground.now (Some t.now) state }
+    ensures none { MatchOption result ((q : ℕ) → state ≡ Some q → (m : ℕ) → IsNoMark ground.now.dfa.now q 256 1 (end_mark t.now end) m)
+        (λ f. IsFirstMember ground.now.dfa.now (whole_text ground.now) (Some t.now) f.tuple) }
+    ensures agree { IfSome result (λ f. Agree t.now f.tuple end) }
+    ensures state { IfSome result (λ f. state ≡ Some f.state) }
+{
+    let _count = t.count();
+    let q = state?;
+    let mark = greatest_end(ground.dfa, q, end_limit(t, end))?;
+    Some(Found {
+        tuple: t.cut_at(end).with_mark(mark, end),
+        state: q,
+    })
 }
 
 /// Whether there is an answer. It makes at most one look and takes no memory.
@@ -305,8 +375,8 @@ pub fn has<L: Ledger>(
         None => accepts_end(dfa, Some(0), tuple, 1),
         Some(id) => {
             let look = view.look(id, looks);
-            let lowering = lower(&view, dfa, id, &look, 0, 0, 1, tuple, looks);
-            accepts_end(dfa, lowering.state, tuple, look.len + 1)
+            let state = state_over(&view, dfa, id, &look, 0, 1, tuple, looks);
+            accepts_end(dfa, state, tuple, look.len + 1)
         }
     }
 }

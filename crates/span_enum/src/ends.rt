@@ -4,7 +4,7 @@ ghost use Rattle.marker_dfa.specs.Deterministic.{states_of};
 ghost use Rattle.span_enum.specs.Letters.{step_of};
 ghost use Rattle.span_enum.specs.Tuples.{EndsPast, end_mark, reaches};
 ghost use Rattle.span_enum.specs.Words.{IsNoMark, IsGreatestMark};
-ghost use Rattle.span_enum.specs.Ends.{LowersEnd, AcceptsEnd};
+ghost use Rattle.span_enum.specs.Ends.{AcceptsEnd};
 
 use marker_dfa::Dfa;
 use span_types::{Span, Tuple, mark_at};
@@ -21,18 +21,6 @@ pub(crate) fn greatest_end(dfa: &Dfa, q: u8, limit: u32) -> Option<u16>
         }
     }
     None
-}
-
-/// The greatest mark below the limit with which a text may end in the state, if there is a state.
-pub(crate) fn lower_end(dfa: &Dfa, state: Option<u8>, limit: u32) -> Option<u16>
-    requires { IfSome state (λ q. q < states_of dfa.now) }
-    ensures { MatchOption result ((q : ℕ) → state ≡ Some q → (m : ℕ) → IsNoMark dfa.now q 256 1 limit m)
-        (λ m. LowersEnd dfa.now state limit m) }
-{
-    match state {
-        Some(q) => greatest_end(dfa, q, limit),
-        None => None,
-    }
 }
 
 /// Whether a span of the tuple ends at the position or past it.

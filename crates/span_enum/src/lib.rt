@@ -2,25 +2,23 @@
 //!
 //! `Answers::start(alloc, view, &dfa, root, &mut looks)?` stands before the first answer, `seek` after any tuple, and each
 //! `next(&mut looks)` gives the next answer. It makes at most B(k, n) looks at nodes, mostly as many as the distance asks,
-//! and takes no memory: room for the way below is taken at the start.
+//! and takes no memory: room for the marks of an answer and for the nodes ahead of them is taken at the start.
 //!
-//! An answer is a text with marks at some letters. Between two answers the way from the root to the last mark is kept, and
-//! the walk that writes an answer's marks lays it:
+//! An answer is a text with marks at some letters. Of the last answer each mark is kept, with its letter, the state before
+//! the letter, and the node that comes next: the first of the nodes ahead, which hold all that is read behind the letter.
 //!
 //! ```text
-//!         top               `next` goes up from the last mark to the first node below which a mark can be lowered, here
-//!        /   \              the one that its right child remembers of `l`. It goes down to that place, lowers the mark,
-//!      f1     r             and goes up from there: `r'` and `r` are passed where no further mark is needed, and else
-//!     /  \                 entered for the greatest marks.
-//!    l    f2                Beside a left child (f1, f3) its right sibling is kept, and beside a right child (f2) the last
-//!        /  \              place in its left sibling at which a mark can be lowered.
-//!      f3    r'
-//!      |
-//!   last mark
+//!          root              The way down to the mark m turns left twice, so r' and then r are ahead of m. Each node
+//!         /    \             ahead names the one that comes next, and the nodes ahead of all marks stand in one list: a
+//!        o      r            later mark n, below r', has r ahead of it too, and adds to the list only what stands beside
+//!       / \                  its own way below r'.
+//!      l   o                 `next` lowers the last mark that can be lowered, with what is kept alone, and forgets those
+//!         / \                behind it and what they added. Then it goes on behind the mark: over each node ahead without
+//!        m   r'              marks where the greatest marks of the rest allow it, and else down to the first mark below.
 //! ```
 //!
-//! Where the walk has just passed the left sibling of a right child, it keeps that sibling, and looks for the place there
-//! only once none is found further on.
+//! A tuple that comes after an answer differs from it first at a position where the answer has a mark, so no other letter is
+//! looked at. A cursor's marks are kept in the same way, as far as a run of the automaton follows them.
 //!
 //! Each node's table tells which states its text leads to, without marks and with some (M. L. Schmid and N. Schweikardt,
 //! Spanner evaluation over SLP-compressed documents, PODS 2021). With the states after a node from which the rest is
@@ -30,6 +28,9 @@
 
 mod answers;
 mod ends;
+mod follow;
+mod ground;
+mod onward;
 mod sets;
 mod trail;
 mod walk;

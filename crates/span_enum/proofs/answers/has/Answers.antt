@@ -30,8 +30,8 @@ returns-in-Some-clause-answer g c =
     let k : IsText s = look-text a nodes view.tables.now c.requires.ready.tables view.counted c.in-Some.id.index _ _ _ live c.look-look.ensures.look in
     let both = rw c.look-look.ensures.look.len_is at c.accepts_end-in-Some.ensures in
     rw c.in-Some.is (
-      (λ h. member-from_accepts a auto s k.bytes k.short t c.requires.tuple (accepts-from_end a s t _ c.count-count.ensures.tuple.spans c.lower-lowering.ensures.lowering.ends (both.0 h))),
-      (λ h. both.1 (end-from_accepts a s t _ c.lower-lowering.ensures.lowering.ends (accepts-from_member a auto s k.bytes k.short t h))),
+      (λ h. member-from_accepts a auto s k.bytes k.short t c.requires.tuple (accepts-from_end a s t _ c.count-count.ensures.tuple.spans c.state_over-state.ensures.value (both.0 h))),
+      (λ h. both.1 (end-from_accepts a s t _ c.state_over-state.ensures.value (accepts-from_member a auto s k.bytes k.short t h))),
     )
 
 pub returns-in-Some-clause-cost : goal.returns-in-Some-clause-cost
@@ -41,4 +41,4 @@ returns-in-Some-clause-cost g c =
     let k = c.args.dfa.now.variables in
     rw c.in-Some.is (within-limit k c.args.looks.now _ (tree nodes c.in-Some.id.index) c.look-look.ensures.look.balanced
     (cost-lower k (height (tree nodes c.in-Some.id.index)) c.args.looks.now _ _ _
-    c.look-look.ensures.step (few-marks k c.args.tuple.now s c.requires.tuple) c.lower-lowering.ensures.cost))
+    c.look-look.ensures.step (few-marks k c.args.tuple.now s c.requires.tuple) c.state_over-state.ensures.cost))

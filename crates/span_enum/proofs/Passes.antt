@@ -1,0 +1,131 @@
+-- The way over nodes ahead without marks.
+use Rattle.std.proofs.Common.{suc, ◌≡◌, ℕ, ◌+◌, ◌<◌, ◌≤◌, ◌^◌, true, refl, ap, sym, subst, ◌∙◌, arith, bit_and, List, [], ◌∷◌, ◌++◌, append_assoc, append-nil, length, length-append, slice_get, Option, Some}
+use Rattle.std.proofs.lemmas.Bool.{eq-eqb}
+use Rattle.std.proofs.lemmas.List.{map-append}
+use Rattle.span_types.specs.Words.{Marked, mark_count}
+use Rattle.formula_law.specs.Law.{bytes_of}
+use Rattle.marker_dfa.specs.Deterministic.{IsDeterministic}
+use Rattle.state_tables.specs.StateSet.{member}
+use Rattle.state_tables.specs.Table.{marked_of, unmarked_of}
+use Rattle.state_tables.specs.Meaning.{plain}
+use Rattle.span_enum.specs.Letters.{reached}
+use Rattle.span_enum.specs.Sets.{can_reach_of}
+use Rattle.span_enum.specs.Words.{CanRun, IsFirst}
+use Rattle.span_enum.specs.Trail.{AreAhead, text_at, text_ahead, Join, Stands, CanEnd, AtMost, Turns, PassesPlain}
+use Rattle.span_enum.specs.declared.ground.Ground.{Ground}
+use Rattle.span_enum.specs.declared.trail.Ahead.{Ahead}
+use Rattle.span_enum.specs.declared.trail.Place.{Place}
+use Rattle.span_enum.proofs.Paths.{Tells, run-append, run-within, then-between, then-join, split-marked, bytes-plain}
+use Rattle.span_enum.proofs.Firsts.{IsFirst-plain, IsFirst-fork, table-from_run, shared-some, mark_count-append, has-count}
+use Rattle.span_enum.proofs.Steps.{goal-plain}
+use Rattle.span_enum.proofs.Chains.{text-append, goals-on}
+use Rattle.span_enum.proofs.Turns.{not-zero}
+use Rattle.span_enum.proofs.Meets.{plain-append}
+
+pub passes-none : (g : Ground) (hs : List (Option Ahead)) (at : ℕ) (from : Place) (c : List Ahead) → Stands g hs at from c → CanEnd g from.state c → PassesPlain g hs at from from c
+passes-none g hs at from c s can =
+    let same : at ≡ at + 0 = omega arith in
+    record {
+      front = [];
+      back = c;
+      parts = refl;
+      stands = subst (λ n. Stands g hs n from c) same s;
+      can = can;
+      step = refl;
+      first = λ w r f. f;
+    }
+
+-- where the walk can go on, a run over the next node leads into its goals
+pub can-head : (g : Ground) (hs : List (Option Ahead)) (at : ℕ) (place : Place) (h : Ahead) (c : List Ahead) → Tells g.dfa.now (text_at g h.id.index) h.look.table.now
+    → Stands g hs at place (h ∷ c) → CanEnd g place.state (h ∷ c) → can_reach_of h.look.table.now place.state h.goals ≡ true
+can-head g hs at place h c is s can =
+    let a = g.dfa.now in
+    let cut = split-marked (text_at g h.id.index) (text_ahead g c) can.word can.bytes in
+    let x = cut.0 in
+    let y = cut.1.0 in
+    let mid = then-between (λ k. reached a k y) (reached a place.state x) can.state (sym (run-append a place.state x y) ∙ ap (reached a place.state) (sym cut.1.1.0) ∙ can.ends) in
+    table-from_run a (text_at g h.id.index) h.look.table.now place.state h.goals is s.state
+    (record { word = x; state = mid.0; bytes = cut.1.1.1; ends = mid.1; goal = s.goals.1.reach mid.0 x cut.1.1.1 mid.1 (record { word = y; state = can.state; bytes = cut.1.1.2; ends = mid.2; goal = can.goal }) })
+
+-- one node more is passed
+pub passes-on : (g : Ground) (auto : IsDeterministic g.dfa.now) (hs : List (Option Ahead)) (at : ℕ) (from place : Place) (c : List Ahead) (h : Ahead) (b : List Ahead) (q : ℕ)
+    → (p : PassesPlain g hs at from place c) → p.back ≡ h ∷ b → Tells g.dfa.now (text_at g h.id.index) h.look.table.now → bit_and (marked_of h.look.table.now place.state) h.goals ≡ 0
+    → unmarked_of h.look.table.now place.state ≡ Some q → PassesPlain g hs at from (record { state = q; next = h.next }) c
+passes-on g auto hs at from place c h b q p e is none step =
+    let a = g.dfa.now in
+    let x = text_at g h.id.index in
+    let stands : Stands g hs (at + length (text_ahead g p.front)) place (h ∷ b) = rw e at p.stands in
+    let can : CanEnd g place.state (h ∷ b) = rw e at p.can in
+    let over : reached a place.state (plain x) ≡ Some q = sym (is.unmarked place.state stands.state) ∙ step in
+    let goal : member h.goals q ≡ true = goal-plain h.look.table.now place.state h.goals q (can-head g hs (at + length (text_ahead g p.front)) place h b is stands can) none step in
+    let texts : text_ahead g (p.front ++ h ∷ []) ≡ text_ahead g p.front ++ x = text-append g p.front (h ∷ []) ∙ ap (λ s. text_ahead g p.front ++ s) (append-nil x) in
+    let len : at + length (text_ahead g p.front) + length x ≡ at + length (text_ahead g (p.front ++ h ∷ [])) = omega (arith, ap length texts, length-append (text_ahead g p.front) x) in
+    let whole : c ≡ (p.front ++ h ∷ []) ++ b = p.parts ∙ ap (λ k. p.front ++ k) e ∙ sym (append_assoc p.front (h ∷ []) b) in
+    record {
+      front = p.front ++ h ∷ [];
+      back = b;
+      parts = whole;
+      stands = record {
+        ahead = stands.ahead.1;
+        join = subst (λ n. Join g n b) len stands.join.1;
+        goals = goals-on g place.state q x [] b (plain x) (bytes-plain x) over (rw (append-nil x) stands.goals.2);
+        state = run-within a auto place.state q (plain x) stands.state over;
+      };
+      can = stands.goals.1.onward q goal;
+      step = ap (λ s. reached a from.state (plain s)) texts ∙ ap (reached a from.state) (plain-append (text_ahead g p.front) x) ∙ run-append a from.state (plain (text_ahead g p.front)) (plain x)
+          ∙ then-join (λ n. reached a n (plain x)) (reached a from.state (plain (text_ahead g p.front))) place.state p.step ∙ over;
+      first = λ w r f.
+          let alone : IsFirst a place.state x h.goals (plain x) q = IsFirst-plain a x h.look.table.now place.state h.goals q is stands.state (eq-eqb (bit_and (marked_of h.look.table.now place.state) h.goals) 0 none) step goal in
+          let both : IsFirst a place.state (text_ahead g (h ∷ b)) g.finals (plain x ++ w) r = IsFirst-fork a x (text_ahead g b) place.state q r g.finals h.goals (plain x) w stands.goals.1.reach alone f in
+          let all : IsFirst a from.state (text_ahead g c) g.finals (plain (text_ahead g p.front) ++ (plain x ++ w)) r = p.first (plain x ++ w) r (rw e both) in
+          let words : plain (text_ahead g (p.front ++ h ∷ [])) ++ w ≡ plain (text_ahead g p.front) ++ (plain x ++ w) =
+          ap (λ s. plain s ++ w) texts ∙ ap (λ v. v ++ w) (plain-append (text_ahead g p.front) x) ∙ append_assoc (plain (text_ahead g p.front)) (plain x) w in
+          rw words all;
+    }
+
+-- the next node is the one that stands there in the list
+pub next-is : (hs : List (Option Ahead)) (place : ℕ) (c : List Ahead) (n : Ahead) → AreAhead hs place c → 0 < place → ((before : ℕ) → place ≡ suc before → slice_get hs before ≡ Some (Some n))
+    → (b : List Ahead) × (c ≡ n ∷ b)
+next-is hs place [] n h some at = absurd (omega (arith, h))
+next-is hs place (x ∷ c) n h some at = (c, ap (λ y. y ∷ c) (one x n (sym h.0.there ∙ at h.0.before h.0.counted)))
+  where
+    one : (x y : Ahead) → ◌≡◌ {A = Option (Option Ahead)} (Some (Some x)) (Some (Some y)) → x ≡ y
+    one x y e = cc
+
+-- and is there
+pub next-there : (hs : List (Option Ahead)) (place : ℕ) (c : List Ahead) → AreAhead hs place c → 0 < place
+    → (before : ℕ) × ((h : Ahead) × (place ≡ suc before) × (slice_get hs before ≡ Some (Some h)))
+next-there hs place [] h some = absurd (omega (arith, h))
+next-there hs place (x ∷ c) h some = (h.0.before, (x, h.0.counted, h.0.there))
+
+pub next-earlier : (hs : List (Option Ahead)) (place : ℕ) (h : Ahead) (b : List Ahead) → AreAhead hs place (h ∷ b) → h.next < place
+next-earlier hs place h b k = omega (arith, k.0.counted, k.0.earlier)
+
+pub turns-here : (q : ℕ) (c : List Ahead) (h : Ahead) (b : List Ahead) → c ≡ h ∷ b → marked_of h.look.table.now q < 2 ^ 128 → (bit_and (marked_of h.look.table.now q) h.goals ≡ 0 → ⊥)
+    → Turns q c
+turns-here q c h b e small some = rw e (small, some)
+
+pub turns-end : (hs : List (Option Ahead)) (place q : ℕ) (c : List Ahead) → AreAhead hs place c → place ≤ 0 → Turns q c
+turns-end hs place q [] h zero' = tt
+turns-end hs place q (x ∷ c) h zero' = absurd (omega (arith, h.0.counted))
+
+-- where the walk turns, some accepted text has a mark
+pub some-mark : (g : Ground) (hs : List (Option Ahead)) (at : ℕ) (from place : Place) (c : List Ahead) (h : Ahead) (b : List Ahead) (most : ℕ) → (p : PassesPlain g hs at from place c) → p.back ≡ h ∷ b
+    → Tells g.dfa.now (text_at g h.id.index) h.look.table.now → marked_of h.look.table.now place.state < 2 ^ 128 → (bit_and (marked_of h.look.table.now place.state) h.goals ≡ 0 → ⊥)
+    → AtMost g from.state c most → 1 ≤ most
+some-mark g hs at from place c h b most p e is small some few =
+    let a = g.dfa.now in
+    let x = text_ahead g p.front in
+    let stands : Stands g hs (at + length x) place (h ∷ b) = rw e at p.stands in
+    let found = shared-some (marked_of h.look.table.now place.state) h.goals small (not-zero (bit_and (marked_of h.look.table.now place.state) h.goals) some) in
+    let run = (is.marked place.state found.0 stands.state).0 found.1 in
+    let on : CanRun a found.0 (text_ahead g b) g.finals = stands.goals.1.onward found.0 found.2 in
+    let w : Marked = plain x ++ (run.word ++ on.word) in
+    let texts : text_ahead g c ≡ x ++ (text_at g h.id.index ++ text_ahead g b) = ap (text_ahead g) p.parts ∙ text-append g p.front p.back ∙ ap (λ d. x ++ text_ahead g d) e in
+    let bytes : bytes_of w ≡ text_ahead g c = map-append (λ z. z.1) (plain x) (run.word ++ on.word) ∙ ap (λ y. bytes_of (plain x) ++ y) (map-append (λ z. z.1) run.word on.word) ∙ rw (bytes-plain x, run.bytes, on.bytes) (sym texts) in
+    let ends : reached a from.state w ≡ Some on.state =
+    run-append a from.state (plain x) (run.word ++ on.word) ∙ then-join (λ n. reached a n (run.word ++ on.word)) (reached a from.state (plain x)) place.state p.step
+    ∙ run-append a place.state run.word on.word ∙ then-join (λ n. reached a n on.word) (reached a place.state run.word) found.0 run.ends ∙ on.ends in
+    let count = few w on.state bytes ends on.goal in
+    let one : 0 < mark_count run.word = has-count run.word run.mark in
+    omega (arith, count, one, mark_count-append (plain x) (run.word ++ on.word), mark_count-append run.word on.word)

@@ -1,0 +1,120 @@
+-- The root of a text ahead of its first letter, and what it tells of the text.
+use Rattle.std.proofs.Common.{◌≡◌, ℕ, ◌<◌, ◌≤◌, true, refl, ap, sym, subst, ◌∙◌, arith, List, [], ◌∷◌, ◌++◌, length, slice_get, Option, Some, None, inl, inr}
+use Rattle.std.proofs.lemmas.Bool.{cases_eq}
+use Rattle.span_types.specs.Words.{Marked}
+use Rattle.formula_law.specs.Law.{bytes_of}
+use Rattle.slp_model.specs.declared.Node.{Node}
+use Rattle.slp_model.specs.declared.NodeId.{NodeId}
+use Rattle.slp_model.specs.Nodes.{IsLive}
+use Rattle.marker_dfa.specs.Deterministic.{DeterministicAutomaton}
+use Rattle.state_tables.specs.StateSet.{member}
+use Rattle.state_tables.specs.Dictionary.{Dictionary, AreTables, IsLook, count_of}
+use Rattle.state_tables.specs.declared.view.Look.{Look}
+use Rattle.span_enum.specs.Letters.{reached}
+use Rattle.span_enum.specs.Listing.{text_of}
+use Rattle.span_enum.specs.Between.{AreBetween}
+use Rattle.span_enum.specs.Words.{CanRun}
+use Rattle.span_enum.specs.Trail.{IsGround, IsFresh, IsAhead, AreAhead, AreGoals, whole_text, text_at, text_ahead}
+use Rattle.span_enum.specs.declared.ground.Ground.{Ground}
+use Rattle.span_enum.specs.declared.trail.Ahead.{Ahead}
+use Rattle.span_enum.specs.declared.trail.Mark.{Mark}
+use Rattle.span_enum.proofs.Paths.{AreBytes, Tells}
+use Rattle.span_enum.proofs.Steps.{look-table}
+use Rattle.span_enum.proofs.Given.{IsText}
+
+append-nothing : (s : List ℕ) → s ++ [] ≡ s
+append-nothing [] = refl
+append-nothing (b ∷ s) = ap (λ t. b ∷ t) (append-nothing s)
+
+-- ---- runs over nothing
+pub run-nothing : (a : DeterministicAutomaton) (p goals : ℕ) → member goals p ≡ true → CanRun a p [] goals
+run-nothing a p goals h = record { word = []; state = p; bytes = refl; ends = refl; goal = h }
+
+pub goal-from_nothing : (a : DeterministicAutomaton) (p goals : ℕ) → CanRun a p [] goals → member goals p ≡ true
+goal-from_nothing a p goals run = by run.word run.state run.bytes run.ends run.goal
+  where
+    by : (w : Marked) (q : ℕ) → bytes_of w ≡ [] → reached a p w ≡ Some q → member goals q ≡ true → member goals p ≡ true
+    by [] q e t h = let same : p ≡ q = cc in ap (member goals) same ∙ h
+    by (x ∷ w) q e t h = cc
+
+between-end : (a : DeterministicAutomaton) (p : ℕ) (s : List ℕ) (goals : ℕ) → AreBetween a p s [] goals goals
+between-end a p s goals = record { reach = λ n x e t run. goal-from_nothing a n goals run; onward = λ n h. run-nothing a n goals h }
+
+-- ---- the text of a root
+root-bytes : (a : DeterministicAutomaton) (nodes : List Node) (d : Dictionary) (root : Option NodeId) → AreTables a nodes d → count_of d ≡ length nodes → IsLive nodes root → AreBytes (text_of nodes root)
+root-bytes a nodes d None all counted live = λ k o lt. absurd (omega arith)
+root-bytes a nodes d (Some id) all counted live = (all id.index (omega (arith, live, counted))).bytes
+
+pub ground-text : (g : Ground) → IsGround g → length (whole_text g) ≤ 281474976710656 → IsText (whole_text g)
+ground-text g is short = record { bytes = root-bytes g.dfa.now g.view.store.now g.view.tables.now g.root is.ready.tables g.view.counted is.ready.live; short = short }
+
+-- ---- nothing is read
+pub fresh-none : (g : Ground) → IsGround g → g.root ≡ None → (ms : List (Option Mark)) (hs : List (Option Ahead)) → ms ≡ [] → hs ≡ [] → IsFresh g ms hs
+fresh-none g is e ms hs unmarked empty = record {
+  no_marks = unmarked;
+  chain = [];
+  stands = record { ahead = ap length empty; join = tt; goals = tt; state = is.automaton.has_start };
+  text_is = ap (λ r. text_of g.view.store.now r) (sym e);
+  one = omega (arith, ap length empty);
+}
+
+pub fresh-root : (g : Ground) (id : NodeId) (look : Look) → IsGround g → g.root ≡ Some id → IsLook g.view.store.now g.view.tables.now id.index look.node look.len look.table.now
+    → (ms : List (Option Mark)) (hs : List (Option Ahead)) → ms ≡ [] → hs ≡ Some (record { id = id; look = look; at = 1; goals = g.finals; next = 0 }) ∷ [] → IsFresh g ms hs
+fresh-root g id look is e l ms hs unmarked one =
+    let root : Ahead = record { id = id; look = look; at = 1; goals = g.finals; next = 0 } in
+    let live : id.index < length g.view.store.now = subst (λ r. IsLive g.view.store.now r) e is.ready.live in
+    let there : IsAhead g root = record { live = live; look = l; positive = omega arith; low = omega (arith, l.len_is, l.short) } in
+    let len : length hs ≡ 1 = ap length one in
+    record {
+      no_marks = unmarked;
+      chain = root ∷ [];
+      stands = record {
+        ahead = (record { before = 0; counted = len; there = ap (λ k. slice_get k 0) one; earlier = omega arith }, refl);
+        join = (refl, tt);
+        goals = (there, between-end g.dfa.now 0 (text_at g id.index) g.finals, tt);
+        state = is.automaton.has_start;
+      };
+      text_is = append-nothing (text_at g id.index) ∙ ap (λ r. text_of g.view.store.now r) (sym e);
+      one = omega (arith, len);
+    }
+
+-- ---- the root in the list
+-- the node that stands alone ahead, whose text is the whole one
+pub record IsRoot (g : Ground) (hs : List (Option Ahead)) (h : Ahead) : Type 0 where
+  pub there : slice_get hs 0 ≡ Some (Some h)
+  pub ahead : IsAhead g h
+  pub text_is : text_at g h.id.index ≡ whole_text g
+
+pub no-root : (g : Ground) (ms : List (Option Mark)) (hs : List (Option Ahead)) → IsFresh g ms hs → length hs ≡ 0 → whole_text g ≡ []
+no-root g ms hs is none = by is.chain is.stands.ahead is.text_is
+  where
+    by : (c : List Ahead) → AreAhead hs (length hs) c → text_ahead g c ≡ whole_text g → whole_text g ≡ []
+    by [] h e = sym e
+    by (x ∷ c) h e = absurd (omega (arith, h.0.counted))
+
+pub the-root : (g : Ground) (ms : List (Option Mark)) (hs : List (Option Ahead)) → IsFresh g ms hs → (length hs ≡ 0 → ⊥) → (h : Ahead) × IsRoot g hs h
+the-root g ms hs is some = by is.chain is.stands.ahead is.stands.goals is.text_is
+  where
+    behind : (x : Ahead) (c : List Ahead) → x.next ≡ 0 → AreAhead hs x.next c → text_ahead g (x ∷ c) ≡ text_at g x.id.index
+    behind x [] e h = append-nothing (text_at g x.id.index)
+    behind x (y ∷ c) e h = absurd (omega (arith, e, h.0.counted))
+
+    by : (c : List Ahead) → AreAhead hs (length hs) c → AreGoals g 0 [] c → text_ahead g c ≡ whole_text g → (h : Ahead) × IsRoot g hs h
+    by [] h goals e = absurd (some h)
+    by (x ∷ c) h goals e =
+        let first : h.0.before ≡ 0 = omega (arith, h.0.counted, is.one) in
+        let next : x.next ≡ 0 = omega (arith, first, h.0.earlier) in
+        (x, record { there = ap (slice_get hs) (sym first) ∙ h.0.there; ahead = goals.0; text_is = sym (behind x c next h.1) ∙ e })
+
+pub root-tells : (g : Ground) (hs : List (Option Ahead)) (h : Ahead) → IsGround g → IsRoot g hs h → Tells g.dfa.now (whole_text g) h.look.table.now
+root-tells g hs h is root = subst (λ s. Tells g.dfa.now s h.look.table.now) root.text_is
+    (look-table g.dfa.now g.view.store.now g.view.tables.now is.ready.tables g.view.counted h.id.index _ _ _ root.ahead.live root.ahead.look)
+
+pub text-short : (g : Ground) (ms : List (Option Mark)) (hs : List (Option Ahead)) → IsFresh g ms hs → length (whole_text g) ≤ 281474976710656
+text-short g ms hs is = elim (cases_eq (length hs) 0) [
+  | inl none ↦ omega (arith, ap length (no-root g ms hs is none))
+  | inr some ↦ let root = the-root g ms hs is some in omega (arith, root.1.ahead.look.len_is, root.1.ahead.look.short, ap length root.1.text_is)
+]
+
+pub same-there : (hs : List (Option Ahead)) (x y : Ahead) → slice_get hs 0 ≡ Some (Some x) → slice_get hs 0 ≡ Some (Some y) → x ≡ y
+same-there hs x y e h = cc

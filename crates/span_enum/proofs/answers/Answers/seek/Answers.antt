@@ -1,0 +1,17 @@
+use Rattle.std.proofs.Common.{◌≡◌, ◌+◌, ◌*◌, ◌≤◌, arith, ap, length}
+use Rattle.span_types.specs.Fibonacci.{looks_limit}
+use Rattle.span_enum.specs.Trail.{whole_text}
+use Rattle.span_enum.proofs.Leads.{kept-few, follow-within}
+use Rattle.span_enum.proofs.answers.Answers.seek.Goals as goal
+
+pub returns-clause-cost : goal.returns-clause-cost
+returns-clause-cost g c =
+    let ground = c.new-ground.result in
+    let t = c.args.after.now in
+    let k = c.args.dfa.now.variables in
+    let f = c.follow-state.ensures.followed in
+    let none : length c.put_root-end.new.trail.marks.items ≡ 0 = ap length c.put_root-end.ensures.fresh.no_marks in
+    let few : length c.put_root-end.new.trail.marks.items + length f.more ≤ 2 * k = kept-few ground t c.follow-state.new.trail.ahead.items k 1 _ _ f.more c.requires.tuple (omega (arith, none)) f.kept in
+    let within : c.follow-state.new.looks ≤ c.args.looks.now + 2 * looks_limit k (length (whole_text ground)) =
+    follow-within k (length (whole_text ground)) (length f.more) c.args.looks.now c.follow-state.new.looks (omega (arith, few)) (omega (arith, f.cost, c.put_root-end.ensures.cost)) in
+    rw (c.new-ground.ensures.view, c.new-ground.ensures.root) at within

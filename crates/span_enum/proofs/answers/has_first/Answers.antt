@@ -1,0 +1,43 @@
+use Rattle.std.proofs.Common.{suc, ◌≡◌, sym, subst, ◌∙◌, arith}
+use Rattle.span_enum.specs.Words.{CanRun}
+use Rattle.span_enum.specs.Trail.{whole_text}
+use Rattle.span_enum.proofs.Paths.{Tells}
+use Rattle.span_enum.proofs.Firsts.{run-from_table, table-from_run}
+use Rattle.span_enum.proofs.LastLetters.{true-from_is, is-from_true}
+use Rattle.span_enum.proofs.Roots.{same-there, run-nothing, goal-from_nothing, no-root, the-root, root-tells}
+use Rattle.span_enum.proofs.answers.has_first.Goals as goal
+
+pub returns-then-count-eq0 : goal.returns-then-count-eq0
+returns-then-count-eq0 c =
+    let g = c.args.ground.now in
+    let none = no-root g c.args.trail.now.marks.items c.args.trail.now.ahead.items c.requires.fresh (sym c.len-count.ensures.value ∙ c.if-count-eq0.true) in (
+      (λ h. subst (λ s. CanRun g.dfa.now 0 s g.finals) (sym none) (run-nothing g.dfa.now 0 g.finals (sym c.holds.ensures ∙ true-from_is _ h))),
+      (λ run. is-from_true _ (c.holds.ensures ∙ goal-from_nothing g.dfa.now 0 g.finals (subst (λ s. CanRun g.dfa.now 0 s g.finals) none run))),
+    )
+
+pub ahead_at-requires : goal.ahead_at-requires
+ahead_at-requires c =
+    let root = the-root c.args.ground.now c.args.trail.now.marks.items c.args.trail.now.ahead.items c.requires.fresh (λ e. c.if-count-eq0.false (c.len-count.ensures.value ∙ e)) in
+    (0, (root.0, omega (arith, c.if-count-eq0.false, c.len-count.ensures.value, c.requires.fresh.one), root.1.there))
+
+pub can_reach-requires : goal.can_reach-requires
+can_reach-requires c =
+    let g = c.args.ground.now in
+    let root = the-root g c.args.trail.now.marks.items c.args.trail.now.ahead.items c.requires.fresh (λ e. c.if-count-eq0.false (c.len-count.ensures.value ∙ e)) in
+    let one : c.len-count.result ≡ suc 0 = omega (arith, c.if-count-eq0.false, c.len-count.ensures.value, c.requires.fresh.one) in
+    let tells : Tells g.dfa.now (whole_text g) c.ahead_at.result.now.look.table.now = subst (λ h. Tells g.dfa.now (whole_text g) h.look.table.now)
+    (same-there c.args.trail.now.ahead.items root.0 c.ahead_at.result.now root.1.there (c.ahead_at.ensures 0 one)) (root-tells g c.args.trail.now.ahead.items root.0 c.requires.ground root.1) in
+    omega (arith, tells.shape.states, c.requires.ground.automaton.has_start)
+
+pub returns : goal.returns
+returns c =
+    let g = c.args.ground.now in
+    let a = g.dfa.now in
+    let root = the-root g c.args.trail.now.marks.items c.args.trail.now.ahead.items c.requires.fresh (λ e. c.if-count-eq0.false (c.len-count.ensures.value ∙ e)) in
+    let one : c.len-count.result ≡ suc 0 = omega (arith, c.if-count-eq0.false, c.len-count.ensures.value, c.requires.fresh.one) in
+    let tells : Tells g.dfa.now (whole_text g) c.ahead_at.result.now.look.table.now = subst (λ h. Tells g.dfa.now (whole_text g) h.look.table.now)
+    (same-there c.args.trail.now.ahead.items root.0 c.ahead_at.result.now root.1.there (c.ahead_at.ensures 0 one)) (root-tells g c.args.trail.now.ahead.items root.0 c.requires.ground root.1) in
+    let table = c.ahead_at.result.now.look.table.now in (
+      (λ h. run-from_table a (whole_text g) table 0 g.finals tells c.requires.ground.automaton.has_start c.can_reach.ensures.small (sym c.can_reach.ensures.value ∙ true-from_is _ h)),
+      (λ run. is-from_true _ (c.can_reach.ensures.value ∙ table-from_run a (whole_text g) table 0 g.finals tells c.requires.ground.automaton.has_start run)),
+    )

@@ -1,0 +1,5 @@
+use Rattle.std.proofs.Common.{◌*◌, ◌-◌, length}
+use Rattle.span_enum.proofs.follow.+follow.Given as goal
+
+abbrev pub decreases-follow : goal.decreases-follow
+decreases-follow g l = 2 * l.ground.now.dfa.now.variables - length l.trail.now.marks.items

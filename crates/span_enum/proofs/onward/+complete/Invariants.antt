@@ -1,0 +1,5 @@
+use Rattle.std.proofs.Common.{◌*◌, ◌-◌, length}
+use Rattle.span_enum.proofs.onward.+complete.Given as goal
+
+abbrev pub decreases-complete : goal.decreases-complete
+decreases-complete g l = 2 * l.ground.now.dfa.now.variables - length l.trail.now.marks.items

@@ -1,0 +1,12 @@
+use Rattle.std.proofs.Common.{ℕ, List}
+use Rattle.span_enum.specs.Trail.{Stands, CanEnd, PassesPlain}
+use Rattle.span_enum.specs.declared.trail.Ahead.{Ahead}
+use Rattle.span_enum.proofs.onward.pass_plain.Given as goal
+
+abbrev pub invariant-loop-place : goal.invariant-loop-place
+invariant-loop-place l = record {
+  passes : (at : ℕ) (c : List Ahead) → Stands l.ground l.trail.ahead.items at l.fn.from c → CanEnd l.ground l.fn.from.state c → PassesPlain l.ground l.trail.ahead.items at l.fn.from l.place c;
+}
+
+abbrev pub decreases-loop-place : goal.decreases-loop-place
+decreases-loop-place l = l.place.next

@@ -1,0 +1,164 @@
+//! The way along the marks of a given tuple.
+ghost use Rattle.std.specs.Prelude.{◌≡◌, ℕ, ◌<◌, ◌≤◌, ◌+◌, ◌*◌, ◌-◌, List, length, true, false, MatchOption};
+ghost use Rattle.marker_dfa.specs.Deterministic.{states_of};
+ghost use Rattle.slp_model.specs.declared.Node.TheVariants.{Byte};
+ghost use Rattle.slp_model.specs.Nodes.{IsNodeAt};
+ghost use Rattle.span_enum.specs.Trail.{IsGround, Stands, PassesTo, Dies, text_ahead, text_at, whole_text, CanGoDown, Lays, Fails, Fits, CanFollow, Followed, HasRoom, height_at};
+ghost use Rattle.span_enum.specs.declared.trail.Ahead.{Ahead};
+
+use crate::ground::Ground;
+use crate::onward::{left_of, right_of};
+use crate::sets::goals_between;
+use crate::trail::{Ahead, Mark, Place, Trail, ahead_at, last_of};
+use crate::walk::{first_mark, step};
+use node_store::Node;
+use span_types::{Steps, Tuple, mark_at};
+use std::sync::ledger::Ledger;
+
+/// Goes over the nodes ahead without marks, up to the one over this position, or to the end.
+fn pass_to<'a>(ground: &Ground<'a>, trail: &Trail<'a>, from: Place, position: u64) -> Option<Place>
+    requires ground { IsGround ground.now }
+    requires stands { (at : ℕ) × ((c : List Ahead) × Stands ground.now trail.now.ahead.items at from c × (at ≤ position) × (position ≤ at + length (text_ahead ground.now c))) }
+    ensures { (at : ℕ) (c : List Ahead) → Stands ground.now trail.now.ahead.items at from c → at ≤ position → position ≤ at + length (text_ahead ground.now c)
+        → MatchOption result (Dies ground.now from.state at (text_ahead ground.now c) position)
+        (λ to. PassesTo ground.now trail.now.ahead.items at position from to c) }
+{
+    let mut place = from;
+    while place.next > 0 {
+        let node = ahead_at(trail, place.next);
+        if position < node.at + node.look.len {
+            return Some(place);
+        }
+        let state = node.look.table.unmarked(place.state)?;
+        place = Place {
+            state,
+            next: node.next,
+        };
+    }
+    Some(place)
+}
+
+/// Keeps the tuple's mark at a letter.
+fn keep_mark<'a>(
+    ground: &Ground<'a>,
+    trail: &mut Trail<'a>,
+    here: &Ahead<'a>,
+    byte: u8,
+    state: u8,
+    t: &Tuple,
+    base: usize,
+)
+    requires ground { IsGround ground.now }
+    requires down { CanGoDown ground.now here.now state base trail.old.marks.items trail.old.marks.capacity trail.old.ahead.items trail.old.ahead.capacity }
+    requires byte { IsNodeAt ground.now.view.store.now here.now.id.index (Byte byte) }
+    ensures lays { Lays ground.now t.now here.now state here.now.at base trail.old.marks.items trail.new.marks.items trail.old.ahead.items trail.new.ahead.items }
+    ensures marks_room { trail.new.marks.capacity ≡ trail.old.marks.capacity }
+    ensures ahead_room { trail.new.ahead.capacity ≡ trail.old.ahead.capacity }
+{
+    trail.marks.push_reserved(Some(Mark {
+        at: here.at,
+        mark: mark_at(t, here.at),
+        byte,
+        state,
+        goals: here.goals,
+        next: here.next,
+        base,
+    }));
+}
+
+/// Goes down to the letter at this position, and keeps the tuple's mark there with the nodes that are then ahead. The answer
+/// is whether a run comes there.
+fn reach<'a, L: Ledger>(
+    ground: &Ground<'a>,
+    trail: &mut Trail<'a>,
+    here: &Ahead<'a>,
+    state: u8,
+    t: &Tuple,
+    position: u64,
+    base: usize,
+    looks: &mut Steps<L>,
+) -> bool
+    requires ground { IsGround ground.now }
+    requires down { CanGoDown ground.now here.now state base trail.old.marks.items trail.old.marks.capacity trail.old.ahead.items trail.old.ahead.capacity }
+    requires from { here.now.at ≤ position }
+    requires before { position < here.now.at + length (text_at ground.now here.now.id.index) }
+    ensures lays { result ≡ true → Lays ground.now t.now here.now state position base trail.old.marks.items trail.new.marks.items trail.old.ahead.items trail.new.ahead.items }
+    ensures fails { result ≡ false → Fails ground.now here.now state position base trail.old.marks.items trail.new.marks.items trail.old.ahead.items trail.new.ahead.items }
+    ensures cost { looks.new ≤ looks.old + 2 * height_at ground.now here.now.id.index }
+    ensures marks_room { trail.new.marks.capacity ≡ trail.old.marks.capacity }
+    ensures ahead_room { trail.new.ahead.capacity ≡ trail.old.ahead.capacity }
+{
+    let _states = ground.dfa.states();
+    match here.look.node {
+        Node::Byte(byte) => {
+            keep_mark(ground, trail, here, byte, state, t, base);
+            true
+        }
+        Node::Pair(l, r) => {
+            let left = ground.view.look(l, looks);
+            let right = ground.view.look(r, looks);
+            let sibling = right_of(here, &left, r, &right);
+            if position < sibling.at {
+                let between = goals_between(
+                    ground.dfa,
+                    here.look.table,
+                    left.table,
+                    right.table,
+                    state,
+                    here.goals,
+                );
+                trail.ahead.push_reserved(Some(sibling));
+                let child = left_of(here, l, &left, between, trail.ahead.len());
+                return reach(ground, trail, &child, state, t, position, base, looks);
+            }
+            match left.table.unmarked(state) {
+                Some(q) => reach(ground, trail, &sibling, q, t, position, base, looks),
+                None => {
+                    trail.ahead.truncate(base);
+                    false
+                }
+            }
+        }
+    }
+}
+
+/// Keeps the marks of the tuple from a position on, as far as a run follows them. The answer is the state at the end of the
+/// text, if a run follows all of them.
+pub(crate) fn follow<'a, L: Ledger>(
+    ground: &Ground<'a>,
+    trail: &mut Trail<'a>,
+    from: Place,
+    t: &Tuple,
+    at: u64,
+    end: u64,
+    looks: &mut Steps<L>,
+) -> Option<u8>
+    requires ground { IsGround ground.now }
+    requires tuple { length t.now ≡ ground.now.dfa.now.variables }
+    requires end { end ≡ length (whole_text ground.now) + 1 }
+    requires can { CanFollow ground.now t.now trail.old.ahead.items at from (length trail.old.marks.items) }
+    requires marks_fit { 2 * ground.now.dfa.now.variables ≤ trail.old.marks.capacity }
+    requires ahead_fit { length trail.old.ahead.items + 69 * (2 * ground.now.dfa.now.variables - length trail.old.marks.items) ≤ trail.old.ahead.capacity }
+    ensures followed { Followed ground.now t.now at trail.old.marks.items trail.new.marks.items trail.old.ahead.items trail.new.ahead.items looks.old looks.new result }
+    ensures marks_room { trail.new.marks.capacity ≡ trail.old.marks.capacity }
+    ensures ahead_room { trail.new.ahead.capacity ≡ trail.old.ahead.capacity }
+{
+    let position = first_mark(t, at, end);
+    let place = pass_to(ground, &*trail, from, position)?;
+    if place.next == 0 {
+        return Some(place.state);
+    }
+    let here = *ahead_at(&*trail, place.next);
+    let base = trail.ahead.len();
+    let comes = reach(ground, trail, &here, place.state, t, position, base, looks);
+    if !comes {
+        return None;
+    }
+    let last = *last_of(&*trail);
+    let state = step(ground.dfa, last.state, last.mark, last.byte)?;
+    let behind = Place {
+        state,
+        next: last.next,
+    };
+    follow(ground, trail, behind, t, position + 1, end, looks)
+}

@@ -1,0 +1,38 @@
+//! What an enumeration stands on.
+ghost use Rattle.std.specs.Prelude.{◌≡◌};
+ghost use Rattle.span_enum.specs.Listing.{IsReady};
+ghost use Rattle.span_enum.specs.Trail.{IsGround};
+
+use crate::walk::final_states;
+use marker_dfa::Dfa;
+use node_store::NodeId;
+use state_tables::View;
+
+/// An automaton, a way to look at nodes and at their tables of this automaton, the root of the text, and the states in which
+/// a text may end.
+#[derive(Clone, Copy)]
+pub(crate) struct Ground<'a> {
+    pub(crate) view: View<'a>,
+    pub(crate) dfa: &'a Dfa,
+    pub(crate) root: Option<NodeId>,
+    pub(crate) finals: u128,
+}
+
+impl<'a> Ground<'a> {
+    pub(crate) fn new(view: View<'a>, dfa: &'a Dfa, root: Option<NodeId>) -> Ground<'a>
+        requires { IsReady dfa.now view.store.now view.tables.now root }
+        ensures view { result.view ≡ view.entry }
+        ensures dfa { result.dfa.now ≡ dfa.now }
+        ensures root { result.root ≡ root }
+        ensures ground { IsGround result }
+    {
+        let _states = dfa.states();
+        let finals = final_states(dfa);
+        Ground {
+            view,
+            dfa,
+            root,
+            finals,
+        }
+    }
+}

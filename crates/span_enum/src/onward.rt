@@ -1,0 +1,257 @@
+//! The way on to the first marked text behind a place.
+ghost use Rattle.std.specs.Prelude.{◌≡◌, ℕ, ◌<◌, ◌≤◌, ◌+◌, ◌*◌, ◌-◌, ◌++◌, ◌^◌, true, bit_and, length, max, List, IfSome, MatchOption, Some};
+ghost use Rattle.slp_model.specs.Nodes.{IsNodeAt};
+ghost use Rattle.slp_model.specs.declared.Node.TheVariants.{Byte};
+ghost use Rattle.marker_dfa.specs.Deterministic.{states_of};
+ghost use Rattle.state_tables.specs.Meaning.{IsTable};
+ghost use Rattle.state_tables.specs.Table.{marked_of, unmarked_of};
+ghost use Rattle.span_enum.specs.Sets.{can_reach_of};
+ghost use Rattle.span_enum.specs.Words.{IsFork};
+ghost use Rattle.span_enum.specs.OverLeft.{IsOverLeft};
+ghost use Rattle.span_enum.specs.Trail.{IsGround, Stands, CanEnd, CanGo, CanFinish, PassesPlain, Turns, CanGoDown, Descends, Completes, Fits, height_at};
+ghost use Rattle.span_enum.specs.declared.trail.Ahead.{Ahead};
+
+use crate::ground::Ground;
+use crate::sets::goals_between;
+use crate::trail::{Ahead, Mark, Place, Trail, ahead_at};
+use crate::walk::greatest_mark;
+use node_store::{Node, NodeId};
+use span_types::{Steps, Tuple};
+use state_tables::{Look, Table};
+use std::sync::ledger::Ledger;
+
+/// The state after the text without marks, if there is no run with marks into a goal.
+fn plain_into(table: &Table, q: u8, goals: u128) -> Option<u8>
+    requires state { q < length table.now }
+    requires can { can_reach_of table.now q goals ≡ true }
+    ensures plain { MatchOption result (bit_and (marked_of table.now q) goals ≡ 0 → ⊥)
+        (λ n. (bit_and (marked_of table.now q) goals ≡ 0) × (unmarked_of table.now q ≡ Some n)) }
+    ensures within { IfSome result (λ n. n < length table.now) }
+    ensures small { marked_of table.now q < 2 ^ 128 }
+{
+    if table.marked(q) & goals != 0 {
+        return None;
+    }
+    match table.unmarked(q) {
+        Some(n) => Some(n),
+        None => unreachable!(),
+    }
+}
+
+/// The state after the text, if every run over it has no marks.
+fn sole_state(table: &Table, p: u8) -> Option<u8>
+    requires { p < length table.now }
+    ensures sole { IfSome result (λ q. (marked_of table.now p ≡ 0) × (unmarked_of table.now p ≡ Some q)) }
+    ensures within { IfSome result (λ q. q < length table.now) }
+{
+    if table.marked(p) == 0 {
+        table.unmarked(p)
+    } else {
+        None
+    }
+}
+
+/// Goes over the nodes ahead up to the first one over which a run with marks leads into a goal.
+fn pass_plain<'a>(ground: &Ground<'a>, trail: &Trail<'a>, from: Place) -> Place
+    requires ground { IsGround ground.now }
+    requires go { CanGo ground.now trail.now.ahead.items from }
+    ensures { (at : ℕ) (c : List Ahead) → Stands ground.now trail.now.ahead.items at from c → CanEnd ground.now from.state c
+        → (p : PassesPlain ground.now trail.now.ahead.items at from result c) × Turns result.state p.back }
+{
+    let mut place = from;
+    while place.next > 0 {
+        let node = ahead_at(trail, place.next);
+        match plain_into(node.look.table, place.state, node.goals) {
+            Some(state) => place = Place {
+                state,
+                next: node.next,
+            },
+            None => return place,
+        }
+    }
+    place
+}
+
+/// The right child of a node.
+pub(crate) fn right_of<'a>(
+    here: &Ahead<'a>,
+    left: &Look<'a>,
+    r: NodeId,
+    right: &Look<'a>,
+) -> Ahead<'a>
+    requires { here.now.at + left.now.len < 2 ^ 64 }
+    ensures { result ≡ record { id = r; look = right.now; at = here.now.at + left.now.len; goals = here.now.goals; next = here.now.next } }
+{
+    Ahead {
+        id: r,
+        look: *right,
+        at: here.at + left.len,
+        goals: here.goals,
+        next: here.next,
+    }
+}
+
+/// The left child of a node, whose right sibling is the last node ahead.
+pub(crate) fn left_of<'a>(
+    here: &Ahead<'a>,
+    l: NodeId,
+    left: &Look<'a>,
+    goals: u128,
+    next: usize,
+) -> Ahead<'a>
+    ensures { result ≡ record { id = l; look = left.now; at = here.now.at; goals = goals; next = next } }
+{
+    Ahead {
+        id: l,
+        look: *left,
+        at: here.at,
+        goals,
+        next,
+    }
+}
+
+/// How the first marked text over a pair goes over its left child.
+enum OverLeft {
+    /// Without marks, into this state.
+    Plain(u8),
+    /// With marks, into one of these states.
+    Marked(u128),
+}
+
+/// How the first marked text over a pair goes over its left child, where some run over the pair has marks.
+fn over_left(ground: &Ground<'_>, here: &Ahead<'_>, left: &Table, right: &Table, p: u8) -> OverLeft
+    requires ground { IsGround ground.now }
+    requires fork { IsFork ground.now.dfa.now here.now.look.table.now left.now right.now }
+    requires state { p < states_of ground.now.dfa.now }
+    requires some { bit_and (marked_of here.now.look.table.now p) here.now.goals ≡ 0 → ⊥ }
+    ensures over { (s u : List ℕ) → IsTable ground.now.dfa.now (s ++ u) here.now.look.table.now → IsTable ground.now.dfa.now s left.now
+        → IsTable ground.now.dfa.now u right.now → IsOverLeft ground.now.dfa.now p s u here.now.goals left.now right.now result }
+{
+    let _marked = here.look.table.marked(p);
+    if let Some(q) = sole_state(left, p) {
+        return OverLeft::Plain(q);
+    }
+    let between = goals_between(ground.dfa, here.look.table, left, right, p, here.goals);
+    match plain_into(left, p, between) {
+        Some(q) => OverLeft::Plain(q),
+        None => OverLeft::Marked(between),
+    }
+}
+
+/// Keeps the greatest mark at a letter, and writes it. The place behind the letter is the answer.
+fn place_mark<'a>(
+    ground: &Ground<'a>,
+    trail: &mut Trail<'a>,
+    here: &Ahead<'a>,
+    byte: u8,
+    state: u8,
+    base: usize,
+    out: &mut Tuple,
+) -> Place
+    requires ground { IsGround ground.now }
+    requires down { CanGoDown ground.now here.now state base trail.old.marks.items trail.old.marks.capacity trail.old.ahead.items trail.old.ahead.capacity }
+    requires byte { IsNodeAt ground.now.view.store.now here.now.id.index (Byte byte) }
+    requires some { bit_and (marked_of here.now.look.table.now state) here.now.goals ≡ 0 → ⊥ }
+    ensures descends { (looks : ℕ) → Descends ground.now here.now state base trail.old.marks.items trail.new.marks.items trail.old.ahead.items trail.new.ahead.items looks looks out.old out.new result }
+    ensures marks_room { trail.new.marks.capacity ≡ trail.old.marks.capacity }
+    ensures ahead_room { trail.new.ahead.capacity ≡ trail.old.ahead.capacity }
+{
+    let _marked = here.look.table.marked(state);
+    match greatest_mark(ground.dfa, state, byte, here.goals, 65536) {
+        Some(step) => {
+            trail.marks.push_reserved(Some(Mark {
+                at: here.at,
+                mark: step.mark,
+                byte,
+                state,
+                goals: here.goals,
+                next: here.next,
+                base,
+            }));
+            *out = out.with_mark(step.mark, here.at);
+            Place {
+                state: step.state,
+                next: here.next,
+            }
+        }
+        None => unreachable!(),
+    }
+}
+
+/// Goes down to the first mark of the first marked text over a node, and keeps it with the nodes that are then ahead.
+fn descend<'a, L: Ledger>(
+    ground: &Ground<'a>,
+    trail: &mut Trail<'a>,
+    here: &Ahead<'a>,
+    state: u8,
+    base: usize,
+    out: &mut Tuple,
+    looks: &mut Steps<L>,
+) -> Place
+    requires ground { IsGround ground.now }
+    requires down { CanGoDown ground.now here.now state base trail.old.marks.items trail.old.marks.capacity trail.old.ahead.items trail.old.ahead.capacity }
+    requires some { bit_and (marked_of here.now.look.table.now state) here.now.goals ≡ 0 → ⊥ }
+    ensures descends { Descends ground.now here.now state base trail.old.marks.items trail.new.marks.items trail.old.ahead.items trail.new.ahead.items looks.old looks.new out.old out.new result }
+    ensures marks_room { trail.new.marks.capacity ≡ trail.old.marks.capacity }
+    ensures ahead_room { trail.new.ahead.capacity ≡ trail.old.ahead.capacity }
+{
+    match here.look.node {
+        Node::Byte(b) => place_mark(ground, trail, here, b, state, base, out),
+        Node::Pair(l, r) => {
+            let left = ground.view.look(l, looks);
+            let right = ground.view.look(r, looks);
+            let sibling = right_of(here, &left, r, &right);
+            match over_left(ground, here, left.table, right.table, state) {
+                OverLeft::Plain(q) => descend(ground, trail, &sibling, q, base, out, looks),
+                OverLeft::Marked(between) => {
+                    trail.ahead.push_reserved(Some(sibling));
+                    let child = left_of(here, l, &left, between, trail.ahead.len());
+                    descend(ground, trail, &child, state, base, out, looks)
+                }
+            }
+        }
+    }
+}
+
+/// Writes the marks of the first marked text behind the place, and keeps them. Of the nodes ahead the first `base` stay.
+pub(crate) fn complete<'a, L: Ledger>(
+    ground: &Ground<'a>,
+    trail: &mut Trail<'a>,
+    from: Place,
+    base: usize,
+    out: &mut Tuple,
+    looks: &mut Steps<L>,
+) -> u8
+    requires ground { IsGround ground.now }
+    requires finish { CanFinish ground.now trail.old.ahead.items from (2 * ground.now.dfa.now.variables - length trail.old.marks.items) }
+    requires fits { Fits ground.now base trail.old.ahead.items }
+    requires low { base ≤ length trail.old.ahead.items }
+    requires marks_fit { 2 * ground.now.dfa.now.variables ≤ trail.old.marks.capacity }
+    requires ahead_fit { base + 69 * (2 * ground.now.dfa.now.variables - length trail.old.marks.items) ≤ trail.old.ahead.capacity }
+    ensures completes { Completes ground.now from base trail.old.marks.items trail.new.marks.items trail.old.ahead.items trail.new.ahead.items looks.old looks.new result out.old out.new }
+    ensures within { result < states_of ground.now.dfa.now }
+    ensures marks_room { trail.new.marks.capacity ≡ trail.old.marks.capacity }
+    ensures ahead_room { trail.new.ahead.capacity ≡ trail.old.ahead.capacity }
+{
+    let place = pass_plain(ground, &*trail, from);
+    if place.next == 0 {
+        trail.ahead.truncate(base);
+        return place.state;
+    }
+    let here = *ahead_at(&*trail, place.next);
+    trail.ahead.truncate(cut_before(place.next, base));
+    let behind = descend(ground, trail, &here, place.state, base, out, looks);
+    let kept = trail.ahead.len();
+    complete(ground, trail, behind, kept, out, looks)
+}
+
+/// How many nodes stay where the one with this place, counted from 1, is left ahead of nothing: those before it, and at
+/// least the base.
+fn cut_before(place: usize, base: usize) -> usize
+    requires { 0 < place }
+    ensures base { base ≤ result }
+    ensures place { place ≤ result + 1 }
+    ensures least { result ≡ max base (place - 1) }
+{
+    if base < place { place - 1 } else { base }
+}
