@@ -1,17 +1,18 @@
 -- Bundles that gain edges, one by one.
-use Rattle.std.proofs.Common.{◌≡◌, ℕ, ◌+◌, ◌^◌, ◌<◌, ◌≤◌, ◌↔◌, ◌⊎◌, inl, inr, sym, ap, subst, ◌∙◌, arith, Bool, true, false, List, [], ◌∷◌, ◌++◌, length, Some, slice_get, slice_index_or, get_or, set, replicate, length-set, nat_eq}
-use Rattle.std.proofs.lemmas.List.{get_or-set_same, get_or-set_other, length-replicate}
+use Rattle.std.proofs.Common.{◌≡◌, ℕ, ◌+◌, ◌-◌, ◌^◌, ◌<◌, ◌≤◌, ◌↔◌, ◌⊎◌, inl, inr, refl, sym, ap, subst, ◌∙◌, arith, Bool, true, false, List, [], ◌∷◌, ◌++◌, length, Some, slice_get, slice_index_or, get_or, set, Contains, length-append, option_map, zero, suc, replicate, nat_eq}
+use Rattle.std.proofs.lemmas.List.{ext_get_or, length-replicate}
 use Rattle.std.proofs.lemmas.Bool.Decides.{eqb_tells}
 use Rattle.std.proofs.lemmas.List.Sorted.{Contains-permutation, IsPermutation-sym}
-use Rattle.std.proofs.lemmas.Option.{slice_get-get_or, get_or_from_slice_get}
-use Rattle.std.specs.List.Sorted.{IsPermutation}
+use Rattle.std.proofs.lemmas.Option.{get_or_from_slice_get}
+use Rattle.std.specs.List.Sorted.{IsNonDecreasingBy, IsPermutation}
 use Rattle.marker_nfa.specs.Automaton.{Automaton, Moves}
 use Rattle.marker_nfa.specs.declared.nfa.Edge.{Edge}
 use Rattle.marker_dfa.specs.declared.bundles.Bundle.{Bundle}
+use Rattle.marker_dfa.specs.declared.bundles.Readers.{Readers}
 use Rattle.marker_dfa.specs.Subsets.{Subset, IsIn}
-use Rattle.marker_dfa.specs.Making.{AreBundles, AreWellmade, Carries, EdgeMoves, GainsEdge, GainsStates, IsLike, SomeCarries}
-use Rattle.marker_dfa.proofs.Lists.{at_contains, contains_at, get_push, get_within, one_value, push_get, push_last}
-use Rattle.marker_dfa.proofs.Leaving.{insert_gains}
+use Rattle.marker_dfa.specs.Making.{AreBundles, AreInOrder, AreReaders, AreWellmade, BundleAt, bytes_of, Carries, EdgeMoves, GainsEdge, GainsStates, IsLike, MarksFall, SomeCarries}
+use Rattle.marker_dfa.proofs.Lists.{at_contains, contains_at, contains_push, length_map, get_push, get_within, one_value, push_get, push_last, set_cases, set_here, set_there}
+use Rattle.marker_dfa.proofs.Leaving.{four_small, insert_gains}
 use Rattle.marker_dfa.proofs.Tracks.{blank_out}
 
 -- the steps of the first n edges
@@ -92,27 +93,23 @@ in_any_order a old new moved h = record {
     from : (o m b p : ℕ) → SomeCarries old o m b p → SomeCarries new o m b p
     from o m b p s = let w = s.1 in let c = on s.0 w.0 w.1 in (c.0, (w.0, c.1, w.2))
 
--- an element of a list in which one was set
-set_cases : {X : Type 0} (xs : List X) (k : ℕ) (x : X) (i : ℕ) (y : X) → k < length xs → slice_get (set xs k x) i ≡ Some y → ((i ≡ k) × (x ≡ y)) ⊎ ((i ≡ k → ⊥) × (slice_get xs i ≡ Some y))
-set_cases {X} xs k x i y lt h = go (eqb_tells i k)
+-- bundles by a key that rises where marks fall
+pub in_order : (a : Automaton) (old new : List Bundle) → a.variables ≤ 8 → IsPermutation old new → IsNonDecreasingBy (λ (w : Bundle). 65535 - w.mark) new → AreBundles a old → AreInOrder a new
+in_order a old new few moved rise h = record { are = there; fall = λ i j v w l g k. falls i j v w l g k }
   where
-    within : i < length xs
-    within = omega (arith, get_within (set xs k x) i y h, length-set xs k x)
+    there : AreBundles a new
+    there = in_any_order a old new moved h
 
-    value : get_or (set xs k x) i y ≡ y
-    value = get_or_from_slice_get (set xs k x) i y y h
+    small : (i : ℕ) (w : Bundle) → slice_get new i ≡ Some w → w.mark ≤ 65535
+    small i w g = let s = four_small a.variables (4 ^ a.variables) few refl in omega (arith, there.wellmade.marks i w g, s)
 
-    go : ((nat_eq i k ≡ true) × (i ≡ k)) ⊎ ((nat_eq i k ≡ false) × (i ≡ k → ⊥)) → ((i ≡ k) × (x ≡ y)) ⊎ ((i ≡ k → ⊥) × (slice_get xs i ≡ Some y))
-    go (inl e) = inl (e.1, sym (get_or-set_same xs k x y lt) ∙ ap (λ j. get_or (set xs k x) j y) (sym e.1) ∙ value)
-    go (inr e) = inr (e.1, slice_get-get_or xs i y within ∙ ap Some (sym (get_or-set_other xs k i x y e.1) ∙ value))
-
-set_here : {X : Type 0} (xs : List X) (k : ℕ) (x : X) → k < length xs → slice_get (set xs k x) k ≡ Some x
-set_here xs k x lt = slice_get-get_or (set xs k x) k x (omega (arith, lt, length-set xs k x)) ∙ ap Some (get_or-set_same xs k x x lt)
-
-set_there : {X : Type 0} (xs : List X) (k : ℕ) (x : X) (i : ℕ) (y : X) → (i ≡ k → ⊥) → slice_get xs i ≡ Some y → slice_get (set xs k x) i ≡ Some y
-set_there xs k x i y ne h =
-    let lt = get_within xs i y h in
-    slice_get-get_or (set xs k x) i y (omega (arith, lt, length-set xs k x)) ∙ ap Some (get_or-set_other xs k i x y ne ∙ get_or_from_slice_get xs i y y h)
+    falls : MarksFall new
+    falls i j v w l g k =
+        let up = rise i j v (omega (arith, l)) (get_within new j w k) in
+        let first : get_or new i v ≡ v = get_or_from_slice_get new i v v g in
+        let second : get_or new j v ≡ w = get_or_from_slice_get new j w v k in
+        let keys : 65535 - v.mark ≤ 65535 - w.mark = omega (arith, up, ap (λ (b : Bundle). 65535 - b.mark) first, ap (λ (b : Bundle). 65535 - b.mark) second) in
+        omega (arith, keys, small i v g, small j w k)
 
 -- one bundle gains one source
 module _ (old : List Bundle) (k : ℕ) (w v : Bundle) (e : Edge) (at : slice_get old k ≡ Some w) (like : IsLike w e) (gains : GainsStates w.sources v.sources (λ p. e.from ≡ p)) (mark : v.mark ≡ w.mark) (letters : v.letters ≡ w.letters) (target : v.to ≡ w.to) where
@@ -208,3 +205,107 @@ module _ (old : List Bundle) (v : Bundle) (e : Edge) (n : ℕ) (sources : v.sour
       targets : (i : ℕ) (u : Bundle) → (slice_get old i ≡ Some u) ⊎ ((i ≡ length old) × (v ≡ u)) → u.to < a.states
       targets i u (inl q) = h.targets i u q
       targets i u (inr q) = omega (arith, ap (λ (z : Bundle). z.to) q.1, target, within)
+
+-- those of the first n bundles that read a byte
+pub record ReadersUpTo (bundles : List Bundle) (b n : ℕ) (places : List ℕ) : Type 0 where
+  pub rising : (i j m k : ℕ) → i < j → slice_get places i ≡ Some m → slice_get places j ≡ Some k → m < k
+  pub members : (i : ℕ) → Contains places i ↔ (i < n) × BundleAt bundles i (λ w. slice_index_or w.letters b false ≡ true)
+
+pub readers_start : (bundles : List Bundle) (b : ℕ) → ReadersUpTo bundles b 0 []
+readers_start bundles b = record {
+  rising = λ i j m k l g h. absurd (cc);
+  members = λ i. ((λ c. (let l : c.0 < 0 = c.1 in absurd (omega (arith, l)))), λ s. (let l : i < 0 = s.0 in absurd (omega (arith, l))));
+}
+
+module _ (bundles : List Bundle) (b n : ℕ) (w : Bundle) (places : List ℕ) (at : slice_get bundles n ≡ Some w) (h : ReadersUpTo bundles b n places) where
+  nearer : (j : ℕ) → j < n + 1 → (j < n) ⊎ (j ≡ n)
+  nearer j l = grind arith
+
+  letter_here : (i : ℕ) → BundleAt bundles i (λ w. slice_index_or w.letters b false ≡ true) → i ≡ n → slice_index_or w.letters b false ≡ true
+  letter_here i s q =
+      let same : s.0 ≡ w = one_value bundles n s.0 w (ap (slice_get bundles) (sym q) ∙ s.1) at in
+      subst (λ (v : Bundle). slice_index_or v.letters b false ≡ true) same s.2
+
+  pub readers_more : slice_index_or w.letters b false ≡ true → ReadersUpTo bundles b (n + 1) (places ++ n ∷ [])
+  readers_more letter = record {
+    rising = λ i j m k l g q. rises i j m k l (get_push places n m i g) (get_push places n k j q);
+    members = λ i. ((λ c. to i ((contains_push places n i).0 c)), λ s. (contains_push places n i).1 (from i s.1 (nearer i s.0)));
+  }
+    where
+      below : (i m : ℕ) → slice_get places i ≡ Some m → m < n
+      below i m g = ((h.members m).0 (contains_at places i m g)).0
+
+      rises : (i j m k : ℕ) → i < j → (slice_get places i ≡ Some m) ⊎ ((i ≡ length places) × (n ≡ m)) → (slice_get places j ≡ Some k) ⊎ ((j ≡ length places) × (n ≡ k)) → m < k
+      rises i j m k l (inl g) (inl q) = h.rising i j m k l g q
+      rises i j m k l (inl g) (inr q) = omega (arith, below i m g, q.1)
+      rises i j m k l (inr g) (inl q) = absurd (omega (arith, l, g.0, get_within places j k q))
+      rises i j m k l (inr g) (inr q) = absurd (omega (arith, l, g.0, q.0))
+
+      to : (i : ℕ) → Contains places i ⊎ (i ≡ n) → (i < n + 1) × BundleAt bundles i (λ w. slice_index_or w.letters b false ≡ true)
+      to i (inl c) = let s = (h.members i).0 c in (omega (arith, s.0), s.1)
+      to i (inr q) = (omega (arith, q), (w, ap (slice_get bundles) q ∙ at, letter))
+
+      from : (i : ℕ) → BundleAt bundles i (λ w. slice_index_or w.letters b false ≡ true) → (i < n) ⊎ (i ≡ n) → Contains places i ⊎ (i ≡ n)
+      from i s (inl l) = inl ((h.members i).1 (l, s))
+      from i s (inr q) = inr q
+
+  pub readers_pass : slice_index_or w.letters b false ≡ false → ReadersUpTo bundles b (n + 1) places
+  readers_pass without = record {
+    rising = h.rising;
+    members = λ i. ((λ c. (let s = (h.members i).0 c in (omega (arith, s.0), s.1))), λ s. (h.members i).1 (from i s.1 (nearer i s.0)));
+  }
+    where
+      from : (i : ℕ) → BundleAt bundles i (λ w. slice_index_or w.letters b false ≡ true) → (i < n) ⊎ (i ≡ n) → (i < n) × BundleAt bundles i (λ w. slice_index_or w.letters b false ≡ true)
+      from i s (inl l) = (l, s)
+      from i s (inr q) = let bad : false ≡ true = sym without ∙ letter_here i s q in absurd (cc)
+
+pub readers_end : (bundles : List Bundle) (readers : Readers) (n : ℕ) → length bundles ≤ n → ReadersUpTo bundles readers.byte n readers.places.items → AreReaders bundles readers
+readers_end bundles readers n le h = record {
+  rising = h.rising;
+  members = λ i. ((λ c. ((h.members i).0 c).1), λ s. (h.members i).1 (omega (arith, get_within bundles i s.0 s.1, le), s));
+}
+
+-- the readers of the first n bytes
+pub record AllReadersUpTo (bundles : List Bundle) (bytes : List ℕ) (n : ℕ) (readers : List Readers) : Type 0 where
+  pub size : length readers ≡ n
+  pub each : (k : ℕ) (r : Readers) → slice_get readers k ≡ Some r → AreReaders bundles r
+  pub byte : (k : ℕ) (r : Readers) → slice_get readers k ≡ Some r → slice_get bytes k ≡ Some r.byte
+
+pub all_readers_start : (bundles : List Bundle) (bytes : List ℕ) → AllReadersUpTo bundles bytes 0 []
+all_readers_start bundles bytes = record { size = refl; each = λ k r g. absurd (cc); byte = λ k r g. absurd (cc) }
+
+pub all_readers_more : (bundles : List Bundle) (bytes : List ℕ) (n b : ℕ) (old : List Readers) (r : Readers) → slice_get bytes n ≡ Some b → AllReadersUpTo bundles bytes n old → AreReaders bundles r → r.byte ≡ b → AllReadersUpTo bundles bytes (n + 1) (old ++ r ∷ [])
+all_readers_more bundles bytes n b old r at h are e = record {
+  size = omega (arith, length-append old (r ∷ []), h.size);
+  each = λ k s g. each k s (get_push old r s k g);
+  byte = λ k s g. byte k s (get_push old r s k g);
+}
+  where
+    each : (k : ℕ) (s : Readers) → (slice_get old k ≡ Some s) ⊎ ((k ≡ length old) × (r ≡ s)) → AreReaders bundles s
+    each k s (inl g) = h.each k s g
+    each k s (inr q) = subst (λ (z : Readers). AreReaders bundles z) q.1 are
+
+    byte : (k : ℕ) (s : Readers) → (slice_get old k ≡ Some s) ⊎ ((k ≡ length old) × (r ≡ s)) → slice_get bytes k ≡ Some s.byte
+    byte k s (inl g) = h.byte k s g
+    byte k s (inr q) = ap (slice_get bytes) (q.0 ∙ h.size) ∙ at ∙ ap Some (sym e) ∙ ap (λ (z : Readers). Some z.byte) q.1
+
+pub byte_at : (readers : List Readers) (k : ℕ) (r : Readers) → slice_get readers k ≡ Some r → slice_get (bytes_of readers) k ≡ Some r.byte
+byte_at [] k r h = absurd (cc)
+byte_at (s ∷ readers) zero r h = ap (option_map (λ (z : Readers). z.byte)) h
+byte_at (s ∷ readers) (suc k) r h = byte_at readers k r h
+
+pub all_bytes : (bundles : List Bundle) (bytes : List ℕ) (n : ℕ) (readers : List Readers) → length bytes ≡ n → AllReadersUpTo bundles bytes n readers → bytes_of readers ≡ bytes
+all_bytes bundles bytes n readers size h = ext_get_or 0 (bytes_of readers) bytes (count ∙ h.size ∙ sym size) (λ p lt. go p (omega (arith, lt, count)))
+  where
+    count : length (bytes_of readers) ≡ length readers
+    count = length_map (λ (r : Readers). r.byte) readers
+
+    some_reader : (readers : List Readers) (p : ℕ) → p < length readers → (r : Readers) × (slice_get readers p ≡ Some r)
+    some_reader [] p lt = absurd (omega (arith, lt))
+    some_reader (r ∷ readers) zero lt = (r, refl)
+    some_reader (r ∷ readers) (suc p) lt = some_reader readers p (omega (arith, lt))
+
+    go : (p : ℕ) → p < length readers → get_or (bytes_of readers) p 0 ≡ get_or bytes p 0
+    go p lt =
+        let r = some_reader readers p lt in
+        get_or_from_slice_get (bytes_of readers) p r.0.byte 0 (byte_at readers p r.0 r.1) ∙ sym (get_or_from_slice_get bytes p r.0.byte 0 (h.byte p r.0 r.1))

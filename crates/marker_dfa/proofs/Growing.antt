@@ -146,24 +146,6 @@ cell_more a old new x b alphabet k ms ts m r falls e at t c = record {
     within' j n (inl h) = let w = c.within j n h in (w.0, omega (arith, w.1), w.2)
     within' j n (inr h) = (k, omega arith, at ∙ ap Some h.1)
 
--- one more mark, which leads nowhere
-pub cell_pass : (a : Automaton) (subsets : List Subset) (x y : Subset) (b : ℕ) (alphabet : List ℕ) (k : ℕ) (ms ts : List ℕ) (m : ℕ) → slice_get alphabet k ≡ Some m → IsMove a x m b y → ((p : ℕ) → IsIn y p → ⊥) → IsCellUpTo a subsets x b alphabet k ms ts → IsCellUpTo a subsets x b alphabet (k + 1) ms ts
-cell_pass a subsets x y b alphabet k ms ts m at mv no_one c = record {
-  even = c.even;
-  sound = c.sound;
-  complete = λ i n o p l h o_in w. complete' i n o p h o_in w (later i k l);
-  falling = c.falling;
-  within = λ j n h. (let w = c.within j n h in (w.0, omega (arith, w.1), w.2));
-}
-  where
-    complete' : (i n o p : ℕ) → slice_get alphabet i ≡ Some n → IsIn x o → Moves a o n b p → (i < k) ⊎ (i ≡ k) → (j : ℕ) × (slice_get ms j ≡ Some n)
-    complete' i n o p h o_in w (inl l) = c.complete i n o p l h o_in w
-    complete' i n o p h o_in w (inr l) =
-        let some : Some n ≡ Some m = sym h ∙ ap (slice_get alphabet) l ∙ at in
-        let same : n ≡ m = cc in
-        let M : ℕ → Type 0 = λ q. Moves a o q b p in
-        absurd (no_one p ((mv.members p).1 (o, o_in, subst M same w)))
-
 mark_there : (alphabet : List ℕ) (k : ℕ) → k < length alphabet → slice_get alphabet k ≡ Some (get_or alphabet k 0)
 mark_there alphabet k lt = slice_get-get_or alphabet k 0 lt
 
@@ -189,13 +171,6 @@ module _ (a : Automaton) (alphabet : List ℕ) (b k : ℕ) (old mid : List Subse
         extends = both_extend old mid new c.extends ext;
         cell = cell_more a mid new x b alphabet k ms ts (get_or alphabet k 0) q falls ext (mark_there alphabet k up) target c.cell;
       }
-
-  pub step_pass : Cells a alphabet x b k old mid ms ts → k < length alphabet → IsMove a x (get_or alphabet k 0) b y → ((p : ℕ) → IsIn y p → ⊥) → Cells a alphabet x b (k + 1) old mid ms ts
-  step_pass c up mv none = record {
-    found = c.found;
-    extends = c.extends;
-    cell = cell_pass a mid x y b alphabet k ms ts (get_or alphabet k 0) (mark_there alphabet k up) mv none c.cell;
-  }
 
 -- a cell over more sets
 pub cell_stays : (a : Automaton) (old new : List Subset) (x : Subset) (b : ℕ) (ms ts : List ℕ) → Extends old new → IsCell a old x b ms ts → IsCell a new x b ms ts

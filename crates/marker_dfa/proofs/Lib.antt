@@ -1,7 +1,6 @@
 pub mod Lists
-pub mod Filling
 pub mod Splitting
-pub mod Bits
+pub mod StateWords
 pub mod Finding
 pub mod Tracks
 pub mod Leaving

@@ -1,5 +1,7 @@
 -- Elements of lists that grow or change at one place.
-use Rattle.std.proofs.Common.{◌≡◌, ℕ, zero, suc, ◌<◌, ◌↔◌, ◌⊎◌, inl, inr, refl, sym, ap, subst, ◌∙◌, arith, List, [], ◌∷◌, ◌++◌, length, map, Some, slice_get, slice_index_or, set, Contains, replicate}
+use Rattle.std.proofs.Common.{◌≡◌, ℕ, zero, suc, ◌<◌, ◌↔◌, ◌⊎◌, inl, inr, refl, sym, ap, subst, ◌∙◌, arith, List, [], ◌∷◌, ◌++◌, length, map, Some, slice_get, slice_index_or, get_or, set, Contains, length-set, nat_eq, true, false}
+use Rattle.std.proofs.lemmas.Bool.Decides.{eqb_tells}
+use Rattle.std.proofs.lemmas.List.{get_or-set_same, get_or-set_other}
 use Rattle.std.proofs.lemmas.List.Elements.{Contains-append_left, Contains-append_right, Contains-append_cases}
 use Rattle.std.proofs.lemmas.Option.{slice_get_within, slice_get-get_or, get_or_from_slice_get}
 
@@ -69,10 +71,24 @@ get_map f [] k d e lt = absurd (omega (arith, lt))
 get_map f (x ∷ xs) zero d e lt = refl
 get_map f (x ∷ xs) (suc k) d e lt = get_map f xs k d e (omega (arith, lt))
 
-pub map_push : {X Y : Type 0} (f : X → Y) (xs : List X) (x : X) → map f (xs ++ x ∷ []) ≡ map f xs ++ f x ∷ []
-map_push f [] x = refl
-map_push f (y ∷ xs) x = ap (λ l. f y ∷ l) (map_push f xs x)
+-- an element of a list in which one was set
+pub set_cases : {X : Type 0} (xs : List X) (k : ℕ) (x : X) (i : ℕ) (y : X) → k < length xs → slice_get (set xs k x) i ≡ Some y → ((i ≡ k) × (x ≡ y)) ⊎ ((i ≡ k → ⊥) × (slice_get xs i ≡ Some y))
+set_cases {X} xs k x i y lt h = go (eqb_tells i k)
+  where
+    within : i < length xs
+    within = omega (arith, get_within (set xs k x) i y h, length-set xs k x)
 
-pub replicate_push : {X : Type 0} (n : ℕ) (x : X) → replicate n x ++ x ∷ [] ≡ replicate (suc n) x
-replicate_push zero x = refl
-replicate_push (suc n) x = ap (λ l. x ∷ l) (replicate_push n x)
+    value : get_or (set xs k x) i y ≡ y
+    value = get_or_from_slice_get (set xs k x) i y y h
+
+    go : ((nat_eq i k ≡ true) × (i ≡ k)) ⊎ ((nat_eq i k ≡ false) × (i ≡ k → ⊥)) → ((i ≡ k) × (x ≡ y)) ⊎ ((i ≡ k → ⊥) × (slice_get xs i ≡ Some y))
+    go (inl e) = inl (e.1, sym (get_or-set_same xs k x y lt) ∙ ap (λ j. get_or (set xs k x) j y) (sym e.1) ∙ value)
+    go (inr e) = inr (e.1, slice_get-get_or xs i y within ∙ ap Some (sym (get_or-set_other xs k i x y e.1) ∙ value))
+
+pub set_here : {X : Type 0} (xs : List X) (k : ℕ) (x : X) → k < length xs → slice_get (set xs k x) k ≡ Some x
+set_here xs k x lt = slice_get-get_or (set xs k x) k x (omega (arith, lt, length-set xs k x)) ∙ ap Some (get_or-set_same xs k x x lt)
+
+pub set_there : {X : Type 0} (xs : List X) (k : ℕ) (x : X) (i : ℕ) (y : X) → (i ≡ k → ⊥) → slice_get xs i ≡ Some y → slice_get (set xs k x) i ≡ Some y
+set_there xs k x i y ne h =
+    let lt = get_within xs i y h in
+    slice_get-get_or (set xs k x) i y (omega (arith, lt, length-set xs k x)) ∙ ap Some (get_or-set_other xs k i x y ne ∙ get_or_from_slice_get xs i y y h)

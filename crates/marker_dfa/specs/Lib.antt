@@ -2,3 +2,4 @@ pub mod Subsets
 pub mod Deterministic
 pub mod Refusals
 pub mod Making
+pub mod StateWords

@@ -1,41 +1,19 @@
 -- What holds while an automaton of sets is made.
-use Rattle.std.specs.Prelude.{◌≡◌, ℕ, ◌<◌, ◌≤◌, ◌^◌, ◌↔◌, ◌⊎◌, Bool, true, false, List, [], ◌∷◌, ◌++◌, length, Some, slice_get, slice_index_or, Contains}
+use Rattle.std.specs.Prelude.{◌≡◌, ℕ, ◌+◌, ◌<◌, ◌≤◌, ◌^◌, ◌↔◌, ◌⊎◌, Bool, true, false, List, [], ◌∷◌, ◌++◌, length, map, replicate, Some, slice_get, slice_index_or, slice_set, Contains}
 use Rattle.marker_nfa.specs.Automaton.{Automaton, Moves, MayEnd}
 use Rattle.marker_nfa.specs.declared.nfa.Edge.{Edge}
 use Rattle.marker_dfa.specs.Subsets.{Subset, IsIn, IsMove, IsReached, start_set}
 use Rattle.marker_dfa.specs.declared.classes.ByteClasses.{ByteClasses}
 use Rattle.marker_dfa.specs.declared.bundles.Bundle.{Bundle}
+use Rattle.marker_dfa.specs.declared.bundles.Readers.{Readers}
 use Rattle.marker_dfa.specs.declared.exits.Exits.{Exits}
+use Rattle.marker_dfa.specs.declared.exits.Step.{Step}
 use Rattle.marker_dfa.specs.declared.dfa.Cell.{Cell}
 use Rattle.marker_dfa.specs.declared.dfa.Row.{Row}
-
--- a number is in a bucket
-abbrev pub InBucket : List (List ℕ) → ℕ → ℕ → Type 0
-InBucket buckets k i = Contains (slice_index_or buckets k []) i
-
--- what P says comes to the buckets
-pub record AddsTo (old new : List (List ℕ)) (P : ℕ → ℕ → Type 0) : Type 0 where
-  pub size : length new ≡ length old
-  pub members : (k i : ℕ) → InBucket new k i ↔ InBucket old k i ⊎ P k i
 
 -- each number is below those before it
 abbrev pub IsFalling : List ℕ → Type 0
 IsFalling ms = (i j m n : ℕ) → i < j → slice_get ms i ≡ Some m → slice_get ms j ≡ Some n → n < m
-
--- a falling list of exactly the numbers of the buckets that aren't empty
-pub record AreFilled (buckets : List (List ℕ)) (ks : List ℕ) : Type 0 where
-  pub falling : IsFalling ks
-  pub members : (k : ℕ) → Contains ks k ↔ (i : ℕ) × InBucket buckets k i
-
--- the bucket's number comes to the list, unless the bucket is empty
-abbrev pub PushesFilled : List (List ℕ) → ℕ → List ℕ → List ℕ → Type 0
-PushesFilled buckets k old new = (((i : ℕ) → InBucket buckets k i → ⊥) × (new ≡ old)) ⊎ (((i : ℕ) × InBucket buckets k i) × (new ≡ old ++ k ∷ []))
-
--- a set of few states, whose members are at least low and less than the end
-pub record LiesBetween (x : Subset) (low end : ℕ) : Type 0 where
-  pub few : length x ≤ 65535
-  pub end_within : end ≤ length x
-  pub members : (p : ℕ) → IsIn x p → (low ≤ p) × (p < end)
 
 -- what P says comes to the set
 pub record GainsStates (old new : Subset) (P : ℕ → Type 0) : Type 0 where
@@ -67,6 +45,15 @@ pub record AreBundles (a : Automaton) (bundles : List Bundle) : Type 0 where
   pub wellmade : AreWellmade a bundles
   pub moves : (o m b p : ℕ) → SomeCarries bundles o m b p ↔ Moves a o m b p
 
+-- the marks fall, or stay, from one bundle to the next
+abbrev pub MarksFall : List Bundle → Type 0
+MarksFall bundles = (i j : ℕ) (v w : Bundle) → i < j → slice_get bundles i ≡ Some v → slice_get bundles j ≡ Some w → w.mark ≤ v.mark
+
+-- bundles in order of their marks
+pub record AreInOrder (a : Automaton) (bundles : List Bundle) : Type 0 where
+  pub are : AreBundles a bundles
+  pub fall : MarksFall bundles
+
 -- an edge's step from o to p that reads a mark and then a byte
 pub record EdgeMoves (e : Edge) (o m b p : ℕ) : Type 0 where
   pub from : e.from ≡ o
@@ -89,21 +76,54 @@ pub record Leaves (x : Subset) (m : ℕ) (w : Bundle) : Type 0 where
   pub from : (o : ℕ) × IsIn w.sources o × IsIn x o
   pub mark : w.mark ≡ m
 
--- exactly the states to which the bundles at some places lead with a byte
-pub record AreTargets (a : Automaton) (bundles : List Bundle) (places : List ℕ) (b : ℕ) (y : Subset) : Type 0 where
-  pub size : length y ≡ a.states
-  pub members : (p : ℕ) → IsIn y p ↔ (i : ℕ) × Contains places i × BundleAt bundles i (λ w. (slice_index_or w.letters b false ≡ true) × (w.to ≡ p))
-
--- the places are those of bundles
-abbrev pub ArePlaces : List Bundle → List ℕ → Type 0
-ArePlaces bundles places = (i : ℕ) → Contains places i → i < length bundles
-
--- exactly the bundles that leave a set, by their marks, which fall
+-- for each bundle, whether it leaves a set
 pub record AreExits (a : Automaton) (bundles : List Bundle) (exits : Exits) : Type 0 where
   pub size : length exits.from ≡ a.states
-  pub buckets : length exits.by_mark ≡ 4 ^ a.variables
-  pub members : (m i : ℕ) → InBucket exits.by_mark m i ↔ BundleAt bundles i (Leaves exits.from m)
-  pub marks : AreFilled exits.by_mark exits.marks.items
+  pub even : length exits.leaving.items ≡ length bundles
+  pub leaves : (i : ℕ) (w : Bundle) → slice_get bundles i ≡ Some w → slice_index_or exits.leaving.items i false ≡ true → (o : ℕ) × IsIn w.sources o × IsIn exits.from o
+  pub stays : (i : ℕ) (w : Bundle) → slice_get bundles i ≡ Some w → slice_index_or exits.leaving.items i false ≡ false → (o : ℕ) → IsIn w.sources o → IsIn exits.from o → ⊥
+
+-- the places of exactly the bundles that read a byte, rising
+pub record AreReaders (bundles : List Bundle) (readers : Readers) : Type 0 where
+  pub rising : (i j m n : ℕ) → i < j → slice_get readers.places.items i ≡ Some m → slice_get readers.places.items j ≡ Some n → m < n
+  pub members : (i : ℕ) → Contains readers.places.items i ↔ BundleAt bundles i (λ w. slice_index_or w.letters readers.byte false ≡ true)
+
+abbrev pub bytes_of : List Readers → List ℕ
+bytes_of readers = map (λ (r : Readers). r.byte) readers
+
+abbrev pub AreAllReaders : List Bundle → List Readers → Type 0
+AreAllReaders bundles readers = (k : ℕ) (r : Readers) → slice_get readers k ≡ Some r → AreReaders bundles r
+
+-- the last step, which has the mark, gains a target
+pub record JoinsLast (old new : List Step) (m t : ℕ) : Type 0 where
+  pub last : ℕ
+  pub step : Step
+  pub grown : Step
+  pub is_last : last + 1 ≡ length old
+  pub there : slice_get old last ≡ Some step
+  pub had : step.mark ≡ m
+  pub mark : grown.mark ≡ m
+  pub targets : grown.to ≡ slice_set step.to t true
+  pub list : new ≡ slice_set old last grown
+
+-- a step with a mark that the last one hasn't, and a target among n states
+pub record OpensStep (n : ℕ) (old new : List Step) (m t : ℕ) : Type 0 where
+  pub step : Step
+  pub fresh : (k : ℕ) (e : Step) → k + 1 ≡ length old → slice_get old k ≡ Some e → e.mark ≡ m → ⊥
+  pub mark : step.mark ≡ m
+  pub targets : step.to ≡ slice_set (replicate n false) t true
+  pub list : new ≡ old ++ step ∷ []
+
+-- a target comes to the steps, with its mark
+abbrev pub GainsTarget : ℕ → List Step → List Step → ℕ → ℕ → Type 0
+GainsTarget n old new m t = JoinsLast old new m t ⊎ OpensStep n old new m t
+
+-- the marks that lead on from a set with a byte, falling, and where to
+pub record AreSteps (a : Automaton) (x : Subset) (b : ℕ) (steps : List Step) : Type 0 where
+  pub falling : (i j : ℕ) (e f : Step) → i < j → slice_get steps i ≡ Some e → slice_get steps j ≡ Some f → f.mark < e.mark
+  pub moves : (k : ℕ) (e : Step) → slice_get steps k ≡ Some e → IsMove a x e.mark b e.to
+  pub filled : (k : ℕ) (e : Step) → slice_get steps k ≡ Some e → (p : ℕ) × IsIn e.to p
+  pub all : (m o p : ℕ) → IsIn x o → Moves a o m b p → (k : ℕ) × (e : Step) × (slice_get steps k ≡ Some e) × (e.mark ≡ m)
 
 -- a byte is as good as the first one of its class
 pub record IsFit (classes : ByteClasses) (letters : List Bool) : Type 0 where
@@ -176,6 +196,10 @@ pub record IsCell (a : Automaton) (subsets : List Subset) (x : Subset) (b : ℕ)
 pub record AreCells (a : Automaton) (subsets : List Subset) (x : Subset) (firsts : List ℕ) (n : ℕ) (cells : List Cell) : Type 0 where
   pub size : length cells ≡ n
   pub each : (c f : ℕ) (cell : Cell) → slice_get firsts c ≡ Some f → slice_get cells c ≡ Some cell → IsCell a subsets x f cell.marks.items cell.targets.items
+
+-- what P says comes to the marks
+abbrev pub GainsMark : List ℕ → List ℕ → (ℕ → Type 0) → Type 0
+GainsMark old new P = (m : ℕ) → Contains new m ↔ Contains old m ⊎ P m
 
 -- the marks with which a text may end in a set, falling
 pub record AreEnds (a : Automaton) (x : Subset) (ms : List ℕ) : Type 0 where

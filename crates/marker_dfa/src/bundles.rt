@@ -2,7 +2,7 @@
 
 ghost use Rattle.std.specs.Prelude.{◌≡◌, ◌<◌, ◌^◌, IsTrue, IfOk};
 ghost use Rattle.marker_nfa.specs.Automaton.{Automaton, IsAutomaton};
-ghost use Rattle.marker_dfa.specs.Making.{AreBundles, AreWellmade, GainsEdge, IsLike};
+ghost use Rattle.marker_dfa.specs.Making.{AreAllReaders, AreBundles, AreInOrder, AreReaders, AreWellmade, GainsEdge, IsLike, bytes_of};
 
 use crate::states::StateSet;
 use marker_nfa::{Edge, Nfa};
@@ -99,21 +99,21 @@ fn put_edge(
     Ok(place)
 }
 
-// Bundles with one mark are gone through one after another, so they stand side by side.
+/// Puts bundles in order of their marks, which fall. So those with one mark stand side by side.
 fn put_in_order(bundles: &mut Vec<Bundle>)
-    ensures { (a : Automaton) → AreBundles a bundles.old.items → AreBundles a bundles.new.items }
+    ensures { (a : Automaton) → IsAutomaton a → AreBundles a bundles.old.items → AreInOrder a bundles.new.items }
 {
-    bundles.sort_unstable_by_key(|bundle| bundle.mark);
+    bundles.sort_unstable_by_key(|bundle| u16::MAX - bundle.mark);
 }
 
-/// All edges, in bundles. Those with one mark stand side by side.
+/// All edges, in bundles whose marks fall.
 ///
 /// # Errors
 ///
 /// `NoMemory` where none was found.
 pub fn bundles_of(alloc: Global, nfa: &Nfa) -> Result<Vec<Bundle>, NoMemory>
     requires { IsAutomaton nfa.now }
-    ensures { IfOk result (λ bundles. AreBundles nfa.now bundles.items) }
+    ensures { IfOk result (λ bundles. AreInOrder nfa.now bundles.items) }
 {
     let mut bundles = Vec::new(alloc);
     let mut hints = Hints::new(alloc, nfa);
@@ -126,4 +126,45 @@ pub fn bundles_of(alloc: Global, nfa: &Nfa) -> Result<Vec<Bundle>, NoMemory>
     }
     put_in_order(&mut bundles);
     Ok(bundles)
+}
+
+/// The places of the bundles that read a byte, rising.
+#[derive(Drop)]
+pub struct Readers {
+    pub byte: u8,
+    pub places: Vec<usize>,
+}
+
+fn readers_of(alloc: Global, bundles: &[Bundle], byte: u8) -> Result<Readers, NoMemory>
+    ensures readers { IfOk result (AreReaders bundles.now) }
+    ensures byte { IfOk result (λ readers. readers.byte ≡ byte) }
+{
+    let mut places = Vec::new(alloc);
+    for (place, bundle) in bundles.iter().enumerate() {
+        if bundle.letters.contains(byte) {
+            places.push(place)?;
+        }
+    }
+    Ok(Readers { byte, places })
+}
+
+/// For each of some bytes, the places of the bundles that read it.
+///
+/// # Errors
+///
+/// `NoMemory` where none was found.
+pub fn readers_by_byte(
+    alloc: Global,
+    bundles: &[Bundle],
+    bytes: &[u8],
+) -> Result<Vec<Readers>, NoMemory>
+    ensures readers { IfOk result (λ readers. AreAllReaders bundles.now readers.items) }
+    ensures bytes { IfOk result (λ readers. bytes_of readers.items ≡ bytes.now) }
+{
+    let mut by_byte = Vec::new(alloc);
+    for byte in bytes {
+        let readers = readers_of(alloc, bundles, *byte)?;
+        by_byte.push(readers)?;
+    }
+    Ok(by_byte)
 }

@@ -1,41 +1,22 @@
 //! The edges that leave a set of states.
 
-ghost use Rattle.std.specs.Prelude.{◌≡◌, ◌<◌, ◌^◌, ℕ, true, false, slice_get, slice_index_or, Some, length, IfOk, OnOk};
+ghost use Rattle.std.specs.Prelude.{◌≡◌, ◌<◌, ◌↔◌, ℕ, slice_get, Some, Contains, length, IfOk, OnOk};
 ghost use Rattle.marker_nfa.specs.Automaton.{IsAutomaton};
 ghost use Rattle.marker_dfa.specs.Subsets.{IsIn};
-ghost use Rattle.marker_dfa.specs.Making.{AddsTo, AreEnds, AreExits, ArePlaces, AreTargets, AreWellmade, GainsStates, Leaves};
+ghost use Rattle.marker_dfa.specs.declared.exits.Step.{Step};
+ghost use Rattle.marker_dfa.specs.Making.{AreEnds, AreExits, AreInOrder, AreReaders, AreSteps, AreWellmade, GainsMark, GainsTarget, IsFalling};
 
-use crate::buckets::Buckets;
-use crate::bundles::Bundle;
+use crate::bundles::{Bundle, Readers};
 use crate::states::StateSet;
 use marker_nfa::{End, Nfa};
 use span_types::NoMemory;
 use std::alloc::Global;
 
-/// The bundles that leave a set of states: their marks, falling, and for each mark their places.
+/// A set of states, and for each bundle whether it leaves the set.
 #[derive(Drop)]
 pub struct Exits {
     pub from: StateSet,
-    pub marks: Vec<u16>,
-    pub by_mark: Buckets,
-}
-
-/// Puts a bundle into the bucket of its mark, if it leaves the set.
-fn put_bundle(
-    by_mark: &mut Buckets,
-    from: &StateSet,
-    bundle: &Bundle,
-    place: usize,
-) -> Result<(), NoMemory>
-    requires size { length bundle.now.sources ≡ length from.now }
-    requires mark { bundle.now.mark < length by_mark.old }
-    ensures { OnOk result (AddsTo by_mark.old by_mark.new (λ m i. Leaves from.now m bundle.now × (i ≡ place))) }
-{
-    if !bundle.sources.meets(from) {
-        return Ok(());
-    }
-    by_mark.put(bundle.mark as usize, place)?;
-    Ok(())
+    pub leaving: Vec<bool>,
 }
 
 /// The bundles that leave a set.
@@ -49,32 +30,48 @@ pub fn exits_of(
     bundles: &[Bundle],
     from: StateSet,
 ) -> Result<Exits, NoMemory>
-    requires automaton { IsAutomaton nfa.now }
     requires bundles { AreWellmade nfa.now bundles.now }
     requires size { length from ≡ nfa.now.states }
     ensures exits { IfOk result (AreExits nfa.now bundles.now) }
     ensures from { IfOk result (λ e. e.from ≡ from) }
 {
-    let mut by_mark = Buckets::new(alloc, 4usize.pow(nfa.variables() as u32))?;
-    for (place, bundle) in bundles.iter().enumerate() {
-        put_bundle(&mut by_mark, &from, bundle, place)?;
+    let mut leaving = Vec::new(alloc);
+    for bundle in bundles {
+        leaving.push(bundle.sources.meets(&from))?;
     }
-    let marks = by_mark.filled(alloc)?;
-    Ok(Exits {
-        from,
-        marks,
-        by_mark,
-    })
+    Ok(Exits { from, leaving })
 }
 
-/// Puts the state to which a bundle leads into a set, if the bundle reads the byte.
-fn put_target(to: &mut StateSet, bundle: &Bundle, byte: u8)
-    requires { bundle.now.to < length to.old }
-    ensures { GainsStates to.old to.new (λ p. (slice_index_or bundle.now.letters byte false ≡ true) × (bundle.now.to ≡ p)) }
+/// Where a mark leads from a set of states with a byte.
+#[derive(Drop)]
+pub struct Step {
+    pub mark: u16,
+    pub to: StateSet,
+}
+
+/// Puts where a bundle leads to the targets of the last step, if that has its mark, or else to a step of its own.
+fn put_target(
+    alloc: Global,
+    nfa: &Nfa,
+    steps: &mut Vec<Step>,
+    bundle: &Bundle,
+) -> Result<(), NoMemory>
+    requires sizes { (k : ℕ) (e : Step) → slice_get steps.old.items k ≡ Some e → length e.to ≡ nfa.now.states }
+    requires target { bundle.now.to < nfa.now.states }
+    ensures { OnOk result (GainsTarget nfa.now.states steps.old.items steps.new.items bundle.now.mark bundle.now.to) }
 {
-    if bundle.letters.contains(byte) {
-        to.insert(bundle.to);
+    let count = steps.len();
+    if count > 0 && steps[count - 1].mark == bundle.mark {
+        steps[count - 1].to.insert(bundle.to);
+        return Ok(());
     }
+    let mut to = StateSet::empty(alloc, nfa.states())?;
+    to.insert(bundle.to);
+    steps.push(Step {
+        mark: bundle.mark,
+        to,
+    })?;
+    Ok(())
 }
 
 /// The bundle at a place.
@@ -85,40 +82,52 @@ fn bundle_at(bundles: &[Bundle], place: usize) -> &Bundle
     &bundles[place]
 }
 
-/// The states to which the bundles at some places lead with a byte.
+/// The steps from a set with a byte, by their marks, which fall. Bundles with one mark stand side by side, and so do
+/// those among them that read the byte.
 ///
 /// # Errors
 ///
 /// `NoMemory` where none was found.
-pub fn targets_of(
+pub fn steps_of(
     alloc: Global,
     nfa: &Nfa,
     bundles: &[Bundle],
-    places: &[usize],
-    byte: u8,
-) -> Result<StateSet, NoMemory>
-    requires bundles { AreWellmade nfa.now bundles.now }
-    requires places { ArePlaces bundles.now places.now }
-    ensures { IfOk result (AreTargets nfa.now bundles.now places.now byte) }
+    exits: &Exits,
+    readers: &Readers,
+) -> Result<Vec<Step>, NoMemory>
+    requires bundles { AreInOrder nfa.now bundles.now }
+    requires exits { AreExits nfa.now bundles.now exits.now }
+    requires readers { AreReaders bundles.now readers.now }
+    ensures { IfOk result (λ steps. AreSteps nfa.now exits.now.from readers.now.byte steps.items) }
 {
-    let mut to = StateSet::empty(alloc, nfa.states())?;
-    for place in places {
-        put_target(&mut to, bundle_at(bundles, *place), byte);
+    let mut steps = Vec::new(alloc);
+    for place in &readers.places {
+        if exits.leaving[*place] {
+            put_target(alloc, nfa, &mut steps, bundle_at(bundles, *place))?;
+        }
     }
-    Ok(to)
+    Ok(steps)
 }
 
-/// Puts the state of an end into the bucket of its mark, if the state is in the set.
-fn put_end(by_mark: &mut Buckets, from: &StateSet, end: End) -> Result<(), NoMemory>
-    requires state { end.state < length from.now }
-    requires mark { end.mark < length by_mark.old }
-    ensures { OnOk result (AddsTo by_mark.old by_mark.new (λ m o. IsIn from.now o × (end ≡ record { state = o; mark = m }))) }
+/// Puts the mark of an end last, if its state is in the set.
+fn push_end(marks: &mut Vec<u16>, from: &StateSet, end: End) -> Result<(), NoMemory>
+    requires { end.state < length from.now }
+    ensures { OnOk result (GainsMark marks.old.items marks.new.items (λ m. IsIn from.now end.state × (end.mark ≡ m))) }
 {
-    if !from.contains(end.state) {
-        return Ok(());
+    if from.contains(end.state) {
+        marks.push(end.mark)?;
     }
-    by_mark.put(end.mark as usize, end.state as usize)?;
     Ok(())
+}
+
+/// Each of some marks once, falling.
+fn put_in_order(marks: &mut Vec<u16>)
+    ensures same { (m : ℕ) → Contains marks.new.items m ↔ Contains marks.old.items m }
+    ensures falling { IsFalling marks.new.items }
+{
+    marks.sort_unstable();
+    marks.dedup();
+    marks.reverse();
 }
 
 /// The marks with which a text may end in a set, falling.
@@ -131,9 +140,10 @@ pub fn ends_of_set(alloc: Global, nfa: &Nfa, from: &StateSet) -> Result<Vec<u16>
     requires size { length from.now ≡ nfa.now.states }
     ensures { IfOk result (λ marks. AreEnds nfa.now from.now marks.items) }
 {
-    let mut by_mark = Buckets::new(alloc, 4usize.pow(nfa.variables() as u32))?;
+    let mut marks = Vec::new(alloc);
     for end in nfa.ends() {
-        put_end(&mut by_mark, from, *end)?;
+        push_end(&mut marks, from, *end)?;
     }
-    by_mark.filled(alloc)
+    put_in_order(&mut marks);
+    Ok(marks)
 }

@@ -8,9 +8,10 @@
 //! ```
 //!
 //! Each tuple has one run at most, so no answer can come twice. Bytes that the automaton never tells apart share a
-//! class, edges that differ in their sources alone are gone through as one, and a state keeps a list of marks for each
-//! class. The construction ends at the 129th set of states, so at most 128 sets are worked on, each for every class and
-//! every mark that leads on. The automaton takes memory for these marks and where they lead; a look at it takes none.
+//! class, edges that differ in their sources alone are bundled, and a state keeps a list of marks for each class. The
+//! construction ends at the 129th set of states, so at most 128 sets are worked on. For each set every bundle is looked at
+//! once, and then for each class those bundles that read it, in order of their marks, whose places are kept meanwhile.
+//! The automaton takes memory for the marks that lead on and where they lead; a look at it takes none.
 //!
 //! The construction is that of M. O. Rabin and D. Scott, *Finite automata and their decision problems*, 1959.
 #![tactic(auto)]
@@ -23,7 +24,6 @@ ghost use Rattle.marker_dfa.specs.Deterministic.{AcceptsSame, StandsFor};
 ghost use Rattle.marker_dfa.specs.Refusals.{IfTooMany};
 ghost use Rattle.marker_dfa.specs.Subsets.{AreTooMany};
 
-pub mod buckets;
 pub mod bundles;
 pub mod classes;
 pub mod dfa;

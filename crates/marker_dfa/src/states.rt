@@ -7,14 +7,13 @@ use span_types::NoMemory;
 use std::alloc::Global;
 use std::marker::Model;
 
-/// A set of states. Contracts see it as one truth value for each state.
+/// A set of states, as bits in words of 64. Contracts see it as one truth value for each state.
 #[derive(Drop)]
 pub struct StateSet {
-    members: Vec<bool>,
+    states: u16,
 
-    // Each member is at least `low` and less than `end`.
-    low: u16,
-    end: u16,
+    // State q is bit q % 64 of word q / 64. No other bit is set.
+    words: Vec<u64>,
 }
 
 impl Model for StateSet {
@@ -22,12 +21,14 @@ impl Model for StateSet {
 
     ghost Value = { List Bool };
 
-    ghost view = { λ s. s.members.items };
+    ghost use Rattle.marker_dfa.specs.StateWords.{members, AreWords};
 
-    ghost use Rattle.marker_dfa.specs.Making.{LiesBetween};
+    ghost view = { λ s. members s.states s.words.items };
 
-    ghost invariant = { λ s. LiesBetween s.members.items s.low s.end };
+    ghost invariant = { λ s. AreWords s.states s.words.items };
 }
+
+const WORD_BITS: usize = 64;
 
 impl StateSet {
     /// The set with no member, of so many states.
@@ -38,10 +39,10 @@ impl StateSet {
     pub fn empty(alloc: Global, states: u16) -> Result<StateSet, NoMemory>
         ensures { IfOk result (λ s. s ≡ replicate states false) }
     {
+        let count = states as usize / WORD_BITS + 1;
         Ok(StateSet {
-            members: vec![in alloc; false; states as usize]?,
-            low: states,
-            end: 0,
+            states,
+            words: vec![in alloc; 0; count]?,
         })
     }
 
@@ -54,9 +55,8 @@ impl StateSet {
         ensures { IfOk result (λ s. s ≡ self.now) }
     {
         Ok(StateSet {
-            members: self.members.as_slice().to_vec(alloc)?,
-            low: self.low,
-            end: self.end,
+            states: self.states,
+            words: self.words.as_slice().to_vec(alloc)?,
         })
     }
 
@@ -65,9 +65,8 @@ impl StateSet {
         requires { state < length self.old }
         ensures { self.new ≡ slice_set self.old state true }
     {
-        self.members[state as usize] = true;
-        self.low = self.low.min(state);
-        self.end = self.end.max(state + 1);
+        let state = state as usize;
+        self.words[state / WORD_BITS] |= 1 << (state % WORD_BITS);
     }
 
     /// Whether a state is in the set.
@@ -75,20 +74,8 @@ impl StateSet {
         requires { state < length self.now }
         ensures { result ≡ slice_index_or self.now state false }
     {
-        self.members[state as usize]
-    }
-
-    /// Whether the set has a member.
-    pub fn has_some(&self) -> bool
-        ensures yes { IsTrue result → (p : ℕ) × IsIn self.now p }
-        ensures none { IsFalse result → (p : ℕ) → IsIn self.now p → ⊥ }
-    {
-        for state in self.low..self.end {
-            if self.members[state as usize] {
-                return true;
-            }
-        }
-        false
+        let state = state as usize;
+        self.words[state / WORD_BITS] >> (state % WORD_BITS) & 1 == 1
     }
 
     /// Whether two sets have a member in common.
@@ -97,30 +84,18 @@ impl StateSet {
         ensures some { IsTrue result → (p : ℕ) × IsIn self.now p × IsIn other.now p }
         ensures none { IsFalse result → (p : ℕ) → IsIn self.now p → IsIn other.now p → ⊥ }
     {
-        let low = self.low.max(other.low);
-        let end = self.end.min(other.end);
-        for state in low..end {
-            if self.members[state as usize] && other.members[state as usize] {
+        for (word, other) in self.words.iter().zip(&other.words) {
+            if *word & *other != 0 {
                 return true;
             }
         }
         false
     }
 
-    /// Whether two sets have the same members. It compares what lies between the least and the greatest of both.
+    /// Whether two sets have the same members.
     pub fn same(&self, other: &StateSet) -> bool
         ensures { IsTrue result ↔ self.now ≡ other.now }
     {
-        if self.members.len() != other.members.len() {
-            return false;
-        }
-        let low = self.low.min(other.low);
-        let end = self.end.max(other.end);
-        for state in low..end {
-            if self.members[state as usize] != other.members[state as usize] {
-                return false;
-            }
-        }
-        true
+        self.states == other.states && self.words == other.words
     }
 }

@@ -3,12 +3,12 @@
 ghost use Rattle.std.specs.Prelude.{◌≡◌, ◌<◌, ◌≤◌, ◌++◌, ◌∷◌, [], List, Bool, length, Some, slice_get, vec_len, IfOk, IsTrue};
 ghost use Rattle.marker_nfa.specs.Automaton.{IsAutomaton};
 ghost use Rattle.marker_dfa.specs.Subsets.{AreTooMany, IsReached, start_set};
-ghost use Rattle.marker_dfa.specs.Making.{AreAllRows, AreBundles, AreCells, AreExits, AreFound, Extends, HasNoRoom, IsCell, IsPlaced, IsRow};
+ghost use Rattle.marker_dfa.specs.Making.{AreAllReaders, AreAllRows, AreCells, AreExits, AreFound, AreInOrder, AreReaders, Extends, HasNoRoom, IsCell, IsPlaced, IsRow, bytes_of};
 ghost use Rattle.marker_dfa.specs.Refusals.{IfTooMany};
 
-use crate::bundles::{Bundle, bundles_of};
+use crate::bundles::{Bundle, Readers, bundles_of, readers_by_byte};
 use crate::dfa::{Cell, Row};
-use crate::exits::{Exits, ends_of_set, exits_of, targets_of};
+use crate::exits::{Exits, ends_of_set, exits_of, steps_of};
 use crate::refusal::DfaRefusal;
 use crate::states::StateSet;
 use marker_nfa::Nfa;
@@ -29,17 +29,22 @@ fn stands_at(sets: &[StateSet], set: &StateSet, place: u8) -> bool
 }
 
 /// The place of a set, which is put last where it is new. A hint is looked at first.
-fn place_of(sets: &mut Vec<StateSet>, set: StateSet, hint: u8) -> Result<u8, DfaRefusal>
+fn place_of(
+    alloc: Global,
+    sets: &mut Vec<StateSet>,
+    set: &StateSet,
+    hint: u8,
+) -> Result<u8, DfaRefusal>
     requires few { vec_len sets.old ≤ 128 }
-    ensures placed { IfOk result (λ q. IsPlaced sets.old.items sets.new.items set q) }
+    ensures placed { IfOk result (λ q. IsPlaced sets.old.items sets.new.items set.now q) }
     ensures few { vec_len sets.new ≤ 128 }
-    ensures refused { IfTooMany result (HasNoRoom sets.old.items set) }
+    ensures refused { IfTooMany result (HasNoRoom sets.old.items set.now) }
 {
-    if stands_at(sets, &set, hint) {
+    if stands_at(sets, set, hint) {
         return Ok(hint);
     }
     for (place, other) in sets.iter().enumerate() {
-        if other.same(&set) {
+        if other.same(set) {
             return Ok(place as u8);
         }
     }
@@ -47,7 +52,7 @@ fn place_of(sets: &mut Vec<StateSet>, set: StateSet, hint: u8) -> Result<u8, Dfa
     if place == LIMIT {
         return Err(DfaRefusal::TooManyStates);
     }
-    sets.push(set)?;
+    sets.push(set.copy(alloc)?)?;
     Ok(place as u8)
 }
 
@@ -69,17 +74,17 @@ fn cell_of(
     nfa: &Nfa,
     bundles: &[Bundle],
     exits: &Exits,
-    byte: u8,
+    readers: &Readers,
     sets: &mut Vec<StateSet>,
 ) -> Result<Cell, DfaRefusal>
-    requires automaton { IsAutomaton nfa.now }
-    requires bundles { AreBundles nfa.now bundles.now }
+    requires bundles { AreInOrder nfa.now bundles.now }
     requires exits { AreExits nfa.now bundles.now exits.now }
+    requires readers { AreReaders bundles.now readers.now }
     requires reached { IsReached nfa.now exits.now.from }
     requires found { AreFound nfa.now sets.old.items }
     ensures found { IfOk result (λ _. AreFound nfa.now sets.new.items) }
     ensures extends { IfOk result (λ _. Extends sets.old.items sets.new.items) }
-    ensures cell { IfOk result (λ c. IsCell nfa.now sets.new.items exits.now.from byte c.marks.items c.targets.items) }
+    ensures cell { IfOk result (λ c. IsCell nfa.now sets.new.items exits.now.from readers.now.byte c.marks.items c.targets.items) }
     ensures refused { IfTooMany result (AreTooMany nfa.now) }
 {
     let mut cell = Cell {
@@ -87,39 +92,37 @@ fn cell_of(
         targets: Vec::new(alloc),
     };
     let mut hint = 0;
-    for mark in &exits.marks {
-        let to = targets_of(alloc, nfa, bundles, exits.by_mark.get(*mark as usize), byte)?;
-        if to.has_some() {
-            let target = place_of(sets, to, hint)?;
-            hint = target;
-            cell.push(*mark, target)?;
-        }
+    let steps = steps_of(alloc, nfa, bundles, exits, readers)?;
+    for step in &steps {
+        let target = place_of(alloc, sets, &step.to, hint)?;
+        hint = target;
+        cell.push(step.mark, target)?;
     }
     Ok(cell)
 }
 
-/// The cells of a set, one for each of the bytes.
+/// The cells of a set, one for each of the bytes that are read.
 fn cells_of(
     alloc: Global,
     nfa: &Nfa,
     bundles: &[Bundle],
     exits: &Exits,
-    bytes: &[u8],
+    by_byte: &[Readers],
     sets: &mut Vec<StateSet>,
 ) -> Result<Vec<Cell>, DfaRefusal>
-    requires automaton { IsAutomaton nfa.now }
-    requires bundles { AreBundles nfa.now bundles.now }
+    requires bundles { AreInOrder nfa.now bundles.now }
     requires exits { AreExits nfa.now bundles.now exits.now }
+    requires readers { AreAllReaders bundles.now by_byte.now }
     requires reached { IsReached nfa.now exits.now.from }
     requires found { AreFound nfa.now sets.old.items }
     ensures found { IfOk result (λ _. AreFound nfa.now sets.new.items) }
     ensures extends { IfOk result (λ _. Extends sets.old.items sets.new.items) }
-    ensures cells { IfOk result (λ cells. AreCells nfa.now sets.new.items exits.now.from bytes.now (length bytes.now) cells.items) }
+    ensures cells { IfOk result (λ cells. AreCells nfa.now sets.new.items exits.now.from (bytes_of by_byte.now) (length by_byte.now) cells.items) }
     ensures refused { IfTooMany result (AreTooMany nfa.now) }
 {
     let mut cells = Vec::new(alloc);
-    for byte in bytes {
-        let cell = cell_of(alloc, nfa, bundles, exits, *byte, sets)?;
+    for readers in by_byte {
+        let cell = cell_of(alloc, nfa, bundles, exits, readers, sets)?;
         cells.push(cell)?;
     }
     Ok(cells)
@@ -130,23 +133,24 @@ fn row_of(
     alloc: Global,
     nfa: &Nfa,
     bundles: &[Bundle],
-    bytes: &[u8],
+    by_byte: &[Readers],
     place: usize,
     sets: &mut Vec<StateSet>,
 ) -> Result<Row, DfaRefusal>
     requires automaton { IsAutomaton nfa.now }
-    requires bundles { AreBundles nfa.now bundles.now }
+    requires bundles { AreInOrder nfa.now bundles.now }
+    requires readers { AreAllReaders bundles.now by_byte.now }
     requires place { place < vec_len sets.old }
     requires found { AreFound nfa.now sets.old.items }
     ensures found { IfOk result (λ _. AreFound nfa.now sets.new.items) }
     ensures extends { IfOk result (λ _. Extends sets.old.items sets.new.items) }
-    ensures row { IfOk result (λ r. (x : List Bool) → slice_get sets.old.items place ≡ Some x → IsRow nfa.now sets.new.items x bytes.now r) }
+    ensures row { IfOk result (λ r. (x : List Bool) → slice_get sets.old.items place ≡ Some x → IsRow nfa.now sets.new.items x (bytes_of by_byte.now) r) }
     ensures refused { IfTooMany result (AreTooMany nfa.now) }
 {
     let from = sets[place].copy(alloc)?;
     let ends = ends_of_set(alloc, nfa, &from)?;
     let exits = exits_of(alloc, nfa, bundles, from)?;
-    let cells = cells_of(alloc, nfa, bundles, &exits, bytes, sets)?;
+    let cells = cells_of(alloc, nfa, bundles, &exits, by_byte, sets)?;
     Ok(Row { cells, ends })
 }
 
@@ -173,10 +177,11 @@ pub fn rows_of(alloc: Global, nfa: &Nfa, bytes: &[u8]) -> Result<Vec<Row>, DfaRe
     ensures refused { IfTooMany result (AreTooMany nfa.now) }
 {
     let bundles = bundles_of(alloc, nfa)?;
+    let by_byte = readers_by_byte(alloc, &bundles, bytes)?;
     let mut sets = start_sets(alloc, nfa)?;
     let mut rows = Vec::new(alloc);
     'rows: while rows.len() < sets.len() {
-        let row = row_of(alloc, nfa, &bundles, bytes, rows.len(), &mut sets)?;
+        let row = row_of(alloc, nfa, &bundles, &by_byte, rows.len(), &mut sets)?;
         rows.push(row)?;
     }
     Ok(rows)

@@ -28,4 +28,4 @@ loop-edge-preserved c =
 pub returns : goal.returns
 returns c =
     let items = c.loop-edge.invariant.items in
-    c.put_in_order.ensures c.args.nfa.now (bundled_end c.args.nfa.now c.loop-edge.edge-index _ (omega (arith, c.loop-edge-test.false, ap length items)) c.loop-edge.invariant.bundled)
+    c.put_in_order.ensures c.args.nfa.now c.requires (bundled_end c.args.nfa.now c.loop-edge.edge-index _ (omega (arith, c.loop-edge-test.false, ap length items)) c.loop-edge.invariant.bundled)

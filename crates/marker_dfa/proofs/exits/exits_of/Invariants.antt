@@ -1,5 +1,5 @@
-use Rattle.marker_dfa.proofs.Leaving.{LeavesUpTo}
+use Rattle.marker_dfa.proofs.Leaving.{LeavingUpTo}
 use Rattle.marker_dfa.proofs.exits.exits_of.Given as goal
 
-abbrev pub invariant-loop-place : goal.invariant-loop-place
-invariant-loop-place l = LeavesUpTo l.nfa l.bundles l.fn.from l.place l.by_mark
+abbrev pub invariant-loop-bundle : goal.invariant-loop-bundle
+invariant-loop-bundle l = LeavingUpTo l.bundles l.fn.from l.bundle-index l.leaving.items

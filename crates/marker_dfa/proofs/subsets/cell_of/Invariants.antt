@@ -1,5 +1,6 @@
 use Rattle.marker_dfa.proofs.Growing.{Cells}
+use Rattle.marker_dfa.proofs.Leaving.{marks_of}
 use Rattle.marker_dfa.proofs.subsets.cell_of.Given as goal
 
-abbrev pub invariant-loop-mark : goal.invariant-loop-mark
-invariant-loop-mark l = Cells l.nfa l.exits.marks.items l.exits.from l.byte l.mark-index l.fn.sets.items l.sets.items l.cell.marks.items l.cell.targets.items
+abbrev pub invariant-loop-step : goal.invariant-loop-step
+invariant-loop-step l = Cells l.nfa (marks_of l.step-items) l.exits.from l.readers.byte l.step-index l.fn.sets.items l.sets.items l.cell.marks.items l.cell.targets.items

@@ -1,0 +1,18 @@
+-- A set of states as words of 64 bits: state q is bit q % 64 of word q / 64.
+use Rattle.std.specs.Prelude.{◌≡◌, ℕ, ◌+◌, ◌/◌, ◌%◌, ◌^◌, ◌<◌, ◌≤◌, ◌==◌, Bool, false, List, length, map, slice_index}
+use Rattle.std.specs.Int.{bit_at}
+use Rattle.std.specs.List.{range_with_len}
+
+-- whether a state is a member
+abbrev pub has_state : List ℕ → ℕ → Bool
+has_state ws q = bit_at (slice_index ws (q / 64)) (q % 64) == 1
+
+-- whether each of so many states is a member
+unfoldable pub members : ℕ → List ℕ → List Bool
+members states ws = map (has_state ws) (range_with_len 0 states)
+
+-- words of 64 bits, in which only the bits of so many states are set
+pub record AreWords (states : ℕ) (ws : List ℕ) : Type 0 where
+  pub size : length ws ≡ states / 64 + 1
+  pub below : (k : ℕ) → slice_index ws k < 2 ^ 64
+  pub clear : (q : ℕ) → states ≤ q → has_state ws q ≡ false
