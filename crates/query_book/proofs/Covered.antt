@@ -1,4 +1,4 @@
--- What a covered store says of the entry of a name.
+-- What a covered store says of the query of a name.
 use Rattle.std.proofs.Common.{◌≡◌, ℕ, ◌<◌, ◌≤◌, ◌^◌, Bool, true, false, cond, List, [], ◌∷◌, length, Option, Some, None, All, sym, ap, subst, ◌∙◌, arith}
 use Rattle.std.specs.Prelude.{unwrap_or}
 use Rattle.std.specs.Option.{option_map}
@@ -12,20 +12,21 @@ use Rattle.state_tables.specs.Dictionary.{AreTables, Dictionary, count_of}
 use Rattle.marker_dfa.specs.Deterministic.{DeterministicAutomaton}
 use Rattle.span_enum.specs.Listing.{text_of}
 use Rattle.query_book.specs.declared.entry.Entry.{Entry}
+use Rattle.query_book.specs.declared.entry.TabledQuery.{TabledQuery}
 use Rattle.query_book.specs.Named.{Named, is_same, value_of}
-use Rattle.query_book.specs.Book.{entry_of}
+use Rattle.query_book.specs.Book.{tabled_of}
 use Rattle.query_book.specs.Serving.{IsServed, Covers, covered_of, all_at}
 use Rattle.query_book.proofs.Views.{value-by_name}
 
 some_is : {X : Type 0} {x y : X} → Some x ≡ Some y → x ≡ y
 some_is {X} {x} p = ap (λ o. unwrap_or o x) p
 
--- what holds of all entries holds of that of the name
-pub all-found : (P : Entry → Type 0) (es : List Entry) (name : List ℕ) (e : Entry) → AllByRecursion P es → entry_of es name ≡ Some e → P e
-all-found P [] name e h q = let bad : ⊥ = cc in absurd bad
-all-found P (x ∷ xs) name e h q = by (is_same name x.name) q (all-found P xs name e h.1)
+-- what holds of all queries holds of that of the name
+pub all-found : (P : TabledQuery → Type 0) (es : List Entry) (name : List ℕ) (t : TabledQuery) → AllByRecursion (λ e. P e.tabled) es → tabled_of es name ≡ Some t → P t
+all-found P [] name t h q = let bad : ⊥ = cc in absurd bad
+all-found P (x ∷ xs) name t h q = by (is_same name x.name) q (all-found P xs name t h.1)
   where
-    by : (b : Bool) → cond b (Some x) (entry_of xs name) ≡ Some e → (entry_of xs name ≡ Some e → P e) → P e
+    by : (b : Bool) → cond b (Some x.tabled) (tabled_of xs name) ≡ Some t → (tabled_of xs name ≡ Some t → P t) → P t
     by true r rest = subst P (some_is r) h.0
     by false r rest = rest r
 
@@ -37,13 +38,13 @@ value-all_at n (p ∷ ps) name k q = by (is_same name p.0) q (value-all_at n ps 
     by true r rest = some_is r
     by false r rest = rest r
 
-pub count-found : (ns : List Node) (es : List Entry) (name : List ℕ) (e : Entry) → Covers ns es → entry_of es name ≡ Some e → count_of e.tables ≡ length ns
-count-found ns es name e c q =
-    let here : value_of (covered_of es) name ≡ Some (count_of e.tables) = value-by_name (λ x. count_of x.tables) es name ∙ ap (λ o. option_map (λ (x : Entry). count_of x.tables) o) q in
-    sym (value-all_at (length ns) (covered_of es) name (count_of e.tables) (sym (ap (λ ps. value_of ps name) c.all) ∙ here))
+pub count-found : (ns : List Node) (es : List Entry) (name : List ℕ) (t : TabledQuery) → Covers ns es → tabled_of es name ≡ Some t → count_of t.tables ≡ length ns
+count-found ns es name t c q =
+    let here : value_of (covered_of es) name ≡ Some (count_of t.tables) = value-by_name (λ x. count_of x.tables) es name ∙ ap (λ o. option_map (λ (x : TabledQuery). count_of x.tables) o) q in
+    sym (value-all_at (length ns) (covered_of es) name (count_of t.tables) (sym (ap (λ ps. value_of ps name) c.all) ∙ here))
 
-pub served-found : (ns : List Node) (es : List Entry) (name : List ℕ) (e : Entry) → Covers ns es → entry_of es name ≡ Some e → IsServed ns e
-served-found ns es name e c q = all-found (IsServed ns) es name e c.serves q
+pub served-found : (ns : List Node) (es : List Entry) (name : List ℕ) (t : TabledQuery) → Covers ns es → tabled_of es name ≡ Some t → IsServed ns t
+served-found ns es name t c q = all-found (IsServed ns) es name t c.serves q
 
 -- a text has at most 2^48 bytes, where its root has
 pub short-some : (ns : List Node) (root : Option NodeId) (id : NodeId) (len : ℕ) → root ≡ Some id → len ≡ leaves (tree ns id.index) → len ≤ 2 ^ 48 → length (text_of ns root) ≤ 281474976710656

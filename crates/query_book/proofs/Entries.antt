@@ -1,79 +1,63 @@
--- What the map's entries say of the book.
-use Rattle.std.proofs.Common.{◌≡◌, ℕ, Bool, true, false, cond, nat_eq, List, [], ◌∷◌, map, Some, Vec, refl, sym, ap, subst, ◌∙◌}
+-- What the map's queries say of the book.
+use Rattle.std.proofs.Common.{◌≡◌, ℕ, Bool, true, false, cond, List, [], ◌∷◌, map, Some, refl, sym, ap, subst, ◌∙◌}
 use Rattle.std.specs.Prelude.{unwrap_or}
-use Rattle.std.specs.Cmp.Lexicographic.{pointwise, same_text}
-use Rattle.std.specs.List.{IsDistinct, AllByRecursion}
-use Rattle.std.proofs.lemmas.Map.Keys.{IsDistinct-head, IsDistinct-tail, IsDistinct-cons}
-use Rattle.std.specs.Map.{keys_of, values_of, lookup, remove_entry}
-use Rattle.indexmap.specs.IndexMap.{insert_entry}
+use Rattle.std.specs.List.{IsDistinct}
 use Rattle.query_book.specs.declared.entry.Entry.{Entry}
-use Rattle.query_book.specs.Named.{is_same, AreDistinctNames}
-use Rattle.query_book.specs.Book.{queries_of, entry_of, with_entry, without_entry}
-use Rattle.query_book.specs.Kept.{IsSound, AreKept}
-
--- keys with the same bytes
-abbrev pub same_key : {Z : Type 0} → Vec ℕ Z → Vec ℕ Z → Bool
-same_key k l = pointwise nat_eq k.items l.items
+use Rattle.query_book.specs.declared.entry.TabledQuery.{TabledQuery}
+use Rattle.query_book.specs.Named.{Named, is_same, value_of, put, taken_out, AreDistinctNames}
+use Rattle.query_book.specs.Book.{entry, entries_of, queries_of, tabled_of, with_entry, without_entry}
+use Rattle.query_book.specs.Kept.{IsSound, AreSound}
 
 some_is : {X : Type 0} {x y : X} → Some x ≡ Some y → x ≡ y
 some_is {X} {x} p = ap (λ o. unwrap_or o x) p
 
-distinct-none : IsDistinct is_same []
-unfolding IsDistinct
-distinct-none = tt
+entries-cond : (b : Bool) (ps qs : Named TabledQuery) → entries_of (cond b ps qs) ≡ cond b (entries_of ps) (entries_of qs)
+entries-cond true ps qs = refl
+entries-cond false ps qs = refl
 
-module _ {Z : Type 0} where
-  values-cond : (b : Bool) (xs ys : List (Vec ℕ Z × Entry)) → values_of (cond b xs ys) ≡ cond b (values_of xs) (values_of ys)
-  values-cond true xs ys = refl
-  values-cond false xs ys = refl
+pub tabled-entries : (ps : Named TabledQuery) (name : List ℕ) → tabled_of (entries_of ps) name ≡ value_of ps name
+tabled-entries [] name = refl
+tabled-entries (p ∷ ps) name = ap (λ o. cond (is_same name p.0) (Some p.1) o) (tabled-entries ps name)
 
-  pub lookup-entry : (name : List ℕ) (ps : List (Vec ℕ Z × Entry)) → AreKept ps → lookup (λ k. pointwise nat_eq name k.items) ps ≡ entry_of (values_of ps) name
-  lookup-entry name [] h = refl
-  lookup-entry name (p ∷ ps) h = λ j. cond (pointwise nat_eq name (h.0 j)) (Some p.1) (lookup-entry name ps h.2 j)
+pub put-entries : (ps : Named TabledQuery) (x : Entry) → entries_of (put ps x.name x.tabled) ≡ with_entry (entries_of ps) x
+put-entries [] x = refl
+put-entries (p ∷ ps) x =
+    entries-cond (is_same x.name p.0) ((x.name, x.tabled) ∷ ps) (p ∷ put ps x.name x.tabled)
+    ∙ ap (λ es. cond (is_same x.name p.0) (x ∷ entries_of ps) (entry p ∷ es)) (put-entries ps x)
 
-  pub lookup-sound : (name : List ℕ) (ps : List (Vec ℕ Z × Entry)) (e : Entry) → AreKept ps → lookup (λ k. pointwise nat_eq name k.items) ps ≡ Some e → IsSound e
-  lookup-sound name [] e h q = let bad : ⊥ = cc in absurd bad
-  lookup-sound name (p ∷ ps) e h q = by (pointwise nat_eq name p.0.items) q (lookup-sound name ps e h.2)
-    where
-      by : (b : Bool) → cond b (Some p.1) (lookup (λ k. pointwise nat_eq name k.items) ps) ≡ Some e → (lookup (λ k. pointwise nat_eq name k.items) ps ≡ Some e → IsSound e) → IsSound e
-      by true r rest = subst IsSound (some_is r) h.1
-      by false r rest = rest r
+pub taken_out-entries : (ps : Named TabledQuery) (name : List ℕ) → entries_of (taken_out ps name) ≡ without_entry (entries_of ps) name
+taken_out-entries [] name = refl
+taken_out-entries (p ∷ ps) name =
+    entries-cond (is_same name p.0) ps (p ∷ taken_out ps name)
+    ∙ ap (λ es. cond (is_same name p.0) (entries_of ps) (entry p ∷ es)) (taken_out-entries ps name)
 
-  pub values-insert : (k : Vec ℕ Z) (v : Entry) (ps : List (Vec ℕ Z × Entry)) → AreKept ps → k.items ≡ v.name → values_of (insert_entry same_key ps k v) ≡ with_entry (values_of ps) v
-  values-insert k v [] h n = refl
-  values-insert k v (p ∷ ps) h n =
-      values-cond (same_key k p.0) ((p.0, v) ∷ ps) (p ∷ insert_entry same_key ps k v)
-      ∙ (λ j. cond (pointwise nat_eq (n j) (h.0 j)) (v ∷ values_of ps) (p.1 ∷ values-insert k v ps h.2 n j))
+pub value-sound : (ps : Named TabledQuery) (name : List ℕ) (t : TabledQuery) → AreSound ps → value_of ps name ≡ Some t → IsSound t
+value-sound [] name t h q = let bad : ⊥ = cc in absurd bad
+value-sound (p ∷ ps) name t h q = by (is_same name p.0) q (value-sound ps name t h.1)
+  where
+    by : (b : Bool) → cond b (Some p.1) (value_of ps name) ≡ Some t → (value_of ps name ≡ Some t → IsSound t) → IsSound t
+    by true r rest = subst IsSound (some_is r) h.0
+    by false r rest = rest r
 
-  pub AreKept-insert : (k : Vec ℕ Z) (v : Entry) (ps : List (Vec ℕ Z × Entry)) → AreKept ps → IsSound v → k.items ≡ v.name → AreKept (insert_entry same_key ps k v)
-  AreKept-insert k v [] h s n = (n, s, tt)
-  AreKept-insert k v (p ∷ ps) h s n = by (same_key k p.0) refl (AreKept-insert k v ps h.2 s n)
-    where
-      by : (b : Bool) → b ≡ same_key k p.0 → AreKept (insert_entry same_key ps k v) → AreKept (cond b ((p.0, v) ∷ ps) (p ∷ insert_entry same_key ps k v))
-      by true q rest = (sym (same_text k.items p.0.items q) ∙ n, s, h.2)
-      by false q rest = (h.0, h.1, rest)
+pub AreSound-put : (ps : Named TabledQuery) (name : List ℕ) (t : TabledQuery) → AreSound ps → IsSound t → AreSound (put ps name t)
+AreSound-put [] name t h s = (s, tt)
+AreSound-put (p ∷ ps) name t h s = by (is_same name p.0) (AreSound-put ps name t h.1 s)
+  where
+    by : (b : Bool) → AreSound (put ps name t) → AreSound (cond b ((name, t) ∷ ps) (p ∷ put ps name t))
+    by true rest = (s, h.1)
+    by false rest = (h.0, rest)
 
-  pub values-remove : (name : List ℕ) (ps : List (Vec ℕ Z × Entry)) → AreKept ps → values_of (remove_entry (λ k. pointwise nat_eq name k.items) ps) ≡ without_entry (values_of ps) name
-  values-remove name [] h = refl
-  values-remove name (p ∷ ps) h =
-      values-cond (pointwise nat_eq name p.0.items) ps (p ∷ remove_entry (λ k. pointwise nat_eq name k.items) ps)
-      ∙ (λ j. cond (pointwise nat_eq name (h.0 j)) (values_of ps) (p.1 ∷ values-remove name ps h.2 j))
+pub AreSound-taken_out : (ps : Named TabledQuery) (name : List ℕ) → AreSound ps → AreSound (taken_out ps name)
+AreSound-taken_out [] name h = tt
+AreSound-taken_out (p ∷ ps) name h = by (is_same name p.0) (AreSound-taken_out ps name h.1)
+  where
+    by : (b : Bool) → AreSound (taken_out ps name) → AreSound (cond b ps (p ∷ taken_out ps name))
+    by true rest = h.1
+    by false rest = (h.0, rest)
 
-  pub AreKept-remove : (name : List ℕ) (ps : List (Vec ℕ Z × Entry)) → AreKept ps → AreKept (remove_entry (λ k. pointwise nat_eq name k.items) ps)
-  AreKept-remove name [] h = tt
-  AreKept-remove name (p ∷ ps) h = by (pointwise nat_eq name p.0.items) (AreKept-remove name ps h.2)
-    where
-      by : (b : Bool) → AreKept (remove_entry (λ k. pointwise nat_eq name k.items) ps) → AreKept (cond b ps (p ∷ remove_entry (λ k. pointwise nat_eq name k.items) ps))
-      by true rest = h.2
-      by false rest = (h.0, h.1, rest)
+names-entries : (ps : Named TabledQuery) → map (λ q. q.0) (queries_of (entries_of ps)) ≡ map (λ p. p.0) ps
+names-entries [] = refl
+names-entries (p ∷ ps) = ap (λ ns. p.0 ∷ ns) (names-entries ps)
 
-  names-apart : (n : List ℕ) (k : Vec ℕ Z) (ps : List (Vec ℕ Z × Entry)) → AreKept ps → k.items ≡ n → AllByRecursion (λ l. same_key k l ≡ false) (keys_of ps) → AllByRecursion (λ m. is_same n m ≡ false) (map (λ q. q.0) (queries_of (values_of ps)))
-  names-apart n k [] h q a = tt
-  names-apart n k (p ∷ ps) h q a =
-      let e : same_key k p.0 ≡ is_same n p.1.name = λ j. pointwise nat_eq (q j) (h.0 j) in
-      (sym e ∙ a.0, names-apart n k ps h.2 q a.1)
-
-  pub names-distinct : (ps : List (Vec ℕ Z × Entry)) → AreKept ps → IsDistinct same_key (keys_of ps) → AreDistinctNames (queries_of (values_of ps))
-  names-distinct [] h d = distinct-none
-  names-distinct (p ∷ ps) h d =
-      IsDistinct-cons is_same p.1.name (map (λ q. q.0) (queries_of (values_of ps))) (names-apart p.1.name p.0 ps h.2 h.0 (IsDistinct-head same_key p.0 (keys_of ps) d)) (names-distinct ps h.2 (IsDistinct-tail same_key p.0 (keys_of ps) d))
+pub names-distinct : (ps : Named TabledQuery) → AreDistinctNames ps → AreDistinctNames (queries_of (entries_of ps))
+names-distinct ps d = subst (IsDistinct is_same) (sym (names-entries ps)) d

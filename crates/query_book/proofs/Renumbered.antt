@@ -1,7 +1,7 @@
--- What the map's entries say where their tables are renumbered.
-use Rattle.std.proofs.Common.{◌≡◌, ℕ, zero, suc, ◌<◌, ◌≤◌, Bool, List, [], ◌∷◌, length, get_or, slice_get, Some, Vec, Contains, sym, ap, subst, ◌∙◌, arith}
+-- What the map's queries say where their tables are renumbered.
+use Rattle.std.proofs.Common.{◌≡◌, ℕ, zero, suc, ◌<◌, ◌≤◌, Bool, List, [], ◌∷◌, length, get_or, slice_get, Some, Contains, sym, ap, subst, ◌∙◌, arith}
 use Rattle.std.specs.Prelude.{unwrap_or}
-use Rattle.std.specs.Map.{values_of}
+use Rattle.std.specs.Option.{option_map}
 use Rattle.span_types.specs.Query.{query_of}
 use Rattle.slp_model.specs.declared.Node.{Node}
 use Rattle.slp_model.specs.Thin.{rank, IsThinOf}
@@ -11,10 +11,12 @@ use Rattle.state_tables.specs.Table.{Row, compose_of}
 use Rattle.state_tables.specs.Dictionary.{Dictionary, AreTables, count_of}
 use Rattle.table_grow.specs.Remembering.{Entry as Remembered, IsTrueEntry}
 use Rattle.query_book.specs.declared.entry.Entry.{Entry}
-use Rattle.query_book.specs.Book.{queries_of}
+use Rattle.query_book.specs.declared.entry.TabledQuery.{TabledQuery}
+use Rattle.query_book.specs.Named.{Named}
+use Rattle.query_book.specs.Book.{entries_of, queries_of}
 use Rattle.query_book.specs.Compiling.{IsCompiled}
 use Rattle.query_book.specs.Serving.{IsServed, Serves, covered_of}
-use Rattle.query_book.specs.Kept.{IsSound, AreKept}
+use Rattle.query_book.specs.Kept.{IsSound, AreSound}
 use Rattle.query_book.specs.Growing.{ChangesFirst}
 use Rattle.query_book.specs.Renumbering.{Renumbers, AreWithin, ranked}
 
@@ -35,14 +37,14 @@ true-same d e r k h = record {
 }
 
 -- what the tables' numbers are tells nothing of the kept tables
-pub sound-same : (old new : Entry) → new.query ≡ old.query → new.memory ≡ old.memory → new.tables.kept ≡ old.tables.kept → new.tables.states ≡ old.tables.states → IsSound old → IsSound new
+pub sound-same : (old new : TabledQuery) → new.query ≡ old.query → new.memory ≡ old.memory → new.tables.kept ≡ old.tables.kept → new.tables.states ≡ old.tables.states → IsSound old → IsSound new
 sound-same old new query memory kept states s = record {
   compiled = subst IsCompiled (sym query) s.compiled;
   states = states ∙ (s.states ∙ ap (λ q. states_of q.dfa) (sym query));
   memory = λ r there. true-same old.tables new.tables r kept (s.memory r (subst (λ rs. Contains rs r) memory there));
 }
 
-pub served-thin : (ns ms : List Node) (keep : List Bool) (old new : Entry) → IsThinOf ns keep ms → new.query ≡ old.query → count_of new.tables ≡ rank keep (count_of old.tables)
+pub served-thin : (ns ms : List Node) (keep : List Bool) (old new : TabledQuery) → IsThinOf ns keep ms → new.query ≡ old.query → count_of new.tables ≡ rank keep (count_of old.tables)
     → (AreTables old.query.dfa ns old.tables → AreTables old.query.dfa ms new.tables) → IsServed ns old → IsServed ms new
 served-thin ns ms keep old new thin query count tables s = record {
   covered = omega (arith, count, rank-up keep (count_of old.tables) (length ns) s.covered, thin.long);
@@ -56,37 +58,37 @@ pub within-all : (keep : List Bool) (ns : List Node) (es : List Entry) → lengt
 within-all keep ns [] long s = tt
 within-all keep ns (e ∷ es) long s = (omega (arith, long, s.0.covered), within-all keep ns es long s.1)
 
-module _ {Z : Type 0} (keep : List Bool) where
-  pub within-at : (ps : List (Vec ℕ Z × Entry)) (i : ℕ) (v : Entry) → AreWithin keep (values_of ps) → slice_get (values_of ps) i ≡ Some v → count_of v.tables ≤ length keep
+module _ (keep : List Bool) where
+  pub within-at : (ps : Named TabledQuery) (i : ℕ) (v : TabledQuery) → AreWithin keep (entries_of ps) → option_map (λ p. p.1) (slice_get ps i) ≡ Some v → count_of v.tables ≤ length keep
   within-at [] i v h at = let bad : ⊥ = cc in absurd bad
-  within-at (p ∷ ps) zero v h at = subst (λ (e : Entry). count_of e.tables ≤ length keep) (some_is at) h.0
+  within-at (p ∷ ps) zero v h at = subst (λ (t : TabledQuery). count_of t.tables ≤ length keep) (some_is at) h.0
   within-at (p ∷ ps) (suc i) v h at = within-at ps i v h.1 at
 
   -- the first ones were renumbered
-  pub within-after : (n : ℕ) (ps qs : List (Vec ℕ Z × Entry)) → AreWithin keep (values_of ps) → ChangesFirst (Renumbers keep) n ps qs → AreWithin keep (values_of qs)
-  within-after zero ps qs w h = subst (λ xs. AreWithin keep (values_of xs)) (sym h) w
-  within-after (suc n) [] qs w h = subst (λ xs. AreWithin keep (values_of xs)) (sym h) tt
+  pub within-after : (n : ℕ) (ps qs : Named TabledQuery) → AreWithin keep (entries_of ps) → ChangesFirst (Renumbers keep) n ps qs → AreWithin keep (entries_of qs)
+  within-after zero ps qs w h = subst (λ xs. AreWithin keep (entries_of xs)) (sym h) w
+  within-after (suc n) [] qs w h = subst (λ xs. AreWithin keep (entries_of xs)) (sym h) tt
   within-after (suc n) (p ∷ ps) [] w h = absurd h
   within-after (suc n) (p ∷ ps) (q ∷ qs) w h = (omega (arith, w.0, h.1.count, rank-most keep (count_of p.1.tables)), within-after n ps qs w.1 h.2)
 
-  pub kept-after : (n : ℕ) (ps qs : List (Vec ℕ Z × Entry)) → AreKept ps → ChangesFirst (Renumbers keep) n ps qs → AreKept qs
-  kept-after zero ps qs k h = subst AreKept (sym h) k
-  kept-after (suc n) [] qs k h = subst AreKept (sym h) tt
-  kept-after (suc n) (p ∷ ps) [] k h = absurd h
-  kept-after (suc n) (p ∷ ps) (q ∷ qs) k h = (ap (λ key. key.items) h.0 ∙ (k.0 ∙ sym h.1.name), h.1.sound, kept-after n ps qs k.2 h.2)
+  pub sound-after : (n : ℕ) (ps qs : Named TabledQuery) → AreSound ps → ChangesFirst (Renumbers keep) n ps qs → AreSound qs
+  sound-after zero ps qs k h = subst AreSound (sym h) k
+  sound-after (suc n) [] qs k h = subst AreSound (sym h) tt
+  sound-after (suc n) (p ∷ ps) [] k h = absurd h
+  sound-after (suc n) (p ∷ ps) (q ∷ qs) k h = (h.1.sound, sound-after n ps qs k.1 h.2)
 
   -- all were
-  pub serves-after : (ns ms : List Node) → IsThinOf ns keep ms → (ps qs : List (Vec ℕ Z × Entry)) → ChangesFirst (Renumbers keep) (length ps) ps qs → Serves ns (values_of ps) → Serves ms (values_of qs)
-  serves-after ns ms thin [] qs h s = subst (λ xs. Serves ms (values_of xs)) (sym h) tt
+  pub serves-after : (ns ms : List Node) → IsThinOf ns keep ms → (ps qs : Named TabledQuery) → ChangesFirst (Renumbers keep) (length ps) ps qs → Serves ns (entries_of ps) → Serves ms (entries_of qs)
+  serves-after ns ms thin [] qs h s = subst (λ xs. Serves ms (entries_of xs)) (sym h) tt
   serves-after ns ms thin (p ∷ ps) [] h s = absurd h
   serves-after ns ms thin (p ∷ ps) (q ∷ qs) h s = (h.1.served ns ms thin s.0, serves-after ns ms thin ps qs h.2 s.1)
 
-  pub queries-after : (ps qs : List (Vec ℕ Z × Entry)) → ChangesFirst (Renumbers keep) (length ps) ps qs → queries_of (values_of qs) ≡ queries_of (values_of ps)
-  queries-after [] qs h = ap (λ xs. queries_of (values_of xs)) h
+  pub queries-after : (ps qs : Named TabledQuery) → ChangesFirst (Renumbers keep) (length ps) ps qs → queries_of (entries_of qs) ≡ queries_of (entries_of ps)
+  queries-after [] qs h = ap (λ xs. queries_of (entries_of xs)) h
   queries-after (p ∷ ps) [] h = absurd h
-  queries-after (p ∷ ps) (q ∷ qs) h = λ j. (h.1.name j, query_of (h.1.query j).tree) ∷ queries-after ps qs h.2 j
+  queries-after (p ∷ ps) (q ∷ qs) h = λ j. (h.0 j, query_of (h.1.query j).tree) ∷ queries-after ps qs h.2 j
 
-  pub covered-after : (ps qs : List (Vec ℕ Z × Entry)) → ChangesFirst (Renumbers keep) (length ps) ps qs → covered_of (values_of qs) ≡ ranked keep (covered_of (values_of ps))
-  covered-after [] qs h = ap (λ xs. covered_of (values_of xs)) h
+  pub covered-after : (ps qs : Named TabledQuery) → ChangesFirst (Renumbers keep) (length ps) ps qs → covered_of (entries_of qs) ≡ ranked keep (covered_of (entries_of ps))
+  covered-after [] qs h = ap (λ xs. covered_of (entries_of xs)) h
   covered-after (p ∷ ps) [] h = absurd h
-  covered-after (p ∷ ps) (q ∷ qs) h = λ j. (h.1.name j, h.1.count j) ∷ covered-after ps qs h.2 j
+  covered-after (p ∷ ps) (q ∷ qs) h = λ j. (h.0 j, h.1.count j) ∷ covered-after ps qs h.2 j

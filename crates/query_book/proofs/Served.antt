@@ -6,15 +6,16 @@ use Rattle.slp_model.proofs.NodesLemmas.{tree-append}
 use Rattle.state_tables.specs.Dictionary.{count_of, table_of}
 use Rattle.state_tables.specs.Meaning.{IsTable}
 use Rattle.query_book.specs.declared.entry.Entry.{Entry}
+use Rattle.query_book.specs.declared.entry.TabledQuery.{TabledQuery}
 use Rattle.query_book.specs.Named.{is_same}
 use Rattle.query_book.specs.Book.{with_entry, without_entry}
 use Rattle.query_book.specs.Serving.{IsServed, Serves}
 
 -- no node, so no table
-pub served-none : (ns : List Node) (e : Entry) → count_of e.tables ≡ 0 → IsServed ns e
-served-none ns e z = record { covered = omega (arith, z); tables = λ id lt. absurd (omega (arith, z, lt)) }
+pub served-none : (ns : List Node) (t : TabledQuery) → count_of t.tables ≡ 0 → IsServed ns t
+served-none ns t z = record { covered = omega (arith, z); tables = λ id lt. absurd (omega (arith, z, lt)) }
 
-pub serves-with_entry : (ns : List Node) (es : List Entry) (x : Entry) → Serves ns es → IsServed ns x → Serves ns (with_entry es x)
+pub serves-with_entry : (ns : List Node) (es : List Entry) (x : Entry) → Serves ns es → IsServed ns x.tabled → Serves ns (with_entry es x)
 serves-with_entry ns [] x h s = (s, tt)
 serves-with_entry ns (e ∷ es) x h s = by (is_same x.name e.name) (serves-with_entry ns es x h.1 s)
   where
@@ -30,12 +31,12 @@ serves-without_entry ns (e ∷ es) name h = by (is_same name e.name) (serves-wit
     by true rest = h.1
     by false rest = (h.0, rest)
 
-served-more : (ns ms : List Node) (e : Entry) → IsServed ns e → IsServed (ns ++ ms) e
-served-more ns ms e s = record {
+served-more : (ns ms : List Node) (t : TabledQuery) → IsServed ns t → IsServed (ns ++ ms) t
+served-more ns ms t s = record {
   covered = omega (arith, s.covered, length-append ns ms);
-  tables = λ id lt. subst (λ t. IsTable e.query.dfa (text t) (table_of e.tables id)) (sym (tree-append ns ms id (omega (arith, lt, s.covered)))) (s.tables id lt);
+  tables = λ id lt. subst (λ x. IsTable t.query.dfa (text x) (table_of t.tables id)) (sym (tree-append ns ms id (omega (arith, lt, s.covered)))) (s.tables id lt);
 }
 
 pub serves-more : (ns ms : List Node) (es : List Entry) → Serves ns es → Serves (ns ++ ms) es
 serves-more ns ms [] h = tt
-serves-more ns ms (e ∷ es) h = (served-more ns ms e h.0, serves-more ns ms es h.1)
+serves-more ns ms (e ∷ es) h = (served-more ns ms e.tabled h.0, serves-more ns ms es h.1)

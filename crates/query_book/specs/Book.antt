@@ -2,6 +2,7 @@
 use Rattle.std.specs.Prelude.{◌≡◌, ℕ, cond, List, [], ◌∷◌, map, Option, Some, None}
 use Rattle.span_types.specs.Query.{Query, query_of}
 use Rattle.query_book.specs.declared.entry.Entry.{Entry}
+use Rattle.query_book.specs.declared.entry.TabledQuery.{TabledQuery}
 use Rattle.query_book.specs.declared.refusal.BookRefusal.{BookRefusal}
 use Rattle.query_book.specs.declared.refusal.BookRefusal.TheVariants.{NoSuchQuery}
 use Rattle.query_book.specs.Named.{Named, is_same, value_of}
@@ -10,19 +11,27 @@ use Rattle.query_book.specs.Named.{Named, is_same, value_of}
 abbrev pub Book : Type 0
 Book = List Entry
 
+-- the entry of a name and its query
+abbrev pub entry : List ℕ × TabledQuery → Entry
+entry p = record { name = p.0; tabled = p.1 }
+
+-- the entries of queries by name
+abbrev pub entries_of : Named TabledQuery → Book
+entries_of ps = map entry ps
+
 -- the queries by name
 abbrev pub queries_of : Book → Named Query
-queries_of es = map (λ e. (e.name, query_of e.query.tree)) es
+queries_of es = map (λ e. (e.name, query_of e.tabled.query.tree)) es
 
 -- no query has the name, and the refusal says so
 pub record IsMissing (queries : Named Query) (name : List ℕ) (why : BookRefusal) : Type 0 where
   pub none : value_of queries name ≡ None
   pub refusal : why ≡ NoSuchQuery
 
--- the entry with this name
-abbrev pub entry_of : Book → List ℕ → Option Entry
-entry_of [] name = None
-entry_of (e ∷ es) name = cond (is_same name e.name) (Some e) (entry_of es name)
+-- the query with this name and its tables
+abbrev pub tabled_of : Book → List ℕ → Option TabledQuery
+tabled_of [] name = None
+tabled_of (e ∷ es) name = cond (is_same name e.name) (Some e.tabled) (tabled_of es name)
 
 -- a present name keeps its place and has the entry, and a new one goes last
 abbrev pub with_entry : Book → Entry → Book

@@ -1,17 +1,18 @@
--- The entries of the map.
-use Rattle.std.specs.Prelude.{◌≡◌, ℕ, List, [], ◌∷◌, Vec}
+-- The queries of the map.
+use Rattle.std.specs.Prelude.{◌≡◌}
+use Rattle.std.specs.List.{AllByRecursion}
 use Rattle.marker_dfa.specs.Deterministic.{states_of}
 use Rattle.table_grow.specs.Remembering.{AreTrueEntries}
-use Rattle.query_book.specs.declared.entry.Entry.{Entry}
+use Rattle.query_book.specs.declared.entry.TabledQuery.{TabledQuery}
 use Rattle.query_book.specs.Compiling.{IsCompiled}
+use Rattle.query_book.specs.Named.{Named}
 
--- the parts of an entry fit together
-pub record IsSound (e : Entry) : Type 0 where
-  pub compiled : IsCompiled e.query
-  pub states : e.tables.states ≡ states_of e.query.dfa
-  pub memory : AreTrueEntries e.tables e.memory
+-- the query, its tables and their compositions fit together
+pub record IsSound (t : TabledQuery) : Type 0 where
+  pub compiled : IsCompiled t.query
+  pub states : t.tables.states ≡ states_of t.query.dfa
+  pub memory : AreTrueEntries t.tables t.memory
 
--- each key has the bytes of its entry's name, and each entry is sound
-abbrev pub AreKept : {Z : Type 0} → List (Vec ℕ Z × Entry) → Type 0
-AreKept [] = Unit {0}
-AreKept (p ∷ ps) = (p.0.items ≡ p.1.name) × IsSound p.1 × AreKept ps
+-- each query is sound
+abbrev pub AreSound : Named TabledQuery → Type 0
+AreSound ps = AllByRecursion (λ p. IsSound p.1) ps

@@ -7,7 +7,7 @@ use Rattle.query_book.specs.Kept.{IsSound}
 
 -- an entry of this query with tables of no node
 pub record IsFresh (name : List ℕ) (query : Compiled) (e : Entry) : Type 0 where
-  pub sound : IsSound e
+  pub sound : IsSound e.tabled
   pub name_is : e.name ≡ name
-  pub query_is : e.query ≡ query
-  pub none : count_of e.tables ≡ 0
+  pub query_is : e.tabled.query ≡ query
+  pub none : count_of e.tabled.tables ≡ 0

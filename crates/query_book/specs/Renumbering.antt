@@ -6,6 +6,7 @@ use Rattle.slp_model.specs.Kept.{IsPlanOf}
 use Rattle.slp_model.specs.Thin.{rank, IsThinOf}
 use Rattle.state_tables.specs.Dictionary.{count_of}
 use Rattle.query_book.specs.declared.entry.Entry.{Entry}
+use Rattle.query_book.specs.declared.entry.TabledQuery.{TabledQuery}
 use Rattle.query_book.specs.Named.{Named}
 use Rattle.query_book.specs.Book.{Book}
 use Rattle.query_book.specs.Kept.{IsSound}
@@ -22,8 +23,7 @@ abbrev pub ranked : List Bool → Named ℕ → Named ℕ
 ranked keep ps = map (λ p. (p.0, rank keep p.1)) ps
 
 -- the query stays, and exactly the kept ones of the nodes that had tables have them
-pub record Renumbers (keep : List Bool) (old new : Entry) : Type 0 where
-  pub name : new.name ≡ old.name
+pub record Renumbers (keep : List Bool) (old new : TabledQuery) : Type 0 where
   pub query : new.query ≡ old.query
   pub sound : IsSound new
   pub count : count_of new.tables ≡ rank keep (count_of old.tables)
@@ -31,4 +31,4 @@ pub record Renumbers (keep : List Bool) (old new : Entry) : Type 0 where
 
 -- in each query it is said of all nodes with tables whether they are kept
 abbrev pub AreWithin : List Bool → List Entry → Type 0
-AreWithin keep es = AllByRecursion (λ e. count_of e.tables ≤ length keep) es
+AreWithin keep es = AllByRecursion (λ e. count_of e.tabled.tables ≤ length keep) es

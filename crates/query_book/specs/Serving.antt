@@ -3,22 +3,22 @@ use Rattle.std.specs.Prelude.{◌≡◌, ◌⊎◌, ℕ, ◌+◌, ◌≤◌, Lis
 use Rattle.std.specs.List.{AllByRecursion}
 use Rattle.slp_model.specs.declared.Node.{Node}
 use Rattle.state_tables.specs.Dictionary.{AreTables, count_of}
-use Rattle.query_book.specs.declared.entry.Entry.{Entry}
+use Rattle.query_book.specs.declared.entry.TabledQuery.{TabledQuery}
 use Rattle.query_book.specs.Named.{Named}
 use Rattle.query_book.specs.Book.{Book}
 
 -- the query's tables are those of the first nodes of the list
-pub record IsServed (ns : List Node) (e : Entry) : Type 0 where
-  pub covered : count_of e.tables ≤ length ns
-  pub tables : AreTables e.query.dfa ns e.tables
+pub record IsServed (ns : List Node) (t : TabledQuery) : Type 0 where
+  pub covered : count_of t.tables ≤ length ns
+  pub tables : AreTables t.query.dfa ns t.tables
 
 -- in each query the tables are those of the first nodes of the list
 abbrev pub Serves : List Node → Book → Type 0
-Serves ns es = AllByRecursion (IsServed ns) es
+Serves ns es = AllByRecursion (λ e. IsServed ns e.tabled) es
 
 -- how many nodes have tables in each query, by name
 abbrev pub covered_of : Book → Named ℕ
-covered_of es = map (λ e. (e.name, count_of e.tables)) es
+covered_of es = map (λ e. (e.name, count_of e.tabled.tables)) es
 
 -- the same number for each name
 abbrev pub all_at : ℕ → Named ℕ → Named ℕ

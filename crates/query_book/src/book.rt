@@ -8,17 +8,17 @@ ghost use Rattle.slp_model.specs.Thin.{IsThinOf};
 ghost use Rattle.query_book.specs.Named.{AreDistinctNames, put, taken_out, value_of};
 ghost use Rattle.query_book.specs.Compiling.{IsCompiled};
 ghost use Rattle.query_book.specs.Registering.{IsQueryOf, IsRefused};
-ghost use Rattle.query_book.specs.Book.{IsMissing, entry_of, queries_of, with_entry, without_entry};
+ghost use Rattle.query_book.specs.Book.{IsMissing, queries_of, tabled_of, with_entry, without_entry};
 ghost use Rattle.query_book.specs.Serving.{ArePartlyAt, Covers, Serves, all_at, covered_of, sum_of};
 ghost use Rattle.query_book.specs.Kept.{IsSound};
 ghost use Rattle.query_book.specs.Renumbering.{IsPlanFor, ranked};
 
 use crate::compiled::{Compiled, compile};
-use crate::entry::{Entry, fresh_entry};
+use crate::entry::{Entry, TabledQuery, fresh_entry};
 use crate::growing::grow_entries;
 use crate::refusal::{BookRefusal, QueryRefusal};
 use crate::renumbering::renumber_entries;
-use indexmap::IndexMap;
+use name_map::NameMap;
 use node_store::{Moves, Store};
 use span_types::{Name, NoMemory, Steps, Vars};
 use std::alloc::Global;
@@ -30,14 +30,14 @@ use work_gate::Gate;
 /// Queries with distinct names, in the order in which the names came. A look-up by name takes expected constant time.
 #[derive(Drop)]
 pub struct QueryBook {
-    by_name: IndexMap<Vec<u8>, Entry>,
+    by_name: NameMap<TabledQuery>,
 }
 
 impl Model for QueryBook {
     ghost use Rattle.std.specs.Prelude.{List};
-    ghost use Rattle.indexmap.specs.IndexMap.{values};
     ghost use Rattle.query_book.specs.declared.entry.Entry.{Entry};
-    ghost use Rattle.query_book.specs.Kept.{AreKept};
+    ghost use Rattle.query_book.specs.Book.{entries_of};
+    ghost use Rattle.query_book.specs.Kept.{AreSound};
     ghost use Rattle.span_types.specs.contracts.query.QueryTree as query_tree;
     ghost use Rattle.std.specs.Coded.{codes};
 
@@ -45,9 +45,9 @@ impl Model for QueryBook {
 
     ghost coded = { Prim.hlevel (codes, query_tree.the_row.coded) };
 
-    ghost view = { λ b. values b.by_name };
+    ghost view = { λ b. entries_of b.by_name };
 
-    ghost invariant = { λ b. AreKept b.by_name.entries };
+    ghost invariant = { λ b. AreSound b.by_name };
 }
 
 impl QueryBook {
@@ -57,7 +57,7 @@ impl QueryBook {
         ensures serves { (ns : List Node) → Serves ns result }
     {
         QueryBook {
-            by_name: IndexMap::new(alloc),
+            by_name: NameMap::new(alloc),
         }
     }
 
@@ -81,7 +81,8 @@ impl QueryBook {
         Ok(())
     }
 
-    /// Takes the query with this name out, and the rest close up. Takes time linear in the number of queries.
+    /// Takes the query with this name out, and the rest close up. The first query takes amortised expected constant
+    /// time, and another time linear in the number of queries.
     ///
     /// # Errors
     ///
@@ -106,7 +107,7 @@ impl QueryBook {
     pub fn vars(&self, name: &[u8]) -> Result<&Vars, BookRefusal>
         ensures { MatchResult result (λ vars. option_map names_of (value_of (queries_of self.now) name.now) ≡ Some vars.now) (IsMissing (queries_of self.now) name.now) }
     {
-        Ok(&self.entry(name)?.query.vars)
+        Ok(&self.tabled(name)?.query.vars)
     }
 
     /// Gives each node of the store that has no table in some query its table. The store is the one used before, grown.
@@ -149,14 +150,14 @@ impl QueryBook {
         renumber_entries(&mut self.by_name, moves);
     }
 
-    /// The entry with this name.
-    pub(crate) fn entry(&self, name: &[u8]) -> Result<&Entry, BookRefusal>
-        ensures found { IfOk result (λ e. entry_of self.now name.now ≡ Some e.now) }
-        ensures sound { IfOk result (λ e. IsSound e.now) }
+    /// The query with this name and its tables.
+    pub(crate) fn tabled(&self, name: &[u8]) -> Result<&TabledQuery, BookRefusal>
+        ensures found { IfOk result (λ t. tabled_of self.now name.now ≡ Some t.now) }
+        ensures sound { IfOk result (λ t. IsSound t.now) }
         ensures missing { IfErr result (IsMissing (queries_of self.now) name.now) }
     {
         match self.by_name.get(name) {
-            Some(entry) => Ok(entry),
+            Some(tabled) => Ok(tabled),
             None => Err(BookRefusal::NoSuchQuery),
         }
     }
@@ -182,13 +183,15 @@ impl QueryBook {
 
     /// Takes the entry with this name out.
     fn take(&mut self, name: &[u8]) -> Result<(), BookRefusal>
-        ensures ok { OnOk result (IsSome (entry_of self.old name.now)) }
+        ensures ok { OnOk result (IsSome (tabled_of self.old name.now)) }
         ensures rest { self.new ≡ without_entry self.old name.now }
         ensures distinct { AreDistinctNames (queries_of self.new) }
         ensures missing { IfErr result (IsMissing (queries_of self.old) name.now) }
         ensures err { OnErr result (self.new ≡ self.old) }
     {
-        match self.by_name.shift_remove(name) {
+        let taken = self.by_name.take_out(name);
+        let _count = self.by_name.count();
+        match taken {
             Some(_) => Ok(()),
             None => Err(BookRefusal::NoSuchQuery),
         }
@@ -196,15 +199,13 @@ impl QueryBook {
 
     /// Gives the entry's name this entry.
     fn put(&mut self, alloc: Global, entry: Entry) -> Result<(), NoMemory>
-        requires { IsSound entry }
+        requires { IsSound entry.tabled }
         ensures ok { OnOk result (self.new ≡ with_entry self.old entry) }
         ensures distinct { OnOk result (AreDistinctNames (queries_of self.new)) }
         ensures err { OnErr result (self.new ≡ self.old) }
     {
-        let key = entry.name.bytes().to_vec(alloc)?;
-        match self.by_name.insert(key, entry) {
-            Ok(_) => Ok(()),
-            Err(_) => Err(NoMemory),
-        }
+        self.by_name.set(alloc, entry.name, entry.tabled)?;
+        let _count = self.by_name.count();
+        Ok(())
     }
 }

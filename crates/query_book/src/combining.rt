@@ -164,8 +164,8 @@ impl QueryBook {
         ensures compiled { IfOk result (λ c. IsCompiled c.now) }
         ensures absent { IfErr result (IsAbsent (queries_of self.now) name.now) }
     {
-        match self.entry(name) {
-            Ok(entry) => Ok(&entry.query),
+        match self.tabled(name) {
+            Ok(tabled) => Ok(&tabled.query),
             Err(_) => Err(CombineRefusal::NoSuchQuery {
                 name: name_of(alloc, name)?,
             }),

@@ -20,13 +20,19 @@ use work_gate::Gate;
 /// How many compositions are remembered for each query.
 const REMEMBERED: usize = 4096;
 
-/// A query with its name, its tables of the first nodes of a store, and compositions of these tables.
+/// A query with its tables of the first nodes of a store, and compositions of these tables.
 #[derive(Drop)]
-pub struct Entry {
-    pub(crate) name: Name,
+pub struct TabledQuery {
     pub(crate) query: Compiled,
     pub(crate) tables: Tables,
     pub(crate) memory: Memory,
+}
+
+/// A query with tables under its name.
+#[derive(Drop)]
+pub struct Entry {
+    pub(crate) name: Name,
+    pub(crate) tabled: TabledQuery,
 }
 
 /// An entry with tables of no node.
@@ -36,19 +42,19 @@ pub(crate) fn fresh_entry(alloc: Global, name: Name, query: Compiled) -> Result<
 {
     let tables = Tables::new(alloc, &query.dfa);
     let memory = Memory::new(alloc, REMEMBERED)?;
-    Ok(Entry {
-        name,
+    let tabled = TabledQuery {
         query,
         tables,
         memory,
-    })
+    };
+    Ok(Entry { name, tabled })
 }
 
 /// Gives each node of the store that has no table in the query its table.
-pub(crate) fn grow_entry<R: Threads + Sync, G: Gate, L: Ledger>(
+pub(crate) fn grow_query<R: Threads + Sync, G: Gate, L: Ledger>(
     rt: &R,
     alloc: Global,
-    entry: &mut Entry,
+    tabled: &mut TabledQuery,
     store: &Store,
     workers: u8,
     gate: &G,
@@ -56,19 +62,19 @@ pub(crate) fn grow_entry<R: Threads + Sync, G: Gate, L: Ledger>(
 ) -> Result<(), NoMemory>
     requires least { 1 ≤ workers }
     requires most { workers ≤ 64 }
-    requires sound { IsSound entry.old }
-    requires served { IsServed store.now entry.old }
-    ensures all { OnOk result (Grows store.now entry.old entry.new) }
-    ensures some { MayGrow store.now entry.old entry.new }
-    ensures steps { places.new + count_of entry.old.tables ≡ places.old + count_of entry.new.tables }
+    requires sound { IsSound tabled.old }
+    requires served { IsServed store.now tabled.old }
+    ensures all { OnOk result (Grows store.now tabled.old tabled.new) }
+    ensures some { MayGrow store.now tabled.old tabled.new }
+    ensures steps { places.new + count_of tabled.old.tables ≡ places.old + count_of tabled.new.tables }
 {
     grow(
         rt,
         alloc,
-        &mut entry.tables,
+        &mut tabled.tables,
         store,
-        &entry.query.dfa,
-        &mut entry.memory,
+        &tabled.query.dfa,
+        &mut tabled.memory,
         workers,
         gate,
         places,

@@ -1,12 +1,12 @@
 //! The tables of all queries, query by query.
 ghost use Rattle.std.specs.Prelude.{◌≡◌, ◌+◌, ◌<◌, ◌≤◌, length, OnOk, OnErr};
-ghost use Rattle.std.specs.Map.{values_of};
+ghost use Rattle.query_book.specs.Book.{entries_of};
 ghost use Rattle.query_book.specs.Growing.{ChangesAt, ChangesFirst, Grows, MayGrow};
-ghost use Rattle.query_book.specs.Kept.{AreKept};
+ghost use Rattle.query_book.specs.Kept.{AreSound};
 ghost use Rattle.query_book.specs.Serving.{Serves, covered_of, sum_of};
 
-use crate::entry::{Entry, grow_entry};
-use indexmap::IndexMap;
+use crate::entry::{TabledQuery, grow_query};
+use name_map::NameMap;
 use node_store::Store;
 use span_types::{NoMemory, Steps};
 use std::alloc::Global;
@@ -19,7 +19,7 @@ use work_gate::Gate;
 pub(crate) fn grow_entries<R: Threads + Sync, G: Gate, L: Ledger>(
     rt: &R,
     alloc: Global,
-    by_name: &mut IndexMap<Vec<u8>, Entry>,
+    by_name: &mut NameMap<TabledQuery>,
     store: &Store,
     workers: u8,
     gate: &G,
@@ -27,13 +27,13 @@ pub(crate) fn grow_entries<R: Threads + Sync, G: Gate, L: Ledger>(
 ) -> Result<(), NoMemory>
     requires least { 1 ≤ workers }
     requires most { workers ≤ 64 }
-    requires kept { AreKept by_name.old.entries }
-    requires served { Serves store.now (values_of by_name.old.entries) }
-    ensures all { OnOk result (ChangesFirst (Grows store.now) (length by_name.old.entries) by_name.old.entries by_name.new.entries) }
-    ensures some { ChangesFirst (MayGrow store.now) (length by_name.old.entries) by_name.old.entries by_name.new.entries }
-    ensures steps { places.new + sum_of (covered_of (values_of by_name.old.entries)) ≡ places.old + sum_of (covered_of (values_of by_name.new.entries)) }
+    requires kept { AreSound by_name.old }
+    requires served { Serves store.now (entries_of by_name.old) }
+    ensures all { OnOk result (ChangesFirst (Grows store.now) (length by_name.old) by_name.old by_name.new) }
+    ensures some { ChangesFirst (MayGrow store.now) (length by_name.old) by_name.old by_name.new }
+    ensures steps { places.new + sum_of (covered_of (entries_of by_name.old)) ≡ places.old + sum_of (covered_of (entries_of by_name.new)) }
 {
-    for place in 0..by_name.len() {
+    for place in 0..by_name.count() {
         grow_at(rt, alloc, by_name, place, store, workers, gate, places)?;
     }
     Ok(())
@@ -43,7 +43,7 @@ pub(crate) fn grow_entries<R: Threads + Sync, G: Gate, L: Ledger>(
 fn grow_at<R: Threads + Sync, G: Gate, L: Ledger>(
     rt: &R,
     alloc: Global,
-    by_name: &mut IndexMap<Vec<u8>, Entry>,
+    by_name: &mut NameMap<TabledQuery>,
     place: usize,
     store: &Store,
     workers: u8,
@@ -52,15 +52,13 @@ fn grow_at<R: Threads + Sync, G: Gate, L: Ledger>(
 ) -> Result<(), NoMemory>
     requires least { 1 ≤ workers }
     requires most { workers ≤ 64 }
-    requires place { place < length by_name.old.entries }
-    requires kept { AreKept by_name.old.entries }
-    requires served { Serves store.now (values_of by_name.old.entries) }
-    ensures all { OnOk result (ChangesAt (Grows store.now) place by_name.old.entries by_name.new.entries) }
-    ensures some { ChangesAt (MayGrow store.now) place by_name.old.entries by_name.new.entries }
-    ensures steps { places.new + sum_of (covered_of (values_of by_name.old.entries)) ≡ places.old + sum_of (covered_of (values_of by_name.new.entries)) }
+    requires place { place < length by_name.old }
+    requires kept { AreSound by_name.old }
+    requires served { Serves store.now (entries_of by_name.old) }
+    ensures all { OnOk result (ChangesAt (Grows store.now) place by_name.old by_name.new) }
+    ensures some { ChangesAt (MayGrow store.now) place by_name.old by_name.new }
+    ensures steps { places.new + sum_of (covered_of (entries_of by_name.old)) ≡ places.old + sum_of (covered_of (entries_of by_name.new)) }
 {
-    match by_name.get_index_mut(place) {
-        Some(entry) => grow_entry(rt, alloc, entry, store, workers, gate, places),
-        None => Ok(()),
-    }
+    let tabled = by_name.value_mut(place);
+    grow_query(rt, alloc, tabled, store, workers, gate, places)
 }

@@ -34,8 +34,8 @@ impl QueryBook {
         ensures query { IfOk result (λ p. IsNamed (queries_of self.now) name.now (HasAnswersOf p.1.now)) }
         ensures missing { IfErr result (IsMissing (queries_of self.now) name.now) }
     {
-        let entry = self.entry(name)?;
-        let _states = entry.query.dfa.states();
-        Ok((entry.tables.view(store), &entry.query.dfa))
+        let tabled = self.tabled(name)?;
+        let _states = tabled.query.dfa.states();
+        Ok((tabled.tables.view(store), &tabled.query.dfa))
     }
 }

@@ -155,8 +155,8 @@ impl QueryBook {
         if let Some(id) = root {
             let _len = store.len(id);
         }
-        let entry = self.entry(name)?;
-        let _states = entry.query.dfa.states();
-        Ok((entry.tables.view(store), &entry.query.dfa))
+        let tabled = self.tabled(name)?;
+        let _states = tabled.query.dfa.states();
+        Ok((tabled.tables.view(store), &tabled.query.dfa))
     }
 }

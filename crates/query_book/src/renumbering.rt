@@ -1,44 +1,42 @@
 //! The tables of the kept nodes alone, query by query.
 ghost use Rattle.std.specs.Prelude.{◌<◌, ◌≤◌, length};
-ghost use Rattle.std.specs.Map.{values_of};
 ghost use Rattle.state_tables.specs.Dictionary.{count_of};
+ghost use Rattle.query_book.specs.Book.{entries_of};
 ghost use Rattle.query_book.specs.Growing.{ChangesAt, ChangesFirst};
-ghost use Rattle.query_book.specs.Kept.{AreKept, IsSound};
+ghost use Rattle.query_book.specs.Kept.{AreSound, IsSound};
 ghost use Rattle.query_book.specs.Renumbering.{AreWithin, Renumbers};
 
-use crate::entry::Entry;
-use indexmap::IndexMap;
+use crate::entry::TabledQuery;
+use name_map::NameMap;
 use node_store::Moves;
 
 /// Leaves in each query the tables of the kept nodes, under their new numbers.
-pub(crate) fn renumber_entries(by_name: &mut IndexMap<Vec<u8>, Entry>, moves: &Moves)
-    requires kept { AreKept by_name.old.entries }
-    requires within { AreWithin moves.now (values_of by_name.old.entries) }
-    ensures { ChangesFirst (Renumbers moves.now) (length by_name.old.entries) by_name.old.entries by_name.new.entries }
+pub(crate) fn renumber_entries(by_name: &mut NameMap<TabledQuery>, moves: &Moves)
+    requires kept { AreSound by_name.old }
+    requires within { AreWithin moves.now (entries_of by_name.old) }
+    ensures { ChangesFirst (Renumbers moves.now) (length by_name.old) by_name.old by_name.new }
 {
-    for place in 0..by_name.len() {
+    for place in 0..by_name.count() {
         renumber_at(by_name, place, moves);
     }
 }
 
 /// The same for the query at one place.
-fn renumber_at(by_name: &mut IndexMap<Vec<u8>, Entry>, place: usize, moves: &Moves)
-    requires place { place < length by_name.old.entries }
-    requires kept { AreKept by_name.old.entries }
-    requires within { AreWithin moves.now (values_of by_name.old.entries) }
-    ensures { ChangesAt (Renumbers moves.now) place by_name.old.entries by_name.new.entries }
+fn renumber_at(by_name: &mut NameMap<TabledQuery>, place: usize, moves: &Moves)
+    requires place { place < length by_name.old }
+    requires kept { AreSound by_name.old }
+    requires within { AreWithin moves.now (entries_of by_name.old) }
+    ensures { ChangesAt (Renumbers moves.now) place by_name.old by_name.new }
 {
-    match by_name.get_index_mut(place) {
-        Some(entry) => renumber_entry(entry, moves),
-        None => {}
-    }
+    let tabled = by_name.value_mut(place);
+    renumber_query(tabled, moves);
 }
 
 /// The same for a query.
-fn renumber_entry(entry: &mut Entry, moves: &Moves)
-    requires sound { IsSound entry.old }
-    requires within { count_of entry.old.tables ≤ length moves.now }
-    ensures { Renumbers moves.now entry.old entry.new }
+fn renumber_query(tabled: &mut TabledQuery, moves: &Moves)
+    requires sound { IsSound tabled.old }
+    requires within { count_of tabled.old.tables ≤ length moves.now }
+    ensures { Renumbers moves.now tabled.old tabled.new }
 {
-    entry.tables.renumber(moves);
+    tabled.tables.renumber(moves);
 }

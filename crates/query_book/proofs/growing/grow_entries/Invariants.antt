@@ -6,6 +6,6 @@ use Rattle.query_book.proofs.growing.grow_entries.Given as goal
 -- each of the first queries has all tables, and each table was one step
 abbrev pub invariant-loop-place : goal.invariant-loop-place
 invariant-loop-place g l = record {
-  changed : ChangesFirst (Grows l.store) l.place l.initial.by_name.entries l.by_name.entries;
-  steps : l.places + total l.initial.by_name.entries ≡ l.initial.places + total l.by_name.entries;
+  changed : ChangesFirst (Grows l.store) l.place l.initial.by_name l.by_name;
+  steps : l.places + total l.initial.by_name ≡ l.initial.places + total l.by_name;
 }

@@ -4,4 +4,4 @@ use Rattle.query_book.proofs.renumbering.renumber_entries.Given as goal
 
 -- the first queries were renumbered
 abbrev pub invariant-loop-place : goal.invariant-loop-place
-invariant-loop-place l = ChangesFirst (Renumbers l.moves) l.place l.initial.by_name.entries l.by_name.entries
+invariant-loop-place l = ChangesFirst (Renumbers l.moves) l.place l.initial.by_name l.by_name

@@ -1,14 +1,14 @@
 use Rattle.std.proofs.Common.{ap, ◌∙◌}
 use Rattle.std.specs.Option.{option_map}
 use Rattle.span_types.specs.Query.{query_of}
-use Rattle.query_book.specs.declared.entry.Entry.{Entry}
+use Rattle.query_book.specs.declared.entry.TabledQuery.{TabledQuery}
 use Rattle.query_book.proofs.Views.{value-by_name}
 use Rattle.query_book.proofs.Covered.{bytes-found, count-found, served-found, short-some, short-none}
 use Rattle.query_book.proofs.book.QueryBook.lookout.Goals.{in-Some, in_default}
 use Rattle.query_book.proofs.book.QueryBook.lookout.Goals as goal
 
-pub returns-in_err-entry-clause-short : goal.returns-in_err-entry-clause-short
-returns-in_err-entry-clause-short c = elim c.match-root.branch [
+pub returns-in_err-tabled-clause-short : goal.returns-in_err-tabled-clause-short
+returns-in_err-tabled-clause-short c = elim c.match-root.branch [
   | in-Some w ↦ short-some c.args.store.now c.args.root w.in-Some.id w.len-len.result w.in-Some.is w.len-len.ensures.len w.len-len.ensures.short
   | in_default w ↦ short-none c.args.store.now c.args.root w.in_default.is
 ]
@@ -20,22 +20,22 @@ returns-clause-short c = elim c.match-root.branch [
 ]
 
 pub view-requires : goal.view-requires
-view-requires c = count-found c.args.store.now c.args.self.now c.args.name.now c.in_ok-entry.entry.now c.requires.covers c.in_ok-entry.ensures.found
+view-requires c = count-found c.args.store.now c.args.self.now c.args.name.now c.in_ok-tabled.tabled.now c.requires.covers c.in_ok-tabled.ensures.found
 
 pub returns-clause-ready : goal.returns-clause-ready
 returns-clause-ready c =
-    let s = served-found c.args.store.now c.args.self.now c.args.name.now c.in_ok-entry.entry.now c.requires.covers c.in_ok-entry.ensures.found in
+    let s = served-found c.args.store.now c.args.self.now c.args.name.now c.in_ok-tabled.tabled.now c.requires.covers c.in_ok-tabled.ensures.found in
     rw (c.view.ensures.store, c.view.ensures.tables) (record { tables = s.tables; live = c.requires.live })
 
 pub returns-clause-query : goal.returns-clause-query
 returns-clause-query c = record {
-  query = query_of c.in_ok-entry.entry.now.query.tree;
-  there = value-by_name (λ e. query_of e.query.tree) c.args.self.now c.args.name.now ∙ ap (λ o. option_map (λ (e : Entry). query_of e.query.tree) o) c.in_ok-entry.ensures.found;
-  holds = c.in_ok-entry.ensures.sound.compiled.defines;
+  query = query_of c.in_ok-tabled.tabled.now.query.tree;
+  there = value-by_name (λ t. query_of t.query.tree) c.args.self.now c.args.name.now ∙ ap (λ o. option_map (λ (t : TabledQuery). query_of t.query.tree) o) c.in_ok-tabled.ensures.found;
+  holds = c.in_ok-tabled.ensures.sound.compiled.defines;
 }
 
 pub returns-clause-bytes : goal.returns-clause-bytes
 returns-clause-bytes c =
-    let s = served-found c.args.store.now c.args.self.now c.args.name.now c.in_ok-entry.entry.now c.requires.covers c.in_ok-entry.ensures.found in
-    let n = count-found c.args.store.now c.args.self.now c.args.name.now c.in_ok-entry.entry.now c.requires.covers c.in_ok-entry.ensures.found in
-    bytes-found c.in_ok-entry.entry.now.query.dfa c.args.store.now c.in_ok-entry.entry.now.tables c.args.root s.tables n c.requires.live
+    let s = served-found c.args.store.now c.args.self.now c.args.name.now c.in_ok-tabled.tabled.now c.requires.covers c.in_ok-tabled.ensures.found in
+    let n = count-found c.args.store.now c.args.self.now c.args.name.now c.in_ok-tabled.tabled.now c.requires.covers c.in_ok-tabled.ensures.found in
+    bytes-found c.in_ok-tabled.tabled.now.query.dfa c.args.store.now c.in_ok-tabled.tabled.now.tables c.args.root s.tables n c.requires.live

@@ -1,24 +1,15 @@
-use Rattle.std.proofs.Common.{rules, ap, ◌∙◌, subst, sym, ◌≡◌}
-use Rattle.std.specs.Map.{values_of}
-use Rattle.query_book.specs.Book.{with_entry}
-use Rattle.query_book.specs.Kept.{AreKept}
-use Rattle.query_book.proofs.Entries.{values-insert, AreKept-insert, names-distinct}
+use Rattle.std.proofs.Common.{ap, ◌∙◌, subst, sym}
+use Rattle.query_book.specs.Book.{entries_of, with_entry}
+use Rattle.query_book.specs.Kept.{AreSound}
+use Rattle.query_book.proofs.Entries.{put-entries, AreSound-put, names-distinct}
 use Rattle.query_book.proofs.book.QueryBook.put.Goals as goal
 
-pub returns-in-Ok-clause-ok : goal.returns-in-Ok-clause-ok
-returns-in-Ok-clause-ok c =
-    let e : c.in_ok-key.key.items ≡ c.bytes.result.now = search (rules, c.in_ok-key.ensures) in
-    ap values_of c.in-Ok.ensures.entries
-    ∙ (values-insert c.in_ok-key.key c.args.entry c.self.inside.by_name.entries c.self.invariant (e ∙ c.bytes.ensures.value)
-    ∙ ap (λ es. with_entry es c.args.entry) c.self.view_is)
+pub returns-clause-ok : goal.returns-clause-ok
+returns-clause-ok c =
+    ap entries_of c.in_ok-set.ensures.ok ∙ (put-entries c.self.inside.by_name c.args.entry ∙ ap (λ es. with_entry es c.args.entry) c.self.view_is)
 
-pub invariant_of-self : goal.invariant_of-self
-invariant_of-self c =
-    let e : c.in_ok-key.key.items ≡ c.bytes.result.now = search (rules, c.in_ok-key.ensures) in
-    subst AreKept (sym c.in-Ok.ensures.entries) (AreKept-insert c.in_ok-key.key c.args.entry c.self.inside.by_name.entries c.self.invariant c.requires (e ∙ c.bytes.ensures.value))
+pub invariant_of-self-2 : goal.invariant_of-self-2
+invariant_of-self-2 c = subst AreSound (sym c.in_ok-set.ensures.ok) (AreSound-put c.self.inside.by_name c.args.entry.name c.args.entry.tabled c.self.invariant c.requires)
 
-pub returns-in-Ok-clause-distinct : goal.returns-in-Ok-clause-distinct
-returns-in-Ok-clause-distinct c =
-    let e : c.in_ok-key.key.items ≡ c.bytes.result.now = search (rules, c.in_ok-key.ensures) in
-    let kept = subst AreKept (sym c.in-Ok.ensures.entries) (AreKept-insert c.in_ok-key.key c.args.entry c.self.inside.by_name.entries c.self.invariant c.requires (e ∙ c.bytes.ensures.value)) in
-    names-distinct c.insert.new.self.entries kept c.in-Ok.ensures.unique
+pub returns-clause-distinct : goal.returns-clause-distinct
+returns-clause-distinct c = names-distinct c.set.new.self c.count-count.ensures.distinct

@@ -11,14 +11,14 @@ use Rattle.query_book.proofs.book.QueryBook.register.Goals as goal
 pub returns-clause-ok : goal.returns-clause-ok
 returns-clause-ok c =
     ap queries_of c.in_ok-put.ensures.ok
-    ∙ (by_name-with_entry (λ e. query_of e.query.tree) c.args.self.now c.in_ok-entry.entry
+    ∙ (by_name-with_entry (λ t. query_of t.query.tree) c.args.self.now c.in_ok-entry.entry
     ∙ (λ j. put (queries_of c.args.self.now) (c.in_ok-entry.ensures.name_is j) (query_of (c.in_ok-entry.ensures.query_is j).tree)))
 
 pub returns-clause-covered : goal.returns-clause-covered
 returns-clause-covered c =
     ap covered_of c.in_ok-put.ensures.ok
-    ∙ (by_name-with_entry (λ e. count_of e.tables) c.args.self.now c.in_ok-entry.entry
+    ∙ (by_name-with_entry (λ t. count_of t.tables) c.args.self.now c.in_ok-entry.entry
     ∙ (λ j. put (covered_of c.args.self.now) (c.in_ok-entry.ensures.name_is j) (c.in_ok-entry.ensures.none j)))
 
 pub returns-clause-serves : goal.returns-clause-serves
-returns-clause-serves c = λ ns h. subst (Serves ns) (sym c.in_ok-put.ensures.ok) (serves-with_entry ns c.args.self.now c.in_ok-entry.entry h (served-none ns c.in_ok-entry.entry c.in_ok-entry.ensures.none))
+returns-clause-serves c = λ ns h. subst (Serves ns) (sym c.in_ok-put.ensures.ok) (serves-with_entry ns c.args.self.now c.in_ok-entry.entry h (served-none ns c.in_ok-entry.entry.tabled c.in_ok-entry.ensures.none))

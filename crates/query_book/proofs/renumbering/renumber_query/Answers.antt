@@ -1,14 +1,13 @@
 use Rattle.std.proofs.Common.{refl, ap}
-use Rattle.query_book.specs.declared.entry.Entry.{Entry}
+use Rattle.query_book.specs.declared.entry.TabledQuery.{TabledQuery}
 use Rattle.query_book.proofs.Renumbered.{sound-same, served-thin}
-use Rattle.query_book.proofs.renumbering.renumber_entry.Goals as goal
+use Rattle.query_book.proofs.renumbering.renumber_query.Goals as goal
 
 pub returns : goal.returns
 returns c =
-    let old = c.args.entry.now in
-    let new : Entry = record c.args.entry.now { tables = c.renumber.new.self } in
+    let old = c.args.tabled.now in
+    let new : TabledQuery = record c.args.tabled.now { tables = c.renumber.new.self } in
     record {
-      name = refl;
       query = refl;
       sound = sound-same old new refl refl (ap (λ d. d.kept) c.renumber.ensures.same) (ap (λ d. d.states) c.renumber.ensures.same) c.requires.sound;
       count = c.renumber.ensures.count;
