@@ -1,5 +1,5 @@
 -- What a contract sees of `Tables`: each kept table once, a number for each node, and the room for further numbers.
-use Rattle.std.specs.Prelude.{◌≡◌, ℕ, ◌<◌, ◌≤◌, ◌^◌, List, [], length, slice_get, slice_index_or, slice_index, Some}
+use Rattle.std.specs.Prelude.{◌≡◌, ◌⊎◌, ℕ, ◌<◌, ◌≤◌, ◌^◌, ◌++◌, List, [], ◌∷◌, length, slice_get, slice_index_or, slice_index, Some}
 use Rattle.slp_model.specs.declared.Node.{Node}
 use Rattle.slp_model.specs.Tree.{text, IsBalanced}
 use Rattle.slp_model.specs.Nodes.{tree, IsNodeAt}
@@ -36,6 +36,10 @@ table_of d id = kept_of d (number_of d id)
 -- no two kept tables are equal
 abbrev pub AreDistinctTables : List (List Row) → Type 0
 AreDistinctTables kept = (i j : ℕ) (t : List Row) → slice_get kept i ≡ Some t → slice_get kept j ≡ Some t → i ≡ j
+
+-- the kept tables as before, or this one more, last: that only where no equal one was there, since no two are equal
+abbrev pub GainsTable : List (List Row) → List (List Row) → List Row → Type 0
+GainsTable old new t = (new ≡ old) ⊎ (new ≡ old ++ t ∷ [])
 
 -- what holds of each value of the type Tables
 pub record IsDictionary (d : Dictionary) : Type 0 where

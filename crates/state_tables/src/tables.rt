@@ -5,7 +5,7 @@ ghost use Rattle.slp_model.specs.declared.Node.{Node};
 ghost use Rattle.slp_model.specs.Kept.{Keeps};
 ghost use Rattle.slp_model.specs.Thin.{IsThinOf, rank};
 ghost use Rattle.marker_dfa.specs.Deterministic.{DeterministicAutomaton, states_of};
-ghost use Rattle.state_tables.specs.Dictionary.{AreTables, IsDictionary, count_of, distinct_of, kept_of, number_of, table_of};
+ghost use Rattle.state_tables.specs.Dictionary.{AreTables, GainsTable, IsDictionary, count_of, distinct_of, kept_of, number_of, table_of};
 ghost use Rattle.state_tables.specs.Renumbering.{kept_numbers};
 
 use crate::renumbering::renumber;
@@ -105,6 +105,7 @@ impl Tables {
         ensures number { IfOk result (λ n. (n < distinct_of self.new) × (kept_of self.new n ≡ table)) }
         ensures kept { (n : ℕ) → n < distinct_of self.old → kept_of self.new n ≡ kept_of self.old n }
         ensures more { distinct_of self.old ≤ distinct_of self.new }
+        ensures gains { OnOk result (GainsTable self.old.kept self.new.kept table) }
         ensures same { self.new ≡ record self.old { kept = self.new.kept } }
         ensures err { OnErr result (self.new ≡ self.old) }
     {

@@ -1,5 +1,5 @@
 -- What stays true while new nodes are placed.
-use Rattle.std.proofs.Common.{zero, suc, ◌≡◌, ◌≢◌, ◌⊎◌, inl, inr, ℕ, ◌+◌, ◌-◌, ◌<◌, ◌≤◌, nat_lt, refl, ap, sym, subst, ◌∙◌, arith, List, [], ◌∷◌, ◌++◌, length, map, set, get_or, Option, Some, None, IsSome, All, AllPairs, Contains, Result, Ok, Err, OnOk, if◌then◌else◌}
+use Rattle.std.proofs.Common.{◌≡◌, ◌≢◌, ◌⊎◌, inl, inr, ℕ, ◌+◌, ◌-◌, ◌<◌, ◌≤◌, nat_lt, refl, ap, sym, subst, ◌∙◌, arith, List, [], ◌∷◌, ◌++◌, length, map, set, get_or, Option, Some, None, IsSome, All, AllPairs, Contains, Result, Ok, Err, OnOk, if◌then◌else◌}
 use Rattle.std.specs.Prelude.{slice_set, slice_index, slice_index_or}
 use Rattle.std.proofs.lemmas.List.{get_or-set_same, get_or-set_other, length-set, get_or-map, length-map, get_or-append-add, length-append}
 use Rattle.std.proofs.Math.ListN.{get_or-append}
@@ -13,12 +13,9 @@ use Rattle.marker_dfa.specs.Deterministic.{DeterministicAutomaton, states_of}
 use Rattle.state_tables.specs.Table.{Row, compose_of}
 use Rattle.state_tables.specs.Meaning.{IsTable}
 use Rattle.state_tables.specs.Dictionary.{Dictionary, IsDictionary, AreTables, kept_of, distinct_of, count_of, number_of, table_of}
-use Rattle.table_grow.specs.declared.found.Found.{Found}
-use Rattle.table_grow.specs.declared.found.Found.TheVariants.{Kept, Made, Composed}
-use Rattle.table_grow.specs.declared.found.Done.{Done}
 use Rattle.table_grow.specs.Remembering.{Entry, IsTrueEntry, AreTrueEntries}
-use Rattle.table_grow.specs.Filling.{Filling, number_in, with_place, Fits, AllPlaced, number_of_place, finished, AreKept}
-use Rattle.table_grow.specs.Growing.{IsReady, AllTrue, IsDue, IsFound, IsDone, StillPlaced, PlacedBelow, FreeFrom}
+use Rattle.table_grow.specs.Filling.{ChildrenPlaced, Filling, number_in, with_place, Fits, AllPlaced, number_of_place, finished, AreKept}
+use Rattle.table_grow.specs.Growing.{IsReady, AllTrue, IsDue, StillPlaced, PlacedBelow, FreeFrom}
 
 pub same-numbers : (d e : Dictionary) → AreKept d e → e.numbers ≡ d.numbers
 same-numbers d e k = ap (λ x. x.numbers) k.same
@@ -61,15 +58,6 @@ entries-more d e es fs m n j t k all mb nb jb is composed from = λ x c. elim (f
   })
 ]
 
-pub found-kept : (a : DeterministicAutomaton) (nodes : List Node) (d e : Dictionary) (id : ℕ) (x : Found) → AreKept d e → IsFound a nodes d id x → IsFound a nodes e id x
-found-kept a nodes d e id (Kept n) k h = let more = k.more in let b = h.0 in (omega (arith, more, b), rw (k.kept n h.0) h.1)
-found-kept a nodes d e id (Made t) k h = h
-found-kept a nodes d e id (Composed m n t) k h =
-    let more = k.more in
-    let mb = h.1 in
-    let nb = h.2 in
-    (h.0, omega (arith, more, mb), omega (arith, more, nb), h.3 ∙ ap (λ y. compose_of y (kept_of d n)) (sym (k.kept m mb)) ∙ ap (compose_of (kept_of e m)) (sym (k.kept n nb)))
-
 pub kept-refl : (d : Dictionary) → AreKept d d
 kept-refl d = record { kept = λ n h. refl; more = omega arith; same = refl }
 
@@ -82,13 +70,6 @@ kept-trans d e f k l = record {
 
 pub still-trans : (d e f : Dictionary) (x y z : Filling) → StillPlaced d x e y → StillPlaced e y f z → StillPlaced d x f z
 still-trans d e f x y z k l = record { known = l.known ∙ k.known; still = λ id h. l.still id (k.still id h) }
-
-pub due-still : (nodes : List Node) (d e : Dictionary) (f g : Filling) (id : NodeId) → StillPlaced d f e g → IsDue nodes d f id → IsDue nodes e g id
-due-still nodes d e f g id s due = record {
-  new = rw s.known due.new;
-  live = due.live;
-  children = λ l r p. let both = due.children l r p in (s.still l.index both.0, s.still r.index both.1);
-}
 
 pub in-set : (d : Dictionary) (f : Filling) (id n j : ℕ) → f.known ≤ id → id < f.known + length f.places
     → ((j ≡ id) × (number_in d (with_place f id n) j ≡ Some n)) ⊎ (number_in d (with_place f id n) j ≡ number_in d f j)
@@ -220,26 +201,6 @@ pub on-ok-both : {A E : Type 0} {P Q R : Type 0} (r : Result A E) → (P → Q �
 on-ok-both (Ok v) f p q = f p q
 on-ok-both (Err v) f p q = tt
 
-pub all-at : {X : Type 0} (P : X → Type 0) (ys rest xs zs : List X) (x : X) → ys ++ zs ≡ xs → zs ≡ x ∷ rest → All P xs → P x
-all-at P ys rest xs zs x whole next all =
-    let here : ys ++ (x ∷ rest) ≡ xs = ap (λ l. ys ++ l) (sym next) ∙ whole in
-    let bound : length ys < length xs = let l = length-append ys (x ∷ rest) in let k = ap length here in omega (arith, l, k) in
-    let read : get_or xs (length ys) x ≡ x = ap (λ l. get_or l (length ys) x) (sym here) ∙ get_or-append_seam ys x rest x in
-    subst P read (all (length ys) x bound)
-
--- ---- lists
-pub all-map-at : {X Y : Type 0} (P : Y → Type 0) (f : X → Y) (xs : List X) → All (λ x. P (f x)) xs → (k : ℕ) (d : Y) → k < length (map f xs) → P (get_or (map f xs) k d)
-all-map-at P f [] all k d h = absurd (omega arith)
-all-map-at P f (x ∷ xs) all zero d h = all zero x (omega arith)
-all-map-at P f (x ∷ xs) all (suc k) d h = all-map-at P f xs (λ i e l. all (suc i) e (omega arith)) k d (omega arith)
-
-pub all-map : {X Y : Type 0} (P : Y → Type 0) (f : X → Y) (xs : List X) → All (λ x. P (f x)) xs → All P (map f xs)
-all-map P f xs all = λ k d h. all-map-at P f xs all k d h
-
-pub all-unmap : {X Y : Type 0} (P : Y → Type 0) (f : X → Y) (xs : List X) → All P (map f xs) → All (λ x. P (f x)) xs
-all-unmap {X} {Y} P f xs all = λ k d h.
-    subst P (get_or-map {X = X} {Y = Y} f xs k d (f d) h) (all k (f d) (rw (length-map xs f) h))
-
 pub all-front : {X : Type 0} (P : X → Type 0) (xs : List X) (x : X) → All P (xs ++ x ∷ []) → All P xs
 all-front P xs x all = λ k d h.
     subst P (get_or-append xs (x ∷ []) d k h) (all k d (let l = length-append xs (x ∷ []) in omega (arith, l, h)))
@@ -254,12 +215,6 @@ all-before R ys rest x all = λ k d h.
     let bound : length ys < length (ys ++ x ∷ rest) = (let l = length-append ys (x ∷ rest) in omega (arith, l)) in
     subst (λ y. R y x) (get_or-append ys (x ∷ rest) d k h)
     (subst (R (get_or (ys ++ x ∷ rest) k d)) (get_or-append_seam ys x rest d) (all k (length ys) d h bound))
-
-pub pairs-unmap : {X Y : Type 0} (R : Y → Y → Type 0) (f : X → Y) (xs : List X) → AllPairs R (map f xs) → AllPairs (λ x y. R (f x) (f y)) xs
-pairs-unmap {X} {Y} R f xs all = λ i j d lt h.
-    let both = all i j (f d) lt (rw (length-map xs f) h) in
-    subst (λ y. R y (f (get_or xs j d))) (get_or-map {X = X} {Y = Y} f xs i d (f d) (omega (arith, lt, h)))
-    (subst (R (get_or (map f xs) i (f d))) (get_or-map {X = X} {Y = Y} f xs j d (f d) h) both)
 
 -- ---- one more place
 pub placed-set : (d : Dictionary) (f : Filling) (id n : ℕ) → f.known ≤ id → id < f.known + length f.places → IsSome (number_in d (with_place f id n) id)
@@ -285,21 +240,39 @@ still-others d e f g id known placed others = record {
   ];
 }
 
-pub still-refl : (d : Dictionary) (f : Filling) → StillPlaced d f d f
-still-refl d f = record { known = refl; still = λ j some. some }
+pub entries-none : (d : Dictionary) → AreTrueEntries d []
+entries-none d = λ x c. let h = c.1 in absurd (omega arith)
 
-pub done-kept : (a : DeterministicAutomaton) (nodes : List Node) (d e : Dictionary) (f g : Filling) (x : Done) → AreKept d e → StillPlaced d f e g
-    → IsDone a nodes d f x → IsDone a nodes e g x
-done-kept a nodes d e f g x k s done = record {
-  new = rw s.known done.new;
-  live = done.live;
-  children = λ l r p. let both = done.children l r p in (s.still l.index both.0, s.still r.index both.1);
-  found = found-kept a nodes d e x.id.index x.found k done.found;
+pub children-kept : (nodes : List Node) (d e : Dictionary) (f : Filling) (id : ℕ) → AreKept d e → ChildrenPlaced nodes d f id → ChildrenPlaced nodes e f id
+children-kept nodes d e f id k both = λ l r h.
+    let two = both l r h in
+    (rw (number_in-kept d e f l.index k) two.0, rw (number_in-kept d e f r.index k) two.1)
+
+pub due-kept : (nodes : List Node) (d e : Dictionary) (f : Filling) (id : NodeId) → AreKept d e → IsDue nodes d f id → IsDue nodes e f id
+due-kept nodes d e f id k due = record {
+  new = due.new;
+  live = due.live;
+  children = λ l r p.
+      let two = due.children l r p in
+      (rw (number_in-kept d e f l.index k) two.0, rw (number_in-kept d e f r.index k) two.1);
+}
+
+-- more tables are kept, and nothing is remembered
+pub ready-kept : (a : DeterministicAutomaton) (nodes : List Node) (d e : Dictionary) (f : Filling) (es : List Entry) → IsDictionary d → AreKept d e → IsReady a nodes d f es → IsReady a nodes e f []
+ready-kept a nodes d e f es dict k r = record {
+  fits = record {
+    nodes_fit = r.fits.nodes_fit;
+    tables_fit = ap length (same-numbers d e k) ∙ r.fits.tables_fit;
+    room_fits = rw (ap (λ (x : Dictionary). x.room) k.same) r.fits.room_fits;
+    kept_fit = λ i m h. let old = r.fits.kept_fit i m h in let more = k.more in omega (arith, old, more);
+  };
+  states = ap (λ (x : Dictionary). x.states) k.same ∙ r.states;
+  all = λ j m h.
+      let was : number_in d f j ≡ Some m = sym (number_in-kept d e f j k) ∙ h in
+      rw (k.kept m (number-kept nodes d f j m dict r.fits was)) (r.all j m was);
+  entries = entries-none e;
 }
 
 -- at first no new node is placed
 pub free-new : (d : Dictionary) (f : Filling) → ((i : ℕ) → slice_index_or f.places i None ≡ None) → FreeFrom d f 0
 free-new d f empty = λ id new low. rw (le-ltb id f.known new) (empty (id - f.known))
-
-pub entries-none : (d : Dictionary) → AreTrueEntries d []
-entries-none d = λ x c. let h = c.1 in absurd (omega arith)

@@ -3,7 +3,7 @@ use Rattle.std.proofs.Common.{◌≡◌, ◌≢◌, inl, inr, ℕ, ◌+◌, ◌<
 use Rattle.std.specs.Prelude.{slice_set, slice_index_or}
 use Rattle.std.proofs.Math.Nat.{le-max_left, le-max_right}
 use Rattle.std.proofs.lemmas.Bool.{cases_lt, cases_eq}
-use Rattle.std.proofs.lemmas.List.{get_or-set_same, get_or-set_other, length-set, get_or-map, length-map, get_or-replicate, length-replicate}
+use Rattle.std.proofs.lemmas.List.{get_or-set_same, get_or-set_other, length-set, get_or-replicate, length-replicate}
 use Rattle.std.proofs.lemmas.List.Elements.{All-push, Contains-push, Contains-append_left}
 use Rattle.std.proofs.lemmas.List.Quantifiers.{all_pairs_push}
 use Rattle.marker_dfa.proofs.Lists.{map_set, get_map, length_map}
@@ -12,12 +12,10 @@ use Rattle.slp_model.specs.declared.Node.{Node}
 use Rattle.slp_model.specs.Tree.{height}
 use Rattle.slp_model.specs.Nodes.{tree}
 use Rattle.state_tables.specs.Dictionary.{Dictionary}
-use Rattle.table_grow.specs.declared.found.Found.TheVariants.{Kept}
-use Rattle.table_grow.specs.declared.found.Done.{Done}
 use Rattle.table_grow.specs.Filling.{Filling, number_in}
 use Rattle.table_grow.specs.Growing.{IsDue, StillPlaced, OnlyPlaced, PlacedUnder, PlacedBelow, FreeAbove, FreeFrom}
 use Rattle.table_grow.specs.Layers.{IsLayer, IsOfHeight, AreLayers}
-use Rattle.table_grow.proofs.Growing.{old-some, all-unmap, pairs-unmap}
+use Rattle.table_grow.proofs.Growing.{old-some}
 
 -- ---- one more node
 below : (i k : ℕ) → i < k + 1 → i ≢ k → i < k
@@ -124,24 +122,19 @@ pub due-all : (nodes : List Node) (d : Dictionary) (f : Filling) (high : ℕ) (i
 due-all nodes d f high ids under layer = λ k x h. due-layer nodes d f high (get_or ids k x) under (layer.each k x h)
 
 -- none of them is placed yet
-pub free-all : (nodes : List Node) (d : Dictionary) (f : Filling) (high : ℕ) (ids : List NodeId) (dones : List Done) → FreeAbove nodes d f high
-    → IsLayer nodes f.known (length nodes) high ids → map (λ (x : Done). x.id) dones ≡ ids → All (λ (x : Done). number_in d f x.id.index ≡ None) dones
-free-all nodes d f high ids dones free layer same =
-    all-unmap (λ (id : NodeId). number_in d f id.index ≡ None) (λ (x : Done). x.id) dones
-    (rw same (λ k x h. let is = layer.each k x h in let at = is.high_is in free (get_or ids k x).index is.new is.live (omega (arith, at))))
+pub free-all : (nodes : List Node) (d : Dictionary) (f : Filling) (high : ℕ) (ids : List NodeId) → FreeAbove nodes d f high
+    → IsLayer nodes f.known (length nodes) high ids → All (λ (id : NodeId). number_in d f id.index ≡ None) ids
+free-all nodes d f high ids free layer = λ k x h. let is = layer.each k x h in let at = is.high_is in free (get_or ids k x).index is.new is.live (omega (arith, at))
 
 -- each stands once
-pub once-all : (nodes : List Node) (known bound high : ℕ) (ids : List NodeId) (dones : List Done) → IsLayer nodes known bound high ids
-    → map (λ (x : Done). x.id) dones ≡ ids → AllPairs (λ (x y : Done). x.id.index ≢ y.id.index) dones
-once-all nodes known bound high ids dones layer same =
-    pairs-unmap (λ (x y : NodeId). x.index ≢ y.index) (λ (x : Done). x.id) dones
-    (rw same (λ i j d lt h. let up = layer.rising i j d lt h in λ e. absurd (omega (arith, up, e))))
+pub once-all : (nodes : List Node) (known bound high : ℕ) (ids : List NodeId) → IsLayer nodes known bound high ids → AllPairs (λ (x y : NodeId). x.index ≢ y.index) ids
+once-all nodes known bound high ids layer = λ i j d lt h. let up = layer.rising i j d lt h in λ e. absurd (omega (arith, up, e))
 
 -- after the layer is placed, the next height may be worked
-pub under-next : (nodes : List Node) (d e : Dictionary) (f g : Filling) (high : ℕ) (ids : List NodeId) (dones : List Done)
-    → PlacedUnder nodes d f high → IsLayer nodes f.known (length nodes) high ids → map (λ (x : Done). x.id) dones ≡ ids
-    → StillPlaced d f e g → All (λ (x : Done). IsSome (number_in e g x.id.index)) dones → PlacedUnder nodes e g (high + 1)
-under-next nodes d e f g high ids dones under layer same still placed = λ id live low.
+pub under-next : (nodes : List Node) (d e : Dictionary) (f g : Filling) (high : ℕ) (ids : List NodeId)
+    → PlacedUnder nodes d f high → IsLayer nodes f.known (length nodes) high ids
+    → StillPlaced d f e g → All (λ (id : NodeId). IsSome (number_in e g id.index)) ids → PlacedUnder nodes e g (high + 1)
+under-next nodes d e f g high ids under layer still placed = λ id live low.
     elim (cases_lt (height (tree nodes id)) high) [
       | inl lower ↦ still.still id (under id live lower)
       | inr ge ↦ elim (cases_lt id f.known) [
@@ -150,11 +143,7 @@ under-next nodes d e f g high ids dones under layer same still placed = λ id li
             let name : NodeId = record { index = id } in
             let here : IsOfHeight nodes f.known (length nodes) high name = record { new = new; live = live; high_is = omega (arith, low, ge) } in
             let in_ids : Contains ids name = layer.all name here in
-            let k = in_ids.0 in
-            let bound : k < length dones = rw (sym (length-map dones (λ (x : Done). x.id)), same) in_ids.1 in
-            let done : Done = record { id = name; found = Kept 0 } in
-            let read : (get_or dones k done).id ≡ name = sym (get_or-map {X = Done} {Y = NodeId} (λ (x : Done). x.id) dones k done name bound) ∙ ap (λ l. get_or l k name) same ∙ in_ids.2 in
-            subst (λ (x : NodeId). IsSome (number_in e g x.index)) read (placed k done bound)
+            subst (λ (x : NodeId). IsSome (number_in e g x.index)) in_ids.2 (placed in_ids.0 name in_ids.1)
       ]
     ]
 

@@ -3,3 +3,5 @@ pub mod Placed
 pub mod Growing
 pub mod Layering
 pub mod Scheduling
+pub mod Spots
+pub mod Chunks

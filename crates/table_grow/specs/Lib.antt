@@ -5,3 +5,4 @@ pub mod FillerView
 pub mod Schedule
 pub mod Growing
 pub mod Layers
+pub mod Pieces

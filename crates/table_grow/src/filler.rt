@@ -4,7 +4,7 @@ ghost use Rattle.std.specs.Prelude.{◌≡◌, ℕ, ◌+◌, ◌-◌, ◌<◌, �
 ghost use Rattle.slp_model.specs.Tree.{text};
 ghost use Rattle.slp_model.specs.Nodes.{tree};
 ghost use Rattle.state_tables.specs.Meaning.{IsTable};
-ghost use Rattle.state_tables.specs.Dictionary.{count_of, distinct_of, kept_of};
+ghost use Rattle.state_tables.specs.Dictionary.{GainsTable, count_of, distinct_of, kept_of};
 ghost use Rattle.table_grow.specs.Filling.{AllPlaced, AreKept, ChildrenPlaced, ChildrenTrue, Fits, IsComposed, PlacesTable, finished, number_in, with_place};
 
 use marker_dfa::Dfa;
@@ -153,8 +153,9 @@ impl Filler {
         requires children { ChildrenPlaced store.now tables.old self.old id.index }
         requires states { length table ≡ tables.old.states }
         ensures number { IfOk result (λ n. (n < distinct_of tables.new) × (kept_of tables.new n ≡ table) × (self.new ≡ with_place self.old id.index n)) }
-        ensures err { OnErr result (self.new ≡ self.old) }
+        ensures err { OnErr result ((self.new ≡ self.old) × (tables.new ≡ tables.old)) }
         ensures kept { AreKept tables.old tables.new }
+        ensures gains { OnOk result (GainsTable tables.old.kept tables.new.kept table) }
     {
         let number = tables.keep(table)?;
         self.set(tables, id, number);
@@ -166,7 +167,7 @@ impl Filler {
     ///
     /// # Errors
     ///
-    /// `NoMemory`: the places are then as before, and one table more may be kept.
+    /// `NoMemory`: the places and the tables are then as before.
     pub fn place(
         &mut self,
         tables: &mut Tables,
@@ -181,8 +182,9 @@ impl Filler {
         requires children { ChildrenPlaced store.now tables.old self.old id.index }
         requires states { length table ≡ tables.old.states }
         ensures placed { OnOk result (PlacesTable tables.new self.old self.new id.index table) }
-        ensures err { OnErr result (self.new ≡ self.old) }
+        ensures err { OnErr result ((self.new ≡ self.old) × (tables.new ≡ tables.old)) }
         ensures kept { AreKept tables.old tables.new }
+        ensures gains { OnOk result (GainsTable tables.old.kept tables.new.kept table) }
     {
         self.place_numbered(tables, store, id, table)?;
         Ok(())

@@ -1,18 +1,19 @@
 //! All new nodes get their tables, in the order of their ids or by rising height in pieces.
 
-ghost use Rattle.std.specs.Prelude.{◌≡◌, ℕ, ◌+◌, ◌-◌, ◌<◌, ◌≤◌, length, OnOk, OnErr};
+ghost use Rattle.std.specs.Prelude.{◌≡◌, ◌≢◌, ℕ, ◌+◌, ◌-◌, ◌<◌, ◌≤◌, length, All, AllPairs, None, IsSome, OnOk, OnErr};
 ghost use Rattle.marker_dfa.specs.Deterministic.{states_of};
 ghost use Rattle.state_tables.specs.Dictionary.{AreTables, count_of, table_of};
-ghost use Rattle.table_grow.specs.Filling.{AreKept};
+ghost use Rattle.table_grow.specs.Filling.{AreKept, number_in};
 ghost use Rattle.table_grow.specs.Remembering.{AreTrueEntries};
-ghost use Rattle.table_grow.specs.Growing.{FreeAbove, FreeFrom, IsReady, PlacedBelow, PlacedUnder};
+ghost use Rattle.table_grow.specs.Growing.{FreeAbove, FreeFrom, IsDue, IsReady, OnlyPlaced, PlacedBelow, PlacedUnder, StillPlaced};
 ghost use Rattle.table_grow.specs.Layers.{IsLayer};
 
 use crate::filler::Filler;
-use crate::found::{in_pieces, work_on};
+use crate::found::work_on;
 use crate::layers::{HEIGHTS, Layers};
 use crate::memory::Memory;
-use crate::place::{place_all, place_one};
+use crate::pieces::in_pieces;
+use crate::place::{place_one, place_piece};
 use marker_dfa::Dfa;
 use node_store::{NodeId, Store};
 use span_types::{NoMemory, Steps};
@@ -48,7 +49,56 @@ fn in_order<G: Gate>(
     Ok(())
 }
 
-// The new nodes of one height, in pieces.
+/// How many nodes are worth a thread where compositions are remembered.
+const WORTH: usize = 512;
+
+// Whether so many nodes are worth a thread. Where nothing is remembered yet, each may need a table of its own.
+fn is_worth(memory: &Memory, count: usize) -> bool {
+    memory.len() == 0 || count >= WORTH
+}
+
+// In how many pieces at most so many nodes are worked on.
+fn pieces_of(memory: &Memory, workers: u8, count: usize) -> u8 {
+    if memory.len() == 0 {
+        return workers;
+    }
+    workers.min((count / WORTH).min(64) as u8)
+}
+
+/// How many nodes are placed before the next ones are worked on, so that what is found for them takes little memory.
+const PLACED_AT_ONCE: usize = 1 << 15;
+
+// Some new nodes, none of which is placed yet and all of whose children are, in pieces.
+fn place_some<R: Threads + Sync, G: Gate>(
+    rt: &R,
+    alloc: Global,
+    filler: &mut Filler,
+    tables: &mut Tables,
+    store: &Store,
+    dfa: &Dfa,
+    memory: &mut Memory,
+    workers: u8,
+    gate: &G,
+    ids: &[NodeId],
+) -> Result<(), NoMemory>
+    requires ready { IsReady dfa.now store.now tables.old filler.old memory.old }
+    requires due { All (IsDue store.now tables.old filler.old) ids.now }
+    requires free { All (λ id. number_in tables.old filler.old id.index ≡ None) ids.now }
+    requires once { AllPairs (λ x y. x.index ≢ y.index) ids.now }
+    ensures entries { AreTrueEntries tables.new memory.new }
+    ensures kept { AreKept tables.old tables.new }
+    ensures ready { OnOk result (IsReady dfa.now store.now tables.new filler.new memory.new) }
+    ensures still { OnOk result (StillPlaced tables.old filler.old tables.new filler.new) }
+    ensures placed { OnOk result (All (λ id. IsSome (number_in tables.new filler.new id.index)) ids.now) }
+    ensures others { OnOk result (OnlyPlaced tables.old filler.old tables.new filler.new ids.now) }
+{
+    let piece = in_pieces(
+        rt, alloc, filler, tables, store, dfa, memory, gate, ids, workers,
+    )?;
+    place_piece(alloc, filler, tables, store, dfa, memory, ids, piece)
+}
+
+// The new nodes of one height, some at a time.
 fn one_height<R: Threads + Sync, G: Gate>(
     rt: &R,
     alloc: Global,
@@ -73,10 +123,17 @@ fn one_height<R: Threads + Sync, G: Gate>(
     ensures under { OnOk result (PlacedUnder store.now tables.new filler.new (height + 1)) }
     ensures above { OnOk result (FreeAbove store.now tables.new filler.new (height + 1)) }
 {
-    let dones = in_pieces(
-        rt, alloc, filler, tables, store, dfa, memory, gate, ids, workers,
-    )?;
-    place_all(filler, tables, store, dfa, memory, dones)
+    let mut done = 0;
+    while done < ids.len() {
+        let count = (ids.len() - done).min(PLACED_AT_ONCE);
+        let workers = pieces_of(memory, workers, count);
+        let some = &ids[done..done + count];
+        place_some(
+            rt, alloc, filler, tables, store, dfa, memory, workers, gate, some,
+        )?;
+        done += count;
+    }
+    Ok(())
 }
 
 // The new nodes by rising height, each height in pieces.
@@ -109,7 +166,7 @@ fn by_height<R: Threads + Sync, G: Gate>(
     Ok(())
 }
 
-// All new nodes. With one worker no thread is started and no height is asked for.
+// All new nodes. With one worker, and where they are few, no thread is started and no height is asked for.
 fn place_new<R: Threads + Sync, G: Gate>(
     rt: &R,
     alloc: Global,
@@ -129,7 +186,8 @@ fn place_new<R: Threads + Sync, G: Gate>(
     ensures known { OnOk result (filler.new.known ≡ filler.old.known) }
     ensures placed { OnOk result (PlacedBelow tables.new filler.new (length store.now)) }
 {
-    if workers == 1 {
+    let count = store.count() - filler.known();
+    if workers == 1 || !is_worth(memory, count) {
         in_order(alloc, filler, tables, store, dfa, memory, gate)
     } else {
         by_height(rt, alloc, filler, tables, store, dfa, memory, workers, gate)
@@ -140,9 +198,9 @@ fn place_new<R: Threads + Sync, G: Gate>(
 /// and every remembered composition is true of them.
 ///
 /// The nodes without a table are taken by rising height, those of one height in at most `workers` pieces at once, 1 to
-/// 64; with one worker they are taken in the order of their ids. `gate.pass` is called for each of them before its table
-/// is looked up in the memory or computed. It is one step for each, and takes expected constant time where the
-/// composition is remembered.
+/// 64; with one worker, and where they are few and some composition is remembered, in the order of their ids.
+/// `gate.pass` is called for each of them before its table is looked up in the memory or computed. It is one step for
+/// each, and takes expected constant time where the composition is remembered.
 ///
 /// # Errors
 ///

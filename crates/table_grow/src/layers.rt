@@ -26,14 +26,28 @@ impl Model for Layers {
     ghost view = { λ l. map (λ v. v.items) l.lists.items };
 }
 
+// How many of the nodes from `known` on have each height. Room is made by it, and no result depends on it.
+fn counts_of(store: &Store, known: usize) -> [usize; 69]
+    requires { known ≤ length store.now }
+{
+    let mut counts = [0usize; HEIGHTS as usize];
+    for index in known..store.count() {
+        let height = store.height(NodeId { index });
+        if let Some(count) = counts.get_mut(height as usize) {
+            *count = count.saturating_add(1);
+        }
+    }
+    counts
+}
+
 impl Layers {
-    // An empty list for each height.
-    fn empty(alloc: Global) -> Result<Layers, NoMemory>
+    // An empty list for each height, with room for so many nodes.
+    fn empty(alloc: Global, counts: &[usize; 69]) -> Result<Layers, NoMemory>
         ensures { IfOk result (λ l. l ≡ replicate 69 []) }
     {
         let mut lists = Vec::with_capacity(alloc, HEIGHTS as usize)?;
-        for _height in 0..HEIGHTS {
-            lists.push(Vec::new(alloc))?;
+        for height in 0..HEIGHTS {
+            lists.push(Vec::with_capacity(alloc, counts[height as usize])?)?;
         }
         Ok(Layers { lists })
     }
@@ -52,7 +66,7 @@ impl Layers {
         requires { known ≤ length store.now }
         ensures { IfOk result (AreLayers store.now known (length store.now)) }
     {
-        let mut layers = Layers::empty(alloc)?;
+        let mut layers = Layers::empty(alloc, &counts_of(store, known))?;
         for index in known..store.count() {
             let id = NodeId { index };
             layers.put(store.height(id), id)?;

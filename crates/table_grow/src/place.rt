@@ -1,17 +1,22 @@
 //! What was found is placed and remembered.
 
-ghost use Rattle.std.specs.Prelude.{◌≡◌, ◌≢◌, ℕ, ◌<◌, ◌≤◌, length, map, All, AllPairs, IfOk, OnOk, None, IsSome};
+ghost use Rattle.std.specs.Prelude.{◌≡◌, ◌≢◌, [], ℕ, ◌<◌, ◌≤◌, length, All, AllPairs, IfOk, OnOk, None, Some, IsSome};
+ghost use Rattle.marker_dfa.specs.Deterministic.{states_of};
+ghost use Rattle.state_tables.specs.Dictionary.{distinct_of, kept_of};
 ghost use Rattle.table_grow.specs.Filling.{AreKept, ChildrenPlaced, number_in};
 ghost use Rattle.table_grow.specs.Remembering.{AreTrueEntries};
-ghost use Rattle.table_grow.specs.Growing.{IsDone, IsFound, IsPlacedAt, IsReady, OnlyPlaced, StillPlaced};
+ghost use Rattle.table_grow.specs.Growing.{IsDone, IsDue, IsFound, IsPlacedAt, IsReady, OnlyPlaced, StillPlaced};
+ghost use Rattle.table_grow.specs.Pieces.{AreMade, AreNumbers, AreSpots, HasNumber, IsMade, IsPiece, number_at};
 
 use crate::filler::Filler;
 use crate::found::{Done, Found};
 use crate::memory::Memory;
+use crate::pieces::{Made, Piece, Spot};
 use marker_dfa::Dfa;
 use node_store::{NodeId, Store};
 use span_types::NoMemory;
 use state_tables::Tables;
+use std::alloc::Global;
 
 // Places the table that was found, remembers the composition, and answers the table's number.
 fn place_found(
@@ -71,28 +76,115 @@ pub(crate) fn place_one(
     Ok(())
 }
 
-/// Places what was found for some new nodes, in order.
-pub(crate) fn place_all(
+// Keeps a table that was made, remembers the composition, and answers the table's number.
+fn keep_one(
+    tables: &mut Tables,
+    dfa: &Dfa,
+    memory: &mut Memory,
+    one: Made,
+) -> Result<usize, NoMemory>
+    requires states { tables.old.states ≡ states_of dfa.now }
+    requires entries { AreTrueEntries tables.old memory.old }
+    requires made { IsMade dfa.now tables.old one }
+    ensures number { IfOk result (λ n. (n < distinct_of tables.new) × (kept_of tables.new n ≡ one.table)) }
+    ensures entries { AreTrueEntries tables.new memory.new }
+    ensures kept { AreKept tables.old tables.new }
+{
+    let Made { parts, table } = one;
+    let number = tables.keep(table)?;
+    if let Some((left, right)) = parts {
+        memory.remember(left, right, number);
+    }
+    Ok(number)
+}
+
+// Keeps the tables that were made, remembers the compositions, and answers the tables' numbers.
+fn keep_made(
+    alloc: Global,
+    tables: &mut Tables,
+    dfa: &Dfa,
+    memory: &mut Memory,
+    made: Vec<Made>,
+) -> Result<Vec<usize>, NoMemory>
+    requires states { tables.old.states ≡ states_of dfa.now }
+    requires entries { AreTrueEntries tables.old memory.old }
+    requires made { AreMade dfa.now tables.old made.items }
+    ensures numbers { IfOk result (λ numbers. AreNumbers tables.new made.items numbers.items) }
+    ensures entries { AreTrueEntries tables.new memory.new }
+    ensures kept { AreKept tables.old tables.new }
+{
+    let mut numbers = Vec::with_capacity(alloc, made.len())?;
+    for one in made {
+        let number = keep_one(tables, dfa, memory, one)?;
+        numbers.push(number)?;
+    }
+    Ok(numbers)
+}
+
+// The number of the table that stands there.
+fn number_of(numbers: &[usize], spot: Spot) -> usize
+    requires { IsSome (number_at numbers.now spot) }
+    ensures { number_at numbers.now spot ≡ Some result }
+{
+    match spot {
+        Spot::Kept(number) => number,
+        Spot::Made(place) => numbers[place],
+    }
+}
+
+// Gives each node the number of its table.
+fn place_spots(
+    filler: &mut Filler,
+    tables: &Tables,
+    store: &Store,
+    dfa: &Dfa,
+    spots: &[Spot],
+    numbers: &[usize],
+    ids: &[NodeId],
+)
+    requires ready { IsReady dfa.now store.now tables.now filler.old [] }
+    requires due { All (IsDue store.now tables.now filler.old) ids.now }
+    requires free { All (λ id. number_in tables.now filler.old id.index ≡ None) ids.now }
+    requires once { AllPairs (λ x y. x.index ≢ y.index) ids.now }
+    requires numbers { AreSpots (HasNumber dfa.now store.now tables.now filler.old numbers.now) ids.now spots.now }
+    ensures ready { IsReady dfa.now store.now tables.now filler.new [] }
+    ensures still { StillPlaced tables.now filler.old tables.now filler.new }
+    ensures placed { All (λ id. IsSome (number_in tables.now filler.new id.index)) ids.now }
+    ensures others { OnlyPlaced tables.now filler.old tables.now filler.new ids.now }
+{
+    let _ = tables.count();
+    for index in 0..ids.len() {
+        let number = number_of(numbers, spots[index]);
+        filler.place_kept(tables, store, ids[index], number);
+    }
+}
+
+/// Places the tables that were found for some new nodes, none of which is placed yet and all of whose children are.
+pub(crate) fn place_piece(
+    alloc: Global,
     filler: &mut Filler,
     tables: &mut Tables,
     store: &Store,
     dfa: &Dfa,
     memory: &mut Memory,
-    dones: Vec<Done>,
+    ids: &[NodeId],
+    piece: Piece,
 ) -> Result<(), NoMemory>
     requires ready { IsReady dfa.now store.now tables.old filler.old memory.old }
-    requires done { All (IsDone dfa.now store.now tables.old filler.old) dones.items }
-    requires free { All (λ x. number_in tables.old filler.old x.id.index ≡ None) dones.items }
-    requires once { AllPairs (λ x y. x.id.index ≢ y.id.index) dones.items }
+    requires due { All (IsDue store.now tables.old filler.old) ids.now }
+    requires free { All (λ id. number_in tables.old filler.old id.index ≡ None) ids.now }
+    requires once { AllPairs (λ x y. x.index ≢ y.index) ids.now }
+    requires piece { IsPiece dfa.now store.now tables.old filler.old ids.now piece }
     ensures entries { AreTrueEntries tables.new memory.new }
     ensures kept { AreKept tables.old tables.new }
     ensures ready { OnOk result (IsReady dfa.now store.now tables.new filler.new memory.new) }
     ensures still { OnOk result (StillPlaced tables.old filler.old tables.new filler.new) }
-    ensures placed { OnOk result (All (λ x. IsSome (number_in tables.new filler.new x.id.index)) dones.items) }
-    ensures others { OnOk result (OnlyPlaced tables.old filler.old tables.new filler.new (map (λ x. x.id) dones.items)) }
+    ensures placed { OnOk result (All (λ id. IsSome (number_in tables.new filler.new id.index)) ids.now) }
+    ensures others { OnOk result (OnlyPlaced tables.old filler.old tables.new filler.new ids.now) }
 {
-    for done in dones {
-        place_one(filler, tables, store, dfa, memory, done)?;
-    }
+    let _ = tables.count();
+    let Piece { spots, made } = piece;
+    let numbers = keep_made(alloc, tables, dfa, memory, made)?;
+    place_spots(filler, tables, store, dfa, &spots, &numbers, ids);
     Ok(())
 }

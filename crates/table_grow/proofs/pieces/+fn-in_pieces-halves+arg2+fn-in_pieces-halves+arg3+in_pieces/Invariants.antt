@@ -1,5 +1,5 @@
 use Rattle.std.proofs.Common.{◌+◌, ◌-◌, ◌*◌, ◌/◌}
-use Rattle.table_grow.proofs.found.+fn-in_pieces-halves+arg2+fn-in_pieces-halves+arg3+in_pieces.Given as goal
+use Rattle.table_grow.proofs.pieces.+fn-in_pieces-halves+arg2+fn-in_pieces-halves+arg3+in_pieces.Given as goal
 
 abbrev pub decreases-in_pieces : goal.decreases-in_pieces
 decreases-in_pieces g l = 2 * l.workers
