@@ -63,8 +63,9 @@ def pipe_with_room(length: int) -> tuple[int, int, int]:
 
 
 def full_pipes(program: Path, report: Report) -> None:
-    """Standard output is a pipe with room for so many bytes, which doesn't wait: a write that doesn't fit is a fault."""
-    ends = [at + 1 for at, it in enumerate(QUIET.wanted) if it == ord("\n")]
+    """Standard output is a pipe with room for so many bytes, which doesn't wait: a write that doesn't fit is a fault. Lines of
+    tuples, which end in ')' or '-', are written with the line after them."""
+    ends = [at + 1 for at, it in enumerate(QUIET.wanted) if it == ord("\n") and QUIET.wanted[at - 1] not in b")-"]
     for length in range(1, len(QUIET.wanted) + 1, 7 if report.quick else 1):
         reads, writes, before = pipe_with_room(length)
         os.set_blocking(writes, False)
@@ -118,6 +119,14 @@ def other_outputs(program: Path, report: Report) -> None:
         with room() as folder, open("/dev/full", "wb") as full:
             report.check(name, fault_of(run(program, script, folder, stdout=full.fileno()), status))
         report.runs += 1
+    with room() as folder, open("/dev/full", "wb") as full:
+        # a page before the file is saved, so that lines were kept back
+        script = b"text d aa\nquery q .*$x{a}.*\nlist q d\nsave f\n"
+        fault = fault_of(run(program, script, folder, stdout=full.fileno()), 4)
+        if not fault and (folder / "f").exists():
+            fault = "a file was saved after the fault"
+        report.check("a full device, and a file to save", fault)
+    report.runs += 1
     with room() as folder, open(os.devnull, "rb") as unwritable:
         report.check("an output for reading", fault_of(run(program, QUIET.script, folder, stdout=unwritable.fileno()), 4))
     report.runs += 1

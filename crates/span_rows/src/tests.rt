@@ -1,3 +1,4 @@
+use crate::halves::ran_by_halves;
 use crate::running::{Setting, plain, ran, words_of};
 use span_run::Status;
 use std::alloc::{AllocError, Global};
@@ -157,6 +158,17 @@ fn rows(rt: HostRuntime) -> Result<(), Fail> {
             assert_eq!(rt; told, status, "{script}");
             assert_eq!(rt; written.as_slice(), output.as_bytes(), "{script}");
         }
+    }
+    Ok(())
+}
+
+#[test]
+fn rows_by_halves(rt: HostRuntime) -> Result<(), Fail> {
+    let alloc = rt.alloc();
+    for (script, output, status) in ROWS {
+        let (told, written) = ran_by_halves(&rt, alloc, script.as_bytes().to_vec(alloc)?)?;
+        assert_eq!(rt; told, status, "{script}");
+        assert_eq!(rt; written.as_slice(), output.as_bytes(), "{script}");
     }
     Ok(())
 }

@@ -17,11 +17,14 @@ ghost use Rattle.span_words.specs.Words.{Refused};
 ghost use Rattle.span_language.specs.Scripts.{AsksForNoDemo};
 ghost use Rattle.spanbase.specs.Exit.{exit_of};
 
+mod replies;
+
 use edge_io::{DirShelf, Sink, Source, StdSink, StdSource};
+use replies::ReplyWriter;
 use span_run::{Status, run, usage_text};
 use span_types::Steps;
 use std::alloc::Global;
-use std::io::{ErrorKind, Write};
+use std::io::{ErrorKind, Print, Write};
 use std::marker::Brand;
 use std::process::ExitCode;
 use std::rt::{Env, Files};
@@ -123,21 +126,37 @@ fn tell(rt: &HostRuntime, status: Status, words: &[String]) {
     tell_word(rt, status);
 }
 
+/// Runs a script over the files of the current folder, with replies to standard output. Those that were kept back are written
+/// before the status is chosen: output that fails then is a fault of a write as well.
+fn run_over<R: Threads + Sync + Files + AllocGlobal + Print, S: Source>(
+    rt: &R,
+    words: &[String],
+    script: &mut S,
+) -> Status {
+    let Ok(mut replies) = ReplyWriter::new(rt.alloc(), io::writer(rt)) else {
+        return Status::NoMemory;
+    };
+    let status = run_script::<_, _, _, Brand, Brand, Brand>(
+        rt,
+        rt.alloc(),
+        words,
+        script,
+        &mut StdSink::new(&mut replies),
+        Blank::new(1),
+        Blank::new(1),
+        Blank::new(1),
+    );
+    match replies.flush() {
+        Ok(()) => status,
+        Err(_) => Status::OutFault,
+    }
+}
+
 fn main(rt: HostRuntime) -> io::Result<ExitCode> {
     let status = match words_of(&rt) {
         Ok(words) => {
             let mut script = StdSource::new(rt.reader());
-            let mut out = StdSink::new(io::writer(&rt));
-            let status = run_script::<_, _, _, Brand, Brand, Brand>(
-                &rt,
-                rt.alloc(),
-                &words,
-                &mut script,
-                &mut out,
-                Blank::new(1),
-                Blank::new(1),
-                Blank::new(1),
-            );
+            let status = run_over(&rt, &words, &mut script);
             tell(&rt, status, &words);
             status
         }

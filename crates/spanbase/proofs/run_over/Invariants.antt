@@ -1,4 +1,4 @@
-use Rattle.spanbase.proofs.main.Given as goal
+use Rattle.spanbase.proofs.run_over.Given as goal
 
 abbrev pub ghosts-run_script-P-Ledger : goal.ghosts-run_script-P-Ledger
 ghosts-run_script-P-Ledger g a = record { name = a.pairs.name; parts = a.pairs.parts }

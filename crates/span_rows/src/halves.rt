@@ -1,0 +1,106 @@
+//! A sink that takes half of each piece, and runs of a script over it.
+ghost use Rattle.std.specs.Prelude.{◌≡◌, ◌<◌, ◌≤◌, Some, length, IfOk};
+ghost use Rattle.std.specs.Io.KnownBytes.{WriteAppends};
+ghost use Rattle.edge_io.specs.Causes.{HasWriteCause};
+
+use edge_io::{Sink, SureShelf, SureSink, SureSource, WriteRefusal};
+use span_run::{Status, run};
+use span_types::Steps;
+use std::alloc::{AllocError, Global};
+use std::marker::{Brand, Model};
+use std::sync::ledger::{Blank, Ledger};
+use std::thread::Threads;
+use work_gate::OpenGate;
+
+/// A sink into memory that never fails, and takes the first half of each piece, of an odd one with the byte in the middle.
+#[derive(Drop)]
+struct HalfSink {
+    inner: SureSink,
+}
+
+impl Model for HalfSink {
+    ghost use Rattle.edge_io.specs.Memory.{SureOutput};
+
+    ghost Value = { SureOutput };
+
+    ghost view = { λ s. s.inner };
+}
+
+impl HalfSink {
+    /// A sink that has no bytes yet.
+    fn new(alloc: Global) -> HalfSink {
+        HalfSink {
+            inner: SureSink::new(alloc),
+        }
+    }
+
+    /// The bytes that were written.
+    fn written(&self) -> &[u8]
+        ensures { result.now ≡ self.now.written }
+    {
+        self.inner.written()
+    }
+}
+
+impl Sink for HalfSink {
+    ghost written = { λ s. Some s.written };
+
+    ghost faults = { λ _. 0 };
+
+    ghost wants = { λ s. s.wants };
+
+    fn write(&mut self, piece: &[u8]) -> Result<usize, WriteRefusal>
+        requires { 0 < length piece.now }
+        ensures some { IfOk result (λ n. 0 < n) }
+        ensures bound { IfOk result (λ n. n ≤ length piece.now) }
+        ensures bytes { WriteAppends (Some self.old.written) (Some self.new.written) result piece.now }
+        ensures cause { HasWriteCause 0 0 self.old.wants self.new.wants result }
+    {
+        let half = piece.len() - piece.len() / 2;
+        self.inner.write(&piece[..half])
+    }
+}
+
+/// Runs a script over such a sink and no files: the status, and what was written.
+pub fn ran_by_halves<R: Threads + Sync>(
+    rt: &R,
+    alloc: Global,
+    script: Vec<u8>,
+) -> Result<(Status, Vec<u8>), AllocError> {
+    counted::<R, Brand, Brand, Brand>(
+        rt,
+        alloc,
+        script,
+        Blank::new(1),
+        Blank::new(1),
+        Blank::new(1),
+    )
+}
+
+fn counted<R: Threads + Sync, P: Ledger, T: Ledger, L: Ledger>(
+    rt: &R,
+    alloc: Global,
+    script: Vec<u8>,
+    pairs: Blank,
+    places: Blank,
+    looks: Blank,
+) -> Result<(Status, Vec<u8>), AllocError>
+    requires pairs { (pairs.name ≡ P.name) × (pairs.parts ≡ P.parts) × (0 < P.parts) }
+    requires places { (places.name ≡ T.name) × (places.parts ≡ T.parts) × (0 < T.parts) }
+    requires looks { (looks.name ≡ L.name) × (looks.parts ≡ L.parts) × (0 < L.parts) }
+{
+    let mut sink = HalfSink::new(alloc);
+    let status = run(
+        rt,
+        alloc,
+        &[],
+        &mut SureSource::new(script),
+        &mut sink,
+        &mut SureShelf::new(Vec::new(alloc)),
+        &OpenGate,
+        &mut Steps::<P>::new(pairs),
+        &mut Steps::<T>::new(places),
+        &mut Steps::<L>::new(looks),
+    );
+    Ok((status, sink.written().to_vec(alloc)?))
+}
