@@ -37,8 +37,12 @@ pub fn answer<R: Threads + Sync, F: Shelf, G: Gate, P: Ledger, T: Ledger, L: Led
     requires answering { IsAnswering command }
     requires short { IsShort command }
     requires well_formed { IsWellFormed command }
-    ensures done { IfOk result (Answers (at held.old (F.files shelf.old) (F.faults shelf.old) looks.old pairs.old places.old) context.entry.number command (at held.new (F.files shelf.new) (F.faults shelf.new) looks.new pairs.new places.new)) }
-    ensures stopped { IfErr result (Stays (at held.old (F.files shelf.old) (F.faults shelf.old) looks.old pairs.old places.old) context.entry.number command (at held.new (F.files shelf.new) (F.faults shelf.new) looks.new pairs.new places.new)) }
+    ensures done { IfOk result (Answers
+        (at held.old (F.files shelf.old) (F.faults shelf.old) looks.old pairs.old places.old) context.entry.number command
+        (at held.new (F.files shelf.new) (F.faults shelf.new) looks.new pairs.new places.new)) }
+    ensures stopped { IfErr result (Stays
+        (at held.old (F.files shelf.old) (F.faults shelf.old) looks.old pairs.old places.old) context.entry.number command
+        (at held.new (F.files shelf.new) (F.faults shelf.new) looks.new pairs.new places.new)) }
 {
     let number = context.number;
     match command {

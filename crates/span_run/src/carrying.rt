@@ -41,8 +41,16 @@ fn reply<R: Threads + Sync, K: Sink, F: Shelf, G: Gate, P: Ledger, T: Ledger, L:
     requires short { IsShort command }
     requires well_formed { IsWellFormed command }
     ensures held { IsHeld held.new }
-    ensures done { IfOk result (Done context.entry.number (Some command) (seen (standing_of held.old) (F.files shelf.old) (F.faults shelf.old) looks.old pairs.old places.old) (outlet (K.written out.old) (K.faults out.old) (K.wants out.old)) (seen (standing_of held.new) (F.files shelf.new) (F.faults shelf.new) looks.new pairs.new places.new) (outlet (K.written out.new) (K.faults out.new) (K.wants out.new))) }
-    ensures stopped { IfErr result (Stopped context.entry.number (Some command) (seen (standing_of held.old) (F.files shelf.old) (F.faults shelf.old) looks.old pairs.old places.old) (outlet (K.written out.old) (K.faults out.old) (K.wants out.old)) (seen (standing_of held.new) (F.files shelf.new) (F.faults shelf.new) looks.new pairs.new places.new) (outlet (K.written out.new) (K.faults out.new) (K.wants out.new))) }
+    ensures done { IfOk result (Done context.entry.number (Some command)
+        (seen (standing_of held.old) (F.files shelf.old) (F.faults shelf.old) looks.old pairs.old places.old)
+        (outlet (K.written out.old) (K.faults out.old) (K.wants out.old))
+        (seen (standing_of held.new) (F.files shelf.new) (F.faults shelf.new) looks.new pairs.new places.new)
+        (outlet (K.written out.new) (K.faults out.new) (K.wants out.new))) }
+    ensures stopped { IfErr result (Stopped context.entry.number (Some command)
+        (seen (standing_of held.old) (F.files shelf.old) (F.faults shelf.old) looks.old pairs.old places.old)
+        (outlet (K.written out.old) (K.faults out.old) (K.wants out.old))
+        (seen (standing_of held.new) (F.files shelf.new) (F.faults shelf.new) looks.new pairs.new places.new)
+        (outlet (K.written out.new) (K.faults out.new) (K.wants out.new))) }
 {
     let answer = answer(context, held, command, shelf, pairs, places, looks)?;
     send(answer, out)
@@ -52,8 +60,16 @@ fn reply<R: Threads + Sync, K: Sink, F: Shelf, G: Gate, P: Ledger, T: Ledger, L:
 fn names<K: Sink>(held: &mut Held, out: &mut K) -> Result<Told, Stop>
     requires { IsHeld held.old }
     ensures held { IsHeld held.new }
-    ensures done { (number : ℕ) (files : Option Files) (faults looks pairs places : ℕ) → IfOk result (Done number (Some form.Names) (seen (standing_of held.old) files faults looks pairs places) (outlet (K.written out.old) (K.faults out.old) (K.wants out.old)) (seen (standing_of held.new) files faults looks pairs places) (outlet (K.written out.new) (K.faults out.new) (K.wants out.new))) }
-    ensures stopped { (number : ℕ) (files : Option Files) (faults looks pairs places : ℕ) → IfErr result (Stopped number (Some form.Names) (seen (standing_of held.old) files faults looks pairs places) (outlet (K.written out.old) (K.faults out.old) (K.wants out.old)) (seen (standing_of held.new) files faults looks pairs places) (outlet (K.written out.new) (K.faults out.new) (K.wants out.new))) }
+    ensures done { (number : ℕ) (files : Option Files) (faults looks pairs places : ℕ) → IfOk result
+        (Done number (Some form.Names) (seen (standing_of held.old) files faults looks pairs places)
+        (outlet (K.written out.old) (K.faults out.old) (K.wants out.old))
+        (seen (standing_of held.new) files faults looks pairs places)
+        (outlet (K.written out.new) (K.faults out.new) (K.wants out.new))) }
+    ensures stopped { (number : ℕ) (files : Option Files) (faults looks pairs places : ℕ) → IfErr result
+        (Stopped number (Some form.Names) (seen (standing_of held.old) files faults looks pairs places)
+        (outlet (K.written out.old) (K.faults out.old) (K.wants out.old))
+        (seen (standing_of held.new) files faults looks pairs places)
+        (outlet (K.written out.new) (K.faults out.new) (K.wants out.new))) }
 {
     write_names(held.alloc, &held.store, &held.docs, out)?;
     Ok(Told::Accepted)
@@ -74,8 +90,16 @@ fn carry<R: Threads + Sync, K: Sink, F: Shelf, G: Gate, P: Ledger, T: Ledger, L:
     requires short { IsShort command }
     requires well_formed { IsWellFormed command }
     ensures held { IsHeld held.new }
-    ensures done { IfOk result (Done context.entry.number (Some command) (seen (standing_of held.old) (F.files shelf.old) (F.faults shelf.old) looks.old pairs.old places.old) (outlet (K.written out.old) (K.faults out.old) (K.wants out.old)) (seen (standing_of held.new) (F.files shelf.new) (F.faults shelf.new) looks.new pairs.new places.new) (outlet (K.written out.new) (K.faults out.new) (K.wants out.new))) }
-    ensures stopped { IfErr result (Stopped context.entry.number (Some command) (seen (standing_of held.old) (F.files shelf.old) (F.faults shelf.old) looks.old pairs.old places.old) (outlet (K.written out.old) (K.faults out.old) (K.wants out.old)) (seen (standing_of held.new) (F.files shelf.new) (F.faults shelf.new) looks.new pairs.new places.new) (outlet (K.written out.new) (K.faults out.new) (K.wants out.new))) }
+    ensures done { IfOk result (Done context.entry.number (Some command)
+        (seen (standing_of held.old) (F.files shelf.old) (F.faults shelf.old) looks.old pairs.old places.old)
+        (outlet (K.written out.old) (K.faults out.old) (K.wants out.old))
+        (seen (standing_of held.new) (F.files shelf.new) (F.faults shelf.new) looks.new pairs.new places.new)
+        (outlet (K.written out.new) (K.faults out.new) (K.wants out.new))) }
+    ensures stopped { IfErr result (Stopped context.entry.number (Some command)
+        (seen (standing_of held.old) (F.files shelf.old) (F.faults shelf.old) looks.old pairs.old places.old)
+        (outlet (K.written out.old) (K.faults out.old) (K.wants out.old))
+        (seen (standing_of held.new) (F.files shelf.new) (F.faults shelf.new) looks.new pairs.new places.new)
+        (outlet (K.written out.new) (K.faults out.new) (K.wants out.new))) }
 {
     match command {
         Command::Nothing => Ok(Told::Quiet),
@@ -113,8 +137,16 @@ pub fn carry_line<R: Threads + Sync, K: Sink, F: Shelf, G: Gate, P: Ledger, T: L
 ) -> Result<Told, Stop>
     requires { IsHeld held.old }
     ensures held { IsHeld held.new }
-    ensures done { IfOk result (IsDone line.now context.entry.number (seen (standing_of held.old) (F.files shelf.old) (F.faults shelf.old) looks.old pairs.old places.old) (outlet (K.written out.old) (K.faults out.old) (K.wants out.old)) (seen (standing_of held.new) (F.files shelf.new) (F.faults shelf.new) looks.new pairs.new places.new) (outlet (K.written out.new) (K.faults out.new) (K.wants out.new))) }
-    ensures stopped { IfErr result (IsStopped line.now context.entry.number (seen (standing_of held.old) (F.files shelf.old) (F.faults shelf.old) looks.old pairs.old places.old) (outlet (K.written out.old) (K.faults out.old) (K.wants out.old)) (seen (standing_of held.new) (F.files shelf.new) (F.faults shelf.new) looks.new pairs.new places.new) (outlet (K.written out.new) (K.faults out.new) (K.wants out.new))) }
+    ensures done { IfOk result (IsDone line.now context.entry.number
+        (seen (standing_of held.old) (F.files shelf.old) (F.faults shelf.old) looks.old pairs.old places.old)
+        (outlet (K.written out.old) (K.faults out.old) (K.wants out.old))
+        (seen (standing_of held.new) (F.files shelf.new) (F.faults shelf.new) looks.new pairs.new places.new)
+        (outlet (K.written out.new) (K.faults out.new) (K.wants out.new))) }
+    ensures stopped { IfErr result (IsStopped line.now context.entry.number
+        (seen (standing_of held.old) (F.files shelf.old) (F.faults shelf.old) looks.old pairs.old places.old)
+        (outlet (K.written out.old) (K.faults out.old) (K.wants out.old))
+        (seen (standing_of held.new) (F.files shelf.new) (F.faults shelf.new) looks.new pairs.new places.new)
+        (outlet (K.written out.new) (K.faults out.new) (K.wants out.new))) }
 {
     match command(held.alloc, line) {
         Ok(command) => carry(context, held, command, out, shelf, pairs, places, looks),

@@ -64,7 +64,8 @@ pub fn give(
     requires root { IsLive store.now root }
     requires live { AreLive store.now docs.old }
     ensures live { AreLive store.now docs.new }
-    ensures ok { IfOk result (λ answer. Assigns (plain store.now docs.old) number name (Ok (text_at store.now root)) answer.told answer.line.items (plain store.now docs.new)) }
+    ensures ok { IfOk result (λ answer. Assigns (plain store.now docs.old) number name
+        (Ok (text_at store.now root)) answer.told answer.line.items (plain store.now docs.new)) }
     ensures err { OnErr result (docs.new ≡ docs.old) }
 {
     let answer = given_line(alloc, store, &name, root)?;
@@ -82,8 +83,12 @@ pub fn text<P: Ledger>(
 ) -> Result<Answer, Stop>
     requires held { IsHeld held.old }
     requires short { length content ≤ 2 ^ 16 }
-    ensures done { (files : Option Files) (faults looks places : ℕ) → IfOk result (Answers (at held.old files faults looks pairs.old places) number (form.Text name content) (at held.new files faults looks pairs.new places)) }
-    ensures stopped { (files : Option Files) (faults looks places : ℕ) → IfErr result (Stays (at held.old files faults looks pairs.old places) number (form.Text name content) (at held.new files faults looks pairs.new places)) }
+    ensures done { (files : Option Files) (faults looks places : ℕ) → IfOk result
+        (Answers (at held.old files faults looks pairs.old places) number (form.Text name content)
+        (at held.new files faults looks pairs.new places)) }
+    ensures stopped { (files : Option Files) (faults looks places : ℕ) → IfErr result
+        (Stays (at held.old files faults looks pairs.old places) number (form.Text name content)
+        (at held.new files faults looks pairs.new places)) }
 {
     let root = load(held.alloc, &mut held.store, content.bytes(), pairs)?;
     let answer = give(held.alloc, &held.store, &mut held.docs, number, name, root)?;
@@ -117,7 +122,8 @@ fn assign<P: Ledger>(
     requires { AreLive store.old docs.old }
     ensures live { AreLive store.new docs.new }
     ensures grows { Grows store.old store.new pairs.old pairs.new }
-    ensures ok { IfOk result (λ answer. Assigns (plain store.old docs.old) number name (meaning.eval (plain store.old docs.old) expr.now) answer.told answer.line.items (plain store.new docs.new)) }
+    ensures ok { IfOk result (λ answer. Assigns (plain store.old docs.old) number name
+        (meaning.eval (plain store.old docs.old) expr.now) answer.told answer.line.items (plain store.new docs.new)) }
     ensures err { OnErr result (plain store.new docs.new ≡ plain store.old docs.old) }
     ensures cost { pairs.new ≤ pairs.old + edit_limit (operations expr.now) (greatest (plain store.old docs.old) expr.now) }
 {
@@ -142,8 +148,12 @@ pub fn let_document<P: Ledger>(
     pairs: &mut Steps<P>,
 ) -> Result<Answer, Stop>
     requires { IsHeld held.old }
-    ensures done { (files : Option Files) (faults looks places : ℕ) → IfOk result (Answers (at held.old files faults looks pairs.old places) number (form.LetDoc name expr) (at held.new files faults looks pairs.new places)) }
-    ensures stopped { (files : Option Files) (faults looks places : ℕ) → IfErr result (Stays (at held.old files faults looks pairs.old places) number (form.LetDoc name expr) (at held.new files faults looks pairs.new places)) }
+    ensures done { (files : Option Files) (faults looks places : ℕ) → IfOk result
+        (Answers (at held.old files faults looks pairs.old places) number (form.LetDoc name expr)
+        (at held.new files faults looks pairs.new places)) }
+    ensures stopped { (files : Option Files) (faults looks places : ℕ) → IfErr result
+        (Stays (at held.old files faults looks pairs.old places) number (form.LetDoc name expr)
+        (at held.new files faults looks pairs.new places)) }
 {
     match read(held.alloc, expr.bytes()) {
         Ok(tree) => {

@@ -137,8 +137,11 @@ fn list_batch<R: Threads + Sync, K: Sink, G: Gate>(
     requires few { limit ≤ 10000 }
     requires variables { length vars.now ≡ dfa.now.variables }
     requires answered { (lists : List (List ATuple)) × AreAnswered dfa.now view.store.now docs.now lists }
-    ensures done { OnOk result ((lists : List (List ATuple)) → AreAnswered dfa.now view.entry.store.now docs.now lists → WritesUpTo (K.written out.old) (K.written out.new) (rest_text vars.now limit docs.now lists (first + count)) (rest_text vars.now limit docs.now lists first)) }
-    ensures stopped { OnErr result ((lists : List (List ATuple)) → AreAnswered dfa.now view.entry.store.now docs.now lists → AppendsFront (K.written out.old) (K.written out.new) (rest_text vars.now limit docs.now lists first)) }
+    ensures done { OnOk result ((lists : List (List ATuple)) → AreAnswered dfa.now view.entry.store.now docs.now lists
+        → WritesUpTo (K.written out.old) (K.written out.new) (rest_text vars.now limit docs.now lists (first + count))
+        (rest_text vars.now limit docs.now lists first)) }
+    ensures stopped { OnErr result ((lists : List (List ATuple)) → AreAnswered dfa.now view.entry.store.now docs.now lists
+        → AppendsFront (K.written out.old) (K.written out.new) (rest_text vars.now limit docs.now lists first)) }
     ensures later { K.faults out.old ≤ K.faults out.new }
     ensures fault { IfErr result (λ why. why ≡ Stop.OutFault → Rose (K.faults out.old) (K.faults out.new)) }
     ensures wants_later { K.wants out.old ≤ K.wants out.new }
@@ -188,8 +191,10 @@ fn list_documents<R: Threads + Sync, K: Sink, G: Gate>(
     requires few { limit ≤ 10000 }
     requires variables { length vars.now ≡ dfa.now.variables }
     requires answered { (lists : List (List ATuple)) × AreAnswered dfa.now view.store.now docs.now lists }
-    ensures done { OnOk result ((lists : List (List ATuple)) → AreAnswered dfa.now view.entry.store.now docs.now lists → Appends (K.written out.old) (K.written out.new) (every_text vars.now limit docs.now lists)) }
-    ensures stopped { OnErr result ((lists : List (List ATuple)) → AreAnswered dfa.now view.entry.store.now docs.now lists → AppendsFront (K.written out.old) (K.written out.new) (every_text vars.now limit docs.now lists)) }
+    ensures done { OnOk result ((lists : List (List ATuple)) → AreAnswered dfa.now view.entry.store.now docs.now lists
+        → Appends (K.written out.old) (K.written out.new) (every_text vars.now limit docs.now lists)) }
+    ensures stopped { OnErr result ((lists : List (List ATuple)) → AreAnswered dfa.now view.entry.store.now docs.now lists
+        → AppendsFront (K.written out.old) (K.written out.new) (every_text vars.now limit docs.now lists)) }
     ensures later { K.faults out.old ≤ K.faults out.new }
     ensures fault { IfErr result (λ why. why ≡ Stop.OutFault → Rose (K.faults out.old) (K.faults out.new)) }
     ensures wants_later { K.wants out.old ≤ K.wants out.new }
@@ -224,7 +229,8 @@ fn list_query<R: Threads + Sync, K: Sink, G: Gate>(
     requires some { 1 ≤ limit }
     requires few { limit ≤ 10000 }
     ensures done { OnOk result (ListsEvery (Appends (K.written out.old) (K.written out.new)) (queries_of book.now) query.now (plain store.now docs.now) limit) }
-    ensures stopped { OnErr result (ListsEvery (AppendsFront (K.written out.old) (K.written out.new)) (queries_of book.now) query.now (plain store.now docs.now) limit) }
+    ensures stopped { OnErr result (ListsEvery (AppendsFront (K.written out.old) (K.written out.new))
+        (queries_of book.now) query.now (plain store.now docs.now) limit) }
     ensures later { K.faults out.old ≤ K.faults out.new }
     ensures fault { IfErr result (λ why. why ≡ Stop.OutFault → Rose (K.faults out.old) (K.faults out.new)) }
     ensures wants_later { K.wants out.old ≤ K.wants out.new }
@@ -253,8 +259,18 @@ pub fn list_all<R: Threads + Sync, K: Sink, G: Gate, T: Ledger>(
     requires some { 1 ≤ limit }
     requires few { limit ≤ 10000 }
     ensures held { IsHeld held.new }
-    ensures done { (files : Option Files) (faults looks pairs : ℕ) → IfOk result (Done context.entry.number (Some (form.ListAll query limit)) (seen (standing_of held.old) files faults looks pairs places.old) (outlet (K.written out.old) (K.faults out.old) (K.wants out.old)) (seen (standing_of held.new) files faults looks pairs places.new) (outlet (K.written out.new) (K.faults out.new) (K.wants out.new))) }
-    ensures stopped { (files : Option Files) (faults looks pairs : ℕ) → IfErr result (Stopped context.entry.number (Some (form.ListAll query limit)) (seen (standing_of held.old) files faults looks pairs places.old) (outlet (K.written out.old) (K.faults out.old) (K.wants out.old)) (seen (standing_of held.new) files faults looks pairs places.new) (outlet (K.written out.new) (K.faults out.new) (K.wants out.new))) }
+    ensures done { (files : Option Files) (faults looks pairs : ℕ) → IfOk result
+        (Done context.entry.number (Some (form.ListAll query limit))
+        (seen (standing_of held.old) files faults looks pairs places.old)
+        (outlet (K.written out.old) (K.faults out.old) (K.wants out.old))
+        (seen (standing_of held.new) files faults looks pairs places.new)
+        (outlet (K.written out.new) (K.faults out.new) (K.wants out.new))) }
+    ensures stopped { (files : Option Files) (faults looks pairs : ℕ) → IfErr result
+        (Stopped context.entry.number (Some (form.ListAll query limit))
+        (seen (standing_of held.old) files faults looks pairs places.old)
+        (outlet (K.written out.old) (K.faults out.old) (K.wants out.old))
+        (seen (standing_of held.new) files faults looks pairs places.new)
+        (outlet (K.written out.new) (K.faults out.new) (K.wants out.new))) }
 {
     if has_query(&held.book, &query) {
         held.book.grow_all(

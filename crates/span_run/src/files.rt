@@ -124,8 +124,12 @@ pub fn load_file<F: Shelf, P: Ledger>(
     pairs: &mut Steps<P>,
 ) -> Result<Answer, Stop>
     requires { IsHeld held.old }
-    ensures done { (looks places : ℕ) → IfOk result (Answers (at held.old (F.files shelf.old) (F.faults shelf.old) looks pairs.old places) number (form.LoadFile name file) (at held.new (F.files shelf.new) (F.faults shelf.new) looks pairs.new places)) }
-    ensures stopped { (looks places : ℕ) → IfErr result (Stays (at held.old (F.files shelf.old) (F.faults shelf.old) looks pairs.old places) number (form.LoadFile name file) (at held.new (F.files shelf.new) (F.faults shelf.new) looks pairs.new places)) }
+    ensures done { (looks places : ℕ) → IfOk result
+        (Answers (at held.old (F.files shelf.old) (F.faults shelf.old) looks pairs.old places) number (form.LoadFile name file)
+        (at held.new (F.files shelf.new) (F.faults shelf.new) looks pairs.new places)) }
+    ensures stopped { (looks places : ℕ) → IfErr result
+        (Stays (at held.old (F.files shelf.old) (F.faults shelf.old) looks pairs.old places) number (form.LoadFile name file)
+        (at held.new (F.files shelf.new) (F.faults shelf.new) looks pairs.new places)) }
 {
     match load_from(held.alloc, &mut held.store, file.bytes(), shelf, pairs) {
         Ok(root) => {
@@ -183,7 +187,8 @@ fn read_file<F: Shelf>(alloc: Global, name: &[u8], shelf: &mut F) -> Result<Vec<
 
 /// The reply to a faulty image.
 fn faulty(alloc: Global, number: u64, why: ImageRefusal) -> Result<Answer, NoMemory>
-    ensures { IfOk result (λ answer. (answer.told ≡ told.Refused) × ((kind : ℕ) × (kind_of why ≡ Some kind) × (answer.line.items ≡ refusal_text number (Refusal.BadImage kind)))) }
+    ensures { IfOk result (λ answer. (answer.told ≡ told.Refused)
+        × ((kind : ℕ) × (kind_of why ≡ Some kind) × (answer.line.items ≡ refusal_text number (Refusal.BadImage kind)))) }
 {
     let Some(kind) = why.kind() else {
         return Err(NoMemory);
@@ -204,7 +209,8 @@ fn open_image<P: Ledger>(
     requires { AreLive store.old docs.old }
     ensures live { AreLive store.new docs.new }
     ensures grows { Grows store.old store.new pairs.old pairs.new }
-    ensures ok { IfOk result (λ answer. Opens (plain store.old docs.old) number (image bytes.now).answer answer.told answer.line.items (plain store.new docs.new)) }
+    ensures ok { IfOk result (λ answer. Opens (plain store.old docs.old) number
+        (image bytes.now).answer answer.told answer.line.items (plain store.new docs.new)) }
     ensures err { OnErr result (plain store.new docs.new ≡ plain store.old docs.old) }
     ensures cost { pairs.new ≤ pairs.old + (image bytes.now).cost }
 {
@@ -231,8 +237,12 @@ pub fn open_file<F: Shelf, P: Ledger>(
     pairs: &mut Steps<P>,
 ) -> Result<Answer, Stop>
     requires { IsHeld held.old }
-    ensures done { (looks places : ℕ) → IfOk result (Answers (at held.old (F.files shelf.old) (F.faults shelf.old) looks pairs.old places) number (form.OpenFile file) (at held.new (F.files shelf.new) (F.faults shelf.new) looks pairs.new places)) }
-    ensures stopped { (looks places : ℕ) → IfErr result (Stays (at held.old (F.files shelf.old) (F.faults shelf.old) looks pairs.old places) number (form.OpenFile file) (at held.new (F.files shelf.new) (F.faults shelf.new) looks pairs.new places)) }
+    ensures done { (looks places : ℕ) → IfOk result
+        (Answers (at held.old (F.files shelf.old) (F.faults shelf.old) looks pairs.old places) number (form.OpenFile file)
+        (at held.new (F.files shelf.new) (F.faults shelf.new) looks pairs.new places)) }
+    ensures stopped { (looks places : ℕ) → IfErr result
+        (Stays (at held.old (F.files shelf.old) (F.faults shelf.old) looks pairs.old places) number (form.OpenFile file)
+        (at held.new (F.files shelf.new) (F.faults shelf.new) looks pairs.new places)) }
 {
     match read_file(held.alloc, file.bytes(), shelf) {
         Ok(bytes) => {
@@ -258,8 +268,12 @@ pub fn save_file<F: Shelf>(
     shelf: &mut F,
 ) -> Result<Answer, Stop>
     requires { IsHeld held.old }
-    ensures done { (looks pairs places : ℕ) → IfOk result (Answers (at held.old (F.files shelf.old) (F.faults shelf.old) looks pairs places) number (form.SaveFile file) (at held.new (F.files shelf.new) (F.faults shelf.new) looks pairs places)) }
-    ensures stopped { (looks pairs places : ℕ) → IfErr result (Stays (at held.old (F.files shelf.old) (F.faults shelf.old) looks pairs places) number (form.SaveFile file) (at held.new (F.files shelf.new) (F.faults shelf.new) looks pairs places)) }
+    ensures done { (looks pairs places : ℕ) → IfOk result
+        (Answers (at held.old (F.files shelf.old) (F.faults shelf.old) looks pairs places) number (form.SaveFile file)
+        (at held.new (F.files shelf.new) (F.faults shelf.new) looks pairs places)) }
+    ensures stopped { (looks pairs places : ℕ) → IfErr result
+        (Stays (at held.old (F.files shelf.old) (F.faults shelf.old) looks pairs places) number (form.SaveFile file)
+        (at held.new (F.files shelf.new) (F.faults shelf.new) looks pairs places)) }
 {
     let image = write(held.alloc, &held.docs, &held.store)?;
     let mut line = Vec::new(held.alloc);

@@ -73,9 +73,15 @@ fn write_page<K: Sink, L: Ledger>(
     looks: &mut Steps<L>,
 ) -> Result<(), Stop>
     requires { length vars.now ≡ answers.old.automaton.variables }
-    ensures done { OnOk result ((all rest : List ATuple) → AreAnswersOf answers.old.automaton answers.old.text all → IsAfter all answers.old.after rest → Appends (K.written out.old) (K.written out.new) (first_page_text vars.now limit rest)) }
-    ensures stopped { OnErr result ((all rest : List ATuple) → AreAnswersOf answers.old.automaton answers.old.text all → IsAfter all answers.old.after rest → AppendsFront (K.written out.old) (K.written out.new) (first_page_text vars.now limit rest)) }
-    ensures cost { (all rest : List ATuple) → AreAnswersOf answers.old.automaton answers.old.text all → IsAfter all answers.old.after rest → looks.new ≤ looks.old + (length (take limit rest) + 1) * looks_limit answers.old.automaton.variables (length answers.old.text) }
+    ensures done { OnOk result ((all rest : List ATuple) → AreAnswersOf answers.old.automaton answers.old.text all
+        → IsAfter all answers.old.after rest → Appends (K.written out.old) (K.written out.new)
+        (first_page_text vars.now limit rest)) }
+    ensures stopped { OnErr result ((all rest : List ATuple) → AreAnswersOf answers.old.automaton answers.old.text all
+        → IsAfter all answers.old.after rest → AppendsFront (K.written out.old) (K.written out.new)
+        (first_page_text vars.now limit rest)) }
+    ensures cost { (all rest : List ATuple) → AreAnswersOf answers.old.automaton answers.old.text all
+        → IsAfter all answers.old.after rest → looks.new ≤ looks.old +
+        (length (take limit rest) + 1) * looks_limit answers.old.automaton.variables (length answers.old.text) }
     ensures later { K.faults out.old ≤ K.faults out.new }
     ensures fault { IfErr result (λ why. why ≡ Stop.OutFault → Rose (K.faults out.old) (K.faults out.new)) }
     ensures wants_later { K.wants out.old ≤ K.wants out.new }
@@ -139,8 +145,10 @@ fn list_from<K: Sink, L: Ledger>(
     requires covers { Covers store.now book.now }
     requires live { IsLive store.now root }
     requires cursor { HasCursor (queries_of book.now) query.now cursor }
-    ensures done { OnOk result (Lists (Appends (K.written out.old) (K.written out.new)) (queries_of book.now) query.now (text_at store.now root) cursor limit looks.old looks.new) }
-    ensures stopped { OnErr result (Lists (AppendsFront (K.written out.old) (K.written out.new)) (queries_of book.now) query.now (text_at store.now root) cursor limit looks.old looks.new) }
+    ensures done { OnOk result (Lists (Appends (K.written out.old) (K.written out.new)) (queries_of book.now) query.now
+        (text_at store.now root) cursor limit looks.old looks.new) }
+    ensures stopped { OnErr result (Lists (AppendsFront (K.written out.old) (K.written out.new)) (queries_of book.now) query.now
+        (text_at store.now root) cursor limit looks.old looks.new) }
     ensures later { K.faults out.old ≤ K.faults out.new }
     ensures fault { IfErr result (λ why. why ≡ Stop.OutFault → Rose (K.faults out.old) (K.faults out.new)) }
     ensures wants_later { K.wants out.old ≤ K.wants out.new }
@@ -169,8 +177,10 @@ fn list_root<K: Sink, L: Ledger>(
 ) -> Result<Told, Stop>
     requires covers { Covers store.now book.now }
     requires live { IsLive store.now root }
-    ensures done { IfOk result (λ told. Tells (Appends (K.written out.old) (K.written out.new)) number (queries_of book.now) query word (text_at store.now root) limit told looks.old looks.new) }
-    ensures stopped { OnErr result ((told : Told) × Tells (AppendsFront (K.written out.old) (K.written out.new)) number (queries_of book.now) query word (text_at store.now root) limit told looks.old looks.new) }
+    ensures done { IfOk result (λ told. Tells (Appends (K.written out.old) (K.written out.new)) number
+        (queries_of book.now) query word (text_at store.now root) limit told looks.old looks.new) }
+    ensures stopped { OnErr result ((told : Told) × Tells (AppendsFront (K.written out.old) (K.written out.new)) number
+        (queries_of book.now) query word (text_at store.now root) limit told looks.old looks.new) }
     ensures later { K.faults out.old ≤ K.faults out.new }
     ensures fault { IfErr result (λ why. why ≡ Stop.OutFault → Rose (K.faults out.old) (K.faults out.new)) }
     ensures wants_later { K.wants out.old ≤ K.wants out.new }
@@ -202,8 +212,18 @@ pub fn list<R: Threads + Sync, K: Sink, G: Gate, T: Ledger, L: Ledger>(
 ) -> Result<Told, Stop>
     requires { IsHeld held.old }
     ensures held { IsHeld held.new }
-    ensures done { (files : Option Files) (faults pairs : ℕ) → IfOk result (Done context.entry.number (Some (form.List query name page.after page.limit)) (seen (standing_of held.old) files faults looks.old pairs places.old) (outlet (K.written out.old) (K.faults out.old) (K.wants out.old)) (seen (standing_of held.new) files faults looks.new pairs places.new) (outlet (K.written out.new) (K.faults out.new) (K.wants out.new))) }
-    ensures stopped { (files : Option Files) (faults pairs : ℕ) → IfErr result (Stopped context.entry.number (Some (form.List query name page.after page.limit)) (seen (standing_of held.old) files faults looks.old pairs places.old) (outlet (K.written out.old) (K.faults out.old) (K.wants out.old)) (seen (standing_of held.new) files faults looks.new pairs places.new) (outlet (K.written out.new) (K.faults out.new) (K.wants out.new))) }
+    ensures done { (files : Option Files) (faults pairs : ℕ) → IfOk result
+        (Done context.entry.number (Some (form.List query name page.after page.limit))
+        (seen (standing_of held.old) files faults looks.old pairs places.old)
+        (outlet (K.written out.old) (K.faults out.old) (K.wants out.old))
+        (seen (standing_of held.new) files faults looks.new pairs places.new)
+        (outlet (K.written out.new) (K.faults out.new) (K.wants out.new))) }
+    ensures stopped { (files : Option Files) (faults pairs : ℕ) → IfErr result
+        (Stopped context.entry.number (Some (form.List query name page.after page.limit))
+        (seen (standing_of held.old) files faults looks.old pairs places.old)
+        (outlet (K.written out.old) (K.faults out.old) (K.wants out.old))
+        (seen (standing_of held.new) files faults looks.new pairs places.new)
+        (outlet (K.written out.new) (K.faults out.new) (K.wants out.new))) }
 {
     match held.docs.get(name.bytes()) {
         Ok(root) => {

@@ -34,8 +34,10 @@ pub fn offer<K: Sink>(out: &mut K, piece: &[u8]) -> Result<(), Stop>
 /// Writes a reply that was made.
 pub fn send<K: Sink>(answer: Answer, out: &mut K) -> Result<Told, Stop>
     ensures told { IfOk result (λ told. told ≡ answer.told) }
-    ensures done { OnOk result (IsSent (outlet (K.written out.old) (K.faults out.old) (K.wants out.old)) answer.line.items (outlet (K.written out.new) (K.faults out.new) (K.wants out.new))) }
-    ensures stopped { IfErr result (IsUnsent (outlet (K.written out.old) (K.faults out.old) (K.wants out.old)) answer.line.items (outlet (K.written out.new) (K.faults out.new) (K.wants out.new))) }
+    ensures done { OnOk result (IsSent (outlet (K.written out.old) (K.faults out.old) (K.wants out.old)) answer.line.items
+        (outlet (K.written out.new) (K.faults out.new) (K.wants out.new))) }
+    ensures stopped { IfErr result (IsUnsent (outlet (K.written out.old) (K.faults out.old) (K.wants out.old)) answer.line.items
+        (outlet (K.written out.new) (K.faults out.new) (K.wants out.new))) }
     ensures later { K.faults out.old ≤ K.faults out.new }
     ensures fault { IfErr result (λ why. why ≡ Stop.OutFault → Rose (K.faults out.old) (K.faults out.new)) }
     ensures wants_later { K.wants out.old ≤ K.wants out.new }

@@ -69,7 +69,8 @@ fn text_denied(alloc: Global, number: u64, why: QueryRefusal) -> Result<Answer, 
 pub fn registered(alloc: Global, book: &QueryBook, name: &Name) -> Result<Answer, NoMemory>
     requires { IsSome (value_of (queries_of book.now) name.now) }
     ensures told { IfOk result (λ answer. answer.told ≡ told.Accepted) }
-    ensures line { IfOk result (λ answer. (q : Query) → value_of (queries_of book.now) name.now ≡ Some q → answer.line.items ≡ query_text name.now (names_of q)) }
+    ensures line { IfOk result (λ answer. (q : Query) → value_of (queries_of book.now) name.now ≡ Some q
+        → answer.line.items ≡ query_text name.now (names_of q)) }
 {
     match book.vars(name.bytes()) {
         Ok(vars) => {
@@ -142,7 +143,8 @@ fn test_root<L: Ledger>(
 ) -> Result<Answer, NoMemory>
     requires covers { Covers store.now book.now }
     requires live { IsLive store.now root }
-    ensures ok { IfOk result (λ answer. IsAnswered (λ q. HasAnswer q (text_at store.now root)) number (queries_of book.now) query answer.told answer.line.items) }
+    ensures ok { IfOk result (λ answer. IsAnswered (λ q. HasAnswer q (text_at store.now root)) number
+        (queries_of book.now) query answer.told answer.line.items) }
     ensures cost { looks.new ≤ looks.old + most_looks (value_of (queries_of book.now) query) (text_at store.now root) }
 {
     match book.test(query.bytes(), store, root, looks) {
@@ -167,8 +169,12 @@ pub fn test<R: Threads + Sync, G: Gate, T: Ledger, L: Ledger>(
     looks: &mut Steps<L>,
 ) -> Result<Answer, Stop>
     requires { IsHeld held.old }
-    ensures done { (files : Option Files) (faults pairs : ℕ) → IfOk result (Answers (at held.old files faults looks.old pairs places.old) context.entry.number (form.Nonempty query name) (at held.new files faults looks.new pairs places.new)) }
-    ensures stopped { (files : Option Files) (faults pairs : ℕ) → IfErr result (Stays (at held.old files faults looks.old pairs places.old) context.entry.number (form.Nonempty query name) (at held.new files faults looks.new pairs places.new)) }
+    ensures done { (files : Option Files) (faults pairs : ℕ) → IfOk result
+        (Answers (at held.old files faults looks.old pairs places.old) context.entry.number (form.Nonempty query name)
+        (at held.new files faults looks.new pairs places.new)) }
+    ensures stopped { (files : Option Files) (faults pairs : ℕ) → IfErr result
+        (Stays (at held.old files faults looks.old pairs places.old) context.entry.number (form.Nonempty query name)
+        (at held.new files faults looks.new pairs places.new)) }
 {
     match held.docs.get(name.bytes()) {
         Ok(root) => {
@@ -216,7 +222,8 @@ fn has_tuple<L: Ledger>(
     requires covers { Covers store.now book.now }
     requires live { IsLive store.now root }
     requires tuple { HasVariablesOf (queries_of book.now) query tuple.now }
-    ensures ok { IfOk result (λ answer. IsAnswered (λ q. IsAnswer q (text_at store.now root) tuple.now) number (queries_of book.now) query answer.told answer.line.items) }
+    ensures ok { IfOk result (λ answer. IsAnswered (λ q. IsAnswer q (text_at store.now root) tuple.now) number
+        (queries_of book.now) query answer.told answer.line.items) }
     ensures cost { looks.new ≤ looks.old + most_looks (value_of (queries_of book.now) query) (text_at store.now root) }
 {
     match book.has(query.bytes(), store, root, tuple, looks) {
@@ -270,8 +277,12 @@ pub fn has<R: Threads + Sync, G: Gate, T: Ledger, L: Ledger>(
     looks: &mut Steps<L>,
 ) -> Result<Answer, Stop>
     requires { IsHeld held.old }
-    ensures done { (files : Option Files) (faults pairs : ℕ) → IfOk result (Answers (at held.old files faults looks.old pairs places.old) context.entry.number (form.Has query name word) (at held.new files faults looks.new pairs places.new)) }
-    ensures stopped { (files : Option Files) (faults pairs : ℕ) → IfErr result (Stays (at held.old files faults looks.old pairs places.old) context.entry.number (form.Has query name word) (at held.new files faults looks.new pairs places.new)) }
+    ensures done { (files : Option Files) (faults pairs : ℕ) → IfOk result
+        (Answers (at held.old files faults looks.old pairs places.old) context.entry.number (form.Has query name word)
+        (at held.new files faults looks.new pairs places.new)) }
+    ensures stopped { (files : Option Files) (faults pairs : ℕ) → IfErr result
+        (Stays (at held.old files faults looks.old pairs places.old) context.entry.number (form.Has query name word)
+        (at held.new files faults looks.new pairs places.new)) }
 {
     match held.docs.get(name.bytes()) {
         Ok(root) => {

@@ -114,7 +114,9 @@ fn put_in_place<P: Ledger>(
     requires apart { AreApart (length (text_at store.old sources.now.root)) spans.now }
     ensures live { AreLive store.new docs.new }
     ensures grows { Grows store.old store.new pairs.old pairs.new }
-    ensures ok { IfOk result (λ answer. Replaces (plain store.old docs.old) number name (meaning.replaced (text_at store.old sources.now.root) spans.now (text_at store.old sources.now.other)) answer.told answer.line.items (plain store.new docs.new)) }
+    ensures ok { IfOk result (λ answer. Replaces (plain store.old docs.old) number name
+        (meaning.replaced (text_at store.old sources.now.root) spans.now
+        (text_at store.old sources.now.other)) answer.told answer.line.items (plain store.new docs.new)) }
     ensures err { OnErr result (plain store.new docs.new ≡ plain store.old docs.old) }
     ensures cost { pairs.new ≤ pairs.old + 1770 * (length spans.now + 1) }
 {
@@ -141,8 +143,14 @@ pub fn replace<R: Threads + Sync, G: Gate, P: Ledger, T: Ledger, L: Ledger>(
     looks: &mut Steps<L>,
 ) -> Result<Answer, Stop>
     requires { IsHeld held.old }
-    ensures done { (files : Option Files) (faults : ℕ) → IfOk result (Answers (at held.old files faults looks.old pairs.old places.old) context.entry.number (form.ReplaceDoc asked.name asked.query asked.source asked.by) (at held.new files faults looks.new pairs.new places.new)) }
-    ensures stopped { (files : Option Files) (faults : ℕ) → IfErr result (Stays (at held.old files faults looks.old pairs.old places.old) context.entry.number (form.ReplaceDoc asked.name asked.query asked.source asked.by) (at held.new files faults looks.new pairs.new places.new)) }
+    ensures done { (files : Option Files) (faults : ℕ) → IfOk result
+        (Answers (at held.old files faults looks.old pairs.old places.old) context.entry.number
+        (form.ReplaceDoc asked.name asked.query asked.source asked.by)
+        (at held.new files faults looks.new pairs.new places.new)) }
+    ensures stopped { (files : Option Files) (faults : ℕ) → IfErr result
+        (Stays (at held.old files faults looks.old pairs.old places.old) context.entry.number
+        (form.ReplaceDoc asked.name asked.query asked.source asked.by)
+        (at held.new files faults looks.new pairs.new places.new)) }
 {
     let number = context.number;
     let Replacing {

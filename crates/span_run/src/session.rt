@@ -84,8 +84,16 @@ impl Session {
     ) -> Result<Told, Stop>
         requires least { 1 ≤ workers }
         requires most { workers ≤ 64 }
-        ensures done { IfOk result (IsDone line.now number (seen self.old (F.files shelf.old) (F.faults shelf.old) looks.old pairs.old places.old) (outlet (K.written out.old) (K.faults out.old) (K.wants out.old)) (seen self.new (F.files shelf.new) (F.faults shelf.new) looks.new pairs.new places.new) (outlet (K.written out.new) (K.faults out.new) (K.wants out.new))) }
-        ensures stopped { IfErr result (IsStopped line.now number (seen self.old (F.files shelf.old) (F.faults shelf.old) looks.old pairs.old places.old) (outlet (K.written out.old) (K.faults out.old) (K.wants out.old)) (seen self.new (F.files shelf.new) (F.faults shelf.new) looks.new pairs.new places.new) (outlet (K.written out.new) (K.faults out.new) (K.wants out.new))) }
+        ensures done { IfOk result (IsDone line.now number
+            (seen self.old (F.files shelf.old) (F.faults shelf.old) looks.old pairs.old places.old)
+            (outlet (K.written out.old) (K.faults out.old) (K.wants out.old))
+            (seen self.new (F.files shelf.new) (F.faults shelf.new) looks.new pairs.new places.new)
+            (outlet (K.written out.new) (K.faults out.new) (K.wants out.new))) }
+        ensures stopped { IfErr result (IsStopped line.now number
+            (seen self.old (F.files shelf.old) (F.faults shelf.old) looks.old pairs.old places.old)
+            (outlet (K.written out.old) (K.faults out.old) (K.wants out.old))
+            (seen self.new (F.files shelf.new) (F.faults shelf.new) looks.new pairs.new places.new)
+            (outlet (K.written out.new) (K.faults out.new) (K.wants out.new))) }
         ensures standing { IsStanding self.new }
     {
         let context = Context {

@@ -124,10 +124,19 @@ fn run_lines<R: Threads + Sync, K: Sink, F: Shelf, G: Gate, P: Ledger, T: Ledger
 ) -> Result<bool, Stop>
     requires least { 1 ≤ workers }
     requires most { workers ≤ 64 }
-    ensures done { IfOk result (λ refused. RunsAll (lines_of script.now) refused (outside (K.written out.old) (F.files shelf.old) looks.old pairs.old places.old) (outside (K.written out.new) (F.files shelf.new) looks.new pairs.new places.new)) }
-    ensures out_fault { IfErr result (λ why. why ≡ Stop.OutFault → Rose (K.faults out.old) (K.faults out.new) × RunsFront Anywhere (lines_of script.now) (outside (K.written out.old) (F.files shelf.old) looks.old pairs.old places.old) (outside (K.written out.new) (F.files shelf.new) looks.new pairs.new places.new)) }
-    ensures shelf_fault { IfErr result (λ why. why ≡ Stop.ShelfFault → Rose (F.faults shelf.old) (F.faults shelf.new) × RunsFront InFileLine (lines_of script.now) (outside (K.written out.old) (F.files shelf.old) looks.old pairs.old places.old) (outside (K.written out.new) (F.files shelf.new) looks.new pairs.new places.new)) }
-    ensures want { IfErr result (λ why. why ≡ Stop.NoMemory → RunsFront (UnlessList (K.wants out.old) (K.wants out.new)) (lines_of script.now) (outside (K.written out.old) (F.files shelf.old) looks.old pairs.old places.old) (outside (K.written out.new) (F.files shelf.new) looks.new pairs.new places.new)) }
+    ensures done { IfOk result (λ refused. RunsAll (lines_of script.now) refused
+        (outside (K.written out.old) (F.files shelf.old) looks.old pairs.old places.old)
+        (outside (K.written out.new) (F.files shelf.new) looks.new pairs.new places.new)) }
+    ensures out_fault { IfErr result (λ why. why ≡ Stop.OutFault → Rose (K.faults out.old) (K.faults out.new) × RunsFront Anywhere
+        (lines_of script.now) (outside (K.written out.old) (F.files shelf.old) looks.old pairs.old places.old)
+        (outside (K.written out.new) (F.files shelf.new) looks.new pairs.new places.new)) }
+    ensures shelf_fault { IfErr result (λ why. why ≡ Stop.ShelfFault → Rose (F.faults shelf.old) (F.faults shelf.new)
+        × RunsFront InFileLine (lines_of script.now)
+        (outside (K.written out.old) (F.files shelf.old) looks.old pairs.old places.old)
+        (outside (K.written out.new) (F.files shelf.new) looks.new pairs.new places.new)) }
+    ensures want { IfErr result (λ why. why ≡ Stop.NoMemory → RunsFront (UnlessList (K.wants out.old) (K.wants out.new))
+        (lines_of script.now) (outside (K.written out.old) (F.files shelf.old) looks.old pairs.old places.old)
+        (outside (K.written out.new) (F.files shelf.new) looks.new pairs.new places.new)) }
 {
     let mut session = Session::new(alloc);
     let mut rest = script;
@@ -175,28 +184,51 @@ pub fn run<
     looks: &mut Steps<L>,
 ) -> Status
     ensures usage { result ≡ Status.Usage → Refused (map string_bytes words.now) }
-    ensures refused { Refused (map string_bytes words.now) → ((result ≡ Status.Usage) ⊎ (result ≡ Status.NoMemory)) × (outside (K.written out.new) (F.files shelf.new) looks.new pairs.new places.new ≡ outside (K.written out.old) (F.files shelf.old) looks.old pairs.old places.old) }
-    ensures done { result ≡ Status.Done → OfScript (map string_bytes words.now) (S.left script.old) (λ bytes. RunsAll (lines_of bytes) false (outside (K.written out.old) (F.files shelf.old) looks.old pairs.old places.old) (outside (K.written out.new) (F.files shelf.new) looks.new pairs.new places.new)) }
-    ensures some_refused { result ≡ Status.SomeRefused → OfScript (map string_bytes words.now) (S.left script.old) (λ bytes. RunsAll (lines_of bytes) true (outside (K.written out.old) (F.files shelf.old) looks.old pairs.old places.old) (outside (K.written out.new) (F.files shelf.new) looks.new pairs.new places.new)) }
+    ensures refused { Refused (map string_bytes words.now) → ((result ≡ Status.Usage) ⊎ (result ≡ Status.NoMemory))
+        × (outside (K.written out.new) (F.files shelf.new) looks.new pairs.new places.new
+        ≡ outside (K.written out.old) (F.files shelf.old) looks.old pairs.old places.old) }
+    ensures done { result ≡ Status.Done → OfScript (map string_bytes words.now) (S.left script.old)
+        (λ bytes. RunsAll (lines_of bytes) false (outside (K.written out.old) (F.files shelf.old) looks.old pairs.old places.old)
+        (outside (K.written out.new) (F.files shelf.new) looks.new pairs.new places.new)) }
+    ensures some_refused { result ≡ Status.SomeRefused → OfScript (map string_bytes words.now) (S.left script.old)
+        (λ bytes. RunsAll (lines_of bytes) true (outside (K.written out.old) (F.files shelf.old) looks.old pairs.old places.old)
+        (outside (K.written out.new) (F.files shelf.new) looks.new pairs.new places.new)) }
     ensures script_fault { result ≡ Status.ScriptFault → AsksForNoDemo (map string_bytes words.now) × Rose (S.faults script.old) (S.faults script.new) }
     ensures out_fault { result ≡ Status.OutFault → Rose (K.faults out.old) (K.faults out.new) }
     ensures shelf_fault { result ≡ Status.ShelfFault → Rose (F.faults shelf.old) (F.faults shelf.new) }
-    ensures too_long { result ≡ Status.ScriptTooLong → AsksForNoDemo (map string_bytes words.now) × IfSome (S.left script.old) (λ bytes. 2 ^ 24 < length bytes) }
-    ensures short { (result ≡ Status.Done) ⊎ (result ≡ Status.SomeRefused) ⊎ (result ≡ Status.OutFault) ⊎ (result ≡ Status.ShelfFault) → OfScript (map string_bytes words.now) (S.left script.old) (λ bytes. length bytes ≤ 2 ^ 24) }
+    ensures too_long { result ≡ Status.ScriptTooLong → AsksForNoDemo (map string_bytes words.now) × IfSome (S.left script.old)
+        (λ bytes. 2 ^ 24 < length bytes) }
+    ensures short { (result ≡ Status.Done) ⊎ (result ≡ Status.SomeRefused) ⊎ (result ≡ Status.OutFault)
+        ⊎ (result ≡ Status.ShelfFault) → OfScript (map string_bytes words.now) (S.left script.old)
+        (λ bytes. length bytes ≤ 2 ^ 24) }
 
     // At most one byte past the limit of a script is read. The source isn't read for a demo, nor where the words are refused.
     ensures taken { TakesAtMost (2 ^ 24 + 1) (S.left script.old) (S.left script.new) }
     ensures unread { (AsksForNoDemo (map string_bytes words.now) → ⊥) → script.new ≡ script.old }
 
     // Nothing is written, and no file and no counter changes.
-    ensures nothing { (result ≡ Status.Usage) ⊎ (result ≡ Status.ScriptFault) ⊎ (result ≡ Status.ScriptTooLong) → outside (K.written out.new) (F.files shelf.new) looks.new pairs.new places.new ≡ outside (K.written out.old) (F.files shelf.old) looks.old pairs.old places.old }
-    ensures too_long_for_memory { result ≡ Status.NoMemory → AsksForNoDemo (map string_bytes words.now) → IfSome (S.left script.old) (λ bytes. 2 ^ 24 < length bytes → outside (K.written out.new) (F.files shelf.new) looks.new pairs.new places.new ≡ outside (K.written out.old) (F.files shelf.old) looks.old pairs.old places.old) }
+    ensures nothing { (result ≡ Status.Usage) ⊎ (result ≡ Status.ScriptFault) ⊎ (result ≡ Status.ScriptTooLong)
+        → outside (K.written out.new) (F.files shelf.new) looks.new pairs.new places.new
+        ≡ outside (K.written out.old) (F.files shelf.old) looks.old pairs.old places.old }
+    ensures too_long_for_memory { result ≡ Status.NoMemory → AsksForNoDemo (map string_bytes words.now)
+        → IfSome (S.left script.old) (λ bytes. 2 ^ 24 < length bytes → outside (K.written out.new)
+        (F.files shelf.new) looks.new pairs.new places.new
+        ≡ outside (K.written out.old) (F.files shelf.old) looks.old pairs.old places.old) }
 
     // What was written is a prefix of the whole output. A fault of the shelf stops a line of the form `load`, `save` or `open`
     // before any of its reply is written; and want of memory stops a `list` so too, unless the sink wanted it.
-    ensures front { result ≡ Status.OutFault → OfScript (map string_bytes words.now) (S.left script.old) (λ bytes. RunsFront Anywhere (lines_of bytes) (outside (K.written out.old) (F.files shelf.old) looks.old pairs.old places.old) (outside (K.written out.new) (F.files shelf.new) looks.new pairs.new places.new)) }
-    ensures shelf_front { result ≡ Status.ShelfFault → OfScript (map string_bytes words.now) (S.left script.old) (λ bytes. RunsFront InFileLine (lines_of bytes) (outside (K.written out.old) (F.files shelf.old) looks.old pairs.old places.old) (outside (K.written out.new) (F.files shelf.new) looks.new pairs.new places.new)) }
-    ensures want_front { result ≡ Status.NoMemory → OfScript (map string_bytes words.now) (S.left script.old) (λ bytes. RunsFront (UnlessList (K.wants out.old) (K.wants out.new)) (lines_of bytes) (outside (K.written out.old) (F.files shelf.old) looks.old pairs.old places.old) (outside (K.written out.new) (F.files shelf.new) looks.new pairs.new places.new)) }
+    ensures front { result ≡ Status.OutFault → OfScript (map string_bytes words.now) (S.left script.old)
+        (λ bytes. RunsFront Anywhere (lines_of bytes)
+        (outside (K.written out.old) (F.files shelf.old) looks.old pairs.old places.old)
+        (outside (K.written out.new) (F.files shelf.new) looks.new pairs.new places.new)) }
+    ensures shelf_front { result ≡ Status.ShelfFault → OfScript (map string_bytes words.now) (S.left script.old)
+        (λ bytes. RunsFront InFileLine (lines_of bytes)
+        (outside (K.written out.old) (F.files shelf.old) looks.old pairs.old places.old)
+        (outside (K.written out.new) (F.files shelf.new) looks.new pairs.new places.new)) }
+    ensures want_front { result ≡ Status.NoMemory → OfScript (map string_bytes words.now) (S.left script.old)
+        (λ bytes. RunsFront (UnlessList (K.wants out.old) (K.wants out.new)) (lines_of bytes)
+        (outside (K.written out.old) (F.files shelf.old) looks.old pairs.old places.old)
+        (outside (K.written out.new) (F.files shelf.new) looks.new pairs.new places.new)) }
 {
     let options = match read_words(alloc, words) {
         Ok(options) => options,

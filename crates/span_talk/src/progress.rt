@@ -69,10 +69,26 @@ fn end_line<R: Threads + Sync, K: Sink, F: Shelf, G: Gate, P: Ledger, T: Ledger,
     ensures later { K.faults out.old ≤ K.faults out.new }
     ensures wants_later { K.wants out.old ≤ K.wants out.new }
     ensures shelf_later { F.faults shelf.old ≤ F.faults shelf.new }
-    ensures done { OnOk result (Does progress.old.kept.items (place progress.old.number progress.old.refused progress.old.session (outside (K.written out.old) (F.files shelf.old) looks.old pairs.old places.old)) (place progress.new.number progress.new.refused progress.new.session (outside (K.written out.new) (F.files shelf.new) looks.new pairs.new places.new))) }
-    ensures out_fault { IfErr result (λ why. why ≡ Stop.OutFault → Rose (K.faults out.old) (K.faults out.new) × StopsIn Anywhere progress.old.kept.items (place progress.old.number progress.old.refused progress.old.session (outside (K.written out.old) (F.files shelf.old) looks.old pairs.old places.old)) (outside (K.written out.new) (F.files shelf.new) looks.new pairs.new places.new)) }
-    ensures shelf_fault { IfErr result (λ why. why ≡ Stop.ShelfFault → Rose (F.faults shelf.old) (F.faults shelf.new) × StopsIn InFileLine progress.old.kept.items (place progress.old.number progress.old.refused progress.old.session (outside (K.written out.old) (F.files shelf.old) looks.old pairs.old places.old)) (outside (K.written out.new) (F.files shelf.new) looks.new pairs.new places.new)) }
-    ensures want { IfErr result (λ why. why ≡ Stop.NoMemory → (wants : ℕ) → wants ≤ K.wants out.old → StopsIn (UnlessList wants (K.wants out.new)) progress.old.kept.items (place progress.old.number progress.old.refused progress.old.session (outside (K.written out.old) (F.files shelf.old) looks.old pairs.old places.old)) (outside (K.written out.new) (F.files shelf.new) looks.new pairs.new places.new)) }
+    ensures done { OnOk result (Does progress.old.kept.items
+        (place progress.old.number progress.old.refused progress.old.session
+        (outside (K.written out.old) (F.files shelf.old) looks.old pairs.old places.old))
+        (place progress.new.number progress.new.refused progress.new.session
+        (outside (K.written out.new) (F.files shelf.new) looks.new pairs.new places.new))) }
+    ensures out_fault { IfErr result (λ why. why ≡ Stop.OutFault → Rose (K.faults out.old) (K.faults out.new)
+        × StopsIn Anywhere progress.old.kept.items
+        (place progress.old.number progress.old.refused progress.old.session
+        (outside (K.written out.old) (F.files shelf.old) looks.old pairs.old places.old))
+        (outside (K.written out.new) (F.files shelf.new) looks.new pairs.new places.new)) }
+    ensures shelf_fault { IfErr result (λ why. why ≡ Stop.ShelfFault → Rose (F.faults shelf.old) (F.faults shelf.new)
+        × StopsIn InFileLine progress.old.kept.items
+        (place progress.old.number progress.old.refused progress.old.session
+        (outside (K.written out.old) (F.files shelf.old) looks.old pairs.old places.old))
+        (outside (K.written out.new) (F.files shelf.new) looks.new pairs.new places.new)) }
+    ensures want { IfErr result (λ why. why ≡ Stop.NoMemory → (wants : ℕ) → wants ≤ K.wants out.old
+        → StopsIn (UnlessList wants (K.wants out.new)) progress.old.kept.items
+        (place progress.old.number progress.old.refused progress.old.session
+        (outside (K.written out.old) (F.files shelf.old) looks.old pairs.old places.old))
+        (outside (K.written out.new) (F.files shelf.new) looks.new pairs.new places.new)) }
 {
     let told = progress.session.line(
         rt,
@@ -116,10 +132,26 @@ fn hear_piece<R: Threads + Sync, K: Sink, F: Shelf, G: Gate, P: Ledger, T: Ledge
     ensures later { K.faults out.old ≤ K.faults out.new }
     ensures wants_later { K.wants out.old ≤ K.wants out.new }
     ensures shelf_later { F.faults shelf.old ≤ F.faults shelf.new }
-    ensures done { OnOk result (Hears piece.now progress.old.kept.items (place progress.old.number progress.old.refused progress.old.session (outside (K.written out.old) (F.files shelf.old) looks.old pairs.old places.old)) progress.new.kept.items (place progress.new.number progress.new.refused progress.new.session (outside (K.written out.new) (F.files shelf.new) looks.new pairs.new places.new))) }
-    ensures out_fault { IfErr result (λ why. why ≡ Stop.OutFault → Rose (K.faults out.old) (K.faults out.new) × StopsWithin Anywhere piece.now progress.old.kept.items (place progress.old.number progress.old.refused progress.old.session (outside (K.written out.old) (F.files shelf.old) looks.old pairs.old places.old)) (outside (K.written out.new) (F.files shelf.new) looks.new pairs.new places.new)) }
-    ensures shelf_fault { IfErr result (λ why. why ≡ Stop.ShelfFault → Rose (F.faults shelf.old) (F.faults shelf.new) × StopsWithin InFileLine piece.now progress.old.kept.items (place progress.old.number progress.old.refused progress.old.session (outside (K.written out.old) (F.files shelf.old) looks.old pairs.old places.old)) (outside (K.written out.new) (F.files shelf.new) looks.new pairs.new places.new)) }
-    ensures want { IfErr result (λ why. why ≡ Stop.NoMemory → (wants : ℕ) → wants ≤ K.wants out.old → StopsWithin (UnlessList wants (K.wants out.new)) piece.now progress.old.kept.items (place progress.old.number progress.old.refused progress.old.session (outside (K.written out.old) (F.files shelf.old) looks.old pairs.old places.old)) (outside (K.written out.new) (F.files shelf.new) looks.new pairs.new places.new)) }
+    ensures done { OnOk result (Hears piece.now progress.old.kept.items
+        (place progress.old.number progress.old.refused progress.old.session
+        (outside (K.written out.old) (F.files shelf.old) looks.old pairs.old places.old)) progress.new.kept.items
+        (place progress.new.number progress.new.refused progress.new.session
+        (outside (K.written out.new) (F.files shelf.new) looks.new pairs.new places.new))) }
+    ensures out_fault { IfErr result (λ why. why ≡ Stop.OutFault → Rose (K.faults out.old) (K.faults out.new)
+        × StopsWithin Anywhere piece.now progress.old.kept.items
+        (place progress.old.number progress.old.refused progress.old.session
+        (outside (K.written out.old) (F.files shelf.old) looks.old pairs.old places.old))
+        (outside (K.written out.new) (F.files shelf.new) looks.new pairs.new places.new)) }
+    ensures shelf_fault { IfErr result (λ why. why ≡ Stop.ShelfFault → Rose (F.faults shelf.old) (F.faults shelf.new)
+        × StopsWithin InFileLine piece.now progress.old.kept.items
+        (place progress.old.number progress.old.refused progress.old.session
+        (outside (K.written out.old) (F.files shelf.old) looks.old pairs.old places.old))
+        (outside (K.written out.new) (F.files shelf.new) looks.new pairs.new places.new)) }
+    ensures want { IfErr result (λ why. why ≡ Stop.NoMemory → (wants : ℕ) → wants ≤ K.wants out.old → StopsWithin
+        (UnlessList wants (K.wants out.new)) piece.now progress.old.kept.items
+        (place progress.old.number progress.old.refused progress.old.session
+        (outside (K.written out.old) (F.files shelf.old) looks.old pairs.old places.old))
+        (outside (K.written out.new) (F.files shelf.new) looks.new pairs.new places.new)) }
 {
     let mut rest = piece;
     'lines: while let Some(parts) = cut_line(rest) {
@@ -163,13 +195,34 @@ fn hear_all<
     ensures wants_later { K.wants out.old ≤ K.wants out.new }
     ensures shelf_later { F.faults shelf.old ≤ F.faults shelf.new }
     ensures at_end { OnOk result (IsAtEnd (C.left client.new)) }
-    ensures all { IfOk result (λ progress. OfSent (C.left client.old) (λ sent. IsTalking sent (outside (K.written out.old) (F.files shelf.old) looks.old pairs.old places.old) progress.kept.items (place progress.number progress.refused progress.session (outside (K.written out.new) (F.files shelf.new) looks.new pairs.new places.new)))) }
-    ensures fault { IfErr result (λ why. why ≡ End.Fault → Rose (C.faults client.old) (C.faults client.new) × OfHeard (C.left client.old) (C.left client.new) (λ heard. HaveRun (whole_lines heard) (outside (K.written out.old) (F.files shelf.old) looks.old pairs.old places.old) (outside (K.written out.new) (F.files shelf.new) looks.new pairs.new places.new))) }
-    ensures too_long { IfErr result (λ why. why ≡ End.TooLong → OfHeard (C.left client.old) (C.left client.new) (λ heard. (2 ^ 62 ≤ length heard) × HaveRun (whole_lines heard) (outside (K.written out.old) (F.files shelf.old) looks.old pairs.old places.old) (outside (K.written out.new) (F.files shelf.new) looks.new pairs.new places.new))) }
-    ensures out_fault { IfErr result (λ why. why ≡ End.Stopped Stop.OutFault → Rose (K.faults out.old) (K.faults out.new) × OfSent (C.left client.old) (λ sent. RunsFront Anywhere (lines_of sent) (outside (K.written out.old) (F.files shelf.old) looks.old pairs.old places.old) (outside (K.written out.new) (F.files shelf.new) looks.new pairs.new places.new))) }
-    ensures shelf_fault { IfErr result (λ why. why ≡ End.Stopped Stop.ShelfFault → Rose (F.faults shelf.old) (F.faults shelf.new) × OfSent (C.left client.old) (λ sent. RunsFront InFileLine (lines_of sent) (outside (K.written out.old) (F.files shelf.old) looks.old pairs.old places.old) (outside (K.written out.new) (F.files shelf.new) looks.new pairs.new places.new))) }
-    ensures want { IfErr result (λ why. why ≡ End.Stopped Stop.NoMemory → OfSent (C.left client.old) (λ sent. RunsFront (UnlessList (K.wants out.old) (K.wants out.new)) (lines_of sent) (outside (K.written out.old) (F.files shelf.old) looks.old pairs.old places.old) (outside (K.written out.new) (F.files shelf.new) looks.new pairs.new places.new))) }
-    ensures served { AreServed (C.left client.old) (outside (K.written out.old) (F.files shelf.old) looks.old pairs.old places.old) (C.moments client.old) (C.moments client.new) }
+    ensures all { IfOk result (λ progress. OfSent (C.left client.old)
+        (λ sent. IsTalking sent (outside (K.written out.old)
+        (F.files shelf.old) looks.old pairs.old places.old) progress.kept.items
+        (place progress.number progress.refused progress.session
+        (outside (K.written out.new) (F.files shelf.new) looks.new pairs.new places.new)))) }
+    ensures fault { IfErr result (λ why. why ≡ End.Fault → Rose (C.faults client.old) (C.faults client.new)
+        × OfHeard (C.left client.old) (C.left client.new)
+        (λ heard. HaveRun (whole_lines heard) (outside (K.written out.old) (F.files shelf.old) looks.old pairs.old places.old)
+        (outside (K.written out.new) (F.files shelf.new) looks.new pairs.new places.new))) }
+    ensures too_long { IfErr result (λ why. why ≡ End.TooLong → OfHeard (C.left client.old) (C.left client.new)
+        (λ heard. (2 ^ 62 ≤ length heard) × HaveRun (whole_lines heard)
+        (outside (K.written out.old) (F.files shelf.old) looks.old pairs.old places.old)
+        (outside (K.written out.new) (F.files shelf.new) looks.new pairs.new places.new))) }
+    ensures out_fault { IfErr result (λ why. why ≡ End.Stopped Stop.OutFault → Rose (K.faults out.old) (K.faults out.new)
+        × OfSent (C.left client.old) (λ sent. RunsFront Anywhere (lines_of sent)
+        (outside (K.written out.old) (F.files shelf.old) looks.old pairs.old places.old)
+        (outside (K.written out.new) (F.files shelf.new) looks.new pairs.new places.new))) }
+    ensures shelf_fault { IfErr result (λ why. why ≡ End.Stopped Stop.ShelfFault → Rose (F.faults shelf.old) (F.faults shelf.new)
+        × OfSent (C.left client.old) (λ sent. RunsFront InFileLine (lines_of sent)
+        (outside (K.written out.old) (F.files shelf.old) looks.old pairs.old places.old)
+        (outside (K.written out.new) (F.files shelf.new) looks.new pairs.new places.new))) }
+    ensures want { IfErr result (λ why. why ≡ End.Stopped Stop.NoMemory → OfSent (C.left client.old)
+        (λ sent. RunsFront (UnlessList (K.wants out.old) (K.wants out.new)) (lines_of sent)
+        (outside (K.written out.old) (F.files shelf.old) looks.old pairs.old places.old)
+        (outside (K.written out.new) (F.files shelf.new) looks.new pairs.new places.new))) }
+    ensures served { AreServed (C.left client.old)
+        (outside (K.written out.old) (F.files shelf.old) looks.old pairs.old places.old) (C.moments client.old)
+        (C.moments client.new) }
 {
     let session = Session::new(alloc);
     let kept = Vec::new(alloc);
@@ -225,10 +278,25 @@ fn finish<R: Threads + Sync, K: Sink, F: Shelf, G: Gate, P: Ledger, T: Ledger, L
     requires most { workers ≤ 64 }
     requires standing { IsStanding progress.old.session }
     requires few { progress.old.number < 2 ^ 63 }
-    ensures done { IfOk result (λ refused. Finishes refused progress.old.kept.items (place progress.old.number progress.old.refused progress.old.session (outside (K.written out.old) (F.files shelf.old) looks.old pairs.old places.old)) (outside (K.written out.new) (F.files shelf.new) looks.new pairs.new places.new)) }
-    ensures out_fault { IfErr result (λ why. why ≡ Stop.OutFault → Rose (K.faults out.old) (K.faults out.new) × StopsAtEnd Anywhere progress.old.kept.items (place progress.old.number progress.old.refused progress.old.session (outside (K.written out.old) (F.files shelf.old) looks.old pairs.old places.old)) (outside (K.written out.new) (F.files shelf.new) looks.new pairs.new places.new)) }
-    ensures shelf_fault { IfErr result (λ why. why ≡ Stop.ShelfFault → Rose (F.faults shelf.old) (F.faults shelf.new) × StopsAtEnd InFileLine progress.old.kept.items (place progress.old.number progress.old.refused progress.old.session (outside (K.written out.old) (F.files shelf.old) looks.old pairs.old places.old)) (outside (K.written out.new) (F.files shelf.new) looks.new pairs.new places.new)) }
-    ensures want { IfErr result (λ why. why ≡ Stop.NoMemory → (wants : ℕ) → wants ≤ K.wants out.old → StopsAtEnd (UnlessList wants (K.wants out.new)) progress.old.kept.items (place progress.old.number progress.old.refused progress.old.session (outside (K.written out.old) (F.files shelf.old) looks.old pairs.old places.old)) (outside (K.written out.new) (F.files shelf.new) looks.new pairs.new places.new)) }
+    ensures done { IfOk result (λ refused. Finishes refused progress.old.kept.items
+        (place progress.old.number progress.old.refused progress.old.session
+        (outside (K.written out.old) (F.files shelf.old) looks.old pairs.old places.old))
+        (outside (K.written out.new) (F.files shelf.new) looks.new pairs.new places.new)) }
+    ensures out_fault { IfErr result (λ why. why ≡ Stop.OutFault → Rose (K.faults out.old) (K.faults out.new)
+        × StopsAtEnd Anywhere progress.old.kept.items
+        (place progress.old.number progress.old.refused progress.old.session
+        (outside (K.written out.old) (F.files shelf.old) looks.old pairs.old places.old))
+        (outside (K.written out.new) (F.files shelf.new) looks.new pairs.new places.new)) }
+    ensures shelf_fault { IfErr result (λ why. why ≡ Stop.ShelfFault → Rose (F.faults shelf.old) (F.faults shelf.new)
+        × StopsAtEnd InFileLine progress.old.kept.items
+        (place progress.old.number progress.old.refused progress.old.session
+        (outside (K.written out.old) (F.files shelf.old) looks.old pairs.old places.old))
+        (outside (K.written out.new) (F.files shelf.new) looks.new pairs.new places.new)) }
+    ensures want { IfErr result (λ why. why ≡ Stop.NoMemory → (wants : ℕ) → wants ≤ K.wants out.old → StopsAtEnd
+        (UnlessList wants (K.wants out.new)) progress.old.kept.items
+        (place progress.old.number progress.old.refused progress.old.session
+        (outside (K.written out.old) (F.files shelf.old) looks.old pairs.old places.old))
+        (outside (K.written out.new) (F.files shelf.new) looks.new pairs.new places.new)) }
 {
     if progress.kept.is_empty() {
         return Ok(progress.refused);
@@ -264,13 +332,32 @@ pub fn hear_script<
     requires least { 1 ≤ workers }
     requires most { workers ≤ 64 }
     ensures at_end { OnOk result (IsAtEnd (C.left client.new)) }
-    ensures done { IfOk result (λ refused. OfSent (C.left client.old) (λ sent. RunsAll (lines_of sent) refused (outside (K.written out.old) (F.files shelf.old) looks.old pairs.old places.old) (outside (K.written out.new) (F.files shelf.new) looks.new pairs.new places.new))) }
-    ensures fault { IfErr result (λ why. why ≡ End.Fault → Rose (C.faults client.old) (C.faults client.new) × OfHeard (C.left client.old) (C.left client.new) (λ heard. HaveRun (whole_lines heard) (outside (K.written out.old) (F.files shelf.old) looks.old pairs.old places.old) (outside (K.written out.new) (F.files shelf.new) looks.new pairs.new places.new))) }
-    ensures too_long { IfErr result (λ why. why ≡ End.TooLong → OfHeard (C.left client.old) (C.left client.new) (λ heard. (2 ^ 62 ≤ length heard) × HaveRun (whole_lines heard) (outside (K.written out.old) (F.files shelf.old) looks.old pairs.old places.old) (outside (K.written out.new) (F.files shelf.new) looks.new pairs.new places.new))) }
-    ensures out_fault { IfErr result (λ why. why ≡ End.Stopped Stop.OutFault → Rose (K.faults out.old) (K.faults out.new) × OfSent (C.left client.old) (λ sent. RunsFront Anywhere (lines_of sent) (outside (K.written out.old) (F.files shelf.old) looks.old pairs.old places.old) (outside (K.written out.new) (F.files shelf.new) looks.new pairs.new places.new))) }
-    ensures shelf_fault { IfErr result (λ why. why ≡ End.Stopped Stop.ShelfFault → Rose (F.faults shelf.old) (F.faults shelf.new) × OfSent (C.left client.old) (λ sent. RunsFront InFileLine (lines_of sent) (outside (K.written out.old) (F.files shelf.old) looks.old pairs.old places.old) (outside (K.written out.new) (F.files shelf.new) looks.new pairs.new places.new))) }
-    ensures want { IfErr result (λ why. why ≡ End.Stopped Stop.NoMemory → OfSent (C.left client.old) (λ sent. RunsFront (UnlessList (K.wants out.old) (K.wants out.new)) (lines_of sent) (outside (K.written out.old) (F.files shelf.old) looks.old pairs.old places.old) (outside (K.written out.new) (F.files shelf.new) looks.new pairs.new places.new))) }
-    ensures served { AreServed (C.left client.old) (outside (K.written out.old) (F.files shelf.old) looks.old pairs.old places.old) (C.moments client.old) (C.moments client.new) }
+    ensures done { IfOk result (λ refused. OfSent (C.left client.old)
+        (λ sent. RunsAll (lines_of sent) refused (outside (K.written out.old) (F.files shelf.old) looks.old pairs.old places.old)
+        (outside (K.written out.new) (F.files shelf.new) looks.new pairs.new places.new))) }
+    ensures fault { IfErr result (λ why. why ≡ End.Fault → Rose (C.faults client.old) (C.faults client.new)
+        × OfHeard (C.left client.old) (C.left client.new)
+        (λ heard. HaveRun (whole_lines heard) (outside (K.written out.old) (F.files shelf.old) looks.old pairs.old places.old)
+        (outside (K.written out.new) (F.files shelf.new) looks.new pairs.new places.new))) }
+    ensures too_long { IfErr result (λ why. why ≡ End.TooLong → OfHeard (C.left client.old) (C.left client.new)
+        (λ heard. (2 ^ 62 ≤ length heard) × HaveRun (whole_lines heard)
+        (outside (K.written out.old) (F.files shelf.old) looks.old pairs.old places.old)
+        (outside (K.written out.new) (F.files shelf.new) looks.new pairs.new places.new))) }
+    ensures out_fault { IfErr result (λ why. why ≡ End.Stopped Stop.OutFault → Rose (K.faults out.old) (K.faults out.new)
+        × OfSent (C.left client.old) (λ sent. RunsFront Anywhere (lines_of sent)
+        (outside (K.written out.old) (F.files shelf.old) looks.old pairs.old places.old)
+        (outside (K.written out.new) (F.files shelf.new) looks.new pairs.new places.new))) }
+    ensures shelf_fault { IfErr result (λ why. why ≡ End.Stopped Stop.ShelfFault → Rose (F.faults shelf.old) (F.faults shelf.new)
+        × OfSent (C.left client.old) (λ sent. RunsFront InFileLine (lines_of sent)
+        (outside (K.written out.old) (F.files shelf.old) looks.old pairs.old places.old)
+        (outside (K.written out.new) (F.files shelf.new) looks.new pairs.new places.new))) }
+    ensures want { IfErr result (λ why. why ≡ End.Stopped Stop.NoMemory → OfSent (C.left client.old)
+        (λ sent. RunsFront (UnlessList (K.wants out.old) (K.wants out.new)) (lines_of sent)
+        (outside (K.written out.old) (F.files shelf.old) looks.old pairs.old places.old)
+        (outside (K.written out.new) (F.files shelf.new) looks.new pairs.new places.new))) }
+    ensures served { AreServed (C.left client.old)
+        (outside (K.written out.old) (F.files shelf.old) looks.old pairs.old places.old) (C.moments client.old)
+        (C.moments client.new) }
 {
     let mut progress = hear_all(
         rt, alloc, client, workers, out, shelf, gate, pairs, places, looks,

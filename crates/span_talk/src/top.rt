@@ -42,22 +42,43 @@ pub fn talk<
 ) -> Status
     requires least { 1 ≤ workers }
     requires most { workers ≤ 64 }
-    ensures done { result ≡ Status.Done → OfSent (C.left client.old) (λ sent. RunsAll (lines_of sent) false (outside (K.written out.old) (F.files shelf.old) looks.old pairs.old places.old) (outside (K.written out.new) (F.files shelf.new) looks.new pairs.new places.new)) }
-    ensures some_refused { result ≡ Status.SomeRefused → OfSent (C.left client.old) (λ sent. RunsAll (lines_of sent) true (outside (K.written out.old) (F.files shelf.old) looks.old pairs.old places.old) (outside (K.written out.new) (F.files shelf.new) looks.new pairs.new places.new)) }
+    ensures done { result ≡ Status.Done → OfSent (C.left client.old)
+        (λ sent. RunsAll (lines_of sent) false (outside (K.written out.old) (F.files shelf.old) looks.old pairs.old places.old)
+        (outside (K.written out.new) (F.files shelf.new) looks.new pairs.new places.new)) }
+    ensures some_refused { result ≡ Status.SomeRefused → OfSent (C.left client.old)
+        (λ sent. RunsAll (lines_of sent) true (outside (K.written out.old) (F.files shelf.old) looks.old pairs.old places.old)
+        (outside (K.written out.new) (F.files shelf.new) looks.new pairs.new places.new)) }
     ensures at_end { (result ≡ Status.Done) ⊎ (result ≡ Status.SomeRefused) → IsAtEnd (C.left client.new) }
 
     // The client failed, or has sent 2^62 bytes: the lines that had come were done, and the one that had begun wasn't.
-    ensures script_fault { result ≡ Status.ScriptFault → Rose (C.faults client.old) (C.faults client.new) × OfHeard (C.left client.old) (C.left client.new) (λ heard. HaveRun (whole_lines heard) (outside (K.written out.old) (F.files shelf.old) looks.old pairs.old places.old) (outside (K.written out.new) (F.files shelf.new) looks.new pairs.new places.new)) }
-    ensures too_long { result ≡ Status.ScriptTooLong → OfHeard (C.left client.old) (C.left client.new) (λ heard. (2 ^ 62 ≤ length heard) × HaveRun (whole_lines heard) (outside (K.written out.old) (F.files shelf.old) looks.old pairs.old places.old) (outside (K.written out.new) (F.files shelf.new) looks.new pairs.new places.new)) }
+    ensures script_fault { result ≡ Status.ScriptFault → Rose (C.faults client.old) (C.faults client.new)
+        × OfHeard (C.left client.old) (C.left client.new)
+        (λ heard. HaveRun (whole_lines heard) (outside (K.written out.old) (F.files shelf.old) looks.old pairs.old places.old)
+        (outside (K.written out.new) (F.files shelf.new) looks.new pairs.new places.new)) }
+    ensures too_long { result ≡ Status.ScriptTooLong → OfHeard (C.left client.old) (C.left client.new)
+        (λ heard. (2 ^ 62 ≤ length heard) × HaveRun (whole_lines heard)
+        (outside (K.written out.old) (F.files shelf.old) looks.old pairs.old places.old)
+        (outside (K.written out.new) (F.files shelf.new) looks.new pairs.new places.new)) }
 
     // What was written is a prefix of the whole output.
-    ensures out_fault { result ≡ Status.OutFault → Rose (K.faults out.old) (K.faults out.new) × OfSent (C.left client.old) (λ sent. RunsFront Anywhere (lines_of sent) (outside (K.written out.old) (F.files shelf.old) looks.old pairs.old places.old) (outside (K.written out.new) (F.files shelf.new) looks.new pairs.new places.new)) }
-    ensures shelf_fault { result ≡ Status.ShelfFault → Rose (F.faults shelf.old) (F.faults shelf.new) × OfSent (C.left client.old) (λ sent. RunsFront InFileLine (lines_of sent) (outside (K.written out.old) (F.files shelf.old) looks.old pairs.old places.old) (outside (K.written out.new) (F.files shelf.new) looks.new pairs.new places.new)) }
-    ensures want { result ≡ Status.NoMemory → OfSent (C.left client.old) (λ sent. RunsFront (UnlessList (K.wants out.old) (K.wants out.new)) (lines_of sent) (outside (K.written out.old) (F.files shelf.old) looks.old pairs.old places.old) (outside (K.written out.new) (F.files shelf.new) looks.new pairs.new places.new)) }
+    ensures out_fault { result ≡ Status.OutFault → Rose (K.faults out.old) (K.faults out.new) × OfSent (C.left client.old)
+        (λ sent. RunsFront Anywhere (lines_of sent)
+        (outside (K.written out.old) (F.files shelf.old) looks.old pairs.old places.old)
+        (outside (K.written out.new) (F.files shelf.new) looks.new pairs.new places.new)) }
+    ensures shelf_fault { result ≡ Status.ShelfFault → Rose (F.faults shelf.old) (F.faults shelf.new) × OfSent (C.left client.old)
+        (λ sent. RunsFront InFileLine (lines_of sent)
+        (outside (K.written out.old) (F.files shelf.old) looks.old pairs.old places.old)
+        (outside (K.written out.new) (F.files shelf.new) looks.new pairs.new places.new)) }
+    ensures want { result ≡ Status.NoMemory → OfSent (C.left client.old)
+        (λ sent. RunsFront (UnlessList (K.wants out.old) (K.wants out.new)) (lines_of sent)
+        (outside (K.written out.old) (F.files shelf.old) looks.old pairs.old places.old)
+        (outside (K.written out.new) (F.files shelf.new) looks.new pairs.new places.new)) }
     ensures no_words { result ≡ Status.Usage → ⊥ }
 
     // Each time that the client was heard, the reply to each line that had come had been written, and nothing else.
-    ensures served { AreServed (C.left client.old) (outside (K.written out.old) (F.files shelf.old) looks.old pairs.old places.old) (C.moments client.old) (C.moments client.new) }
+    ensures served { AreServed (C.left client.old)
+        (outside (K.written out.old) (F.files shelf.old) looks.old pairs.old places.old) (C.moments client.old)
+        (C.moments client.new) }
 {
     match hear_script(
         rt, alloc, client, workers, out, shelf, gate, pairs, places, looks,
