@@ -219,14 +219,16 @@ HOST = r"(.*\n)?$h{[0-9.]+} [^\n]*\n.*"
 
 
 def chosen_scripts(file, text):
-    """By its name: as many addresses of a log hidden at once as may be; and a page of each of the 256 parts of a log."""
+    """By its name: as many addresses of a log hidden at once as may be; a page of each of the 256 parts of a log; and ten times
+    the same pages."""
     load, lines = [f"load d {file}", f"query h {HOST}"], text.splitlines(keepends=True)
     some = sum(map(len, lines[: min(len(lines) - 1, 1 << 15)]))
     hide = load + [f"let p = extract(d,1,{some + 1})", "text w x.x.x.x", "replace e h p w", "list h e limit 1"]
-    parts = 256
-    cuts = [1 + len(text) * part // parts for part in range(parts + 1)]
-    cut = [f"let part{part} = extract(d,{cuts[part]},{cuts[part + 1]})" for part in range(parts)]
-    return {"hide": hide, "parts": load + cut + ["drop d", "listall h limit 1000"]}
+    count = 256
+    cuts = [1 + len(text) * part // count for part in range(count + 1)]
+    cut = [f"let part{part} = extract(d,{cuts[part]},{cuts[part + 1]})" for part in range(count)]
+    parts = load + cut + ["drop d", "listall h limit 1000"]
+    return {"hide": hide, "parts": parts, "pages": parts + 9 * parts[-1:]}
 
 
 # queries of a log that are put together
@@ -264,6 +266,16 @@ def many_marks():
         others = EIGHT.replace(one, "").replace(two, "")
         parts += [each_optional(others) + f"${one}{{${two}{{.}}}}"]
     return f".*({'|'.join(parts)}).*"
+
+
+def compositions_script(file, size):
+    """Asks a query of 102 states of letters by chance, which it tells apart in so many ways that nearly each node has a table
+    of its own. The text, and the lines."""
+    rng = random.Random(11)
+    letters = string.ascii_letters + string.digits
+    text = "".join(rng.choices(letters, k=size))
+    sets = "".join(f"[^{''.join(rng.sample(letters, 2))}]" for _ in range(100))
+    return text.encode(), [f"load d {file}", f"query q .*$x{{{sets}}}.*", "test q d"]
 
 
 def algebra_script():
@@ -520,6 +532,9 @@ def make(folder, quick, huge, files):
     write_script(folder / "listall.script", listed_versions_script("prose", size, words, count))
     write_script(folder / "marked.script", marked_script("prose", size, words, count))
     write_script(folder / "marks.script", marks_script(count))
+    text, lines = compositions_script("chance", size // 4)
+    (folder / "chance").write_bytes(text)
+    write_script(folder / "compositions.script", lines)
     (folder / "genome").write_bytes(genome(size))
     write_script(folder / "genome.script", genome_script("genome", size, edits))
     write_script(folder / "long.script", long_script())
