@@ -64,8 +64,10 @@ def pipe_with_room(length: int) -> tuple[int, int, int]:
 
 def full_pipes(program: Path, report: Report) -> None:
     """Standard output is a pipe with room for so many bytes, which doesn't wait: a write that doesn't fit is a fault. Lines of
-    tuples, which end in ')' or '-', are written with the line after them."""
-    ends = [at + 1 for at, it in enumerate(QUIET.wanted) if it == ord("\n") and QUIET.wanted[at - 1] not in b")-"]
+    tuples, which end in ')' or '-', are written together, just before the line after them."""
+    lines = QUIET.wanted.splitlines(keepends=True)
+    kept = [line[-2:-1] in (b")", b"-") for line in lines]
+    ends = [sum(map(len, lines[: at + 1])) for at in range(len(lines)) if not (kept[at] and kept[at + 1])]
     for length in range(1, len(QUIET.wanted) + 1, 7 if report.quick else 1):
         reads, writes, before = pipe_with_room(length)
         os.set_blocking(writes, False)

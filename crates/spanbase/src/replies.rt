@@ -1,5 +1,8 @@
 //! Standard output by replies: few calls of the system for a page of many tuples.
 
+ghost use Rattle.std.specs.Prelude.{◌≡◌, IfOk};
+ghost use Rattle.std.specs.Io.Buffered.{writer_contents};
+
 use std::alloc::Global;
 use std::io;
 use std::io::{BufWriter, Write};
@@ -9,7 +12,8 @@ const CAPACITY: usize = 16384;
 
 /// A writer of whole lines that keeps back those of tuples, until there are some kilobytes of them or a line of another kind
 /// follows. Every reply ends with such a line, so it is written whole before the next command begins: what a command does to
-/// files comes after all replies before it.
+/// files comes after all replies before it. A write that fails has appended nothing, and where the writer below tells its bytes,
+/// this one tells them with those that are kept back.
 #[derive(Drop)]
 pub struct ReplyWriter<W: Write + Drop> {
     lines: BufWriter<W>,
@@ -23,7 +27,9 @@ impl<W: Write + Drop> ReplyWriter<W> {
     /// # Errors
     ///
     /// That of the allocator, where there is no memory for what is kept back.
-    pub fn new(alloc: Global, inner: W) -> io::Result<ReplyWriter<W>> {
+    pub fn new(alloc: Global, inner: W) -> io::Result<ReplyWriter<W>>
+        ensures { IfOk result (λ w. writer_contents W.contents w.lines ≡ W.contents inner) }
+    {
         let lines = BufWriter::with_capacity(alloc, CAPACITY, inner)?;
         Ok(ReplyWriter {
             lines,
@@ -38,13 +44,16 @@ fn is_tuple(line: &[u8]) -> bool {
 }
 
 impl<W: Write + Drop> Write for ReplyWriter<W> {
+    ghost contents = { λ w. writer_contents W.contents w.lines };
+
     fn write(&mut self, piece: &[u8]) -> io::Result<usize> {
-        let kept_back = !self.begun && is_tuple(piece);
-        let count = self.lines.write(piece)?;
-        self.begun = count < piece.len();
-        if !kept_back {
+        let count = if !self.begun && is_tuple(piece) {
+            self.lines.write(piece)?
+        } else {
             self.lines.flush()?;
-        }
+            self.lines.get_mut().write(piece)?
+        };
+        self.begun = count < piece.len();
         Ok(count)
     }
 
