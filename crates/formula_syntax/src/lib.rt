@@ -24,8 +24,6 @@ mod outcome;
 mod reader;
 mod refusal;
 mod set;
-#[cfg(test)]
-mod tests;
 
 pub use outcome::read;
 pub use refusal::FormulaRefusal;

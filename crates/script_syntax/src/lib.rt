@@ -23,6 +23,3 @@ mod syntax;
 
 pub use form::Command;
 pub use syntax::{LineRefusal, command};
-
-#[cfg(test)]
-mod tests;

@@ -37,6 +37,3 @@ pub use refusal::NoMemory;
 pub use steps::Steps;
 pub use tuple::{Span, Tuple, compare, mark_at};
 pub use vars::{Vars, VarsRefusal};
-
-#[cfg(test)]
-mod tests;

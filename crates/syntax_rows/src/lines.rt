@@ -1,4 +1,5 @@
-use super::*;
+//! Rows of lines of a script.
+use script_syntax::{Command, LineRefusal, command};
 use std::test::Fail;
 
 #[test]

@@ -1,4 +1,5 @@
-use crate::{FormulaRefusal, read};
+//! Rows of formula texts.
+use formula_syntax::{FormulaRefusal, read};
 use span_types::{Formula, QueryTree, Vars};
 use std::alloc::{AllocError, Global};
 use std::test::Fail;

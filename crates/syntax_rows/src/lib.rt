@@ -1,0 +1,17 @@
+//! Worked rows of what is read: names, spans and their marks, formulas, and lines of a script.
+//!
+//! ```text
+//! row    `($x{a})*`                  not functional in x
+//! row    `list q d limit 0`          no form
+//! ```
+//!
+//! The crate has tests alone, of `span_types`, `formula_syntax` and `script_syntax`. They stand apart from these, so that each
+//! of them is proved once. They take little time and memory.
+#![tactic(auto)]
+
+#[cfg(test)]
+mod formulas;
+#[cfg(test)]
+mod lines;
+#[cfg(test)]
+mod types;
