@@ -138,6 +138,3 @@ pub fn compact(
     *store = thin;
     Ok(moves)
 }
-
-#[cfg(test)]
-mod tests;

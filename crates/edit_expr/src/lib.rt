@@ -28,6 +28,3 @@ pub use evaluation::eval;
 pub use expr::Expr;
 pub use reading::{ExprRefusal, read};
 pub use refusal::EditRefusal;
-
-#[cfg(test)]
-mod tests;

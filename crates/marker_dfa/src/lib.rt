@@ -16,10 +16,8 @@
 //! The construction is that of M. O. Rabin and D. Scott, *Finite automata and their decision problems*, 1959.
 #![tactic(auto)]
 
-ghost use Rattle.std.specs.Prelude.{◌≡◌, ◌≤◌, Bool, List, IfOk};
-ghost use Rattle.span_types.specs.FormulaTree.{Set, tree_of};
+ghost use Rattle.std.specs.Prelude.{IfOk};
 ghost use Rattle.marker_nfa.specs.Automaton.{AreLettersOf};
-ghost use Rattle.marker_nfa.specs.Occurrences.{IsWithinLimits};
 ghost use Rattle.marker_dfa.specs.Deterministic.{AcceptsSame, StandsFor};
 ghost use Rattle.marker_dfa.specs.Refusals.{IfTooMany};
 ghost use Rattle.marker_dfa.specs.Subsets.{AreTooMany};
@@ -76,85 +74,4 @@ pub fn determinise_over(alloc: Global, nfa: &Nfa, letters: &[ByteSet]) -> Result
     let classes = classes_of(alloc, letters)?;
     let rows = rows_of(alloc, nfa, &classes.firsts)?;
     Ok(Dfa::from_rows(variables, classes.of, rows))
-}
-
-#[cfg(test)]
-mod tests {
-    use super::*;
-    use marker_nfa::of_formula;
-    use span_types::{Formula, NoMemory};
-    use std::test::Fail;
-
-    fn letters(bytes: &[u8]) -> Formula
-        ensures { (members : List Bool) × (tree_of result ≡ Set members) }
-    {
-        let mut letters = ByteSet::empty();
-        for byte in bytes {
-            letters.insert(*byte);
-        }
-        Formula::Set(letters)
-    }
-
-    fn boxed(alloc: Global, formula: Formula) -> Result<Box<Formula>, NoMemory>
-        ensures { IfOk result (λ place. place.value ≡ formula) }
-    {
-        Ok(Box::new(alloc, formula)?)
-    }
-
-    /// `$x{a*}`
-    fn captured_star(alloc: Global) -> Result<Formula, NoMemory>
-        ensures { IfOk result (λ f. IsWithinLimits (tree_of f)) }
-    {
-        let star = Formula::Star(boxed(alloc, letters(b"a"))?);
-        Ok(Formula::Capture(0, boxed(alloc, star)?))
-    }
-
-    /// `[ab]*a`, and then `[ab]` so many times.
-    fn late_a(alloc: Global, count: u16) -> Result<Formula, NoMemory>
-        requires { count ≤ 500 }
-        ensures { IfOk result (λ f. IsWithinLimits (tree_of f)) }
-    {
-        let mut tail = Formula::Empty;
-        for turn in 0..count {
-            let first = boxed(alloc, letters(b"ab"))?;
-            tail = Formula::Cat(first, boxed(alloc, tail)?);
-        }
-        let a = boxed(alloc, letters(b"a"))?;
-        let rest = Formula::Cat(a, boxed(alloc, tail)?);
-        let star = Formula::Star(boxed(alloc, letters(b"ab"))?);
-        Ok(Formula::Cat(boxed(alloc, star)?, boxed(alloc, rest)?))
-    }
-
-    #[test]
-    fn two_states(rt: HostRuntime) -> Result<(), Fail> {
-        let alloc = rt.alloc();
-        let dfa = determinise(alloc, &of_formula(alloc, &captured_star(alloc)?)?)?;
-        assert_eq!(rt; dfa.variables(), 1);
-        assert_eq!(rt; dfa.states(), 2);
-        assert_eq!(rt; dfa.next(0, 1, b'a'), Some(1));
-        assert_eq!(rt; dfa.next(1, 0, b'a'), Some(1));
-        assert_eq!(rt; dfa.next(0, 1, b'b'), None);
-        assert_eq!(rt; dfa.marks(0, b'a'), [1].as_slice());
-        assert_eq!(rt; dfa.ends(0), [3].as_slice());
-        assert_eq!(rt; dfa.ends(1), [2].as_slice());
-        Ok(())
-    }
-
-    #[test]
-    fn state_cap(rt: HostRuntime) -> Result<(), Fail> {
-        let alloc = rt.alloc();
-        let few = determinise(alloc, &of_formula(alloc, &late_a(alloc, 5)?)?)?;
-        assert_eq!(rt; few.states(), 65);
-        let many = determinise(alloc, &of_formula(alloc, &late_a(alloc, 6)?)?);
-        assert_eq!(rt; many.err(), Some(DfaRefusal::TooManyStates));
-        assert_eq!(rt;
-            DfaRefusal::TooManyStates.to_string(alloc)?.as_str(),
-            "too many states"
-        );
-        assert_eq!(rt;
-            DfaRefusal::NoMemory.to_string(alloc)?.as_str(),
-            "no memory"
-        );
-        Ok(())
-    }
 }

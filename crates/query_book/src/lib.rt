@@ -36,6 +36,3 @@ mod renumbering;
 
 pub use book::QueryBook;
 pub use refusal::{BookRefusal, CombineRefusal, QueryRefusal};
-
-#[cfg(test)]
-mod tests;

@@ -28,8 +28,8 @@ pub(crate) fn push_number(out: &mut Vec<u8>, n: u64) -> Result<(), NoMemory>
     Ok(())
 }
 
-/// A record of version 1 after the others.
-pub(crate) fn push_node(out: &mut Vec<u8>, node: Node) -> Result<(), NoMemory>
+// A record of version 1 after the others.
+fn push_node(out: &mut Vec<u8>, node: Node) -> Result<(), NoMemory>
     ensures { OnOk result (out.new.items ≡ out.old.items ++ node_bytes node) }
 {
     match node {

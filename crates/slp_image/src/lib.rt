@@ -32,6 +32,3 @@ mod writing;
 pub use reading::read;
 pub use refusal::ImageRefusal;
 pub use writing::{Image, write};
-
-#[cfg(test)]
-mod tests;

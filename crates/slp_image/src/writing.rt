@@ -27,8 +27,8 @@ pub struct Image {
 // The magic and the version.
 const FRONT: [u8; 5] = *b"SLPI\x01";
 
-/// The magic, the version and the count of nodes.
-pub(crate) fn push_front(out: &mut Vec<u8>, nodes: u64) -> Result<(), NoMemory>
+// The magic, the version and the count of nodes.
+fn push_front(out: &mut Vec<u8>, nodes: u64) -> Result<(), NoMemory>
     ensures { OnOk result (out.new.items ≡ out.old.items ++ ((83 ∷ (76 ∷ (80 ∷ (73 ∷ (1 ∷ []))))) ++ big_bytes 8 nodes)) }
 {
     out.extend_from_slice(&FRONT).map_err(|_| NoMemory)?;

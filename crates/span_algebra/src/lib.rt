@@ -39,6 +39,3 @@ pub use joins::join;
 pub use projections::project;
 pub use refusal::AlgebraRefusal;
 pub use unions::union;
-
-#[cfg(test)]
-mod tests;

@@ -36,6 +36,3 @@ mod trail;
 mod walk;
 
 pub use answers::{Answers, has, nonempty};
-
-#[cfg(test)]
-mod tests;

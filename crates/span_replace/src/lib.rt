@@ -27,6 +27,3 @@ pub use choice::chosen;
 pub use refusal::ReplaceRefusal;
 pub use replacement::replaced;
 pub use spans::Chosen;
-
-#[cfg(test)]
-mod tests;

@@ -23,8 +23,6 @@
 mod client;
 mod lines;
 mod progress;
-#[cfg(test)]
-mod tests;
 mod top;
 
 pub use client::{Client, Listener};

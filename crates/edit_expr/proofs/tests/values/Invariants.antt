@@ -1,4 +1,0 @@
-use Rattle.edit_expr.proofs.tests.values.Given as goal
-
-abbrev pub ghosts-edited : goal.ghosts-edited
-ghosts-edited g a = record { name = a.blank.name; parts = a.blank.parts }

@@ -1,0 +1,160 @@
+//! Rows of queries that are made of queries.
+use crate::books::register;
+use line_parts::is_name_list;
+use query_book::{CombineRefusal, QueryBook};
+use span_types::{Name, NoMemory};
+use std::alloc::Global;
+use std::test::Fail;
+
+/// The names of a query's variables, each with a space behind it.
+fn names_in(alloc: Global, book: &QueryBook, name: &[u8]) -> Result<String, NoMemory> {
+    let mut names = String::new(alloc);
+    if let Ok(vars) = book.vars(name) {
+        for v in 0..vars.count() {
+            write!(names, "{} ", vars.name(v)).map_err(|_| NoMemory)?;
+        }
+    }
+    Ok(names)
+}
+
+/// What the book says of an operation that makes the query `n`: the names of its variables, or the refusal.
+fn said(
+    alloc: Global,
+    book: &QueryBook,
+    made: Result<(), CombineRefusal>,
+) -> Result<String, NoMemory> {
+    match made {
+        Ok(()) => names_in(alloc, book, b"n"),
+        Err(why) => Ok(why.to_string(alloc)?),
+    }
+}
+
+fn name(alloc: Global, bytes: &[u8]) -> Result<Name, NoMemory> {
+    Name::new(alloc, bytes).map_err(|_| NoMemory)
+}
+
+fn united(
+    alloc: Global,
+    book: &mut QueryBook,
+    left: &[u8],
+    right: &[u8],
+) -> Result<String, NoMemory> {
+    let left = name(alloc, left)?;
+    let right = name(alloc, right)?;
+    let made = book.union(alloc, name(alloc, b"n")?, left.bytes(), right.bytes());
+    said(alloc, book, made)
+}
+
+fn joined(
+    alloc: Global,
+    book: &mut QueryBook,
+    left: &[u8],
+    right: &[u8],
+) -> Result<String, NoMemory> {
+    let left = name(alloc, left)?;
+    let right = name(alloc, right)?;
+    let made = book.join(alloc, name(alloc, b"n")?, left.bytes(), right.bytes());
+    said(alloc, book, made)
+}
+
+fn projected(
+    alloc: Global,
+    book: &mut QueryBook,
+    source: &[u8],
+    keep: &[u8],
+) -> Result<String, NoMemory> {
+    let source = name(alloc, source)?;
+    if !is_name_list(keep) {
+        return Err(NoMemory);
+    }
+    let made = book.project(alloc, name(alloc, b"n")?, source.bytes(), keep);
+    said(alloc, book, made)
+}
+
+/// A book of some queries.
+fn operands(alloc: Global) -> Result<QueryBook, NoMemory> {
+    let mut book = QueryBook::new(alloc);
+    for (name, text) in [
+        (b"q".as_slice(), b".*$x{a+}$z{}.*".as_slice()),
+        (b"r", b"$y{.}$x{b*}"),
+        (b"eight", b"$a{}$b{}$c{}$d{}$e{}$f{}$g{}$h{}"),
+        (b"late", b"[ab]*a[ab][ab][ab][ab][ab]"),
+        (b"thirds", b"([ab][ab][ab])*"),
+        (b"marked", b"[ab]*$x{a}[ab][ab][ab][ab][ab][ab]"),
+    ] {
+        register(alloc, &mut book, name, text)?;
+    }
+    Ok(book)
+}
+
+#[test]
+fn unions(rt: HostRuntime) -> Result<(), Fail> {
+    let alloc = rt.alloc();
+    let mut book = operands(alloc)?;
+    for (left, right, want) in [
+        (b"q".as_slice(), b"r".as_slice(), "x z y "),
+        (b"r", b"q", "y x z "),
+        (b"z", b"zz", "no query is named z"),
+        (b"q", b"zz", "no query is named zz"),
+        (b"eight", b"r", "too many variables"),
+        (b"late", b"thirds", "too many states"),
+    ] {
+        assert_eq!(rt; united(alloc, &mut book, left, right)?.as_str(), want);
+    }
+    Ok(())
+}
+
+#[test]
+fn joins(rt: HostRuntime) -> Result<(), Fail> {
+    let alloc = rt.alloc();
+    let mut book = operands(alloc)?;
+    for (left, right, want) in [
+        (b"q".as_slice(), b"r".as_slice(), "x z y "),
+        (b"r", b"q", "y x z "),
+        (b"z", b"zz", "no query is named z"),
+        (b"q", b"zz", "no query is named zz"),
+        (b"eight", b"r", "too many variables"),
+        (b"late", b"thirds", "too many states"),
+    ] {
+        assert_eq!(rt; joined(alloc, &mut book, left, right)?.as_str(), want);
+    }
+    Ok(())
+}
+
+#[test]
+fn projections(rt: HostRuntime) -> Result<(), Fail> {
+    let alloc = rt.alloc();
+    let mut book = operands(alloc)?;
+    for (source, keep, want) in [
+        (b"q".as_slice(), b"z,x".as_slice(), "z x "),
+        (b"q", b"z", "z "),
+        (b"q", b"()", ""),
+        (b"z", b"x,x", "no query is named z"),
+        (b"q", b"x,y", "other variables"),
+        (b"q", b"x,z,x", "other variables"),
+        (b"marked", b"()", "too many states"),
+    ] {
+        assert_eq!(rt; projected(alloc, &mut book, source, keep)?.as_str(), want);
+    }
+    Ok(())
+}
+
+#[test]
+fn most_parts(rt: HostRuntime) -> Result<(), Fail> {
+    let alloc = rt.alloc();
+    let mut book = QueryBook::new(alloc);
+    register(alloc, &mut book, b"n", b"a")?;
+    for _ in 0..6 {
+        assert_eq!(rt; united(alloc, &mut book, b"n", b"n")?.as_str(), "");
+    }
+    assert_eq!(rt;
+        joined(alloc, &mut book, b"n", b"n")?.as_str(),
+        "a query of 255 parts is too large"
+    );
+    assert_eq!(rt; projected(alloc, &mut book, b"n", b"()")?.as_str(), "");
+    assert_eq!(rt;
+        projected(alloc, &mut book, b"n", b"x")?.as_str(),
+        "a query of 129 parts is too large"
+    );
+    Ok(())
+}

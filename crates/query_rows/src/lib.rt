@@ -1,0 +1,33 @@
+//! Worked rows of queries: the automata of formulas, their algebra, their answers on a text, spans that are replaced, and
+//! books of queries.
+//!
+//! ```text
+//! row    $x{a*}                        2 states, of which the first one ends with the mark 3
+//! row    the union of q and r, in a book    the variables x, z and y
+//! ```
+//!
+//! The crate has tests alone, of `marker_nfa`, `marker_dfa`, `span_algebra`, `span_enum`, `span_replace` and `query_book`.
+//! They stand apart from these, so that each of them is proved once, and so that all share the formulas. They take little time
+//! and memory.
+#![tactic(auto)]
+
+#[cfg(test)]
+mod algebra;
+#[cfg(test)]
+mod answers;
+#[cfg(test)]
+mod asking;
+#[cfg(test)]
+mod books;
+#[cfg(test)]
+mod combining;
+#[cfg(test)]
+mod formulas;
+#[cfg(test)]
+mod one_letter;
+#[cfg(test)]
+mod positions;
+#[cfg(test)]
+mod replacing;
+#[cfg(test)]
+mod subsets;

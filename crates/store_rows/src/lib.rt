@@ -1,0 +1,19 @@
+//! Worked rows of edits, images, cuts and compacted stores.
+//!
+//! ```text
+//! row    copy(concat(d,d),1,3,5), where d is ab    ababab
+//! row    an image whose magic has another byte     the first fault
+//! ```
+//!
+//! The crate has tests alone, of `edit_expr`, `slp_image`, `slp_split` and `doc_compact`. They stand apart from these, so that
+//! each of them is proved once. They take little time and memory.
+#![tactic(auto)]
+
+#[cfg(test)]
+mod compacting;
+#[cfg(test)]
+mod cuts;
+#[cfg(test)]
+mod edits;
+#[cfg(test)]
+mod images;
