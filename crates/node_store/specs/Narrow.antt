@@ -1,5 +1,5 @@
 -- Nodes whose ids take 32 bits.
-use Rattle.std.specs.Prelude.{ℕ, List}
+use Rattle.std.specs.Prelude.{ℕ, ◌+◌, ◌*◌, ◌^◌, List}
 use Rattle.std.specs.List.{IsDistinct}
 use Rattle.slp_model.specs.declared.Node.{Node}
 use Rattle.slp_model.specs.declared.Node.TheVariants as node
@@ -11,6 +11,11 @@ use Rattle.node_store.specs.declared.nodes.Narrow.TheVariants.{Byte, Pair}
 abbrev pub wide : Narrow → Node
 wide (Byte b) = node.Byte b
 wide (Pair l r) = node.Pair (record { index = l }) (record { index = r })
+
+-- what is hashed of a narrow node
+abbrev pub number_of : Narrow → ℕ
+number_of (Byte b) = b
+number_of (Pair l r) = l * 2 ^ 32 + r
 
 -- no two nodes are equal
 abbrev pub AreUnique : List Node → Type 0

@@ -2,11 +2,12 @@
 use slp_model::Node;
 use std::alloc::Global;
 
-/// For each of a fixed number of places, where a node of this place was found last. A guess may be
-/// wrong, and is compared with the node that stands there before it is used.
+/// For each of a fixed number of places, where a node of this place was found last, and behind which node the next one may
+/// stand. A guess may be wrong, and is compared with the node that stands there before it is used.
 #[derive(Drop)]
 pub(crate) struct Hints {
     noted: Vec<Hint>,
+    next: usize,
 }
 
 /// Where a node stands. The tag, some bits of its hash, tells most other nodes of the same place from
@@ -26,7 +27,19 @@ impl Hints {
     pub(crate) fn new(alloc: Global) -> Hints {
         Hints {
             noted: Vec::new(alloc),
+            next: 0,
         }
+    }
+
+    /// Where the node behind the one that was found last stands: a text that comes again, in a load or in an image,
+    /// asks for its nodes in the order in which it made them.
+    pub(crate) fn next(&self) -> usize {
+        self.next
+    }
+
+    /// The node at this place was found.
+    pub(crate) fn pass(&mut self, index: usize) {
+        self.next = index.wrapping_add(1);
     }
 
     /// Where the node may stand.

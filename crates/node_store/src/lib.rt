@@ -20,7 +20,7 @@
 //! databases with complex document editing*, PODS 2022.
 #![tactic(auto)]
 
-ghost use Rattle.std.specs.Prelude.{◌≡◌, ◌+◌, ◌^◌, ◌<◌, ◌≤◌, [], length, slice_get, IfSome, IfOk, OnErr, Some};
+ghost use Rattle.std.specs.Prelude.{◌≡◌, ◌+◌, ◌^◌, ◌<◌, ◌≤◌, [], length, slice_get, IfSome, IfOk, IsTrue, OnErr, Some};
 ghost use Rattle.span_types.specs.Fibonacci.{fibonacci, height_limit};
 ghost use Rattle.slp_model.specs.Tree.{Fork, Leaf, leaves, height, IsNear, IsBalanced};
 ghost use Rattle.slp_model.specs.Nodes.{tree, trees, node_tree, pair_count, Grows, IsNodeAt, IsSound};
@@ -212,17 +212,34 @@ impl Store {
         self.intern(node, facts)
     }
 
-    // The id of the node, where it is noted.
-    fn found(&self, node: Node) -> Option<NodeId>
-        ensures live { IfSome result (λ id. id.index < length self.now) }
-        ensures node { IfSome result (λ id. slice_get self.now id.index ≡ Some node) }
-        ensures tree { IfSome result (λ id. tree self.now id.index ≡ node_tree (trees self.now) node) }
+    // The id of the node, where it stands behind the one that was found last or is noted.
+    fn found(&mut self, node: Node) -> Option<NodeId>
+        ensures same { self.new ≡ self.old }
+        ensures live { IfSome result (λ id. id.index < length self.old) }
+        ensures node { IfSome result (λ id. slice_get self.old id.index ≡ Some node) }
+        ensures tree { IfSome result (λ id. tree self.old id.index ≡ node_tree (trees self.old) node) }
     {
-        let index = self.hints.guess(node)?;
-        if index < self.nodes.len() && self.nodes.at(index) == node {
-            return Some(NodeId { index });
-        }
-        None
+        let next = self.hints.next();
+        let index = if self.is_at(next, node) {
+            next
+        } else {
+            let index = self.hints.guess(node)?;
+            if !self.is_at(index, node) {
+                return None;
+            }
+            index
+        };
+        self.hints.pass(index);
+        Some(NodeId { index })
+    }
+
+    // Whether the node stands at this place.
+    fn is_at(&self, index: usize, node: Node) -> bool
+        ensures live { IsTrue result → index < length self.now }
+        ensures node { IsTrue result → slice_get self.now index ≡ Some node }
+        ensures tree { IsTrue result → tree self.now index ≡ node_tree (trees self.now) node }
+    {
+        index < self.nodes.len() && self.nodes.at(index) == node
     }
 
     /// The kept nodes alone, in their order and under new numbers, and where each one went. Takes time linear in
@@ -265,6 +282,7 @@ impl Store {
     {
         let id = self.insert(node, facts)?;
         self.hints.note(node, id.index);
+        self.hints.pass(id.index);
         Ok(id)
     }
 

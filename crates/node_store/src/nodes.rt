@@ -1,22 +1,46 @@
 //! The nodes and their index, with ids in 32 bits.
 ghost use Rattle.std.specs.Prelude.{◌≡◌, ◌<◌, ◌++◌, ◌∷◌, [], length, slice_get, IfOk, IfSome, IsFalse, IsTrue, OnErr, Some};
-ghost use Rattle.node_store.specs.Narrow.{wide, AreUnique};
+ghost use Rattle.std.specs.Hash as fed;
+ghost use Rattle.node_store.specs.Narrow.{wide, number_of, AreUnique};
+ghost use Rattle.std.specs.Cmp.Rules.{comparing, hashing};
+ghost use Rattle.std.proofs.Common.{rules};
 ghost use Rattle.node_store.specs.Stored.{IsNew};
 
 use indexmap::IndexSet;
 use slp_model::{Node, NodeId};
 use span_types::NoMemory;
 use std::alloc::Global;
+use std::hash::{Hash, Hasher};
 use std::marker::Model;
 
 /// A node whose children's ids are below 2^32.
-#[derive(Clone, Copy, PartialEq, Eq, Hash)]
+#[derive(Clone, Copy, PartialEq, Eq)]
 pub(crate) enum Narrow {
     Byte(u8),
     Pair(u32, u32),
 }
 
+// A pair is hashed as one number, since the hash of a node is most of what a look into the index costs.
+impl Hash for Narrow {
+    ghost hash_input = { λ narrow. fed.u64 (number_of narrow) };
+
+    ghost respects_eq = { Prim.search (hashing, rules) depth 9 };
+
+    fn hash<H: Hasher>(&self, state: &mut H) {
+        state.write_u64(self.number());
+    }
+}
+
 impl Narrow {
+    fn number(&self) -> u64
+        ensures { result ≡ number_of self.now }
+    {
+        match *self {
+            Narrow::Byte(b) => u64::from(b),
+            Narrow::Pair(left, right) => u64::from(left) * (1 << 32) + u64::from(right),
+        }
+    }
+
     // The node in this form, unless an id is too great for it.
     fn of(node: Node) -> Option<Narrow>
         ensures { IfSome result (λ narrow. wide narrow ≡ node) }

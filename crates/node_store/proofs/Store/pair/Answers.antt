@@ -9,28 +9,33 @@ use Rattle.node_store.proofs.Store.pair.Goals as goal
 pub intern-requires : goal.intern-requires
 unfolding tree
 intern-requires g c =
-    let sum : c.len.result + c.len-2.result ≡ leaves (tree c.args.self.now c.args.left.index) + leaves (tree c.args.self.now c.args.right.index) = omega (arith, c.len.ensures.len, c.len-2.ensures.len) in
-    let high : c.max.result + 1 ≡ max (height (tree c.args.self.now c.args.left.index)) (height (tree c.args.self.now c.args.right.index)) + 1 = omega (arith, c.max.ensures, c.height.ensures.height, c.height-2.ensures.height) in
-    record {
+    let same : c.found.new.self ≡ c.args.self.now = c.found.ensures.same in
+    let left : c.len.result ≡ leaves (tree c.args.self.now c.args.left.index) = rw same at c.len.ensures.len in
+    let right : c.len-2.result ≡ leaves (tree c.args.self.now c.args.right.index) = rw same at c.len-2.ensures.len in
+    let left_high : c.height.result ≡ height (tree c.args.self.now c.args.left.index) = rw same at c.height.ensures.height in
+    let right_high : c.height-2.result ≡ height (tree c.args.self.now c.args.right.index) = rw same at c.height-2.ensures.height in
+    rw same (record {
       below = (c.requires.left, c.requires.right);
       byte = tt;
-      balanced = (c.requires.near, c.len.ensures.balanced, c.len-2.ensures.balanced);
-      len = sum;
-      height_is = high;
+      balanced = (c.requires.near, rw same at c.len.ensures.balanced, rw same at c.len-2.ensures.balanced);
+      len = omega (arith, left, right);
+      height_is = omega (arith, c.max.ensures, left_high, right_high);
       short = c.requires.short;
-    }
+    })
 
 pub returns-clause-grows : goal.returns-clause-grows
 unfolding pair_count
-returns-clause-grows g c = kept-grows c.args.self.now c.intern.new.self (Pair c.args.left c.args.right) c.args.pairs.now c.tick.new.self c.intern.ensures.kept (omega (arith, c.tick.ensures))
+returns-clause-grows g c =
+    let same : c.found.new.self ≡ c.args.self.now = c.found.ensures.same in
+    kept-grows c.args.self.now c.intern.new.self (Pair c.args.left c.args.right) c.args.pairs.now c.tick.new.self (rw same at c.intern.ensures.kept) (omega (arith, c.tick.ensures))
 
 pub returns-clause-tree : goal.returns-clause-tree
 unfolding tree
-returns-clause-tree g c = c.intern.ensures.tree
+returns-clause-tree g c = rw c.found.ensures.same at c.intern.ensures.tree
 
 pub returns-in-Some-clause-grows : goal.returns-in-Some-clause-grows
-returns-in-Some-clause-grows g c = Grows-none c.args.self.now c.args.pairs.now c.tick.new.self (omega (arith, c.tick.ensures))
+returns-in-Some-clause-grows g c = rw c.found.ensures.same (Grows-none c.args.self.now c.args.pairs.now c.tick.new.self (omega (arith, c.tick.ensures)))
 
 pub returns-in-Some-clause-tree : goal.returns-in-Some-clause-tree
 unfolding tree
-returns-in-Some-clause-tree g c = c.in-Some.ensures.tree
+returns-in-Some-clause-tree g c = rw c.found.ensures.same c.in-Some.ensures.tree
