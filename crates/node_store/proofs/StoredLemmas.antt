@@ -1,18 +1,24 @@
 -- A store with one more node, and what its facts tell.
-use Rattle.std.proofs.Common.{◌≡◌, ◌≢◌, ℕ, ◌+◌, ◌<◌, ◌≤◌, inl, inr, List, [], ◌∷◌, ◌++◌, length, get_or, slice_get, Some, refl, ap, sym, subst, ◌∙◌, arith, length-append}
+use Rattle.std.proofs.Common.{◌≡◌, ◌≢◌, ℕ, ◌+◌, ◌^◌, ◌*◌, ◌%◌, ◌<◌, ◌≤◌, inl, inr, List, [], ◌∷◌, ◌++◌, length, get_or, slice_get, Some, refl, ap, sym, subst, ◌∙◌, arith, length-append}
 use Rattle.std.proofs.Common.{Bool, true, false, zero, suc}
 use Rattle.std.specs.List.{IsDistinct, AllByRecursion}
 use Rattle.std.proofs.lemmas.Bool.{cases_lt}
+use Rattle.std.proofs.lemmas.Nat.{pow-add}
+use Rattle.std.proofs.Math.Nat.{mod-eq_of_lt}
+use Rattle.std.proofs.Math.Pow.{pow_mono}
 use Rattle.std.proofs.lemmas.Option.{slice_get_within, get_or_from_slice_get, slice_get-get_or}
 use Rattle.std.proofs.lemmas.List.{get_or_push, get_or_append_left}
 use Rattle.slp_model.specs.declared.Node.{Node}
-use Rattle.slp_model.specs.Tree.{Tree, leaves, height, IsBalanced}
+use Rattle.slp_model.specs.declared.NodeId.{NodeId}
+use Rattle.slp_model.specs.declared.Node.TheVariants.{Pair}
+use Rattle.slp_model.specs.Tree.{Tree, leaves, height, IsBalanced, IsNear}
 use Rattle.slp_model.specs.Nodes.{tree, trees, node_tree, IsSound, Grows, pair_count}
 use Rattle.span_types.specs.Fibonacci.{fibonacci, height_limit}
 use Rattle.slp_model.proofs.TreeLemmas.{height-most, height-enough, height-by_leaves}
 use Rattle.slp_model.proofs.NodesLemmas.{slice_get-push, tree-append, tree-push, tree-at, IsSound-push, Grows-none, Grows-push}
 use Rattle.node_store.specs.declared.Facts.{Facts}
 use Rattle.slp_model.specs.Distinct.{IsOfByte}
+use Rattle.node_store.specs.Blocks.{IsBlockOf}
 use Rattle.node_store.specs.Stored.{AreOfTrees, IsStored, IsNext, IsKept}
 
 -- one more of them, for one more node
@@ -108,3 +114,29 @@ height-at ns lens heights i h s within e =
       limit = omega (arith, is, height-by_leaves (tree ns i) bal);
       low = omega (arith, is, height-most (tree ns i) bal (s.sound.short i within));
     }
+
+-- the length of a pair of blocks is in the range of a number of 64 bits
+pub shifted : (h : ℕ) → h < 48 → (1 * 2 ^ (h + 1)) % 2 ^ 64 ≡ 2 ^ (h + 1)
+shifted h low =
+    let few : 2 ^ (h + 1) ≤ 2 ^ 48 = pow_mono {i = h + 1} {j = 48} (omega (arith, low)) in
+    ap (λ n. n % 2 ^ 64) (omega arith) ∙ mod-eq_of_lt (omega (arith, few))
+
+-- two blocks of one height may follow as a pair, and what is known of it
+pub block-next : (ns : List Node) (h : ℕ) (l r : NodeId) (f : Facts) → IsSound ns → IsBlockOf ns h l → IsBlockOf ns h r → h < 48 → f.len ≡ 2 ^ (h + 1) → f.height ≡ h + 1 → IsNext ns (Pair l r) f
+unfolding tree
+block-next ns h l r f sound left right low len high =
+    let twice : 2 ^ (h + 1) ≡ 2 ^ h + 2 ^ h = omega (arith, pow-add 2 h 1) in
+    record {
+      below = (left.live, right.live);
+      byte = tt;
+      balanced = (near, sound.balanced l.index left.live, sound.balanced r.index right.live);
+      len = omega (arith, len, twice, left.long, right.long);
+      height_is = omega (arith, high, left.high, right.high);
+      short = omega (arith, twice, left.long, right.long, few);
+    }
+  where
+    near : IsNear (height (tree ns l.index)) (height (tree ns r.index))
+    near = rw (left.high, right.high) (omega arith, omega arith)
+
+    few : 2 ^ (h + 1) ≤ 2 ^ 48
+    few = pow_mono {i = h + 1} {j = 48} (omega (arith, low))

@@ -29,6 +29,7 @@ ghost use Rattle.slp_model.specs.Kept.{IsPlanOf};
 ghost use Rattle.slp_model.specs.Thin as thinning;
 ghost use Rattle.slp_model.specs.Thin.{IsThinOf};
 ghost use Rattle.node_store.specs.Stored.{IsNext, IsKept};
+ghost use Rattle.node_store.specs.Blocks.{IsBlockOf};
 
 mod hints;
 mod moves;
@@ -212,6 +213,58 @@ impl Store {
         self.intern(node, facts)
     }
 
+    /// The id of the pair of two blocks of 2^height bytes each, whose trees are both so high: what `pair` answers, and
+    /// sooner, since nothing that is known of them is looked up. It is one step.
+    ///
+    /// # Errors
+    ///
+    /// As those of `pair`.
+    pub fn pair_blocks<L: Ledger>(
+        &mut self,
+        left: NodeId,
+        right: NodeId,
+        height: u8,
+        pairs: &mut Steps<L>,
+    ) -> Result<NodeId, NoMemory>
+        requires left { IsBlockOf self.old height left }
+        requires right { IsBlockOf self.old height right }
+        requires short { height < 48 }
+        ensures grows { Grows self.old self.new pairs.old pairs.new }
+        ensures kept { IsKept self.old self.new (Node.Pair left right) }
+        ensures node { IfOk result (λ id. slice_get self.new id.index ≡ Some (Node.Pair left right)) }
+        ensures live { IfOk result (λ id. id.index < length self.new) }
+        ensures tree { IfOk result (λ id. tree self.new id.index ≡ Fork (tree self.old left.index) (tree self.old right.index)) }
+        ensures err { OnErr result (self.new ≡ self.old) }
+        ensures step { pairs.new ≡ pairs.old + 1 }
+    {
+        pairs.tick();
+        let pair = Node::Pair(left, right);
+        if let Some(id) = self.found_next(pair) {
+            return Ok(id);
+        }
+        let facts = Facts {
+            len: 1 << (height + 1),
+            height: height + 1,
+        };
+        self.insert(pair, facts)
+    }
+
+    // The id of the node, where it stands behind the one that was found last.
+    fn found_next(&mut self, node: Node) -> Option<NodeId>
+        ensures sound { IsSound self.old }
+        ensures same { self.new ≡ self.old }
+        ensures live { IfSome result (λ id. id.index < length self.old) }
+        ensures node { IfSome result (λ id. slice_get self.old id.index ≡ Some node) }
+        ensures tree { IfSome result (λ id. tree self.old id.index ≡ node_tree (trees self.old) node) }
+    {
+        let index = self.hints.next();
+        if !self.is_at(index, node) {
+            return None;
+        }
+        self.hints.pass(index);
+        Some(NodeId { index })
+    }
+
     // The id of the node, where it stands behind the one that was found last or is noted.
     fn found(&mut self, node: Node) -> Option<NodeId>
         ensures same { self.new ≡ self.old }
@@ -219,22 +272,20 @@ impl Store {
         ensures node { IfSome result (λ id. slice_get self.old id.index ≡ Some node) }
         ensures tree { IfSome result (λ id. tree self.old id.index ≡ node_tree (trees self.old) node) }
     {
-        let next = self.hints.next();
-        let index = if self.is_at(next, node) {
-            next
-        } else {
-            let index = self.hints.guess(node)?;
-            if !self.is_at(index, node) {
-                return None;
-            }
-            index
-        };
+        if let Some(id) = self.found_next(node) {
+            return Some(id);
+        }
+        let index = self.hints.guess(node)?;
+        if !self.is_at(index, node) {
+            return None;
+        }
         self.hints.pass(index);
         Some(NodeId { index })
     }
 
     // Whether the node stands at this place.
     fn is_at(&self, index: usize, node: Node) -> bool
+        ensures sound { IsSound self.now }
         ensures live { IsTrue result → index < length self.now }
         ensures node { IsTrue result → slice_get self.now index ≡ Some node }
         ensures tree { IsTrue result → tree self.now index ≡ node_tree (trees self.now) node }
@@ -282,7 +333,6 @@ impl Store {
     {
         let id = self.insert(node, facts)?;
         self.hints.note(node, id.index);
-        self.hints.pass(id.index);
         Ok(id)
     }
 
@@ -298,6 +348,7 @@ impl Store {
         self.lens.reserve(1).map_err(|_| NoMemory)?;
         self.heights.reserve(1).map_err(|_| NoMemory)?;
         let (index, added) = self.nodes.insert(node)?;
+        self.hints.pass(index);
         if added {
             self.lens.push_reserved(facts.len);
             self.heights.push_reserved(facts.height);

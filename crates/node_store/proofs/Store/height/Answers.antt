@@ -1,4 +1,4 @@
-use Rattle.std.proofs.Common.{rules, ◌≡◌, ◌<◌, length, get_or, subst}
+use Rattle.std.proofs.Common.{rules, subst}
 use Rattle.slp_model.specs.Nodes.{tree}
 use Rattle.node_store.proofs.StoredLemmas.{IsHeightOf, height-at}
 use Rattle.node_store.proofs.Store.height.Goals as goal

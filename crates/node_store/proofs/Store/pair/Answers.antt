@@ -1,4 +1,4 @@
-use Rattle.std.proofs.Common.{arith, ◌≡◌, ◌+◌, max}
+use Rattle.std.proofs.Common.{arith, ◌≡◌}
 use Rattle.slp_model.specs.declared.Node.TheVariants.{Pair}
 use Rattle.slp_model.specs.Tree.{leaves, height}
 use Rattle.slp_model.specs.Nodes.{tree, pair_count}
