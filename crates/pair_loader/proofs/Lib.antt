@@ -4,3 +4,4 @@ pub mod StackLemmas
 pub mod GatherLemmas
 pub mod BlockLemmas
 pub mod KnownLemmas
+pub mod LevelLemmas

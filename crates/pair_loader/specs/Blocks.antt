@@ -1,5 +1,7 @@
 -- Full trees, and the nodes with such trees.
-use Rattle.std.specs.Prelude.{◌≡◌, ℕ, ◌<◌, List, length}
+use Rattle.std.specs.Prelude.{◌≡◌, ℕ, ◌^◌, ◌<◌, List, length, get_or}
+use Rattle.std.specs.Fork.{slice_chunk}
+use Rattle.slp_model.specs.declared.NodeId.{NodeId}
 use Rattle.slp_model.specs.declared.Node.{Node}
 use Rattle.slp_model.specs.Tree.{Tree, Leaf, Fork, text, height}
 use Rattle.slp_model.specs.Nodes.{tree}
@@ -19,3 +21,7 @@ pub record IsBlock (h : ℕ) (s : List ℕ) (t : Tree) : Type 0 where
 pub record IsBlockAt (ns : List Node) (h : ℕ) (s : List ℕ) (i : ℕ) : Type 0 where
   pub live : i < length ns
   pub block : IsBlock h s (tree ns i)
+
+-- the first ids, so many, are in their order the blocks of height h of the stretches of 2^h bytes of s
+pub record AreBlocks (ns : List Node) (h count : ℕ) (s : List ℕ) (ids : List NodeId) : Type 0 where
+  pub each : (i : ℕ) (d : NodeId) → i < count → IsBlockAt ns h (slice_chunk s (2 ^ h) i) (get_or ids i d).index

@@ -10,6 +10,7 @@ ghost use Rattle.pair_loader.specs.Known.{AreKnown};
 ghost use Rattle.pair_loader.specs.WordsView.{known_of};
 ghost use Rattle.pair_loader.specs.Pending.{AreRising, stack_of, stack_text, AreLive, IsPending};
 
+use super::levels::block_by_levels;
 use super::words::{WORD_HEIGHT, Words};
 use node_store::{NodeId, Store};
 use slp_concat::concat;
@@ -58,7 +59,7 @@ fn push_block<L: Ledger>(
     blocks.push(block).map_err(|_| NoMemory)
 }
 
-/// The block of 2^height bytes.
+/// The block of 2^height bytes. One that is higher than those made level by level is made of its halves.
 pub(crate) fn block_of<L: Ledger>(
     words: &mut Words,
     store: &mut Store,
@@ -79,6 +80,7 @@ pub(crate) fn block_of<L: Ledger>(
         1 => words.two(store, piece, pairs),
         2 => words.four(store, piece, pairs),
         WORD_HEIGHT => words.eight(store, piece, pairs),
+        4..=MOST_HEIGHT => block_by_levels(words, store, piece, height, pairs),
         _ => {
             let (first, second) = piece.split_at(piece.len() / 2);
             let left = block_of(words, store, first, height - 1, pairs)?;

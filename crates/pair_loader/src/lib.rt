@@ -25,6 +25,7 @@ ghost use Rattle.pair_loader.specs.Pending.{IsLoader, fed, pending_count, unfed}
 
 mod blocks;
 pub mod law;
+mod levels;
 mod words;
 
 use blocks::{gather_blocks, push_piece};

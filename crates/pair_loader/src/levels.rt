@@ -1,0 +1,85 @@
+//! Blocks made level by level.
+ghost use Rattle.std.specs.Prelude.{◌≡◌, ◌+◌, ◌*◌, ◌/◌, ◌^◌, ◌<◌, ◌≤◌, length, IfOk, OnOk};
+ghost use Rattle.slp_model.specs.Nodes.{Grows};
+ghost use Rattle.pair_loader.specs.Blocks.{IsBlockAt, AreBlocks};
+ghost use Rattle.pair_loader.specs.Known.{AreKnown};
+ghost use Rattle.pair_loader.specs.WordsView.{known_of};
+
+use super::words::{WORD_HEIGHT, Words};
+use node_store::{NodeId, Store};
+use span_types::{NoMemory, Steps};
+use std::sync::ledger::Ledger;
+
+// A block of height 9 has so many words of eight bytes.
+const MOST_WORDS: usize = 64;
+
+/// The block of 2^height bytes: first the blocks of its words, and then level by level their pairs. What a level asks of
+/// the store doesn't depend on each other, as the two halves of a block and their pair do, so a processor can overlap it.
+pub(crate) fn block_by_levels<L: Ledger>(
+    words: &mut Words,
+    store: &mut Store,
+    piece: &[u8],
+    height: u8,
+    pairs: &mut Steps<L>,
+) -> Result<NodeId, NoMemory>
+    requires known { AreKnown store.old (known_of words.old) }
+    requires high { 3 ≤ height }
+    requires low { height ≤ 9 }
+    requires long { length piece.now ≡ 2 ^ height }
+    ensures grows { Grows store.old store.new pairs.old pairs.new }
+    ensures known { AreKnown store.new (known_of words.new) }
+    ensures block { IfOk result (λ id. IsBlockAt store.new height piece.now id.index) }
+    ensures cost { pairs.new + 1 ≤ pairs.old + length piece.now }
+{
+    let mut ids = [NodeId { index: 0 }; MOST_WORDS];
+    put_words(words, store, piece, &mut ids, pairs)?;
+    for level in WORD_HEIGHT..height {
+        pair_neighbours(store, piece, level, &mut ids, pairs)?;
+    }
+    Ok(ids[0])
+}
+
+// Puts the blocks of the words of eight bytes of a piece, in their order, at the front of `ids`.
+fn put_words<L: Ledger>(
+    words: &mut Words,
+    store: &mut Store,
+    piece: &[u8],
+    ids: &mut [NodeId],
+    pairs: &mut Steps<L>,
+) -> Result<(), NoMemory>
+    requires known { AreKnown store.old (known_of words.old) }
+    requires room { length piece.now / 8 ≤ length ids.old }
+    ensures grows { Grows store.old store.new pairs.old pairs.new }
+    ensures known { AreKnown store.new (known_of words.new) }
+    ensures blocks { OnOk result (AreBlocks store.new 3 (length piece.now / 8) piece.now ids.new) }
+    ensures cost { pairs.new ≤ pairs.old + 7 * (length piece.now / 8) }
+{
+    for place in 0..piece.len() / 8 {
+        let start = 8 * place;
+        ids[place] = words.eight(store, &piece[start..start + 8], pairs)?;
+    }
+    Ok(())
+}
+
+// From the blocks of this height of a piece, which stand at the front of `ids`, to those of the next height: each two
+// neighbours become one pair.
+fn pair_neighbours<L: Ledger>(
+    store: &mut Store,
+    piece: &[u8],
+    height: u8,
+    ids: &mut [NodeId],
+    pairs: &mut Steps<L>,
+) -> Result<(), NoMemory>
+    requires low { height < 9 }
+    requires short { length piece.now ≤ 2 ^ 48 }
+    requires room { length piece.now / 2 ^ height ≤ length ids.old }
+    requires blocks { AreBlocks store.old height (length piece.now / 2 ^ height) piece.now ids.old }
+    ensures grows { Grows store.old store.new pairs.old pairs.new }
+    ensures blocks { OnOk result (AreBlocks store.new (height + 1) (length piece.now / 2 ^ (height + 1)) piece.now ids.new) }
+    ensures cost { pairs.new ≤ pairs.old + length piece.now / 2 ^ (height + 1) }
+{
+    for place in 0..piece.len() >> (height + 1) {
+        ids[place] = store.pair(ids[2 * place], ids[2 * place + 1], pairs)?;
+    }
+    Ok(())
+}
