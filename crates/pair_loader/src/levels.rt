@@ -51,7 +51,7 @@ fn put_words<L: Ledger>(
     requires room { length piece.now / 8 ≤ length ids.old }
     ensures grows { Grows store.old store.new pairs.old pairs.new }
     ensures known { AreKnown store.new (known_of words.new) }
-    ensures blocks { OnOk result (AreBlocks store.new 3 (length piece.now / 8) piece.now ids.new) }
+    ensures made { OnOk result (AreBlocks store.new 3 (length piece.now / 8) piece.now ids.new) }
     ensures cost { pairs.new ≤ pairs.old + 7 * (length piece.now / 8) }
 {
     for place in 0..piece.len() / 8 {
@@ -73,9 +73,9 @@ fn pair_neighbours<L: Ledger>(
     requires low { height < 9 }
     requires short { length piece.now ≤ 2 ^ 48 }
     requires room { length piece.now / 2 ^ height ≤ length ids.old }
-    requires blocks { AreBlocks store.old height (length piece.now / 2 ^ height) piece.now ids.old }
+    requires made { AreBlocks store.old height (length piece.now / 2 ^ height) piece.now ids.old }
     ensures grows { Grows store.old store.new pairs.old pairs.new }
-    ensures blocks { OnOk result (AreBlocks store.new (height + 1) (length piece.now / 2 ^ (height + 1)) piece.now ids.new) }
+    ensures made { OnOk result (AreBlocks store.new (height + 1) (length piece.now / 2 ^ (height + 1)) piece.now ids.new) }
     ensures cost { pairs.new ≤ pairs.old + length piece.now / 2 ^ (height + 1) }
 {
     for place in 0..piece.len() >> (height + 1) {

@@ -13,7 +13,7 @@ pub loop-level-init : goal.loop-level-init
 loop-level-init g c = record {
   grows = Grows-none _ c.put_words.new.pairs c.put_words.new.pairs (omega arith);
   room = omega (arith, few-words (length c.args.piece.now) c.args.height c.requires.long c.requires.low, c.put_words.auto.ids);
-  blocks = c.in_ok-put_words.ensures.blocks;
+  made = c.in_ok-put_words.ensures.made;
   cost = omega arith;
 }
 
@@ -35,7 +35,7 @@ loop-level-preserved g c =
     record {
       grows = Grows-trans _ _ _ _ _ _ c.loop-level.invariant.grows c.pair_neighbours.ensures.grows;
       room = omega (arith, half, c.loop-level.invariant.room, c.pair_neighbours.auto.ids);
-      blocks = c.in_ok-pair_neighbours.ensures.blocks;
+      made = c.in_ok-pair_neighbours.ensures.made;
       cost = omega (arith, half, c.loop-level.invariant.cost, c.pair_neighbours.ensures.cost);
     }
 
@@ -51,4 +51,4 @@ returns-clause-block g c =
     let long : length c.args.piece.now ≡ 2 ^ c.loop-level.level = subst (λ h. length c.args.piece.now ≡ 2 ^ h) (sym top) c.requires.long in
     let some = some-count (length c.args.piece.now) c.args.height c.loop-level.level c.requires.long (omega arith) in
     let id = get_or c.loop-level.ids 0 (record { index = 0 }) in
-    subst (λ h. IsBlockAt c.loop-level.store h c.args.piece.now id.index) top (whole-block _ c.loop-level.level _ _ _ c.loop-level.invariant.blocks long some (record { index = 0 }))
+    subst (λ h. IsBlockAt c.loop-level.store h c.args.piece.now id.index) top (whole-block _ c.loop-level.level _ _ _ c.loop-level.invariant.made long some (record { index = 0 }))

@@ -7,7 +7,7 @@ use Rattle.pair_loader.proofs.levels.pair_neighbours.Goals as goal
 pub loop-place-init : goal.loop-place-init
 loop-place-init g c = record {
   grows = Grows-none c.args.store.now c.args.pairs.now c.args.pairs.now (omega arith);
-  blocks = record { each = λ i d m. absurd (omega arith) };
+  made = record { each = λ i d m. absurd (omega arith) };
   rest = λ i d m. refl;
   cost = omega arith;
 }
@@ -19,29 +19,29 @@ pub slice_copy_out-pair-in-loop-place : goal.slice_copy_out-pair-in-loop-place
 slice_copy_out-pair-in-loop-place g c = omega (arith, c.loop-place-test.true, c.requires.room, half-count (length c.args.piece.now) c.args.height)
 
 pub pair-requires-clause-left : goal.pair-requires-clause-left
-pair-requires-clause-left g c = (neighbours _ _ _ _ c.loop-place.invariant.grows c.args.height c.loop-place.place c.args.piece.now _ _ _ c.requires.blocks c.loop-place-test.true c.loop-place.invariant.rest).left.live
+pair-requires-clause-left g c = (neighbours _ _ _ _ c.loop-place.invariant.grows c.args.height c.loop-place.place c.args.piece.now _ _ _ c.requires.made c.loop-place-test.true c.loop-place.invariant.rest).left.live
 
 pub pair-requires-clause-right : goal.pair-requires-clause-right
-pair-requires-clause-right g c = (neighbours _ _ _ _ c.loop-place.invariant.grows c.args.height c.loop-place.place c.args.piece.now _ _ _ c.requires.blocks c.loop-place-test.true c.loop-place.invariant.rest).right.live
+pair-requires-clause-right g c = (neighbours _ _ _ _ c.loop-place.invariant.grows c.args.height c.loop-place.place c.args.piece.now _ _ _ c.requires.made c.loop-place-test.true c.loop-place.invariant.rest).right.live
 
 pub pair-requires-clause-near : goal.pair-requires-clause-near
 pair-requires-clause-near g c =
-    let two = neighbours _ _ _ _ c.loop-place.invariant.grows c.args.height c.loop-place.place c.args.piece.now _ _ (record { index = 0 }) c.requires.blocks c.loop-place-test.true c.loop-place.invariant.rest in
+    let two = neighbours _ _ _ _ c.loop-place.invariant.grows c.args.height c.loop-place.place c.args.piece.now _ _ (record { index = 0 }) c.requires.made c.loop-place-test.true c.loop-place.invariant.rest in
     near-blocks _ c.args.height _ _ _ _ two.left two.right
 
 pub pair-requires-clause-short : goal.pair-requires-clause-short
 pair-requires-clause-short g c =
-    let two = neighbours _ _ _ _ c.loop-place.invariant.grows c.args.height c.loop-place.place c.args.piece.now _ _ (record { index = 0 }) c.requires.blocks c.loop-place-test.true c.loop-place.invariant.rest in
+    let two = neighbours _ _ _ _ c.loop-place.invariant.grows c.args.height c.loop-place.place c.args.piece.now _ _ (record { index = 0 }) c.requires.made c.loop-place-test.true c.loop-place.invariant.rest in
     short-blocks _ c.args.height _ _ _ _ _ two.left two.right (omega (arith, chunks-within c.args.piece.now c.args.height c.loop-place.place, c.requires.short))
 
 pub loop-place-preserved : goal.loop-place-preserved
 loop-place-preserved g c =
-    let two = neighbours _ _ _ _ c.loop-place.invariant.grows c.args.height c.loop-place.place c.args.piece.now _ _ (record { index = 0 }) c.requires.blocks c.loop-place-test.true c.loop-place.invariant.rest in
+    let two = neighbours _ _ _ _ c.loop-place.invariant.grows c.args.height c.loop-place.place c.args.piece.now _ _ (record { index = 0 }) c.requires.made c.loop-place-test.true c.loop-place.invariant.rest in
     let within : c.loop-place.place < length c.loop-place.ids = omega (arith, c.loop-place-test.true, c.requires.room, half-count (length c.args.piece.now) c.args.height) in
     let here = joined-block _ c.pair.new.self c.args.height _ _ _ _ _ c.in_ok-ids.field-0.index two.left two.right c.in_ok-ids.ensures.live c.in_ok-ids.ensures.tree (joined-chunks c.args.piece.now c.args.height c.loop-place.place) in
     record {
       grows = Grows-trans _ _ _ _ _ _ c.loop-place.invariant.grows c.pair.ensures.grows;
-      blocks = blocks-more _ (c.args.height + 1) c.loop-place.place _ _ c.in_ok-ids.field-0 (blocks-grow _ _ _ _ c.pair.ensures.grows _ _ _ _ c.loop-place.invariant.blocks) within here;
+      made = blocks-more _ (c.args.height + 1) c.loop-place.place _ _ c.in_ok-ids.field-0 (blocks-grow _ _ _ _ c.pair.ensures.grows _ _ _ _ c.loop-place.invariant.made) within here;
       rest = λ i d m.
           let other : i ≢ c.loop-place.place = omega arith in
           get_or-set_other c.loop-place.ids c.loop-place.place i c.in_ok-ids.field-0 d other ∙ c.loop-place.invariant.rest i d (omega arith);

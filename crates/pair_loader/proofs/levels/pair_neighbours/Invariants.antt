@@ -7,7 +7,7 @@ use Rattle.pair_loader.proofs.levels.pair_neighbours.Given as goal
 abbrev pub invariant-loop-place : goal.invariant-loop-place
 invariant-loop-place g l = record {
   grows : Grows l.initial.store l.store l.initial.pairs l.pairs;
-  blocks : AreBlocks l.store (l.height + 1) l.place l.piece l.ids;
+  made : AreBlocks l.store (l.height + 1) l.place l.piece l.ids;
   rest : (i : ℕ) (d : NodeId) → 2 * l.place ≤ i → get_or l.ids i d ≡ get_or l.initial.ids i d;
   cost : l.pairs ≤ l.initial.pairs + l.place;
 }

@@ -9,7 +9,7 @@ pub loop-place-init : goal.loop-place-init
 loop-place-init g c = record {
   grows = Grows-none c.args.store.now c.args.pairs.now c.args.pairs.now (omega arith);
   known = c.requires.known;
-  blocks = record { each = λ i d m. absurd (omega arith) };
+  made = record { each = λ i d m. absurd (omega arith) };
   cost = omega arith;
 }
 
@@ -23,6 +23,6 @@ loop-place-preserved g c =
     record {
       grows = Grows-trans _ _ _ _ _ _ c.loop-place.invariant.grows c.eight.ensures.grows;
       known = c.in_ok-ids.ensures.known;
-      blocks = blocks-more _ 3 c.loop-place.place _ _ c.in_ok-ids.field-0 (blocks-grow _ _ _ _ c.eight.ensures.grows 3 _ _ _ c.loop-place.invariant.blocks) within here;
+      made = blocks-more _ 3 c.loop-place.place _ _ c.in_ok-ids.field-0 (blocks-grow _ _ _ _ c.eight.ensures.grows 3 _ _ _ c.loop-place.invariant.made) within here;
       cost = omega (arith, c.loop-place.invariant.cost, c.eight.ensures.cost);
     }

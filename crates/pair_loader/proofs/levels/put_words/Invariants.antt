@@ -9,6 +9,6 @@ abbrev pub invariant-loop-place : goal.invariant-loop-place
 invariant-loop-place g l = record {
   grows : Grows l.initial.store l.store l.initial.pairs l.pairs;
   known : AreKnown l.store (known_of l.words);
-  blocks : AreBlocks l.store 3 l.place l.piece l.ids;
+  made : AreBlocks l.store 3 l.place l.piece l.ids;
   cost : l.pairs ≤ l.initial.pairs + 7 * l.place;
 }
