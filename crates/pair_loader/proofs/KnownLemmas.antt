@@ -79,17 +79,3 @@ list-of-eight (a ∷ []) h = absurd (omega arith)
 list-of-eight (a ∷ b ∷ []) h = absurd (omega arith)
 list-of-eight (a ∷ b ∷ c ∷ []) h = absurd (omega arith)
 list-of-eight (a ∷ b ∷ c ∷ d ∷ s) h = let rest : length s ≡ 4 = omega arith in ap (λ t. a ∷ b ∷ c ∷ d ∷ t) (list-of-four s rest)
-
--- the halves of 2^h bytes
-pub half-sizes : (h n a b : ℕ) → 1 ≤ h → n ≡ 2 ^ h → a ≡ n / 2 → b + a ≡ n → (a ≡ 2 ^ (h - 1)) × (b ≡ 2 ^ (h - 1))
-half-sizes h n a b some e f g =
-    let is : h ≡ (h - 1) + 1 = omega arith in
-    let p : 2 ^ ((h - 1) + 1) ≡ 2 ^ (h - 1) * 2 = pow-add 2 (h - 1) 1 in
-    let q : n ≡ 2 ^ (h - 1) * 2 = e ∙ (ap (λ x. 2 ^ x) is ∙ p) in
-    (omega (arith, q, f), omega (arith, q, f, g))
-
--- the pair that a call gives, of two blocks of equal height
-pub joined-result : {E : Type 0} (r : Result NodeId E) (mid new : List Node) (h high : ℕ) (s t word : List ℕ) (i j : ℕ) → IsBlockAt mid h s i → IsBlockAt mid h t j
-    → IfOk r (λ id. id.index < length new) → IfOk r (λ id. tree new id.index ≡ Fork (tree mid i) (tree mid j)) → s ++ t ≡ word → h + 1 ≡ high → IfOk r (λ id. IsBlockAt new high word id.index)
-joined-result (Ok id) mid new h high s t word i j a b live is whole up = subst (λ x. IsBlockAt new x word id.index) up (joined-block mid new h s t word i j id.index a b live is whole)
-joined-result (Err e) mid new h high s t word i j a b live is whole up = tt

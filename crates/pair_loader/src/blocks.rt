@@ -68,8 +68,8 @@ pub(crate) fn block_of<L: Ledger>(
     pairs: &mut Steps<L>,
 ) -> Result<NodeId, NoMemory>
     requires known { AreKnown store.old (known_of words.old) }
+    requires low { height ≤ 9 }
     requires long { length piece.now ≡ 2 ^ height }
-    requires short { length piece.now ≤ 2 ^ 48 }
     ensures grows { Grows store.old store.new pairs.old pairs.new }
     ensures known { AreKnown store.new (known_of words.new) }
     ensures block { IfOk result (λ id. IsBlockAt store.new height piece.now id.index) }
@@ -80,13 +80,7 @@ pub(crate) fn block_of<L: Ledger>(
         1 => words.two(store, piece, pairs),
         2 => words.four(store, piece, pairs),
         WORD_HEIGHT => words.eight(store, piece, pairs),
-        4..=MOST_HEIGHT => block_by_levels(words, store, piece, height, pairs),
-        _ => {
-            let (first, second) = piece.split_at(piece.len() / 2);
-            let left = block_of(words, store, first, height - 1, pairs)?;
-            let right = block_of(words, store, second, height - 1, pairs)?;
-            store.pair(left, right, pairs)
-        }
+        _ => block_by_levels(words, store, piece, height, pairs),
     }
 }
 

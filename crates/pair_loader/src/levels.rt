@@ -79,7 +79,7 @@ fn pair_neighbours<L: Ledger>(
     ensures cost { pairs.new ≤ pairs.old + length piece.now / 2 ^ (height + 1) }
 {
     for place in 0..piece.len() >> (height + 1) {
-        ids[place] = store.pair(ids[2 * place], ids[2 * place + 1], pairs)?;
+        ids[place] = store.pair_blocks(ids[2 * place], ids[2 * place + 1], height, pairs)?;
     }
     Ok(())
 }

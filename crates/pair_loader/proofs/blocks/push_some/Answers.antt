@@ -13,9 +13,6 @@ use Rattle.pair_loader.proofs.blocks.push_some.Goals as goal
 pub block_of-requires-clause-long : goal.block_of-requires-clause-long
 block_of-requires-clause-long g c = length-take-le c.size-count.result c.args.piece.now (omega (arith, c.size-count.ensures, c.next_height-height.ensures.short)) ∙ c.size-count.ensures
 
-pub block_of-requires-clause-short : goal.block_of-requires-clause-short
-block_of-requires-clause-short g c = omega (arith, c.requires.short, length-take-le c.size-count.result c.args.piece.now (omega (arith, c.size-count.ensures, c.next_height-height.ensures.short)), c.size-count.ensures, c.next_height-height.ensures.short)
-
 pub push_block-requires-clause-blocks : goal.push_block-requires-clause-blocks
 push_block-requires-clause-blocks g c = live-grows _ _ _ _ c.block_of.ensures.grows c.args.blocks.now.items c.requires.pending.live
 

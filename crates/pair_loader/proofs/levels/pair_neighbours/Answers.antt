@@ -1,7 +1,7 @@
 use Rattle.std.proofs.Common.{arith, ◌+◌, ◌<◌, ◌≢◌, length, refl, ◌∙◌, get_or-set_other}
 use Rattle.slp_model.proofs.NodesLemmas.{Grows-none, Grows-trans}
-use Rattle.pair_loader.proofs.KnownLemmas.{joined-block, near-blocks, short-blocks}
-use Rattle.pair_loader.proofs.LevelLemmas.{neighbours, blocks-grow, blocks-more, chunks-within, joined-chunks, half-count}
+use Rattle.pair_loader.proofs.KnownLemmas.{joined-block}
+use Rattle.pair_loader.proofs.LevelLemmas.{neighbours, block-of, blocks-grow, blocks-more, joined-chunks, half-count}
 use Rattle.pair_loader.proofs.levels.pair_neighbours.Goals as goal
 
 pub loop-place-init : goal.loop-place-init
@@ -12,38 +12,28 @@ loop-place-init g c = record {
   cost = omega arith;
 }
 
-pub slice_copy_out-pair : goal.slice_copy_out-pair
-slice_copy_out-pair g c = omega (arith, c.loop-place-test.true, c.requires.room, half-count (length c.args.piece.now) c.args.height)
+pub slice_copy_out-pair_blocks : goal.slice_copy_out-pair_blocks
+slice_copy_out-pair_blocks g c = omega (arith, c.loop-place-test.true, c.requires.room, half-count (length c.args.piece.now) c.args.height)
 
-pub slice_copy_out-pair-in-loop-place : goal.slice_copy_out-pair-in-loop-place
-slice_copy_out-pair-in-loop-place g c = omega (arith, c.loop-place-test.true, c.requires.room, half-count (length c.args.piece.now) c.args.height)
+pub slice_copy_out-pair_blocks-in-loop-place : goal.slice_copy_out-pair_blocks-in-loop-place
+slice_copy_out-pair_blocks-in-loop-place g c = omega (arith, c.loop-place-test.true, c.requires.room, half-count (length c.args.piece.now) c.args.height)
 
-pub pair-requires-clause-left : goal.pair-requires-clause-left
-pair-requires-clause-left g c = (neighbours _ _ _ _ c.loop-place.invariant.grows c.args.height c.loop-place.place c.args.piece.now _ _ _ c.requires.made c.loop-place-test.true c.loop-place.invariant.rest).left.live
+pub pair_blocks-requires-clause-left : goal.pair_blocks-requires-clause-left
+pair_blocks-requires-clause-left g c = block-of _ c.args.height _ _ (neighbours _ _ _ _ c.loop-place.invariant.grows c.args.height c.loop-place.place c.args.piece.now _ _ (record { index = 0 }) c.requires.made c.loop-place-test.true c.loop-place.invariant.rest).left
 
-pub pair-requires-clause-right : goal.pair-requires-clause-right
-pair-requires-clause-right g c = (neighbours _ _ _ _ c.loop-place.invariant.grows c.args.height c.loop-place.place c.args.piece.now _ _ _ c.requires.made c.loop-place-test.true c.loop-place.invariant.rest).right.live
-
-pub pair-requires-clause-near : goal.pair-requires-clause-near
-pair-requires-clause-near g c =
-    let two = neighbours _ _ _ _ c.loop-place.invariant.grows c.args.height c.loop-place.place c.args.piece.now _ _ (record { index = 0 }) c.requires.made c.loop-place-test.true c.loop-place.invariant.rest in
-    near-blocks _ c.args.height _ _ _ _ two.left two.right
-
-pub pair-requires-clause-short : goal.pair-requires-clause-short
-pair-requires-clause-short g c =
-    let two = neighbours _ _ _ _ c.loop-place.invariant.grows c.args.height c.loop-place.place c.args.piece.now _ _ (record { index = 0 }) c.requires.made c.loop-place-test.true c.loop-place.invariant.rest in
-    short-blocks _ c.args.height _ _ _ _ _ two.left two.right (omega (arith, chunks-within c.args.piece.now c.args.height c.loop-place.place, c.requires.short))
+pub pair_blocks-requires-clause-right : goal.pair_blocks-requires-clause-right
+pair_blocks-requires-clause-right g c = block-of _ c.args.height _ _ (neighbours _ _ _ _ c.loop-place.invariant.grows c.args.height c.loop-place.place c.args.piece.now _ _ (record { index = 0 }) c.requires.made c.loop-place-test.true c.loop-place.invariant.rest).right
 
 pub loop-place-preserved : goal.loop-place-preserved
 loop-place-preserved g c =
     let two = neighbours _ _ _ _ c.loop-place.invariant.grows c.args.height c.loop-place.place c.args.piece.now _ _ (record { index = 0 }) c.requires.made c.loop-place-test.true c.loop-place.invariant.rest in
     let within : c.loop-place.place < length c.loop-place.ids = omega (arith, c.loop-place-test.true, c.requires.room, half-count (length c.args.piece.now) c.args.height) in
-    let here = joined-block _ c.pair.new.self c.args.height _ _ _ _ _ c.in_ok-ids.field-0.index two.left two.right c.in_ok-ids.ensures.live c.in_ok-ids.ensures.tree (joined-chunks c.args.piece.now c.args.height c.loop-place.place) in
+    let here = joined-block _ c.pair_blocks.new.self c.args.height _ _ _ _ _ c.in_ok-ids.field-0.index two.left two.right c.in_ok-ids.ensures.live c.in_ok-ids.ensures.tree (joined-chunks c.args.piece.now c.args.height c.loop-place.place) in
     record {
-      grows = Grows-trans _ _ _ _ _ _ c.loop-place.invariant.grows c.pair.ensures.grows;
-      made = blocks-more _ (c.args.height + 1) c.loop-place.place _ _ c.in_ok-ids.field-0 (blocks-grow _ _ _ _ c.pair.ensures.grows _ _ _ _ c.loop-place.invariant.made) within here;
+      grows = Grows-trans _ _ _ _ _ _ c.loop-place.invariant.grows c.pair_blocks.ensures.grows;
+      made = blocks-more _ (c.args.height + 1) c.loop-place.place _ _ c.in_ok-ids.field-0 (blocks-grow _ _ _ _ c.pair_blocks.ensures.grows _ _ _ _ c.loop-place.invariant.made) within here;
       rest = λ i d m.
           let other : i ≢ c.loop-place.place = omega arith in
           get_or-set_other c.loop-place.ids c.loop-place.place i c.in_ok-ids.field-0 d other ∙ c.loop-place.invariant.rest i d (omega arith);
-      cost = omega (arith, c.loop-place.invariant.cost, c.pair.ensures.step);
+      cost = omega (arith, c.loop-place.invariant.cost, c.pair_blocks.ensures.step);
     }
