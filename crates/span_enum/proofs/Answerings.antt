@@ -1,5 +1,5 @@
 -- The next answer and what is kept of it, from the walk that completes it.
-use Rattle.std.proofs.Common.{suc, ◌≡◌, ℕ, ◌+◌, ◌-◌, ◌*◌, ◌<◌, ◌≤◌, true, refl, ap, sym, subst, ◌∙◌, arith, List, [], ◌∷◌, ◌++◌, append-nil, length, length-append, drop, get_or, Option, Some, None}
+use Rattle.std.proofs.Common.{suc, ◌≡◌, ℕ, ◌+◌, ◌-◌, ◌*◌, ◌<◌, ◌≤◌, true, false, refl, ap, sym, subst, ◌∙◌, arith, List, [], ◌∷◌, ◌++◌, append-nil, length, length-append, drop, get_or, Option, Some, None}
 use Rattle.std.proofs.lemmas.List.{map-append}
 use Rattle.std.proofs.Math.Seq.{drop-append-add}
 use Rattle.span_types.specs.Marks.{mark_of}
@@ -10,12 +10,14 @@ use Rattle.formula_law.specs.Law.{bytes_of}
 use Rattle.marker_dfa.specs.Deterministic.{ends_of, states_of}
 use Rattle.state_tables.specs.StateSet.{member}
 use Rattle.span_enum.specs.Letters.{step_of, reached}
-use Rattle.span_enum.specs.Members.{Tuple, IsFirstMember}
+use Rattle.span_enum.specs.Members.{Tuple, IsMember, IsFirstMember}
 use Rattle.span_enum.specs.Tuples.{IsTupleOf, word_over, end_mark}
-use Rattle.span_enum.specs.Words.{IsFirst, IsNoMark, FindsFirst, FindsRest}
+use Rattle.span_enum.specs.Words.{IsFirst, IsNoMark, IsGreatestMark, FindsFirst, FindsRest}
 use Rattle.span_enum.specs.Next.{NoneAfter}
 use Rattle.span_enum.specs.Lowering.{Lowers}
-use Rattle.span_enum.specs.Trail.{IsGround, whole_text, Agree, text_ahead, Stands, CanEnd, AtMost, AreKept, Leads, last_at, NoneBehind, IsFresh, IsTrailOf, IsStateAt, IsLowered, IsTurned, Finishes}
+use Rattle.span_enum.specs.Trail.{IsGround, whole_text, Agree, text_ahead, Stands, CanEnd, AtMost, AreKept, Leads, last_at, NoneBehind, IsFresh, IsTrailOf, IsStateAt, NoEndAfter, IsLowered, IsTurned, Finishes}
+use Rattle.span_enum.specs.Answering.{IsFoundAfter}
+use Rattle.span_enum.specs.Quiet.{EndsIn}
 use Rattle.span_enum.specs.declared.ground.Ground.{Ground}
 use Rattle.span_enum.specs.declared.trail.Ahead.{Ahead}
 use Rattle.span_enum.specs.declared.trail.Mark.{Mark}
@@ -26,11 +28,13 @@ use Rattle.span_enum.proofs.Paths.{run-append, run-within, then-join, then-some}
 use Rattle.span_enum.proofs.Firsts.{mark_count-append}
 use Rattle.span_enum.proofs.Written.{over-append}
 use Rattle.span_enum.proofs.Lowerings.{length-bytes, over-length}
-use Rattle.span_enum.proofs.LastLetters.{final-end}
+use Rattle.span_enum.proofs.LastLetters.{final-end, fit-end, member-one}
+use Rattle.span_enum.proofs.Membership.{accepts-from_member}
 use Rattle.span_enum.proofs.Cuts.{append-same}
 use Rattle.span_enum.proofs.TupleLaws.{few-marks}
 use Rattle.span_enum.proofs.Gifts.{first-of, next-in_text, limit-from, first-cost}
 use Rattle.span_enum.proofs.Given.{IsText, well, first-member}
+use Rattle.span_enum.proofs.LowerEnds.{gives-at_end}
 use Rattle.span_enum.proofs.Keeps.{over-same, kept-other}
 use Rattle.span_enum.proofs.Behinds.{none-behind_plain, none-behind_earlier}
 use Rattle.span_enum.proofs.Forgets.{trail-next}
@@ -89,61 +93,93 @@ none-behind_all g t = none-behind_plain g t (whole_text g) [] (length (whole_tex
 pub none-behind_last : (g : Ground) (t : Tuple) (k : ℕ) → k ≤ length (whole_text g) → ((p : ℕ) → k < p → p ≤ length (whole_text g) → mark_of t p ≡ 0) → NoneBehind g t k
 none-behind_last g t k le quiet = none-behind_earlier g t k (length (whole_text g)) le (omega arith) quiet (none-behind_all g t)
 
--- ---- the first answer
-pub record IsFirstAnswer (g : Ground) (before after : ℕ) (ms : List (Option Mark)) (hs : List (Option Ahead)) (found : Found) : Type 0 where
-  pub member : IsFirstMember g.dfa.now (whole_text g) None found.tuple
-  pub cost : after ≤ before + looks_limit g.dfa.now.variables (length (whole_text g))
-  pub trail : IsTrailOf g found.tuple ms hs
-  pub state : IsStateAt g (Some found.tuple) (Some found.state)
+-- ---- the state at the end
+pub state-found : (g : Ground) → IsGround g → IsText (whole_text g) → (u : Tuple) (o : Option ℕ) (q : ℕ) → EndsIn g.dfa.now o q → reached g.dfa.now 0 (word_over u 1 (whole_text g)) ≡ Some q
+    → IsMember g.dfa.now (whole_text g) u → IsStateAt g (Some u) o
+state-found g is text u (Some r) q e run m = run ∙ ap (λ n. Some n) (sym e)
+state-found g is text u None q e run m = λ p k.
+    let a = g.dfa.now in
+    let s = whole_text g in
+    let x = end_mark u (length s + 1) in
+    let step : step_of a q x 256 ≡ Some 0 =
+    sym (run-append a 0 (word_over u 1 s) ((x, 256) ∷ []) ∙ then-join (λ n. reached a n ((x, 256) ∷ [])) (reached a 0 (word_over u 1 s)) q run ∙ then-some (step_of a q x 256))
+    ∙ (accepts-from_member a is.automaton s text.bytes text.short u m).ends in
+    nothing x (e.most x 0 (fit-end a is.automaton q x 0 step) step member-one)
+  where
+    nothing : (n : ℕ) → n ≤ 0 → n ≡ 0
+    nothing n le = omega arith
 
+-- where it isn't known, the tuple has no mark at the end that could be lowered
+pub end-unknown : (g : Ground) (t : Tuple) (end : ℕ) → end ≡ length (whole_text g) + 1 → IsStateAt g (Some t) None → NoEndAfter g t end
+end-unknown g t end at is q run m below = absurd (none (end_mark t end) (ap (end_mark t) at ∙ is q run) below)
+  where
+    none : (n : ℕ) → n ≡ 0 → m < n → ⊥
+    none n e lt = omega arith
+
+pub end-known : (g : Ground) (t : Tuple) (end q : ℕ) → reached g.dfa.now 0 (word_over t 1 (whole_text g)) ≡ Some q → ((m : ℕ) → IsNoMark g.dfa.now q 256 1 (end_mark t end) m) → NoEndAfter g t end
+end-known g t end q run none p k = subst (λ n. (m : ℕ) → IsNoMark g.dfa.now n 256 1 (end_mark t end) m) (one q p (sym run ∙ k)) none
+  where
+    one : (m n : ℕ) → ◌≡◌ {A = Option ℕ} (Some m) (Some n) → m ≡ n
+    one m n e = cc
+
+-- ---- a lower mark at the end alone
+pub lowered-end : (g : Ground) → IsGround g → IsText (whole_text g) → (t u : Tuple) → IsTupleOf g.dfa.now.variables t → (end q m : ℕ) → end ≡ length (whole_text g) + 1
+    → reached g.dfa.now 0 (word_over t 1 (whole_text g)) ≡ Some q → IsGreatestMark g.dfa.now q 256 1 (end_mark t end) m 0 → u ≡ write_mark m end (cut end t)
+    → IsFirstMember g.dfa.now (whole_text g) (Some t) u × Agree t u end × (reached g.dfa.now 0 (word_over u 1 (whole_text g)) ≡ Some q)
+lowered-end g is text t u tuple end q m e run best written =
+    let a = g.dfa.now in
+    let s = whole_text g in
+    let both = gives-at_end a s t u q m (well a is.automaton s text) tuple run (rw e at best) (rw e at written) in
+    let same : word_over t 1 s ≡ word_over u 1 s = over-same t u 1 s (λ p above below. both.1 p above (omega (arith, below))) in
+    (first-member a is.automaton s text (Some t) u tuple both.0, rw e both.1, ap (reached a 0) (sym same) ∙ run)
+
+-- ---- the first answer
 pub first-answer : (g : Ground) → IsGround g → IsText (whole_text g) → (base before after end : ℕ) (marks ms : List (Option Mark)) (old new : List (Option Ahead)) (none : Tuple) (found : Found) → (fresh : IsFresh g marks old)
     → base ≡ length old → end ≡ length (whole_text g) + 1 → none ≡ blanks g.dfa.now.variables → CanEnd g 0 fresh.chain
-    → Finishes g (record { state = 0; next = base }) base marks ms old new before after none end found → IsFirstAnswer g before after ms new found
+    → Finishes g (record { state = 0; next = base; quiet = false }) base marks ms old new before after none end found
+    → IsFoundAfter g None ms new found × (after ≤ before + looks_limit g.dfa.now.variables (length (whole_text g)))
 first-answer g is text base before after end marks ms old new none found fresh same at blank can f =
     let a = g.dfa.now in
     let s = whole_text g in
     let c = fresh.chain in
-    let stands : Stands g old 1 (record { state = 0; next = base }) c = subst (λ n. Stands g old 1 (record { state = 0; next = n }) c) (sym same) fresh.stands in
+    let stands : Stands g old 1 (record { state = 0; next = base; quiet = false }) c = subst (λ n. Stands g old 1 (record { state = 0; next = n; quiet = false }) c) (sym same) fresh.stands in
     let found-rest = f.completes.finds 1 c stands can in
-    let finds : FindsFirst a 0 s g.finals (height_limit (length s)) before after found.state 1 (blanks a.variables) f.written = record {
+    let finds : FindsFirst a 0 s g.finals (height_limit (length s)) before after found-rest.state 1 (blanks a.variables) f.written = record {
       word = found-rest.word;
-      first = subst (λ x. IsFirst a 0 x g.finals found-rest.word found.state) fresh.text_is found-rest.first;
+      first = subst (λ x. IsFirst a 0 x g.finals found-rest.word found-rest.state) fresh.text_is found-rest.first;
       cost = found-rest.cost (length s) (omega (arith, ap length fresh.text_is));
       written = rw (sym blank) found-rest.written;
     } in
     let u = found.tuple in
-    let both = first-of a is.automaton g.finals is.all s (well a is.automaton s text) (height_limit (length s)) before after found.state f.mark f.written u finds f.greatest (f.tuple_is ∙ ap (λ n. write_mark f.mark n f.written) at) in
+    let both = first-of a is.automaton g.finals is.all s (well a is.automaton s text) (height_limit (length s)) before after found-rest.state f.mark f.written u finds (f.greatest found-rest.state found-rest.ends) (f.tuple_is ∙ ap (λ n. write_mark f.mark n f.written) at) in
     let word : word_over u 1 (text_ahead g c) ≡ found-rest.word = ap (word_over u 1) fresh.text_is ∙ both.2 in
     let leads : Leads g u 1 0 (length marks) (text_ahead g c) = record { front = []; parts = sym fresh.text_is; at_is = refl; before = refl; count = sym (ap length fresh.no_marks) } in
     let only : ms ≡ f.completes.more = f.completes.marks_are ∙ ap (λ x. x ++ f.completes.more) fresh.no_marks in
     let kept : AreKept g u new 1 (length marks) base f.completes.more = found-rest.kept u leads word in
     let none-more : NoneBehind g u (last_at 0 f.completes.more) = none-behind_last g u (last_at 0 f.completes.more) (omega (arith, found-rest.last, ap length fresh.text_is))
     (λ p above below. found-rest.quiet u word p above (omega (arith, below, ap length fresh.text_is))) in
-    record {
-      member = first-member a is.automaton s text None u tt both.0;
-      cost = cost-limit a.variables (length s) before after both.1;
-      trail = rw only (record {
-        base = base;
-        one = omega (arith, same, fresh.one);
-        kept = subst (λ n. AreKept g u new 1 n base f.completes.more) (ap length fresh.no_marks) kept;
-        none = none-more;
-      });
-      state = sym (ap (reached a 0) both.2 ∙ found-rest.first.ends);
-    }
+    let first = first-member a is.automaton s text None u tt both.0 in (
+      record {
+        first = first;
+        trail = rw only (record {
+          base = base;
+          one = omega (arith, same, fresh.one);
+          kept = subst (λ n. AreKept g u new 1 n base f.completes.more) (ap length fresh.no_marks) kept;
+          none = none-more;
+        });
+        state = state-found g is text u found.state found-rest.state found-rest.ends (ap (reached a 0) both.2 ∙ found-rest.first.ends) first.member;
+      },
+      cost-limit a.variables (length s) before after both.1,
+    )
 
 -- ---- the next answer
-pub record IsNextAnswer (g : Ground) (t : Tuple) (before after : ℕ) (ms : List (Option Mark)) (hs : List (Option Ahead)) (found : Found) : Type 0 where
-  pub member : IsFirstMember g.dfa.now (whole_text g) (Some t) found.tuple
-  pub cost : after ≤ before + looks_limit g.dfa.now.variables (length (whole_text g))
-  pub trail : IsTrailOf g found.tuple ms hs
-  pub state : IsStateAt g (Some found.tuple) (Some found.state)
-
-pub next-answer : (g : Ground) → IsGround g → IsText (whole_text g) → (t : Tuple) → IsTupleOf g.dfa.now.variables t → (state : Option ℕ) → IsStateAt g (Some t) state → (l : Lowered) (turn : Turn)
+pub next-answer : (g : Ground) → IsGround g → IsText (whole_text g) → (t : Tuple) → IsTupleOf g.dfa.now.variables t → (l : Lowered) (turn : Turn)
     → (before after end : ℕ) (marks ms : List (Option Mark)) (old new : List (Option Ahead)) (out : Tuple) (found : Found)
-    → ((q : ℕ) → state ≡ Some q → (m : ℕ) → IsNoMark g.dfa.now q 256 1 (end_mark t (length (whole_text g) + 1)) m)
+    → NoEndAfter g t (length (whole_text g) + 1)
     → Lowers g.dfa.now 0 (whole_text g) g.finals (word_over t 1 (whole_text g)) 1 l → IsTurned g t l turn marks old → end ≡ length (whole_text g) + 1 → out ≡ write_mark l.mark l.at (cut l.at t)
-    → Finishes g (record { state = l.state; next = turn.next }) turn.base marks ms old new before after out end found → IsNextAnswer g t before after ms new found
-next-answer g is text t tuple state known l turn before after end marks ms old new out found none lowers turned at written f =
+    → Finishes g (record { state = l.state; next = turn.next; quiet = false }) turn.base marks ms old new before after out end found
+    → IsFoundAfter g (Some t) ms new found × (after ≤ before + looks_limit g.dfa.now.variables (length (whole_text g)))
+next-answer g is text t tuple l turn before after end marks ms old new out found none lowers turned at written f =
     let a = g.dfa.now in
     let s = whole_text g in
     let c = turned.chain in
@@ -153,15 +189,15 @@ next-answer g is text t tuple state known l turn before after end marks ms old n
     let drops : l.at - 1 + 1 ≡ l.at = omega (arith, lowers.place_is) in
     let behind : drop (l.at - 1 + 1) s ≡ text_ahead g c =
     ap (λ n. drop n s) (drops ∙ sym front) ∙ ap (drop (length (bytes_of turned.word))) turned.bytes ∙ ap (λ n. drop n (bytes_of turned.word ++ text_ahead g c)) (omega arith) ∙ drop-append-add (bytes_of turned.word) (text_ahead g c) 0 in
-    let finds : FindsRest a l.state (drop (l.at - 1 + 1) s) g.finals high before after found.state (l.at + 1) out f.written = record {
+    let finds : FindsRest a l.state (drop (l.at - 1 + 1) s) g.finals high before after rest.state (l.at + 1) out f.written = record {
       word = rest.word;
-      first = subst (λ x. IsFirst a l.state x g.finals rest.word found.state) (sym behind) rest.first;
+      first = subst (λ x. IsFirst a l.state x g.finals rest.word rest.state) (sym behind) rest.first;
       cost = more (high * mark_count rest.word) high (rest.cost (length s) (omega (arith, ap length turned.bytes, length-append (bytes_of turned.word) (text_ahead g c))));
       written = rest.written;
     } in
     let u = found.tuple in
-    let both = next-in_text a is.automaton g.finals is.all s (well a is.automaton s text) high before (before + 1) before after found.state f.mark t out f.written u state l tuple
-    known none lowers turned.stands.state written finds f.greatest (f.tuple_is ∙ ap (λ n. write_mark f.mark n f.written) at) refl (omega arith) in
+    let both = next-in_text a is.automaton g.finals is.all s (well a is.automaton s text) high before (before + 1) before after rest.state f.mark t out f.written u l tuple
+    none lowers turned.stands.state written finds (f.greatest rest.state rest.ends) (f.tuple_is ∙ ap (λ n. write_mark f.mark n f.written) at) refl (omega arith) in
     let low : IsLowered t u l = record { agree = both.2; mark = both.3 } in
     let word : word_over u (l.at + 1) (text_ahead g c) ≡ rest.word = ap (word_over u (l.at + 1)) (sym behind) ∙ both.4 in
     let leads = turned.leads u low in
@@ -170,14 +206,18 @@ next-answer g is text t tuple state known l turn before after end marks ms old n
     let whole : length s ≡ l.at + length (text_ahead g c) = ap length turned.bytes ∙ length-append (bytes_of turned.word) (text_ahead g c) ∙ ap (λ n. n + length (text_ahead g c)) front in
     let none-more : NoneBehind g u (last_at l.at f.completes.more) = rw last (none-behind_last g u (last_at (l.at + 1 - 1) f.completes.more) (omega (arith, rest.last, whole))
     (λ p above below. rest.quiet u word p above (omega (arith, below, whole)))) in
-    record {
-      member = first-member a is.automaton s text (Some t) u tuple both.0;
-      cost = limit-from a.variables high (length s) before after (omega arith) both.1;
-      trail = rw f.completes.marks_are (trail-next g t u l turn marks f.completes.more old new turned low f.completes.same f.completes.low kept none-more);
-      state = sym (ap (λ x. reached a 0 (word_over u 1 x)) leads.parts ∙ ap (reached a 0) (over-append u 1 leads.front (text_ahead g c)) ∙ ap (λ n. reached a 0 (word_over u 1 leads.front ++ word_over u n (text_ahead g c))) (sym leads.at_is)
-          ∙ ap (λ w. reached a 0 (word_over u 1 leads.front ++ w)) word ∙ run-append a 0 (word_over u 1 leads.front) rest.word
-          ∙ then-join (λ q. reached a q rest.word) (reached a 0 (word_over u 1 leads.front)) l.state leads.before ∙ rest.first.ends);
-    }
+    let run : reached a 0 (word_over u 1 s) ≡ Some rest.state =
+    ap (λ x. reached a 0 (word_over u 1 x)) leads.parts ∙ ap (reached a 0) (over-append u 1 leads.front (text_ahead g c)) ∙ ap (λ n. reached a 0 (word_over u 1 leads.front ++ word_over u n (text_ahead g c))) (sym leads.at_is)
+    ∙ ap (λ w. reached a 0 (word_over u 1 leads.front ++ w)) word ∙ run-append a 0 (word_over u 1 leads.front) rest.word
+    ∙ then-join (λ q. reached a q rest.word) (reached a 0 (word_over u 1 leads.front)) l.state leads.before ∙ rest.first.ends in
+    let first = first-member a is.automaton s text (Some t) u tuple both.0 in (
+      record {
+        first = first;
+        trail = rw f.completes.marks_are (trail-next g t u l turn marks f.completes.more old new turned low f.completes.same f.completes.low kept none-more);
+        state = state-found g is text u found.state rest.state rest.ends run first.member;
+      },
+      limit-from a.variables high (length s) before after (omega arith) both.1,
+    )
   where
     more : (x h : ℕ) → after ≤ before + 2 * x → after ≤ before + 2 * h + 2 * x
     more x h le = omega arith

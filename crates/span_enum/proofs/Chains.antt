@@ -1,5 +1,5 @@
 -- The nodes ahead: in the list, in the text, and what is known of the states there.
-use Rattle.std.proofs.Common.{zero, suc, ◌≡◌, ℕ, ◌+◌, ◌-◌, ◌<◌, ◌≤◌, true, refl, ap, sym, subst, ◌∙◌, arith, List, [], ◌∷◌, ◌++◌, append_assoc, append-nil, length, length-append, max, take, slice_get, Option, Some, None, inl, inr}
+use Rattle.std.proofs.Common.{zero, suc, ◌≡◌, ℕ, ◌+◌, ◌-◌, ◌<◌, ◌≤◌, true, false, refl, ap, sym, subst, ◌∙◌, arith, List, [], ◌∷◌, ◌++◌, append_assoc, append-nil, length, length-append, max, take, slice_get, Option, Some, None, inl, inr}
 use Rattle.std.proofs.lemmas.Bool.{cases_lt}
 use Rattle.std.proofs.lemmas.List.{map-append}
 use Rattle.span_types.specs.Words.{Marked}
@@ -14,13 +14,16 @@ use Rattle.state_tables.specs.Dictionary.{IsLook}
 use Rattle.state_tables.specs.declared.view.Look.{Look}
 use Rattle.span_enum.specs.Letters.{step_of, reached}
 use Rattle.span_enum.specs.Between.{AreBetween}
+use Rattle.span_enum.specs.Quiet.{LeadQuiet}
 use Rattle.span_enum.specs.Trail.{IsAhead, AreAhead, text_at, text_ahead, height_at, Join, AreGoals, Stands, StandsBefore, IsMark, FitsAt, Fits, CanGoDown}
 use Rattle.span_enum.specs.declared.ground.Ground.{Ground}
 use Rattle.span_enum.specs.declared.trail.Ahead.{Ahead}
 use Rattle.span_enum.specs.declared.trail.Mark.{Mark}
 use Rattle.span_enum.specs.declared.trail.Place.{Place}
+use Rattle.span_enum.specs.declared.sets.Between.{Between}
 use Rattle.span_enum.proofs.Paths.{run-append, then-between, then-join, then-some, split-marked, bytes-plain, step-within}
 use Rattle.span_enum.proofs.Steps.{pair-text, pair-height}
+use Rattle.span_enum.proofs.Quiets.{quiet-join}
 
 -- ---- lists of options
 pub slice-append : (hs more : List (Option Ahead)) (n : ℕ) (x : Option Ahead) → slice_get hs n ≡ Some x → slice_get (hs ++ more) n ≡ Some x
@@ -106,6 +109,7 @@ goals-on g p q s x (k ∷ c) v e t h =
       h.0,
       between-on g.dfa.now p q s (x ++ text_at g k.id.index) (text_ahead g c) g.finals k.goals v e t (rw assoc at h.1),
       goals-on g p q s (x ++ text_at g k.id.index) c v e t (rw assoc at h.2),
+      h.3,
     )
 
 -- the states between two texts, where the second leads on
@@ -148,20 +152,21 @@ goals-behind g q s (x ∷ front) back h =
     subst (λ t. AreGoals g q t back) (append_assoc s (text_at g x.id.index) (text_ahead g front)) (goals-behind g q (s ++ text_at g x.id.index) front back h.2)
 
 pub stands-mark : (g : Ground) (hs : List (Option Ahead)) (m : Mark) (c : List Ahead) (n q : ℕ) → IsDeterministic g.dfa.now → IsMark g hs m c → step_of g.dfa.now m.state n m.byte ≡ Some q
-    → Stands g hs (m.at + 1) (record { state = q; next = m.next }) c
+    → Stands g hs (m.at + 1) (record { state = q; next = m.next; quiet = false }) c
 stands-mark g hs m c n q auto is step = record {
   ahead = is.ahead;
   join = is.join;
   goals = goals-on g m.state q (m.byte ∷ []) [] c ((n, m.byte) ∷ []) refl (then-some (step_of g.dfa.now m.state n m.byte) ∙ step) is.goals;
   state = step-within g.dfa.now auto m.state n m.byte q step;
+  quiet = λ e. cc;
 }
 
 -- ---- a pair
 abbrev pub sibling : Ahead → NodeId → Look → Look → Ahead
-sibling h r left right = record { id = r; look = right; at = h.at + left.len; goals = h.goals; next = h.next }
+sibling h r left right = record { id = r; look = right; at = h.at + left.len; goals = h.goals; quiet = h.quiet; next = h.next }
 
-abbrev pub child : Ahead → NodeId → Look → ℕ → ℕ → Ahead
-child h l left between next = record { id = l; look = left; at = h.at; goals = between; next = next }
+abbrev pub child : Ahead → NodeId → Look → Between → ℕ → Ahead
+child h l left between next = record { id = l; look = left; at = h.at; goals = between.goals; quiet = between.quiet; next = next }
 
 module _ (g : Ground) (hs : List (Option Ahead)) (h : Ahead) (q : ℕ) (c : List Ahead) (l r : NodeId) (left right : Look) (pair : IsNodeAt g.view.store.now h.id.index (Pair l r))
     (look-l : IsLook g.view.store.now g.view.tables.now l.index left.node left.len left.table.now) (look-r : IsLook g.view.store.now g.view.tables.now r.index right.node right.len right.table.now)
@@ -177,7 +182,7 @@ module _ (g : Ground) (hs : List (Option Ahead)) (h : Ahead) (q : ℕ) (c : List
     low = omega (arith, is.low, ap length both, length-append (text_at g l.index) (text_at g r.index), look-l.len_is);
   }
 
-  pub ahead-left : (between next : ℕ) → IsAhead g (child h l left between next)
+  pub ahead-left : (between : Between) (next : ℕ) → IsAhead g (child h l left between next)
   ahead-left between next = record {
     live = omega (arith, pair.1, is.live);
     look = look-l;
@@ -203,14 +208,16 @@ module _ (g : Ground) (hs : List (Option Ahead)) (h : Ahead) (q : ℕ) (c : List
             ahead-right,
             between-on g.dfa.now q q' (text_at g l.index) (text_at g r.index) (text_ahead g c) g.finals h.goals (plain (text_at g l.index)) (bytes-plain (text_at g l.index)) t here,
             goals-on g q q' (text_at g l.index) (text_at g r.index) c (plain (text_at g l.index)) (bytes-plain (text_at g l.index)) t on,
+            s.goals.3,
           );
           state = low;
         }
 
     -- the walk stands before the left child, once the right one is put ahead
-    pub before-left : (between : ℕ) → AreBetween g.dfa.now q (text_at g l.index) (text_at g r.index) h.goals between
+    pub before-left : (between : Between) → AreBetween g.dfa.now q (text_at g l.index) (text_at g r.index) h.goals between.goals
+        → LeadQuiet g.dfa.now q (text_at g l.index) (text_at g r.index) h.goals h.quiet between.quiet
         → StandsBefore g (hs ++ Some (sibling h r left right) ∷ []) (child h l left between (length hs + 1)) q (sibling h r left right ∷ c)
-    before-left between are =
+    before-left between are lead =
         let here : AreBetween g.dfa.now q (text_at g l.index ++ text_at g r.index) (text_ahead g c) g.finals h.goals = subst (λ x. AreBetween g.dfa.now q x (text_ahead g c) g.finals h.goals) both s.goals.1 in
         let on : AreGoals g q (text_at g l.index ++ text_at g r.index) c = subst (λ x. AreGoals g q x c) both s.goals.2 in
         record {
@@ -221,8 +228,9 @@ module _ (g : Ground) (hs : List (Option Ahead)) (h : Ahead) (q : ℕ) (c : List
           join = (refl, (ap (λ n. h.at + n) look-l.len_is, behind));
           goals = (
             ahead-left between (length hs + 1),
-            between-compose g.dfa.now q (text_at g l.index) (text_at g r.index) (text_ahead g c) g.finals h.goals between are here,
-            (ahead-right, here, on),
+            between-compose g.dfa.now q (text_at g l.index) (text_at g r.index) (text_ahead g c) g.finals h.goals between.goals are here,
+            (ahead-right, here, on, s.goals.3),
+            quiet-join g.dfa.now q (text_at g l.index) (text_at g r.index) (text_ahead g c) g.finals h.goals h.quiet between.quiet here s.goals.3 lead,
           );
           state = s.state;
         }
@@ -288,7 +296,7 @@ module _ (g : Ground) (h : Ahead) (q base : ℕ) (ms : List (Option Mark)) (mark
     deep = omega (arith, high, d.deep);
   }
 
-  pub down-left : (between : ℕ) → CanGoDown g (child h l left between (length hs + 1)) q base ms marks_room (hs ++ Some (sibling h r left right) ∷ []) ahead_room
+  pub down-left : (between : Between) → CanGoDown g (child h l left between (length hs + 1)) q base ms marks_room (hs ++ Some (sibling h r left right) ∷ []) ahead_room
   down-left between =
       let longer : length (hs ++ Some (sibling h r left right) ∷ []) ≡ length hs + 1 = length-append hs (Some (sibling h r left right) ∷ []) in
       record {

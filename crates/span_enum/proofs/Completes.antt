@@ -1,5 +1,5 @@
 -- The rest of the first marked text, mark by mark.
-use Rattle.std.proofs.Common.{zero, suc, ◌≡◌, ℕ, ◌+◌, ◌-◌, ◌*◌, ◌<◌, ◌≤◌, ◌==◌, Bool, true, false, refl, ap, sym, subst, ◌∙◌, arith, List, [], ◌∷◌, ◌++◌, append_assoc, append-nil, length, length-append, length-take-le, take, max, Option, Some, inl, inr}
+use Rattle.std.proofs.Common.{zero, suc, ◌≡◌, ℕ, ◌+◌, ◌-◌, ◌*◌, ◌<◌, ◌≤◌, ◌==◌, Bool, true, false, refl, ap, sym, subst, ◌∙◌, arith, List, [], ◌∷◌, ◌++◌, append_assoc, append-nil, length, length-append, length-take-le, take, max, Option, Some, None, inl, inr}
 use Rattle.std.specs.Prelude.{if◌then◌else◌}
 use Rattle.std.proofs.lemmas.Bool.{cases_eq, cases_lt}
 use Rattle.std.proofs.lemmas.List.{map-append}
@@ -91,6 +91,7 @@ passes-meets g hs hs' at from place c h b m to p e k =
       step = k.step;
       next = k.next;
       can = k.can;
+      quiet = k.quiet;
       first = λ w r f.
           let all : IsFirst a from.state (text_ahead g c) g.finals (plain x ++ (plain k.front ++ (m.mark, m.byte) ∷ w)) r =
           p.first (plain k.front ++ (m.mark, m.byte) ∷ w) r (rw e (k.first w r f)) in
@@ -99,10 +100,38 @@ passes-meets g hs hs' at from place c h b m to p e k =
           rw words all;
     }
 
+-- ---- where a quiet state is reached
+pub completes-quiet : (g : Ground) (hs : List (Option Ahead)) (marks : List (Option Mark)) (from : Place) (base looks : ℕ) (out : Tuple) → base ≤ length hs → from.quiet ≡ true
+    → Completes g from base marks marks hs (take base hs) looks looks None out out
+completes-quiet g hs marks from base looks out low known = record {
+  more = [];
+  marks_are = sym (append-nil marks);
+  same = take-take base base hs (omega arith);
+  low = omega (arith, length-take-le base hs low);
+  finds = λ at c s can.
+      let k = s.quiet known in
+      record {
+        word = plain (text_ahead g c);
+        state = k.last;
+        ends = k.unmarked;
+        first = record {
+          bytes = bytes-plain (text_ahead g c);
+          ends = k.ends;
+          goal = k.goal;
+          least = λ v r bytes ends goal. inl (k.sole v r bytes ends goal);
+        };
+        cost = λ len le. omega arith;
+        written = sym (write-plain at (text_ahead g c) out);
+        kept = λ t leads e. sym (length-take-le base hs low);
+        last = omega arith;
+        quiet = λ t e q above below. quiet-plain t at (text_ahead g c) e q (omega (arith, above)) below;
+      };
+}
+
 -- ---- where the text ends
 pub completes-end : (g : Ground) (hs : List (Option Ahead)) (marks : List (Option Mark)) (from place : Place) (base looks : ℕ) (out : Tuple) → base ≤ length hs → place.next ≡ 0
     → ((at : ℕ) (c : List Ahead) → Stands g hs at from c → CanEnd g from.state c → PassesPlain g hs at from place c)
-    → Completes g from base marks marks hs (take base hs) looks looks place.state out out
+    → Completes g from base marks marks hs (take base hs) looks looks (Some place.state) out out
 completes-end g hs marks from place base looks out low last passes = record {
   more = [];
   marks_are = sym (append-nil marks);
@@ -116,6 +145,8 @@ completes-end g hs marks from place base looks out low last passes = record {
       let empty : IsFirst g.dfa.now place.state (text_ahead g p.back) g.finals [] place.state = rw none (nothing end) in
       record {
         word = plain (text_ahead g p.front) ++ [];
+        state = place.state;
+        ends = refl;
         first = p.first [] place.state empty;
         cost = λ len le. omega arith;
         written = sym (ap (λ w. write_word at w out) word ∙ write-plain at (text_ahead g p.front) out);
@@ -168,7 +199,7 @@ module _ (g : Ground) (auto : IsDeterministic g.dfa.now) (hs : List (Option Ahea
   pub stands-on : Stands g hs (m.at + 1) to k.back
   stands-on =
       let s = stands-mark g hs m k.back m.mark to.state auto k.is_mark k.step in
-      record { ahead = subst (λ n. AreAhead hs n k.back) (sym k.next) s.ahead; join = s.join; goals = s.goals; state = s.state }
+      record { ahead = subst (λ n. AreAhead hs n k.back) (sym k.next) s.ahead; join = s.join; goals = s.goals; state = s.state; quiet = k.quiet }
 
   -- the mark counts
   pub few-on : (most : ℕ) → AtMost g from.state c most → (w : Marked) (r : ℕ) → bytes_of w ≡ text_ahead g k.back → reached g.dfa.now to.state w ≡ Some r → member g.finals r ≡ true → mark_count w + 1 ≤ most
@@ -252,7 +283,7 @@ module _ (g : Ground) (auto : IsDeterministic g.dfa.now) (hs : List (Option Ahea
         by false x = refl
 
 -- ---- the way on behind the first mark
-pub completes-more : (g : Ground) (auto : IsDeterministic g.dfa.now) (hs cut hs1 hs2 : List (Option Ahead)) (marks ms1 ms2 : List (Option Mark)) (from place to : Place) (h : Ahead) (base before mid after r : ℕ)
+pub completes-more : (g : Ground) (auto : IsDeterministic g.dfa.now) (hs cut hs1 hs2 : List (Option Ahead)) (marks ms1 ms2 : List (Option Mark)) (from place to : Place) (h : Ahead) (base before mid after : ℕ) (r : Option ℕ)
     (out out1 out2 : Tuple) → take base cut ≡ take base hs → base ≤ length cut
     → ((at : ℕ) (c : List Ahead) → Stands g hs at from c → CanEnd g from.state c → (p : PassesPlain g hs at from place c) × ((b : List Ahead) × (p.back ≡ h ∷ b) × StandsBefore g cut h place.state b))
     → Descends g h place.state base marks ms1 cut hs1 before mid out out1 to
@@ -288,7 +319,9 @@ completes-more g auto hs cut hs1 hs2 marks ms1 ms2 from place to h base before m
           omega (arith, mark_count-append (plain k.front) ((m.mark, m.byte) ∷ rest.word), count-plain k.front, one) in
           record {
             word = plain k.front ++ (m.mark, m.byte) ∷ rest.word;
-            first = k.first rest.word r rest.first;
+            state = rest.state;
+            ends = rest.ends;
+            first = k.first rest.word rest.state rest.first;
             cost = λ len le.
                 let high : height_at g h.id.index ≤ height_limit len = height-short g h len is (omega arith) in
                 let back : length (text_ahead g k.back) ≤ len = omega (arith, ap length k.parts, length-append k.front (m.byte ∷ text_ahead g k.back)) in

@@ -1,5 +1,5 @@
 -- The way along the marks of a given tuple.
-use Rattle.std.proofs.Common.{suc, ◌≡◌, ℕ, ◌+◌, ◌-◌, ◌<◌, ◌≤◌, refl, ap, sym, subst, ◌∙◌, arith, List, [], ◌∷◌, ◌++◌, append_assoc, length, length-append, take, slice_get, Option, Some, None}
+use Rattle.std.proofs.Common.{suc, ◌≡◌, ℕ, ◌+◌, ◌-◌, ◌<◌, ◌≤◌, Bool, true, false, refl, ap, sym, subst, ◌∙◌, arith, List, [], ◌∷◌, ◌++◌, append_assoc, length, length-append, take, slice_get, Option, Some, None}
 use Rattle.std.proofs.lemmas.List.{append-nil, take-append-le}
 use Rattle.std.proofs.Math.Seq.{take-append-add}
 use Rattle.span_types.specs.Marks.{mark_of}
@@ -14,11 +14,13 @@ use Rattle.state_tables.specs.declared.view.Look.{Look}
 use Rattle.span_enum.specs.Members.{Tuple}
 use Rattle.span_enum.specs.Letters.{reached}
 use Rattle.span_enum.specs.Between.{AreBetween}
-use Rattle.span_enum.specs.Trail.{IsGround, IsAhead, text_at, text_ahead, Join, AreGoals, Stands, Fits, Dies, PassesTo, Lays, Fails}
+use Rattle.span_enum.specs.Quiet.{LeadQuiet}
+use Rattle.span_enum.specs.Trail.{IsGround, IsAhead, text_at, text_ahead, Join, AreGoals, Stands, mark_over, IsOver, Fits, Dies, PassesTo, Lays, Fails, Laid}
 use Rattle.span_enum.specs.declared.ground.Ground.{Ground}
 use Rattle.span_enum.specs.declared.trail.Ahead.{Ahead}
 use Rattle.span_enum.specs.declared.trail.Mark.{Mark}
 use Rattle.span_enum.specs.declared.trail.Place.{Place}
+use Rattle.span_enum.specs.declared.sets.Between.{Between}
 use Rattle.span_enum.proofs.Paths.{Tells, onto, run-append, then-join, bytes-plain}
 use Rattle.span_enum.proofs.Steps.{look-table, byte-text, pair-text}
 use Rattle.span_enum.proofs.Meets.{plain-append}
@@ -42,10 +44,10 @@ pub take-before : (s u : List ℕ) (at position : ℕ) → position ≤ at + len
 take-before s u at position le = take-append-le (position - at) s u (omega arith)
 
 -- ---- a letter
-pub lays-mark : (g : Ground) (t : Tuple) (h : Ahead) (b q m base : ℕ) (marks : List (Option Mark)) (hs : List (Option Ahead)) → IsNodeAt g.view.store.now h.id.index (Byte b) → m ≡ mark_of t h.at → Fits g base hs
-    → Lays g t h q h.at base marks (marks ++ Some (record { at = h.at; mark = m; byte = b; state = q; goals = h.goals; next = h.next; base = base }) ∷ []) hs hs
-lays-mark g t h b q m base marks hs byte e fits = record {
-  mark = record { at = h.at; mark = m; byte = b; state = q; goals = h.goals; next = h.next; base = base };
+pub lays-mark : (g : Ground) (t : Tuple) (h : Ahead) (b q position base : ℕ) (marks : List (Option Mark)) (hs : List (Option Ahead)) → IsNodeAt g.view.store.now h.id.index (Byte b) → IsOver g h position → Fits g base hs
+    → Lays g t h q position base marks (marks ++ Some (mark_over h b q (mark_of t h.at) base) ∷ []) hs hs
+lays-mark g t h b q position base marks hs byte over fits = record {
+  mark = mark_over h b q (mark_of t h.at) base;
   kept = refl;
   base_is = refl;
   beside = [];
@@ -56,7 +58,7 @@ lays-mark g t h b q m base marks hs byte e fits = record {
     back = c;
     parts = ap (λ x. x ++ text_ahead g c) letter;
     at = omega arith;
-    position_is = refl;
+    position_is = here;
     is_mark = record {
       ahead = s.ahead;
       join = subst (λ x. Join g (h.at + length x) c) letter s.join.1;
@@ -65,12 +67,15 @@ lays-mark g t h b q m base marks hs byte e fits = record {
       state = s.state;
     };
     before = refl;
-    mark_is = e;
+    mark_is = ap (mark_of t) here;
   };
 }
   where
     letter : text_at g h.id.index ≡ b ∷ []
     letter = byte-text g.view.store.now h.id.index b byte
+
+    here : h.at ≡ position
+    here = omega (arith, over.from, over.before, ap length letter)
 
 -- ---- a pair
 module _ (g : Ground) (t : Tuple) (h : Ahead) (q position base : ℕ) (marks : List (Option Mark)) (hs : List (Option Ahead)) (l r : NodeId) (left right : Look)
@@ -80,11 +85,12 @@ module _ (g : Ground) (t : Tuple) (h : Ahead) (q position base : ℕ) (marks : L
   both : text_at g h.id.index ≡ text_at g l.index ++ text_at g r.index
   both = pair-text g.view.store.now h.id.index l r pair
 
-  pub lays-left : (between : ℕ) (more : List (Option Mark)) (new : List (Option Ahead)) → AreBetween g.dfa.now q (text_at g l.index) (text_at g r.index) h.goals between
+  lays-left : (between : Between) (more : List (Option Mark)) (new : List (Option Ahead)) → AreBetween g.dfa.now q (text_at g l.index) (text_at g r.index) h.goals between.goals
+      → LeadQuiet g.dfa.now q (text_at g l.index) (text_at g r.index) h.goals h.quiet between.quiet
       → Lays g t (child h l left between (length hs + 1)) q position base marks more
       (hs ++ Some (sibling h r left right) ∷ []) new
       → Lays g t h q position base marks more hs new
-  lays-left between more new are k = record {
+  lays-left between more new are lead k = record {
     mark = k.mark;
     kept = k.kept;
     base_is = k.base_is;
@@ -93,7 +99,7 @@ module _ (g : Ground) (t : Tuple) (h : Ahead) (q position base : ℕ) (marks : L
     fits = k.fits;
     reaches = λ c s.
         let f = k.reaches (sibling h r left right ∷ c)
-        (before-left g hs h q c l r left right pair look-l look-r is s between are) in
+        (before-left g hs h q c l r left right pair look-l look-r is s between are lead) in
         record {
           front = f.front;
           back = f.back;
@@ -106,7 +112,7 @@ module _ (g : Ground) (t : Tuple) (h : Ahead) (q position base : ℕ) (marks : L
         };
   }
 
-  pub lays-right : (q' : ℕ) (more : List (Option Mark)) (new : List (Option Ahead)) → q' < states_of g.dfa.now → reached g.dfa.now q (plain (text_at g l.index)) ≡ Some q'
+  lays-right : (q' : ℕ) (more : List (Option Mark)) (new : List (Option Ahead)) → q' < states_of g.dfa.now → reached g.dfa.now q (plain (text_at g l.index)) ≡ Some q'
       → Lays g t (sibling h r left right) q' position base marks more hs new
       → Lays g t h q position base marks more hs new
   lays-right q' more new low run k = record {
@@ -131,7 +137,7 @@ module _ (g : Ground) (t : Tuple) (h : Ahead) (q position base : ℕ) (marks : L
         };
   }
 
-  pub fails-left : (between : ℕ) (more : List (Option Mark)) (new : List (Option Ahead)) → base ≤ length hs → position ≤ h.at + length (text_at g l.index)
+  fails-left : (between : Between) (more : List (Option Mark)) (new : List (Option Ahead)) → base ≤ length hs → position ≤ h.at + length (text_at g l.index)
       → Fails g (child h l left between (length hs + 1)) q position base marks more
       (hs ++ Some (sibling h r left right) ∷ []) new
       → Fails g h q position base marks more hs new
@@ -145,7 +151,7 @@ module _ (g : Ground) (t : Tuple) (h : Ahead) (q position base : ℕ) (marks : L
   cut : h.at + length (text_at g l.index) ≤ position → take (position - h.at) (text_at g h.id.index) ≡ text_at g l.index ++ take (position - (h.at + length (text_at g l.index))) (text_at g r.index)
   cut le = ap (λ x. take (position - h.at) x) both ∙ take-behind (text_at g l.index) (text_at g r.index) h.at position le
 
-  pub fails-right : (q' : ℕ) (more : List (Option Mark)) (new : List (Option Ahead)) → h.at + left.len ≤ position → reached g.dfa.now q (plain (text_at g l.index)) ≡ Some q'
+  fails-right : (q' : ℕ) (more : List (Option Mark)) (new : List (Option Ahead)) → h.at + left.len ≤ position → reached g.dfa.now q (plain (text_at g l.index)) ≡ Some q'
       → Fails g (sibling h r left right) q' position base marks more hs new
       → Fails g h q position base marks more hs new
   fails-right q' more new from run k = record {
@@ -156,7 +162,20 @@ module _ (g : Ground) (t : Tuple) (h : Ahead) (q position base : ℕ) (marks : L
     ahead = k.ahead;
   }
 
-  pub fails-here : h.at + left.len ≤ position → reached g.dfa.now q (plain (text_at g l.index)) ≡ None → Fails g h q position base marks marks hs (take base hs)
+  -- the way goes on into the left child, or into the right one
+  pub laid-left : (between : Between) (more : List (Option Mark)) (new : List (Option Ahead)) → AreBetween g.dfa.now q (text_at g l.index) (text_at g r.index) h.goals between.goals
+      → LeadQuiet g.dfa.now q (text_at g l.index) (text_at g r.index) h.goals h.quiet between.quiet → base ≤ length hs → position ≤ h.at + length (text_at g l.index)
+      → (z : Bool) → Laid g t (child h l left between (length hs + 1)) q position base marks more (hs ++ Some (sibling h r left right) ∷ []) new z
+      → Laid g t h q position base marks more hs new z
+  laid-left between more new are lead low before true k = lays-left between more new are lead k
+  laid-left between more new are lead low before false k = fails-left between more new low before k
+
+  pub laid-right : (q' : ℕ) (more : List (Option Mark)) (new : List (Option Ahead)) → q' < states_of g.dfa.now → reached g.dfa.now q (plain (text_at g l.index)) ≡ Some q' → h.at + left.len ≤ position
+      → (z : Bool) → Laid g t (sibling h r left right) q' position base marks more hs new z → Laid g t h q position base marks more hs new z
+  laid-right q' more new low run from true k = lays-right q' more new low run k
+  laid-right q' more new low run from false k = fails-right q' more new from run k
+
+  pub fails-here : h.at + left.len ≤ position → reached g.dfa.now q (plain (text_at g l.index)) ≡ None → Fails g h q position base marks marks hs hs
   fails-here from run = record {
     dies = ap (λ x. reached g.dfa.now q (plain x)) (cut (omega (arith, from, look-l.len_is)))
         ∙ plain-dead g.dfa.now q (text_at g l.index) (take (position - (h.at + length (text_at g l.index))) (text_at g r.index)) run;
@@ -263,7 +282,7 @@ module _ (g : Ground) (ground : IsGround g) (hs : List (Option Ahead)) (at posit
       (take (position - (at + length (text_ahead g p.front ++ text_at g x.id.index))) (text_ahead g next.0)) dead
 
   pub passing-on : (q : ℕ) → x.at + x.look.len ≤ position → unmarked_of x.look.table.now place.state ≡ Some q → q < length x.look.table.now
-      → Passing g hs at position from (record { state = q; next = x.next }) c
+      → Passing g hs at position from (record { state = q; next = x.next; quiet = false }) c
   passing-on q le e low =
       let one : text_ahead g (p.front ++ x ∷ []) ≡ text_ahead g p.front ++ text_at g x.id.index =
       text-append g p.front (x ∷ []) ∙ ap (λ y. text_ahead g p.front ++ y) (append-nil (text_at g x.id.index)) in
@@ -278,6 +297,7 @@ module _ (g : Ground) (ground : IsGround g) (hs : List (Option Ahead)) (at posit
           goals = goals-on g place.state q (text_at g x.id.index) [] next.0 (plain (text_at g x.id.index)) (bytes-plain (text_at g x.id.index)) run
               (subst (λ y. AreGoals g place.state y next.0) (sym (append-nil (text_at g x.id.index))) here.goals.2);
           state = omega (arith, low, is.shape.states);
+          quiet = λ e. cc;
         };
         step = ap (λ y. reached g.dfa.now from.state (plain y)) one ∙ plain-run g.dfa.now from.state place.state (text_ahead g p.front) (text_at g x.id.index) p.step ∙ run;
         before = omega (arith, behind, ap length one, le, here.join.0, next-ahead.look.len_is);

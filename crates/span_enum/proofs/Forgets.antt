@@ -154,8 +154,8 @@ module _ (g : Ground) (t : Tuple) (ms others : List (Option Mark)) (hs : List (O
   others-kept : (u : Tuple) → IsLowered t u l → AreKept g u (take m.base hs) 1 0 is.base others
   others-kept u low = kept-other g t u (take m.base hs) 1 0 0 is.base l.at others refl late low.agree (cut-trail g t ms others hs m e is).others
 
-  stands-there : Stands g hs (l.at + 1) (record { state = l.state; next = m.next }) last.chain
-  stands-there = subst (λ x. Stands g hs (x + 1) (record { state = l.state; next = m.next }) last.chain) (sym at) (stands-mark g hs m last.chain l.mark l.state auto last.is_mark step)
+  stands-there : Stands g hs (l.at + 1) (record { state = l.state; next = m.next; quiet = false }) last.chain
+  stands-there = subst (λ x. Stands g hs (x + 1) (record { state = l.state; next = m.next; quiet = false }) last.chain) (sym at) (stands-mark g hs m last.chain l.mark l.state auto last.is_mark step)
 
   -- the lower mark is none
   pub turned-none : l.mark ≡ 0 → IsTurned g t l (record { next = m.next; base = m.base }) others hs

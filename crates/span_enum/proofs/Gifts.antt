@@ -174,23 +174,22 @@ module _ (a : DeterministicAutomaton) (auto : IsDeterministic a) where
         let letters = append-same (word_over u 1 s) ((end_mark u (length s + 1), 256) ∷ []) f.word ((e, 256) ∷ []) (over-length u 1 s ∙ omega (arith, len)) (sym both.2) in
         (both.0, omega (arith, f.cost), letters.0)
 
-    no-end : (t : Tuple) (o : Option ℕ) → o ≡ reached a 0 (word_over t 1 s)
-        → ((q : ℕ) → o ≡ Some q → (m : ℕ) → IsNoMark a q 256 1 (end_mark t (length s + 1)) m)
+    no-end : (t : Tuple) → ((q : ℕ) → reached a 0 (word_over t 1 s) ≡ Some q → (m : ℕ) → IsNoMark a q 256 1 (end_mark t (length s + 1)) m)
         → (n : ℕ) → reached a 0 (word_over t 1 s) ≡ Some n → NoneAfter a n (256 ∷ []) 1 ((end_mark t (length s + 1), 256) ∷ [])
-    no-end t o is none n e = none-byte a n 256 1 (end_mark t (length s + 1)) (none n (is ∙ e))
+    no-end t none n e = none-byte a n 256 1 (end_mark t (length s + 1)) (none n e)
 
     -- lowered in the text
-    pub next-in_text : (h before now mid after r e : ℕ) (t out0 out u : Tuple) (o : Option ℕ) (b : Lowered) → IsTupleOf a.variables t → o ≡ reached a 0 (word_over t 1 s)
-        → ((q : ℕ) → o ≡ Some q → (m : ℕ) → IsNoMark a q 256 1 (end_mark t (length s + 1)) m) → Lowers a 0 s finals (word_over t 1 s) 1 b
+    pub next-in_text : (h before now mid after r e : ℕ) (t out0 out u : Tuple) (b : Lowered) → IsTupleOf a.variables t
+        → ((q : ℕ) → reached a 0 (word_over t 1 s) ≡ Some q → (m : ℕ) → IsNoMark a q 256 1 (end_mark t (length s + 1)) m) → Lowers a 0 s finals (word_over t 1 s) 1 b
         → b.state < states_of a
         → out0 ≡ write_mark b.mark b.at (cut b.at t)
         → (f : FindsRest a b.state (drop (b.at - 1 + 1) s) finals h mid after r (b.at + 1) out0 out) → IsGreatestMark a r 256 1 65536 e 0
         → u ≡ write_mark e (length s + 1) out → now ≡ before + 1 → mid ≤ now + 2 * (h * mark_count (word_over t 1 s))
         → Gives a s (Some t) u × (after ≤ before + bound a.variables h) × Agree t u b.at × (mark_of u b.at ≡ b.mark) × (word_over u (b.at + 1) (drop (b.at - 1 + 1) s) ≡ f.word)
-    next-in_text h before now mid after r e t out0 out u o b is state none inside low e0 f best written en em =
+    next-in_text h before now mid after r e t out0 out u b is none inside low e0 f best written en em =
         let found : Lowers a 0 (ended s) 1 (word_of t s) 1 b =
         lowers-on a auto s (256 ∷ []) 0 1 finals auto.has_start (reach-end a auto finals all s 0 auto.has_start) (onward-end a auto finals all)
-        (word_over t 1 s) ((end_mark t (length s + 1), 256) ∷ []) (over-bytes t 1 s) refl 1 b inside (no-end t o state none) in
+        (word_over t 1 s) ((end_mark t (length s + 1), 256) ∷ []) (over-bytes t 1 s) refl 1 b inside (no-end t none) in
         let short = back-bytes a 0 s finals (word_over t 1 s) inside.place b.mark b.state inside.lowers in
         let same : found.place ≡ inside.place = omega (arith, found.place_is, inside.place_is) in
         let minus : b.at - 1 + 1 ≡ found.place + 1 = omega (arith, found.place_is) in
@@ -229,11 +228,11 @@ module _ (a : DeterministicAutomaton) (auto : IsDeterministic a) where
             let y : d * h ≤ (2 * a.variables) * h = mul-le-mul_right h ed in
             omega (arith, en)
 
-    pub none-left : (t : Tuple) (o : Option ℕ) → o ≡ reached a 0 (word_over t 1 s)
-        → ((q : ℕ) → o ≡ Some q → (m : ℕ) → IsNoMark a q 256 1 (end_mark t (length s + 1)) m) → NoneAfter a 0 s finals (word_over t 1 s) → NoneLeft a s (Some t)
-    none-left t o state none after =
+    pub none-left : (t : Tuple) → ((q : ℕ) → reached a 0 (word_over t 1 s) ≡ Some q → (m : ℕ) → IsNoMark a q 256 1 (end_mark t (length s + 1)) m)
+        → NoneAfter a 0 s finals (word_over t 1 s) → NoneLeft a s (Some t)
+    none-left t none after =
         none-fork a s (256 ∷ []) 0 1 finals (word_over t 1 s) ((end_mark t (length s + 1), 256) ∷ []) (over-bytes t 1 s) refl (reach-end a auto finals all s 0 auto.has_start)
-        after (no-end t o state none)
+        after (no-end t none)
 
 pub cost-lower : (k h before now after c : ℕ) → now ≡ before + 1 → c ≤ 2 * k → after ≤ now + 2 * (h * c) → after ≤ before + bound k h
 cost-lower k h before now after c en ec ea =

@@ -1,5 +1,5 @@
 -- The letters of a tuple before a place, and what is kept of the marks behind it.
-use Rattle.std.proofs.Common.{suc, ◌≡◌, ℕ, ◌+◌, ◌-◌, ◌*◌, ◌<◌, ◌≤◌, ◌^◌, refl, ap, sym, subst, ◌∙◌, arith, List, [], ◌∷◌, ◌++◌, append_assoc, length, length-append, length-take-le, take, take_at, drop, slice_get, Option, Some, None, inl, inr}
+use Rattle.std.proofs.Common.{suc, ◌≡◌, ℕ, ◌+◌, ◌-◌, ◌*◌, ◌<◌, ◌≤◌, ◌^◌, false, refl, ap, sym, subst, ◌∙◌, arith, List, [], ◌∷◌, ◌++◌, append_assoc, length, length-append, length-take-le, take, take_at, drop, slice_get, Option, Some, None, inl, inr}
 use Rattle.std.specs.Prelude.{if◌then◌else◌}
 use Rattle.std.proofs.lemmas.List.{append-nil, take-append-drop}
 use Rattle.std.proofs.Math.Nat.{mul-le-mul_left, mul_assoc}
@@ -315,10 +315,10 @@ module _ (g : Ground) (t : Tuple) (old : List (Option Ahead)) (at n position : �
 
   -- no run comes to the position
   pub followed-fails : (base before after : ℕ) (marks ms : List (Option Mark)) (new : List (Option Ahead)) → base ≡ length old → Fails g h to.state position base marks ms old new
-      → after ≤ before + 2 * height_at g h.id.index → Followed g t at marks ms old new before after None
+      → after ≤ before + 2 * height_at g h.id.index → Followed g t at marks ms old (take base new) before after None
   followed-fails base before after marks ms new e k cost =
-      let same : new ≡ old = k.ahead ∙ ap (λ i. take i old) e ∙ take-all old in
-      subst (λ x. Followed g t at marks x old new before after None) (sym k.kept) (subst (λ x. Followed g t at marks marks old x before after None) (sym same)
+      let same : take base new ≡ old = k.ahead ∙ ap (λ i. take i old) e ∙ take-all old in
+      subst (λ x. Followed g t at marks x old (take base new) before after None) (sym k.kept) (subst (λ x. Followed g t at marks marks old x before after None) (sym same)
       (followed-dead g t at from.state n (text_ahead g o.chain) o.leads position o.late (omega (arith, position-inside)) o.quiet (dies-on k.dies) marks old before after (omega (arith, cost, over-high))))
     where
       take-all : (xs : List (Option Ahead)) → take (length xs) xs ≡ xs
@@ -384,18 +384,23 @@ module _ (g : Ground) (t : Tuple) (old : List (Option Ahead)) (at n position : �
     }
 
     -- the walk goes on behind the mark
-    pub lays-can : IsDeterministic g.dfa.now → (q : ℕ) → n ≡ length marks → 0 < mark_of t position → step_of g.dfa.now m.state m.mark m.byte ≡ Some q
-        → CanFollow g t mid (position + 1) (record { state = q; next = m.next }) (length ms)
+    lays-can : IsDeterministic g.dfa.now → (q : ℕ) → n ≡ length marks → 0 < mark_of t position → step_of g.dfa.now m.state m.mark m.byte ≡ Some q
+        → CanFollow g t mid (position + 1) (record { state = q; next = m.next; quiet = false }) (length ms)
     lays-can auto q count some step =
         let next : m.at + 1 ≡ position + 1 = omega (arith, lays-reaches.position_is) in
         let number : n + 1 ≡ length ms = omega (arith, ap length k.kept, length-append marks (Some m ∷ [])) in
         let at-mark : mark_of t m.at ≡ m.mark = ap (mark_of t) lays-reaches.position_is ∙ sym lays-reaches.mark_is in
         record {
           chain = lays-chain;
-          stands = subst (λ x. Stands g mid x (record { state = q; next = m.next }) lays-chain) next (stands-mark g mid m lays-chain m.mark q auto lays-reaches.is_mark step);
+          stands = subst (λ x. Stands g mid x (record { state = q; next = m.next; quiet = false }) lays-chain) next (stands-mark g mid m lays-chain m.mark q auto lays-reaches.is_mark step);
           leads = subst (λ x. Leads g t x q (length ms) (text_ahead g lays-chain)) next (subst (λ x. Leads g t (m.at + 1) q x (text_ahead g lays-chain)) number
               (leads-letter g t m.at m.state n m.byte q (text_ahead g lays-chain) lays-leads (ap (λ x. step_of g.dfa.now m.state x m.byte) at-mark ∙ step) (rw lays-reaches.position_is some)));
         }
+
+    -- the mark is read from the list
+    pub lays-goes : IsDeterministic g.dfa.now → (q : ℕ) (last : Mark) → last ≡ m → n ≡ length marks → 0 < mark_of t position → step_of g.dfa.now last.state last.mark last.byte ≡ Some q
+        → CanFollow g t mid (position + 1) (record { state = q; next = last.next; quiet = false }) (length ms)
+    lays-goes auto q last e count some step = rw e (lays-can auto q count some (rw e at step))
 
     -- the run ends at the letter
     pub followed-stuck : (before after : ℕ) → n ≡ length marks → 0 < mark_of t position → step_of g.dfa.now m.state m.mark m.byte ≡ None → after ≤ before + 2 * height_at g h.id.index

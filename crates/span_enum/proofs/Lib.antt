@@ -7,6 +7,8 @@ mod Lowerings
 mod Runs
 mod Steps
 mod Betweens
+mod Quiets
+mod Forks
 mod Chains
 mod Keeps
 mod Turns

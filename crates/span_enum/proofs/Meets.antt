@@ -5,6 +5,7 @@ use Rattle.slp_model.specs.Nodes.{IsNodeAt}
 use Rattle.slp_model.specs.declared.NodeId.{NodeId}
 use Rattle.slp_model.specs.declared.Node.TheVariants.{Byte, Pair}
 use Rattle.marker_dfa.specs.Deterministic.{IsDeterministic, states_of}
+use Rattle.state_tables.specs.StateSet.{member}
 use Rattle.state_tables.specs.Table.{marked_of}
 use Rattle.state_tables.specs.Meaning.{plain}
 use Rattle.state_tables.specs.Dictionary.{IsLook}
@@ -14,11 +15,12 @@ use Rattle.span_enum.specs.Members.{Tuple}
 use Rattle.span_enum.specs.Words.{IsFirst, IsGreatestMark}
 use Rattle.span_enum.specs.Between.{AreBetween}
 use Rattle.span_enum.specs.OverLeft.{IsPlainLeft, IsMarkedLeft}
-use Rattle.span_enum.specs.Trail.{IsAhead, text_at, text_ahead, Join, AreGoals, StandsBefore, CanEnd, Meets, Descends}
+use Rattle.span_enum.specs.Trail.{IsAhead, text_at, text_ahead, Join, AreGoals, StandsBefore, CanEnd, mark_over, Meets, Descends}
 use Rattle.span_enum.specs.declared.ground.Ground.{Ground}
 use Rattle.span_enum.specs.declared.trail.Ahead.{Ahead}
 use Rattle.span_enum.specs.declared.trail.Mark.{Mark}
 use Rattle.span_enum.specs.declared.trail.Place.{Place}
+use Rattle.span_enum.specs.declared.sets.Between.{Between}
 use Rattle.span_enum.proofs.Paths.{Tells, run-append, then-join}
 use Rattle.span_enum.proofs.Firsts.{IsFirst-plain, IsFirst-byte, IsFirst-fork}
 use Rattle.span_enum.proofs.LastLetters.{fit-byte}
@@ -32,7 +34,7 @@ plain-append (b ∷ s) u = ap (λ w. (0, b) ∷ w) (plain-append s u)
 -- ---- a letter
 pub meets-byte : (g : Ground) (auto : IsDeterministic g.dfa.now) (hs : List (Option Ahead)) (h : Ahead) (q : ℕ) (c : List Ahead) (b m r base : ℕ) → b < 256 → IsNodeAt g.view.store.now h.id.index (Byte b)
     → 0 < m → IsGreatestMark g.dfa.now q b h.goals 65536 m r → StandsBefore g hs h q c
-    → Meets g hs h.at q (h ∷ c) (record { at = h.at; mark = m; byte = b; state = q; goals = h.goals; next = h.next; base = base }) (record { state = r; next = h.next })
+    → Meets g hs h.at q (h ∷ c) (mark_over h b q m base) (record { state = r; next = h.next; quiet = member h.quiet r })
 meets-byte g auto hs h q c b m r base byte node some best s =
     let one : text_at g h.id.index ≡ b ∷ [] = byte-text g.view.store.now h.id.index b node in
     let letter : AreBetween g.dfa.now q (b ∷ []) (text_ahead g c) g.finals h.goals = subst (λ x. AreBetween g.dfa.now q x (text_ahead g c) g.finals h.goals) one s.goals.1 in
@@ -54,6 +56,7 @@ meets-byte g auto hs h q c b m r base byte node some best s =
       step = best.step;
       next = refl;
       can = letter.onward r best.goal;
+      quiet = λ e. s.goals.3 r e;
       first = λ w e f.
           let alone : IsFirst g.dfa.now q (b ∷ []) h.goals ((m, b) ∷ []) r =
           IsFirst-byte g.dfa.now q b m h.goals r best.step best.goal (λ n k sn gn. best.most n k (fit-byte g.dfa.now auto q n b k byte sn).1 sn gn) in
@@ -99,6 +102,7 @@ module _ (g : Ground) (hs : List (Option Ahead)) (h : Ahead) (q : ℕ) (l r : No
           step = k.step;
           next = k.next;
           can = k.can;
+          quiet = k.quiet;
           first = λ w e f.
               let alone : IsFirst g.dfa.now q x p.between (plain x) q' = IsFirst-plain g.dfa.now x left.table.now q p.between q' il low (eq-eqb (bit_and (marked_of left.table.now q) p.between) 0 p.none) p.step p.goal in
               let all : IsFirst g.dfa.now q (x ++ u) g.finals (plain x ++ (plain k.front ++ (m.mark, m.byte) ∷ w)) e =
@@ -121,14 +125,14 @@ module _ (g : Ground) (hs : List (Option Ahead)) (h : Ahead) (q : ℕ) (l r : No
     }
 
   -- the first mark is in the left child
-  pub meets-left : (new : List (Option Ahead)) (c : List Ahead) (between : ℕ) (m : Mark) (to : Place) → StandsBefore g hs h q c → CanEnd g q (h ∷ c)
-      → IsMarkedLeft g.dfa.now q (text_at g l.index) (text_at g r.index) h.goals left.table.now between
+  pub meets-left : (new : List (Option Ahead)) (c : List Ahead) (between : Between) (m : Mark) (to : Place) → StandsBefore g hs h q c → CanEnd g q (h ∷ c)
+      → IsMarkedLeft g.dfa.now q (text_at g l.index) (text_at g r.index) h.goals h.quiet left.table.now between
       → (StandsBefore g (hs ++ Some (sibling h r left right) ∷ []) (child h l left between (length hs + 1)) q (sibling h r left right ∷ c)
       → CanEnd g q (child h l left between (length hs + 1) ∷ sibling h r left right ∷ c)
       → Meets g new h.at q (child h l left between (length hs + 1) ∷ sibling h r left right ∷ c) m to)
       → Meets g new h.at q (h ∷ c) m to
   meets-left new c between m to s can marked on =
-      let k = on (before-left g hs h q c l r left right pair look-l look-r is s between marked.are) (rw (whole c) at can) in
+      let k = on (before-left g hs h q c l r left right pair look-l look-r is s between marked.are marked.are_quiet) (rw (whole c) at can) in
       record {
         front = k.front;
         back = k.back;
@@ -140,11 +144,12 @@ module _ (g : Ground) (hs : List (Option Ahead)) (h : Ahead) (q : ℕ) (l r : No
         step = k.step;
         next = k.next;
         can = k.can;
+        quiet = k.quiet;
         first = λ w e f. rw (whole c) (k.first w e f);
       }
 
-  pub descends-left : (marks ms : List (Option Mark)) (new : List (Option Ahead)) (between base before mid after : ℕ) (out out' : Tuple) (to : Place) → mid ≡ before + 2
-      → IsMarkedLeft g.dfa.now q (text_at g l.index) (text_at g r.index) h.goals left.table.now between
+  pub descends-left : (marks ms : List (Option Mark)) (new : List (Option Ahead)) (between : Between) (base before mid after : ℕ) (out out' : Tuple) (to : Place) → mid ≡ before + 2
+      → IsMarkedLeft g.dfa.now q (text_at g l.index) (text_at g r.index) h.goals h.quiet left.table.now between
       → Descends g (child h l left between (length hs + 1)) q base marks ms (hs ++ Some (sibling h r left right) ∷ []) new mid after out out' to → Descends g h q base marks ms hs new before after out out' to
   descends-left marks ms new between base before mid after out out' to em marked d = record {
     mark = d.mark;

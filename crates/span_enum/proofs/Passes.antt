@@ -1,5 +1,5 @@
 -- The way over nodes ahead without marks.
-use Rattle.std.proofs.Common.{suc, ◌≡◌, ℕ, ◌+◌, ◌<◌, ◌≤◌, ◌^◌, true, refl, ap, sym, subst, ◌∙◌, arith, bit_and, List, [], ◌∷◌, ◌++◌, append_assoc, append-nil, length, length-append, slice_get, Option, Some}
+use Rattle.std.proofs.Common.{suc, ◌≡◌, ℕ, ◌+◌, ◌<◌, ◌≤◌, ◌^◌, true, false, refl, ap, sym, subst, ◌∙◌, arith, bit_and, List, [], ◌∷◌, ◌++◌, append_assoc, append-nil, length, length-append, slice_get, Option, Some}
 use Rattle.std.proofs.lemmas.Bool.{eq-eqb}
 use Rattle.std.proofs.lemmas.List.{map-append}
 use Rattle.span_types.specs.Words.{Marked, mark_count}
@@ -11,13 +11,13 @@ use Rattle.state_tables.specs.Meaning.{plain}
 use Rattle.span_enum.specs.Letters.{reached}
 use Rattle.span_enum.specs.Sets.{can_reach_of}
 use Rattle.span_enum.specs.Words.{CanRun, IsFirst}
-use Rattle.span_enum.specs.Trail.{AreAhead, text_at, text_ahead, Join, Stands, CanEnd, AtMost, Turns, PassesPlain}
+use Rattle.span_enum.specs.Trail.{IsGround, AreAhead, text_at, text_ahead, Join, Stands, CanEnd, AtMost, Turns, PassesPlain}
 use Rattle.span_enum.specs.declared.ground.Ground.{Ground}
 use Rattle.span_enum.specs.declared.trail.Ahead.{Ahead}
 use Rattle.span_enum.specs.declared.trail.Place.{Place}
 use Rattle.span_enum.proofs.Paths.{Tells, run-append, run-within, then-between, then-join, split-marked, bytes-plain}
 use Rattle.span_enum.proofs.Firsts.{IsFirst-plain, IsFirst-fork, table-from_run, shared-some, mark_count-append, has-count}
-use Rattle.span_enum.proofs.Steps.{goal-plain}
+use Rattle.span_enum.proofs.Steps.{goal-plain, look-table}
 use Rattle.span_enum.proofs.Chains.{text-append, goals-on}
 use Rattle.span_enum.proofs.Turns.{not-zero}
 use Rattle.span_enum.proofs.Meets.{plain-append}
@@ -47,20 +47,51 @@ can-head g hs at place h c is s can =
     table-from_run a (text_at g h.id.index) h.look.table.now place.state h.goals is s.state
     (record { word = x; state = mid.0; bytes = cut.1.1.1; ends = mid.1; goal = s.goals.1.reach mid.0 x cut.1.1.1 mid.1 (record { word = y; state = can.state; bytes = cut.1.1.2; ends = mid.2; goal = can.goal }) })
 
+-- the next node is the one that stands there in the list
+pub next-is : (hs : List (Option Ahead)) (place : ℕ) (c : List Ahead) (n : Ahead) → AreAhead hs place c → 0 < place → ((before : ℕ) → place ≡ suc before → slice_get hs before ≡ Some (Some n))
+    → (b : List Ahead) × (c ≡ n ∷ b)
+next-is hs place [] n h some at = absurd (omega (arith, h))
+next-is hs place (x ∷ c) n h some at = (c, ap (λ y. y ∷ c) (one x n (sym h.0.there ∙ at h.0.before h.0.counted)))
+  where
+    one : (x y : Ahead) → ◌≡◌ {A = Option (Option Ahead)} (Some (Some x)) (Some (Some y)) → x ≡ y
+    one x y e = cc
+
+-- the node that comes next, behind those that were passed
+pub record Next (g : Ground) (hs : List (Option Ahead)) (at : ℕ) (from place : Place) (c : List Ahead) (p : PassesPlain g hs at from place c) (h : Ahead) : Type 0 where
+  pub rest : List Ahead
+  pub back : p.back ≡ h ∷ rest
+  pub stands : Stands g hs (at + length (text_ahead g p.front)) place (h ∷ rest)
+  pub can : CanEnd g place.state (h ∷ rest)
+  pub tells : Tells g.dfa.now (text_at g h.id.index) h.look.table.now
+
+pub next : (g : Ground) → IsGround g → (hs : List (Option Ahead)) (at : ℕ) (from place : Place) (c : List Ahead) (p : PassesPlain g hs at from place c) (h : Ahead) → 0 < place.next
+    → ((before : ℕ) → place.next ≡ suc before → slice_get hs before ≡ Some (Some h)) → Next g hs at from place c p h
+next g is hs at from place c p h some found =
+    let head = next-is hs place.next p.back h p.stands.ahead some found in
+    let stands : Stands g hs (at + length (text_ahead g p.front)) place (h ∷ head.0) = rw head.1 at p.stands in
+    record {
+      rest = head.0;
+      back = head.1;
+      stands = stands;
+      can = rw head.1 at p.can;
+      tells = look-table g.dfa.now g.view.store.now g.view.tables.now is.ready.tables g.view.counted h.id.index _ _ _ stands.goals.0.live stands.goals.0.look;
+    }
+
 -- one node more is passed
-pub passes-on : (g : Ground) (auto : IsDeterministic g.dfa.now) (hs : List (Option Ahead)) (at : ℕ) (from place : Place) (c : List Ahead) (h : Ahead) (b : List Ahead) (q : ℕ)
-    → (p : PassesPlain g hs at from place c) → p.back ≡ h ∷ b → Tells g.dfa.now (text_at g h.id.index) h.look.table.now → bit_and (marked_of h.look.table.now place.state) h.goals ≡ 0
-    → unmarked_of h.look.table.now place.state ≡ Some q → PassesPlain g hs at from (record { state = q; next = h.next }) c
-passes-on g auto hs at from place c h b q p e is none step =
+pub passes-on : (g : Ground) (auto : IsDeterministic g.dfa.now) (hs : List (Option Ahead)) (at : ℕ) (from place : Place) (c : List Ahead) (p : PassesPlain g hs at from place c) (h : Ahead) (q : ℕ)
+    → Next g hs at from place c p h → bit_and (marked_of h.look.table.now place.state) h.goals ≡ 0
+    → unmarked_of h.look.table.now place.state ≡ Some q → PassesPlain g hs at from (record { state = q; next = h.next; quiet = false }) c
+passes-on g auto hs at from place c p h q n none step =
     let a = g.dfa.now in
     let x = text_at g h.id.index in
-    let stands : Stands g hs (at + length (text_ahead g p.front)) place (h ∷ b) = rw e at p.stands in
-    let can : CanEnd g place.state (h ∷ b) = rw e at p.can in
+    let b = n.rest in
+    let stands = n.stands in
+    let is = n.tells in
     let over : reached a place.state (plain x) ≡ Some q = sym (is.unmarked place.state stands.state) ∙ step in
-    let goal : member h.goals q ≡ true = goal-plain h.look.table.now place.state h.goals q (can-head g hs (at + length (text_ahead g p.front)) place h b is stands can) none step in
+    let goal : member h.goals q ≡ true = goal-plain h.look.table.now place.state h.goals q (can-head g hs (at + length (text_ahead g p.front)) place h b is stands n.can) none step in
     let texts : text_ahead g (p.front ++ h ∷ []) ≡ text_ahead g p.front ++ x = text-append g p.front (h ∷ []) ∙ ap (λ s. text_ahead g p.front ++ s) (append-nil x) in
     let len : at + length (text_ahead g p.front) + length x ≡ at + length (text_ahead g (p.front ++ h ∷ [])) = omega (arith, ap length texts, length-append (text_ahead g p.front) x) in
-    let whole : c ≡ (p.front ++ h ∷ []) ++ b = p.parts ∙ ap (λ k. p.front ++ k) e ∙ sym (append_assoc p.front (h ∷ []) b) in
+    let whole : c ≡ (p.front ++ h ∷ []) ++ b = p.parts ∙ ap (λ k. p.front ++ k) n.back ∙ sym (append_assoc p.front (h ∷ []) b) in
     record {
       front = p.front ++ h ∷ [];
       back = b;
@@ -70,6 +101,7 @@ passes-on g auto hs at from place c h b q p e is none step =
         join = subst (λ n. Join g n b) len stands.join.1;
         goals = goals-on g place.state q x [] b (plain x) (bytes-plain x) over (rw (append-nil x) stands.goals.2);
         state = run-within a auto place.state q (plain x) stands.state over;
+        quiet = λ e. cc;
       };
       can = stands.goals.1.onward q goal;
       step = ap (λ s. reached a from.state (plain s)) texts ∙ ap (reached a from.state) (plain-append (text_ahead g p.front) x) ∙ run-append a from.state (plain (text_ahead g p.front)) (plain x)
@@ -77,20 +109,11 @@ passes-on g auto hs at from place c h b q p e is none step =
       first = λ w r f.
           let alone : IsFirst a place.state x h.goals (plain x) q = IsFirst-plain a x h.look.table.now place.state h.goals q is stands.state (eq-eqb (bit_and (marked_of h.look.table.now place.state) h.goals) 0 none) step goal in
           let both : IsFirst a place.state (text_ahead g (h ∷ b)) g.finals (plain x ++ w) r = IsFirst-fork a x (text_ahead g b) place.state q r g.finals h.goals (plain x) w stands.goals.1.reach alone f in
-          let all : IsFirst a from.state (text_ahead g c) g.finals (plain (text_ahead g p.front) ++ (plain x ++ w)) r = p.first (plain x ++ w) r (rw e both) in
+          let all : IsFirst a from.state (text_ahead g c) g.finals (plain (text_ahead g p.front) ++ (plain x ++ w)) r = p.first (plain x ++ w) r (rw n.back both) in
           let words : plain (text_ahead g (p.front ++ h ∷ [])) ++ w ≡ plain (text_ahead g p.front) ++ (plain x ++ w) =
           ap (λ s. plain s ++ w) texts ∙ ap (λ v. v ++ w) (plain-append (text_ahead g p.front) x) ∙ append_assoc (plain (text_ahead g p.front)) (plain x) w in
           rw words all;
     }
-
--- the next node is the one that stands there in the list
-pub next-is : (hs : List (Option Ahead)) (place : ℕ) (c : List Ahead) (n : Ahead) → AreAhead hs place c → 0 < place → ((before : ℕ) → place ≡ suc before → slice_get hs before ≡ Some (Some n))
-    → (b : List Ahead) × (c ≡ n ∷ b)
-next-is hs place [] n h some at = absurd (omega (arith, h))
-next-is hs place (x ∷ c) n h some at = (c, ap (λ y. y ∷ c) (one x n (sym h.0.there ∙ at h.0.before h.0.counted)))
-  where
-    one : (x y : Ahead) → ◌≡◌ {A = Option (Option Ahead)} (Some (Some x)) (Some (Some y)) → x ≡ y
-    one x y e = cc
 
 -- and is there
 pub next-there : (hs : List (Option Ahead)) (place : ℕ) (c : List Ahead) → AreAhead hs place c → 0 < place
@@ -110,18 +133,19 @@ turns-end hs place q [] h zero' = tt
 turns-end hs place q (x ∷ c) h zero' = absurd (omega (arith, h.0.counted))
 
 -- where the walk turns, some accepted text has a mark
-pub some-mark : (g : Ground) (hs : List (Option Ahead)) (at : ℕ) (from place : Place) (c : List Ahead) (h : Ahead) (b : List Ahead) (most : ℕ) → (p : PassesPlain g hs at from place c) → p.back ≡ h ∷ b
-    → Tells g.dfa.now (text_at g h.id.index) h.look.table.now → marked_of h.look.table.now place.state < 2 ^ 128 → (bit_and (marked_of h.look.table.now place.state) h.goals ≡ 0 → ⊥)
-    → AtMost g from.state c most → 1 ≤ most
-some-mark g hs at from place c h b most p e is small some few =
+pub some-mark : (g : Ground) (hs : List (Option Ahead)) (at : ℕ) (from place : Place) (c : List Ahead) (p : PassesPlain g hs at from place c) (h : Ahead) (most : ℕ)
+    → Next g hs at from place c p h → Turns place.state p.back → AtMost g from.state c most → 1 ≤ most
+some-mark g hs at from place c p h most n turns few =
+    let b = n.rest in
+    let stands = n.stands in
+    let here : Turns place.state (h ∷ b) = rw n.back at turns in
     let a = g.dfa.now in
     let x = text_ahead g p.front in
-    let stands : Stands g hs (at + length x) place (h ∷ b) = rw e at p.stands in
-    let found = shared-some (marked_of h.look.table.now place.state) h.goals small (not-zero (bit_and (marked_of h.look.table.now place.state) h.goals) some) in
-    let run = (is.marked place.state found.0 stands.state).0 found.1 in
+    let found = shared-some (marked_of h.look.table.now place.state) h.goals here.0 (not-zero (bit_and (marked_of h.look.table.now place.state) h.goals) here.1) in
+    let run = (n.tells.marked place.state found.0 stands.state).0 found.1 in
     let on : CanRun a found.0 (text_ahead g b) g.finals = stands.goals.1.onward found.0 found.2 in
     let w : Marked = plain x ++ (run.word ++ on.word) in
-    let texts : text_ahead g c ≡ x ++ (text_at g h.id.index ++ text_ahead g b) = ap (text_ahead g) p.parts ∙ text-append g p.front p.back ∙ ap (λ d. x ++ text_ahead g d) e in
+    let texts : text_ahead g c ≡ x ++ (text_at g h.id.index ++ text_ahead g b) = ap (text_ahead g) p.parts ∙ text-append g p.front p.back ∙ ap (λ d. x ++ text_ahead g d) n.back in
     let bytes : bytes_of w ≡ text_ahead g c = map-append (λ z. z.1) (plain x) (run.word ++ on.word) ∙ ap (λ y. bytes_of (plain x) ++ y) (map-append (λ z. z.1) run.word on.word) ∙ rw (bytes-plain x, run.bytes, on.bytes) (sym texts) in
     let ends : reached a from.state w ≡ Some on.state =
     run-append a from.state (plain x) (run.word ++ on.word) ∙ then-join (λ n. reached a n (run.word ++ on.word)) (reached a from.state (plain x)) place.state p.step

@@ -6,13 +6,14 @@ use Rattle.formula_law.specs.Law.{bytes_of}
 use Rattle.slp_model.specs.declared.Node.{Node}
 use Rattle.slp_model.specs.declared.NodeId.{NodeId}
 use Rattle.slp_model.specs.Nodes.{IsLive}
-use Rattle.marker_dfa.specs.Deterministic.{DeterministicAutomaton}
+use Rattle.marker_dfa.specs.Deterministic.{DeterministicAutomaton, ends_of}
 use Rattle.state_tables.specs.StateSet.{member}
 use Rattle.state_tables.specs.Dictionary.{Dictionary, AreTables, IsLook, count_of}
 use Rattle.state_tables.specs.declared.view.Look.{Look}
 use Rattle.span_enum.specs.Letters.{reached}
 use Rattle.span_enum.specs.Listing.{text_of}
 use Rattle.span_enum.specs.Between.{AreBetween}
+use Rattle.span_enum.specs.Quiet.{AreQuiet}
 use Rattle.span_enum.specs.Words.{CanRun}
 use Rattle.span_enum.specs.Trail.{IsGround, IsFresh, IsAhead, AreAhead, AreGoals, whole_text, text_at, text_ahead}
 use Rattle.span_enum.specs.declared.ground.Ground.{Ground}
@@ -21,6 +22,7 @@ use Rattle.span_enum.specs.declared.trail.Mark.{Mark}
 use Rattle.span_enum.proofs.Paths.{AreBytes, Tells}
 use Rattle.span_enum.proofs.Steps.{look-table}
 use Rattle.span_enum.proofs.Given.{IsText}
+use Rattle.span_enum.proofs.LastLetters.{final-from, end-facts}
 
 append-nothing : (s : List ℕ) → s ++ [] ≡ s
 append-nothing [] = refl
@@ -40,6 +42,16 @@ goal-from_nothing a p goals run = by run.word run.state run.bytes run.ends run.g
 between-end : (a : DeterministicAutomaton) (p : ℕ) (s : List ℕ) (goals : ℕ) → AreBetween a p s [] goals goals
 between-end a p s goals = record { reach = λ n x e t run. goal-from_nothing a n goals run; onward = λ n h. run-nothing a n goals h }
 
+-- nothing is left behind the quiet final states
+quiet-end : (g : Ground) → IsGround g → AreQuiet g.dfa.now g.quiet [] g.finals
+quiet-end g is q h =
+    let k = is.quiet q h in
+    record { last = q; ends = refl; goal = is.all q k.0 ∙ final-from (ends_of g.dfa.now q) 0 (end-facts g.dfa.now q 0 0 k.1.step).1; sole = λ w r bytes ends goal. empty w bytes; unmarked = k.1 }
+  where
+    empty : (w : Marked) → bytes_of w ≡ [] → w ≡ []
+    empty [] e = refl
+    empty (x ∷ w) e = cc
+
 -- ---- the text of a root
 root-bytes : (a : DeterministicAutomaton) (nodes : List Node) (d : Dictionary) (root : Option NodeId) → AreTables a nodes d → count_of d ≡ length nodes → IsLive nodes root → AreBytes (text_of nodes root)
 root-bytes a nodes d None all counted live = λ k o lt. absurd (omega arith)
@@ -53,15 +65,15 @@ pub fresh-none : (g : Ground) → IsGround g → g.root ≡ None → (ms : List 
 fresh-none g is e ms hs unmarked empty = record {
   no_marks = unmarked;
   chain = [];
-  stands = record { ahead = ap length empty; join = tt; goals = tt; state = is.automaton.has_start };
+  stands = record { ahead = ap length empty; join = tt; goals = tt; state = is.automaton.has_start; quiet = λ e. cc };
   text_is = ap (λ r. text_of g.view.store.now r) (sym e);
   one = omega (arith, ap length empty);
 }
 
 pub fresh-root : (g : Ground) (id : NodeId) (look : Look) → IsGround g → g.root ≡ Some id → IsLook g.view.store.now g.view.tables.now id.index look.node look.len look.table.now
-    → (ms : List (Option Mark)) (hs : List (Option Ahead)) → ms ≡ [] → hs ≡ Some (record { id = id; look = look; at = 1; goals = g.finals; next = 0 }) ∷ [] → IsFresh g ms hs
+    → (ms : List (Option Mark)) (hs : List (Option Ahead)) → ms ≡ [] → hs ≡ Some (record { id = id; look = look; at = 1; goals = g.finals; quiet = g.quiet; next = 0 }) ∷ [] → IsFresh g ms hs
 fresh-root g id look is e l ms hs unmarked one =
-    let root : Ahead = record { id = id; look = look; at = 1; goals = g.finals; next = 0 } in
+    let root : Ahead = record { id = id; look = look; at = 1; goals = g.finals; quiet = g.quiet; next = 0 } in
     let live : id.index < length g.view.store.now = subst (λ r. IsLive g.view.store.now r) e is.ready.live in
     let there : IsAhead g root = record { live = live; look = l; positive = omega arith; low = omega (arith, l.len_is, l.short) } in
     let len : length hs ≡ 1 = ap length one in
@@ -71,8 +83,9 @@ fresh-root g id look is e l ms hs unmarked one =
       stands = record {
         ahead = (record { before = 0; counted = len; there = ap (λ k. slice_get k 0) one; earlier = omega arith }, refl);
         join = (refl, tt);
-        goals = (there, between-end g.dfa.now 0 (text_at g id.index) g.finals, tt);
+        goals = (there, between-end g.dfa.now 0 (text_at g id.index) g.finals, tt, quiet-end g is);
         state = is.automaton.has_start;
+        quiet = λ e. cc;
       };
       text_is = append-nothing (text_at g id.index) ∙ ap (λ r. text_of g.view.store.now r) (sym e);
       one = omega (arith, len);

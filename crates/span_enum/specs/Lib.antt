@@ -8,7 +8,9 @@ pub mod Tuples
 pub mod Words
 pub mod Next
 pub mod Between
+pub mod Quiet
 pub mod Lowering
 pub mod Ends
 pub mod OverLeft
 pub mod Trail
+pub mod Answering

@@ -1,5 +1,5 @@
 -- What is kept of the last answer: its marks, and the nodes ahead of each.
-use Rattle.std.specs.Prelude.{suc, ◌≡◌, ℕ, ◌+◌, ◌-◌, ◌*◌, ◌^◌, ◌<◌, ◌≤◌, true, List, [], ◌∷◌, ◌++◌, length, take, slice_get, bit_and, Option, Some, None}
+use Rattle.std.specs.Prelude.{suc, ◌≡◌, ℕ, ◌+◌, ◌-◌, ◌*◌, ◌^◌, ◌<◌, ◌≤◌, Bool, true, false, List, [], ◌∷◌, ◌++◌, length, take, slice_get, bit_and, Option, Some, None}
 use Rattle.span_types.specs.Marks.{mark_of}
 use Rattle.span_types.specs.Words.{Marked, mark_count}
 use Rattle.span_types.specs.Writes.{write_mark}
@@ -16,10 +16,11 @@ use Rattle.span_enum.specs.Members.{Tuple}
 use Rattle.span_enum.specs.Letters.{step_of, reached}
 use Rattle.span_enum.specs.Listing.{text_of, IsReady}
 use Rattle.span_enum.specs.Ends.{AreFinals}
-use Rattle.span_enum.specs.Tuples.{word_over, write_word}
+use Rattle.span_enum.specs.Tuples.{word_over, write_word, end_mark}
 use Rattle.span_enum.specs.Between.{AreBetween}
+use Rattle.span_enum.specs.Quiet.{AreQuietFinals, IsQuiet, AreQuiet, EndsIn}
 use Rattle.span_enum.specs.Next.{NoneAfter}
-use Rattle.span_enum.specs.Words.{CanRun, IsFirst, IsGreatestMark}
+use Rattle.span_enum.specs.Words.{CanRun, IsFirst, IsGreatestMark, IsNoMark}
 use Rattle.span_enum.specs.declared.ground.Ground.{Ground}
 use Rattle.span_enum.specs.declared.trail.Ahead.{Ahead}
 use Rattle.span_enum.specs.declared.trail.Mark.{Mark}
@@ -28,11 +29,12 @@ use Rattle.span_enum.specs.declared.trail.Turn.{Turn}
 use Rattle.span_enum.specs.declared.walk.Lowered.{Lowered}
 use Rattle.span_enum.specs.declared.answers.Found.{Found}
 
--- the tables are those of the automaton, the root is there, and the final states are known
+-- the tables are those of the automaton, the root is there, the final states are known, and the quiet ones among them
 pub record IsGround (g : Ground) : Type 0 where
   pub ready : IsReady g.dfa.now g.view.store.now g.view.tables.now g.root
   pub automaton : IsDeterministic g.dfa.now
   pub all : AreFinals g.dfa.now g.finals
+  pub quiet : AreQuietFinals g.dfa.now g.quiet
 
 -- the whole text
 abbrev pub whole_text : Ground → List ℕ
@@ -78,10 +80,15 @@ abbrev pub Join : Ground → ℕ → List Ahead → Type 0
 Join g at [] = Unit {0}
 Join g at (h ∷ c) = (h.at ≡ at) × Join g (at + length (text_at g h.id.index)) c
 
--- of the states reached from p over s and then over the nodes up to one, its goals are those from which the rest is accepted
+-- of the states reached from p over s and then over the nodes up to one, its goals are those from which the rest is accepted. Its quiet states are such that the rest has no marks
 abbrev pub AreGoals : Ground → ℕ → List ℕ → List Ahead → Type 0
 AreGoals g p s [] = Unit {0}
 AreGoals g p s (h ∷ c) = IsAhead g h × AreBetween g.dfa.now p (s ++ text_at g h.id.index) (text_ahead g c) g.finals h.goals × AreGoals g p (s ++ text_at g h.id.index) c
+    × AreQuiet g.dfa.now h.quiet (text_ahead g c) g.finals
+
+-- where the place is told to be quiet, the rest has no marks
+abbrev pub IsQuietPlace : Ground → Place → List Ahead → Type 0
+IsQuietPlace g place c = place.quiet ≡ true → IsQuiet g.dfa.now place.state (text_ahead g c) g.finals
 
 -- at this position the walk stands in a state, and these are the nodes ahead
 pub record Stands (g : Ground) (hs : List (Option Ahead)) (at : ℕ) (place : Place) (c : List Ahead) : Type 0 where
@@ -89,6 +96,7 @@ pub record Stands (g : Ground) (hs : List (Option Ahead)) (at : ℕ) (place : Pl
   pub join : Join g at c
   pub goals : AreGoals g place.state [] c
   pub state : place.state < states_of g.dfa.now
+  pub quiet : IsQuietPlace g place c
 
 -- from there the rest is accepted with some marks
 abbrev pub CanEnd : Ground → ℕ → List Ahead → Type 0
@@ -156,6 +164,7 @@ pub record Meets (g : Ground) (hs : List (Option Ahead)) (at q : ℕ) (c : List 
   pub step : step_of g.dfa.now m.state m.mark m.byte ≡ Some to.state
   pub next : to.next ≡ m.next
   pub can : CanEnd g to.state back
+  pub quiet : IsQuietPlace g to back
   pub first : (w : Marked) (r : ℕ) → IsFirst g.dfa.now to.state (text_ahead g back) g.finals w r
       → IsFirst g.dfa.now q (text_ahead g c) g.finals (plain front ++ (m.mark, m.byte) ∷ w) r
 
@@ -178,6 +187,15 @@ pub record CanGoDown (g : Ground) (h : Ahead) (q base : ℕ) (marks : List (Opti
   pub low : base ≤ length hs
   pub fits : Fits g base hs
   pub deep : height_at g h.id.index + (length hs - base) ≤ 68
+
+-- the position lies in the node
+pub record IsOver (g : Ground) (h : Ahead) (position : ℕ) : Type 0 where
+  pub from : h.at ≤ position
+  pub before : position < h.at + length (text_at g h.id.index)
+
+-- a mark at the letter of a node, from this state
+abbrev pub mark_over : Ahead → ℕ → ℕ → ℕ → ℕ → Mark
+mark_over h byte state mark base = record { at = h.at; mark = mark; byte = byte; state = state; goals = h.goals; next = h.next; base = base }
 
 -- the way down to the first mark was laid: the mark is kept, and the nodes ahead of it
 pub record Descends (g : Ground) (h : Ahead) (q base : ℕ) (marks more : List (Option Mark)) (old new : List (Option Ahead)) (before after : ℕ) (out out' : Tuple) (to : Place) : Type 0 where
@@ -230,9 +248,11 @@ last_at at (None ∷ ms) = last_at at ms
 last_at at (Some m ∷ ms) = last_at m.at ms
 
 -- the first marked text from the place on was found and written, and its marks are kept for each tuple that has them there
-pub record Finds (g : Ground) (at : ℕ) (from : Place) (c : List Ahead) (n base : ℕ) (more : List (Option Mark)) (hs : List (Option Ahead)) (before after r : ℕ) (old new : Tuple) : Type 0 where
+pub record Finds (g : Ground) (at : ℕ) (from : Place) (c : List Ahead) (n base : ℕ) (more : List (Option Mark)) (hs : List (Option Ahead)) (before after : ℕ) (r : Option ℕ) (old new : Tuple) : Type 0 where
   pub word : Marked
-  pub first : IsFirst g.dfa.now from.state (text_ahead g c) g.finals word r
+  pub state : ℕ
+  pub ends : EndsIn g.dfa.now r state
+  pub first : IsFirst g.dfa.now from.state (text_ahead g c) g.finals word state
   pub cost : (len : ℕ) → length (text_ahead g c) ≤ len → after ≤ before + 2 * (height_limit len * mark_count word)
   pub written : new ≡ write_word at word old
   pub kept : (t : Tuple) → Leads g t at from.state n (text_ahead g c) → word_over t at (text_ahead g c) ≡ word → AreKept g t hs at n base more
@@ -240,7 +260,7 @@ pub record Finds (g : Ground) (at : ℕ) (from : Place) (c : List Ahead) (n base
   pub quiet : (t : Tuple) → word_over t at (text_ahead g c) ≡ word → (p : ℕ) → last_at (at - 1) more < p → p < at + length (text_ahead g c) → mark_of t p ≡ 0
 
 -- the rest was completed: the nodes up to the base stay, and marks are added
-pub record Completes (g : Ground) (from : Place) (base : ℕ) (marks ms : List (Option Mark)) (old new : List (Option Ahead)) (before after r : ℕ) (out out' : Tuple) : Type 0 where
+pub record Completes (g : Ground) (from : Place) (base : ℕ) (marks ms : List (Option Mark)) (old new : List (Option Ahead)) (before after : ℕ) (r : Option ℕ) (out out' : Tuple) : Type 0 where
   pub more : List (Option Mark)
   pub marks_are : ms ≡ marks ++ more
   pub same : take base new ≡ take base old
@@ -256,7 +276,7 @@ NoneBehind g t k = (front back : List ℕ) (q : ℕ) → whole_text g ≡ front 
 pub record IsFresh (g : Ground) (ms : List (Option Mark)) (hs : List (Option Ahead)) : Type 0 where
   pub no_marks : ms ≡ []
   pub chain : List Ahead
-  pub stands : Stands g hs 1 (record { state = 0; next = length hs }) chain
+  pub stands : Stands g hs 1 (record { state = 0; next = length hs; quiet = false }) chain
   pub text_is : text_ahead g chain ≡ whole_text g
   pub one : length hs ≤ 1
 
@@ -271,10 +291,15 @@ abbrev pub IsTrail : Ground → Option Tuple → List (Option Mark) → List (Op
 IsTrail g None ms hs = IsFresh g ms hs
 IsTrail g (Some t) ms hs = IsTrailOf g t ms hs
 
--- the state after the tuple's marks over the text, if there is one
+-- the state after the tuple's marks over the text is known, or else no run follows them there or the tuple has no mark at the end
 abbrev pub IsStateAt : Ground → Option Tuple → Option ℕ → Type 0
-IsStateAt g None q = Unit {0}
-IsStateAt g (Some t) q = q ≡ reached g.dfa.now 0 (word_over t 1 (whole_text g))
+IsStateAt g None o = Unit {0}
+IsStateAt g (Some t) None = (q : ℕ) → reached g.dfa.now 0 (word_over t 1 (whole_text g)) ≡ Some q → end_mark t (length (whole_text g) + 1) ≡ 0
+IsStateAt g (Some t) (Some q) = reached g.dfa.now 0 (word_over t 1 (whole_text g)) ≡ Some q
+
+-- after the tuple's marks over the text, no lower mark is accepted at its end
+abbrev pub NoEndAfter : Ground → Tuple → ℕ → Type 0
+NoEndAfter g t end = (q : ℕ) → reached g.dfa.now 0 (word_over t 1 (whole_text g)) ≡ Some q → (m : ℕ) → IsNoMark g.dfa.now q 256 1 (end_mark t end) m
 
 -- room for the marks of a tuple of so many variables, and for the nodes ahead of them
 pub record HasRoom (variables marks ahead : ℕ) : Type 0 where
@@ -323,11 +348,16 @@ pub record Lays (g : Ground) (t : Tuple) (h : Ahead) (q position base : ℕ) (ma
   pub fits : Fits g base new
   pub reaches : (c : List Ahead) → StandsBefore g old h q c → Reaches g t new h q position c mark
 
--- no run came to the position, and what was kept on the way is forgotten
+-- no run came to the position: no mark is kept, and the nodes up to the base are as before
 pub record Fails (g : Ground) (h : Ahead) (q position base : ℕ) (marks more : List (Option Mark)) (old new : List (Option Ahead)) : Type 0 where
   pub dies : Dies g q h.at (text_at g h.id.index) position
   pub kept : more ≡ marks
-  pub ahead : new ≡ take base old
+  pub ahead : take base new ≡ take base old
+
+-- one of both
+abbrev pub Laid : Ground → Tuple → Ahead → ℕ → ℕ → ℕ → List (Option Mark) → List (Option Mark) → List (Option Ahead) → List (Option Ahead) → Bool → Type 0
+Laid g t h q position base marks more old new true = Lays g t h q position base marks more old new
+Laid g t h q position base marks more old new false = Fails g h q position base marks more old new
 
 -- the tuple's marks were kept from the position on, as far as a run follows them
 pub record Followed (g : Ground) (t : Tuple) (at : ℕ) (marks ms : List (Option Mark)) (old new : List (Option Ahead)) (before after : ℕ) (end : Option ℕ) : Type 0 where
@@ -361,7 +391,7 @@ pub record IsTurned (g : Ground) (t : Tuple) (l : Lowered) (turn : Turn) (ms : L
   pub base : ℕ
   pub one : base ≤ 1
   pub chain : List Ahead
-  pub stands : Stands g hs (l.at + 1) (record { state = l.state; next = turn.next }) chain
+  pub stands : Stands g hs (l.at + 1) (record { state = l.state; next = turn.next; quiet = false }) chain
   pub can : CanEnd g l.state chain
   pub fits : Fits g turn.base hs
   pub low : turn.base ≤ length hs
@@ -382,5 +412,5 @@ pub record Finishes (g : Ground) (from : Place) (base : ℕ) (marks ms : List (O
   pub written : Tuple
   pub mark : ℕ
   pub completes : Completes g from base marks ms old new before after found.state out written
-  pub greatest : IsGreatestMark g.dfa.now found.state 256 1 65536 mark 0
+  pub greatest : (q : ℕ) → EndsIn g.dfa.now found.state q → IsGreatestMark g.dfa.now q 256 1 65536 mark 0
   pub tuple_is : found.tuple ≡ write_mark mark end written

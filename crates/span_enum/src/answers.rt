@@ -1,11 +1,14 @@
 //! The answers of an automaton on a text.
-ghost use Rattle.std.specs.Prelude.{◌≡◌, ℕ, ◌+◌, ◌-◌, ◌*◌, ◌^◌, ◌<◌, ◌≤◌, [], None, Some, length, IsTrue, ◌↔◌, MatchOption, IfSome, IfOk};
+ghost use Rattle.std.specs.Prelude.{◌≡◌, ℕ, ◌+◌, ◌-◌, ◌*◌, ◌^◌, ◌<◌, ◌≤◌, [], None, Some, length, true, IsTrue, ◌↔◌, MatchOption, IfSome, IfOk};
 ghost use Rattle.span_types.specs.Fibonacci.{looks_limit};
+ghost use Rattle.span_types.specs.Writes.{write_mark};
+ghost use Rattle.marker_dfa.specs.Deterministic.{states_of};
 ghost use Rattle.span_enum.specs.Listing.{text_of, IsReady, IsCursor};
 ghost use Rattle.span_enum.specs.Members.{IsMember, IsFirstMember, NoMemberLeft, HasMember};
-ghost use Rattle.span_enum.specs.Trail.{IsGround, whole_text, Agree, CanFinish, Finishes, Fits, HasRoom, IsFresh, IsStateAt, IsTrailOf};
-ghost use Rattle.span_enum.specs.Tuples.{end_mark};
-ghost use Rattle.span_enum.specs.Words.{CanRun, IsNoMark};
+ghost use Rattle.span_enum.specs.Sets.{is_final};
+ghost use Rattle.span_enum.specs.Trail.{IsGround, whole_text, Agree, CanFinish, Finishes, Fits, HasRoom, IsFresh, IsStateAt, IsTrailOf, NoEndAfter};
+ghost use Rattle.span_enum.specs.Answering.{IsFoundAfter, IsNoneAfter};
+ghost use Rattle.span_enum.specs.Words.{CanRun, IsGreatestMark};
 
 use crate::ends::{accepts_end, end_limit, greatest_end};
 use crate::follow::follow;
@@ -106,6 +109,7 @@ impl<'a> Answers<'a> {
         let first = Place {
             state: 0,
             next: trail.ahead.len(),
+            quiet: false,
         };
         let state = follow(&ground, &mut trail, first, after, 1, end, looks);
         Ok(Answers {
@@ -147,7 +151,7 @@ impl<'a> Answers<'a> {
         match found {
             Some(found) => {
                 self.last = Some(found.tuple);
-                self.state = Some(found.state);
+                self.state = found.state;
                 Some(found.tuple)
             }
             None => None,
@@ -155,11 +159,11 @@ impl<'a> Answers<'a> {
     }
 }
 
-/// An answer, and the state after its marks over the text.
+/// An answer, and the state after its marks over the text. That may be unknown where the answer has no mark at the end.
 #[derive(Clone, Copy)]
 pub(crate) struct Found {
     pub(crate) tuple: Tuple,
-    pub(crate) state: u8,
+    pub(crate) state: Option<u8>,
 }
 
 /// Puts the root ahead of the first letter, and gives the position behind the text.
@@ -184,10 +188,26 @@ fn put_root<'a, L: Ledger>(ground: &Ground<'a>, trail: &mut Trail<'a>, looks: &m
                 look,
                 at: 1,
                 goals: ground.finals,
+                quiet: ground.quiet,
                 next: 0,
             }));
             look.len + 1
         }
+    }
+}
+
+/// The tuple with the greatest mark with which the text may end in the state.
+fn with_end(dfa: &Dfa, q: u8, tuple: Tuple, end: u64) -> Tuple
+    requires state { q < states_of dfa.now }
+    requires ends { is_final dfa.now q ≡ true }
+    requires positive { 1 ≤ end }
+    requires short { end ≤ 281474976710657 }
+    ensures { (mark : ℕ) × (result ≡ write_mark mark end tuple) × IsGreatestMark dfa.now q 256 1 65536 mark 0 }
+{
+    let _states = dfa.states();
+    match greatest_end(dfa, q, 65536) {
+        Some(mark) => tuple.with_mark(mark, end),
+        None => unreachable!(),
     }
 }
 
@@ -215,12 +235,12 @@ fn finish<'a, L: Ledger>(
 {
     let mut out = marks;
     let state = complete(ground, trail, from, base, &mut out, looks);
-    match greatest_end(ground.dfa, state, 65536) {
-        Some(mark) => Found {
-            tuple: out.with_mark(mark, end),
+    match state {
+        Some(q) => Found {
+            tuple: with_end(ground.dfa, q, out, end),
             state,
         },
-        None => unreachable!(),
+        None => Found { tuple: out, state },
     }
 }
 
@@ -248,11 +268,8 @@ fn first_answer<'a, L: Ledger>(
     requires end { end ≡ length (whole_text ground.now) + 1 }
     requires fresh { IsFresh ground.now trail.old.marks.items trail.old.ahead.items }
     requires room { HasRoom ground.now.dfa.now.variables trail.old.marks.capacity trail.old.ahead.capacity }
-    ensures answer { MatchOption result (NoMemberLeft ground.now.dfa.now (whole_text ground.now) None)
-        (λ f. IsFirstMember ground.now.dfa.now (whole_text ground.now) None f.tuple) }
-    ensures trail { MatchOption result (IsFresh ground.now trail.new.marks.items trail.new.ahead.items)
-        (λ f. IsTrailOf ground.now f.tuple trail.new.marks.items trail.new.ahead.items) }
-    ensures state { IfSome result (λ f. IsStateAt ground.now (Some f.tuple) (Some f.state)) }
+    ensures found { MatchOption result (IsNoneAfter ground.now None trail.new.marks.items trail.new.ahead.items)
+        (IsFoundAfter ground.now None trail.new.marks.items trail.new.ahead.items) }
     ensures cost { looks.new ≤ looks.old + looks_limit ground.now.dfa.now.variables (length (whole_text ground.now)) }
     ensures marks_room { trail.new.marks.capacity ≡ trail.old.marks.capacity }
     ensures ahead_room { trail.new.ahead.capacity ≡ trail.old.ahead.capacity }
@@ -264,6 +281,7 @@ fn first_answer<'a, L: Ledger>(
     let first = Place {
         state: 0,
         next: count,
+        quiet: false,
     };
     let none = Tuple::none(ground.dfa.variables());
     Some(finish(ground, end, trail, first, count, none, looks))
@@ -285,11 +303,8 @@ fn answer_after<'a, L: Ledger>(
     requires state { IsStateAt ground.now (Some t.now) state }
     requires trail { IsTrailOf ground.now t.now trail.old.marks.items trail.old.ahead.items }
     requires room { HasRoom ground.now.dfa.now.variables trail.old.marks.capacity trail.old.ahead.capacity }
-    ensures answer { MatchOption result (NoMemberLeft ground.now.dfa.now (whole_text ground.now) (Some t.now))
-        (λ f. IsFirstMember ground.now.dfa.now (whole_text ground.now) (Some t.now) f.tuple) }
-    ensures trail { MatchOption result (IsTrailOf ground.now t.now trail.new.marks.items trail.new.ahead.items)
-        (λ f. IsTrailOf ground.now f.tuple trail.new.marks.items trail.new.ahead.items) }
-    ensures state { IfSome result (λ f. IsStateAt ground.now (Some f.tuple) (Some f.state)) }
+    ensures found { MatchOption result (IsNoneAfter ground.now (Some t.now) trail.new.marks.items trail.new.ahead.items)
+        (IsFoundAfter ground.now (Some t.now) trail.new.marks.items trail.new.ahead.items) }
     ensures cost { looks.new ≤ looks.old + looks_limit ground.now.dfa.now.variables (length (whole_text ground.now)) }
     ensures marks_room { trail.new.marks.capacity ≡ trail.old.marks.capacity }
     ensures ahead_room { trail.new.ahead.capacity ≡ trail.old.ahead.capacity }
@@ -298,18 +313,15 @@ fn answer_after<'a, L: Ledger>(
     if let Some(found) = lowered_at_end(ground, end, state, t) {
         return Some(found);
     }
-    match lower_last(ground, trail, t) {
-        None => None,
-        Some(lowered) => {
-            let turn = lower_to(ground, trail, t, &lowered);
-            let from = Place {
-                state: lowered.state,
-                next: turn.next,
-            };
-            let marks = t.cut_at(lowered.at).with_mark(lowered.mark, lowered.at);
-            Some(finish(ground, end, trail, from, turn.base, marks, looks))
-        }
-    }
+    let lowered = lower_last(ground, trail, t)?;
+    let turn = lower_to(ground, trail, t, &lowered);
+    let from = Place {
+        state: lowered.state,
+        next: turn.next,
+        quiet: false,
+    };
+    let marks = t.cut_at(lowered.at).with_mark(lowered.mark, lowered.at);
+    Some(finish(ground, end, trail, from, turn.base, marks, looks))
 }
 
 /// The first answer after the tuple, if only its mark at the end is lower.
@@ -319,17 +331,17 @@ fn lowered_at_end(ground: &Ground<'_>, end: u64, state: Option<u8>, t: &Tuple) -
     requires low { end ≤ 281474976710657 }
     requires tuple { length t.now ≡ ground.now.dfa.now.variables }
     requires state { IsStateAt ground.now (Some t.now) state }
-    ensures none { MatchOption result ((q : ℕ) → state ≡ Some q → (m : ℕ) → IsNoMark ground.now.dfa.now q 256 1 (end_mark t.now end) m)
+    ensures none { MatchOption result (NoEndAfter ground.now t.now end)
         (λ f. IsFirstMember ground.now.dfa.now (whole_text ground.now) (Some t.now) f.tuple) }
     ensures agree { IfSome result (λ f. Agree t.now f.tuple end) }
-    ensures state { IfSome result (λ f. state ≡ Some f.state) }
+    ensures state { IfSome result (λ f. IsStateAt ground.now (Some f.tuple) f.state) }
 {
     let _count = t.count();
     let q = state?;
     let mark = greatest_end(ground.dfa, q, end_limit(t, end))?;
     Some(Found {
         tuple: t.cut_at(end).with_mark(mark, end),
-        state: q,
+        state,
     })
 }
 

@@ -1,11 +1,13 @@
 //! The marks at the end of a text.
-ghost use Rattle.std.specs.Prelude.{◌≡◌, ℕ, ◌+◌, ◌<◌, ◌≤◌, ◌^◌, IsTrue, ◌↔◌, MatchOption, Some, IfSome};
+ghost use Rattle.std.specs.Prelude.{◌≡◌, true, ℕ, ◌+◌, ◌<◌, ◌≤◌, ◌^◌, IsTrue, ◌↔◌, MatchOption, Some, IfSome};
 ghost use Rattle.marker_dfa.specs.Deterministic.{states_of};
 ghost use Rattle.span_enum.specs.Letters.{step_of};
 ghost use Rattle.span_enum.specs.Tuples.{EndsPast, end_mark, reaches};
 ghost use Rattle.span_enum.specs.Words.{IsNoMark, IsGreatestMark};
 ghost use Rattle.span_enum.specs.Ends.{AcceptsEnd};
+ghost use Rattle.span_enum.specs.Quiet.{EndsQuietly, AreQuietFinals};
 
+use crate::walk::state_if;
 use marker_dfa::Dfa;
 use span_types::{Span, Tuple, mark_at};
 
@@ -21,6 +23,28 @@ pub(crate) fn greatest_end(dfa: &Dfa, q: u8, limit: u32) -> Option<u16>
         }
     }
     None
+}
+
+/// Whether a text may end in the state, and only without a mark: the greatest one is none.
+fn ends_quietly(dfa: &Dfa, q: u8) -> bool
+    requires { q < states_of dfa.now }
+    ensures { result ≡ true → EndsQuietly dfa.now q }
+{
+    match greatest_end(dfa, q, 65536) {
+        Some(mark) => mark == 0,
+        None => false,
+    }
+}
+
+/// The states in which a text may end, and only without a mark.
+pub(crate) fn quiet_finals(dfa: &Dfa) -> u128
+    ensures { AreQuietFinals dfa.now result }
+{
+    let mut set = 0;
+    for q in 0..dfa.states() {
+        set |= state_if(q, ends_quietly(dfa, q));
+    }
+    set
 }
 
 /// Whether a span of the tuple ends at the position or past it.

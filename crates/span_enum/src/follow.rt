@@ -1,15 +1,13 @@
 //! The way along the marks of a given tuple.
 ghost use Rattle.std.specs.Prelude.{◌≡◌, ℕ, ◌<◌, ◌≤◌, ◌+◌, ◌*◌, ◌-◌, List, length, true, false, MatchOption};
 ghost use Rattle.marker_dfa.specs.Deterministic.{states_of};
-ghost use Rattle.slp_model.specs.declared.Node.TheVariants.{Byte};
-ghost use Rattle.slp_model.specs.Nodes.{IsNodeAt};
-ghost use Rattle.span_enum.specs.Trail.{IsGround, Stands, PassesTo, Dies, text_ahead, text_at, whole_text, CanGoDown, Lays, Fails, Fits, CanFollow, Followed, HasRoom, height_at};
+ghost use Rattle.span_enum.specs.Trail.{IsGround, Stands, PassesTo, Dies, text_ahead, text_at, whole_text, CanGoDown, IsOver, Laid, CanFollow, Followed, HasRoom, height_at};
 ghost use Rattle.span_enum.specs.declared.trail.Ahead.{Ahead};
 
 use crate::ground::Ground;
-use crate::onward::{left_of, right_of};
+use crate::onward::{keep_mark, put_ahead, right_of};
 use crate::sets::goals_between;
-use crate::trail::{Ahead, Mark, Place, Trail, ahead_at, last_of};
+use crate::trail::{Ahead, Place, Trail, ahead_at, last_of};
 use crate::walk::{first_mark, step};
 use node_store::Node;
 use span_types::{Steps, Tuple, mark_at};
@@ -33,41 +31,14 @@ fn pass_to<'a>(ground: &Ground<'a>, trail: &Trail<'a>, from: Place, position: u6
         place = Place {
             state,
             next: node.next,
+            quiet: false,
         };
     }
     Some(place)
 }
 
-/// Keeps the tuple's mark at a letter.
-fn keep_mark<'a>(
-    ground: &Ground<'a>,
-    trail: &mut Trail<'a>,
-    here: &Ahead<'a>,
-    byte: u8,
-    state: u8,
-    t: &Tuple,
-    base: usize,
-)
-    requires ground { IsGround ground.now }
-    requires down { CanGoDown ground.now here.now state base trail.old.marks.items trail.old.marks.capacity trail.old.ahead.items trail.old.ahead.capacity }
-    requires byte { IsNodeAt ground.now.view.store.now here.now.id.index (Byte byte) }
-    ensures lays { Lays ground.now t.now here.now state here.now.at base trail.old.marks.items trail.new.marks.items trail.old.ahead.items trail.new.ahead.items }
-    ensures marks_room { trail.new.marks.capacity ≡ trail.old.marks.capacity }
-    ensures ahead_room { trail.new.ahead.capacity ≡ trail.old.ahead.capacity }
-{
-    trail.marks.push_reserved(Some(Mark {
-        at: here.at,
-        mark: mark_at(t, here.at),
-        byte,
-        state,
-        goals: here.goals,
-        next: here.next,
-        base,
-    }));
-}
-
 /// Goes down to the letter at this position, and keeps the tuple's mark there with the nodes that are then ahead. The answer
-/// is whether a run comes there.
+/// is whether a run comes there. If none does, what was put ahead is left to the caller to forget.
 fn reach<'a, L: Ledger>(
     ground: &Ground<'a>,
     trail: &mut Trail<'a>,
@@ -80,10 +51,9 @@ fn reach<'a, L: Ledger>(
 ) -> bool
     requires ground { IsGround ground.now }
     requires down { CanGoDown ground.now here.now state base trail.old.marks.items trail.old.marks.capacity trail.old.ahead.items trail.old.ahead.capacity }
-    requires from { here.now.at ≤ position }
-    requires before { position < here.now.at + length (text_at ground.now here.now.id.index) }
-    ensures lays { result ≡ true → Lays ground.now t.now here.now state position base trail.old.marks.items trail.new.marks.items trail.old.ahead.items trail.new.ahead.items }
-    ensures fails { result ≡ false → Fails ground.now here.now state position base trail.old.marks.items trail.new.marks.items trail.old.ahead.items trail.new.ahead.items }
+    requires over { IsOver ground.now here.now position }
+    ensures laid { Laid ground.now t.now here.now state position base trail.old.marks.items trail.new.marks.items
+        trail.old.ahead.items trail.new.ahead.items result }
     ensures cost { looks.new ≤ looks.old + 2 * height_at ground.now here.now.id.index }
     ensures marks_room { trail.new.marks.capacity ≡ trail.old.marks.capacity }
     ensures ahead_room { trail.new.ahead.capacity ≡ trail.old.ahead.capacity }
@@ -91,7 +61,7 @@ fn reach<'a, L: Ledger>(
     let _states = ground.dfa.states();
     match here.look.node {
         Node::Byte(byte) => {
-            keep_mark(ground, trail, here, byte, state, t, base);
+            keep_mark(trail, here, byte, state, mark_at(t, here.at), base);
             true
         }
         Node::Pair(l, r) => {
@@ -99,24 +69,13 @@ fn reach<'a, L: Ledger>(
             let right = ground.view.look(r, looks);
             let sibling = right_of(here, &left, r, &right);
             if position < sibling.at {
-                let between = goals_between(
-                    ground.dfa,
-                    here.look.table,
-                    left.table,
-                    right.table,
-                    state,
-                    here.goals,
-                );
-                trail.ahead.push_reserved(Some(sibling));
-                let child = left_of(here, l, &left, between, trail.ahead.len());
+                let between = goals_between(ground.dfa, here, left.table, right.table, state);
+                let child = put_ahead(trail, here, l, &left, sibling, between);
                 return reach(ground, trail, &child, state, t, position, base, looks);
             }
             match left.table.unmarked(state) {
                 Some(q) => reach(ground, trail, &sibling, q, t, position, base, looks),
-                None => {
-                    trail.ahead.truncate(base);
-                    false
-                }
+                None => false,
             }
         }
     }
@@ -152,6 +111,7 @@ pub(crate) fn follow<'a, L: Ledger>(
     let base = trail.ahead.len();
     let comes = reach(ground, trail, &here, place.state, t, position, base, looks);
     if !comes {
+        trail.ahead.truncate(base);
         return None;
     }
     let last = *last_of(&*trail);
@@ -159,6 +119,7 @@ pub(crate) fn follow<'a, L: Ledger>(
     let behind = Place {
         state,
         next: last.next,
+        quiet: false,
     };
     follow(ground, trail, behind, t, position + 1, end, looks)
 }

@@ -3,19 +3,21 @@ ghost use Rattle.std.specs.Prelude.{◌≡◌};
 ghost use Rattle.span_enum.specs.Listing.{IsReady};
 ghost use Rattle.span_enum.specs.Trail.{IsGround};
 
+use crate::ends::quiet_finals;
 use crate::walk::final_states;
 use marker_dfa::Dfa;
 use node_store::NodeId;
 use state_tables::View;
 
 /// An automaton, a way to look at nodes and at their tables of this automaton, the root of the text, and the states in which
-/// a text may end.
+/// a text may end. In the quiet ones it may end only without a mark.
 #[derive(Clone, Copy)]
 pub(crate) struct Ground<'a> {
     pub(crate) view: View<'a>,
     pub(crate) dfa: &'a Dfa,
     pub(crate) root: Option<NodeId>,
     pub(crate) finals: u128,
+    pub(crate) quiet: u128,
 }
 
 impl<'a> Ground<'a> {
@@ -28,11 +30,13 @@ impl<'a> Ground<'a> {
     {
         let _states = dfa.states();
         let finals = final_states(dfa);
+        let quiet = quiet_finals(dfa);
         Ground {
             view,
             dfa,
             root,
             finals,
+            quiet,
         }
     }
 }

@@ -23,7 +23,8 @@
 //! Each node's table tells which states its text leads to, without marks and with some (M. L. Schmid and N. Schweikardt,
 //! Spanner evaluation over SLP-compressed documents, PODS 2021). With the states after a node from which the rest is
 //! accepted, no step down is made in vain (F. Florenzano, C. Riveros, M. Ugarte, S. Vansummeren and D. Vrgoc, Constant delay
-//! algorithms for regular document spanners, PODS 2018).
+//! algorithms for regular document spanners, PODS 2018). Some of these states are known to be quiet: from them the rest is
+//! accepted without marks alone. Where the walk comes into one, the answer is complete, and the nodes ahead aren't passed.
 #![tactic(auto)]
 
 mod answers;

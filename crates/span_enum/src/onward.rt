@@ -1,5 +1,5 @@
 //! The way on to the first marked text behind a place.
-ghost use Rattle.std.specs.Prelude.{◌≡◌, ℕ, ◌<◌, ◌≤◌, ◌+◌, ◌*◌, ◌-◌, ◌++◌, ◌^◌, true, bit_and, length, max, List, IfSome, MatchOption, Some};
+ghost use Rattle.std.specs.Prelude.{◌≡◌, ℕ, ◌<◌, ◌≤◌, ◌+◌, ◌*◌, ◌-◌, ◌++◌, ◌∷◌, [], ◌^◌, true, bit_and, length, max, List, IfSome, MatchOption, Some};
 ghost use Rattle.slp_model.specs.Nodes.{IsNodeAt};
 ghost use Rattle.slp_model.specs.declared.Node.TheVariants.{Byte};
 ghost use Rattle.marker_dfa.specs.Deterministic.{states_of};
@@ -8,15 +8,16 @@ ghost use Rattle.state_tables.specs.Table.{marked_of, unmarked_of};
 ghost use Rattle.span_enum.specs.Sets.{can_reach_of};
 ghost use Rattle.span_enum.specs.Words.{IsFork};
 ghost use Rattle.span_enum.specs.OverLeft.{IsOverLeft};
-ghost use Rattle.span_enum.specs.Trail.{IsGround, Stands, CanEnd, CanGo, CanFinish, PassesPlain, Turns, CanGoDown, Descends, Completes, Fits, height_at};
+ghost use Rattle.span_enum.specs.Trail.{IsGround, Stands, CanEnd, CanGo, CanFinish, PassesPlain, Turns, CanGoDown, mark_over, Descends, Completes, Fits, height_at};
 ghost use Rattle.span_enum.specs.declared.trail.Ahead.{Ahead};
 
 use crate::ground::Ground;
-use crate::sets::goals_between;
+use crate::sets::{Between, goals_between};
 use crate::trail::{Ahead, Mark, Place, Trail, ahead_at};
 use crate::walk::greatest_mark;
 use node_store::{Node, NodeId};
 use span_types::{Steps, Tuple};
+use state_tables::state_set::holds;
 use state_tables::{Look, Table};
 use std::sync::ledger::Ledger;
 
@@ -65,6 +66,7 @@ fn pass_plain<'a>(ground: &Ground<'a>, trail: &Trail<'a>, from: Place) -> Place
             Some(state) => place = Place {
                 state,
                 next: node.next,
+                quiet: false,
             },
             None => return place,
         }
@@ -80,33 +82,55 @@ pub(crate) fn right_of<'a>(
     right: &Look<'a>,
 ) -> Ahead<'a>
     requires { here.now.at + left.now.len < 2 ^ 64 }
-    ensures { result ≡ record { id = r; look = right.now; at = here.now.at + left.now.len; goals = here.now.goals; next = here.now.next } }
+    ensures { result ≡ record {
+      id = r;
+      look = right.now;
+      at = here.now.at + left.now.len;
+      goals = here.now.goals;
+      quiet = here.now.quiet;
+      next = here.now.next;
+    } }
 {
     Ahead {
         id: r,
         look: *right,
         at: here.at + left.len,
         goals: here.goals,
+        quiet: here.quiet,
         next: here.next,
     }
 }
 
-/// The left child of a node, whose right sibling is the last node ahead.
-pub(crate) fn left_of<'a>(
+/// Puts the right child of a node ahead of the left one, which is the answer.
+pub(crate) fn put_ahead<'a>(
+    trail: &mut Trail<'a>,
     here: &Ahead<'a>,
     l: NodeId,
     left: &Look<'a>,
-    goals: u128,
-    next: usize,
+    sibling: Ahead<'a>,
+    between: Between,
 ) -> Ahead<'a>
-    ensures { result ≡ record { id = l; look = left.now; at = here.now.at; goals = goals; next = next } }
+    requires { length trail.old.ahead.items < trail.old.ahead.capacity }
+    ensures child { result ≡ record {
+      id = l;
+      look = left.now;
+      at = here.now.at;
+      goals = between.goals;
+      quiet = between.quiet;
+      next = length trail.old.ahead.items + 1;
+    } }
+    ensures items { trail.new.ahead.items ≡ trail.old.ahead.items ++ Some sibling.entry ∷ [] }
+    ensures room { trail.new.ahead.capacity ≡ trail.old.ahead.capacity }
+    ensures marks { trail.new.marks ≡ trail.old.marks }
 {
+    trail.ahead.push_reserved(Some(sibling));
     Ahead {
         id: l,
         look: *left,
         at: here.at,
-        goals,
-        next,
+        goals: between.goals,
+        quiet: between.quiet,
+        next: trail.ahead.len(),
     }
 }
 
@@ -115,7 +139,7 @@ enum OverLeft {
     /// Without marks, into this state.
     Plain(u8),
     /// With marks, into one of these states.
-    Marked(u128),
+    Marked(Between),
 }
 
 /// How the first marked text over a pair goes over its left child, where some run over the pair has marks.
@@ -125,17 +149,42 @@ fn over_left(ground: &Ground<'_>, here: &Ahead<'_>, left: &Table, right: &Table,
     requires state { p < states_of ground.now.dfa.now }
     requires some { bit_and (marked_of here.now.look.table.now p) here.now.goals ≡ 0 → ⊥ }
     ensures over { (s u : List ℕ) → IsTable ground.now.dfa.now (s ++ u) here.now.look.table.now → IsTable ground.now.dfa.now s left.now
-        → IsTable ground.now.dfa.now u right.now → IsOverLeft ground.now.dfa.now p s u here.now.goals left.now right.now result }
+        → IsTable ground.now.dfa.now u right.now → IsOverLeft ground.now.dfa.now p s u here.now.goals here.now.quiet left.now right.now result }
 {
     let _marked = here.look.table.marked(p);
     if let Some(q) = sole_state(left, p) {
         return OverLeft::Plain(q);
     }
-    let between = goals_between(ground.dfa, here.look.table, left, right, p, here.goals);
-    match plain_into(left, p, between) {
+    let between = goals_between(ground.dfa, here, left, right, p);
+    match plain_into(left, p, between.goals) {
         Some(q) => OverLeft::Plain(q),
         None => OverLeft::Marked(between),
     }
+}
+
+/// Keeps a mark at a letter.
+pub(crate) fn keep_mark<'a>(
+    trail: &mut Trail<'a>,
+    here: &Ahead<'a>,
+    byte: u8,
+    state: u8,
+    mark: u16,
+    base: usize,
+)
+    requires { length trail.old.marks.items < trail.old.marks.capacity }
+    ensures marks { trail.new.marks.items ≡ trail.old.marks.items ++ Some (mark_over here.now byte state mark base) ∷ [] }
+    ensures room { trail.new.marks.capacity ≡ trail.old.marks.capacity }
+    ensures ahead { trail.new.ahead ≡ trail.old.ahead }
+{
+    trail.marks.push_reserved(Some(Mark {
+        at: here.at,
+        mark,
+        byte,
+        state,
+        goals: here.goals,
+        next: here.next,
+        base,
+    }));
 }
 
 /// Keeps the greatest mark at a letter, and writes it. The place behind the letter is the answer.
@@ -159,19 +208,12 @@ fn place_mark<'a>(
     let _marked = here.look.table.marked(state);
     match greatest_mark(ground.dfa, state, byte, here.goals, 65536) {
         Some(step) => {
-            trail.marks.push_reserved(Some(Mark {
-                at: here.at,
-                mark: step.mark,
-                byte,
-                state,
-                goals: here.goals,
-                next: here.next,
-                base,
-            }));
+            keep_mark(trail, here, byte, state, step.mark, base);
             *out = out.with_mark(step.mark, here.at);
             Place {
                 state: step.state,
                 next: here.next,
+                quiet: holds(here.quiet, step.state),
             }
         }
         None => unreachable!(),
@@ -204,8 +246,7 @@ fn descend<'a, L: Ledger>(
             match over_left(ground, here, left.table, right.table, state) {
                 OverLeft::Plain(q) => descend(ground, trail, &sibling, q, base, out, looks),
                 OverLeft::Marked(between) => {
-                    trail.ahead.push_reserved(Some(sibling));
-                    let child = left_of(here, l, &left, between, trail.ahead.len());
+                    let child = put_ahead(trail, here, l, &left, sibling, between);
                     descend(ground, trail, &child, state, base, out, looks)
                 }
             }
@@ -213,7 +254,8 @@ fn descend<'a, L: Ledger>(
     }
 }
 
-/// Writes the marks of the first marked text behind the place, and keeps them. Of the nodes ahead the first `base` stay.
+/// Writes the marks of the first marked text behind the place, and keeps them. Of the nodes ahead the first `base` stay. The
+/// answer is the state at the end, or none where a quiet state came first: then no mark is left, nor one at the end.
 pub(crate) fn complete<'a, L: Ledger>(
     ground: &Ground<'a>,
     trail: &mut Trail<'a>,
@@ -221,7 +263,7 @@ pub(crate) fn complete<'a, L: Ledger>(
     base: usize,
     out: &mut Tuple,
     looks: &mut Steps<L>,
-) -> u8
+) -> Option<u8>
     requires ground { IsGround ground.now }
     requires finish { CanFinish ground.now trail.old.ahead.items from (2 * ground.now.dfa.now.variables - length trail.old.marks.items) }
     requires fits { Fits ground.now base trail.old.ahead.items }
@@ -229,14 +271,18 @@ pub(crate) fn complete<'a, L: Ledger>(
     requires marks_fit { 2 * ground.now.dfa.now.variables ≤ trail.old.marks.capacity }
     requires ahead_fit { base + 69 * (2 * ground.now.dfa.now.variables - length trail.old.marks.items) ≤ trail.old.ahead.capacity }
     ensures completes { Completes ground.now from base trail.old.marks.items trail.new.marks.items trail.old.ahead.items trail.new.ahead.items looks.old looks.new result out.old out.new }
-    ensures within { result < states_of ground.now.dfa.now }
+    ensures within { IfSome result (λ q. q < states_of ground.now.dfa.now) }
     ensures marks_room { trail.new.marks.capacity ≡ trail.old.marks.capacity }
     ensures ahead_room { trail.new.ahead.capacity ≡ trail.old.ahead.capacity }
 {
+    if from.quiet {
+        trail.ahead.truncate(base);
+        return None;
+    }
     let place = pass_plain(ground, &*trail, from);
     if place.next == 0 {
         trail.ahead.truncate(base);
-        return place.state;
+        return Some(place.state);
     }
     let here = *ahead_at(&*trail, place.next);
     trail.ahead.truncate(cut_before(place.next, base));

@@ -7,11 +7,20 @@ ghost use Rattle.state_tables.specs.Meaning.{IsTable};
 ghost use Rattle.span_enum.specs.Sets.{can_reach_of};
 ghost use Rattle.span_enum.specs.Words.{IsFork};
 ghost use Rattle.span_enum.specs.Between.{AreAmong, AreBetween};
+ghost use Rattle.span_enum.specs.Quiet.{StaysQuiet, StayQuiet, LeadQuiet};
 
+use crate::trail::Ahead;
 use crate::walk::{can_reach, state_if};
 use marker_dfa::Dfa;
 use state_tables::Table;
-use state_tables::state_set::single;
+use state_tables::state_set::{holds, single};
+
+/// States between two texts: those from which the second one leads into a goal, and of them those known to be quiet.
+#[derive(Clone, Copy)]
+pub(crate) struct Between {
+    pub(crate) goals: u128,
+    pub(crate) quiet: u128,
+}
 
 /// The least state of a set that has one.
 fn least(set: u128) -> u8
@@ -42,37 +51,59 @@ fn reached(table: &Table, p: u8) -> u128
     table.marked(p) | single(table.unmarked(p))
 }
 
-/// The states of the set from which some run over the text ends in a goal.
-fn goals_among(table: &Table, from: u128, goals: u128) -> u128
+/// Whether no run with marks over the text leads from `p` into a goal, and the one without marks leads into a quiet state.
+fn stays_quiet(table: &Table, p: u8, goals: u128, quiet: u128) -> bool
+    requires { p < length table.now }
+    ensures { result ≡ true → StaysQuiet table.now p goals quiet }
+{
+    if table.marked(p) & goals != 0 {
+        return false;
+    }
+    match table.unmarked(p) {
+        Some(q) => holds(quiet, q),
+        None => false,
+    }
+}
+
+/// The states of the set from which some run over the text ends in a goal, and the quiet ones among them.
+fn goals_among(table: &Table, from: u128, goals: u128, quiet: u128) -> Between
     requires { (q : ℕ) → member from q ≡ true → q < length table.now }
-    ensures { AreAmong table.now from goals result }
+    ensures goals { AreAmong table.now from goals result.goals }
+    ensures quiet { StayQuiet table.now from goals quiet result.quiet }
 {
     let mut rest = from;
     let mut set = 0;
+    let mut stay = 0;
     while rest != 0 {
         let q = least(rest);
         set |= state_if(q, can_reach(table, q, goals));
+        stay |= state_if(q, stays_quiet(table, q, goals, quiet));
         rest = without(rest, q);
     }
-    set
+    Between {
+        goals: set,
+        quiet: stay,
+    }
 }
 
-/// The states reached from `p` over the left child from which the right one leads into a goal: only these few are tested.
+/// The states reached from `p` over the left child of a node from which the right one leads into its goals, and the quiet ones
+/// among them: only these few are tested.
 pub(crate) fn goals_between(
     dfa: &Dfa,
-    here: &Table,
+    here: &Ahead<'_>,
     left: &Table,
     right: &Table,
     p: u8,
-    goals: u128,
-) -> u128
-    requires fork { IsFork dfa.now here.now left.now right.now }
+) -> Between
+    requires fork { IsFork dfa.now here.now.look.table.now left.now right.now }
     requires state { p < states_of dfa.now }
-    ensures between { (s u : List ℕ) → IsTable dfa.now s left.now → IsTable dfa.now u right.now → AreBetween dfa.now p s u goals result }
-    ensures on { (q : ℕ) → member result q ≡ true → can_reach_of right.now q goals ≡ true }
-    ensures can { can_reach_of here.now p goals ≡ true → can_reach_of left.now p result ≡ true }
+    ensures between { (s u : List ℕ) → IsTable dfa.now s left.now → IsTable dfa.now u right.now → AreBetween dfa.now p s u here.now.goals result.goals }
+    ensures on { (q : ℕ) → member result.goals q ≡ true → can_reach_of right.now q here.now.goals ≡ true }
+    ensures can { can_reach_of here.now.look.table.now p here.now.goals ≡ true → can_reach_of left.now p result.goals ≡ true }
+    ensures quiet { (s u : List ℕ) → IsTable dfa.now s left.now → IsTable dfa.now u right.now
+        → LeadQuiet dfa.now p s u here.now.goals here.now.quiet result.quiet }
 {
     let _states = dfa.states();
-    let _marked = here.marked(p);
-    goals_among(right, reached(left, p), goals)
+    let _marked = here.look.table.marked(p);
+    goals_among(right, reached(left, p), here.goals, here.quiet)
 }

@@ -17,14 +17,16 @@ use state_tables::Look;
 use std::alloc::Global;
 
 /// A node ahead of a letter: the right sibling of a node on the way down to it. With it are the place of its first letter, the
-/// states after it from which the rest of the text is accepted, and the node that comes next: its place in the list, counted
-/// from 1, or 0 where the text ends.
+/// states after it from which the rest of the text is accepted, the quiet ones among them, as far as they are known: from these
+/// it is accepted without marks alone; and the node that comes next: its place in the list, counted from 1, or 0 where the text
+/// ends.
 #[derive(Clone, Copy)]
 pub(crate) struct Ahead<'a> {
     pub(crate) id: NodeId,
     pub(crate) look: Look<'a>,
     pub(crate) at: u64,
     pub(crate) goals: u128,
+    pub(crate) quiet: u128,
     pub(crate) next: usize,
 }
 
@@ -41,11 +43,12 @@ pub(crate) struct Mark {
     pub(crate) base: usize,
 }
 
-/// Where the walk stands between two letters: its state, and the node that comes next.
+/// Where the walk stands between two letters: its state, the node that comes next, and whether the state is known to be quiet.
 #[derive(Clone, Copy)]
 pub(crate) struct Place {
     pub(crate) state: u8,
     pub(crate) next: usize,
+    pub(crate) quiet: bool,
 }
 
 /// The node that comes next behind a mark that was lowered, and how many nodes the marks before it need.

@@ -1,19 +1,32 @@
-use Rattle.std.proofs.Common.{sym, ◌∙◌}
-use Rattle.span_enum.proofs.Gifts.{some-end}
+use Rattle.std.proofs.Common.{◌≡◌, ◌<◌, true, ap, sym, subst, ◌∙◌}
+use Rattle.marker_dfa.specs.Deterministic.{states_of}
+use Rattle.span_enum.specs.Sets.{is_final}
+use Rattle.span_enum.specs.Words.{IsGreatestMark}
+use Rattle.span_types.proofs.PieceLaws.{write-nothing}
 use Rattle.span_enum.proofs.answers.finish.Goals as goal
 
-pub unreachable-requires : goal.unreachable-requires
-unreachable-requires g c =
+pub with_end-requires-clause-ends : goal.with_end-requires-clause-ends
+with_end-requires-clause-ends g c =
     let ground = c.args.ground.now in
     let f = c.requires.finish in
-    let found = c.complete-state.ensures.completes.finds f.at f.chain f.stands f.can in
-    some-end ground.dfa.now c.requires.ground.automaton c.complete-state.result (sym (c.requires.ground.all c.complete-state.result c.complete-state.ensures.within) ∙ found.first.goal) c.in-None.ensures
+    let found = c.in-Some.ensures.completes.finds f.at f.chain f.stands f.can in
+    let final : is_final ground.dfa.now found.state ≡ true = sym (c.requires.ground.all found.state (subst (λ n. n < states_of ground.dfa.now) found.ends c.in-Some.ensures.within)) ∙ found.first.goal in
+    ap (is_final ground.dfa.now) found.ends ∙ final
 
-pub returns-clause-finishes : goal.returns-clause-finishes
-returns-clause-finishes g c = record {
+pub returns-in-Some-clause-finishes : goal.returns-in-Some-clause-finishes
+returns-in-Some-clause-finishes g c = record {
   written = c.complete-state.new.out;
-  mark = c.in-Some.mark;
+  mark = c.with_end.ensures.0;
+  completes = c.in-Some.ensures.completes;
+  greatest = λ q e. subst (λ n. IsGreatestMark c.args.ground.now.dfa.now n 256 1 65536 c.with_end.ensures.0 0) e c.with_end.ensures.2;
+  tuple_is = c.with_end.ensures.1;
+}
+
+pub returns-in-None-clause-finishes : goal.returns-in-None-clause-finishes
+returns-in-None-clause-finishes g c = record {
+  written = c.complete-state.new.out;
+  mark = 0;
   completes = c.complete-state.ensures.completes;
-  greatest = c.in-Some.ensures;
-  tuple_is = c.with_mark.ensures.value;
+  greatest = λ q e. (rw c.in-None.is at e);
+  tuple_is = sym (write-nothing c.args.end c.complete-state.new.out);
 }

@@ -1,4 +1,4 @@
-use Rattle.std.proofs.Common.{true≢false, ◌-◌, ◌*◌, refl, ap, sym, ◌∙◌, arith, length, [], None}
+use Rattle.std.proofs.Common.{true≢false, ◌-◌, ◌*◌, false, refl, ap, sym, ◌∙◌, arith, length, [], None}
 use Rattle.span_types.specs.Writes.{blanks}
 use Rattle.span_enum.specs.Trail.{CanEnd, CanFinish}
 use Rattle.span_enum.proofs.Chains.{fits-none}
@@ -8,11 +8,14 @@ use Rattle.span_enum.proofs.Given.{none-member}
 use Rattle.span_enum.proofs.Answerings.{few-behind, first-answer}
 use Rattle.span_enum.proofs.answers.first_answer.Goals as goal
 
-pub returns-then-not-has_first-clause-answer : goal.returns-then-not-has_first-clause-answer
-returns-then-not-has_first-clause-answer g c =
+pub returns-then-not-has_first-clause-found : goal.returns-then-not-has_first-clause-found
+returns-then-not-has_first-clause-found g c =
     let ground = c.args.ground.now in
     let text = ground-text ground c.requires.ground (text-short ground _ _ c.requires.fresh) in
-    none-member ground.dfa.now c.requires.ground.automaton _ text None tt (λ run. true≢false (sym (c.if-not-has_first.ensures.1 (run-from_accepted ground.dfa.now c.requires.ground.automaton ground.finals c.requires.ground.all _ run))))
+    record {
+      none = none-member ground.dfa.now c.requires.ground.automaton _ text None tt (λ run. true≢false (sym (c.if-not-has_first.ensures.1 (run-from_accepted ground.dfa.now c.requires.ground.automaton ground.finals c.requires.ground.all _ run))));
+      trail = c.requires.fresh;
+    }
 
 pub finish-requires-clause-finish : goal.finish-requires-clause-finish
 finish-requires-clause-finish g c =
@@ -20,7 +23,7 @@ finish-requires-clause-finish g c =
     let fresh = c.requires.fresh in
     let can : CanEnd ground 0 fresh.chain = rw (sym fresh.text_is) at (c.if-not-has_first.ensures.0 refl) in
     let text = ground-text ground c.requires.ground (text-short ground _ _ fresh) in
-    let finish : CanFinish ground c.args.trail.now.ahead.items (record { state = 0; next = c.len-count.result }) (2 * ground.dfa.now.variables - length c.args.trail.now.marks.items) = record {
+    let finish : CanFinish ground c.args.trail.now.ahead.items (record { state = 0; next = c.len-count.result; quiet = false }) (2 * ground.dfa.now.variables - length c.args.trail.now.marks.items) = record {
       at = 1;
       chain = fresh.chain;
       stands = rw c.len-count.ensures.value fresh.stands;
@@ -35,35 +38,15 @@ finish-requires-clause-fits g c = rw c.len-count.ensures.value (fits-none c.args
 pub finish-requires-clause-short : goal.finish-requires-clause-short
 finish-requires-clause-short g c = omega (arith, text-short c.args.ground.now _ _ c.requires.fresh, c.requires.end)
 
-pub returns-clause-answer : goal.returns-clause-answer
-returns-clause-answer g c =
+pub returns-clause-found : goal.returns-clause-found
+returns-clause-found g c =
     let ground = c.args.ground.now in
     let fresh = c.requires.fresh in
     let can : CanEnd ground 0 fresh.chain = rw (sym fresh.text_is) at (c.if-not-has_first.ensures.0 refl) in
     let text = ground-text ground c.requires.ground (text-short ground _ _ fresh) in
     let all = first-answer ground c.requires.ground text c.len-count.result c.args.looks.now c.finish.new.looks c.args.end c.args.trail.now.marks.items c.finish.new.trail.marks.items
     c.args.trail.now.ahead.items c.finish.new.trail.ahead.items c.none-none.result c.finish.result fresh c.len-count.ensures.value c.requires.end (c.none-none.ensures ∙ ap blanks c.variables.ensures.value) can c.finish.ensures.finishes in
-    all.member
-
-pub returns-clause-trail : goal.returns-clause-trail
-returns-clause-trail g c =
-    let ground = c.args.ground.now in
-    let fresh = c.requires.fresh in
-    let can : CanEnd ground 0 fresh.chain = rw (sym fresh.text_is) at (c.if-not-has_first.ensures.0 refl) in
-    let text = ground-text ground c.requires.ground (text-short ground _ _ fresh) in
-    let all = first-answer ground c.requires.ground text c.len-count.result c.args.looks.now c.finish.new.looks c.args.end c.args.trail.now.marks.items c.finish.new.trail.marks.items
-    c.args.trail.now.ahead.items c.finish.new.trail.ahead.items c.none-none.result c.finish.result fresh c.len-count.ensures.value c.requires.end (c.none-none.ensures ∙ ap blanks c.variables.ensures.value) can c.finish.ensures.finishes in
-    all.trail
-
-pub returns-clause-state : goal.returns-clause-state
-returns-clause-state g c =
-    let ground = c.args.ground.now in
-    let fresh = c.requires.fresh in
-    let can : CanEnd ground 0 fresh.chain = rw (sym fresh.text_is) at (c.if-not-has_first.ensures.0 refl) in
-    let text = ground-text ground c.requires.ground (text-short ground _ _ fresh) in
-    let all = first-answer ground c.requires.ground text c.len-count.result c.args.looks.now c.finish.new.looks c.args.end c.args.trail.now.marks.items c.finish.new.trail.marks.items
-    c.args.trail.now.ahead.items c.finish.new.trail.ahead.items c.none-none.result c.finish.result fresh c.len-count.ensures.value c.requires.end (c.none-none.ensures ∙ ap blanks c.variables.ensures.value) can c.finish.ensures.finishes in
-    all.state
+    all.0
 
 pub returns-clause-cost : goal.returns-clause-cost
 returns-clause-cost g c =
@@ -73,4 +56,4 @@ returns-clause-cost g c =
     let text = ground-text ground c.requires.ground (text-short ground _ _ fresh) in
     let all = first-answer ground c.requires.ground text c.len-count.result c.args.looks.now c.finish.new.looks c.args.end c.args.trail.now.marks.items c.finish.new.trail.marks.items
     c.args.trail.now.ahead.items c.finish.new.trail.ahead.items c.none-none.result c.finish.result fresh c.len-count.ensures.value c.requires.end (c.none-none.ensures ∙ ap blanks c.variables.ensures.value) can c.finish.ensures.finishes in
-    all.cost
+    all.1

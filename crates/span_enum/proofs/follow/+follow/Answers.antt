@@ -4,7 +4,7 @@ use Rattle.span_enum.specs.Letters.{step_of}
 use Rattle.span_enum.specs.Trail.{text_ahead, PassesTo, Lays}
 use Rattle.span_enum.proofs.Chains.{fits-none, fits-short}
 use Rattle.span_enum.proofs.Follows.{next-there}
-use Rattle.span_enum.proofs.Leads.{Over, most, passes-chain, over-node, over-ahead, over-state, over-next, over-few, over-low, position-from, position-within, position-marked, position-early, lays-reaches, lays-can, followed-dead, followed-last, followed-fails, followed-stuck, followed-on}
+use Rattle.span_enum.proofs.Leads.{Over, most, passes-chain, over-node, over-ahead, over-state, over-next, over-few, over-low, position-from, position-within, position-marked, position-early, lays-reaches, lays-goes, followed-dead, followed-last, followed-fails, followed-stuck, followed-on}
 use Rattle.span_enum.proofs.follow.+follow.Goals as goal
 
 pub returns-in_err-place-clause-followed : goal.returns-in_err-place-clause-followed
@@ -67,8 +67,8 @@ reach-comes-requires-clause-down g t c =
       deep = omega (arith, over-low ground t' hs c.args.at n position c.args.from c.in_ok-place.place h o, c.len-base.ensures.value);
     }
 
-pub reach-comes-requires-clause-from : goal.reach-comes-requires-clause-from
-reach-comes-requires-clause-from g t c =
+pub reach-comes-requires-clause-over : goal.reach-comes-requires-clause-over
+reach-comes-requires-clause-over g t c =
     let ground = c.args.ground.now in
     let t' = c.args.t.now in
     let hs = c.args.trail.now.ahead.items in
@@ -79,21 +79,10 @@ reach-comes-requires-clause-from g t c =
     let o : Over ground t' hs c.args.at n position c.args.from c.in_ok-place.place h =
     over-node ground t' hs c.args.at position c.args.end n c.args.from c.in_ok-place.place h c.requires.can c.first_mark-position.ensures.from c.first_mark-position.ensures.end c.requires.end
     c.first_mark-position.ensures.none c.in_ok-place.ensures pos c.ahead_at.ensures in
-    position-from ground t' hs c.args.at n position c.args.from c.in_ok-place.place h o
-
-pub reach-comes-requires-clause-before : goal.reach-comes-requires-clause-before
-reach-comes-requires-clause-before g t c =
-    let ground = c.args.ground.now in
-    let t' = c.args.t.now in
-    let hs = c.args.trail.now.ahead.items in
-    let n = length c.args.trail.now.marks.items in
-    let position = c.first_mark-position.result in
-    let pos : 0 < c.in_ok-place.place.next = omega (arith, c.if-place-eq0.false) in
-    let h = c.ahead_at.result.now in
-    let o : Over ground t' hs c.args.at n position c.args.from c.in_ok-place.place h =
-    over-node ground t' hs c.args.at position c.args.end n c.args.from c.in_ok-place.place h c.requires.can c.first_mark-position.ensures.from c.first_mark-position.ensures.end c.requires.end
-    c.first_mark-position.ensures.none c.in_ok-place.ensures pos c.ahead_at.ensures in
-    position-within ground t' hs c.args.at n position c.args.from c.in_ok-place.place h o
+    record {
+      from = position-from ground t' hs c.args.at n position c.args.from c.in_ok-place.place h o;
+      before = position-within ground t' hs c.args.at n position c.args.from c.in_ok-place.place h o;
+    }
 
 pub returns-then-not-comes-clause-followed : goal.returns-then-not-comes-clause-followed
 returns-then-not-comes-clause-followed g t c =
@@ -107,8 +96,9 @@ returns-then-not-comes-clause-followed g t c =
     let o : Over ground t' hs c.args.at n position c.args.from c.in_ok-place.place h =
     over-node ground t' hs c.args.at position c.args.end n c.args.from c.in_ok-place.place h c.requires.can c.first_mark-position.ensures.from c.first_mark-position.ensures.end c.requires.end
     c.first_mark-position.ensures.none c.in_ok-place.ensures pos c.ahead_at.ensures in
-    followed-fails ground t' hs c.args.at n position c.args.from c.in_ok-place.place h o c.len-base.result c.args.looks.now c.reach-comes.new.looks c.args.trail.now.marks.items c.reach-comes.new.trail.marks.items c.reach-comes.new.trail.ahead.items
-    c.len-base.ensures.value (c.if-not-comes.ensures.fails refl) c.reach-comes.ensures.cost
+    rw c.truncate.ensures.items
+    (followed-fails ground t' hs c.args.at n position c.args.from c.in_ok-place.place h o c.len-base.result c.args.looks.now c.reach-comes.new.looks c.args.trail.now.marks.items c.reach-comes.new.trail.marks.items c.reach-comes.new.trail.ahead.items
+    c.len-base.ensures.value c.if-not-comes.ensures.laid c.reach-comes.ensures.cost)
 
 pub step-requires : goal.step-requires
 step-requires g t c =
@@ -124,7 +114,7 @@ step-requires g t c =
     c.first_mark-position.ensures.none c.in_ok-place.ensures pos c.ahead_at.ensures in
     let ms = c.reach-comes.new.trail.marks.items in
     let mid = c.reach-comes.new.trail.ahead.items in
-    let k : Lays ground t' h c.in_ok-place.place.state position (length hs) c.args.trail.now.marks.items ms hs mid = rw c.len-base.ensures.value at c.if-not-comes.ensures.lays refl in
+    let k : Lays ground t' h c.in_ok-place.place.state position (length hs) c.args.trail.now.marks.items ms hs mid = rw c.len-base.ensures.value at c.if-not-comes.ensures.laid in
     let last : c.last_of-last.result.now ≡ k.mark = c.last_of-last.ensures c.args.trail.now.marks.items k.mark k.kept in
     let r = lays-reaches ground t' hs c.args.at n position c.args.from c.in_ok-place.place h o c.args.trail.now.marks.items ms mid k in
     rw last r.is_mark.state
@@ -144,7 +134,7 @@ returns-in_err-state-clause-followed g t c =
     let some : 0 < mark_of t' position = position-marked ground t' hs c.args.at n position c.args.from c.in_ok-place.place h o c.args.end c.requires.end c.first_mark-position.ensures.some in
     let ms = c.reach-comes.new.trail.marks.items in
     let mid = c.reach-comes.new.trail.ahead.items in
-    let k : Lays ground t' h c.in_ok-place.place.state position (length hs) c.args.trail.now.marks.items ms hs mid = rw c.len-base.ensures.value at c.if-not-comes.ensures.lays refl in
+    let k : Lays ground t' h c.in_ok-place.place.state position (length hs) c.args.trail.now.marks.items ms hs mid = rw c.len-base.ensures.value at c.if-not-comes.ensures.laid in
     let last : c.last_of-last.result.now ≡ k.mark = c.last_of-last.ensures c.args.trail.now.marks.items k.mark k.kept in
     let step : step_of ground.dfa.now k.mark.state k.mark.mark k.mark.byte ≡ None = sym (rw last at c.in_err-state.ensures.value) in
     rw c.from_residual-in_err-state.ensures
@@ -181,11 +171,10 @@ follow-requires g t c κs within =
     let few : n < 2 * ground.dfa.now.variables = over-few ground t' hs c.args.at n position c.args.from c.in_ok-place.place h o ground.dfa.now.variables c.requires.tuple some in
     let ms = c.reach-comes.new.trail.marks.items in
     let mid = c.reach-comes.new.trail.ahead.items in
-    let k : Lays ground t' h c.in_ok-place.place.state position (length hs) c.args.trail.now.marks.items ms hs mid = rw c.len-base.ensures.value at c.if-not-comes.ensures.lays refl in
+    let k : Lays ground t' h c.in_ok-place.place.state position (length hs) c.args.trail.now.marks.items ms hs mid = rw c.len-base.ensures.value at c.if-not-comes.ensures.laid in
     let last : c.last_of-last.result.now ≡ k.mark = c.last_of-last.ensures c.args.trail.now.marks.items k.mark k.kept in
-    let step : step_of ground.dfa.now k.mark.state k.mark.mark k.mark.byte ≡ Some c.in_ok-state.state = sym (rw last at c.in_ok-state.ensures.value) in
     let more : length ms ≡ n + 1 = ap length k.kept ∙ length-append c.args.trail.now.marks.items (Some k.mark ∷ []) in
-    let can = lays-can ground t' hs c.args.at n position c.args.from c.in_ok-place.place h o c.args.trail.now.marks.items ms mid k c.requires.ground.automaton c.in_ok-state.state refl some step in
+    let can = lays-goes ground t' hs c.args.at n position c.args.from c.in_ok-place.place h o c.args.trail.now.marks.items ms mid k c.requires.ground.automaton c.in_ok-state.state c.last_of-last.result.now last refl some (sym c.in_ok-state.ensures.value) in
     let short : length mid ≤ length hs + 69 = fits-short ground (length hs) mid k.fits in (
       omega (arith, c.decreases, more, few),
       (
@@ -194,7 +183,7 @@ follow-requires g t c κs within =
           c.requires.ground,
           (
             c.requires.tuple,
-            (c.requires.end, (rw last can, (omega (arith, c.requires.marks_fit, c.reach-comes.ensures.marks_room), omega (arith, c.requires.ahead_fit, c.reach-comes.ensures.ahead_room, more, few, short)))),
+            (c.requires.end, (can, (omega (arith, c.requires.marks_fit, c.reach-comes.ensures.marks_room), omega (arith, c.requires.ahead_fit, c.reach-comes.ensures.ahead_room, more, few, short)))),
           ),
         ),
       ),
@@ -215,7 +204,7 @@ returns-clause-followed g t c =
     let some : 0 < mark_of t' position = position-marked ground t' hs c.args.at n position c.args.from c.in_ok-place.place h o c.args.end c.requires.end c.first_mark-position.ensures.some in
     let ms = c.reach-comes.new.trail.marks.items in
     let mid = c.reach-comes.new.trail.ahead.items in
-    let k : Lays ground t' h c.in_ok-place.place.state position (length hs) c.args.trail.now.marks.items ms hs mid = rw c.len-base.ensures.value at c.if-not-comes.ensures.lays refl in
+    let k : Lays ground t' h c.in_ok-place.place.state position (length hs) c.args.trail.now.marks.items ms hs mid = rw c.len-base.ensures.value at c.if-not-comes.ensures.laid in
     let last : c.last_of-last.result.now ≡ k.mark = c.last_of-last.ensures c.args.trail.now.marks.items k.mark k.kept in
     followed-on ground t' hs c.args.at n position c.args.from c.in_ok-place.place h o c.args.trail.now.marks.items ms mid k c.follow.new.trail.marks.items c.follow.new.trail.ahead.items c.args.looks.now c.reach-comes.new.looks c.follow.new.looks c.follow.result
     refl some c.reach-comes.ensures.cost c.follow.ensures.followed

@@ -18,7 +18,7 @@ returns-in-Some-plain_into c = record {
       let t = c.args.here.now.look.table.now in
       let a = c.args.ground.now.dfa.now in
       let small : marked_of t c.args.p < 2 ^ 128 = rw c.marked-marked.ensures.value at c.marked-marked.type_inv in
-      plain-left a s u t c.args.left.now c.args.right.now c.args.p c.in-Some-plain_into.q c.args.here.now.goals c.goals_between-between.result it il ir c.requires.state small
+      plain-left a s u t c.args.left.now c.args.right.now c.args.p c.in-Some-plain_into.q c.args.here.now.goals c.goals_between-between.result.goals it il ir c.requires.state small
       (omega (arith, c.in-Some-plain_into.ensures.within, il.shape.states)) c.requires.some (c.goals_between-between.ensures.between s u il ir)
       (c.goals_between-between.ensures.can (some-can t c.args.p c.args.here.now.goals c.requires.some))
       c.in-Some-plain_into.ensures.plain.0 c.in-Some-plain_into.ensures.plain.1;

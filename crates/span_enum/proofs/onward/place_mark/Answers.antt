@@ -1,6 +1,6 @@
 use Rattle.std.proofs.Common.{◌<◌, ◌^◌, refl, sym, append-nil, arith, []}
 use Rattle.state_tables.specs.Table.{marked_of}
-use Rattle.span_enum.specs.Trail.{text_at}
+use Rattle.span_enum.specs.Trail.{text_at, mark_over}
 use Rattle.span_enum.proofs.Paths.{Tells}
 use Rattle.span_enum.proofs.Steps.{look-table, byte-text, some-byte}
 use Rattle.span_enum.proofs.Turns.{some-can, mark-positive}
@@ -27,9 +27,9 @@ returns-clause-descends c = λ looks.
     let one = byte-text ground.view.store.now h.id.index c.args.byte c.requires.byte in
     let low : c.args.byte < 256 = (rw one at is.bytes) 0 0 (omega arith) in
     let some = mark-positive ground.dfa.now c.requires.ground.automaton (text_at ground h.id.index) h.look.table.now c.args.state c.args.byte h.goals _ _ is c.requires.down.state small one low c.requires.some c.in-Some.ensures.mark in
-    record {
-      mark = record { at = h.at; mark = c.in-Some.step.mark; byte = c.args.byte; state = c.args.state; goals = h.goals; next = h.next; base = c.args.base };
-      kept = c.push_reserved.ensures.items;
+    rw (c.keep_mark.ensures.ahead, c.holds.ensures) (record {
+      mark = mark_over h c.args.byte c.args.state c.in-Some.step.mark c.args.base;
+      kept = c.keep_mark.ensures.marks;
       base_is = refl;
       beside = [];
       ahead = sym (append-nil c.args.trail.now.ahead.items);
@@ -37,4 +37,4 @@ returns-clause-descends c = λ looks.
       meets = λ k s can. meets-byte ground c.requires.ground.automaton c.args.trail.now.ahead.items h c.args.state k c.args.byte c.in-Some.step.mark c.in-Some.step.state c.args.base low c.requires.byte some c.in-Some.ensures.mark s;
       written = c.with_mark.ensures.value;
       cost = omega arith;
-    }
+    })

@@ -1,41 +1,54 @@
-use Rattle.std.proofs.Common.{◌≡◌, ap, sym, ◌∙◌, arith, inl, inr}
+use Rattle.std.proofs.Common.{◌≡◌, true, ap, sym, subst, ◌∙◌, arith, inl, inr}
 use Rattle.std.proofs.lemmas.Bool.{cases_eq}
 use Rattle.state_tables.specs.StateSet.{member}
 use Rattle.state_tables.proofs.StateSets.{member-or, member-zero}
 use Rattle.state_tables.proofs.Members.{or-cases, or-left, or-right, not-both}
 use Rattle.span_enum.specs.Sets.{can_reach_of}
+use Rattle.span_enum.specs.Quiet.{StaysQuiet}
 use Rattle.span_enum.proofs.Betweens.{if-is, if-in}
 use Rattle.span_enum.proofs.sets.goals_among.Goals as goal
 
 pub loop-rest-init : goal.loop-rest-init
-loop-rest-init c = record { within = c.requires; all = λ q h k. inl h; only = λ q h. not-both (member 0 q) h (member-zero q) }
+loop-rest-init c = record {
+  left = λ q h. h;
+  all = λ q h k. inl h;
+  only = λ q h. not-both (member 0 q) h (member-zero q);
+  quiet = λ q h. not-both (member 0 q) h (member-zero q);
+}
 
 pub loop-rest-preserved : goal.loop-rest-preserved
 loop-rest-preserved c =
     let p = c.least-q.result in
     let now = c.loop-rest.invariant in
-    rw c.state_if-set.ensures (record {
-      within = λ q h. elim (cases_eq q p) [
+    let table = c.args.table.now in
+    rw (c.state_if-set.ensures, c.state_if-stay.ensures) (record {
+      left = λ q h. elim (cases_eq q p) [
         | inl same ↦ not-both (member c.without-rest.result q) h (ap (member c.without-rest.result) same ∙ c.without-rest.ensures.gone)
-        | inr other ↦ now.within q (sym (c.without-rest.ensures.others q other) ∙ h)
+        | inr other ↦ now.left q (sym (c.without-rest.ensures.others q other) ∙ h)
       ];
       all = λ q h k. elim (now.all q h k) [
         | inr done ↦ inr (member-or c.loop-rest.set _ q ∙ or-left _ _ done)
         | inl left ↦ elim (cases_eq q p) [
           | inr other ↦ inl (c.without-rest.ensures.others q other ∙ left)
-          | inl same ↦ inr (member-or c.loop-rest.set _ q ∙ or-right _ _ (if-in c.can_reach.result p q same (c.can_reach.ensures.value ∙ ap (λ n. can_reach_of c.args.table.now n c.args.goals) (sym same) ∙ k)))
+          | inl same ↦ inr (member-or c.loop-rest.set _ q ∙ or-right _ _ (if-in c.can_reach.result p q same (c.can_reach.ensures.value ∙ ap (λ n. can_reach_of table n c.args.goals) (sym same) ∙ k)))
         ]
       ];
       only = λ q h. elim (or-cases _ _ (sym (member-or c.loop-rest.set _ q) ∙ h)) [
         | inl done ↦ now.only q done
         | inr new ↦
             let is = if-is c.can_reach.result p q new in
-            rw is.0 (now.within p c.least-q.ensures.member, sym c.can_reach.ensures.value ∙ is.1, c.can_reach.ensures.small)
+            rw is.0 (c.requires p (now.left p c.least-q.ensures.member), sym c.can_reach.ensures.value ∙ is.1, c.can_reach.ensures.small)
+      ];
+      quiet = λ q h. elim (or-cases _ _ (sym (member-or c.loop-rest.stay _ q) ∙ h)) [
+        | inl done ↦ now.quiet q done
+        | inr new ↦
+            let is = if-is c.stays_quiet.result p q new in
+            subst (λ n. (member c.args.from n ≡ true) × StaysQuiet table n c.args.goals c.args.quiet) (sym is.0) (now.left p c.least-q.ensures.member, c.stays_quiet.ensures is.1)
       ];
     })
 
-pub returns : goal.returns
-returns c =
+pub returns-clause-goals : goal.returns-clause-goals
+returns-clause-goals c =
     let none : c.loop-rest.rest ≡ 0 = omega arith in
     record {
       all = λ q h k. elim (c.loop-rest.invariant.all q h k) [

@@ -1,0 +1,5 @@
+use Rattle.span_enum.specs.Quiet.{AreQuietFinals}
+use Rattle.span_enum.proofs.ends.quiet_finals.Given as goal
+
+abbrev pub invariant-loop-q : goal.invariant-loop-q
+invariant-loop-q l = AreQuietFinals l.dfa l.set
