@@ -82,6 +82,21 @@ pub ahead-most : (hs : List (Option Ahead)) (i : ℕ) (c : List Ahead) → AreAh
 ahead-most hs i [] h = omega (arith, h)
 ahead-most hs i (x ∷ c) h = let lt = slice-within h.0.before hs (Some x) h.0.there in omega (arith, h.0.counted)
 
+-- the next node is the one that stands there in the list
+pub next-is : (hs : List (Option Ahead)) (place : ℕ) (c : List Ahead) (n : Ahead) → AreAhead hs place c → 0 < place → ((before : ℕ) → place ≡ suc before → slice_get hs before ≡ Some (Some n))
+    → (b : List Ahead) × (c ≡ n ∷ b)
+next-is hs place [] n h some at = absurd (omega (arith, h))
+next-is hs place (x ∷ c) n h some at = (c, ap (λ y. y ∷ c) (one x n (sym h.0.there ∙ at h.0.before h.0.counted)))
+  where
+    one : (x y : Ahead) → ◌≡◌ {A = Option (Option Ahead)} (Some (Some x)) (Some (Some y)) → x ≡ y
+    one x y e = cc
+
+-- and is there
+pub next-there : (hs : List (Option Ahead)) (place : ℕ) (c : List Ahead) → AreAhead hs place c → 0 < place
+    → (before : ℕ) × ((h : Ahead) × (place ≡ suc before) × (slice_get hs before ≡ Some (Some h)))
+next-there hs place [] h some = absurd (omega (arith, h))
+next-there hs place (x ∷ c) h some = (h.0.before, (x, h.0.counted, h.0.there))
+
 -- ---- their text
 pub text-append : (g : Ground) (front back : List Ahead) → text_ahead g (front ++ back) ≡ text_ahead g front ++ text_ahead g back
 text-append g [] back = refl

@@ -24,7 +24,7 @@ use Rattle.span_enum.specs.declared.sets.Between.{Between}
 use Rattle.span_enum.proofs.Paths.{Tells, onto, run-append, then-join, bytes-plain}
 use Rattle.span_enum.proofs.Steps.{look-table, byte-text, pair-text}
 use Rattle.span_enum.proofs.Meets.{plain-append}
-use Rattle.span_enum.proofs.Chains.{sibling, child, before-left, before-right, text-append, goals-on}
+use Rattle.span_enum.proofs.Chains.{next-is, sibling, child, before-left, before-right, text-append, goals-on}
 
 -- ---- runs without marks
 pub plain-run : (a : DeterministicAutomaton) (p q : ℕ) (s u : List ℕ) → reached a p (plain s) ≡ Some q → reached a p (plain (s ++ u)) ≡ reached a q (plain u)
@@ -203,20 +203,6 @@ passing-none g hs at position from c s le = record {
   before = omega arith;
 }
 
--- the node with the place's number is the next one
-pub next-is : (g : Ground) (hs : List (Option Ahead)) (at : ℕ) (place : Place) (x : Ahead) (c : List Ahead) → Stands g hs at place c → 0 < place.next
-    → ((before : ℕ) → place.next ≡ suc before → slice_get hs before ≡ Some (Some x)) → (rest : List Ahead) × (c ≡ x ∷ rest)
-next-is g hs at place x [] s pos found = absurd (omega (arith, s.ahead))
-next-is g hs at place x (h ∷ c) s pos found = (c, ap (λ y. y ∷ c) (same h x (slice_get hs s.ahead.0.before) s.ahead.0.there (found s.ahead.0.before s.ahead.0.counted)))
-  where
-    same : (h x : Ahead) (o : Option (Option Ahead)) → o ≡ Some (Some h) → o ≡ Some (Some x) → h ≡ x
-    same h x o e k = cc
-
-pub next-there : (g : Ground) (hs : List (Option Ahead)) (at : ℕ) (place : Place) (c : List Ahead) → Stands g hs at place c → 0 < place.next
-    → (before : ℕ) × ((h : Ahead) × (place.next ≡ suc before) × (slice_get hs before ≡ Some (Some h)))
-next-there g hs at place [] s pos = absurd (omega (arith, s.ahead))
-next-there g hs at place (h ∷ c) s pos = (s.ahead.0.before, (h, s.ahead.0.counted, s.ahead.0.there))
-
 pub passes-end : (g : Ground) (hs : List (Option Ahead)) (at position : ℕ) (from place : Place) (c : List Ahead) → place.next ≤ 0 → Passing g hs at position from place c → PassesTo g hs at position from place c
 passes-end g hs at position from place c none p = record {
   front = p.front;
@@ -233,7 +219,7 @@ passes-end g hs at position from place c none p = record {
 module _ (g : Ground) (ground : IsGround g) (hs : List (Option Ahead)) (at position : ℕ) (from place : Place) (c : List Ahead) (p : Passing g hs at position from place c) (x : Ahead) (pos : 0 < place.next)
     (found : (before : ℕ) → place.next ≡ suc before → slice_get hs before ≡ Some (Some x)) where
   next : (rest : List Ahead) × (p.back ≡ x ∷ rest)
-  next = next-is g hs (at + length (text_ahead g p.front)) place x p.back p.stands pos found
+  next = next-is hs place.next p.back x p.stands.ahead pos found
 
   here : Stands g hs (at + length (text_ahead g p.front)) place (x ∷ next.0)
   here = subst (λ k. Stands g hs (at + length (text_ahead g p.front)) place k) next.1 p.stands

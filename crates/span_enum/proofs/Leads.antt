@@ -27,8 +27,8 @@ use Rattle.span_enum.proofs.Nexts.{precedes-split, none-plain}
 use Rattle.span_enum.proofs.Written.{over-append, over-plain, over-count}
 use Rattle.span_enum.proofs.TupleLaws.{few-marks}
 use Rattle.span_enum.proofs.Runs.{over-run, over-quiet}
-use Rattle.span_enum.proofs.Chains.{text-append, ahead-append, ahead-most, stands-before, stands-mark}
-use Rattle.span_enum.proofs.Follows.{plain-run, take-behind, take-before, next-is}
+use Rattle.span_enum.proofs.Chains.{next-is, text-append, ahead-append, ahead-most, stands-before, stands-mark}
+use Rattle.span_enum.proofs.Follows.{plain-run, take-behind, take-before}
 
 same-state : (x y : ℕ) (o : Option ℕ) → o ≡ Some x → o ≡ Some y → x ≡ y
 same-state x y o h k = cc
@@ -202,7 +202,7 @@ stuck-none g t at q n b u leads step front back r parts len run =
 
 -- ---- the mark at the position
 -- the node over the position, to which the walk comes without marks
-pub record Over (g : Ground) (t : Tuple) (hs : List (Option Ahead)) (at n position : ℕ) (from to : Place) (h : Ahead) : Type 0 where
+pub record StandsOver (g : Ground) (t : Tuple) (hs : List (Option Ahead)) (at n position : ℕ) (from to : Place) (h : Ahead) : Type 0 where
   pub chain : List Ahead
   pub rest : List Ahead
   pub leads : Leads g t at from.state n (text_ahead g chain)
@@ -224,10 +224,10 @@ passes-chain g t hs at position end n from to can late le e all = all at can.cha
 pub over-node : (g : Ground) (t : Tuple) (hs : List (Option Ahead)) (at position end n : ℕ) (from to : Place) (h : Ahead) → (can : CanFollow g t hs at from n) → at ≤ position → position ≤ end → end ≡ length (whole_text g) + 1
     → ((p : ℕ) → at ≤ p → p < position → mark_of t p ≡ 0)
     → ((x : ℕ) (c : List Ahead) → Stands g hs x from c → x ≤ position → position ≤ x + length (text_ahead g c) → PassesTo g hs x position from to c)
-    → 0 < to.next → ((before : ℕ) → to.next ≡ suc before → slice_get hs before ≡ Some (Some h)) → Over g t hs at n position from to h
+    → 0 < to.next → ((before : ℕ) → to.next ≡ suc before → slice_get hs before ≡ Some (Some h)) → StandsOver g t hs at n position from to h
 over-node g t hs at position end n from to h can late le e quiet all pos found =
     let p : PassesTo g hs at position from to can.chain = passes-chain g t hs at position end n from to can late le e all in
-    let next = next-is g hs (at + length (text_ahead g p.front)) to h p.back p.stands pos found in
+    let next = next-is hs to.next p.back h p.stands.ahead pos found in
     record { chain = can.chain; rest = next.0; leads = can.leads; late = late; quiet = quiet; passes = p; back_is = next.1 }
 
 -- all nodes are passed
@@ -246,7 +246,7 @@ followed-last g t hs at position end n from to marks looks can late le e quiet a
     at-end i [] z a = refl
     at-end i (x ∷ c) z a = absurd (omega (arith, a.0.counted))
 
-module _ (g : Ground) (t : Tuple) (old : List (Option Ahead)) (at n position : ℕ) (from to : Place) (h : Ahead) (o : Over g t old at n position from to h) where
+module _ (g : Ground) (t : Tuple) (old : List (Option Ahead)) (at n position : ℕ) (from to : Place) (h : Ahead) (o : StandsOver g t old at n position from to h) where
   abbrev p : PassesTo g old at position from to o.chain
   p = o.passes
 

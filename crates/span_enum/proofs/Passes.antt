@@ -18,7 +18,7 @@ use Rattle.span_enum.specs.declared.trail.Place.{Place}
 use Rattle.span_enum.proofs.Paths.{Tells, run-append, run-within, then-between, then-join, split-marked, bytes-plain}
 use Rattle.span_enum.proofs.Firsts.{IsFirst-plain, IsFirst-fork, table-from_run, shared-some, mark_count-append, has-count}
 use Rattle.span_enum.proofs.Steps.{goal-plain, look-table}
-use Rattle.span_enum.proofs.Chains.{text-append, goals-on}
+use Rattle.span_enum.proofs.Chains.{next-is, text-append, goals-on}
 use Rattle.span_enum.proofs.Turns.{not-zero}
 use Rattle.span_enum.proofs.Meets.{plain-append}
 
@@ -46,15 +46,6 @@ can-head g hs at place h c is s can =
     let mid = then-between (λ k. reached a k y) (reached a place.state x) can.state (sym (run-append a place.state x y) ∙ ap (reached a place.state) (sym cut.1.1.0) ∙ can.ends) in
     table-from_run a (text_at g h.id.index) h.look.table.now place.state h.goals is s.state
     (record { word = x; state = mid.0; bytes = cut.1.1.1; ends = mid.1; goal = s.goals.1.reach mid.0 x cut.1.1.1 mid.1 (record { word = y; state = can.state; bytes = cut.1.1.2; ends = mid.2; goal = can.goal }) })
-
--- the next node is the one that stands there in the list
-pub next-is : (hs : List (Option Ahead)) (place : ℕ) (c : List Ahead) (n : Ahead) → AreAhead hs place c → 0 < place → ((before : ℕ) → place ≡ suc before → slice_get hs before ≡ Some (Some n))
-    → (b : List Ahead) × (c ≡ n ∷ b)
-next-is hs place [] n h some at = absurd (omega (arith, h))
-next-is hs place (x ∷ c) n h some at = (c, ap (λ y. y ∷ c) (one x n (sym h.0.there ∙ at h.0.before h.0.counted)))
-  where
-    one : (x y : Ahead) → ◌≡◌ {A = Option (Option Ahead)} (Some (Some x)) (Some (Some y)) → x ≡ y
-    one x y e = cc
 
 -- the node that comes next, behind those that were passed
 pub record Next (g : Ground) (hs : List (Option Ahead)) (at : ℕ) (from place : Place) (c : List Ahead) (p : PassesPlain g hs at from place c) (h : Ahead) : Type 0 where
@@ -114,12 +105,6 @@ passes-on g auto hs at from place c p h q n none step =
           ap (λ s. plain s ++ w) texts ∙ ap (λ v. v ++ w) (plain-append (text_ahead g p.front) x) ∙ append_assoc (plain (text_ahead g p.front)) (plain x) w in
           rw words all;
     }
-
--- and is there
-pub next-there : (hs : List (Option Ahead)) (place : ℕ) (c : List Ahead) → AreAhead hs place c → 0 < place
-    → (before : ℕ) × ((h : Ahead) × (place ≡ suc before) × (slice_get hs before ≡ Some (Some h)))
-next-there hs place [] h some = absurd (omega (arith, h))
-next-there hs place (x ∷ c) h some = (h.0.before, (x, h.0.counted, h.0.there))
 
 pub next-earlier : (hs : List (Option Ahead)) (place : ℕ) (h : Ahead) (b : List Ahead) → AreAhead hs place (h ∷ b) → h.next < place
 next-earlier hs place h b k = omega (arith, k.0.counted, k.0.earlier)

@@ -80,7 +80,8 @@ abbrev pub Join : Ground → ℕ → List Ahead → Type 0
 Join g at [] = Unit {0}
 Join g at (h ∷ c) = (h.at ≡ at) × Join g (at + length (text_at g h.id.index)) c
 
--- of the states reached from p over s and then over the nodes up to one, its goals are those from which the rest is accepted. Its quiet states are such that the rest has no marks
+-- of the states reached from p over s and then over the nodes up to one, its goals are those from which the rest is accepted. From its quiet states
+-- the rest has no marks
 abbrev pub AreGoals : Ground → ℕ → List ℕ → List Ahead → Type 0
 AreGoals g p s [] = Unit {0}
 AreGoals g p s (h ∷ c) = IsAhead g h × AreBetween g.dfa.now p (s ++ text_at g h.id.index) (text_ahead g c) g.finals h.goals × AreGoals g p (s ++ text_at g h.id.index) c

@@ -1,11 +1,15 @@
-use Rattle.std.proofs.Common.{◌+◌, ◌-◌, ◌*◌, false, ap, ◌∙◌, arith, length, Some}
+use Rattle.std.proofs.Common.{◌≤◌, ◌+◌, ◌-◌, ◌*◌, false, ap, ◌∙◌, arith, length, Some}
 use Rattle.span_types.specs.Writes.{write_mark}
+use Rattle.span_types.specs.Fibonacci.{looks_limit}
+use Rattle.span_enum.specs.Answering.{IsFoundAfter}
 use Rattle.span_enum.specs.Tuples.{IsTupleOf}
 use Rattle.span_enum.specs.Trail.{whole_text, Agree, CanFinish, NoEndAfter}
 use Rattle.span_enum.proofs.Gifts.{none-left}
 use Rattle.span_enum.proofs.Given.{IsText, well, none-member}
 use Rattle.span_enum.proofs.Roots.{ground-text}
 use Rattle.span_enum.proofs.Answerings.{few-behind, few-kept, turned-fit, next-answer, trail-agree}
+use Rattle.span_enum.proofs.answers.answer_after.Given.{Over}
+use Rattle.span_enum.proofs.answers.answer_after.Goals.{After-finish}
 use Rattle.span_enum.proofs.answers.answer_after.Goals as goal
 
 pub returns-in-Some-clause-found : goal.returns-in-Some-clause-found
@@ -58,30 +62,21 @@ finish-requires-clause-ahead_fit g c =
     rw (c.lower_to-turn.ensures.ahead_room, c.in_ok-lowered.ensures.ahead_room) (turned-fit c.lower_to-turn.result.base turned.base (length ms) (2 * ground.dfa.now.variables) c.args.trail.now.ahead.capacity
     turned.short turned.one few c.requires.room.ahead_fits)
 
-pub returns-clause-found : goal.returns-clause-found
-returns-clause-found g c =
+-- the answer with its trail, and the looks
+both : (g : Over) (c : After-finish g) → IsFoundAfter c.args.ground.now (Some c.args.t.now) c.finish.new.trail.marks.items c.finish.new.trail.ahead.items c.finish.result
+    × (c.finish.new.looks ≤ c.args.looks.now + looks_limit c.args.ground.now.dfa.now.variables (length (whole_text c.args.ground.now)))
+both g c =
     let ground = c.args.ground.now in
-    let s = whole_text ground in
     let t = c.args.t.now in
-    let is : IsTupleOf ground.dfa.now.variables t = record { size = c.requires.tuple; valid = c.count-count.ensures.tuple } in
-    let text : IsText s = ground-text ground c.requires.ground (omega (arith, c.requires.end, c.requires.low)) in
+    let text = ground-text ground c.requires.ground (omega (arith, c.requires.end, c.requires.low)) in
     let l = c.in_ok-lowered.lowered in
-    let none : NoEndAfter ground t (length s + 1) = rw c.requires.end at c.in_default.ensures.none in
-    let all = next-answer ground c.requires.ground text t is l c.lower_to-turn.result c.args.looks.now c.finish.new.looks c.args.end c.lower_to-turn.new.trail.marks.items c.finish.new.trail.marks.items
-    c.lower_to-turn.new.trail.ahead.items c.finish.new.trail.ahead.items c.with_mark-marks.result c.finish.result none c.in_ok-lowered.ensures.lowers c.lower_to-turn.ensures.turned c.requires.end
-    (c.with_mark-marks.ensures.value ∙ ap (write_mark l.mark l.at) c.cut_at.ensures) c.finish.ensures.finishes in
-    all.0
+    next-answer ground c.requires.ground text t (record { size = c.requires.tuple; valid = c.count-count.ensures.tuple }) l c.lower_to-turn.result c.args.looks.now c.finish.new.looks c.args.end
+    c.lower_to-turn.new.trail.marks.items c.finish.new.trail.marks.items c.lower_to-turn.new.trail.ahead.items c.finish.new.trail.ahead.items c.with_mark-marks.result c.finish.result
+    (rw c.requires.end at c.in_default.ensures.none) c.in_ok-lowered.ensures.lowers c.lower_to-turn.ensures.turned c.requires.end
+    (c.with_mark-marks.ensures.value ∙ ap (write_mark l.mark l.at) c.cut_at.ensures) c.finish.ensures.finishes
+
+pub returns-clause-found : goal.returns-clause-found
+returns-clause-found g c = (both g (goal.at.returns-clause-found g c).After-finish).0
 
 pub returns-clause-cost : goal.returns-clause-cost
-returns-clause-cost g c =
-    let ground = c.args.ground.now in
-    let s = whole_text ground in
-    let t = c.args.t.now in
-    let is : IsTupleOf ground.dfa.now.variables t = record { size = c.requires.tuple; valid = c.count-count.ensures.tuple } in
-    let text : IsText s = ground-text ground c.requires.ground (omega (arith, c.requires.end, c.requires.low)) in
-    let l = c.in_ok-lowered.lowered in
-    let none : NoEndAfter ground t (length s + 1) = rw c.requires.end at c.in_default.ensures.none in
-    let all = next-answer ground c.requires.ground text t is l c.lower_to-turn.result c.args.looks.now c.finish.new.looks c.args.end c.lower_to-turn.new.trail.marks.items c.finish.new.trail.marks.items
-    c.lower_to-turn.new.trail.ahead.items c.finish.new.trail.ahead.items c.with_mark-marks.result c.finish.result none c.in_ok-lowered.ensures.lowers c.lower_to-turn.ensures.turned c.requires.end
-    (c.with_mark-marks.ensures.value ∙ ap (write_mark l.mark l.at) c.cut_at.ensures) c.finish.ensures.finishes in
-    all.1
+returns-clause-cost g c = (both g (goal.at.returns-clause-cost g c).After-finish).1

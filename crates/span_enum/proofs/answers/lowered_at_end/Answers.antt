@@ -1,11 +1,13 @@
 use Rattle.std.proofs.Common.{◌≡◌, Some, ap, ◌∙◌, arith}
 use Rattle.span_types.specs.Writes.{write_mark}
+use Rattle.span_enum.specs.Members.{IsFirstMember}
 use Rattle.span_enum.specs.Letters.{reached}
 use Rattle.span_enum.specs.Tuples.{word_over}
-use Rattle.span_enum.specs.Trail.{whole_text}
+use Rattle.span_enum.specs.Trail.{whole_text, Agree}
 use Rattle.span_enum.proofs.Paths.{run-within}
 use Rattle.span_enum.proofs.Roots.{ground-text}
 use Rattle.span_enum.proofs.Answerings.{end-unknown, end-known, lowered-end}
+use Rattle.span_enum.proofs.answers.lowered_at_end.Goals.{After-with_mark}
 use Rattle.span_enum.proofs.answers.lowered_at_end.Goals as goal
 
 pub returns-in_err-q-clause-none : goal.returns-in_err-q-clause-none
@@ -23,21 +25,19 @@ greatest_end-requires c =
 pub returns-in_err-mark-clause-none : goal.returns-in_err-mark-clause-none
 returns-in_err-mark-clause-none c = rw c.from_residual-in_err-mark.ensures (end-known c.args.ground.now c.args.t.now c.args.end c.in_ok-q.q (rw c.in_ok-q.was at c.requires.state) (rw c.end_limit.ensures at c.in_err-mark.ensures))
 
-pub returns-clause-none : goal.returns-clause-none
-returns-clause-none c =
+-- the answer, which agrees with the tuple in the text, and the state after its marks there
+found : (c : After-with_mark) → IsFirstMember c.args.ground.now.dfa.now (whole_text c.args.ground.now) (Some c.args.t.now) c.with_mark.result × Agree c.args.t.now c.with_mark.result c.args.end
+    × (reached c.args.ground.now.dfa.now 0 (word_over c.with_mark.result 1 (whole_text c.args.ground.now)) ≡ Some c.in_ok-q.q)
+found c =
     let text = ground-text c.args.ground.now c.requires.ground (omega (arith, c.requires.end, c.requires.low)) in
-    (lowered-end c.args.ground.now c.requires.ground text c.args.t.now c.with_mark.result (record { size = c.requires.tuple; valid = c.count-count.ensures.tuple }) c.args.end c.in_ok-q.q c.in_ok-mark.mark c.requires.end
-    (rw c.in_ok-q.was at c.requires.state) (rw c.end_limit.ensures at c.in_ok-mark.ensures) (c.with_mark.ensures.value ∙ ap (write_mark c.in_ok-mark.mark c.args.end) c.cut_at.ensures)).0
+    lowered-end c.args.ground.now c.requires.ground text c.args.t.now c.with_mark.result (record { size = c.requires.tuple; valid = c.count-count.ensures.tuple }) c.args.end c.in_ok-q.q c.in_ok-mark.mark c.requires.end
+    (rw c.in_ok-q.was at c.requires.state) (rw c.end_limit.ensures at c.in_ok-mark.ensures) (c.with_mark.ensures.value ∙ ap (write_mark c.in_ok-mark.mark c.args.end) c.cut_at.ensures)
+
+pub returns-clause-none : goal.returns-clause-none
+returns-clause-none c = (found (goal.at.returns-clause-none c).After-with_mark).0
 
 pub returns-clause-agree : goal.returns-clause-agree
-returns-clause-agree c =
-    let text = ground-text c.args.ground.now c.requires.ground (omega (arith, c.requires.end, c.requires.low)) in
-    (lowered-end c.args.ground.now c.requires.ground text c.args.t.now c.with_mark.result (record { size = c.requires.tuple; valid = c.count-count.ensures.tuple }) c.args.end c.in_ok-q.q c.in_ok-mark.mark c.requires.end
-    (rw c.in_ok-q.was at c.requires.state) (rw c.end_limit.ensures at c.in_ok-mark.ensures) (c.with_mark.ensures.value ∙ ap (write_mark c.in_ok-mark.mark c.args.end) c.cut_at.ensures)).1
+returns-clause-agree c = (found (goal.at.returns-clause-agree c).After-with_mark).1
 
 pub returns-clause-state : goal.returns-clause-state
-returns-clause-state c =
-    let text = ground-text c.args.ground.now c.requires.ground (omega (arith, c.requires.end, c.requires.low)) in
-    rw c.in_ok-q.was
-    (lowered-end c.args.ground.now c.requires.ground text c.args.t.now c.with_mark.result (record { size = c.requires.tuple; valid = c.count-count.ensures.tuple }) c.args.end c.in_ok-q.q c.in_ok-mark.mark c.requires.end
-    (rw c.in_ok-q.was at c.requires.state) (rw c.end_limit.ensures at c.in_ok-mark.ensures) (c.with_mark.ensures.value ∙ ap (write_mark c.in_ok-mark.mark c.args.end) c.cut_at.ensures)).2
+returns-clause-state c = rw c.in_ok-q.was (found (goal.at.returns-clause-state c).After-with_mark).2

@@ -1,6 +1,7 @@
 use Rattle.std.proofs.Common.{arith, sym}
 use Rattle.span_enum.specs.Trail.{IsAhead}
-use Rattle.span_enum.proofs.Follows.{passing-none, next-there, next-ahead, next-state, next-lower, passes-end, passes-over, passing-dies, passing-on}
+use Rattle.span_enum.proofs.Chains.{next-there}
+use Rattle.span_enum.proofs.Follows.{passing-none, next-ahead, next-state, next-lower, passes-end, passes-over, passing-dies, passing-on}
 use Rattle.span_enum.proofs.follow.pass_to.Goals as goal
 
 pub loop-place-init : goal.loop-place-init
@@ -10,7 +11,7 @@ pub ahead_at-node-requires : goal.ahead_at-node-requires
 ahead_at-node-requires c =
     let s = c.requires.stands in
     let p = c.loop-place.invariant s.0 s.1.0 s.1.1 s.1.2 in
-    next-there c.args.ground.now c.args.trail.now.ahead.items _ c.loop-place.place p.back p.stands c.loop-place-test.true
+    next-there c.args.trail.now.ahead.items c.loop-place.place.next p.back p.stands.ahead c.loop-place-test.true
 
 pub overflow_add-node : goal.overflow_add-node
 overflow_add-node c =

@@ -1,5 +1,6 @@
 use Rattle.std.proofs.Common.{arith}
-use Rattle.span_enum.proofs.Passes.{next, passes-none, passes-on, can-head, next-there, turns-here, turns-end, next-earlier}
+use Rattle.span_enum.proofs.Chains.{next-there}
+use Rattle.span_enum.proofs.Passes.{next, passes-none, passes-on, can-head, turns-here, turns-end, next-earlier}
 use Rattle.span_enum.proofs.onward.pass_plain.Goals as goal
 
 pub loop-place-init : goal.loop-place-init
