@@ -21,6 +21,9 @@ pub struct Memory {
 // The places take 128 KB.
 const PLACES: usize = 4096;
 
+// A memory of fewer compositions has no places: a piece of few nodes has a memory of its own.
+const FEW: usize = 64;
+
 impl Model for Memory {
     ghost use Rattle.std.specs.Prelude.{List};
     ghost use Rattle.table_grow.specs.Remembering.{Entry};
@@ -99,11 +102,17 @@ fn found(front: &Vec<Option<((usize, usize), usize)>>, left: usize, right: usize
     }
 }
 
-// Puts a composition into its place, if there is memory for the places.
-fn note(front: &mut Vec<Option<((usize, usize), usize)>>, left: usize, right: usize, number: usize)
+// Puts a composition into its place, if there is memory for the places and so many are remembered that they pay.
+fn note(
+    front: &mut Vec<Option<((usize, usize), usize)>>,
+    remembered: usize,
+    left: usize,
+    right: usize,
+    number: usize,
+)
     ensures { (es : List Entry) → Contains es ((left, right), number) → AreAmong front.old.items es → AreAmong front.new.items es }
 {
-    if front.is_empty() && front.resize(PLACES, None).is_err() {
+    if front.is_empty() && (remembered < FEW || front.resize(PLACES, None).is_err()) {
         return;
     }
     if let Some(found) = front.get_mut(place(left, right)) {
@@ -141,8 +150,9 @@ fn put(
     if cache.contains(&(left, right)) {
         return;
     }
+    let remembered = cache.len();
     match cache.put((left, right), number) {
-        Ok(_) => note(front, left, right, number),
+        Ok(_) => note(front, remembered, left, right, number),
         Err(_) => {}
     }
 }
