@@ -229,7 +229,8 @@ fn finish<'a, L: Ledger>(
     requires ahead_fit { base + 69 * (2 * ground.now.dfa.now.variables - length trail.old.marks.items) ≤ trail.old.ahead.capacity }
     requires positive { 1 ≤ end }
     requires short { end ≤ 281474976710657 }
-    ensures finishes { Finishes ground.now from base trail.old.marks.items trail.new.marks.items trail.old.ahead.items trail.new.ahead.items looks.old looks.new marks end result }
+    ensures finishes { Finishes ground.now from base trail.old.marks.items trail.new.marks.items trail.old.ahead.items trail.new.ahead.items
+        looks.old looks.new marks end result }
     ensures marks_room { trail.new.marks.capacity ≡ trail.old.marks.capacity }
     ensures ahead_room { trail.new.ahead.capacity ≡ trail.old.ahead.capacity }
 {

@@ -16,7 +16,8 @@ use std::sync::ledger::Ledger;
 /// Goes over the nodes ahead without marks, up to the one over this position, or to the end.
 fn pass_to<'a>(ground: &Ground<'a>, trail: &Trail<'a>, from: Place, position: u64) -> Option<Place>
     requires ground { IsGround ground.now }
-    requires stands { (at : ℕ) × ((c : List Ahead) × Stands ground.now trail.now.ahead.items at from c × (at ≤ position) × (position ≤ at + length (text_ahead ground.now c))) }
+    requires stands { (at : ℕ) × ((c : List Ahead) × Stands ground.now trail.now.ahead.items at from c × (at ≤ position)
+        × (position ≤ at + length (text_ahead ground.now c))) }
     ensures { (at : ℕ) (c : List Ahead) → Stands ground.now trail.now.ahead.items at from c → at ≤ position → position ≤ at + length (text_ahead ground.now c)
         → MatchOption result (Dies ground.now from.state at (text_ahead ground.now c) position)
         (λ to. PassesTo ground.now trail.now.ahead.items at position from to c) }
@@ -58,7 +59,6 @@ fn reach<'a, L: Ledger>(
     ensures marks_room { trail.new.marks.capacity ≡ trail.old.marks.capacity }
     ensures ahead_room { trail.new.ahead.capacity ≡ trail.old.ahead.capacity }
 {
-    let _states = ground.dfa.states();
     match here.look.node {
         Node::Byte(byte) => {
             keep_mark(trail, here, byte, state, mark_at(t, here.at), base);
@@ -98,7 +98,8 @@ pub(crate) fn follow<'a, L: Ledger>(
     requires can { CanFollow ground.now t.now trail.old.ahead.items at from (length trail.old.marks.items) }
     requires marks_fit { 2 * ground.now.dfa.now.variables ≤ trail.old.marks.capacity }
     requires ahead_fit { length trail.old.ahead.items + 69 * (2 * ground.now.dfa.now.variables - length trail.old.marks.items) ≤ trail.old.ahead.capacity }
-    ensures followed { Followed ground.now t.now at trail.old.marks.items trail.new.marks.items trail.old.ahead.items trail.new.ahead.items looks.old looks.new result }
+    ensures followed { Followed ground.now t.now at trail.old.marks.items trail.new.marks.items trail.old.ahead.items trail.new.ahead.items
+        looks.old looks.new result }
     ensures marks_room { trail.new.marks.capacity ≡ trail.old.marks.capacity }
     ensures ahead_room { trail.new.ahead.capacity ≡ trail.old.ahead.capacity }
 {

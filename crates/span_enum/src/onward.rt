@@ -201,7 +201,8 @@ fn place_mark<'a>(
     requires down { CanGoDown ground.now here.now state base trail.old.marks.items trail.old.marks.capacity trail.old.ahead.items trail.old.ahead.capacity }
     requires byte { IsNodeAt ground.now.view.store.now here.now.id.index (Byte byte) }
     requires some { bit_and (marked_of here.now.look.table.now state) here.now.goals ≡ 0 → ⊥ }
-    ensures descends { (looks : ℕ) → Descends ground.now here.now state base trail.old.marks.items trail.new.marks.items trail.old.ahead.items trail.new.ahead.items looks looks out.old out.new result }
+    ensures descends { (looks : ℕ) → Descends ground.now here.now state base trail.old.marks.items trail.new.marks.items
+        trail.old.ahead.items trail.new.ahead.items looks looks out.old out.new result }
     ensures marks_room { trail.new.marks.capacity ≡ trail.old.marks.capacity }
     ensures ahead_room { trail.new.ahead.capacity ≡ trail.old.ahead.capacity }
 {
@@ -233,7 +234,8 @@ fn descend<'a, L: Ledger>(
     requires ground { IsGround ground.now }
     requires down { CanGoDown ground.now here.now state base trail.old.marks.items trail.old.marks.capacity trail.old.ahead.items trail.old.ahead.capacity }
     requires some { bit_and (marked_of here.now.look.table.now state) here.now.goals ≡ 0 → ⊥ }
-    ensures descends { Descends ground.now here.now state base trail.old.marks.items trail.new.marks.items trail.old.ahead.items trail.new.ahead.items looks.old looks.new out.old out.new result }
+    ensures descends { Descends ground.now here.now state base trail.old.marks.items trail.new.marks.items trail.old.ahead.items trail.new.ahead.items
+        looks.old looks.new out.old out.new result }
     ensures marks_room { trail.new.marks.capacity ≡ trail.old.marks.capacity }
     ensures ahead_room { trail.new.ahead.capacity ≡ trail.old.ahead.capacity }
 {
@@ -270,7 +272,8 @@ pub(crate) fn complete<'a, L: Ledger>(
     requires low { base ≤ length trail.old.ahead.items }
     requires marks_fit { 2 * ground.now.dfa.now.variables ≤ trail.old.marks.capacity }
     requires ahead_fit { base + 69 * (2 * ground.now.dfa.now.variables - length trail.old.marks.items) ≤ trail.old.ahead.capacity }
-    ensures completes { Completes ground.now from base trail.old.marks.items trail.new.marks.items trail.old.ahead.items trail.new.ahead.items looks.old looks.new result out.old out.new }
+    ensures completes { Completes ground.now from base trail.old.marks.items trail.new.marks.items trail.old.ahead.items trail.new.ahead.items
+        looks.old looks.new result out.old out.new }
     ensures within { IfSome result (λ q. q < states_of ground.now.dfa.now) }
     ensures marks_room { trail.new.marks.capacity ≡ trail.old.marks.capacity }
     ensures ahead_room { trail.new.ahead.capacity ≡ trail.old.ahead.capacity }

@@ -111,7 +111,8 @@ fn forget_last(ground: &Ground<'_>, trail: &mut Trail<'_>, t: &Tuple)
     requires ground { IsGround ground.now }
     requires trail { IsTrailOf ground.now t.now trail.old.marks.items trail.old.ahead.items }
     requires some { 0 < length trail.old.marks.items }
-    requires none { (others : List (Option Mark)) (m : Mark) → trail.old.marks.items ≡ others ++ Some m ∷ [] → (n : ℕ) → IsNoMark ground.now.dfa.now m.state m.byte m.goals m.mark n }
+    requires none { (others : List (Option Mark)) (m : Mark) → trail.old.marks.items ≡ others ++ Some m ∷ [] → (n : ℕ)
+        → IsNoMark ground.now.dfa.now m.state m.byte m.goals m.mark n }
     ensures trail { IsTrailOf ground.now t.now trail.new.marks.items trail.new.ahead.items }
     ensures less { length trail.new.marks.items < length trail.old.marks.items }
     ensures marks_room { trail.new.marks.capacity ≡ trail.old.marks.capacity }
