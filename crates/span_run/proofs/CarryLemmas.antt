@@ -1,10 +1,10 @@
 -- What the parts of a command say of the whole.
 use Rattle.std.proofs.Common.{◌≡◌, ◌⊎◌, inl, inr, ℕ, ◌+◌, ◌*◌, ◌≤◌, List, [], ◌∷◌, ◌++◌, length, Option, Some, None, Result, Ok, Err, refl, sym, ap, subst, ◌∙◌, arith, drop, zero, suc, codes, append_assoc}
-use Rattle.span_types.specs.Fibonacci.{height_limit}
 use Rattle.std.specs.Prelude.{slice_get, ok_or, OnOk, OnErr, IfOk, IfErr}
-use Rattle.doc_book.specs.declared.Missing.{Missing}
 use Rattle.std.specs.Option.{option_map_or}
 use Rattle.std.specs.List.{flat_map}
+use Rattle.span_types.specs.Fibonacci.{height_limit}
+use Rattle.doc_book.specs.declared.Missing.{Missing}
 use Rattle.edge_io.specs.Files.{Files}
 use Rattle.slp_model.specs.declared.NodeId.{NodeId}
 use Rattle.slp_model.specs.declared.Node.{Node}
@@ -17,16 +17,15 @@ use Rattle.edit_expr.specs.Eval.{Outcome, eval, greatest, operations}
 use Rattle.edit_expr.specs.Values.{plain, text_at}
 use Rattle.script_syntax.specs.declared.form.Command.{Command}
 use Rattle.script_syntax.specs.declared.form.Command.TheVariants as form
-use Rattle.report_text.specs.Reply.{refusal_text}
 use Rattle.report_text.specs.declared.refusal.Refusal.{Refusal}
-use Rattle.report_text.specs.declared.refusal.Refusal.TheVariants.{Syntax, NoSuchDocument}
-use Rattle.span_language.specs.State.{State, World, Documents, with_documents, world, put, value_of, taken_out}
+use Rattle.report_text.specs.declared.refusal.Refusal.TheVariants.{NoSuchDocument}
+use Rattle.span_language.specs.State.{State, World, Documents, with_documents, world, put, value_of, taken_out, Named, with_versions}
 use Rattle.span_language.specs.Replies.{entry_text, names_text, ok_text, shown_range}
 use Rattle.span_run.specs.Shown.{Assigns, IsDenied, IsShown}
 use Rattle.span_language.specs.Allowance.{Counters, counters, no_steps, edit_limit, load_limit, IsPaid, PaysFor, PaysForPart}
 use Rattle.span_language.specs.Step.{Carries}
 use Rattle.span_language.specs.declared.told.Told.{Told}
-use Rattle.span_language.specs.declared.told.Told.TheVariants.{Accepted, Refused}
+use Rattle.span_language.specs.declared.told.Told.TheVariants.{Accepted}
 
 -- an assignment, seen from equal documents and with an equal text
 pub assigned_after : (old mid new : Documents) (number : ℕ) (name x y : List ℕ) (told : Told) (reply : List ℕ) → mid ≡ old → x ≡ y
@@ -69,11 +68,6 @@ let_carries st new number name expr e told reply files reads h = at (eval st.doc
         subst (λ (t : Told). Carries (world st files) number (form.LetDoc name expr) t reply (world (with_documents st new) files)) (sym g.0.0)
         (g.0.1, inr (e, refusal, reads, is, g.0.2), g.0.3, only_documents st st.documents new files g.1)
 
-pub let_is_syntax : (w : World) (number : ℕ) (name expr : List ℕ) (told : Told) (reply : List ℕ) → ((e : Expr) → ExprReads expr e → ⊥) → told ≡ Refused → reply ≡ refusal_text number Syntax
-    → Carries w number (form.LetDoc name expr) told reply w
-let_is_syntax w number name expr told reply none is written =
-    subst (λ (t : Told). Carries w number (form.LetDoc name expr) t reply w) (sym is) (Syntax, inl (none, refl), written, refl)
-
 pub show_carries : (w : World) (number : ℕ) (name : List ℕ) (i j : ℕ) (text : List ℕ) (told : Told) (reply : List ℕ) → value_of w.state.documents name ≡ Some text → IsShown number (shown_range text i j) told reply
     → Carries w number (form.Show name i j) told reply w
 show_carries w number name i j text told reply there h = at (shown_range text i j) refl h
@@ -85,22 +79,11 @@ show_carries w number name i j text told reply there h = at (shown_range text i 
     at (Ok bytes) is g = subst (λ (t : Told). Carries w number (form.Show name i j) t reply w) (sym g.0) (bytes, here (Ok bytes) is, g.1, refl)
     at (Err why) is g = subst (λ (t : Told). Carries w number (form.Show name i j) t reply w) (sym g.0) (why, here (Err why) is, g.1, refl)
 
-pub show_missing : (w : World) (number : ℕ) (name : List ℕ) (i j : ℕ) (told : Told) (reply : List ℕ) → value_of w.state.documents name ≡ None → told ≡ Refused → reply ≡ refusal_text number (NoSuchDocument name)
-    → Carries w number (form.Show name i j) told reply w
-show_missing w number name i j told reply missing is written =
-    subst (λ (t : Told). Carries w number (form.Show name i j) t reply w) (sym is)
-    (NoSuchDocument name, ap (λ v. option_map_or (λ s. shown_range s i j) v (Err (NoSuchDocument name))) missing, written, refl)
-
 pub drop_carries : (st : State) (new : Documents) (number : ℕ) (name text : List ℕ) (told : Told) (reply : List ℕ) (files : Option Files) → value_of st.documents name ≡ Some text → new ≡ taken_out st.documents name → told ≡ Accepted → reply ≡ ok_text
     → Carries (world st files) number (form.DropDoc name) told reply (world (with_documents st new) files)
 drop_carries st new number name text told reply files there taken is written =
     subst (λ (t : Told). Carries (world st files) number (form.DropDoc name) t reply (world (with_documents st new) files)) (sym is)
     (text, there, written, only_documents st (taken_out st.documents name) new files taken)
-
-pub drop_missing : (w : World) (number : ℕ) (name : List ℕ) (told : Told) (reply : List ℕ) → value_of w.state.documents name ≡ None → told ≡ Refused → reply ≡ refusal_text number (NoSuchDocument name)
-    → Carries w number (form.DropDoc name) told reply w
-drop_missing w number name told reply missing is written =
-    subst (λ (t : Told). Carries w number (form.DropDoc name) t reply w) (sym is) (NoSuchDocument name, (missing, refl), written, refl)
 
 pub none_paid : (looks p q : ℕ) → q ≡ p → IsPaid no_steps (counters looks p) (counters looks q)
 none_paid looks p q is = record { looks = omega arith; pairs = omega (arith, is) }
@@ -114,9 +97,6 @@ part_of_paid old command before after (a, is, paid) = (a, inr is, paid)
 pub let_paid : (old : World) (name expr : List ℕ) (e : Expr) (looks p q : ℕ) → ExprReads expr e → q ≤ p + edit_limit (operations e) (greatest old.state.documents e) → PaysFor old (form.LetDoc name expr) (counters looks p) (counters looks q)
 let_paid old name expr e looks p q reads h = (record { looks = 0; pairs = edit_limit (operations e) (greatest old.state.documents e) }, inr (e, reads, refl), record { looks = omega arith; pairs = h })
 
-pub let_free : (old : World) (name expr : List ℕ) (looks p : ℕ) → ((e : Expr) → ExprReads expr e → ⊥) → PaysFor old (form.LetDoc name expr) (counters looks p) (counters looks p)
-let_free old name expr looks p none = (no_steps, inl (none, refl), none_paid looks p p refl)
-
 pub not_begun : (old : World) (command : Command) (looks p : ℕ) → PaysForPart old command (counters looks p) (counters looks p)
 not_begun old command looks p = (no_steps, inl refl, none_paid looks p p refl)
 
@@ -128,14 +108,6 @@ pub none_of_err : (o : Option (Option NodeId)) (f e : Missing) → Err f ≡ ok_
 none_of_err None f e p = refl
 none_of_err (Some x) f e p = let bad : ⊥ = cc p in absurd bad
 
-pub on_ok_from : {T E : Type 0} (r : Result T E) (P : Type 0) → P → OnOk r P
-on_ok_from (Ok x) P h = h
-on_ok_from (Err e) P h = tt
-
-pub on_err_from : {T E : Type 0} (r : Result T E) (P : Type 0) → P → OnErr r P
-on_err_from (Ok x) P h = tt
-on_err_from (Err e) P h = h
-
 pub if_ok_map : {T E : Type 0} (r : Result T E) (P Q : T → Type 0) → ((x : T) → P x → Q x) → IfOk r P → IfOk r Q
 if_ok_map (Ok x) P Q f h = f x h
 if_ok_map (Err e) P Q f h = tt
@@ -143,14 +115,6 @@ if_ok_map (Err e) P Q f h = tt
 pub if_err_map : {T E : Type 0} (r : Result T E) (P Q : E → Type 0) → ((x : E) → P x → Q x) → IfErr r P → IfErr r Q
 if_err_map (Ok x) P Q f h = tt
 if_err_map (Err e) P Q f h = f e h
-
-pub if_err_any : {T E : Type 0} (r : Result T E) (P : E → Type 0) → ((x : E) → P x) → IfErr r P
-if_err_any (Ok x) P f = tt
-if_err_any (Err e) P f = f e
-
-pub if_ok_any : {T E : Type 0} (r : Result T E) (P : T → Type 0) → ((x : T) → P x) → IfOk r P
-if_ok_any (Ok x) P f = f x
-if_ok_any (Err e) P f = tt
 
 pub on_ok_map : {T E : Type 0} (r : Result T E) (P Q : Type 0) → (P → Q) → OnOk r P → OnOk r Q
 on_ok_map (Ok x) P Q f h = f h
@@ -176,3 +140,23 @@ names_rest-end ns [] zero h = refl
 names_rest-end ns [] (suc place) h = refl
 names_rest-end ns (x ∷ ds) zero h = absurd (omega (arith, h))
 names_rest-end ns (x ∷ ds) (suc place) h = names_rest-end ns ds place (omega (arith, h))
+
+-- ---- what commands do with versions
+only_versions : (st : State) (old new : Named Documents) (files : Option Files) → new ≡ old → world (with_versions st new) files ≡ world (with_versions st old) files
+only_versions st old new files same = ap (λ (v : Named Documents). world (with_versions st v) files) same
+
+pub mark_carries : (st : State) (new : Named Documents) (number : ℕ) (name : List ℕ) (told : Told) (reply : List ℕ) (files : Option Files) → new ≡ put st.versions name st.documents → told ≡ Accepted → reply ≡ ok_text
+    → Carries (world st files) number (form.MarkDocs name) told reply (world (with_versions st new) files)
+mark_carries st new number name told reply files is accepted written =
+    subst (λ (t : Told). Carries (world st files) number (form.MarkDocs name) t reply (world (with_versions st new) files)) (sym accepted) (written, only_versions st (put st.versions name st.documents) new files is)
+
+pub unmark_carries : (st : State) (new : Named Documents) (number : ℕ) (name : List ℕ) (documents : Documents) (told : Told) (reply : List ℕ) (files : Option Files) → value_of st.versions name ≡ Some documents → new ≡ taken_out st.versions name → told ≡ Accepted → reply ≡ ok_text
+    → Carries (world st files) number (form.UnmarkDocs name) told reply (world (with_versions st new) files)
+unmark_carries st new number name documents told reply files there is accepted written =
+    subst (λ (t : Told). Carries (world st files) number (form.UnmarkDocs name) t reply (world (with_versions st new) files)) (sym accepted)
+    (documents, there, written, only_versions st (taken_out st.versions name) new files is)
+
+pub back_carries : (st : State) (number : ℕ) (name : List ℕ) (documents : Documents) (told : Told) (reply : List ℕ) (files : Option Files) → value_of st.versions name ≡ Some documents → told ≡ Accepted → reply ≡ ok_text
+    → Carries (world st files) number (form.BackDocs name) told reply (world (with_documents st documents) files)
+back_carries st number name documents told reply files there accepted written =
+    subst (λ (t : Told). Carries (world st files) number (form.BackDocs name) t reply (world (with_documents st documents) files)) (sym accepted) (documents, there, written, refl)

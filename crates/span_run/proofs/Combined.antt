@@ -1,11 +1,10 @@
 -- What registering a query that is made of others does.
-use Rattle.std.proofs.Common.{rules, ◌≡◌, ◌∙◌, inl, inr, ℕ, List, length, Option, Some, refl, sym, ap, subst}
+use Rattle.std.proofs.Common.{rules, ◌≡◌, ◌∙◌, inr, ℕ, List, length, Option, Some, refl, sym, ap, subst}
 use Rattle.std.specs.Prelude.{IsSome}
 use Rattle.edge_io.specs.Files.{Files}
 use Rattle.report_text.specs.Reply.{query_text}
 use Rattle.report_text.specs.declared.refusal.Refusal.{Refusal}
 use Rattle.script_syntax.specs.declared.form.Command.{Command}
-use Rattle.script_syntax.specs.declared.form.Command.TheVariants as form
 use Rattle.span_types.specs.Query.{Query, Project}
 use Rattle.span_types.specs.Rel.{names_of}
 use Rattle.query_book.specs.declared.entry.Entry.{Entry}
@@ -18,9 +17,9 @@ use Rattle.query_book.specs.Serving.{Serves, covered_of}
 use Rattle.span_language.specs.State.{Named, State, World, put, value_of, with_queries, world}
 use Rattle.span_language.specs.Allowance.{IsAllowed, no_steps}
 use Rattle.span_language.specs.Counts.{Compacts, Registers}
-use Rattle.span_language.specs.Step.{Carries, Does, HasQueries, IsCombineRefusal, IsOfFile, IsRefused, IsRegistered}
+use Rattle.span_language.specs.Step.{Carries, Does, IsCombineRefusal, IsOfFile, IsRefused, IsRegistered}
 use Rattle.span_language.specs.declared.told.Told.{Told}
-use Rattle.span_language.specs.declared.told.Told.TheVariants.{Accepted, Refused}
+use Rattle.span_language.specs.declared.told.Told.TheVariants.{Accepted}
 use Rattle.span_language.specs.declared.told.Stop.TheVariants as stop
 use Rattle.span_run.specs.declared.answer.Answer.{Answer}
 use Rattle.span_run.specs.declared.held.Held.{Held}

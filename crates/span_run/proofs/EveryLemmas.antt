@@ -2,13 +2,12 @@
 use Rattle.std.proofs.Common.{◌≡◌, ℕ, zero, suc, ◌+◌, ◌<◌, ◌≤◌, ◌^◌, Bool, true, false, nat_lt, get_or, refl, ap, sym, subst, ◌∙◌, arith, List, [], ◌∷◌, ◌++◌, append_assoc, length, take, drop, Option, Some, None, Contains}
 use Rattle.std.specs.Prelude.{slice_get, map, option_map}
 use Rattle.std.specs.Io.KnownBytes.{Appends}
-use Rattle.std.specs.List.{AllByRecursion, flat_map}
+use Rattle.std.specs.List.{flat_map}
 use Rattle.std.proofs.lemmas.Bool.{ltb-true, ltb-false}
 use Rattle.std.proofs.lemmas.List.{append-nil, drop_all}
 use Rattle.std.proofs.lemmas.List.Elements.{Contains-get_or}
 use Rattle.std.proofs.lemmas.Option.{get_or_from_slice_get, slice_get_within, slice_get-get_or}
 use Rattle.slp_model.specs.declared.Node.{Node}
-use Rattle.slp_model.specs.Nodes.{IsLive}
 use Rattle.script_syntax.specs.declared.form.Command.{Command}
 use Rattle.script_syntax.specs.declared.form.Command.TheVariants as form
 use Rattle.script_syntax.specs.Syntax.{IsLimit, Reads}
@@ -123,10 +122,6 @@ lists_exist a ns t auto tables count (d ∷ ds) live short =
     let l = answers-exist a auto (text_of ns d.root) (bytes-found a ns t d.root tables count live.0) (short 0 d refl) in
     let ls = lists_exist a ns t auto tables count ds live.1 (λ k e at. short (suc k) e at) in
     (l.0 ∷ ls.0, (l.1, ls.1))
-
-pub all_live : (ns : List Node) (ds : List Doc) → AreLive ns ds → AllByRecursion (λ d. IsLive ns d.root) ds
-all_live ns [] h = tt
-all_live ns (d ∷ ds) h = (h.0, all_live ns ds h.1)
 
 -- the page whose parts these are
 pub page_at : (ps : List Page) (k : ℕ) (ts : List Tuple) (more : Bool) → slice_get (map (λ (p : Page). p.tuples) ps) k ≡ Some ts → slice_get (map (λ (p : Page). p.more) ps) k ≡ Some more

@@ -1,21 +1,29 @@
 -- What the parts of a listing of the answers on every document write.
-use Rattle.std.proofs.Common.{◌≡◌, ℕ, suc, ◌+◌, ◌≤◌, Bool, refl, sym, subst, ◌∙◌, arith, List, [], ◌++◌, append_assoc, length, Option, Some}
+use Rattle.std.proofs.Common.{◌≡◌, ℕ, suc, ◌+◌, ◌≤◌, Bool, refl, sym, subst, ◌∙◌, arith, List, [], ◌++◌, append_assoc, length, Option, Some, ap}
 use Rattle.std.specs.Prelude.{map, slice_get}
 use Rattle.std.specs.Io.KnownBytes.{Appends}
 use Rattle.std.specs.List.{flat_map}
 use Rattle.std.proofs.lemmas.List.{append-nil}
+use Rattle.std.specs.Option.{option_map}
 use Rattle.slp_model.specs.declared.Node.{Node}
-use Rattle.marker_dfa.specs.Deterministic.{DeterministicAutomaton}
+use Rattle.marker_dfa.specs.Deterministic.{DeterministicAutomaton, IsDeterministic}
 use Rattle.span_enum.specs.Listing.{text_of}
 use Rattle.span_enum.specs.Members.{Tuple}
 use Rattle.list_all.specs.Every.{ArePages}
 use Rattle.list_all.specs.Page.{Page, IsPageOf}
 use Rattle.doc_book.specs.declared.Doc.{Doc}
-use Rattle.span_language.specs.Listed.{doc_line, done_line, last_line, page_text, tuple_line}
+use Rattle.span_language.specs.Listed.{doc_line, done_line, last_line, page_text, tuple_line, AreListed}
 use Rattle.span_language.specs.Step.{AppendsFront}
-use Rattle.span_run.specs.Every.{AreAnswered, every_text, rest_text}
-use Rattle.span_run.proofs.EveryLemmas.{answered_at, page_at, page_sizes, rest_end, rest_next}
-use Rattle.span_run.proofs.Written.{IsListing, both_written, front_of_whole, listing_ends, listing_goes_on, listing_stops, nothing_written}
+use Rattle.span_run.specs.Every.{AreAnswered, every_text, rest_text, AreShort, ListsEvery}
+use Rattle.state_tables.specs.Dictionary.{AreTables, Dictionary, count_of}
+use Rattle.span_types.specs.Query.{Query}
+use Rattle.span_types.specs.Rel.{names_of}
+use Rattle.query_book.specs.Answers.{IsNamed}
+use Rattle.query_book.specs.Parts.{HasAnswersOf}
+use Rattle.edit_expr.specs.Values.{AreLive, plain}
+use Rattle.span_language.specs.State.{Named, value_of}
+use Rattle.span_run.proofs.EveryLemmas.{answered_at, page_at, page_sizes, rest_end, rest_next, listed, lists_exist}
+use Rattle.span_run.proofs.Written.{IsListing, both_written, front_of_whole, listing_goes_on, listing_stops, nothing_written}
 
 -- ---- a document: its line, the lines of its tuples, and the last
 module _ (a b c d : Option (List ℕ)) (name : List ℕ) (names : List (List ℕ)) (tuples : List Tuple) (more : Bool) where
@@ -32,10 +40,6 @@ module _ (a b c d : Option (List ℕ)) (name : List ℕ) (names : List (List ℕ
       front_of_whole a c d (doc_line name ++ flat_map (tuple_line names) tuples) (last_line more) [] (doc_line name ++ page_text names tuples more)
       (sym (append-nil ((doc_line name ++ flat_map (tuple_line names) tuples) ++ last_line more) ∙ append_assoc (doc_line name) (flat_map (tuple_line names) tuples) (last_line more)))
       (both_written a b c (doc_line name) (flat_map (tuple_line names) tuples) line tuples_written) stopped
-
-  pub document_done : Appends a b (doc_line name) → Appends b c (flat_map (tuple_line names) tuples) → Appends c d (last_line more) → Appends a d (doc_line name ++ page_text names tuples more)
-  document_done line tuples_written last =
-      both_written a b d (doc_line name) (page_text names tuples more) line (both_written b c d (flat_map (tuple_line names) tuples) (last_line more) tuples_written last)
 
 -- ---- a batch: the page of a place that was found
 module _ (a : DeterministicAutomaton) (ns : List Node) (ds : List Doc) (first count n : ℕ) (pages : List Page) (are : ArePages a ns ds first count n pages)
@@ -69,8 +73,32 @@ module _ (x y z : Option (List ℕ)) (names : List (List ℕ)) (n : ℕ) (a : De
   at_last : IsListing x y (done_line ++ []) (every_text names n ds lists)
   at_last = subst (λ (l : List ℕ). IsListing x y l (every_text names n ds lists)) (rest_end a ns names n ds lists first past ∙ sym (append-nil done_line)) so_far
 
-  pub last_done : Appends y z done_line → Appends x z (every_text names n ds lists)
-  last_done wrote = listing_ends x z (every_text names n ds lists) (listing_goes_on x y z done_line [] (every_text names n ds lists) at_last wrote)
-
   pub last_cut : AppendsFront y z done_line → AppendsFront x z (every_text names n ds lists)
   last_cut stopped = listing_stops x y z done_line [] (every_text names n ds lists) at_last stopped
+
+-- ---- a listing of a query's answers on every document, by its automaton
+module _ (a : DeterministicAutomaton) (queries : Named Query) (bytes : List ℕ) (names : List (List ℕ)) (named : IsNamed queries bytes (HasAnswersOf a)) (names_are : option_map names_of (value_of queries bytes) ≡ Some names) where
+  own_names : names ≡ names_of named.query
+  own_names =
+      let both : Some (names_of named.query) ≡ Some names = ap (option_map names_of) (sym named.there) ∙ names_are in
+      let same : names_of named.query ≡ names = cc both in
+      sym same
+
+  pub variables_are : length names ≡ a.variables
+  variables_are = ap length own_names ∙ sym named.holds.defines.variables
+
+  module _ (viewed store : List Node) (t : Dictionary) (ds : List Doc) (auto : IsDeterministic a) (tables : AreTables a viewed t) (count : count_of t ≡ length viewed) (is : viewed ≡ store) (live : AreLive store ds) (short : AreShort store ds) where
+    pub lists_are : (lists : List (List Tuple)) × AreAnswered a viewed ds lists
+    lists_are = lists_exist a viewed t auto tables count ds (subst (λ (ns : List Node). AreLive ns ds) (sym is) live) (subst (λ (ns : List Node). AreShort ns ds) (sym is) short)
+
+    -- the whole of the reply
+    pub lists_every : (Writes : List ℕ → Type 0) (name : List ℕ) (n : ℕ) → bytes ≡ name → ((lists : List (List Tuple)) → AreAnswered a viewed ds lists → Writes (every_text names n ds lists)) → ListsEvery Writes queries name (plain store ds) n
+    lists_every Writes name n same writes =
+        let ls = lists_are in
+        record {
+          query = named.query;
+          there = subst (λ (m : List ℕ). value_of queries m ≡ Some named.query) same named.there;
+          reply = every_text names n ds ls.0;
+          listed = subst (λ (ns : List Node). AreListed named.query n (plain ns ds) (every_text names n ds ls.0)) is (listed a viewed names n named.query named.holds own_names ds ls.0 (subst (λ (ns : List Node). AreShort ns ds) (sym is) short) ls.1);
+          writes = writes ls.0 ls.1;
+        }

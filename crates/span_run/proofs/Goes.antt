@@ -169,75 +169,29 @@ pub stays : (h : Held) (number : ℕ) (command : Command) (files : Option Files)
 stays h number command files faults looks pairs places is =
     grown_stops h h.store h.docs number command files files faults faults looks pairs pairs places is (Grows-none h.store pairs pairs (omega arith)) is.live refl (not_begun (world (state_of h) files) command looks pairs) refl (omega arith)
 
--- ---- the queries were given tables
-pub placed_goes : (h : Held) (book : List Entry) (command : Command) (files : Option Files) (faults looks more pairs p q : ℕ) → IsHeld h → Serves h.store book
-    → ArePartlyAt (length h.store) (covered_of h.book) (covered_of book) → q + sum_of (covered_of h.book) ≡ p + sum_of (covered_of book)
-    → PaysForPart (world (state_of h) files) command (counters looks pairs) (counters more pairs)
-    → Goes (at h files faults looks pairs p) command (at (record h { book = book }) files faults more pairs q)
-placed_goes h book command files faults looks more pairs p q is serves partly steps begun = record {
-  held = record { live = is.live; kept = is.kept; serves = serves };
-  nodes = inl (omega arith);
-  pairs = omega arith;
-  calls = omega arith;
-  begun = begun;
-  placed = grown_placed_part (length h.store) p q (covered_of h.book) (covered_of book) (covered-within h.store book serves) partly steps;
-  files = inl refl;
-  faults = omega arith;
-}
-
-pub same_queries : (h : Held) (book : List Entry) → queries_of book ≡ queries_of h.book → state_of (record h { book = book }) ≡ state_of h
-same_queries h book same = ap (with_queries (state_of h)) same
-
-pub placed_tallied : (h : Held) (book : List Entry) (command : Command) (told : Told) (files : Option Files) (faults looks more pairs p q : ℕ) → ArePartlyAt (length h.store) (covered_of h.book) (covered_of book) → q + sum_of (covered_of h.book) ≡ p + sum_of (covered_of book)
-    → (Registers command → ⊥) → (Compacts command → ⊥) → Tallies (Registers command) (Compacts command) told (scene (at h files faults looks pairs p)) (scene (at (record h { book = book }) files faults more pairs q))
-placed_tallied h book command told files faults looks more pairs p q partly steps other kept =
-    none_tallied (Registers command) (Compacts command) told (scene (at h files faults looks pairs p)) (scene (at (record h { book = book }) files faults more pairs q)) (never (Registers command) other told) (never (Compacts command) kept told)
-    (omega arith) (omega arith) (grown_placed (length h.store) p q (covered_of h.book) (covered_of book) partly steps)
-
-pub placed_answers : (h : Held) (book : List Entry) (number : ℕ) (command : Command) (answer : Answer) (files : Option Files) (faults looks more pairs p q : ℕ) → IsHeld h → Serves h.store book → queries_of book ≡ queries_of h.book
-    → ArePartlyAt (length h.store) (covered_of h.book) (covered_of book) → q + sum_of (covered_of h.book) ≡ p + sum_of (covered_of book)
-    → (Registers command → ⊥) → (Compacts command → ⊥) → PaysFor (world (state_of h) files) command (counters looks pairs) (counters more pairs)
-    → Carries (world (state_of h) files) number command answer.told answer.line.items (world (state_of h) files)
-    → Answers (at h files faults looks pairs p) number command (at (record h { book = book }) files faults more pairs q) answer
-placed_answers h book number command answer files faults looks more pairs p q is serves same partly steps other kept paid carries = record {
-  goes = placed_goes h book command files faults looks more pairs p q is serves partly steps (part_of_paid (world (state_of h) files) command (counters looks pairs) (counters more pairs) paid);
-  carries = subst (λ (st : State). Carries (world (state_of h) files) number command answer.told answer.line.items (world st files)) (sym (same_queries h book same)) carries;
-  paid = paid;
-  tallies = placed_tallied h book command answer.told files faults looks more pairs p q partly steps other kept;
-}
-
-pub placed_stops : (h : Held) (book : List Entry) (number : ℕ) (command : Command) (files : Option Files) (faults looks more pairs p q : ℕ) → IsHeld h → Serves h.store book → queries_of book ≡ queries_of h.book
-    → ArePartlyAt (length h.store) (covered_of h.book) (covered_of book) → q + sum_of (covered_of h.book) ≡ p + sum_of (covered_of book)
-    → PaysForPart (world (state_of h) files) command (counters looks pairs) (counters more pairs)
-    → Stays (at h files faults looks pairs p) number command (at (record h { book = book }) files faults more pairs q) stop.NoMemory
-placed_stops h book number command files faults looks more pairs p q is serves same partly steps begun = record {
-  goes = placed_goes h book command files faults looks more pairs p q is serves partly steps begun;
-  state = inl (same_queries h book same);
-  shelf = no_shelf;
-  sink = no_sink;
-}
-
--- ---- the queries are others
-booked_goes : (h : Held) (book : List Entry) (command : Command) (files : Option Files) (faults looks pairs places : ℕ) → IsHeld h → Serves h.store book
-    → Goes (at h files faults looks pairs places) command (at (record h { book = book }) files faults looks pairs places)
-booked_goes h book command files faults looks pairs places is serves = record {
-  held = record { live = is.live; kept = is.kept; serves = serves };
+-- ---- the store is as it was, and so are the counters
+still_goes : (h : Held) (docs : List Doc) (versions : Named (List Doc)) (book : List Entry) (command : Command) (files after : Option Files) (faults more looks pairs places : ℕ) → IsHeld h
+    → IsHeld (record h { docs = docs; versions = versions; book = book }) → KeepsFiles (λ file. IsSave file command) files after → faults ≤ more
+    → Goes (at h files faults looks pairs places) command (at (record h { docs = docs; versions = versions; book = book }) after more looks pairs places)
+still_goes h docs versions book command files after faults more looks pairs places is now kept later = record {
+  held = now;
   nodes = inl (omega arith);
   pairs = omega arith;
   calls = omega arith;
   begun = not_begun (world (state_of h) files) command looks pairs;
   placed = none_placed_part (length h.store) (length h.store) (covered_of h.book) places (covered-within h.store h.book is.serves);
-  files = inl refl;
-  faults = omega arith;
+  files = kept;
+  faults = later;
 }
 
+-- ---- the queries are others
 pub booked_answers : (h : Held) (book : List Entry) (number : ℕ) (command : Command) (answer : Answer) (files : Option Files) (faults looks pairs places count : ℕ) → IsHeld h → Serves h.store book
     → IsAllowed (world (state_of h) files) command no_steps → IsOnce (Registers command) answer.told count → IsOnce (Compacts command) answer.told 0
     → Places count 0 (length h.store) (covered_of h.book) (covered_of book) places places
     → Carries (world (state_of h) files) number command answer.told answer.line.items (world (with_queries (state_of h) (queries_of book)) files)
     → Answers (at h files faults looks pairs places) number command (at (record h { book = book }) files faults looks pairs places) answer
 booked_answers h book number command answer files faults looks pairs places count is serves free registered kept placed carries = record {
-  goes = booked_goes h book command files faults looks pairs places is serves;
+  goes = still_goes h h.docs h.versions book command files files faults faults looks pairs places is (record { live = is.live; kept = is.kept; serves = serves }) (inl refl) (omega arith);
   carries = carries;
   paid = (no_steps, free, none_paid looks pairs pairs refl);
   tallies = record {
@@ -258,7 +212,7 @@ pub booked_stops : (h : Held) (book : List Entry) (number : ℕ) (command : Comm
     → (state_of (record h { book = book }) ≡ state_of h) ⊎ ((IsOfFile command → ⊥) × ((told : Told) × (reply : List ℕ) × Carries (world (state_of h) files) number command told reply (world (state_of (record h { book = book })) files)))
     → Stays (at h files faults looks pairs places) number command (at (record h { book = book }) files faults looks pairs places) stop.NoMemory
 booked_stops h book number command files faults looks pairs places is serves state = record {
-  goes = booked_goes h book command files faults looks pairs places is serves;
+  goes = still_goes h h.docs h.versions book command files files faults faults looks pairs places is (record { live = is.live; kept = is.kept; serves = serves }) (inl refl) (omega arith);
   state = state;
   shelf = no_shelf;
   sink = no_sink;
@@ -272,24 +226,11 @@ refused_answers h number command answer files faults looks pairs places is refus
     booked_answers h h.book number command answer files faults looks pairs places 0 is is.serves free (refused_never (Registers command) answer.told refused) (refused_never (Compacts command) answer.told refused) (none_placed (length h.store) (covered_of h.book) places) carries
 
 -- ---- files are others
-saved_goes : (h : Held) (command : Command) (files after : Option Files) (faults more looks pairs places : ℕ) → IsHeld h → KeepsFiles (λ file. IsSave file command) files after → faults ≤ more
-    → Goes (at h files faults looks pairs places) command (at h after more looks pairs places)
-saved_goes h command files after faults more looks pairs places is kept later = record {
-  held = is;
-  nodes = inl (omega arith);
-  pairs = omega arith;
-  calls = omega arith;
-  begun = not_begun (world (state_of h) files) command looks pairs;
-  placed = none_placed_part (length h.store) (length h.store) (covered_of h.book) places (covered-within h.store h.book is.serves);
-  files = kept;
-  faults = later;
-}
-
 pub saved_answers : (h : Held) (number : ℕ) (file bytes : List ℕ) (nodes : ℕ) (answer : Answer) (files after : Option Files) (faults more looks pairs places : ℕ) → IsHeld h → IsSaved (plain h.store h.docs) bytes nodes
     → answer.told ≡ Accepted → answer.line.items ≡ saved_text (length (plain h.store h.docs)) nodes → IsPut files file bytes after → faults ≤ more
     → Answers (at h files faults looks pairs places) number (form.SaveFile file) (at h after more looks pairs places) answer
 saved_answers h number file bytes nodes answer files after faults more looks pairs places is saved accepted written put later = record {
-  goes = saved_goes h (form.SaveFile file) files after faults more looks pairs places is (inr (file, refl, put.others)) later;
+  goes = still_goes h h.docs h.versions h.book (form.SaveFile file) files after faults more looks pairs places is is (inr (file, refl, put.others)) later;
   carries = subst (λ (t : Told). Carries (world (state_of h) files) number (form.SaveFile file) t answer.line.items (world (state_of h) after)) (sym accepted) (bytes, nodes, saved, written, refl, put);
   paid = (no_steps, refl, none_paid looks pairs pairs refl);
   tallies = none_tallied (Registers (form.SaveFile file)) (Compacts (form.SaveFile file)) answer.told (scene (at h files faults looks pairs places)) (scene (at h after more looks pairs places)) (never (Registers (form.SaveFile file)) (λ no. no) answer.told) (never (Compacts (form.SaveFile file)) (λ no. no) answer.told)
@@ -299,32 +240,19 @@ saved_answers h number file bytes nodes answer files after faults more looks pai
 pub saved_stays : (h : Held) (number : ℕ) (file : List ℕ) (files after : Option Files) (faults more looks pairs places : ℕ) (why : Stop) → IsHeld h → KeepsOthers files after file → faults ≤ more → (why ≡ stop.ShelfFault → Rose faults more) → (why ≡ stop.OutFault → ⊥)
     → Stays (at h files faults looks pairs places) number (form.SaveFile file) (at h after more looks pairs places) why
 saved_stays h number file files after faults more looks pairs places why is others later shelf sink = record {
-  goes = saved_goes h (form.SaveFile file) files after faults more looks pairs places is (inr (file, refl, others)) later;
+  goes = still_goes h h.docs h.versions h.book (form.SaveFile file) files after faults more looks pairs places is is (inr (file, refl, others)) later;
   state = inl refl;
   shelf = λ e. (tt, shelf e);
   sink = sink;
 }
 
 -- ---- the versions are others, and perhaps the documents
-marked_goes : (h : Held) (docs : List Doc) (versions : Named (List Doc)) (command : Command) (files : Option Files) (faults looks pairs places : ℕ) → IsHeld h → AreLive h.store docs → AreKept h.store versions
-    → Goes (at h files faults looks pairs places) command (at (record h { docs = docs; versions = versions }) files faults looks pairs places)
-marked_goes h docs versions command files faults looks pairs places is live kept = record {
-  held = record { live = live; kept = kept; serves = is.serves };
-  nodes = inl (omega arith);
-  pairs = omega arith;
-  calls = omega arith;
-  begun = not_begun (world (state_of h) files) command looks pairs;
-  placed = none_placed_part (length h.store) (length h.store) (covered_of h.book) places (covered-within h.store h.book is.serves);
-  files = inl refl;
-  faults = omega arith;
-}
-
 pub marked_answers : (h : Held) (docs : List Doc) (versions : Named (List Doc)) (number : ℕ) (command : Command) (answer : Answer) (files : Option Files) (faults looks pairs places : ℕ) → IsHeld h → AreLive h.store docs → AreKept h.store versions
     → (Registers command → ⊥) → (Compacts command → ⊥) → IsAllowed (world (state_of h) files) command no_steps
     → Carries (world (state_of h) files) number command answer.told answer.line.items (world (state_of (record h { docs = docs; versions = versions })) files)
     → Answers (at h files faults looks pairs places) number command (at (record h { docs = docs; versions = versions }) files faults looks pairs places) answer
 marked_answers h docs versions number command answer files faults looks pairs places is live kept other keeps free carries = record {
-  goes = marked_goes h docs versions command files faults looks pairs places is live kept;
+  goes = still_goes h docs versions h.book command files files faults faults looks pairs places is (record { live = live; kept = kept; serves = is.serves }) (inl refl) (omega arith);
   carries = carries;
   paid = (no_steps, free, none_paid looks pairs pairs refl);
   tallies = none_tallied (Registers command) (Compacts command) answer.told (scene (at h files faults looks pairs places)) (scene (at (record h { docs = docs; versions = versions }) files faults looks pairs places)) (never (Registers command) other answer.told) (never (Compacts command) keeps answer.told)
@@ -376,3 +304,35 @@ moved_stops h store docs book number command files faults looks more p q r s is 
   shelf = no_shelf;
   sink = no_sink;
 }
+
+-- ---- the queries were given tables, and nothing else
+pub placed_goes : (h : Held) (book : List Entry) (command : Command) (files : Option Files) (faults looks more pairs p q : ℕ) → IsHeld h → Serves h.store book
+    → ArePartlyAt (length h.store) (covered_of h.book) (covered_of book) → q + sum_of (covered_of h.book) ≡ p + sum_of (covered_of book)
+    → PaysForPart (world (state_of h) files) command (counters looks pairs) (counters more pairs)
+    → Goes (at h files faults looks pairs p) command (at (record h { book = book }) files faults more pairs q)
+placed_goes h book command files faults looks more pairs p q is serves partly steps begun =
+    moved_goes h h.store h.docs book command files faults looks more pairs pairs p q is (Grows-none h.store pairs pairs (omega arith)) is.live serves partly steps begun
+
+pub same_queries : (h : Held) (book : List Entry) → queries_of book ≡ queries_of h.book → state_of (record h { book = book }) ≡ state_of h
+same_queries h book same = ap (with_queries (state_of h)) same
+
+pub placed_tallied : (h : Held) (book : List Entry) (command : Command) (told : Told) (files : Option Files) (faults looks more pairs p q : ℕ) → ArePartlyAt (length h.store) (covered_of h.book) (covered_of book) → q + sum_of (covered_of h.book) ≡ p + sum_of (covered_of book)
+    → (Registers command → ⊥) → (Compacts command → ⊥) → Tallies (Registers command) (Compacts command) told (scene (at h files faults looks pairs p)) (scene (at (record h { book = book }) files faults more pairs q))
+placed_tallied h book command told files faults looks more pairs p q partly steps other kept =
+    none_tallied (Registers command) (Compacts command) told (scene (at h files faults looks pairs p)) (scene (at (record h { book = book }) files faults more pairs q)) (never (Registers command) other told) (never (Compacts command) kept told)
+    (omega arith) (omega arith) (grown_placed (length h.store) p q (covered_of h.book) (covered_of book) partly steps)
+
+pub placed_answers : (h : Held) (book : List Entry) (number : ℕ) (command : Command) (answer : Answer) (files : Option Files) (faults looks more pairs p q : ℕ) → IsHeld h → Serves h.store book → queries_of book ≡ queries_of h.book
+    → ArePartlyAt (length h.store) (covered_of h.book) (covered_of book) → q + sum_of (covered_of h.book) ≡ p + sum_of (covered_of book)
+    → (Registers command → ⊥) → (Compacts command → ⊥) → PaysFor (world (state_of h) files) command (counters looks pairs) (counters more pairs)
+    → Carries (world (state_of h) files) number command answer.told answer.line.items (world (state_of h) files)
+    → Answers (at h files faults looks pairs p) number command (at (record h { book = book }) files faults more pairs q) answer
+placed_answers h book number command answer files faults looks more pairs p q is serves same partly steps other kept paid carries =
+    moved_answers h h.store h.docs book number command answer files faults looks more pairs pairs p q is (Grows-none h.store pairs pairs (omega arith)) is.live serves same partly steps other kept paid carries
+
+pub placed_stops : (h : Held) (book : List Entry) (number : ℕ) (command : Command) (files : Option Files) (faults looks more pairs p q : ℕ) → IsHeld h → Serves h.store book → queries_of book ≡ queries_of h.book
+    → ArePartlyAt (length h.store) (covered_of h.book) (covered_of book) → q + sum_of (covered_of h.book) ≡ p + sum_of (covered_of book)
+    → PaysForPart (world (state_of h) files) command (counters looks pairs) (counters more pairs)
+    → Stays (at h files faults looks pairs p) number command (at (record h { book = book }) files faults more pairs q) stop.NoMemory
+placed_stops h book number command files faults looks more pairs p q is serves same partly steps begun =
+    moved_stops h h.store h.docs book number command files faults looks more pairs pairs p q is (Grows-none h.store pairs pairs (omega arith)) is.live serves same partly steps refl begun

@@ -11,7 +11,7 @@ use Rattle.span_enum.proofs.Pages.{first-after, after-first, none-after}
 use Rattle.span_language.specs.Step.{AppendsFront}
 use Rattle.span_language.specs.Listed.{tuple_line, last_line, first_page_text}
 use Rattle.std.specs.Io.KnownBytes.{Appends}
-use Rattle.span_run.proofs.Written.{IsListing, listing_starts, listing_goes_on, listing_waits, listing_stops, listing_ends}
+use Rattle.span_run.proofs.Written.{IsListing, listing_starts, listing_goes_on, listing_stops, listing_ends}
 
 lt_false : (m n : ℕ) → n ≤ m → nat_lt m n ≡ false
 lt_false m n h = grind arith
@@ -71,10 +71,6 @@ goes_starts a names limit first all cursor looks each h = record {
   so_far = listing_starts a (first_page_text names limit first);
   paid = omega arith;
 }
-
-pub goes_waits : (a b : Option (List ℕ)) (names : List (List ℕ)) (limit : ℕ) (first all : List Tuple) (cursor : Option Tuple) (left before looks each : ℕ)
-    → Goes a b names limit first all cursor left before looks each → AppendsFront a b (first_page_text names limit first)
-goes_waits a b names limit first all cursor left before looks each h = listing_waits a b (first_page_text names left h.rest) (first_page_text names limit first) h.so_far
 
 -- the looks of one more answer
 pub one_more : (a b : Option (List ℕ)) (names : List (List ℕ)) (limit : ℕ) (first all : List Tuple) (cursor : Option Tuple) (left before looks more each : ℕ)

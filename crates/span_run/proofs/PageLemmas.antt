@@ -1,6 +1,5 @@
 -- What listing the answers of a query does.
-use Rattle.std.proofs.Common.{◌≡◌, inl, inr, ℕ, ◌+◌, ◌*◌, ◌≤◌, nat_lt, List, Option, Some, None, Result, Ok, Err, length, take, refl, sym, ap, subst, ◌∙◌, arith}
-use Rattle.std.specs.Prelude.{IfOk, OnOk, OnErr}
+use Rattle.std.proofs.Common.{◌≡◌, inl, inr, ℕ, ◌+◌, ◌*◌, ◌≤◌, nat_lt, List, Option, Some, None, length, take, refl, sym, ap, subst, ◌∙◌, arith}
 use Rattle.std.specs.Option.{option_map}
 use Rattle.std.specs.Io.KnownBytes.{Appends}
 use Rattle.script_syntax.specs.declared.form.Command.TheVariants as form
@@ -25,14 +24,6 @@ use Rattle.span_run.specs.declared.words.Unread.TheVariants as unread
 use Rattle.span_language.specs.declared.told.Told.{Told}
 use Rattle.span_language.specs.declared.told.Told.TheVariants.{Quiet, Accepted, Refused}
 use Rattle.span_language.specs.Allowance.{counters, no_steps, answers_steps, IsAllowed, PaysFor, PaysForPart}
-
-pub on_ok_of : {T E : Type 0} (r : Result T E) (P : T → Type 0) (Q : Type 0) → ((x : T) → P x → Q) → IfOk r P → OnOk r Q
-on_ok_of (Ok x) P Q f h = f x h
-on_ok_of (Err e) P Q f h = tt
-
-pub of_both : {T E : Type 0} (r : Result T E) (P : T → Type 0) (Q Z : Type 0) → ((x : T) → P x → Z) → (Q → Z) → IfOk r P → OnErr r Q → Z
-of_both (Ok x) P Q Z f g h k = f x h
-of_both (Err e) P Q Z f g h k = g k
 
 same_query : (queries : Named Query) (name : List ℕ) (p q : Query) → value_of queries name ≡ Some p → value_of queries name ≡ Some q → p ≡ q
 same_query queries name p q first second = let both : Some p ≡ Some q = sym first ∙ second in cc both
@@ -173,11 +164,6 @@ module _ (w : World) (number : ℕ) (query name text : List ℕ) (word : Option 
   pub list_begun : (Writes : List ℕ → Type 0) (told : Told) (before after pairs : ℕ) → Tells Writes number w.state.queries query word text n told before after
       → PaysForPart w (form.List query name word n) (counters before pairs) (counters after pairs)
   list_begun Writes told before after pairs h = let p = list_paid Writes told before after pairs h in (p.0, inr p.1, p.2)
-
-pub list_lacks : (w : World) (number : ℕ) (query name : List ℕ) (word : Option (List ℕ)) (n : ℕ) (told : Told) (reply : List ℕ) → value_of w.state.documents name ≡ None → told ≡ Refused → reply ≡ refusal_text number (NoSuchDocument name)
-    → Carries w number (form.List query name word n) told reply w
-list_lacks w number query name word n told reply missing is written =
-    subst (λ (t : Told). Carries w number (form.List query name word n) t reply w) (sym is) (NoSuchDocument name, inl (inl (missing, refl)), written, refl)
 
 pub list_free : (w : World) (query name : List ℕ) (word : Option (List ℕ)) (n : ℕ) → value_of w.state.documents name ≡ None → IsAllowed w (form.List query name word n) no_steps
 list_free w query name word n missing = inl (NoSuchDocument name, inl (inl (missing, refl)), refl)

@@ -1,12 +1,12 @@
 -- What registering and asking queries does.
-use Rattle.std.proofs.Common.{rules, ◌≡◌, inl, inr, ℕ, ◌+◌, ◌≤◌, List, Option, Some, None, refl, sym, ap, subst, ◌∙◌, arith}
+use Rattle.std.proofs.Common.{rules, ◌≡◌, inl, inr, ℕ, ◌+◌, ◌≤◌, List, Option, Some, None, refl, sym, ap, subst, ◌∙◌, arith, length}
 use Rattle.std.specs.Prelude.{◌↔◌, IsSome, IsTrue, Bool, true, false, option_map}
 use Rattle.edge_io.specs.Files.{Files}
 use Rattle.script_syntax.specs.declared.form.Command.TheVariants as form
 use Rattle.report_text.specs.Reply.{query_text, refusal_text}
 use Rattle.span_types.specs.Query.{Query}
 use Rattle.span_types.specs.Rel.{names_of}
-use Rattle.query_book.specs.Registering.{IsQueryOf, IsRefused}
+use Rattle.query_book.specs.Registering.{IsQueryOf, IsRefused as IsUnregistered}
 use Rattle.query_book.specs.declared.refusal.QueryRefusal.{QueryRefusal}
 use Rattle.query_book.specs.declared.refusal.QueryRefusal.TheVariants as query
 use Rattle.formula_syntax.specs.declared.refusal.FormulaRefusal.{FormulaRefusal}
@@ -14,7 +14,7 @@ use Rattle.formula_syntax.specs.declared.refusal.FormulaRefusal.TheVariants as f
 use Rattle.span_run.specs.Shown.{IsFormulaRefusal, IsTextRefusal, IsTextDenied}
 use Rattle.span_language.specs.State.{State, World, Named, with_queries, world, put, value_of, taken_out}
 use Rattle.span_language.specs.Replies.{ok_text, yes_text, no_text}
-use Rattle.span_language.specs.Step.{Carries, IsTextRefused, IsYesOrNo}
+use Rattle.span_language.specs.Step.{Carries, IsTextRefused, IsYesOrNo, IsRefused}
 use Rattle.span_language.specs.declared.told.Told.{Told}
 use Rattle.span_language.specs.declared.told.Told.TheVariants.{Quiet, Accepted, Refused}
 use Rattle.slp_model.specs.declared.NodeId.{NodeId}
@@ -22,10 +22,17 @@ use Rattle.slp_model.specs.declared.Node.{Node}
 use Rattle.doc_book.specs.declared.Doc.{Doc}
 use Rattle.doc_book.specs.Docs as book
 use Rattle.edit_expr.specs.Values.{plain, text_at}
-use Rattle.query_book.specs.Answers.{HasAnswer, IsNamed, most_looks}
-use Rattle.report_text.specs.declared.refusal.Refusal.TheVariants.{NoSuchDocument, NoSuchQuery}
+use Rattle.query_book.specs.Answers.{HasAnswer, IsNamed, most_looks, HasVariablesOf, IsAnswer}
+use Rattle.report_text.specs.declared.refusal.Refusal.TheVariants.{NoSuchDocument, NoSuchQuery, BadTuple, OtherVariables}
 use Rattle.span_run.specs.Asked.{IsAnswered}
 use Rattle.span_language.specs.Allowance.{counters, no_steps, answers_steps, IsAllowed, PaysFor, PaysForPart}
+use Rattle.report_text.specs.declared.refusal.Refusal.{Refusal}
+use Rattle.span_enum.specs.Members.{Tuple}
+use Rattle.span_cursor.specs.Tuples.{TupleText}
+use Rattle.span_run.specs.Words.{IsTupleOf, IsUnread, IsWordRefusal}
+use Rattle.span_run.specs.Judged.{IsJudged, IsWordPaid}
+use Rattle.span_run.specs.declared.words.Unread.{Unread}
+use Rattle.span_run.specs.declared.words.Unread.TheVariants as unread
 use Rattle.span_run.proofs.HeldLemmas.{value_of-plain}
 use Rattle.span_run.proofs.BookLemmas.{some_value}
 
@@ -45,11 +52,6 @@ unquery_carries st new number name told reply files there taken accepted written
     let q = some_value (value_of st.queries name) there in
     subst (λ (t : Told). Carries (world st files) number (form.Unquery name) t reply (world (with_queries st new) files)) (sym accepted)
     (q.0, q.1, written, only_queries st (taken_out st.queries name) new files taken)
-
-pub unquery_lacks : (w : World) (number : ℕ) (name : List ℕ) (told : Told) (reply : List ℕ) → value_of w.state.queries name ≡ None → told ≡ Refused → reply ≡ refusal_text number (NoSuchQuery name)
-    → Carries w number (form.Unquery name) told reply w
-unquery_lacks w number name told reply missing is written =
-    subst (λ (t : Told). Carries w number (form.Unquery name) t reply w) (sym is) (NoSuchQuery name, (missing, refl), written, refl)
 
 -- the answer of a question, as a reply
 pub answered : (Holds : Query → Type 0) (number : ℕ) (queries : Named Query) (bytes name : List ℕ) (b : Bool) (told : Told) (reply : List ℕ) → bytes ≡ name → IsNamed queries bytes (λ q. IsTrue b ↔ Holds q)
@@ -97,19 +99,15 @@ test_begun w query name text looks more pairs there cost = at (value_of w.state.
     at (Some q) is = let paid : more ≤ looks + most_looks (Some q) text = subst (λ (o : Option Query). more ≤ looks + most_looks o text) is cost in
         (answers_steps 1 q text, inr (inr (q, text, record { document = there; registered = is }, refl)), record { looks = omega (arith, paid); pairs = omega arith })
 
-pub test_lacks : (w : World) (number : ℕ) (query name : List ℕ) (told : Told) (reply : List ℕ) → value_of w.state.documents name ≡ None → told ≡ Refused → reply ≡ refusal_text number (NoSuchDocument name)
-    → Carries w number (form.Nonempty query name) told reply w
-test_lacks w number query name told reply missing is written = subst (λ (t : Told). Carries w number (form.Nonempty query name) t reply w) (sym is) (NoSuchDocument name, inl (missing, refl), written, refl)
-
 pub test_free : (w : World) (query name : List ℕ) → value_of w.state.documents name ≡ None → IsAllowed w (form.Nonempty query name) no_steps
 test_free w query name missing = inl (NoSuchDocument name, inl (missing, refl), refl)
 
 -- a text that gives no query
-pub query_denied : (w : World) (number : ℕ) (name text : List ℕ) (why : QueryRefusal) (told : Told) (reply : List ℕ) → IsRefused text why → IsTextDenied number why told reply → Carries w number (form.Query name text) told reply w
+pub query_denied : (w : World) (number : ℕ) (name text : List ℕ) (why : QueryRefusal) (told : Told) (reply : List ℕ) → IsUnregistered text why → IsTextDenied number why told reply → Carries w number (form.Query name text) told reply w
 query_denied w number name text why told reply refuses (is, kept, refusal, written) =
     subst (λ (t : Told). Carries w number (form.Query name text) t reply w) (sym is) (kept, at_why why refuses refusal, written, refl)
   where
-    at_formula : (f : FormulaRefusal) → IsRefused text (query.Formula f) → IsFormulaRefusal f kept → IsTextRefused text kept
+    at_formula : (f : FormulaRefusal) → IsUnregistered text (query.Formula f) → IsFormulaRefusal f kept → IsTextRefused text kept
     at_formula (formula.TooLong len) h e = subst (IsTextRefused text) (sym e) h
     at_formula formula.BadText h e = subst (IsTextRefused text) (sym e) h
     at_formula formula.TooDeep h e = subst (IsTextRefused text) (sym e) h
@@ -118,7 +116,60 @@ query_denied w number name text why told reply refuses (is, kept, refusal, writt
     at_formula (formula.NotFunctional name) h e = subst (IsTextRefused text) (sym e) h
     at_formula formula.NoMemory h e = absurd e
 
-    at_why : (y : QueryRefusal) → IsRefused text y → IsTextRefusal y kept → IsTextRefused text kept
+    at_why : (y : QueryRefusal) → IsUnregistered text y → IsTextRefusal y kept → IsTextRefused text kept
     at_why (query.Formula f) h e = at_formula f h e
     at_why query.TooManyStates h e = subst (IsTextRefused text) (sym e) h
     at_why query.NoMemory h e = absurd e
+
+-- ---- what asking for a tuple does
+pub has_variables : (queries : Named Query) (name word : List ℕ) (tuple : Tuple) → IsTupleOf queries name word tuple → HasVariablesOf queries name tuple
+has_variables queries name word tuple h q there =
+    let both : Some h.query ≡ Some q = sym h.there ∙ there in
+    let same : h.query ≡ q = cc both in
+    subst (λ (k : Query). length tuple ≡ length (names_of k)) same (sym h.text.paired)
+
+pub judged : (number : ℕ) (queries : Named Query) (name word text : List ℕ) (tuple : Tuple) (told : Told) (reply : List ℕ) → IsTupleOf queries name word tuple
+    → IsAnswered (λ q. IsAnswer q text tuple) number queries name told reply → IsJudged number queries name word text told reply
+judged number queries name word text tuple Quiet reply h answered = absurd answered
+judged number queries name word text tuple Accepted reply h (q, there, answer) =
+    let both : Some h.query ≡ Some q = sym h.there ∙ there in
+    let same : h.query ≡ q = cc both in
+    (tuple, q, there, subst (λ (k : Query). TupleText word (names_of k) tuple) same h.text, answer)
+judged number queries name word text tuple Refused reply h (none, written) = (unread.NoSuchQuery, NoSuchQuery name, none, refl, written)
+
+pub judged_unread : (number : ℕ) (queries : Named Query) (name word text : List ℕ) (u : Unread) (why : Refusal) (told : Told) (reply : List ℕ) → IsUnread queries name word u → IsWordRefusal name u why
+    → told ≡ Refused → reply ≡ refusal_text number why → IsJudged number queries name word text told reply
+judged_unread number queries name word text u why told reply not_read is refused written =
+    subst (λ (t : Told). IsJudged number queries name word text t reply) (sym refused) (u, why, not_read, is, written)
+
+has_refused : (w : World) (query name word text : List ℕ) → value_of w.state.documents name ≡ Some text → (u : Unread) (why : Refusal) → IsUnread w.state.queries query word u → IsWordRefusal query u why → IsRefused w (form.Has query name word) why
+has_refused w query name word text there unread.NoSuchQuery why none is = inl (inr (text, there, none, is))
+has_refused w query name word text there unread.BadTuple why (q, registered, bad) is = inr (q, text, record { document = there; registered = registered }, inl (bad, is))
+has_refused w query name word text there unread.OtherVariables why (q, registered, other) is = inr (q, text, record { document = there; registered = registered }, inr (other, is))
+
+word_why : (query : List ℕ) (u : Unread) → (why : Refusal) × IsWordRefusal query u why
+word_why query unread.NoSuchQuery = (NoSuchQuery query, refl)
+word_why query unread.BadTuple = (BadTuple, refl)
+word_why query unread.OtherVariables = (OtherVariables, refl)
+
+pub has_carries : (w : World) (number : ℕ) (query name word text : List ℕ) (told : Told) (reply : List ℕ) → value_of w.state.documents name ≡ Some text → IsJudged number w.state.queries query word text told reply → Carries w number (form.Has query name word) told reply w
+has_carries w number query name word text Quiet reply there h = absurd h
+has_carries w number query name word text Accepted reply there (tuple, q, registered, is, answer) = (q, text, tuple, record { document = there; registered = registered }, is, answer, refl)
+has_carries w number query name word text Refused reply there (u, why, not_read, is, written) = (why, has_refused w query name word text there u why not_read is, written, refl)
+
+-- the looks for a word: those of one answer where it is a tuple, else none
+pub has_paid : (w : World) (query name word text : List ℕ) (looks more pairs : ℕ) → value_of w.state.documents name ≡ Some text → IsWordPaid w.state.queries query word text looks more
+    → PaysFor w (form.Has query name word) (counters looks pairs) (counters more pairs)
+has_paid w query name word text looks more pairs there (inl (u, not_read, same)) =
+    let why = word_why query u in
+    (no_steps, inl (why.0, has_refused w query name word text there u why.0 not_read why.1, refl), record { looks = omega (arith, same); pairs = omega arith })
+has_paid w query name word text looks more pairs there (inr (tuple, is, cost)) =
+    let paid : more ≤ looks + most_looks (Some is.query) text = subst (λ (o : Option Query). more ≤ looks + most_looks o text) is.there cost in
+    (answers_steps 1 is.query text, inr (is.query, text, tuple, record { document = there; registered = is.there }, is.text, refl), record { looks = omega (arith, paid); pairs = omega arith })
+
+pub has_begun : (w : World) (query name word text : List ℕ) (looks more pairs : ℕ) → value_of w.state.documents name ≡ Some text → IsWordPaid w.state.queries query word text looks more
+    → PaysForPart w (form.Has query name word) (counters looks pairs) (counters more pairs)
+has_begun w query name word text looks more pairs there cost = let p = has_paid w query name word text looks more pairs there cost in (p.0, inr p.1, p.2)
+
+pub has_free : (w : World) (query name word : List ℕ) → value_of w.state.documents name ≡ None → IsAllowed w (form.Has query name word) no_steps
+has_free w query name word missing = inl (NoSuchDocument name, inl (inl (missing, refl)), refl)

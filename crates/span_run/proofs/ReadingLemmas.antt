@@ -20,11 +20,6 @@ Consumes-more (Some a) None new xs ys h i = absurd h
 Consumes-more (Some a) (Some b) None xs ys h i = absurd i
 Consumes-more (Some a) (Some b) (Some c) xs ys h i = h ∙ ap (λ t. xs ++ t) i ∙ sym (append_assoc xs ys c)
 
--- nothing of a file was read, and none stands behind the limit
-pub none_behind : (files : Option Files) (name : List ℕ) (limit : ℕ) → IfSome files (λ all. HasPiece all name limit []) → IsFileFront files name limit []
-none_behind None name limit h = tt
-none_behind (Some all) name limit (bytes, there, piece) = record { file = bytes; there = there; short = piece.end refl; begins = refl }
-
 -- and where a byte stands there the file is too long
 pub some_behind : (files : Option Files) (name : List ℕ) (from : ℕ) (front piece : List ℕ) → length front ≡ from → 0 < length piece
     → IfSome files (λ all. HasPiece all name from piece) → (bytes : List ℕ) × Holds files name bytes × (length front + length piece ≤ length bytes)

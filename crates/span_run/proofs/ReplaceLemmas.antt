@@ -1,30 +1,35 @@
 -- What a replacement does.
-use Rattle.std.proofs.Common.{◌≡◌, ◌⊎◌, ◌∙◌, inl, inr, ℕ, ◌+◌, ◌*◌, ◌<◌, ◌≤◌, ◌^◌, List, length, min, Option, Some, None, refl, sym, ap, subst, arith}
+use Rattle.std.proofs.Common.{◌≡◌, ◌∙◌, inl, inr, ℕ, ◌+◌, ◌*◌, ◌<◌, ◌≤◌, List, length, min, Option, Some, None, refl, sym, ap, subst, arith, Result}
 use Rattle.edge_io.specs.Files.{Files}
 use Rattle.script_syntax.specs.declared.form.Command.TheVariants as form
 use Rattle.report_text.specs.Reply.{refusal_text}
-use Rattle.report_text.specs.declared.refusal.Refusal.{Refusal}
 use Rattle.report_text.specs.declared.refusal.Refusal.TheVariants.{NotOneVariable, TooLong, TooManyMatches}
 use Rattle.span_replace.specs.Replaced.{replaced}
 use Rattle.span_types.specs.declared.tuple.Span.{Span}
 use Rattle.span_types.specs.Fibonacci.{looks_limit}
 use Rattle.span_types.specs.Query.{Query}
 use Rattle.span_types.specs.Rel.{names_of}
-use Rattle.span_language.specs.State.{Documents, State, World, put, value_of, with_documents, world}
-use Rattle.span_language.specs.Allowance.{Counters, IsPaid, PaysFor, PaysForPart, counters, no_steps, replace_steps}
-use Rattle.span_language.specs.Step.{Carries, IsChosenOf, IsReplacing, IsUnreplaced, most_spans}
+use Rattle.span_language.specs.State.{Documents, State, World, put, value_of, with_documents, world, Named}
+use Rattle.span_language.specs.Allowance.{PaysFor, counters, replace_steps}
+use Rattle.span_language.specs.Step.{Carries, IsChosenOf, IsReplacing, most_spans}
 use Rattle.span_language.specs.declared.told.Told.{Told}
 use Rattle.span_language.specs.declared.told.Told.TheVariants.{Refused}
-use Rattle.doc_book.specs.Docs as book
+use Rattle.span_language.specs.declared.told.Stop.TheVariants as stop
 use Rattle.edit_expr.specs.Values.{text_at}
 use Rattle.query_book.specs.Book.{queries_of}
 use Rattle.std.specs.Prelude.{option_map}
 use Rattle.span_run.specs.declared.held.Held.{Held}
 use Rattle.span_run.specs.declared.replacing.Sources.{Sources}
-use Rattle.span_run.specs.Held.{state_of}
-use Rattle.span_run.specs.Replacing.{AreSources, Replaces}
+use Rattle.span_run.specs.Held.{state_of, IsHeld}
+use Rattle.span_run.specs.Replacing.{AreSources, Replaces, Chooses}
+use Rattle.span_replace.specs.declared.refusal.ReplaceRefusal.{ReplaceRefusal}
+use Rattle.query_book.specs.declared.entry.Entry.{Entry}
+use Rattle.query_book.specs.Serving.{ArePartlyAt, Serves, covered_of, sum_of}
+use Rattle.span_run.specs.Answers.{Stays}
+use Rattle.span_run.specs.Site.{at}
 use Rattle.span_run.proofs.QueryLemmas.{document_is}
-use Rattle.span_run.proofs.CarryLemmas.{none_paid, only_documents}
+use Rattle.span_run.proofs.CarryLemmas.{only_documents, part_of_paid}
+use Rattle.span_run.proofs.Goes.{placed_stops}
 
 module _ (st : State) (files : Option Files) (number : ℕ) (name query source by : List ℕ) (q : Query) (text other : List ℕ) (spans : List Span) (asked : IsReplacing (world st files) query source by q text other) (chosen : IsChosenOf q text spans) where
   -- the document has the text, or it would be too long
@@ -49,12 +54,6 @@ module _ (st : State) (files : Option Files) (number : ℕ) (name query source b
   replace_paid looks more p r looked paired =
       (replace_steps (min (length spans) most_spans) (length text), inr (q, text, other, spans, asked, chosen, refl), record { looks = looked; pairs = paired })
 
--- what it was asked of was refused
-pub replace_refused : (w : World) (number : ℕ) (name query source by : List ℕ) (why : Refusal) (told : Told) (reply : List ℕ) → IsUnreplaced w query source by why → told ≡ Refused → reply ≡ refusal_text number why
-    → Carries w number (form.ReplaceDoc name query source by) told reply w
-replace_refused w number name query source by why told reply unreplaced refused written =
-    subst (λ (t : Told). Carries w number (form.ReplaceDoc name query source by) t reply w) (sym refused) (why, inl unreplaced, written, refl)
-
 one_query : (o : Option Query) (p q : Query) → o ≡ Some p → o ≡ Some q → p ≡ q
 one_query o p q first second = let both : Some p ≡ Some q = sym first ∙ second in cc both
 
@@ -67,6 +66,26 @@ is_replacing h files query source by s a q there = record {
   registered = there;
   one = subst (λ (p : Query). length (names_of p) ≡ 1) (one_query (value_of (queries_of h.book) query) a.variable.query q a.variable.there there) a.variable.one;
 }
+
+-- a choice, seen with the queries as they were before they were given tables
+pub chosen_before : (old new : Named Query) (name asked text : List ℕ) (result : Result (List Span) ReplaceRefusal) (before after : ℕ) → new ≡ old → name ≡ asked
+    → Chooses new name text result before after → Chooses old asked text result before after
+chosen_before old new name asked text result before after same is h =
+    subst (λ (n : List ℕ). Chooses old n text result before after) is (subst (λ (qs : Named Query). Chooses qs name text result before after) same h)
+
+-- the memory ran out while the spans were chosen, or for the reply
+pub choose_stops : (h : Held) (book : List Entry) (number : ℕ) (files : Option Files) (faults looks more pairs p q : ℕ) (name query source by : List ℕ) (s : Sources) (result : Result (List Span) ReplaceRefusal) → IsHeld h → Serves h.store book
+    → queries_of book ≡ queries_of h.book → ArePartlyAt (length h.store) (covered_of h.book) (covered_of book) → q + sum_of (covered_of h.book) ≡ p + sum_of (covered_of book)
+    → AreSources h query source by s → Chooses (queries_of book) s.query (text_at h.store s.root) result looks more
+    → Stays (at h files faults looks pairs p) number (form.ReplaceDoc name query source by) (at (record h { book = book }) files faults more pairs q) stop.NoMemory
+choose_stops h book number files faults looks more pairs p q name query source by s result is serves same partly steps sources choice =
+    let text = text_at h.store s.root in
+    let other = text_at h.store s.other in
+    let chosen = chosen_before (queries_of h.book) (queries_of book) s.query query text result looks more same sources.name choice in
+    let replacing = is_replacing h files query source by s sources chosen.of chosen.there in
+    placed_stops h book number (form.ReplaceDoc name query source by) files faults looks more pairs p q is serves same partly steps
+    (part_of_paid (world (state_of h) files) (form.ReplaceDoc name query source by) (counters looks pairs) (counters more pairs)
+    (replace_paid (state_of h) files number name query source by chosen.of text other chosen.spans replacing chosen.chosen looks more pairs pairs chosen.cost (omega (arith, chosen.cost))))
 
 -- a query has another number of variables than one
 pub not_one : (w : World) (query source by text other : List ℕ) (names : List (List ℕ)) (count : ℕ) → value_of w.state.documents source ≡ Some text → value_of w.state.documents by ≡ Some other → option_map names_of (value_of w.state.queries query) ≡ Some names

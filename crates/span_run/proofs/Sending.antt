@@ -1,16 +1,16 @@
 -- A reply that was sent, or wasn't, and lines that do nothing.
-use Rattle.std.proofs.Common.{◌≡◌, ◌∙◌, ◌≤◌, ℕ, [], Option, Some, None, inl, inr, refl, sym, subst, arith, length}
+use Rattle.std.proofs.Common.{◌≡◌, ◌∙◌, ◌≤◌, ℕ, [], Option, Some, None, inl, inr, refl, sym, subst, arith, length, List}
 use Rattle.edge_io.specs.Files.{Files}
 use Rattle.report_text.specs.Reply.{refusal_text}
 use Rattle.report_text.specs.declared.refusal.Refusal.TheVariants.{Syntax}
 use Rattle.script_syntax.specs.declared.form.Command.{Command}
 use Rattle.script_syntax.specs.declared.form.Command.TheVariants as form
 use Rattle.query_book.specs.Serving.{covered_of}
-use Rattle.span_language.specs.State.{world}
+use Rattle.span_language.specs.State.{world, World}
 use Rattle.span_language.specs.Allowance.{no_steps}
 use Rattle.span_language.specs.Counts.{Compacts, Registers}
 use Rattle.span_language.specs.Means.{Carried, Of, Replies}
-use Rattle.span_language.specs.Step.{Finishes, IsList, Leaves}
+use Rattle.span_language.specs.Step.{Finishes, IsList, Leaves, Carries, IsRefused}
 use Rattle.span_language.specs.declared.told.Told.{Told}
 use Rattle.span_language.specs.declared.told.Told.TheVariants.{Quiet, Refused}
 use Rattle.span_language.specs.declared.told.Stop.{Stop}
@@ -18,15 +18,17 @@ use Rattle.span_language.specs.declared.told.Stop.TheVariants as stop
 use Rattle.span_run.specs.declared.answer.Answer.{Answer}
 use Rattle.span_run.specs.declared.held.Held.{Held}
 use Rattle.span_run.specs.Held.{IsHeld, standing_of, state_of}
-use Rattle.span_run.specs.Site.{Site, world_at}
+use Rattle.span_run.specs.Site.{Site, world_at, at}
 use Rattle.span_run.specs.Scene.{Tallies, scene, seen}
 use Rattle.span_run.specs.Answers.{Goes, Answers, IsAnswering, Stays}
 use Rattle.span_run.specs.Carried.{Outlet, Passes, Done, Stopped, IsSent, IsUnsent}
+use Rattle.report_text.specs.declared.refusal.Refusal.{Refusal}
+use Rattle.span_run.specs.Refusing.{IsRefusedFreely}
 use Rattle.span_run.proofs.Written.{kept_same, nothing_front, nothing_written}
 use Rattle.span_run.proofs.CarryLemmas.{none_paid}
 use Rattle.span_run.proofs.PlacesLemmas.{none_placed, none_placed_part}
 use Rattle.span_run.proofs.BookLemmas.{covered-within}
-use Rattle.span_run.proofs.Goes.{never, none_tallied, no_shelf, no_sink}
+use Rattle.span_run.proofs.Goes.{never, none_tallied, no_shelf, no_sink, refused_answers}
 
 pub passes_of : (old new : Site) (command : Command) (before after : Outlet) → Goes old command new → before.faults ≤ after.faults → before.wants ≤ after.wants → Passes (Some command) (scene old) before (scene new) after
 passes_of old new command before after goes later wants_later = record {
@@ -168,3 +170,23 @@ syntax_stopped number h files faults looks pairs places answer before after why 
   shelf_fault = λ e. absurd (unsent.no_shelf e);
   want = λ e. inl (λ list. list);
 }
+
+-- ---- what a refused command says of the whole
+pub refused_here : (h : Held) (number : ℕ) (command : Command) (why : Refusal) (answer : Answer) (files : Option Files) (faults looks pairs places : ℕ) → IsRefusedFreely h files command why
+    → answer.told ≡ Refused → answer.line.items ≡ refusal_text number why → Answers (at h files faults looks pairs places) number command (at h files faults looks pairs places) answer
+refused_here h number command why answer files faults looks pairs places is told written =
+    let w = world (state_of h) files in
+    refused_answers h number command answer files faults looks pairs places is.held told is.free
+    (subst (λ (t : Told). Carries w number command t answer.line.items w) (sym told) (why, is.refused, written, refl))
+
+-- what is refused has a reply
+pub refused_replies : (w : World) (command : Command) (why : Refusal) → IsRefused w command why → Some command ≡ Some form.Nothing → ⊥
+refused_replies w command why refused is = let same : command ≡ form.Nothing = cc is in subst (λ (c : Command). IsRefused w c why) same refused
+
+-- ---- which commands have one value as their reply
+pub is_answering : (command : Command) → (command ≡ form.Nothing → ⊥) → (command ≡ form.Names → ⊥) → ((q n : List ℕ) (w : Option (List ℕ)) (k : ℕ) → command ≡ form.List q n w k → ⊥) → ((q : List ℕ) (k : ℕ) → command ≡ form.ListAll q k → ⊥) → IsAnswering command
+is_answering form.Nothing nothing names list all = nothing refl
+is_answering form.Names nothing names list all = names refl
+is_answering (form.List q n w k) nothing names list all = list q n w k refl
+is_answering (form.ListAll q k) nothing names list all = all q k refl
+is_answering _ nothing names list all = tt

@@ -1,12 +1,12 @@
 -- What is held when the nodes that nothing reaches are gone.
-use Rattle.std.proofs.Common.{◌≡◌, ◌∙◌, ◌+◌, ◌-◌, ◌*◌, ◌≤◌, ℕ, zero, suc, Bool, true, false, cond, List, [], ◌∷◌, length, map, Option, inl, inr, refl, sym, ap, subst, arith}
+use Rattle.std.proofs.Common.{◌≡◌, ◌∙◌, ◌+◌, ◌-◌, ◌*◌, ◌≤◌, ℕ, zero, suc, Bool, true, false, List, [], ◌∷◌, length, map, Option, inl, inr, refl, sym, ap, subst, arith}
 use Rattle.std.specs.List.{AllByRecursion}
 use Rattle.std.proofs.lemmas.List.Sums.{sum_by-cons}
 use Rattle.edge_io.specs.Files.{Files}
 use Rattle.slp_model.specs.declared.Node.{Node}
 use Rattle.slp_model.specs.declared.Node.TheVariants.{Byte, Pair}
 use Rattle.slp_model.specs.Nodes.{pair_count, pair_weight}
-use Rattle.slp_model.specs.Thin.{kept_of, rank, renumbered, thin}
+use Rattle.slp_model.specs.Thin.{kept_of, rank, renumbered}
 use Rattle.doc_book.specs.declared.Doc.{Doc}
 use Rattle.doc_compact.specs.Compacted.{IsCompacted}
 use Rattle.query_book.specs.declared.entry.Entry.{Entry}
@@ -14,8 +14,7 @@ use Rattle.query_book.specs.Book.{queries_of}
 use Rattle.query_book.specs.Serving.{Serves, covered_of, sum_of}
 use Rattle.query_book.specs.Renumbering.{ranked}
 use Rattle.script_syntax.specs.declared.form.Command.TheVariants as form
-use Rattle.span_types.specs.Query.{Query}
-use Rattle.span_language.specs.State.{Documents, Named, State, world}
+use Rattle.span_language.specs.State.{Named, State, world}
 use Rattle.span_language.specs.Allowance.{no_steps}
 use Rattle.span_language.specs.Counts.{Compacts, Places, Registers}
 use Rattle.span_language.specs.Replies.{ok_text}

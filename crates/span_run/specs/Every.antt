@@ -3,11 +3,12 @@ use Rattle.std.specs.Prelude.{◌≡◌, ℕ, ◌≤◌, ◌^◌, List, [], ◌�
 use Rattle.std.specs.Io.KnownBytes.{Appends}
 use Rattle.slp_model.specs.declared.Node.{Node}
 use Rattle.marker_dfa.specs.Deterministic.{DeterministicAutomaton}
+use Rattle.state_tables.specs.Dictionary.{AreTables, Dictionary}
 use Rattle.span_enum.specs.Listing.{text_of}
 use Rattle.span_enum.specs.Members.{Tuple, AreAnswersOf}
 use Rattle.span_types.specs.Query.{Query}
 use Rattle.doc_book.specs.declared.Doc.{Doc}
-use Rattle.edit_expr.specs.Values.{text_at}
+use Rattle.edit_expr.specs.Values.{AreLive, text_at}
 use Rattle.span_language.specs.Listed.{AreListed, doc_line, done_line, first_page_text}
 use Rattle.span_language.specs.State.{Documents, Named, value_of}
 
@@ -26,6 +27,15 @@ AreAnswered a ns [] [] = Unit {0}
 AreAnswered a ns [] (l ∷ ls) = ⊥
 AreAnswered a ns (d ∷ ds) [] = ⊥
 AreAnswered a ns (d ∷ ds) (l ∷ ls) = AreAnswersOf a (text_of ns d.root) l × AreAnswered a ns ds ls
+
+-- what is listed on every document: the answers of an automaton on the texts of a store, which has a table for each node, and at most n of each
+pub record IsSurvey (a : DeterministicAutomaton) (ns : List Node) (d : Dictionary) (ds : List Doc) (names : List (List ℕ)) (n : ℕ) : Type 0 where
+  pub tables : AreTables a ns d
+  pub live : AreLive ns ds
+  pub some : 1 ≤ n
+  pub few : n ≤ 10000
+  pub variables : length names ≡ a.variables
+  pub answered : (lists : List (List Tuple)) × AreAnswered a ns ds lists
 
 -- for each document its line and the first n of its answers, and last `done`
 abbrev pub every_text : List (List ℕ) → ℕ → List Doc → List (List Tuple) → List ℕ

@@ -4,7 +4,9 @@ pub mod Codes
 pub mod Site
 pub mod Scene
 pub mod Answers
+pub mod Subject
 pub mod Carried
+pub mod Refusing
 pub mod Shown
 pub mod Reading
 pub mod Asked

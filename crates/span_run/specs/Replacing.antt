@@ -1,9 +1,7 @@
 -- What the parts of a replacement do, and what they cost.
-use Rattle.std.specs.Prelude.{◌≡◌, ◌⊎◌, ℕ, ◌+◌, ◌*◌, ◌<◌, ◌≤◌, ◌^◌, List, Some, None, length, min, Option, Result}
+use Rattle.std.specs.Prelude.{◌≡◌, ◌⊎◌, ℕ, ◌+◌, ◌*◌, ◌<◌, ◌≤◌, ◌^◌, List, Some, length, min, Result}
 use Rattle.doc_book.specs.Docs as book
-use Rattle.slp_model.specs.declared.NodeId.{NodeId}
 use Rattle.report_text.specs.Reply.{refusal_text}
-use Rattle.report_text.specs.declared.refusal.Refusal.{Refusal}
 use Rattle.report_text.specs.declared.refusal.Refusal.TheVariants as refusal
 use Rattle.span_replace.specs.Outcomes.{IsChoice}
 use Rattle.span_replace.specs.declared.refusal.ReplaceRefusal.{ReplaceRefusal}

@@ -5,15 +5,28 @@ use std::alloc::AllocError;
 use std::thread::Threads;
 use work_gate::Gate;
 
-/// The runtime whose threads compute tables, in at most so many pieces at once, the gate that each piece passes, and the number of
-/// the line.
-pub struct Context<'a, R: Threads + Sync, G: Gate> {
+/// What a caller lends: the runtime whose threads compute tables, in at most so many pieces at once, and the gate that each
+/// piece passes.
+pub struct Lent<'a, R: Threads + Sync, G: Gate> {
     pub rt: &'a R,
     pub workers: u8,
     pub gate: &'a G,
-    pub number: u64,
     ghost least: { 1 ≤ workers },
     ghost most: { workers ≤ 64 },
+}
+
+impl<'a, R: Threads + Sync, G: Gate> Clone for Lent<'a, R, G> {
+    fn clone(&self) -> Result<Self, AllocError> {
+        Ok(*self)
+    }
+}
+
+impl<'a, R: Threads + Sync, G: Gate> Copy for Lent<'a, R, G> {}
+
+/// What a line is done with: what the caller lends, and the line's number.
+pub struct Context<'a, R: Threads + Sync, G: Gate> {
+    pub lent: Lent<'a, R, G>,
+    pub number: u64,
 }
 
 impl<'a, R: Threads + Sync, G: Gate> Clone for Context<'a, R, G> {

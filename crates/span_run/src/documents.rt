@@ -20,6 +20,7 @@ use crate::answer::{Answer, ok_line};
 use crate::held::Held;
 use crate::offer::offer;
 use crate::reading::{bytes_between, head_of, is_within, root_len};
+use crate::refusing::refuse;
 use doc_book::{Docs, Missing};
 use edge_io::Sink;
 use edit_expr::{EditRefusal, Expr, ExprRefusal, eval, read};
@@ -168,10 +169,7 @@ pub fn let_document<P: Ledger>(
             )?;
             Ok(answer)
         }
-        Err(ExprRefusal::Syntax) => {
-            let answer = Answer::refused(held.alloc, number, &Refusal::Syntax)?;
-            Ok(answer)
-        }
+        Err(ExprRefusal::Syntax) => refuse(held, number, &Refusal::Syntax),
         Err(ExprRefusal::NoMemory) => Err(Stop::NoMemory),
     }
 }
@@ -185,10 +183,7 @@ pub fn drop_document(held: &mut Held, number: u64, name: Name) -> Result<Answer,
     let line = ok_line(held.alloc)?;
     match held.docs.take_out(name.bytes()) {
         Ok(()) => Ok(Answer::accepted(line)),
-        Err(Missing::NoSuchDocument) => {
-            let answer = Answer::refused(held.alloc, number, &Refusal::NoSuchDocument { name })?;
-            Ok(answer)
-        }
+        Err(Missing::NoSuchDocument) => refuse(held, number, &Refusal::NoSuchDocument { name }),
     }
 }
 
@@ -236,10 +231,7 @@ pub fn show(held: &mut Held, number: u64, name: Name, i: u64, j: u64) -> Result<
             let answer = show_range(held.alloc, &held.store, root, number, i, j)?;
             Ok(answer)
         }
-        Err(Missing::NoSuchDocument) => {
-            let answer = Answer::refused(held.alloc, number, &Refusal::NoSuchDocument { name })?;
-            Ok(answer)
-        }
+        Err(Missing::NoSuchDocument) => refuse(held, number, &Refusal::NoSuchDocument { name }),
     }
 }
 

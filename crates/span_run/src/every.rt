@@ -6,7 +6,6 @@ ghost use Rattle.edge_io.specs.Causes.{Rose};
 ghost use Rattle.edge_io.specs.Files.{Files};
 ghost use Rattle.edit_expr.specs.Values.{AreLive, plain};
 ghost use Rattle.script_syntax.specs.declared.form.Command.TheVariants as form;
-ghost use Rattle.state_tables.specs.Dictionary.{AreTables};
 ghost use Rattle.span_enum.specs.Members.{Tuple as ATuple};
 ghost use Rattle.query_book.specs.Book.{queries_of};
 ghost use Rattle.query_book.specs.Named.{value_of};
@@ -14,16 +13,16 @@ ghost use Rattle.query_book.specs.Serving.{Covers};
 ghost use Rattle.span_language.specs.Listed.{doc_line, page_text, tuple_line};
 ghost use Rattle.span_language.specs.Step.{AppendsFront};
 ghost use Rattle.span_run.specs.Carried.{Done, Stopped, outlet};
-ghost use Rattle.span_run.specs.Every.{AreAnswered, AreShort, IsRegistered, ListsEvery, WritesUpTo, every_text, rest_text};
+ghost use Rattle.span_run.specs.Every.{AreAnswered, AreShort, IsRegistered, IsSurvey, ListsEvery, WritesUpTo, every_text, rest_text};
 ghost use Rattle.span_run.specs.Held.{IsHeld, standing_of};
 ghost use Rattle.span_run.specs.Scene.{seen};
 
-use crate::answer::Answer;
 use crate::context::Context;
 use crate::held::Held;
 use crate::listing::write_tuple;
-use crate::offer::{offer, send};
+use crate::offer::offer;
 use crate::reading::root_len;
+use crate::refusing::turn_away;
 use doc_book::Docs;
 use edge_io::Sink;
 use list_all::pages;
@@ -117,57 +116,60 @@ fn write_document<K: Sink>(
     }
 }
 
+/// What is listed on every document: the answers of a query with these variables, by its automaton and the tables of all nodes,
+/// and at most so many of each document.
+#[derive(Clone, Copy)]
+struct Survey<'a> {
+    alloc: Global,
+    view: View<'a>,
+    dfa: &'a Dfa,
+    docs: &'a Docs,
+    vars: &'a Vars,
+    limit: u16,
+}
+
 /// Finds the pages of the documents at the places from `first` on, and writes their lines.
 fn list_batch<R: Threads + Sync, K: Sink, G: Gate>(
     context: Context<'_, R, G>,
-    alloc: Global,
-    view: View<'_>,
-    dfa: &Dfa,
-    docs: &Docs,
-    vars: &Vars,
+    survey: Survey<'_>,
     first: usize,
     count: usize,
-    limit: u16,
     out: &mut K,
 ) -> Result<(), Stop>
-    requires places { first + count ≤ length docs.now }
-    requires tables { AreTables dfa.now view.store.now view.tables.now }
-    requires live { AreLive view.store.now docs.now }
-    requires some { 1 ≤ limit }
-    requires few { limit ≤ 10000 }
-    requires variables { length vars.now ≡ dfa.now.variables }
-    requires answered { (lists : List (List ATuple)) × AreAnswered dfa.now view.store.now docs.now lists }
-    ensures done { OnOk result ((lists : List (List ATuple)) → AreAnswered dfa.now view.entry.store.now docs.now lists
-        → WritesUpTo (K.written out.old) (K.written out.new) (rest_text vars.now limit docs.now lists (first + count))
-        (rest_text vars.now limit docs.now lists first)) }
-    ensures stopped { OnErr result ((lists : List (List ATuple)) → AreAnswered dfa.now view.entry.store.now docs.now lists
-        → AppendsFront (K.written out.old) (K.written out.new) (rest_text vars.now limit docs.now lists first)) }
+    requires places { first + count ≤ length survey.docs.now }
+    requires survey { IsSurvey survey.dfa.now survey.view.store.now survey.view.tables.now survey.docs.now survey.vars.now survey.limit }
+    ensures done { OnOk result ((lists : List (List ATuple)) → AreAnswered survey.entry.dfa.now survey.entry.view.store.now survey.entry.docs.now lists
+        → WritesUpTo (K.written out.old) (K.written out.new)
+        (rest_text survey.entry.vars.now survey.entry.limit survey.entry.docs.now lists (first + count))
+        (rest_text survey.entry.vars.now survey.entry.limit survey.entry.docs.now lists first)) }
+    ensures stopped { OnErr result ((lists : List (List ATuple)) → AreAnswered survey.entry.dfa.now survey.entry.view.store.now survey.entry.docs.now lists
+        → AppendsFront (K.written out.old) (K.written out.new) (rest_text survey.entry.vars.now survey.entry.limit survey.entry.docs.now lists first)) }
     ensures later { K.faults out.old ≤ K.faults out.new }
     ensures fault { IfErr result (λ why. why ≡ Stop.OutFault → Rose (K.faults out.old) (K.faults out.new)) }
     ensures wants_later { K.wants out.old ≤ K.wants out.new }
     ensures shelf_fault { IfErr result (λ why. why ≡ Stop.ShelfFault → ⊥) }
 {
-    let _all = docs.count();
+    let _all = survey.docs.count();
     let found = pages(
-        context.rt,
-        alloc,
-        view,
-        dfa,
-        docs,
+        context.lent.rt,
+        survey.alloc,
+        survey.view,
+        survey.dfa,
+        survey.docs,
         first,
         count,
-        limit,
-        context.workers,
-        context.gate,
+        survey.limit,
+        context.lent.workers,
+        context.lent.gate,
     )?;
     for place in 0..count {
-        let (name, _) = docs.at(first + place);
+        let (name, _) = survey.docs.at(first + place);
         write_document(
-            alloc,
+            survey.alloc,
             name,
             found.tuples(place),
             found.more(place),
-            vars,
+            survey.vars,
             out,
         )?;
     }
@@ -177,36 +179,24 @@ fn list_batch<R: Threads + Sync, K: Sink, G: Gate>(
 /// Writes each document's line and its page, and last `done`.
 fn list_documents<R: Threads + Sync, K: Sink, G: Gate>(
     context: Context<'_, R, G>,
-    alloc: Global,
-    view: View<'_>,
-    dfa: &Dfa,
-    docs: &Docs,
-    vars: &Vars,
-    limit: u16,
+    survey: Survey<'_>,
     out: &mut K,
 ) -> Result<(), Stop>
-    requires tables { AreTables dfa.now view.store.now view.tables.now }
-    requires live { AreLive view.store.now docs.now }
-    requires some { 1 ≤ limit }
-    requires few { limit ≤ 10000 }
-    requires variables { length vars.now ≡ dfa.now.variables }
-    requires answered { (lists : List (List ATuple)) × AreAnswered dfa.now view.store.now docs.now lists }
-    ensures done { OnOk result ((lists : List (List ATuple)) → AreAnswered dfa.now view.entry.store.now docs.now lists
-        → Appends (K.written out.old) (K.written out.new) (every_text vars.now limit docs.now lists)) }
-    ensures stopped { OnErr result ((lists : List (List ATuple)) → AreAnswered dfa.now view.entry.store.now docs.now lists
-        → AppendsFront (K.written out.old) (K.written out.new) (every_text vars.now limit docs.now lists)) }
+    requires survey { IsSurvey survey.dfa.now survey.view.store.now survey.view.tables.now survey.docs.now survey.vars.now survey.limit }
+    ensures done { OnOk result ((lists : List (List ATuple)) → AreAnswered survey.entry.dfa.now survey.entry.view.store.now survey.entry.docs.now lists
+        → Appends (K.written out.old) (K.written out.new) (every_text survey.entry.vars.now survey.entry.limit survey.entry.docs.now lists)) }
+    ensures stopped { OnErr result ((lists : List (List ATuple)) → AreAnswered survey.entry.dfa.now survey.entry.view.store.now survey.entry.docs.now lists
+        → AppendsFront (K.written out.old) (K.written out.new) (every_text survey.entry.vars.now survey.entry.limit survey.entry.docs.now lists)) }
     ensures later { K.faults out.old ≤ K.faults out.new }
     ensures fault { IfErr result (λ why. why ≡ Stop.OutFault → Rose (K.faults out.old) (K.faults out.new)) }
     ensures wants_later { K.wants out.old ≤ K.wants out.new }
     ensures shelf_fault { IfErr result (λ why. why ≡ Stop.ShelfFault → ⊥) }
 {
-    let all = docs.count();
+    let all = survey.docs.count();
     let mut first = 0;
     while first < all {
         let count = (all - first).min(BATCH);
-        list_batch(
-            context, alloc, view, dfa, docs, vars, first, count, limit, out,
-        )?;
+        list_batch(context, survey, first, count, out)?;
         first += count;
     }
     offer(out, b"done\n")
@@ -237,9 +227,20 @@ fn list_query<R: Threads + Sync, K: Sink, G: Gate>(
     ensures shelf_fault { IfErr result (λ why. why ≡ Stop.ShelfFault → ⊥) }
 {
     check_lengths(store, docs);
-    match book.parts(query.bytes(), store) {
-        Ok((view, dfa)) => match book.vars(query.bytes()) {
-            Ok(vars) => list_documents(context, alloc, view, dfa, docs, vars, limit, out),
+    let name = query.bytes();
+    match book.parts(name, store) {
+        Ok((view, dfa)) => match book.vars(name) {
+            Ok(vars) => {
+                let survey = Survey {
+                    alloc,
+                    view,
+                    dfa,
+                    docs,
+                    vars,
+                    limit,
+                };
+                list_documents(context, survey, out)
+            }
             Err(_) => unreachable!(),
         },
         Err(_) => unreachable!(),
@@ -274,11 +275,11 @@ pub fn list_all<R: Threads + Sync, K: Sink, G: Gate, T: Ledger>(
 {
     if has_query(&held.book, &query) {
         held.book.grow_all(
-            context.rt,
+            context.lent.rt,
             held.alloc,
             &held.store,
-            context.workers,
-            context.gate,
+            context.lent.workers,
+            context.lent.gate,
             places,
         )?;
         list_query(
@@ -293,11 +294,11 @@ pub fn list_all<R: Threads + Sync, K: Sink, G: Gate, T: Ledger>(
         )?;
         Ok(Told::Accepted)
     } else {
-        let answer = Answer::refused(
-            held.alloc,
+        turn_away(
+            held,
             context.number,
             &Refusal::NoSuchQuery { name: query },
-        )?;
-        send(answer, out)
+            out,
+        )
     }
 }

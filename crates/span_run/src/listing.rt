@@ -1,7 +1,6 @@
 //! Answers are listed, each line offered before the next answer is found.
 ghost use Rattle.std.specs.Prelude.{◌≡◌, ◌⊎◌, ◌≤◌, ◌+◌, ◌*◌, ℕ, List, Option, Some, length, take, OnOk, OnErr, IfOk, IfErr};
 ghost use Rattle.std.specs.Io.KnownBytes.{Appends, Keeps};
-ghost use Rattle.slp_model.specs.Nodes.{IsLive};
 ghost use Rattle.edge_io.specs.Causes.{Rose};
 ghost use Rattle.edge_io.specs.Files.{Files};
 ghost use Rattle.edit_expr.specs.Values.{text_at};
@@ -12,30 +11,29 @@ ghost use Rattle.span_enum.specs.Members.{Tuple as ATuple, AreAnswersOf};
 ghost use Rattle.query_book.specs.Answers.{HasList, IfNamed, IsListingOf, IsNamed, most_looks};
 ghost use Rattle.query_book.specs.Book.{queries_of};
 ghost use Rattle.query_book.specs.Named.{value_of};
-ghost use Rattle.query_book.specs.Serving.{Covers};
 ghost use Rattle.span_language.specs.Listed.{tuple_line, first_page_text};
 ghost use Rattle.span_language.specs.Step.{AppendsFront};
 ghost use Rattle.span_run.specs.Carried.{Done, Stopped, outlet};
 ghost use Rattle.span_run.specs.Held.{IsHeld, standing_of};
 ghost use Rattle.span_run.specs.Listing.{HasCursor, Lists, Tells};
 ghost use Rattle.span_run.specs.Scene.{seen};
+ghost use Rattle.span_run.specs.Subject.{IsSubject};
 
 use crate::answer::Answer;
 use crate::context::Context;
 use crate::held::Held;
 use crate::offer::{offer, send};
+use crate::refusing::turn_away;
+use crate::subject::Subject;
 use crate::words::{cursor_of, word_refusal};
 use doc_book::Missing;
 use edge_io::Sink;
-use node_store::Store;
-use query_book::{BookRefusal, QueryBook};
+use query_book::BookRefusal;
 use report_text::Refusal;
-use slp_model::NodeId;
 use span_cursor::print;
 use span_enum::Answers;
 use span_language::{Stop, Told};
 use span_types::{ByteList, Name, NoMemory, Steps, Tuple, Vars};
-use std::alloc::Global;
 use std::sync::ledger::Ledger;
 use std::thread::Threads;
 use work_gate::Gate;
@@ -104,21 +102,25 @@ fn write_page<K: Sink, L: Ledger>(
 
 /// The answers of the query of this name from a cursor on.
 fn answers_from<'a, L: Ledger>(
-    alloc: Global,
-    store: &'a Store,
-    book: &'a QueryBook,
+    subject: Subject<'a>,
     query: &Name,
     cursor: Option<Tuple>,
-    root: Option<NodeId>,
     looks: &mut Steps<L>,
 ) -> Result<Answers<'a>, NoMemory>
-    requires covers { Covers store.now book.now }
-    requires live { IsLive store.now root }
-    requires cursor { HasCursor (queries_of book.now) query.now cursor }
-    ensures listing { IfOk result (λ a. IsNamed (queries_of book.now) query.now (IsListingOf (text_at store.now root) cursor a)) }
-    ensures list { IfNamed (queries_of book.now) query.now (HasList (text_at store.now root) cursor) }
-    ensures cost { looks.new ≤ looks.old + 2 * most_looks (value_of (queries_of book.now) query.now) (text_at store.now root) }
+    requires subject { IsSubject subject.store.now subject.book.now subject.root }
+    requires cursor { HasCursor (queries_of subject.book.now) query.now cursor }
+    ensures listing { IfOk result (λ a. IsNamed (queries_of subject.entry.book.now) query.now
+        (IsListingOf (text_at subject.entry.store.now subject.entry.root) cursor a)) }
+    ensures list { IfNamed (queries_of subject.entry.book.now) query.now (HasList (text_at subject.entry.store.now subject.entry.root) cursor) }
+    ensures cost { looks.new ≤ looks.old + 2 * most_looks (value_of (queries_of subject.entry.book.now) query.now)
+        (text_at subject.entry.store.now subject.entry.root) }
 {
+    let Subject {
+        alloc,
+        store,
+        book,
+        root,
+    } = subject;
     let answers = match cursor {
         Some(tuple) => book.seek(alloc, query.bytes(), store, root, &tuple, looks),
         None => book.start(alloc, query.bytes(), store, root, looks),
@@ -132,31 +134,27 @@ fn answers_from<'a, L: Ledger>(
 
 /// Writes a page of the answers of the query of this name from a cursor on.
 fn list_from<K: Sink, L: Ledger>(
-    alloc: Global,
-    store: &Store,
-    book: &QueryBook,
+    subject: Subject<'_>,
     query: &Name,
     cursor: Option<Tuple>,
-    root: Option<NodeId>,
     limit: u16,
     out: &mut K,
     looks: &mut Steps<L>,
 ) -> Result<(), Stop>
-    requires covers { Covers store.now book.now }
-    requires live { IsLive store.now root }
-    requires cursor { HasCursor (queries_of book.now) query.now cursor }
-    ensures done { OnOk result (Lists (Appends (K.written out.old) (K.written out.new)) (queries_of book.now) query.now
-        (text_at store.now root) cursor limit looks.old looks.new) }
-    ensures stopped { OnErr result (Lists (AppendsFront (K.written out.old) (K.written out.new)) (queries_of book.now) query.now
-        (text_at store.now root) cursor limit looks.old looks.new) }
+    requires subject { IsSubject subject.store.now subject.book.now subject.root }
+    requires cursor { HasCursor (queries_of subject.book.now) query.now cursor }
+    ensures done { OnOk result (Lists (Appends (K.written out.old) (K.written out.new)) (queries_of subject.entry.book.now) query.now
+        (text_at subject.entry.store.now subject.entry.root) cursor limit looks.old looks.new) }
+    ensures stopped { OnErr result (Lists (AppendsFront (K.written out.old) (K.written out.new)) (queries_of subject.entry.book.now) query.now
+        (text_at subject.entry.store.now subject.entry.root) cursor limit looks.old looks.new) }
     ensures later { K.faults out.old ≤ K.faults out.new }
     ensures fault { IfErr result (λ why. why ≡ Stop.OutFault → Rose (K.faults out.old) (K.faults out.new)) }
     ensures wants_later { K.wants out.old ≤ K.wants out.new }
     ensures want { IfErr result (λ why. why ≡ Stop.NoMemory → Rose (K.wants out.old) (K.wants out.new) ⊎ Keeps (K.written out.old) (K.written out.new)) }
     ensures shelf_fault { IfErr result (λ why. why ≡ Stop.ShelfFault → ⊥) }
 {
-    let mut answers = answers_from(alloc, store, book, query, cursor, root, looks)?;
-    match book.vars(query.bytes()) {
+    let mut answers = answers_from(subject, query, cursor, looks)?;
+    match subject.book.vars(query.bytes()) {
         Ok(vars) => write_page(&mut answers, vars, limit, out, looks),
         Err(_) => unreachable!(),
     }
@@ -164,36 +162,31 @@ fn list_from<K: Sink, L: Ledger>(
 
 /// Writes a page of the answers of a query on a root's text, after the cursor that a word gives, or why the word gives none.
 fn list_root<K: Sink, L: Ledger>(
-    alloc: Global,
-    store: &Store,
-    book: &QueryBook,
+    subject: Subject<'_>,
     number: u64,
     query: Name,
-    word: Option<ByteList>,
-    root: Option<NodeId>,
-    limit: u16,
+    page: Page,
     out: &mut K,
     looks: &mut Steps<L>,
 ) -> Result<Told, Stop>
-    requires covers { Covers store.now book.now }
-    requires live { IsLive store.now root }
-    ensures done { IfOk result (λ told. Tells (Appends (K.written out.old) (K.written out.new)) number
-        (queries_of book.now) query word (text_at store.now root) limit told looks.old looks.new) }
+    requires { IsSubject subject.store.now subject.book.now subject.root }
+    ensures done { IfOk result (λ told. Tells (Appends (K.written out.old) (K.written out.new)) number (queries_of subject.entry.book.now) query
+        page.after (text_at subject.entry.store.now subject.entry.root) page.limit told looks.old looks.new) }
     ensures stopped { OnErr result ((told : Told) × Tells (AppendsFront (K.written out.old) (K.written out.new)) number
-        (queries_of book.now) query word (text_at store.now root) limit told looks.old looks.new) }
+        (queries_of subject.entry.book.now) query page.after (text_at subject.entry.store.now subject.entry.root) page.limit told looks.old looks.new) }
     ensures later { K.faults out.old ≤ K.faults out.new }
     ensures fault { IfErr result (λ why. why ≡ Stop.OutFault → Rose (K.faults out.old) (K.faults out.new)) }
     ensures wants_later { K.wants out.old ≤ K.wants out.new }
     ensures want { IfErr result (λ why. why ≡ Stop.NoMemory → Rose (K.wants out.old) (K.wants out.new) ⊎ Keeps (K.written out.old) (K.written out.new)) }
     ensures shelf_fault { IfErr result (λ why. why ≡ Stop.ShelfFault → ⊥) }
 {
-    match cursor_of(book, &query, &word) {
+    match cursor_of(subject.book, &query, &page.after) {
         Ok(cursor) => {
-            list_from(alloc, store, book, &query, cursor, root, limit, out, looks)?;
+            list_from(subject, &query, cursor, page.limit, out, looks)?;
             Ok(Told::Accepted)
         }
         Err(why) => {
-            let answer = Answer::refused(alloc, number, &word_refusal(why, query))?;
+            let answer = Answer::refused(subject.alloc, number, &word_refusal(why, query))?;
             send(answer, out)
         }
     }
@@ -228,33 +221,26 @@ pub fn list<R: Threads + Sync, K: Sink, G: Gate, T: Ledger, L: Ledger>(
     match held.docs.get(name.bytes()) {
         Ok(root) => {
             held.book.grow_all(
-                context.rt,
+                context.lent.rt,
                 held.alloc,
                 &held.store,
-                context.workers,
-                context.gate,
+                context.lent.workers,
+                context.lent.gate,
                 places,
             )?;
-            list_root(
-                held.alloc,
-                &held.store,
-                &held.book,
-                context.number,
-                query,
-                page.after,
+            let subject = Subject {
+                alloc: held.alloc,
+                store: &held.store,
+                book: &held.book,
                 root,
-                page.limit,
-                out,
-                looks,
-            )
+            };
+            list_root(subject, context.number, query, page, out, looks)
         }
-        Err(Missing::NoSuchDocument) => {
-            let answer = Answer::refused(
-                held.alloc,
-                context.number,
-                &Refusal::NoSuchDocument { name },
-            )?;
-            send(answer, out)
-        }
+        Err(Missing::NoSuchDocument) => turn_away(
+            held,
+            context.number,
+            &Refusal::NoSuchDocument { name },
+            out,
+        ),
     }
 }

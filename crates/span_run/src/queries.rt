@@ -1,6 +1,5 @@
 //! What commands do with queries, and their replies.
 ghost use Rattle.std.specs.Prelude.{◌≡◌, ◌≤◌, IfOk, IfErr, IsSome, Option, Some, true, false, ◌+◌, ℕ};
-ghost use Rattle.slp_model.specs.Nodes.{IsLive};
 ghost use Rattle.edit_expr.specs.Values.{text_at};
 ghost use Rattle.query_book.specs.Answers.{HasAnswer, HasVariablesOf, IsAnswer, most_looks};
 ghost use Rattle.edge_io.specs.Files.{Files};
@@ -10,7 +9,6 @@ ghost use Rattle.span_types.specs.Query.{Query};
 ghost use Rattle.span_types.specs.Rel.{names_of};
 ghost use Rattle.query_book.specs.Named.{value_of};
 ghost use Rattle.query_book.specs.Book.{queries_of};
-ghost use Rattle.query_book.specs.Serving.{Covers};
 ghost use Rattle.span_language.specs.Replies.{yes_text, no_text};
 ghost use Rattle.span_run.specs.Answers.{Answers, AnswersFreely, Stays, StaysFreely};
 ghost use Rattle.span_run.specs.Asked.{IsAnswered};
@@ -18,18 +16,19 @@ ghost use Rattle.span_run.specs.Held.{IsHeld};
 ghost use Rattle.span_run.specs.Judged.{IsJudged, IsWordPaid};
 ghost use Rattle.span_run.specs.Shown.{IsFormulaRefusal, IsTextDenied};
 ghost use Rattle.span_run.specs.Site.{at};
+ghost use Rattle.span_run.specs.Subject.{IsSubject};
 ghost use Rattle.span_language.specs.declared.told.Told.TheVariants as told;
 
 use crate::answer::{Answer, ok_line};
 use crate::context::Context;
 use crate::held::Held;
+use crate::refusing::refuse;
+use crate::subject::Subject;
 use crate::words::{tuple_of, word_refusal};
 use doc_book::Missing;
 use formula_syntax::FormulaRefusal;
-use node_store::Store;
 use query_book::{QueryBook, QueryRefusal};
 use report_text::{Refusal, query_line};
-use slp_model::NodeId;
 use span_language::Stop;
 use span_types::{ByteList, Name, NoMemory, Steps, Tuple};
 use std::alloc::Global;
@@ -110,10 +109,7 @@ pub fn unquery(held: &mut Held, number: u64, name: Name) -> Result<Answer, Stop>
     let line = ok_line(held.alloc)?;
     match held.book.remove(name.bytes()) {
         Ok(()) => Ok(Answer::accepted(line)),
-        Err(_) => {
-            let answer = Answer::refused(held.alloc, number, &Refusal::NoSuchQuery { name })?;
-            Ok(answer)
-        }
+        Err(_) => refuse(held, number, &Refusal::NoSuchQuery { name }),
     }
 }
 
@@ -133,20 +129,23 @@ fn yes_or_no(alloc: Global, yes: bool) -> Result<Answer, NoMemory>
 
 /// Whether a query has an answer on a root's text, as a reply.
 fn test_root<L: Ledger>(
-    alloc: Global,
-    store: &Store,
-    book: &QueryBook,
+    subject: Subject<'_>,
     number: u64,
     query: Name,
-    root: Option<NodeId>,
     looks: &mut Steps<L>,
 ) -> Result<Answer, NoMemory>
-    requires covers { Covers store.now book.now }
-    requires live { IsLive store.now root }
-    ensures ok { IfOk result (λ answer. IsAnswered (λ q. HasAnswer q (text_at store.now root)) number
-        (queries_of book.now) query answer.told answer.line.items) }
-    ensures cost { looks.new ≤ looks.old + most_looks (value_of (queries_of book.now) query) (text_at store.now root) }
+    requires { IsSubject subject.store.now subject.book.now subject.root }
+    ensures ok { IfOk result (λ answer. IsAnswered (λ q. HasAnswer q (text_at subject.entry.store.now subject.entry.root)) number
+        (queries_of subject.entry.book.now) query answer.told answer.line.items) }
+    ensures cost { looks.new ≤ looks.old + most_looks (value_of (queries_of subject.entry.book.now) query)
+        (text_at subject.entry.store.now subject.entry.root) }
 {
+    let Subject {
+        alloc,
+        store,
+        book,
+        root,
+    } = subject;
     match book.test(query.bytes(), store, root, looks) {
         Ok(yes) => {
             let answer = yes_or_no(alloc, yes)?;
@@ -179,53 +178,49 @@ pub fn test<R: Threads + Sync, G: Gate, T: Ledger, L: Ledger>(
     match held.docs.get(name.bytes()) {
         Ok(root) => {
             held.book.grow_all(
-                context.rt,
+                context.lent.rt,
                 held.alloc,
                 &held.store,
-                context.workers,
-                context.gate,
+                context.lent.workers,
+                context.lent.gate,
                 places,
             )?;
-            let answer = test_root(
-                held.alloc,
-                &held.store,
-                &held.book,
-                context.number,
-                query,
+            let subject = Subject {
+                alloc: held.alloc,
+                store: &held.store,
+                book: &held.book,
                 root,
-                looks,
-            )?;
+            };
+            let answer = test_root(subject, context.number, query, looks)?;
             Ok(answer)
         }
         Err(Missing::NoSuchDocument) => {
-            let answer = Answer::refused(
-                held.alloc,
-                context.number,
-                &Refusal::NoSuchDocument { name },
-            )?;
-            Ok(answer)
+            refuse(held, context.number, &Refusal::NoSuchDocument { name })
         }
     }
 }
 
 /// Whether a tuple of a query's variables is an answer on a root's text, as a reply.
 fn has_tuple<L: Ledger>(
-    alloc: Global,
-    store: &Store,
-    book: &QueryBook,
+    subject: Subject<'_>,
     number: u64,
     query: Name,
-    root: Option<NodeId>,
     tuple: &Tuple,
     looks: &mut Steps<L>,
 ) -> Result<Answer, NoMemory>
-    requires covers { Covers store.now book.now }
-    requires live { IsLive store.now root }
-    requires tuple { HasVariablesOf (queries_of book.now) query tuple.now }
-    ensures ok { IfOk result (λ answer. IsAnswered (λ q. IsAnswer q (text_at store.now root) tuple.now) number
-        (queries_of book.now) query answer.told answer.line.items) }
-    ensures cost { looks.new ≤ looks.old + most_looks (value_of (queries_of book.now) query) (text_at store.now root) }
+    requires subject { IsSubject subject.store.now subject.book.now subject.root }
+    requires tuple { HasVariablesOf (queries_of subject.book.now) query tuple.now }
+    ensures ok { IfOk result (λ answer. IsAnswered (λ q. IsAnswer q (text_at subject.entry.store.now subject.entry.root) tuple.now) number
+        (queries_of subject.entry.book.now) query answer.told answer.line.items) }
+    ensures cost { looks.new ≤ looks.old + most_looks (value_of (queries_of subject.entry.book.now) query)
+        (text_at subject.entry.store.now subject.entry.root) }
 {
+    let Subject {
+        alloc,
+        store,
+        book,
+        root,
+    } = subject;
     match book.has(query.bytes(), store, root, tuple, looks) {
         Ok(yes) => {
             let answer = yes_or_no(alloc, yes)?;
@@ -240,27 +235,24 @@ fn has_tuple<L: Ledger>(
 
 /// Whether a word is an answer of a query on a root's text, as a reply.
 fn has_root<L: Ledger>(
-    alloc: Global,
-    store: &Store,
-    book: &QueryBook,
+    subject: Subject<'_>,
     number: u64,
     query: Name,
     word: &ByteList,
-    root: Option<NodeId>,
     looks: &mut Steps<L>,
 ) -> Result<Answer, NoMemory>
-    requires covers { Covers store.now book.now }
-    requires live { IsLive store.now root }
-    ensures ok { IfOk result (λ answer. IsJudged number (queries_of book.now) query word.now (text_at store.now root) answer.told answer.line.items) }
-    ensures cost { IsWordPaid (queries_of book.now) query word.now (text_at store.now root) looks.old looks.new }
+    requires { IsSubject subject.store.now subject.book.now subject.root }
+    ensures ok { IfOk result (λ answer. IsJudged number (queries_of subject.entry.book.now) query word.now
+        (text_at subject.entry.store.now subject.entry.root) answer.told answer.line.items) }
+    ensures cost { IsWordPaid (queries_of subject.entry.book.now) query word.now (text_at subject.entry.store.now subject.entry.root) looks.old looks.new }
 {
-    match tuple_of(book, &query, word) {
+    match tuple_of(subject.book, &query, word) {
         Ok(tuple) => {
-            let answer = has_tuple(alloc, store, book, number, query, root, &tuple, looks)?;
+            let answer = has_tuple(subject, number, query, &tuple, looks)?;
             Ok(answer)
         }
         Err(why) => {
-            let answer = Answer::refused(alloc, number, &word_refusal(why, query))?;
+            let answer = Answer::refused(subject.alloc, number, &word_refusal(why, query))?;
             Ok(answer)
         }
     }
@@ -287,32 +279,24 @@ pub fn has<R: Threads + Sync, G: Gate, T: Ledger, L: Ledger>(
     match held.docs.get(name.bytes()) {
         Ok(root) => {
             held.book.grow_all(
-                context.rt,
+                context.lent.rt,
                 held.alloc,
                 &held.store,
-                context.workers,
-                context.gate,
+                context.lent.workers,
+                context.lent.gate,
                 places,
             )?;
-            let answer = has_root(
-                held.alloc,
-                &held.store,
-                &held.book,
-                context.number,
-                query,
-                &word,
+            let subject = Subject {
+                alloc: held.alloc,
+                store: &held.store,
+                book: &held.book,
                 root,
-                looks,
-            )?;
+            };
+            let answer = has_root(subject, context.number, query, &word, looks)?;
             Ok(answer)
         }
         Err(Missing::NoSuchDocument) => {
-            let answer = Answer::refused(
-                held.alloc,
-                context.number,
-                &Refusal::NoSuchDocument { name },
-            )?;
-            Ok(answer)
+            refuse(held, context.number, &Refusal::NoSuchDocument { name })
         }
     }
 }

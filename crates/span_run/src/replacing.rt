@@ -3,7 +3,6 @@ ghost use Rattle.std.specs.Prelude.{◌≡◌, ◌≤◌, ◌+◌, ◌*◌, leng
 ghost use Rattle.edge_io.specs.Files.{Files};
 ghost use Rattle.edit_expr.specs.Values.{AreLive, plain, text_at};
 ghost use Rattle.query_book.specs.Book.{queries_of};
-ghost use Rattle.query_book.specs.Serving.{Covers};
 ghost use Rattle.script_syntax.specs.declared.form.Command.TheVariants as form;
 ghost use Rattle.slp_model.specs.Nodes.{Grows, IsLive};
 ghost use Rattle.span_language.specs.State.{world};
@@ -14,15 +13,17 @@ ghost use Rattle.span_run.specs.Answers.{Answers, Stays};
 ghost use Rattle.span_run.specs.Held.{IsHeld, state_of};
 ghost use Rattle.span_run.specs.Replacing.{AreSources, Chooses, HasOneVariable, Replaces};
 ghost use Rattle.span_run.specs.Site.{at};
+ghost use Rattle.span_run.specs.Subject.{IsSubject};
 
 use crate::answer::Answer;
 use crate::context::Context;
 use crate::documents::give;
 use crate::held::Held;
 use crate::reading::root_len;
+use crate::refusing::refuse;
+use crate::subject::Subject;
 use doc_book::{Docs, Missing};
 use node_store::Store;
-use query_book::QueryBook;
 use report_text::Refusal;
 use slp_model::NodeId;
 use span_language::Stop;
@@ -76,23 +77,20 @@ fn find_sources(held: &Held, query: Name, source: Name, by: Name) -> Result<Sour
 
 /// The chosen spans of a query of one variable on a root's text.
 fn choose<L: Ledger>(
-    alloc: Global,
-    store: &Store,
-    book: &QueryBook,
+    subject: Subject<'_>,
     query: &Name,
-    root: Option<NodeId>,
     looks: &mut Steps<L>,
 ) -> Result<Chosen, ReplaceRefusal>
-    requires covers { Covers store.now book.now }
-    requires live { IsLive store.now root }
-    requires one { HasOneVariable (queries_of book.now) query.now }
-    ensures choice { Chooses (queries_of book.now) query.now (text_at store.now root) result looks.old looks.new }
-    ensures apart { IfOk result (λ spans. AreApart (length (text_at store.now root)) spans) }
+    requires subject { IsSubject subject.store.now subject.book.now subject.root }
+    requires one { HasOneVariable (queries_of subject.book.now) query.now }
+    ensures choice { Chooses (queries_of subject.entry.book.now) query.now (text_at subject.entry.store.now subject.entry.root)
+        result looks.old looks.new }
+    ensures apart { IfOk result (λ spans. AreApart (length (text_at subject.entry.store.now subject.entry.root)) spans) }
 {
     // A text is at most so long that the automaton speaks of it.
-    let _len = root_len(store, root);
-    match book.parts(query.bytes(), store) {
-        Ok((view, dfa)) => chosen(alloc, view, dfa, root, looks),
+    let _len = root_len(subject.store, subject.root);
+    match subject.book.parts(query.bytes(), subject.store) {
+        Ok((view, dfa)) => chosen(subject.alloc, view, dfa, subject.root, looks),
         Err(_) => unreachable!(),
     }
 }
@@ -162,21 +160,20 @@ pub fn replace<R: Threads + Sync, G: Gate, P: Ledger, T: Ledger, L: Ledger>(
     match find_sources(held, query, source, by) {
         Ok(sources) => {
             held.book.grow_all(
-                context.rt,
+                context.lent.rt,
                 held.alloc,
                 &held.store,
-                context.workers,
-                context.gate,
+                context.lent.workers,
+                context.lent.gate,
                 places,
             )?;
-            match choose(
-                held.alloc,
-                &held.store,
-                &held.book,
-                &sources.query,
-                sources.root,
-                looks,
-            ) {
+            let subject = Subject {
+                alloc: held.alloc,
+                store: &held.store,
+                book: &held.book,
+                root: sources.root,
+            };
+            match choose(subject, &sources.query, looks) {
                 Ok(spans) => {
                     let answer = put_in_place(
                         held.alloc,
@@ -197,9 +194,6 @@ pub fn replace<R: Threads + Sync, G: Gate, P: Ledger, T: Ledger, L: Ledger>(
                 Err(_) => Err(Stop::NoMemory),
             }
         }
-        Err(why) => {
-            let answer = Answer::refused(held.alloc, number, &why)?;
-            Ok(answer)
-        }
+        Err(why) => refuse(held, number, &why),
     }
 }

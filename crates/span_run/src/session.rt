@@ -6,7 +6,7 @@ ghost use Rattle.span_run.specs.Scene.{seen};
 ghost use Rattle.span_run.specs.Carried.{IsDone, IsStopped, outlet};
 
 use crate::carrying::carry_line;
-use crate::context::Context;
+use crate::context::{Context, Lent};
 use crate::held::Held;
 use edge_io::{Shelf, Sink};
 use span_language::{Stop, Told};
@@ -97,9 +97,7 @@ impl Session {
         ensures standing { IsStanding self.new }
     {
         let context = Context {
-            rt,
-            workers,
-            gate,
+            lent: Lent { rt, workers, gate },
             number,
         };
         let told = carry_line(

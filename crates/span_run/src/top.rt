@@ -8,6 +8,7 @@ ghost use Rattle.span_language.specs.Lines.{lines_of};
 ghost use Rattle.span_language.specs.Runs.{is_refused, outside, Anywhere, InFileLine, UnlessList, RunsAll, RunsFront};
 ghost use Rattle.span_language.specs.Scripts.{script_of, AsksForNoDemo, OfScript};
 
+use crate::context::Lent;
 use crate::lines::next_line;
 use crate::session::Session;
 use edge_io::{Shelf, Sink, Source};
@@ -111,19 +112,15 @@ fn with_refusal(before: bool, told: Told) -> bool
 
 /// Does the lines of a script in order, and answers whether one was refused.
 fn run_lines<R: Threads + Sync, K: Sink, F: Shelf, G: Gate, P: Ledger, T: Ledger, L: Ledger>(
-    rt: &R,
+    lent: Lent<'_, R, G>,
     alloc: Global,
     script: &[u8],
-    workers: u8,
     out: &mut K,
     shelf: &mut F,
-    gate: &G,
     pairs: &mut Steps<P>,
     places: &mut Steps<T>,
     looks: &mut Steps<L>,
 ) -> Result<bool, Stop>
-    requires least { 1 ≤ workers }
-    requires most { workers ≤ 64 }
     ensures done { IfOk result (λ refused. RunsAll (lines_of script.now) refused
         (outside (K.written out.old) (F.files shelf.old) looks.old pairs.old places.old)
         (outside (K.written out.new) (F.files shelf.new) looks.new pairs.new places.new)) }
@@ -145,7 +142,16 @@ fn run_lines<R: Threads + Sync, K: Sink, F: Shelf, G: Gate, P: Ledger, T: Ledger
     while !rest.is_empty() {
         let (line, after) = next_line(rest);
         let told = session.line(
-            rt, number, line, workers, out, shelf, gate, pairs, places, looks,
+            lent.rt,
+            number,
+            line,
+            lent.workers,
+            out,
+            shelf,
+            lent.gate,
+            pairs,
+            places,
+            looks,
         )?;
         refused = with_refusal(refused, told);
         number += 1;
@@ -241,18 +247,12 @@ pub fn run<
         Err(Unread::TooLong) => return Status::ScriptTooLong,
         Err(Unread::NoMemory) => return Status::NoMemory,
     };
-    match run_lines(
+    let lent = Lent {
         rt,
-        alloc,
-        &bytes,
-        options.workers,
-        out,
-        shelf,
+        workers: options.workers,
         gate,
-        pairs,
-        places,
-        looks,
-    ) {
+    };
+    match run_lines(lent, alloc, &bytes, out, shelf, pairs, places, looks) {
         Ok(false) => Status::Done,
         Ok(true) => Status::SomeRefused,
         Err(Stop::OutFault) => Status::OutFault,

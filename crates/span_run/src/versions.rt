@@ -5,6 +5,7 @@ ghost use Rattle.span_run.specs.Held.{IsHeld};
 
 use crate::answer::{Answer, ok_line};
 use crate::held::Held;
+use crate::refusing::refuse;
 use doc_versions::VersionRefusal;
 use report_text::Refusal;
 use span_language::Stop;
@@ -34,8 +35,7 @@ pub fn back(held: &mut Held, number: u64, name: Name) -> Result<Answer, Stop>
             Ok(Answer::accepted(line))
         }
         Err(VersionRefusal::NoSuchVersion) => {
-            let answer = Answer::refused(held.alloc, number, &Refusal::NoSuchVersion { name })?;
-            Ok(answer)
+            refuse(held, number, &Refusal::NoSuchVersion { name })
         }
         Err(VersionRefusal::NoMemory) => Err(Stop::NoMemory),
     }
@@ -50,9 +50,6 @@ pub fn unmark(held: &mut Held, number: u64, name: Name) -> Result<Answer, Stop>
     let line = ok_line(held.alloc)?;
     match held.versions.unmark(name.bytes()) {
         Ok(()) => Ok(Answer::accepted(line)),
-        Err(_) => {
-            let answer = Answer::refused(held.alloc, number, &Refusal::NoSuchVersion { name })?;
-            Ok(answer)
-        }
+        Err(_) => refuse(held, number, &Refusal::NoSuchVersion { name }),
     }
 }

@@ -5,8 +5,7 @@ use Rattle.span_run.specs.Answers.{IsWellFormed}
 use Rattle.span_run.specs.Carried.{Done, outlet}
 use Rattle.span_run.specs.Held.{standing_of}
 use Rattle.span_run.specs.Scene.{seen}
-use Rattle.span_run.proofs.Sending.{quiet_done}
-use Rattle.span_run.proofs.Forms.{is_answering}
+use Rattle.span_run.proofs.Sending.{quiet_done, is_answering}
 use Rattle.span_run.proofs.carrying.carry.Goals as goal
 
 pub returns-in-Nothing-clause-done : goal.returns-in-Nothing-clause-done

@@ -1,14 +1,10 @@
-use Rattle.std.proofs.Common.{rules, ◌≡◌, ◌∙◌, inl, inr, sym, ap, subst, List, ℕ, refl}
+use Rattle.std.proofs.Common.{◌≡◌, ◌∙◌, sym, ap, subst, List, ℕ, refl}
 use Rattle.report_text.specs.Reply.{query_text}
-use Rattle.report_text.specs.declared.refusal.Refusal.{Refusal}
 use Rattle.script_syntax.specs.declared.form.Command.TheVariants as form
-use Rattle.span_types.specs.Query.{Query, Project}
+use Rattle.span_types.specs.Query.{Project}
 use Rattle.span_types.specs.Rel.{names_of}
 use Rattle.query_book.specs.declared.entry.Entry.{Entry}
 use Rattle.query_book.specs.Book.{queries_of}
-use Rattle.query_book.specs.Combining.{HasProjection, IsAccepted}
-use Rattle.span_language.specs.State.{Named, put, with_queries, world}
-use Rattle.span_language.specs.Step.{Does}
 use Rattle.span_language.specs.declared.told.Stop.TheVariants as stop
 use Rattle.span_run.specs.Held.{state_of}
 use Rattle.span_run.specs.Site.{at}

@@ -1,4 +1,4 @@
-use Rattle.std.proofs.Common.{◌≡◌, ◌∙◌, ap, sym, subst, List}
+use Rattle.std.proofs.Common.{◌∙◌, ap, sym, subst, List}
 use Rattle.slp_model.specs.declared.Node.{Node}
 use Rattle.doc_book.specs.declared.Doc.{Doc}
 use Rattle.script_syntax.specs.declared.form.Command.TheVariants as form

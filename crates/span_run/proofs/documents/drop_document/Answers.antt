@@ -4,28 +4,16 @@ use Rattle.doc_book.specs.declared.Doc.{Doc}
 use Rattle.doc_book.specs.Docs as book
 use Rattle.edit_expr.specs.Values.{AreLive, plain, text_at}
 use Rattle.script_syntax.specs.declared.form.Command.TheVariants as form
-use Rattle.span_language.specs.State.{world}
-use Rattle.span_language.specs.declared.told.Stop.TheVariants as stop
 use Rattle.span_run.specs.Held.{state_of}
-use Rattle.span_run.specs.Site.{at}
-use Rattle.span_run.specs.Answers.{Answers, Stays}
 use Rattle.span_run.proofs.HeldLemmas.{AreLive-taken_out, plain-taken_out}
 use Rattle.span_run.proofs.BookLemmas.{some_value}
-use Rattle.span_run.proofs.CarryLemmas.{drop_carries, drop_missing}
+use Rattle.span_run.proofs.CarryLemmas.{drop_carries}
 use Rattle.span_run.proofs.QueryLemmas.{document_is, document_lacks}
 use Rattle.span_run.proofs.Goes.{free_answers, passed_on, stays}
 use Rattle.span_run.proofs.documents.drop_document.Goals as goal
 
 pub returns-in_err-line-clause-stopped : goal.returns-in_err-line-clause-stopped
 returns-in_err-line-clause-stopped c = λ files faults looks pairs places. passed_on c.from_residual.result _ c.from_residual.ensures.1 (stays c.args.held.now c.args.number (form.DropDoc c.args.name) files faults looks pairs places c.requires)
-
-pub returns-in_err-answer-in-Err-NoSuchDocument-clause-stopped : goal.returns-in_err-answer-in-Err-NoSuchDocument-clause-stopped
-returns-in_err-answer-in-Err-NoSuchDocument-clause-stopped c = λ files faults looks pairs places.
-    let h = c.args.held.now in
-    let r = c.from_residual-in_err-answer-in-Err-NoSuchDocument in
-    passed_on r.result _ r.ensures.1
-    (subst (λ (d : List Doc). Stays (at h files faults looks pairs places) c.args.number (form.DropDoc c.args.name) (at (record h { docs = d }) files faults looks pairs places) stop.NoMemory) (sym c.in-Err-NoSuchDocument.ensures.same)
-    (stays h c.args.number (form.DropDoc c.args.name) files faults looks pairs places c.requires))
 
 pub returns-in-Ok-clause-done : goal.returns-in-Ok-clause-done
 returns-in-Ok-clause-done c = λ files faults looks pairs places.
@@ -38,11 +26,13 @@ returns-in-Ok-clause-done c = λ files faults looks pairs places.
     (document_is h.store h.docs c.args.name root.0 root.1)
     (ap (plain h.store) (c.take_out.ensures.rest ∙ ap (book.taken_out h.docs) c.bytes.ensures.value) ∙ plain-taken_out h.store h.docs c.args.name) c.accepted.ensures.0 (ap (λ v. v.items) c.accepted.ensures.1 ∙ c.in_ok-line.ensures))
 
-pub returns-in_ok-answer-in-Err-NoSuchDocument-clause-done : goal.returns-in_ok-answer-in-Err-NoSuchDocument-clause-done
-returns-in_ok-answer-in-Err-NoSuchDocument-clause-done c = λ files faults looks pairs places.
-    let a = c.in_ok-answer-in-Err-NoSuchDocument in
+pub returns-in-Err-NoSuchDocument-clause-stopped : goal.returns-in-Err-NoSuchDocument-clause-stopped
+returns-in-Err-NoSuchDocument-clause-stopped c =
+    c.refuse.ensures.stopped c.args.held.now (form.DropDoc c.args.name) c.requires (ap (λ (d : List Doc). record c.args.held.now { docs = d }) c.in-Err-NoSuchDocument.ensures.same)
+
+pub returns-in-Err-NoSuchDocument-clause-done : goal.returns-in-Err-NoSuchDocument-clause-done
+returns-in-Err-NoSuchDocument-clause-done c = λ files faults looks pairs places.
     let h = c.args.held.now in
-    subst (λ (d : List Doc). Answers (at h files faults looks pairs places) c.args.number (form.DropDoc c.args.name) (at (record h { docs = d }) files faults looks pairs places) a.answer) (sym c.in-Err-NoSuchDocument.ensures.same)
-    (free_answers h h.docs c.args.number (form.DropDoc c.args.name) a.answer files faults looks pairs places c.requires c.requires.live (λ no. no) (λ no. no) refl
-    (drop_missing (world (state_of h) files) c.args.number c.args.name a.answer.told a.answer.line.items
-    (document_lacks h.store h.docs c.args.name (ap (book.root_of h.docs) (sym c.bytes.ensures.value) ∙ c.in-Err-NoSuchDocument.ensures.err)) a.ensures.0 a.ensures.1))
+    let missing = document_lacks h.store h.docs c.args.name (ap (book.root_of h.docs) (sym c.bytes.ensures.value) ∙ c.in-Err-NoSuchDocument.ensures.err) in
+    c.refuse.ensures.done h (form.DropDoc c.args.name) files faults looks pairs places (record { held = c.requires; refused = (missing, refl); free = refl })
+    (ap (λ (d : List Doc). record h { docs = d }) c.in-Err-NoSuchDocument.ensures.same)

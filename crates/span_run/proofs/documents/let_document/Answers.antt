@@ -1,13 +1,12 @@
-use Rattle.std.proofs.Common.{arith, refl, sym, subst, List, ℕ, rules}
+use Rattle.std.proofs.Common.{arith, refl, sym, subst, List, ℕ, rules, inl}
 use Rattle.edit_expr.specs.declared.expr.Expr.{Expr}
 use Rattle.edit_expr.specs.Expressions.{ExprReads}
 use Rattle.edit_expr.specs.Values.{plain}
 use Rattle.script_syntax.specs.declared.form.Command.TheVariants as form
-use Rattle.slp_model.proofs.NodesLemmas.{Grows-none}
 use Rattle.span_language.specs.State.{world}
 use Rattle.span_language.specs.Allowance.{counters}
 use Rattle.span_run.specs.Held.{state_of}
-use Rattle.span_run.proofs.CarryLemmas.{let_carries, let_is_syntax, let_paid, let_free, part_of_paid}
+use Rattle.span_run.proofs.CarryLemmas.{let_carries, let_paid, part_of_paid}
 use Rattle.span_run.proofs.Goes.{grown_answers, grown_stops, passed_on, stays}
 use Rattle.span_run.proofs.documents.let_document.Goals as goal
 
@@ -33,21 +32,12 @@ returns-in-Ok-clause-done g c = λ files faults looks places.
     (let_paid (world (state_of h) files) c.args.name c.args.expr c.in-Ok.tree looks c.args.pairs.now s.new.pairs reads s.ensures.cost) refl (omega arith)
     (let_carries (state_of h) (plain s.new.store s.new.docs) c.args.number c.args.name c.args.expr c.in-Ok.tree a.answer.told a.answer.line.items files reads a.ensures.ok)
 
-pub returns-in_err-answer-in-Err-Syntax-clause-stopped : goal.returns-in_err-answer-in-Err-Syntax-clause-stopped
-returns-in_err-answer-in-Err-Syntax-clause-stopped g c = λ files faults looks places.
-    let r = c.from_residual-in_err-answer-in-Err-Syntax in
-    passed_on r.result _ r.ensures.1 (stays c.args.held.now c.args.number (form.LetDoc c.args.name c.args.expr) files faults looks c.args.pairs.now places c.requires)
+pub returns-clause-stopped : goal.returns-clause-stopped
+returns-clause-stopped g c = λ files faults looks places. stays c.args.held.now c.args.number (form.LetDoc c.args.name c.args.expr) files faults looks c.args.pairs.now places c.requires
 
 pub returns-in-Err-Syntax-clause-done : goal.returns-in-Err-Syntax-clause-done
 returns-in-Err-Syntax-clause-done g c = λ files faults looks places.
-    let h = c.args.held.now in
-    let a = c.in_ok-answer-in-Err-Syntax in
-    let w = world (state_of h) files in
     let none : (e : Expr) → ExprReads c.bytes.result.now e → ⊥ = c.in-Err-Syntax.ensures.syntax (search (rules, c.in-Err-Syntax.field-0-is)) in
     let other : (e : Expr) → ExprReads c.args.expr e → ⊥ = λ e reads. none e (subst (λ (t : List ℕ). ExprReads t e) (sym c.bytes.ensures) reads) in
-    grown_answers h h.store h.docs c.args.number (form.LetDoc c.args.name c.args.expr) a.answer files files faults faults looks c.args.pairs.now c.args.pairs.now places c.requires (Grows-none h.store c.args.pairs.now c.args.pairs.now (omega arith)) c.requires.live (λ no. no) (λ no. no)
-    (let_free w c.args.name c.args.expr looks c.args.pairs.now other) refl (omega arith)
-    (let_is_syntax w c.args.number c.args.name c.args.expr a.answer.told a.answer.line.items other a.ensures.0 a.ensures.1)
-
-pub returns-clause-stopped : goal.returns-clause-stopped
-returns-clause-stopped g c = λ files faults looks places. stays c.args.held.now c.args.number (form.LetDoc c.args.name c.args.expr) files faults looks c.args.pairs.now places c.requires
+    c.refuse.ensures.done c.args.held.now (form.LetDoc c.args.name c.args.expr) files faults looks c.args.pairs.now places
+    (record { held = c.requires; refused = inl (other, refl); free = inl (other, refl) }) refl

@@ -1,11 +1,14 @@
-use Rattle.std.proofs.Common.{refl, sym, ap, ◌∙◌}
+use Rattle.std.proofs.Common.{refl, sym, ap, ◌∙◌, Err}
 use Rattle.doc_book.specs.Docs as book
 use Rattle.edit_expr.specs.Values.{text_at}
 use Rattle.script_syntax.specs.declared.form.Command.TheVariants as form
 use Rattle.span_language.specs.State.{world}
+use Rattle.std.specs.Option.{option_map_or}
+use Rattle.span_language.specs.Replies.{shown_range}
+use Rattle.report_text.specs.declared.refusal.Refusal.TheVariants.{NoSuchDocument}
 use Rattle.span_run.specs.Held.{state_of}
 use Rattle.span_run.proofs.HeldLemmas.{live_root}
-use Rattle.span_run.proofs.CarryLemmas.{show_carries, show_missing, some_of_ok, none_of_err}
+use Rattle.span_run.proofs.CarryLemmas.{show_carries, some_of_ok, none_of_err}
 use Rattle.span_run.proofs.QueryLemmas.{document_is, document_lacks}
 use Rattle.span_run.proofs.Goes.{free_answers, passed_on, stays}
 use Rattle.span_run.proofs.documents.show.Goals as goal
@@ -24,15 +27,9 @@ returns-in_ok-answer-in-Ok-clause-done c = λ files faults looks pairs places.
     (show_carries (world (state_of h) files) c.args.number c.args.name c.args.i c.args.j (text_at h.store c.in-Ok.root) a.answer.told a.answer.line.items
     (document_is h.store h.docs c.args.name c.in-Ok.root (ap (book.root_of h.docs) (sym c.bytes.ensures.value) ∙ some_of_ok _ _ _ c.in-Ok.ensures)) a.ensures)
 
-pub returns-in_err-answer-in-Err-NoSuchDocument-clause-stopped : goal.returns-in_err-answer-in-Err-NoSuchDocument-clause-stopped
-returns-in_err-answer-in-Err-NoSuchDocument-clause-stopped c = λ files faults looks pairs places.
-    let r = c.from_residual-in_err-answer-in-Err-NoSuchDocument in
-    passed_on r.result _ r.ensures.1 (stays c.args.held.now c.args.number (form.Show c.args.name c.args.i c.args.j) files faults looks pairs places c.requires)
-
-pub returns-in_ok-answer-in-Err-NoSuchDocument-clause-done : goal.returns-in_ok-answer-in-Err-NoSuchDocument-clause-done
-returns-in_ok-answer-in-Err-NoSuchDocument-clause-done c = λ files faults looks pairs places.
+pub returns-in-Err-NoSuchDocument-clause-done : goal.returns-in-Err-NoSuchDocument-clause-done
+returns-in-Err-NoSuchDocument-clause-done c = λ files faults looks pairs places.
     let h = c.args.held.now in
-    let a = c.in_ok-answer-in-Err-NoSuchDocument in
-    free_answers h h.docs c.args.number (form.Show c.args.name c.args.i c.args.j) a.answer files faults looks pairs places c.requires c.requires.live (λ no. no) (λ no. no) refl
-    (show_missing (world (state_of h) files) c.args.number c.args.name c.args.i c.args.j a.answer.told a.answer.line.items
-    (document_lacks h.store h.docs c.args.name (ap (book.root_of h.docs) (sym c.bytes.ensures.value) ∙ none_of_err _ _ _ c.in-Err-NoSuchDocument.ensures)) a.ensures.0 a.ensures.1)
+    let missing = document_lacks h.store h.docs c.args.name (ap (book.root_of h.docs) (sym c.bytes.ensures.value) ∙ none_of_err _ _ _ c.in-Err-NoSuchDocument.ensures) in
+    c.refuse.ensures.done h (form.Show c.args.name c.args.i c.args.j) files faults looks pairs places
+    (record { held = c.requires; refused = ap (λ v. option_map_or (λ s. shown_range s c.args.i c.args.j) v (Err (NoSuchDocument c.args.name))) missing; free = refl }) refl

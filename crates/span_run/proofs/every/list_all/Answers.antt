@@ -1,15 +1,17 @@
-use Rattle.std.proofs.Common.{refl}
+use Rattle.std.proofs.Common.{refl, Option}
 use Rattle.std.proofs.lemmas.Result.{err_from_is_err_and}
+use Rattle.edge_io.specs.Files.{Files}
+use Rattle.report_text.specs.declared.refusal.Refusal.TheVariants.{NoSuchQuery}
 use Rattle.script_syntax.specs.declared.form.Command.TheVariants as form
 use Rattle.span_language.specs.State.{world}
-use Rattle.span_run.specs.Answers.{Answers}
 use Rattle.span_run.specs.Carried.{outlet}
 use Rattle.span_run.specs.Held.{state_of}
+use Rattle.span_run.specs.Refusing.{IsRefusedFreely}
 use Rattle.span_run.specs.Site.{at}
-use Rattle.span_run.proofs.CarryLemmas.{if_err_map, not_begun}
-use Rattle.span_run.proofs.EveryListings.{every_done, every_lacks, every_stopped}
-use Rattle.span_run.proofs.Goes.{if_ok_both, passed_on, placed_stops, same_queries, stays}
-use Rattle.span_run.proofs.Sending.{answer_done, answer_stopped, unstarted}
+use Rattle.span_run.proofs.CarryLemmas.{not_begun}
+use Rattle.span_run.proofs.Listings.{every_done, every_stopped}
+use Rattle.span_run.proofs.Goes.{passed_on, placed_stops, same_queries}
+use Rattle.span_run.proofs.Sending.{unstarted}
 use Rattle.span_run.proofs.every.list_all.Goals as goal
 
 pub returns-in_err-grow_all-clause-stopped : goal.returns-in_err-grow_all-clause-stopped
@@ -43,34 +45,13 @@ returns-in_ok-list_query-clause-done g c = λ files faults looks pairs.
     every_done h c.grow_all.new.self c.args.context.number c.args.query c.args.limit files faults looks pairs c.args.places.now c.grow_all.new.places
     (outlet (k.written c.args.out.now) (k.faults c.args.out.now) (k.wants c.args.out.now)) (outlet (k.written l.new.out) (k.faults l.new.out) (k.wants l.new.out)) c.requires.held grown.serves grown.queries grown.some grown.steps l.ensures.later l.ensures.wants_later c.in_ok-list_query.ensures.done
 
-pub returns-in_err-answer-clause-stopped : goal.returns-in_err-answer-clause-stopped
-returns-in_err-answer-clause-stopped g c = λ files faults looks pairs.
-    let h = c.args.held.now in
-    let k = g.K.Sink in
-    let r = c.from_residual-in_err-answer in
-    let here = at h files faults looks pairs c.args.places.now in
+pub returns-else-has_query : goal.returns-else-has_query
+returns-else-has_query g c =
     let command = form.ListAll c.args.query c.args.limit in
-    let stops = stays h c.args.context.number command files faults looks pairs c.args.places.now c.requires.held in
-    passed_on r.result _ r.ensures.1 (unstarted here here c.args.context.number command (outlet (k.written c.args.out.now) (k.faults c.args.out.now) (k.wants c.args.out.now)) stops.goes refl)
-
-pub returns-in_ok-answer-clause-done : goal.returns-in_ok-answer-clause-done
-returns-in_ok-answer-clause-done g c = λ files faults looks pairs.
-    let h = c.args.held.now in
-    let k = g.K.Sink in
-    let a = c.in_ok-answer in
-    let here = at h files faults looks pairs c.args.places.now in
-    let number = c.args.context.number in
-    let command = form.ListAll c.args.query c.args.limit in
-    let answers : Answers here number command here a.answer = every_lacks h number c.args.query c.args.limit a.answer files faults looks pairs c.args.places.now c.requires.held (c.has_query.ensures.missing c.if-has_query.false) a.ensures.0 a.ensures.1 in
-    if_ok_both c.send.result _ _ _ (λ told is sent. answer_done here here number command a.answer (outlet (k.written c.args.out.now) (k.faults c.args.out.now) (k.wants c.args.out.now)) (outlet (k.written c.send.new.out) (k.faults c.send.new.out) (k.wants c.send.new.out)) told answers is sent) c.send.ensures.told c.send.ensures.done
-
-pub returns-in_ok-answer-clause-stopped : goal.returns-in_ok-answer-clause-stopped
-returns-in_ok-answer-clause-stopped g c = λ files faults looks pairs.
-    let h = c.args.held.now in
-    let k = g.K.Sink in
-    let a = c.in_ok-answer in
-    let here = at h files faults looks pairs c.args.places.now in
-    let number = c.args.context.number in
-    let command = form.ListAll c.args.query c.args.limit in
-    let answers : Answers here number command here a.answer = every_lacks h number c.args.query c.args.limit a.answer files faults looks pairs c.args.places.now c.requires.held (c.has_query.ensures.missing c.if-has_query.false) a.ensures.0 a.ensures.1 in
-    if_err_map c.send.result _ _ (λ why unsent. answer_stopped here here number command a.answer (outlet (k.written c.args.out.now) (k.faults c.args.out.now) (k.wants c.args.out.now)) (outlet (k.written c.send.new.out) (k.faults c.send.new.out) (k.wants c.send.new.out)) why (λ nothing. let bad : ⊥ = cc nothing in bad) answers unsent) c.send.ensures.stopped
+    let refused : (files : Option Files) → IsRefusedFreely c.args.held.now files command (NoSuchQuery c.args.query) = λ files.
+    record { held = c.requires.held; refused = (c.has_query.ensures.missing c.if-has_query.false, refl); free = refl } in
+    record {
+      held = c.requires.held;
+      done = λ files faults looks pairs. c.turn_away.ensures.done command files faults looks pairs c.args.places.now (refused files);
+      stopped = λ files faults looks pairs. c.turn_away.ensures.stopped command files faults looks pairs c.args.places.now (refused files);
+    }

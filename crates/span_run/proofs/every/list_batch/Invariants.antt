@@ -6,8 +6,8 @@ use Rattle.span_run.proofs.every.list_batch.Given as goal
 
 abbrev pub invariant-loop-place : goal.invariant-loop-place
 invariant-loop-place g l = record {
-  so_far : (lists : List (List Tuple)) → AreAnswered l.fn.dfa l.fn.view.store.now l.docs lists
-      → IsListing (g.K.Sink.written l.fn.out) (g.K.Sink.written l.out) (rest_text l.vars l.fn.limit l.docs lists (l.first + l.place)) (rest_text l.vars l.fn.limit l.docs lists l.first);
+  so_far : (lists : List (List Tuple)) → AreAnswered l.survey.dfa.now l.survey.view.store.now l.survey.docs.now lists
+      → IsListing (g.K.Sink.written l.fn.out) (g.K.Sink.written l.out) (rest_text l.survey.vars.now l.survey.limit l.survey.docs.now lists (l.first + l.place)) (rest_text l.survey.vars.now l.survey.limit l.survey.docs.now lists l.first);
   later : g.K.Sink.faults l.fn.out ≤ g.K.Sink.faults l.out;
   wants_later : g.K.Sink.wants l.fn.out ≤ g.K.Sink.wants l.out;
 }

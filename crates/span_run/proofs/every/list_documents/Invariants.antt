@@ -7,8 +7,8 @@ use Rattle.span_run.proofs.every.list_documents.Given as goal
 abbrev pub invariant-loop-first : goal.invariant-loop-first
 invariant-loop-first g l = record {
   within : l.first ≤ l.all;
-  so_far : (lists : List (List Tuple)) → AreAnswered l.dfa l.view.store.now l.docs lists
-      → IsListing (g.K.Sink.written l.fn.out) (g.K.Sink.written l.out) (rest_text l.vars l.limit l.docs lists l.first) (every_text l.vars l.limit l.docs lists);
+  so_far : (lists : List (List Tuple)) → AreAnswered l.survey.dfa.now l.survey.view.store.now l.survey.docs.now lists
+      → IsListing (g.K.Sink.written l.fn.out) (g.K.Sink.written l.out) (rest_text l.survey.vars.now l.survey.limit l.survey.docs.now lists l.first) (every_text l.survey.vars.now l.survey.limit l.survey.docs.now lists);
   later : g.K.Sink.faults l.fn.out ≤ g.K.Sink.faults l.out;
   wants_later : g.K.Sink.wants l.fn.out ≤ g.K.Sink.wants l.out;
 }

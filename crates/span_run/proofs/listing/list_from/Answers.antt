@@ -15,7 +15,7 @@ use Rattle.span_run.proofs.listing.list_from.Goals as goal
 pub returns-in_err-answers-clause-stopped : goal.returns-in_err-answers-clause-stopped
 returns-in_err-answers-clause-stopped g c =
     let p = err_from_is_err_and c.from_residual.result c.from_residual.ensures.1 in
-    rw (p.1) (lists_none (AppendsFront (g.K.Sink.written c.args.out.now) (g.K.Sink.written c.args.out.now)) (queries_of c.args.book.now) c.args.query.now (text_at c.args.store.now c.args.root) c.args.cursor c.args.limit c.args.looks.now c.answers_from.new.looks c.answers_from.ensures.list c.requires.cursor c.answers_from.ensures.cost (λ reply. nothing_front (g.K.Sink.written c.args.out.now) reply))
+    rw (p.1) (lists_none (AppendsFront (g.K.Sink.written c.args.out.now) (g.K.Sink.written c.args.out.now)) (queries_of c.args.subject.book.now) c.args.query.now (text_at c.args.subject.store.now c.args.subject.root) c.args.cursor c.args.limit c.args.looks.now c.answers_from.new.looks c.answers_from.ensures.list c.requires.cursor c.answers_from.ensures.cost (λ reply. nothing_front (g.K.Sink.written c.args.out.now) reply))
 
 pub returns-in_err-answers-clause-want : goal.returns-in_err-answers-clause-want
 returns-in_err-answers-clause-want g c =
@@ -24,15 +24,15 @@ returns-in_err-answers-clause-want g c =
 
 pub write_page-requires : goal.write_page-requires
 write_page-requires g c =
-    named_count (queries_of c.args.book.now) c.args.query.now (text_at c.args.store.now c.args.root) c.args.cursor c.in_ok-answers.answers c.in-Ok.vars.now c.in_ok-answers.ensures.listing (subst (λ (n : List ℕ). option_map names_of (value_of (queries_of c.args.book.now) n) ≡ Some c.in-Ok.vars.now) c.bytes.ensures.value c.in-Ok.ensures)
+    named_count (queries_of c.args.subject.book.now) c.args.query.now (text_at c.args.subject.store.now c.args.subject.root) c.args.cursor c.in_ok-answers.answers c.in-Ok.vars.now c.in_ok-answers.ensures.listing (subst (λ (n : List ℕ). option_map names_of (value_of (queries_of c.args.subject.book.now) n) ≡ Some c.in-Ok.vars.now) c.bytes.ensures.value c.in-Ok.ensures)
 
 pub returns-clause-done : goal.returns-clause-done
 returns-clause-done g c =
-    on_ok_map c.write_page.result _ _ (λ h. lists_page (Appends (g.K.Sink.written c.args.out.now) (g.K.Sink.written c.write_page.new.out)) (queries_of c.args.book.now) c.args.query.now (text_at c.args.store.now c.args.root) c.args.cursor c.args.limit c.args.looks.now c.write_page.new.looks c.answers_from.ensures.list c.answers_from.new.looks c.in_ok-answers.answers c.in-Ok.vars.now c.in_ok-answers.ensures.listing (subst (λ (n : List ℕ). option_map names_of (value_of (queries_of c.args.book.now) n) ≡ Some c.in-Ok.vars.now) c.bytes.ensures.value c.in-Ok.ensures) c.answers_from.ensures.cost h c.write_page.ensures.cost) c.write_page.ensures.done
+    on_ok_map c.write_page.result _ _ (λ h. lists_page (Appends (g.K.Sink.written c.args.out.now) (g.K.Sink.written c.write_page.new.out)) (queries_of c.args.subject.book.now) c.args.query.now (text_at c.args.subject.store.now c.args.subject.root) c.args.cursor c.args.limit c.args.looks.now c.write_page.new.looks c.answers_from.ensures.list c.answers_from.new.looks c.in_ok-answers.answers c.in-Ok.vars.now c.in_ok-answers.ensures.listing (subst (λ (n : List ℕ). option_map names_of (value_of (queries_of c.args.subject.book.now) n) ≡ Some c.in-Ok.vars.now) c.bytes.ensures.value c.in-Ok.ensures) c.answers_from.ensures.cost h c.write_page.ensures.cost) c.write_page.ensures.done
 
 pub returns-clause-stopped : goal.returns-clause-stopped
 returns-clause-stopped g c =
-    on_err_map c.write_page.result _ _ (λ h. lists_page (AppendsFront (g.K.Sink.written c.args.out.now) (g.K.Sink.written c.write_page.new.out)) (queries_of c.args.book.now) c.args.query.now (text_at c.args.store.now c.args.root) c.args.cursor c.args.limit c.args.looks.now c.write_page.new.looks c.answers_from.ensures.list c.answers_from.new.looks c.in_ok-answers.answers c.in-Ok.vars.now c.in_ok-answers.ensures.listing (subst (λ (n : List ℕ). option_map names_of (value_of (queries_of c.args.book.now) n) ≡ Some c.in-Ok.vars.now) c.bytes.ensures.value c.in-Ok.ensures) c.answers_from.ensures.cost h c.write_page.ensures.cost) c.write_page.ensures.stopped
+    on_err_map c.write_page.result _ _ (λ h. lists_page (AppendsFront (g.K.Sink.written c.args.out.now) (g.K.Sink.written c.write_page.new.out)) (queries_of c.args.subject.book.now) c.args.query.now (text_at c.args.subject.store.now c.args.subject.root) c.args.cursor c.args.limit c.args.looks.now c.write_page.new.looks c.answers_from.ensures.list c.answers_from.new.looks c.in_ok-answers.answers c.in-Ok.vars.now c.in_ok-answers.ensures.listing (subst (λ (n : List ℕ). option_map names_of (value_of (queries_of c.args.subject.book.now) n) ≡ Some c.in-Ok.vars.now) c.bytes.ensures.value c.in-Ok.ensures) c.answers_from.ensures.cost h c.write_page.ensures.cost) c.write_page.ensures.stopped
 
 pub returns-clause-want : goal.returns-clause-want
 returns-clause-want g c =

@@ -16,7 +16,7 @@ use Rattle.span_run.proofs.listing.list_root.Goals as goal
 
 pub list_from-requires-clause-cursor : goal.list_from-requires-clause-cursor
 list_from-requires-clause-cursor g c =
-    has_cursor (queries_of c.args.book.now) c.args.query c.args.word c.in-Ok.cursor c.in-Ok.ensures.ok
+    has_cursor (queries_of c.args.subject.book.now) c.args.query c.args.page.after c.in-Ok.cursor c.in-Ok.ensures.ok
 
 pub returns-in_err-list_from-in-Ok-clause-stopped : goal.returns-in_err-list_from-in-Ok-clause-stopped
 returns-in_err-list_from-in-Ok-clause-stopped g c =
@@ -41,7 +41,7 @@ pub returns-in_ok-answer-in-Err-clause-done : goal.returns-in_ok-answer-in-Err-c
 returns-in_ok-answer-in-Err-clause-done g c =
     let k = g.K.Sink in
     let a = c.in_ok-answer-in-Err in
-    if_ok_both c.send.result _ _ _ (λ told is sent. subst (λ (t : Told). Tells (Appends (k.written c.args.out.now) (k.written c.send.new.out)) c.args.number (queries_of c.args.book.now) c.args.query c.args.word (text_at c.args.store.now c.args.root) c.args.limit t c.args.looks.now c.args.looks.now) (sym (is ∙ a.ensures.0))
+    if_ok_both c.send.result _ _ _ (λ told is sent. subst (λ (t : Told). Tells (Appends (k.written c.args.out.now) (k.written c.send.new.out)) c.args.number (queries_of c.args.subject.book.now) c.args.query c.args.page.after (text_at c.args.subject.store.now c.args.subject.root) c.args.page.limit t c.args.looks.now c.args.looks.now) (sym (is ∙ a.ensures.0))
     (c.in-Err.why, c.word_refusal.result, c.in-Err.ensures.err, c.word_refusal.ensures, subst (λ (l : List ℕ). Appends (k.written c.args.out.now) (k.written c.send.new.out) l) a.ensures.1 sent.appends, refl)) c.send.ensures.told c.send.ensures.done
 
 pub returns-in_ok-answer-in-Err-clause-stopped : goal.returns-in_ok-answer-in-Err-clause-stopped

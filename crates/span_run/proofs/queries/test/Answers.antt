@@ -1,4 +1,4 @@
-use Rattle.std.proofs.Common.{◌≡◌, ◌∙◌, ◌≤◌, ◌+◌, sym, ap, subst, Some, None}
+use Rattle.std.proofs.Common.{◌≡◌, ◌∙◌, ◌≤◌, ◌+◌, sym, ap, subst, Some, inl, refl}
 use Rattle.doc_book.specs.Docs as book
 use Rattle.edit_expr.specs.Values.{plain, text_at}
 use Rattle.script_syntax.specs.declared.form.Command.TheVariants as form
@@ -10,12 +10,15 @@ use Rattle.span_run.specs.Held.{state_of}
 use Rattle.span_run.specs.Asked.{IsAnswered}
 use Rattle.span_run.proofs.HeldLemmas.{live_root}
 use Rattle.span_run.proofs.CarryLemmas.{not_begun, some_of_ok, none_of_err}
-use Rattle.span_run.proofs.QueryLemmas.{document_is, document_lacks, test_carries, test_lacks, test_paid, test_begun, test_free}
-use Rattle.span_run.proofs.Goes.{passed_on, placed_answers, placed_stops, free_answers, stays}
+use Rattle.span_run.proofs.QueryLemmas.{document_is, document_lacks, test_carries, test_paid, test_begun, test_free}
+use Rattle.span_run.proofs.Goes.{passed_on, placed_answers, placed_stops}
 use Rattle.span_run.proofs.queries.test.Goals as goal
 
-pub test_root-requires-clause-live : goal.test_root-requires-clause-live
-test_root-requires-clause-live g c = live_root c.args.held.now.store c.args.held.now.docs c.bytes.result.now c.in-Ok.root c.requires.live (some_of_ok _ _ _ c.in-Ok.ensures)
+pub test_root-requires : goal.test_root-requires
+test_root-requires g c = record {
+  covers = c.in_ok-grow_all-in-Ok.ensures.all;
+  live = live_root c.args.held.now.store c.args.held.now.docs c.bytes.result.now c.in-Ok.root c.requires.live (some_of_ok _ _ _ c.in-Ok.ensures);
+}
 
 pub returns-in_err-grow_all-in-Ok-clause-stopped : goal.returns-in_err-grow_all-in-Ok-clause-stopped
 returns-in_err-grow_all-in-Ok-clause-stopped g c = λ files faults pairs.
@@ -58,17 +61,9 @@ returns-in_ok-answer-in-Ok-clause-done g c = λ files faults pairs.
     (test_paid w number c.args.query c.args.name text a.answer.told a.answer.line.items there c.args.looks.now c.test_root.new.looks pairs asked cost)
     (test_carries w number c.args.query c.args.name text a.answer.told a.answer.line.items there asked)
 
-pub returns-in_err-answer-in-Err-NoSuchDocument-clause-stopped : goal.returns-in_err-answer-in-Err-NoSuchDocument-clause-stopped
-returns-in_err-answer-in-Err-NoSuchDocument-clause-stopped g c = λ files faults pairs.
-    let r = c.from_residual-in_err-answer-in-Err-NoSuchDocument in
-    passed_on r.result _ r.ensures.1 (stays c.args.held.now c.args.context.number (form.Nonempty c.args.query c.args.name) files faults c.args.looks.now pairs c.args.places.now c.requires)
-
-pub returns-in_ok-answer-in-Err-NoSuchDocument-clause-done : goal.returns-in_ok-answer-in-Err-NoSuchDocument-clause-done
-returns-in_ok-answer-in-Err-NoSuchDocument-clause-done g c = λ files faults pairs.
+pub returns-in-Err-NoSuchDocument-clause-done : goal.returns-in-Err-NoSuchDocument-clause-done
+returns-in-Err-NoSuchDocument-clause-done g c = λ files faults pairs.
     let h = c.args.held.now in
-    let a = c.in_ok-answer-in-Err-NoSuchDocument in
-    let w = world (state_of h) files in
-    let missing : value_of (plain h.store h.docs) c.args.name ≡ None = document_lacks h.store h.docs c.args.name (ap (book.root_of h.docs) (sym c.bytes.ensures.value) ∙ none_of_err _ _ _ c.in-Err-NoSuchDocument.ensures) in
-    free_answers h h.docs c.args.context.number (form.Nonempty c.args.query c.args.name) a.answer files faults c.args.looks.now pairs c.args.places.now c.requires c.requires.live (λ no. no) (λ no. no)
-    (test_free w c.args.query c.args.name missing)
-    (test_lacks w c.args.context.number c.args.query c.args.name a.answer.told a.answer.line.items missing a.ensures.0 a.ensures.1)
+    let missing = document_lacks h.store h.docs c.args.name (ap (book.root_of h.docs) (sym c.bytes.ensures.value) ∙ none_of_err _ _ _ c.in-Err-NoSuchDocument.ensures) in
+    c.refuse.ensures.done h (form.Nonempty c.args.query c.args.name) files faults c.args.looks.now pairs c.args.places.now
+    (record { held = c.requires; refused = inl (missing, refl); free = test_free (world (state_of h) files) c.args.query c.args.name missing }) refl

@@ -4,26 +4,15 @@ use Rattle.script_syntax.specs.declared.form.Command.TheVariants as form
 use Rattle.query_book.specs.declared.entry.Entry.{Entry}
 use Rattle.query_book.specs.Book.{queries_of}
 use Rattle.query_book.specs.Serving.{covered_of}
-use Rattle.span_language.specs.State.{taken_out, value_of, world}
-use Rattle.span_language.specs.declared.told.Stop.TheVariants as stop
+use Rattle.span_language.specs.State.{taken_out, value_of}
 use Rattle.span_run.specs.Held.{state_of}
-use Rattle.span_run.specs.Site.{at}
-use Rattle.span_run.specs.Answers.{Answers, Stays}
 use Rattle.span_run.proofs.BookLemmas.{take_placed, covered-within}
-use Rattle.span_run.proofs.QueryLemmas.{unquery_carries, unquery_lacks}
-use Rattle.span_run.proofs.Goes.{booked_answers, never, passed_on, refused_answers, stays}
+use Rattle.span_run.proofs.QueryLemmas.{unquery_carries}
+use Rattle.span_run.proofs.Goes.{booked_answers, never, passed_on, stays}
 use Rattle.span_run.proofs.queries.unquery.Goals as goal
 
 pub returns-in_err-line-clause-stopped : goal.returns-in_err-line-clause-stopped
 returns-in_err-line-clause-stopped c = λ files faults looks pairs places. passed_on c.from_residual.result _ c.from_residual.ensures.1 (stays c.args.held.now c.args.number (form.Unquery c.args.name) files faults looks pairs places c.requires)
-
-pub returns-in_err-answer-in-Err-clause-stopped : goal.returns-in_err-answer-in-Err-clause-stopped
-returns-in_err-answer-in-Err-clause-stopped c = λ files faults looks pairs places.
-    let h = c.args.held.now in
-    let r = c.from_residual-in_err-answer-in-Err in
-    passed_on r.result _ r.ensures.1
-    (subst (λ (es : List Entry). Stays (at h files faults looks pairs places) c.args.number (form.Unquery c.args.name) (at (record h { book = es }) files faults looks pairs places) stop.NoMemory) (sym c.in-Err.ensures.err)
-    (stays h c.args.number (form.Unquery c.args.name) files faults looks pairs places c.requires))
 
 pub returns-in-Ok-clause-done : goal.returns-in-Ok-clause-done
 returns-in-Ok-clause-done c = λ files faults looks pairs places.
@@ -36,10 +25,13 @@ returns-in-Ok-clause-done c = λ files faults looks pairs places.
     (subst (λ (n : List ℕ). IsSome (value_of (queries_of h.book) n)) c.bytes.ensures.value c.in-Ok.ensures.ok) (c.remove.ensures.rest ∙ ap (λ (n : List ℕ). taken_out (queries_of h.book) n) c.bytes.ensures.value)
     c.accepted.ensures.0 (ap (λ v. v.items) c.accepted.ensures.1 ∙ c.in_ok-line.ensures))
 
-pub returns-in_ok-answer-in-Err-clause-done : goal.returns-in_ok-answer-in-Err-clause-done
-returns-in_ok-answer-in-Err-clause-done c = λ files faults looks pairs places.
+pub returns-in-Err-clause-stopped : goal.returns-in-Err-clause-stopped
+returns-in-Err-clause-stopped c =
+    c.refuse.ensures.stopped c.args.held.now (form.Unquery c.args.name) c.requires (ap (λ (es : List Entry). record c.args.held.now { book = es }) c.in-Err.ensures.err)
+
+pub returns-in-Err-clause-done : goal.returns-in-Err-clause-done
+returns-in-Err-clause-done c = λ files faults looks pairs places.
     let h = c.args.held.now in
-    let a = c.in_ok-answer-in-Err in
-    subst (λ (es : List Entry). Answers (at h files faults looks pairs places) c.args.number (form.Unquery c.args.name) (at (record h { book = es }) files faults looks pairs places) a.answer) (sym c.in-Err.ensures.err)
-    (refused_answers h c.args.number (form.Unquery c.args.name) a.answer files faults looks pairs places c.requires a.ensures.0 refl
-    (unquery_lacks (world (state_of h) files) c.args.number c.args.name a.answer.told a.answer.line.items (ap (λ (n : List ℕ). value_of (queries_of h.book) n) (sym c.bytes.ensures.value) ∙ c.in-Err.ensures.missing.none) a.ensures.0 a.ensures.1))
+    let missing = ap (λ (n : List ℕ). value_of (queries_of h.book) n) (sym c.bytes.ensures.value) ∙ c.in-Err.ensures.missing.none in
+    c.refuse.ensures.done h (form.Unquery c.args.name) files faults looks pairs places (record { held = c.requires; refused = (missing, refl); free = refl })
+    (ap (λ (es : List Entry). record h { book = es }) c.in-Err.ensures.err)

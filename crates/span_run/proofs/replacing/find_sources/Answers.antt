@@ -1,10 +1,9 @@
-use Rattle.std.proofs.Common.{◌≡◌, ◌∙◌, inl, inr, refl, sym, ap, subst, length, List, ℕ, Option, Some, None}
+use Rattle.std.proofs.Common.{◌≡◌, ◌∙◌, inl, inr, refl, sym, ap, List, ℕ, Some, None}
 use Rattle.std.specs.Prelude.{option_map}
 use Rattle.doc_book.specs.Docs as book
-use Rattle.edit_expr.specs.Values.{plain, text_at}
+use Rattle.edit_expr.specs.Values.{text_at}
 use Rattle.query_book.specs.Book.{queries_of}
 use Rattle.span_language.specs.State.{value_of}
-use Rattle.span_types.specs.Query.{Query}
 use Rattle.span_types.specs.Rel.{names_of}
 use Rattle.span_language.specs.State.{world}
 use Rattle.span_run.specs.Held.{state_of}

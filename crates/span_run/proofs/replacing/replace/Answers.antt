@@ -1,5 +1,4 @@
-use Rattle.std.proofs.Common.{rules, ◌≡◌, ◌∙◌, inl, ap, refl, sym, subst, length, arith, List, ℕ, Ok, Err}
-use Rattle.doc_book.specs.Docs as book
+use Rattle.std.proofs.Common.{rules, ◌≡◌, inl, ap, refl, subst, length, arith, List, Err}
 use Rattle.edit_expr.specs.Values.{plain, text_at}
 use Rattle.query_book.specs.Book.{queries_of}
 use Rattle.script_syntax.specs.declared.form.Command.TheVariants as form
@@ -8,19 +7,21 @@ use Rattle.span_replace.specs.Outcomes.{IsChoice}
 use Rattle.span_replace.specs.declared.refusal.ReplaceRefusal.{ReplaceRefusal}
 use Rattle.span_replace.specs.declared.refusal.ReplaceRefusal.TheVariants.{TooManyMatches}
 use Rattle.span_types.specs.declared.tuple.Span.{Span}
-use Rattle.span_types.specs.Query.{Query}
-use Rattle.span_language.specs.State.{Named, world}
+use Rattle.span_language.specs.State.{world}
 use Rattle.span_language.specs.Allowance.{counters}
 use Rattle.span_run.specs.Held.{state_of}
-use Rattle.span_run.specs.Replacing.{Chooses, Replaces}
+use Rattle.span_run.specs.Replacing.{Replaces}
 use Rattle.span_run.proofs.CarryLemmas.{not_begun, part_of_paid}
 use Rattle.span_run.proofs.HeldLemmas.{live_root}
-use Rattle.span_run.proofs.ReplaceLemmas.{is_replacing, replace_carries, replace_many, replace_paid, replace_refused}
-use Rattle.span_run.proofs.Goes.{moved_answers, moved_stops, passed_on, placed_answers, placed_stops, refused_answers, stays}
+use Rattle.span_run.proofs.ReplaceLemmas.{choose_stops, chosen_before, is_replacing, replace_carries, replace_many, replace_paid}
+use Rattle.span_run.proofs.Goes.{moved_answers, moved_stops, passed_on, placed_answers, placed_stops}
 use Rattle.span_run.proofs.replacing.replace.Goals as goal
 
-pub choose-requires-clause-live : goal.choose-requires-clause-live
-choose-requires-clause-live g c = live_root c.args.held.now.store c.args.held.now.docs c.args.asked.source c.in-Ok.sources.root c.requires.live c.in-Ok.ensures.ok.root
+pub choose-requires-clause-subject : goal.choose-requires-clause-subject
+choose-requires-clause-subject g c = record {
+  covers = c.in_ok-grow_all-in-Ok.ensures.all;
+  live = live_root c.args.held.now.store c.args.held.now.docs c.args.asked.source c.in-Ok.sources.root c.requires.live c.in-Ok.ensures.ok.root;
+}
 
 pub put_in_place-requires-clause-root : goal.put_in_place-requires-clause-root
 put_in_place-requires-clause-root g c = live_root c.args.held.now.store c.args.held.now.docs c.args.asked.source c.in-Ok.sources.root c.requires.live c.in-Ok.ensures.ok.root
@@ -46,18 +47,16 @@ returns-in-Ok-choose-clause-done g c = λ files faults.
     let number = c.args.context.number in
     let grown = c.grow_all.ensures in
     let s = c.in-Ok.sources in
-    let sources = c.in-Ok.ensures.ok in
     let text = text_at h.store s.root in
     let other = text_at h.store s.other in
-    let chosen : Chooses (queries_of h.book) asked.query text (Ok c.in-Ok-choose.spans) c.args.looks.now c.choose.new.looks = subst (λ (n : List ℕ). Chooses (queries_of h.book) n text (Ok c.in-Ok-choose.spans) c.args.looks.now c.choose.new.looks) sources.name
-    (subst (λ (qs : Named Query). Chooses qs s.query text (Ok c.in-Ok-choose.spans) c.args.looks.now c.choose.new.looks) grown.queries c.in-Ok-choose.ensures.choice) in
-    let replacing = is_replacing h files asked.query asked.source asked.by s sources chosen.of chosen.there in
+    let chosen = chosen_before (queries_of h.book) (queries_of c.grow_all.new.self) s.query asked.query text _ _ _ grown.queries c.in-Ok.ensures.ok.name c.in-Ok-choose.ensures.choice in
+    let replacing = is_replacing h files asked.query asked.source asked.by s c.in-Ok.ensures.ok chosen.of chosen.there in
     let put = c.put_in_place in
     let a = c.in_ok-answer-in-Ok-choose in
     let docs = plain put.new.store put.new.docs in
     moved_answers h put.new.store put.new.docs c.grow_all.new.self number command a.answer files faults c.args.looks.now c.choose.new.looks c.args.pairs.now put.new.pairs c.args.places.now c.grow_all.new.places c.requires put.ensures.grows put.ensures.live grown.serves
     grown.queries grown.some grown.steps (λ no. no) (λ no. no)
-    (replace_paid (state_of h) files number asked.name asked.query asked.source asked.by chosen.of text other chosen.spans replacing chosen.chosen c.args.looks.now c.choose.new.looks c.args.pairs.now c.put_in_place.new.pairs chosen.cost (omega (arith, c.put_in_place.ensures.cost, ap length chosen.choice.0, chosen.choice.1)))
+    (replace_paid (state_of h) files number asked.name asked.query asked.source asked.by chosen.of text other chosen.spans replacing chosen.chosen c.args.looks.now c.choose.new.looks c.args.pairs.now put.new.pairs chosen.cost (omega (arith, put.ensures.cost, ap length chosen.choice.0, chosen.choice.1)))
     (replace_carries (state_of h) files number asked.name asked.query asked.source asked.by chosen.of text other chosen.spans replacing chosen.chosen docs a.answer.told a.answer.line.items chosen.choice.1
     (subst (λ (spans : List Span). Replaces (plain h.store h.docs) number asked.name (replaced text spans other) a.answer.told a.answer.line.items docs) chosen.choice.0 a.ensures.ok))
 
@@ -69,19 +68,16 @@ returns-in_err-answer-in-Ok-choose-clause-stopped g c = λ files faults.
     let number = c.args.context.number in
     let grown = c.grow_all.ensures in
     let s = c.in-Ok.sources in
-    let sources = c.in-Ok.ensures.ok in
     let text = text_at h.store s.root in
-    let other = text_at h.store s.other in
-    let chosen : Chooses (queries_of h.book) asked.query text (Ok c.in-Ok-choose.spans) c.args.looks.now c.choose.new.looks = subst (λ (n : List ℕ). Chooses (queries_of h.book) n text (Ok c.in-Ok-choose.spans) c.args.looks.now c.choose.new.looks) sources.name
-    (subst (λ (qs : Named Query). Chooses qs s.query text (Ok c.in-Ok-choose.spans) c.args.looks.now c.choose.new.looks) grown.queries c.in-Ok-choose.ensures.choice) in
-    let replacing = is_replacing h files asked.query asked.source asked.by s sources chosen.of chosen.there in
+    let chosen = chosen_before (queries_of h.book) (queries_of c.grow_all.new.self) s.query asked.query text _ _ _ grown.queries c.in-Ok.ensures.ok.name c.in-Ok-choose.ensures.choice in
+    let replacing = is_replacing h files asked.query asked.source asked.by s c.in-Ok.ensures.ok chosen.of chosen.there in
     let put = c.put_in_place in
     let r = c.from_residual-in_err-answer-in-Ok-choose in
     passed_on r.result _ r.ensures.1
     (moved_stops h put.new.store put.new.docs c.grow_all.new.self number command files faults c.args.looks.now c.choose.new.looks c.args.pairs.now put.new.pairs c.args.places.now c.grow_all.new.places c.requires put.ensures.grows put.ensures.live grown.serves
     grown.queries grown.some grown.steps c.in_err-answer-in-Ok-choose.ensures.err
     (part_of_paid (world (state_of h) files) command (counters c.args.looks.now c.args.pairs.now) (counters c.choose.new.looks put.new.pairs)
-    (replace_paid (state_of h) files number asked.name asked.query asked.source asked.by chosen.of text other chosen.spans replacing chosen.chosen c.args.looks.now c.choose.new.looks c.args.pairs.now c.put_in_place.new.pairs chosen.cost (omega (arith, c.put_in_place.ensures.cost, ap length chosen.choice.0, chosen.choice.1)))))
+    (replace_paid (state_of h) files number asked.name asked.query asked.source asked.by chosen.of text (text_at h.store s.other) chosen.spans replacing chosen.chosen c.args.looks.now c.choose.new.looks c.args.pairs.now put.new.pairs chosen.cost (omega (arith, put.ensures.cost, ap length chosen.choice.0, chosen.choice.1)))))
 
 pub returns-in-Err-TooManyMatches-clause-done : goal.returns-in-Err-TooManyMatches-clause-done
 returns-in-Err-TooManyMatches-clause-done g c = λ files faults.
@@ -91,12 +87,10 @@ returns-in-Err-TooManyMatches-clause-done g c = λ files faults.
     let number = c.args.context.number in
     let grown = c.grow_all.ensures in
     let s = c.in-Ok.sources in
-    let sources = c.in-Ok.ensures.ok in
     let text = text_at h.store s.root in
     let other = text_at h.store s.other in
-    let chosen : Chooses (queries_of h.book) asked.query text (Err c.in-Err-TooManyMatches.field-0) c.args.looks.now c.choose.new.looks = subst (λ (n : List ℕ). Chooses (queries_of h.book) n text (Err c.in-Err-TooManyMatches.field-0) c.args.looks.now c.choose.new.looks) sources.name
-    (subst (λ (qs : Named Query). Chooses qs s.query text (Err c.in-Err-TooManyMatches.field-0) c.args.looks.now c.choose.new.looks) grown.queries c.in-Err-TooManyMatches.ensures.choice) in
-    let replacing = is_replacing h files asked.query asked.source asked.by s sources chosen.of chosen.there in
+    let chosen = chosen_before (queries_of h.book) (queries_of c.grow_all.new.self) s.query asked.query text _ _ _ grown.queries c.in-Ok.ensures.ok.name c.in-Err-TooManyMatches.ensures.choice in
+    let replacing = is_replacing h files asked.query asked.source asked.by s c.in-Ok.ensures.ok chosen.of chosen.there in
     let a = c.in_ok-answer-in-Err-TooManyMatches in
     let is : c.in-Err-TooManyMatches.field-0 ≡ TooManyMatches = search (rules, c.in-Err-TooManyMatches.field-0-is) in
     let many = subst (λ (why : ReplaceRefusal). IsChoice chosen.spans (Err why)) is chosen.choice in
@@ -106,56 +100,25 @@ returns-in-Err-TooManyMatches-clause-done g c = λ files faults.
 
 pub returns-in_err-answer-in-Err-TooManyMatches-clause-stopped : goal.returns-in_err-answer-in-Err-TooManyMatches-clause-stopped
 returns-in_err-answer-in-Err-TooManyMatches-clause-stopped g c = λ files faults.
-    let h = c.args.held.now in
     let asked = c.args.asked in
-    let command = form.ReplaceDoc asked.name asked.query asked.source asked.by in
-    let number = c.args.context.number in
     let grown = c.grow_all.ensures in
-    let s = c.in-Ok.sources in
-    let sources = c.in-Ok.ensures.ok in
-    let text = text_at h.store s.root in
-    let other = text_at h.store s.other in
-    let chosen : Chooses (queries_of h.book) asked.query text (Err c.in-Err-TooManyMatches.field-0) c.args.looks.now c.choose.new.looks = subst (λ (n : List ℕ). Chooses (queries_of h.book) n text (Err c.in-Err-TooManyMatches.field-0) c.args.looks.now c.choose.new.looks) sources.name
-    (subst (λ (qs : Named Query). Chooses qs s.query text (Err c.in-Err-TooManyMatches.field-0) c.args.looks.now c.choose.new.looks) grown.queries c.in-Err-TooManyMatches.ensures.choice) in
-    let replacing = is_replacing h files asked.query asked.source asked.by s sources chosen.of chosen.there in
     let r = c.from_residual-in_err-answer-in-Err-TooManyMatches in
     passed_on r.result _ r.ensures.1
-    (placed_stops h c.grow_all.new.self number command files faults c.args.looks.now c.choose.new.looks c.args.pairs.now c.args.places.now c.grow_all.new.places c.requires grown.serves grown.queries grown.some grown.steps
-    (part_of_paid (world (state_of h) files) command (counters c.args.looks.now c.args.pairs.now) (counters c.choose.new.looks c.args.pairs.now)
-    (replace_paid (state_of h) files number asked.name asked.query asked.source asked.by chosen.of text other chosen.spans replacing chosen.chosen c.args.looks.now c.choose.new.looks c.args.pairs.now c.args.pairs.now chosen.cost (omega (arith, chosen.cost)))))
+    (choose_stops c.args.held.now c.grow_all.new.self c.args.context.number files faults c.args.looks.now c.choose.new.looks c.args.pairs.now c.args.places.now c.grow_all.new.places asked.name asked.query asked.source asked.by c.in-Ok.sources _
+    c.requires grown.serves grown.queries grown.some grown.steps c.in-Ok.ensures.ok c.choose.ensures.choice)
 
 pub returns-in-Ok : goal.returns-in-Ok
-returns-in-Ok g c = record {
-  done = λ files faults. tt;
-  stopped = λ files faults.
-      let h = c.args.held.now in
-      let asked = c.args.asked in
-      let command = form.ReplaceDoc asked.name asked.query asked.source asked.by in
-      let number = c.args.context.number in
-      let grown = c.grow_all.ensures in
-      let s = c.in-Ok.sources in
-      let sources = c.in-Ok.ensures.ok in
-      let text = text_at h.store s.root in
-      let other = text_at h.store s.other in
-      let chosen : Chooses (queries_of h.book) asked.query text c.choose.result c.args.looks.now c.choose.new.looks = subst (λ (n : List ℕ). Chooses (queries_of h.book) n text c.choose.result c.args.looks.now c.choose.new.looks) sources.name
-      (subst (λ (qs : Named Query). Chooses qs s.query text c.choose.result c.args.looks.now c.choose.new.looks) grown.queries c.choose.ensures.choice) in
-      let replacing = is_replacing h files asked.query asked.source asked.by s sources chosen.of chosen.there in
-      placed_stops h c.grow_all.new.self number command files faults c.args.looks.now c.choose.new.looks c.args.pairs.now c.args.places.now c.grow_all.new.places c.requires grown.serves grown.queries grown.some grown.steps
-      (part_of_paid (world (state_of h) files) command (counters c.args.looks.now c.args.pairs.now) (counters c.choose.new.looks c.args.pairs.now)
-      (replace_paid (state_of h) files number asked.name asked.query asked.source asked.by chosen.of text other chosen.spans replacing chosen.chosen c.args.looks.now c.choose.new.looks c.args.pairs.now c.args.pairs.now chosen.cost (omega (arith, chosen.cost))));
-}
-
-pub returns-in_err-answer-in-Err-clause-stopped : goal.returns-in_err-answer-in-Err-clause-stopped
-returns-in_err-answer-in-Err-clause-stopped g c = λ files faults.
+returns-in-Ok g c =
     let asked = c.args.asked in
-    let r = c.from_residual-in_err-answer-in-Err in
-    passed_on r.result _ r.ensures.1 (stays c.args.held.now c.args.context.number (form.ReplaceDoc asked.name asked.query asked.source asked.by) files faults c.args.looks.now c.args.pairs.now c.args.places.now c.requires)
+    let grown = c.grow_all.ensures in
+    record {
+      done = λ files faults. tt;
+      stopped = λ files faults. choose_stops c.args.held.now c.grow_all.new.self c.args.context.number files faults c.args.looks.now c.choose.new.looks c.args.pairs.now c.args.places.now c.grow_all.new.places asked.name asked.query asked.source asked.by c.in-Ok.sources _
+          c.requires grown.serves grown.queries grown.some grown.steps c.in-Ok.ensures.ok c.choose.ensures.choice;
+    }
 
 pub returns-clause-done : goal.returns-clause-done
 returns-clause-done g c = λ files faults.
-    let h = c.args.held.now in
     let asked = c.args.asked in
-    let a = c.in_ok-answer-in-Err in
-    refused_answers h c.args.context.number (form.ReplaceDoc asked.name asked.query asked.source asked.by) a.answer files faults c.args.looks.now c.args.pairs.now c.args.places.now c.requires a.ensures.0
-    (inl (c.in-Err.why, c.in-Err.ensures.err, refl))
-    (replace_refused (world (state_of h) files) c.args.context.number asked.name asked.query asked.source asked.by c.in-Err.why a.answer.told a.answer.line.items c.in-Err.ensures.err a.ensures.0 a.ensures.1)
+    c.refuse.ensures.done c.args.held.now (form.ReplaceDoc asked.name asked.query asked.source asked.by) files faults c.args.looks.now c.args.pairs.now c.args.places.now
+    (record { held = c.requires; refused = inl c.in-Err.ensures.err; free = inl (c.in-Err.why, c.in-Err.ensures.err, refl) }) refl

@@ -1,61 +1,43 @@
-use Rattle.std.proofs.Common.{◌+◌, ap, subst, sym, Bool, arith}
+use Rattle.std.proofs.Common.{◌≡◌, ◌+◌, ap, subst, sym, Bool, arith}
 use Rattle.std.proofs.lemmas.Result.{err_from_is_err_and}
 use Rattle.span_language.specs.Lines.{lines_of}
 use Rattle.span_language.specs.Runs.{outside}
 use Rattle.span_language.specs.declared.told.Stop.{Stop}
+use Rattle.span_language.specs.declared.told.Stop.TheVariants as stop
 use Rattle.span_run.specs.Carried.{IsStopped, outlet}
 use Rattle.span_run.specs.Scene.{seen}
 use Rattle.span_run.proofs.LinesLemmas.{empty_of}
 use Rattle.span_run.proofs.RunsLemmas.{IsAt, at_start, ends, goes_on, stops_anywhere, stops_in_file, stops_wanting, rose_later, told_of}
 use Rattle.span_run.proofs.top.run_lines.Goals as goal
 
-pub returns-in_err-told-clause-out_fault : goal.returns-in_err-told-clause-out_fault
-returns-in_err-told-clause-out_fault g c =
+pub returns-in_err-told : goal.returns-in_err-told
+returns-in_err-told g c =
     let k = g.K.Sink in
     let f = g.F.Shelf in
     let now = c.loop-rest in
     let next = c.line.new in
+    let i = now.invariant in
+    let lines = lines_of c.args.script.now in
+    let line = c.next_line.result.0.now in
+    let rest = lines_of c.next_line.result.1.now in
     let before = outside (k.written c.args.out.now) (f.files c.args.shelf.now) c.args.looks.now c.args.pairs.now c.args.places.now in
     let old = seen now.session (f.files now.shelf) (f.faults now.shelf) now.looks now.pairs now.places in
     let sink = outlet (k.written now.out) (k.faults now.out) (k.wants now.out) in
     let new = seen next.self (f.files next.shelf) (f.faults next.shelf) next.looks next.pairs next.places in
     let after = outlet (k.written next.out) (k.faults next.out) (k.wants next.out) in
+    let stopped = λ (kind : Stop) (is : c.in_err-told.field-0.0 ≡ kind). subst (λ (why : Stop). IsStopped line now.number old sink new after why) is c.in_err-told.ensures.stopped in
     let p = err_from_is_err_and c.from_residual.result c.from_residual.ensures.1 in
-    rw (p.1, p.2) (λ is.
-    let stopped = subst (λ (why : Stop). IsStopped c.next_line.result.0.now now.number old sink new after why) is c.in_err-told.ensures.stopped in
-    let h = stops_anywhere (lines_of c.args.script.now) (lines_of now.rest.now) (lines_of c.next_line.result.1.now) c.next_line.result.0.now now.number now.refused before old sink new after c.next_line.ensures.lines now.invariant.at now.invariant.standing c.line.ensures.standing stopped in (rose_later (k.faults c.args.out.now) sink.faults after.faults now.invariant.later h.0, h.1))
-
-pub returns-in_err-told-clause-shelf_fault : goal.returns-in_err-told-clause-shelf_fault
-returns-in_err-told-clause-shelf_fault g c =
-    let k = g.K.Sink in
-    let f = g.F.Shelf in
-    let now = c.loop-rest in
-    let next = c.line.new in
-    let before = outside (k.written c.args.out.now) (f.files c.args.shelf.now) c.args.looks.now c.args.pairs.now c.args.places.now in
-    let old = seen now.session (f.files now.shelf) (f.faults now.shelf) now.looks now.pairs now.places in
-    let sink = outlet (k.written now.out) (k.faults now.out) (k.wants now.out) in
-    let new = seen next.self (f.files next.shelf) (f.faults next.shelf) next.looks next.pairs next.places in
-    let after = outlet (k.written next.out) (k.faults next.out) (k.wants next.out) in
-    let p = err_from_is_err_and c.from_residual.result c.from_residual.ensures.1 in
-    rw (p.1, p.2) (λ is.
-    let stopped = subst (λ (why : Stop). IsStopped c.next_line.result.0.now now.number old sink new after why) is c.in_err-told.ensures.stopped in
-    let h = stops_in_file (lines_of c.args.script.now) (lines_of now.rest.now) (lines_of c.next_line.result.1.now) c.next_line.result.0.now now.number now.refused before old sink new after c.next_line.ensures.lines now.invariant.at now.invariant.standing c.line.ensures.standing stopped in (rose_later (f.faults c.args.shelf.now) old.faults new.faults now.invariant.shelf_later h.0, h.1))
-
-pub returns-in_err-told-clause-want : goal.returns-in_err-told-clause-want
-returns-in_err-told-clause-want g c =
-    let k = g.K.Sink in
-    let f = g.F.Shelf in
-    let now = c.loop-rest in
-    let next = c.line.new in
-    let before = outside (k.written c.args.out.now) (f.files c.args.shelf.now) c.args.looks.now c.args.pairs.now c.args.places.now in
-    let old = seen now.session (f.files now.shelf) (f.faults now.shelf) now.looks now.pairs now.places in
-    let sink = outlet (k.written now.out) (k.faults now.out) (k.wants now.out) in
-    let new = seen next.self (f.files next.shelf) (f.faults next.shelf) next.looks next.pairs next.places in
-    let after = outlet (k.written next.out) (k.faults next.out) (k.wants next.out) in
-    let p = err_from_is_err_and c.from_residual.result c.from_residual.ensures.1 in
-    rw (p.1, p.2) (λ is.
-    let stopped = subst (λ (why : Stop). IsStopped c.next_line.result.0.now now.number old sink new after why) is c.in_err-told.ensures.stopped in
-    stops_wanting (lines_of c.args.script.now) (lines_of now.rest.now) (lines_of c.next_line.result.1.now) c.next_line.result.0.now now.number now.refused before old sink new after c.next_line.ensures.lines now.invariant.at (k.wants c.args.out.now) now.invariant.wants_later now.invariant.standing c.line.ensures.standing stopped)
+    rw (p.1, p.2) (record {
+      done = tt;
+      out_fault = λ is.
+          let h = stops_anywhere lines (lines_of now.rest.now) rest line now.number now.refused before old sink new after c.next_line.ensures.lines i.at i.standing c.line.ensures.standing (stopped stop.OutFault is) in
+          (rose_later (k.faults c.args.out.now) sink.faults after.faults i.later h.0, h.1);
+      shelf_fault = λ is.
+          let h = stops_in_file lines (lines_of now.rest.now) rest line now.number now.refused before old sink new after c.next_line.ensures.lines i.at i.standing c.line.ensures.standing (stopped stop.ShelfFault is) in
+          (rose_later (f.faults c.args.shelf.now) old.faults new.faults i.shelf_later h.0, h.1);
+      want = λ is.
+          stops_wanting lines (lines_of now.rest.now) rest line now.number now.refused before old sink new after c.next_line.ensures.lines i.at (k.wants c.args.out.now) i.wants_later i.standing c.line.ensures.standing (stopped stop.NoMemory is);
+    })
 
 pub loop-rest-preserved : goal.loop-rest-preserved
 loop-rest-preserved g c =

@@ -2,11 +2,11 @@ use Rattle.std.proofs.Common.{rules, ◌≡◌, ◌∙◌, ap, refl, sym, List, 
 use Rattle.std.specs.Prelude.{option_map}
 use Rattle.edit_expr.specs.Values.{plain}
 use Rattle.script_syntax.specs.declared.form.Command.TheVariants as form
-use Rattle.span_language.specs.State.{value_of, world}
+use Rattle.span_language.specs.State.{value_of}
 use Rattle.span_run.specs.Held.{state_of}
 use Rattle.span_run.proofs.HeldLemmas.{version_kept, version_of-plain}
-use Rattle.span_run.proofs.VersionLemmas.{back_carries, back_lacks}
-use Rattle.span_run.proofs.Goes.{marked_answers, passed_on, refused_answers, stays}
+use Rattle.span_run.proofs.CarryLemmas.{back_carries}
+use Rattle.span_run.proofs.Goes.{marked_answers, passed_on, stays}
 use Rattle.span_run.proofs.versions.back.Goals as goal
 
 pub returns-in_err-line-clause-stopped : goal.returns-in_err-line-clause-stopped
@@ -22,18 +22,12 @@ returns-in-Ok-clause-done c = λ files faults looks pairs places.
     (back_carries (state_of h) c.args.number c.args.name (plain h.store docs) c.accepted.result.told c.accepted.result.line.items files
     (version_of-plain h.store h.versions c.args.name ∙ ap (option_map (plain h.store)) there) c.accepted.ensures.0 (ap (λ v. v.items) c.accepted.ensures.1 ∙ c.in_ok-line.ensures))
 
-pub returns-in_err-answer-in-Err-NoSuchVersion-clause-stopped : goal.returns-in_err-answer-in-Err-NoSuchVersion-clause-stopped
-returns-in_err-answer-in-Err-NoSuchVersion-clause-stopped c = λ files faults looks pairs places.
-    let r = c.from_residual-in_err-answer-in-Err-NoSuchVersion in
-    passed_on r.result _ r.ensures.1 (stays c.args.held.now c.args.number (form.BackDocs c.args.name) files faults looks pairs places c.requires)
-
-pub returns-in_ok-answer-in-Err-NoSuchVersion-clause-done : goal.returns-in_ok-answer-in-Err-NoSuchVersion-clause-done
-returns-in_ok-answer-in-Err-NoSuchVersion-clause-done c = λ files faults looks pairs places.
-    let h = c.args.held.now in
-    let a = c.in_ok-answer-in-Err-NoSuchVersion in
-    let missing : value_of h.versions c.args.name ≡ None = ap (λ (n : List ℕ). value_of h.versions n) (sym c.bytes.ensures.value) ∙ c.back.ensures.missing.0 (search (rules, c.in-Err-NoSuchVersion.field-0-is)) in
-    refused_answers h c.args.number (form.BackDocs c.args.name) a.answer files faults looks pairs places c.requires a.ensures.0 refl
-    (back_lacks (world (state_of h) files) c.args.number c.args.name a.answer.told a.answer.line.items (version_of-plain h.store h.versions c.args.name ∙ ap (option_map (plain h.store)) missing) a.ensures.0 a.ensures.1)
-
 pub returns-in-Err-NoMemory-clause-stopped : goal.returns-in-Err-NoMemory-clause-stopped
 returns-in-Err-NoMemory-clause-stopped c = λ files faults looks pairs places. stays c.args.held.now c.args.number (form.BackDocs c.args.name) files faults looks pairs places c.requires
+
+pub returns-in-Err-NoSuchVersion-clause-done : goal.returns-in-Err-NoSuchVersion-clause-done
+returns-in-Err-NoSuchVersion-clause-done c = λ files faults looks pairs places.
+    let h = c.args.held.now in
+    let missing : value_of h.versions c.args.name ≡ None = ap (λ (n : List ℕ). value_of h.versions n) (sym c.bytes.ensures.value) ∙ c.back.ensures.missing.0 (search (rules, c.in-Err-NoSuchVersion.field-0-is)) in
+    c.refuse.ensures.done h (form.BackDocs c.args.name) files faults looks pairs places
+    (record { held = c.requires; refused = (version_of-plain h.store h.versions c.args.name ∙ ap (option_map (plain h.store)) missing, refl); free = refl }) refl

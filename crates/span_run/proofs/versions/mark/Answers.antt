@@ -7,7 +7,7 @@ use Rattle.span_run.specs.Answers.{Stays}
 use Rattle.span_run.specs.Held.{AreKept, plain_versions, state_of}
 use Rattle.span_run.specs.Site.{at}
 use Rattle.span_run.proofs.HeldLemmas.{AreKept-put, plain_versions-put}
-use Rattle.span_run.proofs.VersionLemmas.{mark_carries}
+use Rattle.span_run.proofs.CarryLemmas.{mark_carries}
 use Rattle.span_run.proofs.Goes.{marked_answers, passed_on, stays}
 use Rattle.span_run.proofs.versions.mark.Goals as goal
 

@@ -5,14 +5,11 @@ use Rattle.doc_book.specs.declared.Doc.{Doc}
 use Rattle.doc_versions.specs.declared.VersionRefusal.{VersionRefusal}
 use Rattle.edit_expr.specs.Values.{plain}
 use Rattle.script_syntax.specs.declared.form.Command.TheVariants as form
-use Rattle.span_language.specs.State.{Named, taken_out, value_of, world}
-use Rattle.span_language.specs.declared.told.Stop.TheVariants as stop
-use Rattle.span_run.specs.Answers.{Answers, Stays}
+use Rattle.span_language.specs.State.{Named, taken_out, value_of}
 use Rattle.span_run.specs.Held.{AreKept, plain_versions, state_of}
-use Rattle.span_run.specs.Site.{at}
 use Rattle.span_run.proofs.HeldLemmas.{AreKept-taken_out, plain_versions-taken_out, version_of-plain}
-use Rattle.span_run.proofs.VersionLemmas.{unmark_carries, unmark_lacks}
-use Rattle.span_run.proofs.Goes.{marked_answers, passed_on, refused_answers, stays}
+use Rattle.span_run.proofs.CarryLemmas.{unmark_carries}
+use Rattle.span_run.proofs.Goes.{marked_answers, passed_on, stays}
 use Rattle.span_run.proofs.versions.unmark.Goals as goal
 
 there_of : {A B : Type 0} (o : Option A) (f : A → B) (x : B) (e : VersionRefusal) → Ok x ≡ ok_or (option_map f o) e → (y : A) × (o ≡ Some y)
@@ -39,19 +36,14 @@ returns-in-Ok-clause-done c = λ files faults looks pairs places.
     (version_of-plain h.store h.versions c.args.name ∙ ap (option_map (plain h.store)) here)
     (ap (plain_versions h.store) rest ∙ plain_versions-taken_out h.store h.versions c.args.name) c.accepted.ensures.0 (ap (λ v. v.items) c.accepted.ensures.1 ∙ c.in_ok-line.ensures))
 
-pub returns-in_err-answer-in-Err-clause-stopped : goal.returns-in_err-answer-in-Err-clause-stopped
-returns-in_err-answer-in-Err-clause-stopped c = λ files faults looks pairs places.
-    let h = c.args.held.now in
-    let r = c.from_residual-in_err-answer-in-Err in
-    passed_on r.result _ r.ensures.1
-    (subst (λ (v : Named (List Doc)). Stays (at h files faults looks pairs places) c.args.number (form.UnmarkDocs c.args.name) (at (record h { versions = v }) files faults looks pairs places) stop.NoMemory) (sym c.in-Err.ensures.err)
-    (stays h c.args.number (form.UnmarkDocs c.args.name) files faults looks pairs places c.requires))
+pub returns-in-Err-clause-stopped : goal.returns-in-Err-clause-stopped
+returns-in-Err-clause-stopped c =
+    c.refuse.ensures.stopped c.args.held.now (form.UnmarkDocs c.args.name) c.requires (ap (λ (v : Named (List Doc)). record c.args.held.now { versions = v }) c.in-Err.ensures.err)
 
-pub returns-in_ok-answer-in-Err-clause-done : goal.returns-in_ok-answer-in-Err-clause-done
-returns-in_ok-answer-in-Err-clause-done c = λ files faults looks pairs places.
+pub returns-in-Err-clause-done : goal.returns-in-Err-clause-done
+returns-in-Err-clause-done c = λ files faults looks pairs places.
     let h = c.args.held.now in
-    let a = c.in_ok-answer-in-Err in
     let missing : value_of h.versions c.args.name ≡ None = ap (λ (n : List ℕ). value_of h.versions n) (sym c.bytes.ensures.value) ∙ none_of (value_of h.versions c.bytes.result.now) _ _ _ c.in-Err.ensures.result in
-    subst (λ (v : Named (List Doc)). Answers (at h files faults looks pairs places) c.args.number (form.UnmarkDocs c.args.name) (at (record h { versions = v }) files faults looks pairs places) a.answer) (sym c.in-Err.ensures.err)
-    (refused_answers h c.args.number (form.UnmarkDocs c.args.name) a.answer files faults looks pairs places c.requires a.ensures.0 refl
-    (unmark_lacks (world (state_of h) files) c.args.number c.args.name a.answer.told a.answer.line.items (version_of-plain h.store h.versions c.args.name ∙ ap (option_map (plain h.store)) missing) a.ensures.0 a.ensures.1))
+    c.refuse.ensures.done h (form.UnmarkDocs c.args.name) files faults looks pairs places
+    (record { held = c.requires; refused = (version_of-plain h.store h.versions c.args.name ∙ ap (option_map (plain h.store)) missing, refl); free = refl })
+    (ap (λ (v : Named (List Doc)). record h { versions = v }) c.in-Err.ensures.err)

@@ -1,0 +1,19 @@
+use Rattle.std.proofs.Common.{sym, subst}
+use Rattle.span_language.specs.declared.told.Stop.TheVariants as stop
+use Rattle.span_run.specs.declared.held.Held.{Held}
+use Rattle.span_run.specs.Answers.{Answers, Stays}
+use Rattle.span_run.specs.Site.{at}
+use Rattle.span_run.proofs.Goes.{passed_on, stays}
+use Rattle.span_run.proofs.Sending.{refused_here}
+use Rattle.span_run.proofs.refusing.refuse.Goals as goal
+
+pub returns-in_err-answer-clause-stopped : goal.returns-in_err-answer-clause-stopped
+returns-in_err-answer-clause-stopped c = λ old command held same files faults looks pairs places.
+    passed_on c.from_residual.result _ c.from_residual.ensures.1
+    (subst (λ (h : Held). Stays (at old files faults looks pairs places) c.args.number command (at h files faults looks pairs places) stop.NoMemory) (sym same) (stays old c.args.number command files faults looks pairs places held))
+
+pub returns-clause-done : goal.returns-clause-done
+returns-clause-done c = λ old command files faults looks pairs places is same.
+    let a = c.in_ok-answer in
+    subst (λ (h : Held). Answers (at old files faults looks pairs places) c.args.number command (at h files faults looks pairs places) a.answer) (sym same)
+    (refused_here old c.args.number command c.args.why.now a.answer files faults looks pairs places is a.ensures.0 a.ensures.1)

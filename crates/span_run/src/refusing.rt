@@ -1,0 +1,35 @@
+//! Commands that are refused: they do nothing, and cost nothing.
+ghost use Rattle.span_run.specs.Carried.{outlet};
+ghost use Rattle.span_run.specs.Refusing.{KeepsFreely, RefusesFreely, StopsBefore, TurnsAway};
+
+use crate::answer::Answer;
+use crate::held::Held;
+use crate::offer::send;
+use edge_io::Sink;
+use report_text::Refusal;
+use span_language::{Stop, Told};
+
+/// The reply to whatever command is refused for this reason, where what is held is as it was.
+pub fn refuse(held: &Held, number: u64, why: &Refusal) -> Result<Answer, Stop>
+    ensures done { RefusesFreely held.now number why.now result }
+    ensures stopped { KeepsFreely held.now number result }
+{
+    let answer = Answer::refused(held.alloc, number, why)?;
+    Ok(answer)
+}
+
+/// The same, and writes it.
+pub fn turn_away<K: Sink>(
+    held: &Held,
+    number: u64,
+    why: &Refusal,
+    out: &mut K,
+) -> Result<Told, Stop>
+    ensures done { TurnsAway held.now number why.now (outlet (K.written out.old) (K.faults out.old) (K.wants out.old))
+        (outlet (K.written out.new) (K.faults out.new) (K.wants out.new)) result }
+    ensures stopped { StopsBefore held.now number why.now (outlet (K.written out.old) (K.faults out.old) (K.wants out.old))
+        (outlet (K.written out.new) (K.faults out.new) (K.wants out.new)) result }
+{
+    let answer = Answer::refused(held.alloc, number, why)?;
+    send(answer, out)
+}
