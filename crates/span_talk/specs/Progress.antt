@@ -7,6 +7,7 @@ use Rattle.span_run.specs.Held.{Standing}
 use Rattle.span_run.proofs.LinesLemmas.{NoNewline}
 use Rattle.span_run.proofs.RunsLemmas.{IsAt}
 use Rattle.span_talk.specs.Talk.{whole_lines}
+use Rattle.span_talk.specs.declared.progress.Progress.{Progress}
 
 -- the number of the next line, whether one was refused, what the session shows, and what is told of the outside
 pub record Place : Type 0 where
@@ -17,6 +18,10 @@ pub record Place : Type 0 where
 
 abbrev pub place : ℕ → Bool → Standing → Outside → Place
 place number refused standing now = record { number = number; refused = refused; standing = standing; now = now }
+
+-- where a conversation stands, with this told of the outside
+abbrev pub stands : Progress → Outside → Place
+stands p now = place p.number p.refused p.session now
 
 -- these lines ran, and led here
 abbrev pub StandsAt : List (List ℕ) → Outside → Place → Type 0

@@ -6,7 +6,7 @@ ghost use Rattle.span_language.specs.Lines.{lines_of};
 ghost use Rattle.span_language.specs.Runs.{is_refused, outside, Anywhere, InFileLine, UnlessList, RunsAll, RunsFront};
 ghost use Rattle.span_run.specs.Held.{IsStanding};
 ghost use Rattle.span_talk.specs.Talk.{whole_lines, AreServed, HaveRun, OfHeard, OfSent};
-ghost use Rattle.span_talk.specs.Progress.{place, Does, Finishes, Hears, IsTalking, StopsAtEnd, StopsIn, StopsWithin};
+ghost use Rattle.span_talk.specs.Progress.{stands, Does, Finishes, Hears, IsTalking, StopsAtEnd, StopsIn, StopsWithin};
 
 use crate::client::Client;
 use crate::lines::{cut_line, keep};
@@ -70,24 +70,19 @@ fn end_line<R: Threads + Sync, K: Sink, F: Shelf, G: Gate, P: Ledger, T: Ledger,
     ensures wants_later { K.wants out.old ≤ K.wants out.new }
     ensures shelf_later { F.faults shelf.old ≤ F.faults shelf.new }
     ensures done { OnOk result (Does progress.old.kept.items
-        (place progress.old.number progress.old.refused progress.old.session
-        (outside (K.written out.old) (F.files shelf.old) looks.old pairs.old places.old))
-        (place progress.new.number progress.new.refused progress.new.session
-        (outside (K.written out.new) (F.files shelf.new) looks.new pairs.new places.new))) }
+        (stands progress.old (outside (K.written out.old) (F.files shelf.old) looks.old pairs.old places.old))
+        (stands progress.new (outside (K.written out.new) (F.files shelf.new) looks.new pairs.new places.new))) }
     ensures out_fault { IfErr result (λ why. why ≡ Stop.OutFault → Rose (K.faults out.old) (K.faults out.new)
         × StopsIn Anywhere progress.old.kept.items
-        (place progress.old.number progress.old.refused progress.old.session
-        (outside (K.written out.old) (F.files shelf.old) looks.old pairs.old places.old))
+        (stands progress.old (outside (K.written out.old) (F.files shelf.old) looks.old pairs.old places.old))
         (outside (K.written out.new) (F.files shelf.new) looks.new pairs.new places.new)) }
     ensures shelf_fault { IfErr result (λ why. why ≡ Stop.ShelfFault → Rose (F.faults shelf.old) (F.faults shelf.new)
         × StopsIn InFileLine progress.old.kept.items
-        (place progress.old.number progress.old.refused progress.old.session
-        (outside (K.written out.old) (F.files shelf.old) looks.old pairs.old places.old))
+        (stands progress.old (outside (K.written out.old) (F.files shelf.old) looks.old pairs.old places.old))
         (outside (K.written out.new) (F.files shelf.new) looks.new pairs.new places.new)) }
     ensures want { IfErr result (λ why. why ≡ Stop.NoMemory → (wants : ℕ) → wants ≤ K.wants out.old
         → StopsIn (UnlessList wants (K.wants out.new)) progress.old.kept.items
-        (place progress.old.number progress.old.refused progress.old.session
-        (outside (K.written out.old) (F.files shelf.old) looks.old pairs.old places.old))
+        (stands progress.old (outside (K.written out.old) (F.files shelf.old) looks.old pairs.old places.old))
         (outside (K.written out.new) (F.files shelf.new) looks.new pairs.new places.new)) }
 {
     let told = progress.session.line(
@@ -133,24 +128,19 @@ fn hear_piece<R: Threads + Sync, K: Sink, F: Shelf, G: Gate, P: Ledger, T: Ledge
     ensures wants_later { K.wants out.old ≤ K.wants out.new }
     ensures shelf_later { F.faults shelf.old ≤ F.faults shelf.new }
     ensures done { OnOk result (Hears piece.now progress.old.kept.items
-        (place progress.old.number progress.old.refused progress.old.session
-        (outside (K.written out.old) (F.files shelf.old) looks.old pairs.old places.old)) progress.new.kept.items
-        (place progress.new.number progress.new.refused progress.new.session
-        (outside (K.written out.new) (F.files shelf.new) looks.new pairs.new places.new))) }
+        (stands progress.old (outside (K.written out.old) (F.files shelf.old) looks.old pairs.old places.old)) progress.new.kept.items
+        (stands progress.new (outside (K.written out.new) (F.files shelf.new) looks.new pairs.new places.new))) }
     ensures out_fault { IfErr result (λ why. why ≡ Stop.OutFault → Rose (K.faults out.old) (K.faults out.new)
         × StopsWithin Anywhere piece.now progress.old.kept.items
-        (place progress.old.number progress.old.refused progress.old.session
-        (outside (K.written out.old) (F.files shelf.old) looks.old pairs.old places.old))
+        (stands progress.old (outside (K.written out.old) (F.files shelf.old) looks.old pairs.old places.old))
         (outside (K.written out.new) (F.files shelf.new) looks.new pairs.new places.new)) }
     ensures shelf_fault { IfErr result (λ why. why ≡ Stop.ShelfFault → Rose (F.faults shelf.old) (F.faults shelf.new)
         × StopsWithin InFileLine piece.now progress.old.kept.items
-        (place progress.old.number progress.old.refused progress.old.session
-        (outside (K.written out.old) (F.files shelf.old) looks.old pairs.old places.old))
+        (stands progress.old (outside (K.written out.old) (F.files shelf.old) looks.old pairs.old places.old))
         (outside (K.written out.new) (F.files shelf.new) looks.new pairs.new places.new)) }
     ensures want { IfErr result (λ why. why ≡ Stop.NoMemory → (wants : ℕ) → wants ≤ K.wants out.old → StopsWithin
         (UnlessList wants (K.wants out.new)) piece.now progress.old.kept.items
-        (place progress.old.number progress.old.refused progress.old.session
-        (outside (K.written out.old) (F.files shelf.old) looks.old pairs.old places.old))
+        (stands progress.old (outside (K.written out.old) (F.files shelf.old) looks.old pairs.old places.old))
         (outside (K.written out.new) (F.files shelf.new) looks.new pairs.new places.new)) }
 {
     let mut rest = piece;
@@ -198,8 +188,7 @@ fn hear_all<
     ensures all { IfOk result (λ progress. OfSent (C.left client.old)
         (λ sent. IsTalking sent (outside (K.written out.old)
         (F.files shelf.old) looks.old pairs.old places.old) progress.kept.items
-        (place progress.number progress.refused progress.session
-        (outside (K.written out.new) (F.files shelf.new) looks.new pairs.new places.new)))) }
+        (stands progress (outside (K.written out.new) (F.files shelf.new) looks.new pairs.new places.new)))) }
     ensures fault { IfErr result (λ why. why ≡ End.Fault → Rose (C.faults client.old) (C.faults client.new)
         × OfHeard (C.left client.old) (C.left client.new)
         (λ heard. HaveRun (whole_lines heard) (outside (K.written out.old) (F.files shelf.old) looks.old pairs.old places.old)
@@ -279,23 +268,19 @@ fn finish<R: Threads + Sync, K: Sink, F: Shelf, G: Gate, P: Ledger, T: Ledger, L
     requires standing { IsStanding progress.old.session }
     requires few { progress.old.number < 2 ^ 63 }
     ensures done { IfOk result (λ refused. Finishes refused progress.old.kept.items
-        (place progress.old.number progress.old.refused progress.old.session
-        (outside (K.written out.old) (F.files shelf.old) looks.old pairs.old places.old))
+        (stands progress.old (outside (K.written out.old) (F.files shelf.old) looks.old pairs.old places.old))
         (outside (K.written out.new) (F.files shelf.new) looks.new pairs.new places.new)) }
     ensures out_fault { IfErr result (λ why. why ≡ Stop.OutFault → Rose (K.faults out.old) (K.faults out.new)
         × StopsAtEnd Anywhere progress.old.kept.items
-        (place progress.old.number progress.old.refused progress.old.session
-        (outside (K.written out.old) (F.files shelf.old) looks.old pairs.old places.old))
+        (stands progress.old (outside (K.written out.old) (F.files shelf.old) looks.old pairs.old places.old))
         (outside (K.written out.new) (F.files shelf.new) looks.new pairs.new places.new)) }
     ensures shelf_fault { IfErr result (λ why. why ≡ Stop.ShelfFault → Rose (F.faults shelf.old) (F.faults shelf.new)
         × StopsAtEnd InFileLine progress.old.kept.items
-        (place progress.old.number progress.old.refused progress.old.session
-        (outside (K.written out.old) (F.files shelf.old) looks.old pairs.old places.old))
+        (stands progress.old (outside (K.written out.old) (F.files shelf.old) looks.old pairs.old places.old))
         (outside (K.written out.new) (F.files shelf.new) looks.new pairs.new places.new)) }
     ensures want { IfErr result (λ why. why ≡ Stop.NoMemory → (wants : ℕ) → wants ≤ K.wants out.old → StopsAtEnd
         (UnlessList wants (K.wants out.new)) progress.old.kept.items
-        (place progress.old.number progress.old.refused progress.old.session
-        (outside (K.written out.old) (F.files shelf.old) looks.old pairs.old places.old))
+        (stands progress.old (outside (K.written out.old) (F.files shelf.old) looks.old pairs.old places.old))
         (outside (K.written out.new) (F.files shelf.new) looks.new pairs.new places.new)) }
 {
     if progress.kept.is_empty() {
