@@ -28,7 +28,7 @@ use Rattle.span_run.specs.Shown.{IsUncombinedTold}
 use Rattle.span_run.specs.Site.{at}
 use Rattle.span_run.specs.Answers.{Answers, Stays}
 use Rattle.span_run.proofs.BookLemmas.{value_of-put, put_placed, covered-within}
-use Rattle.span_run.proofs.Goes.{booked_answers, booked_stops, never, once_accepted, refused_answers}
+use Rattle.span_run.proofs.Goes.{booked_answers, booked_stops, never, once_accepted, refused_answers, stays}
 use Rattle.span_run.proofs.QueryLemmas.{only_queries}
 
 -- the query of the name
@@ -91,6 +91,12 @@ module _ (h : Held) (book : List Entry) (number : ℕ) (command : Command) (name
   pub combined_stops : (reply : List ℕ) → (IsOfFile command → ⊥) → Does w command reply (world (with_queries (state_of h) (queries_of book)) files)
       → Stays (at h files faults looks pairs places) number command (at (record h { book = book }) files faults looks pairs places) stop.NoMemory
   combined_stops reply no_file does = booked_stops h book number command files faults looks pairs places is serves (inr (no_file, (Accepted, reply, does)))
+
+-- there was no memory, and the queries are as they were
+pub uncombined_stops : (h : Held) (book : List Entry) (number : ℕ) (command : Command) (files : Option Files) (faults looks pairs places : ℕ) → IsHeld h → book ≡ h.book
+    → Stays (at h files faults looks pairs places) number command (at (record h { book = book }) files faults looks pairs places) stop.NoMemory
+uncombined_stops h book number command files faults looks pairs places is same =
+    subst (λ (es : List Entry). Stays (at h files faults looks pairs places) number command (at (record h { book = es }) files faults looks pairs places) stop.NoMemory) (sym same) (stays h number command files faults looks pairs places is)
 
 -- no query was made of others
 pub uncombined_answers : (h : Held) (book : List Entry) (number : ℕ) (command : Command) (answer : Answer) (why : CombineRefusal) (files : Option Files) (faults looks pairs places : ℕ) → IsHeld h → book ≡ h.book

@@ -3,16 +3,16 @@ use Rattle.std.proofs.Common.{rules, ◌≡◌, inl, inr, ℕ, ◌+◌, ◌≤�
 use Rattle.std.specs.Prelude.{◌↔◌, IsSome, IsTrue, Bool, true, false, option_map}
 use Rattle.edge_io.specs.Files.{Files}
 use Rattle.script_syntax.specs.declared.form.Command.TheVariants as form
-use Rattle.report_text.specs.Reply.{query_text, refusal_text}
+use Rattle.report_text.specs.Reply.{refusal_text}
 use Rattle.span_types.specs.Query.{Query}
 use Rattle.span_types.specs.Rel.{names_of}
-use Rattle.query_book.specs.Registering.{IsQueryOf, IsRefused as IsUnregistered}
+use Rattle.query_book.specs.Registering.{IsRefused as IsUnregistered}
 use Rattle.query_book.specs.declared.refusal.QueryRefusal.{QueryRefusal}
 use Rattle.query_book.specs.declared.refusal.QueryRefusal.TheVariants as query
 use Rattle.formula_syntax.specs.declared.refusal.FormulaRefusal.{FormulaRefusal}
 use Rattle.formula_syntax.specs.declared.refusal.FormulaRefusal.TheVariants as formula
 use Rattle.span_run.specs.Shown.{IsFormulaRefusal, IsTextRefusal, IsTextDenied}
-use Rattle.span_language.specs.State.{State, World, Named, with_queries, world, put, value_of, taken_out}
+use Rattle.span_language.specs.State.{State, World, Named, with_queries, world, value_of, taken_out}
 use Rattle.span_language.specs.Replies.{ok_text, yes_text, no_text}
 use Rattle.span_language.specs.Step.{Carries, IsTextRefused, IsYesOrNo, IsRefused}
 use Rattle.span_language.specs.declared.told.Told.{Told}
@@ -39,12 +39,6 @@ use Rattle.span_run.proofs.BookLemmas.{some_value}
 -- other queries beside the same documents, versions and files
 pub only_queries : (st : State) (old new : Named Query) (files : Option Files) → new ≡ old → world (with_queries st new) files ≡ world (with_queries st old) files
 only_queries st old new files same = ap (λ (q : Named Query). world (with_queries st q) files) same
-
-pub query_carries : (st : State) (new : Named Query) (number : ℕ) (name text : List ℕ) (q : Query) (told : Told) (reply : List ℕ) (files : Option Files) → IsQueryOf text q → new ≡ put st.queries name q → told ≡ Accepted → reply ≡ query_text name (names_of q)
-    → Carries (world st files) number (form.Query name text) told reply (world (with_queries st new) files)
-query_carries st new number name text q told reply files is put_is accepted written =
-    subst (λ (t : Told). Carries (world st files) number (form.Query name text) t reply (world (with_queries st new) files)) (sym accepted)
-    (q, is, (written, only_queries st (put st.queries name q) new files put_is))
 
 pub unquery_carries : (st : State) (new : Named Query) (number : ℕ) (name : List ℕ) (told : Told) (reply : List ℕ) (files : Option Files) → IsSome (value_of st.queries name) → new ≡ taken_out st.queries name → told ≡ Accepted → reply ≡ ok_text
     → Carries (world st files) number (form.Unquery name) told reply (world (with_queries st new) files)

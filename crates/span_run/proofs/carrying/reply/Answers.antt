@@ -18,23 +18,15 @@ returns-in_err-answer-clause-stopped g c =
     (at n.held (f.files n.shelf) (f.faults n.shelf) n.looks n.pairs n.places)
     c.args.context.number c.args.command _ c.in_err-answer.field-0.0 c.requires.answering c.in_err-answer.ensures.stopped)
 
-pub returns-clause-held : goal.returns-clause-held
-returns-clause-held g c = c.in_ok-answer.ensures.done.goes.held
-
-pub returns-clause-done : goal.returns-clause-done
-returns-clause-done g c =
+pub returns : goal.returns
+returns g c =
     let f = g.F.Shelf in
     let n = c.answer.new in
-    if_ok_both c.send.result _ _ _ (λ told is sent. answer_done
-    (at c.args.held.now (f.files c.args.shelf.now) (f.faults c.args.shelf.now) c.args.looks.now c.args.pairs.now c.args.places.now)
-    (at n.held (f.files n.shelf) (f.faults n.shelf) n.looks n.pairs n.places)
-    c.args.context.number c.args.command c.in_ok-answer.answer _ _ told c.in_ok-answer.ensures.done is sent) c.send.ensures.told c.send.ensures.done
-
-pub returns-clause-stopped : goal.returns-clause-stopped
-returns-clause-stopped g c =
-    let f = g.F.Shelf in
-    let n = c.answer.new in
-    if_err_map c.send.result _ _ (λ why unsent. answer_stopped
-    (at c.args.held.now (f.files c.args.shelf.now) (f.faults c.args.shelf.now) c.args.looks.now c.args.pairs.now c.args.places.now)
-    (at n.held (f.files n.shelf) (f.faults n.shelf) n.looks n.pairs n.places)
-    c.args.context.number c.args.command c.in_ok-answer.answer _ _ why (replies c.args.command c.requires.answering) c.in_ok-answer.ensures.done unsent) c.send.ensures.stopped
+    let old = at c.args.held.now (f.files c.args.shelf.now) (f.faults c.args.shelf.now) c.args.looks.now c.args.pairs.now c.args.places.now in
+    let new = at n.held (f.files n.shelf) (f.faults n.shelf) n.looks n.pairs n.places in
+    let a = c.in_ok-answer in
+    record {
+      held = a.ensures.done.goes.held;
+      done = if_ok_both c.send.result _ _ _ (λ told is sent. answer_done old new c.args.context.number c.args.command a.answer _ _ told a.ensures.done is sent) c.send.ensures.told c.send.ensures.done;
+      stopped = if_err_map c.send.result _ _ (λ why unsent. answer_stopped old new c.args.context.number c.args.command a.answer _ _ why (replies c.args.command c.requires.answering) a.ensures.done unsent) c.send.ensures.stopped;
+    }

@@ -1,15 +1,11 @@
-use Rattle.std.proofs.Common.{◌≡◌, ◌∙◌, sym, ap, subst, List, ℕ, refl}
+use Rattle.std.proofs.Common.{◌≡◌, ◌∙◌, ap, List, ℕ, refl}
 use Rattle.report_text.specs.Reply.{query_text}
 use Rattle.script_syntax.specs.declared.form.Command.TheVariants as form
 use Rattle.span_types.specs.Query.{Project}
 use Rattle.span_types.specs.Rel.{names_of}
-use Rattle.query_book.specs.declared.entry.Entry.{Entry}
 use Rattle.query_book.specs.Book.{queries_of}
-use Rattle.span_language.specs.declared.told.Stop.TheVariants as stop
 use Rattle.span_run.specs.Held.{state_of}
-use Rattle.span_run.specs.Site.{at}
-use Rattle.span_run.specs.Answers.{Stays}
-use Rattle.span_run.proofs.Combined.{combined_answers, combined_stops, is_there, made, projection_does, projection_refused, uncombined_answers}
+use Rattle.span_run.proofs.Combined.{combined_answers, combined_stops, is_there, made, projection_does, projection_refused, uncombined_answers, uncombined_stops}
 use Rattle.span_run.proofs.Goes.{passed_on, stays}
 use Rattle.span_run.proofs.combining.project.Goals as goal
 
@@ -32,11 +28,8 @@ returns-in_err-answer-in-Ok-clause-stopped c = λ files faults looks pairs place
 
 pub returns-in_err-answer-in-Err-clause-stopped : goal.returns-in_err-answer-in-Err-clause-stopped
 returns-in_err-answer-in-Err-clause-stopped c = λ files faults looks pairs places.
-    let h = c.args.held.now in
     let r = c.from_residual-in_err-answer-in-Err in
-    passed_on r.result _ r.ensures.1
-    (subst (λ (es : List Entry). Stays (at h files faults looks pairs places) c.args.number (form.ProjectQuery c.args.name c.args.source c.args.keep) (at (record h { book = es }) files faults looks pairs places) stop.NoMemory) (sym c.in-Err.ensures.err)
-    (stays h c.args.number (form.ProjectQuery c.args.name c.args.source c.args.keep) files faults looks pairs places c.requires.held))
+    passed_on r.result _ r.ensures.1 (uncombined_stops c.args.held.now c.project.new.self c.args.number (form.ProjectQuery c.args.name c.args.source c.args.keep) files faults looks pairs places c.requires.held c.in-Err.ensures.err)
 
 pub returns-in-Ok-clause-done : goal.returns-in-Ok-clause-done
 returns-in-Ok-clause-done c = λ files faults looks pairs places.

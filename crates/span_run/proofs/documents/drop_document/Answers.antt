@@ -26,13 +26,12 @@ returns-in-Ok-clause-done c = λ files faults looks pairs places.
     (document_is h.store h.docs c.args.name root.0 root.1)
     (ap (plain h.store) (c.take_out.ensures.rest ∙ ap (book.taken_out h.docs) c.bytes.ensures.value) ∙ plain-taken_out h.store h.docs c.args.name) c.accepted.ensures.0 (ap (λ v. v.items) c.accepted.ensures.1 ∙ c.in_ok-line.ensures))
 
-pub returns-in-Err-NoSuchDocument-clause-stopped : goal.returns-in-Err-NoSuchDocument-clause-stopped
-returns-in-Err-NoSuchDocument-clause-stopped c =
-    c.refuse.ensures.stopped c.args.held.now (form.DropDoc c.args.name) c.requires (ap (λ (d : List Doc). record c.args.held.now { docs = d }) c.in-Err-NoSuchDocument.ensures.same)
-
-pub returns-in-Err-NoSuchDocument-clause-done : goal.returns-in-Err-NoSuchDocument-clause-done
-returns-in-Err-NoSuchDocument-clause-done c = λ files faults looks pairs places.
+pub returns-in-Err-NoSuchDocument : goal.returns-in-Err-NoSuchDocument
+returns-in-Err-NoSuchDocument c =
     let h = c.args.held.now in
     let missing = document_lacks h.store h.docs c.args.name (ap (book.root_of h.docs) (sym c.bytes.ensures.value) ∙ c.in-Err-NoSuchDocument.ensures.err) in
-    c.refuse.ensures.done h (form.DropDoc c.args.name) files faults looks pairs places (record { held = c.requires; refused = (missing, refl); free = refl })
-    (ap (λ (d : List Doc). record h { docs = d }) c.in-Err-NoSuchDocument.ensures.same)
+    let same = ap (λ (d : List Doc). record h { docs = d }) c.in-Err-NoSuchDocument.ensures.same in
+    record {
+      done = λ files faults looks pairs places. c.refuse.ensures.done h (form.DropDoc c.args.name) files faults looks pairs places (record { held = c.requires; refused = (missing, refl); free = refl }) same;
+      stopped = c.refuse.ensures.stopped h (form.DropDoc c.args.name) c.requires same;
+    }

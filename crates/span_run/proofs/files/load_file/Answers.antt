@@ -46,27 +46,22 @@ returns-in_ok-answer-in-Ok-clause-done g c = λ looks places.
     (file_paid (world (state_of h) files) c.args.name c.args.file text looks c.args.pairs.now l.new.pairs there paid) l.ensures.files l.ensures.later
     (load_carries (state_of h) new c.args.number c.args.name c.args.file text a.answer.told a.answer.line.items files there assigned)
 
-pub returns-in-Err-clause-done : goal.returns-in-Err-clause-done
-returns-in-Err-clause-done g c = λ looks places.
+pub returns-in-Err : goal.returns-in-Err
+returns-in-Err g c =
     let h = c.args.held.now in
     let l = c.load_from in
     let f = g.F.Shelf in
     let files = f.files c.args.shelf.now in
+    let command = form.LoadFile c.args.name c.args.file in
     let w = world (state_of h) files in
     let turned : IsTurnedAway files c.args.file load_size c.in-Err.why = subst (λ (n : List ℕ). IsTurnedAway files n load_size c.in-Err.why) c.bytes.ensures c.in-Err.ensures.refused in
     let paid : IsLoadPaid files c.args.file c.args.pairs.now l.new.pairs = subst (λ (n : List ℕ). IsLoadPaid files n c.args.pairs.now l.new.pairs) c.bytes.ensures l.ensures.paid in
-    if_ok_map c.turned_away.result _ _ (λ answer denied. grown_same h l.new.store c.args.number (form.LoadFile c.args.name c.args.file) answer files (f.files l.new.shelf) (f.faults c.args.shelf.now) (f.faults l.new.shelf) looks c.args.pairs.now l.new.pairs places c.requires l.ensures.grows (λ no. no) (λ no. no)
-    (file_refused_paid w c.args.name c.args.file c.args.number c.in-Err.why answer.told answer.line.items looks c.args.pairs.now l.new.pairs turned denied paid) l.ensures.files l.ensures.later
-    (load_denied w c.args.number c.args.name c.args.file c.in-Err.why answer.told answer.line.items turned denied)) c.turned_away.ensures.ok
-
-pub returns-in-Err-clause-stopped : goal.returns-in-Err-clause-stopped
-returns-in-Err-clause-stopped g c = λ looks places.
-    let h = c.args.held.now in
-    let l = c.load_from in
-    let f = g.F.Shelf in
-    let files = f.files c.args.shelf.now in
-    let paid : IsLoadPaid files c.args.file c.args.pairs.now l.new.pairs = subst (λ (n : List ℕ). IsLoadPaid files n c.args.pairs.now l.new.pairs) c.bytes.ensures l.ensures.paid in
-    if_err_both c.turned_away.result _ _ _ (λ why fault sink. grown_stays h l.new.store h.docs c.args.number (form.LoadFile c.args.name c.args.file) files (f.files l.new.shelf) (f.faults c.args.shelf.now) (f.faults l.new.shelf) looks c.args.pairs.now l.new.pairs places why c.requires l.ensures.grows
-    (AreLive-grows h.store l.new.store c.args.pairs.now l.new.pairs l.ensures.grows h.docs c.requires.live)
-    (plain-grows h.store l.new.store c.args.pairs.now l.new.pairs l.ensures.grows h.docs c.requires.live)
-    (file_begun (world (state_of h) files) c.args.name c.args.file looks c.args.pairs.now l.new.pairs paid) l.ensures.files l.ensures.later (λ is. (tt, c.in-Err.ensures.fault (fault is))) sink) c.turned_away.ensures.fault c.turned_away.ensures.out_fault
+    record {
+      done = λ looks places. if_ok_map c.turned_away.result _ _ (λ answer denied. grown_same h l.new.store c.args.number command answer files (f.files l.new.shelf) (f.faults c.args.shelf.now) (f.faults l.new.shelf) looks c.args.pairs.now l.new.pairs places c.requires l.ensures.grows (λ no. no) (λ no. no)
+          (file_refused_paid w c.args.name c.args.file c.args.number c.in-Err.why answer.told answer.line.items looks c.args.pairs.now l.new.pairs turned denied paid) l.ensures.files l.ensures.later
+          (load_denied w c.args.number c.args.name c.args.file c.in-Err.why answer.told answer.line.items turned denied)) c.turned_away.ensures.ok;
+      stopped = λ looks places. if_err_both c.turned_away.result _ _ _ (λ why fault sink. grown_stays h l.new.store h.docs c.args.number command files (f.files l.new.shelf) (f.faults c.args.shelf.now) (f.faults l.new.shelf) looks c.args.pairs.now l.new.pairs places why c.requires l.ensures.grows
+          (AreLive-grows h.store l.new.store c.args.pairs.now l.new.pairs l.ensures.grows h.docs c.requires.live)
+          (plain-grows h.store l.new.store c.args.pairs.now l.new.pairs l.ensures.grows h.docs c.requires.live)
+          (file_begun w c.args.name c.args.file looks c.args.pairs.now l.new.pairs paid) l.ensures.files l.ensures.later (λ is. (tt, c.in-Err.ensures.fault (fault is))) sink) c.turned_away.ensures.fault c.turned_away.ensures.out_fault;
+    }

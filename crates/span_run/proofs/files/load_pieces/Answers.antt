@@ -1,4 +1,4 @@
-use Rattle.std.proofs.Common.{◌≡◌, ◌∙◌, ◌++◌, length, take, arith, sym, ap, subst, length-append, refl}
+use Rattle.std.proofs.Common.{rules, ◌≡◌, ◌∙◌, ◌++◌, length, take, arith, sym, ap, subst, length-append, refl}
 use Rattle.std.proofs.lemmas.List.{length-take-le}
 use Rattle.slp_model.specs.Tree.{root_text}
 use Rattle.slp_model.proofs.NodesLemmas.{Grows-none, Grows-trans}
@@ -46,29 +46,26 @@ returns-in_err-root-clause-paid g c =
     (piece_at (g.F.Shelf.files c.loop-at.shelf) files name (length front) c.loop-at.at (take c.in_ok-count.count c.read_at.new.into) i.files i.at c.in_ok-count.ensures.bytes) in
     whole_paid files name front c.args.pairs.now c.loop-at.pairs c.finish.new.pairs (no_piece files name load_size front (omega (arith, i.at, i.within)) i.front last) (omega (arith, i.cost)) c.finish.ensures.cost
 
-pub returns-then-count-eq0-clause-grows : goal.returns-then-count-eq0-clause-grows
-returns-then-count-eq0-clause-grows g c = Grows-trans _ _ _ _ _ _ c.loop-at.invariant.grows c.finish.ensures.grows
-
-pub returns-then-count-eq0-clause-ok : goal.returns-then-count-eq0-clause-ok
-returns-then-count-eq0-clause-ok g c =
+pub returns-then-count-eq0 : goal.returns-then-count-eq0
+returns-then-count-eq0 g c =
     let i = c.loop-at.invariant in
     let files = g.F.Shelf.files c.args.shelf.now in
     let name = c.args.name.now in
     let front = fed c.loop-at.store c.loop-at.loader in
     let last = last_piece files name (length front) c.in_ok-count.count c.read_at.new.into c.if-count-eq0.true
     (piece_at (g.F.Shelf.files c.loop-at.shelf) files name (length front) c.loop-at.at (take c.in_ok-count.count c.read_at.new.into) i.files i.at c.in_ok-count.ensures.bytes) in
+    let within = no_piece files name load_size front (omega (arith, i.at, i.within)) i.front last in
     let is : text_at c.finish.new.store c.in_ok-root.root ≡ front = ap root_text c.in_ok-root.ensures.tree ∙ shape-text front in
-    subst (IsWithin files name load_size) (sym is) (no_piece files name load_size front (omega (arith, i.at, i.within)) i.front last)
-
-pub returns-then-count-eq0-clause-paid : goal.returns-then-count-eq0-clause-paid
-returns-then-count-eq0-clause-paid g c =
-    let i = c.loop-at.invariant in
-    let files = g.F.Shelf.files c.args.shelf.now in
-    let name = c.args.name.now in
-    let front = fed c.loop-at.store c.loop-at.loader in
-    let last = last_piece files name (length front) c.in_ok-count.count c.read_at.new.into c.if-count-eq0.true
-    (piece_at (g.F.Shelf.files c.loop-at.shelf) files name (length front) c.loop-at.at (take c.in_ok-count.count c.read_at.new.into) i.files i.at c.in_ok-count.ensures.bytes) in
-    whole_paid files name front c.args.pairs.now c.loop-at.pairs c.finish.new.pairs (no_piece files name load_size front (omega (arith, i.at, i.within)) i.front last) (omega (arith, i.cost)) c.finish.ensures.cost
+    record {
+      grows = Grows-trans _ _ _ _ _ _ i.grows c.finish.ensures.grows;
+      live = search rules;
+      ok = subst (IsWithin files name load_size) (sym is) within;
+      refused = tt;
+      paid = whole_paid files name front c.args.pairs.now c.loop-at.pairs c.finish.new.pairs within (omega (arith, i.cost)) c.finish.ensures.cost;
+      files = c.read_at.ensures.kept ∙ i.files;
+      later = omega (arith, i.later, c.read_at.ensures.cause.later);
+      fault = tt;
+    }
 
 pub returns-then-count-at-clause-refused : goal.returns-then-count-at-clause-refused
 returns-then-count-at-clause-refused g c =

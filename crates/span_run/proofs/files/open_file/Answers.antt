@@ -35,23 +35,20 @@ returns-in_ok-answer-in-Ok-clause-done g c = λ looks places.
     (open_paid (world (state_of h) files) c.args.file c.deref.result.now looks c.args.pairs.now o.new.pairs there o.ensures.cost) c.read_file.ensures.files c.read_file.ensures.later
     (open_carries (state_of h) (plain o.new.store o.new.docs) c.args.number c.args.file c.deref.result.now (image c.deref.result.now).answer a.answer.told a.answer.line.items files there refl a.ensures.ok)
 
-pub returns-in-Err-clause-done : goal.returns-in-Err-clause-done
-returns-in-Err-clause-done g c = λ looks places.
+pub returns-in-Err : goal.returns-in-Err
+returns-in-Err g c =
     let h = c.args.held.now in
     let f = g.F.Shelf in
     let files = f.files c.args.shelf.now in
+    let command = form.OpenFile c.args.file in
     let w = world (state_of h) files in
     let p = c.args.pairs.now in
+    let read = c.read_file in
     let turned : IsTurnedAway files c.args.file open_size c.in-Err.why = subst (λ (n : List ℕ). IsTurnedAway files n open_size c.in-Err.why) c.bytes.ensures c.in-Err.ensures.refused in
-    if_ok_map c.turned_away.result _ _ (λ answer denied. grown_same h h.store c.args.number (form.OpenFile c.args.file) answer files (f.files c.read_file.new.shelf) (f.faults c.args.shelf.now) (f.faults c.read_file.new.shelf) looks p p places c.requires (Grows-none h.store p p (omega arith)) (λ no. no) (λ no. no)
-    (open_refused_paid w c.args.file c.args.number c.in-Err.why answer.told answer.line.items looks p turned denied) c.read_file.ensures.files c.read_file.ensures.later
-    (open_denied w c.args.number c.args.file c.in-Err.why answer.told answer.line.items turned denied)) c.turned_away.ensures.ok
-
-pub returns-in-Err-clause-stopped : goal.returns-in-Err-clause-stopped
-returns-in-Err-clause-stopped g c = λ looks places.
-    let h = c.args.held.now in
-    let f = g.F.Shelf in
-    let files = f.files c.args.shelf.now in
-    let p = c.args.pairs.now in
-    if_err_both c.turned_away.result _ _ _ (λ why fault sink. grown_stays h h.store h.docs c.args.number (form.OpenFile c.args.file) files (f.files c.read_file.new.shelf) (f.faults c.args.shelf.now) (f.faults c.read_file.new.shelf) looks p p places why c.requires (Grows-none h.store p p (omega arith)) c.requires.live refl
-    (not_begun (world (state_of h) files) (form.OpenFile c.args.file) looks p) c.read_file.ensures.files c.read_file.ensures.later (λ is. (tt, c.in-Err.ensures.fault (fault is))) sink) c.turned_away.ensures.fault c.turned_away.ensures.out_fault
+    record {
+      done = λ looks places. if_ok_map c.turned_away.result _ _ (λ answer denied. grown_same h h.store c.args.number command answer files (f.files read.new.shelf) (f.faults c.args.shelf.now) (f.faults read.new.shelf) looks p p places c.requires (Grows-none h.store p p (omega arith)) (λ no. no) (λ no. no)
+          (open_refused_paid w c.args.file c.args.number c.in-Err.why answer.told answer.line.items looks p turned denied) read.ensures.files read.ensures.later
+          (open_denied w c.args.number c.args.file c.in-Err.why answer.told answer.line.items turned denied)) c.turned_away.ensures.ok;
+      stopped = λ looks places. if_err_both c.turned_away.result _ _ _ (λ why fault sink. grown_stays h h.store h.docs c.args.number command files (f.files read.new.shelf) (f.faults c.args.shelf.now) (f.faults read.new.shelf) looks p p places why c.requires (Grows-none h.store p p (omega arith)) c.requires.live refl
+          (not_begun w command looks p) read.ensures.files read.ensures.later (λ is. (tt, c.in-Err.ensures.fault (fault is))) sink) c.turned_away.ensures.fault c.turned_away.ensures.out_fault;
+    }

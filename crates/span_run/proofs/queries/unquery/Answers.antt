@@ -25,13 +25,12 @@ returns-in-Ok-clause-done c = λ files faults looks pairs places.
     (subst (λ (n : List ℕ). IsSome (value_of (queries_of h.book) n)) c.bytes.ensures.value c.in-Ok.ensures.ok) (c.remove.ensures.rest ∙ ap (λ (n : List ℕ). taken_out (queries_of h.book) n) c.bytes.ensures.value)
     c.accepted.ensures.0 (ap (λ v. v.items) c.accepted.ensures.1 ∙ c.in_ok-line.ensures))
 
-pub returns-in-Err-clause-stopped : goal.returns-in-Err-clause-stopped
-returns-in-Err-clause-stopped c =
-    c.refuse.ensures.stopped c.args.held.now (form.Unquery c.args.name) c.requires (ap (λ (es : List Entry). record c.args.held.now { book = es }) c.in-Err.ensures.err)
-
-pub returns-in-Err-clause-done : goal.returns-in-Err-clause-done
-returns-in-Err-clause-done c = λ files faults looks pairs places.
+pub returns-in-Err : goal.returns-in-Err
+returns-in-Err c =
     let h = c.args.held.now in
     let missing = ap (λ (n : List ℕ). value_of (queries_of h.book) n) (sym c.bytes.ensures.value) ∙ c.in-Err.ensures.missing.none in
-    c.refuse.ensures.done h (form.Unquery c.args.name) files faults looks pairs places (record { held = c.requires; refused = (missing, refl); free = refl })
-    (ap (λ (es : List Entry). record h { book = es }) c.in-Err.ensures.err)
+    let same = ap (λ (es : List Entry). record h { book = es }) c.in-Err.ensures.err in
+    record {
+      done = λ files faults looks pairs places. c.refuse.ensures.done h (form.Unquery c.args.name) files faults looks pairs places (record { held = c.requires; refused = (missing, refl); free = refl }) same;
+      stopped = c.refuse.ensures.stopped h (form.Unquery c.args.name) c.requires same;
+    }

@@ -36,14 +36,13 @@ returns-in-Ok-clause-done c = λ files faults looks pairs places.
     (version_of-plain h.store h.versions c.args.name ∙ ap (option_map (plain h.store)) here)
     (ap (plain_versions h.store) rest ∙ plain_versions-taken_out h.store h.versions c.args.name) c.accepted.ensures.0 (ap (λ v. v.items) c.accepted.ensures.1 ∙ c.in_ok-line.ensures))
 
-pub returns-in-Err-clause-stopped : goal.returns-in-Err-clause-stopped
-returns-in-Err-clause-stopped c =
-    c.refuse.ensures.stopped c.args.held.now (form.UnmarkDocs c.args.name) c.requires (ap (λ (v : Named (List Doc)). record c.args.held.now { versions = v }) c.in-Err.ensures.err)
-
-pub returns-in-Err-clause-done : goal.returns-in-Err-clause-done
-returns-in-Err-clause-done c = λ files faults looks pairs places.
+pub returns-in-Err : goal.returns-in-Err
+returns-in-Err c =
     let h = c.args.held.now in
     let missing : value_of h.versions c.args.name ≡ None = ap (λ (n : List ℕ). value_of h.versions n) (sym c.bytes.ensures.value) ∙ none_of (value_of h.versions c.bytes.result.now) _ _ _ c.in-Err.ensures.result in
-    c.refuse.ensures.done h (form.UnmarkDocs c.args.name) files faults looks pairs places
-    (record { held = c.requires; refused = (version_of-plain h.store h.versions c.args.name ∙ ap (option_map (plain h.store)) missing, refl); free = refl })
-    (ap (λ (v : Named (List Doc)). record h { versions = v }) c.in-Err.ensures.err)
+    let lacks = version_of-plain h.store h.versions c.args.name ∙ ap (option_map (plain h.store)) missing in
+    let same = ap (λ (v : Named (List Doc)). record h { versions = v }) c.in-Err.ensures.err in
+    record {
+      done = λ files faults looks pairs places. c.refuse.ensures.done h (form.UnmarkDocs c.args.name) files faults looks pairs places (record { held = c.requires; refused = (lacks, refl); free = refl }) same;
+      stopped = c.refuse.ensures.stopped h (form.UnmarkDocs c.args.name) c.requires same;
+    }
