@@ -30,10 +30,10 @@ module _ (words : List (List ℕ)) (workers : ℕ) (demo : Option ℕ) (asked : 
   pub of_script : (left : Option (List ℕ)) (bytes text : List ℕ) (Holds : List ℕ → Type 0) → IfSome (script_of demo left) (λ told. bytes ≡ told) → text ≡ bytes → Holds text → OfScript words left Holds
   of_script left bytes text Holds is same h = λ more other too. subst (λ (d : Option ℕ). IfSome (script_of d left) Holds) (one_demo more other too) (holds_of_told (script_of demo left) bytes Holds is (subst Holds same h))
 
-  -- and so they aren't refused
-  pub not_refused : (A : Type 0) → Refused words → A
-  not_refused A refused = absurd (refused workers demo asked)
-
   -- what holds for each demo holds where the words don't ask for none
   pub of_demo : (A : Type 0) → IfSome demo (λ _. A) → (AsksForNoDemo words → ⊥) → A
   of_demo A h some = each_demo A demo (λ none. some (no_demo none)) h
+
+-- words that were read aren't refused
+pub never_refused : (words : List (List ℕ)) (workers : ℕ) (demo : Option ℕ) → Words words workers demo → Refused words → ⊥
+never_refused words workers demo asked refused = refused workers demo asked

@@ -168,6 +168,7 @@ fn run_lines<R: Threads + Sync, K: Sink, F: Shelf, G: Gate, P: Ledger, T: Ledger
 /// tables; and for the script of a demo, which is run in place of the source's bytes. The source isn't read then. The
 /// shelf serves files. `pairs` counts the pairs of nodes that were asked for, `places` the tables that nodes were given,
 /// and `looks` looks at tables.
+#[tactic(auto, using(crate::proofs::ScriptLemmas::never_refused))]
 pub fn run<
     R: Threads + Sync,
     S: Source,

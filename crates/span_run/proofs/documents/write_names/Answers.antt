@@ -9,7 +9,9 @@ use Rattle.span_language.specs.Step.{AppendsFront}
 use Rattle.span_run.proofs.Written.{IsListing, listing_goes_on, listing_waits, listing_stops}
 use Rattle.span_run.proofs.HeldLemmas.{live_at}
 use Rattle.span_run.proofs.CarryLemmas.{names_rest, names_rest-next, names_rest-end}
+use Rattle.span_run.proofs.documents.write_names.Given as given
 use Rattle.span_run.proofs.documents.write_names.Goals as goal
+use Rattle.span_run.proofs.documents.write_names.Goals.{After-offer}
 
 pub root_len-len-requires : goal.root_len-len-requires
 root_len-len-requires g c = live_at c.args.store.now c.args.docs.now c.loop-place.place (record { name = c.at-root.result.0.now; root = c.at-root.result.1 }) c.requires c.at-root.ensures
@@ -19,42 +21,35 @@ returns-in_err-name_line-clause-stopped g c =
     let p = err_from_is_err_and c.from_residual.result c.from_residual.ensures.1 in
     rw (p.1) (listing_waits (g.K.Sink.written c.args.out.now) (g.K.Sink.written c.loop-place.out) (names_rest c.args.store.now c.args.docs.now c.loop-place.place) (names_text (plain c.args.store.now c.args.docs.now)) c.loop-place.invariant.so_far)
 
+-- the listing so far, cut at this document's line
+so_far : (g : given.Over) (c : After-offer g) → IsListing (g.K.Sink.written c.args.out.now) (g.K.Sink.written c.loop-place.out)
+    (entry_text (c.at-root.result.0.now, text_at c.args.store.now c.at-root.result.1) ++ names_rest c.args.store.now c.args.docs.now (suc c.loop-place.place)) (names_text (plain c.args.store.now c.args.docs.now))
+so_far g c =
+    subst (λ (l : List ℕ). IsListing (g.K.Sink.written c.args.out.now) (g.K.Sink.written c.loop-place.out) l (names_text (plain c.args.store.now c.args.docs.now)))
+    (names_rest-next c.args.store.now c.args.docs.now c.loop-place.place (record { name = c.at-root.result.0.now; root = c.at-root.result.1 }) c.at-root.ensures) c.loop-place.invariant.so_far
+
+-- what was offered is this line
+line_is : (g : given.Over) (c : After-offer g) → c.deref.result.now ≡ entry_text (c.at-root.result.0.now, text_at c.args.store.now c.at-root.result.1)
+line_is g c =
+    c.deref.ensures.value ∙ c.in_ok-name_line.ensures.ok ∙ ap (λ (l : List ℕ). l ++ name_text c.at-root.result.0.now c.root_len-len.result) c.new-line.ensures.items ∙ ap (name_text c.at-root.result.0.now) c.root_len-len.ensures.len
+
 pub returns-in_err-offer-clause-stopped : goal.returns-in_err-offer-clause-stopped
 returns-in_err-offer-clause-stopped g c =
     let p = err_from_is_err_and c.from_residual-in_err-offer.result c.from_residual-in_err-offer.ensures.1 in
-    let ns = c.args.store.now in
-    let ds = c.args.docs.now in
-    let a = g.K.Sink.written c.args.out.now in
-    let b = g.K.Sink.written c.loop-place.out in
-    let d = g.K.Sink.written c.offer.new.out in
-    let name = c.at-root.result.0.now in
-    let root = c.at-root.result.1 in
-    let whole = names_text (plain ns ds) in
-    let rest = names_rest-next ns ds c.loop-place.place (record { name = name; root = root }) c.at-root.ensures in
-    let piece : c.deref.result.now ≡ entry_text (name, text_at ns root) =
-    c.deref.ensures.value ∙ c.in_ok-name_line.ensures.ok ∙ ap (λ (l : List ℕ). l ++ name_text name c.root_len-len.result) c.new-line.ensures.items ∙ ap (name_text name) c.root_len-len.ensures.len in
-    rw (p.1) (listing_stops a b d (entry_text (name, text_at ns root)) (names_rest ns ds (suc c.loop-place.place)) whole
-    (subst (λ (l : List ℕ). IsListing a b l whole) rest c.loop-place.invariant.so_far)
-    (subst (λ (l : List ℕ). AppendsFront b d l) piece c.in_err-offer.ensures.stopped))
+    let now = (goal.at.returns-in_err-offer-clause-stopped g c).After-offer in
+    rw (p.1) (listing_stops (g.K.Sink.written c.args.out.now) (g.K.Sink.written c.loop-place.out) (g.K.Sink.written c.offer.new.out) _ _ _ (so_far g now)
+    (subst (λ (l : List ℕ). AppendsFront (g.K.Sink.written c.loop-place.out) (g.K.Sink.written c.offer.new.out) l) (line_is g now) c.in_err-offer.ensures.stopped))
 
 pub loop-place-preserved : goal.loop-place-preserved
 loop-place-preserved g c =
-    let ns = c.args.store.now in
-    let ds = c.args.docs.now in
+    let now = (goal.at.loop-place-preserved g c).After-offer in
     let a = g.K.Sink.written c.args.out.now in
     let b = g.K.Sink.written c.loop-place.out in
     let d = g.K.Sink.written c.offer.new.out in
-    let name = c.at-root.result.0.now in
-    let root = c.at-root.result.1 in
-    let whole = names_text (plain ns ds) in
-    let rest = names_rest-next ns ds c.loop-place.place (record { name = name; root = root }) c.at-root.ensures in
-    let piece : c.deref.result.now ≡ entry_text (name, text_at ns root) =
-    c.deref.ensures.value ∙ c.in_ok-name_line.ensures.ok ∙ ap (λ (l : List ℕ). l ++ name_text name c.root_len-len.result) c.new-line.ensures.items ∙ ap (name_text name) c.root_len-len.ensures.len in
     let next : suc c.loop-place.place ≡ c.loop-place.place + 1 = omega arith in
     record {
-      so_far = subst (λ (k : ℕ). IsListing a d (names_rest ns ds k) whole) next (listing_goes_on a b d (entry_text (name, text_at ns root)) (names_rest ns ds (suc c.loop-place.place)) whole
-          (subst (λ (l : List ℕ). IsListing a b l whole) rest c.loop-place.invariant.so_far)
-          (subst (λ (l : List ℕ). Appends b d l) piece c.in_ok-offer.ensures.done));
+      so_far = subst (λ (k : ℕ). IsListing a d (names_rest c.args.store.now c.args.docs.now k) (names_text (plain c.args.store.now c.args.docs.now))) next
+          (listing_goes_on a b d _ _ _ (so_far g now) (subst (λ (l : List ℕ). Appends b d l) (line_is g now) c.in_ok-offer.ensures.done));
       later = omega (arith, c.loop-place.invariant.later, c.offer.ensures.later);
       wants_later = omega (arith, c.loop-place.invariant.wants_later, c.offer.ensures.wants_later);
     }

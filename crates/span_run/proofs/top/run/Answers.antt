@@ -3,7 +3,7 @@ use Rattle.span_language.specs.Lines.{lines_of}
 use Rattle.span_language.specs.Runs.{outside, Anywhere, InFileLine, UnlessList, RunsFront}
 use Rattle.span_language.specs.Scripts.{script_of}
 use Rattle.span_run.proofs.RunsLemmas.{none_ran, none_written, each_some}
-use Rattle.span_run.proofs.ScriptLemmas.{not_refused, of_demo, of_script}
+use Rattle.span_run.proofs.ScriptLemmas.{of_demo, of_script}
 use Rattle.span_run.proofs.top.run.Goals as goal
 
 pub returns-in-Err-Usage-clause-usage : goal.returns-in-Err-Usage-clause-usage
@@ -14,30 +14,6 @@ returns-in-Err-NoMemory-clause-want_front g c = λ _ workers demo asked. each_so
 
 pub returns-in-Err-NoMemory-asked_script-clause-want_front : goal.returns-in-Err-NoMemory-asked_script-clause-want_front
 returns-in-Err-NoMemory-asked_script-clause-want_front g c = λ _ workers demo asked. each_some (script_of demo (g.S.Source.left c.args.script.now)) _ (λ bytes. none_ran (UnlessList (g.K.Sink.wants c.args.out.now) (g.K.Sink.wants c.args.out.now)) (lines_of bytes) (outside (g.K.Sink.written c.args.out.now) (g.F.Shelf.files c.args.shelf.now) c.args.looks.now c.args.pairs.now c.args.places.now) (none_written (g.K.Sink.wants c.args.out.now)))
-
-pub returns-in-Err-Fault-clause-refused : goal.returns-in-Err-Fault-clause-refused
-returns-in-Err-Fault-clause-refused g c = not_refused (map string_bytes c.args.words.now) c.in-Ok.options.workers c.in-Ok.options.demo c.in-Ok.ensures.taken _
-
-pub returns-in-Err-TooLong-clause-refused : goal.returns-in-Err-TooLong-clause-refused
-returns-in-Err-TooLong-clause-refused g c = not_refused (map string_bytes c.args.words.now) c.in-Ok.options.workers c.in-Ok.options.demo c.in-Ok.ensures.taken _
-
-pub returns-in-Err-NoMemory-asked_script-clause-refused : goal.returns-in-Err-NoMemory-asked_script-clause-refused
-returns-in-Err-NoMemory-asked_script-clause-refused g c = not_refused (map string_bytes c.args.words.now) c.in-Ok.options.workers c.in-Ok.options.demo c.in-Ok.ensures.taken _
-
-pub returns-in-Ok-true-clause-refused : goal.returns-in-Ok-true-clause-refused
-returns-in-Ok-true-clause-refused g c = not_refused (map string_bytes c.args.words.now) c.in-Ok.options.workers c.in-Ok.options.demo c.in-Ok.ensures.taken _
-
-pub returns-in-Ok-false-clause-refused : goal.returns-in-Ok-false-clause-refused
-returns-in-Ok-false-clause-refused g c = not_refused (map string_bytes c.args.words.now) c.in-Ok.options.workers c.in-Ok.options.demo c.in-Ok.ensures.taken _
-
-pub returns-in-Err-OutFault-clause-refused : goal.returns-in-Err-OutFault-clause-refused
-returns-in-Err-OutFault-clause-refused g c = not_refused (map string_bytes c.args.words.now) c.in-Ok.options.workers c.in-Ok.options.demo c.in-Ok.ensures.taken _
-
-pub returns-in-Err-ShelfFault-clause-refused : goal.returns-in-Err-ShelfFault-clause-refused
-returns-in-Err-ShelfFault-clause-refused g c = not_refused (map string_bytes c.args.words.now) c.in-Ok.options.workers c.in-Ok.options.demo c.in-Ok.ensures.taken _
-
-pub returns-clause-refused : goal.returns-clause-refused
-returns-clause-refused g c = not_refused (map string_bytes c.args.words.now) c.in-Ok.options.workers c.in-Ok.options.demo c.in-Ok.ensures.taken _
 
 pub returns-in-Err-OutFault-clause-unread : goal.returns-in-Err-OutFault-clause-unread
 returns-in-Err-OutFault-clause-unread g c = of_demo (map string_bytes c.args.words.now) c.in-Ok.options.workers c.in-Ok.options.demo c.in-Ok.ensures.taken _ c.asked_script.ensures.unread
