@@ -2,9 +2,9 @@
 ghost use Rattle.std.specs.Prelude.{◌≡◌, ◌<◌, false, get_or, length, IfOk};
 ghost use Rattle.slp_model.specs.Kept.{Keeps};
 ghost use Rattle.slp_model.specs.Thin as thinning;
-ghost use Rattle.node_store.specs.Moved.{AreRanks};
+ghost use Rattle.node_store.specs.Moved.{AreRanks, KeepChildren};
 
-use slp_model::NodeId;
+use slp_model::{Node, NodeId};
 use span_types::NoMemory;
 use std::alloc::Global;
 use std::marker::Model;
@@ -31,9 +31,14 @@ impl Model for Moves {
 }
 
 impl Moves {
-    // Where the kept nodes go, and how many they are.
-    pub(crate) fn new(alloc: Global, keep: &[bool]) -> Result<(Moves, usize), NoMemory>
-        ensures { IfOk result (λ made. made.0 ≡ keep.now) }
+    /// Where the kept nodes go, and how many they are. It takes time linear in the nodes, and 9 bytes for each.
+    ///
+    /// # Errors
+    ///
+    /// `NoMemory` where none was found.
+    pub fn new(alloc: Global, keep: &[bool]) -> Result<(Moves, usize), NoMemory>
+        ensures moves { IfOk result (λ made. made.0 ≡ keep.now) }
+        ensures count { IfOk result (λ made. made.1 ≡ thinning.rank keep.now (length keep.now)) }
     {
         let (ranks, count) = ranks(alloc, keep)?;
         let mut kept = Vec::new(alloc);
@@ -51,6 +56,17 @@ impl Moves {
         }
     }
 
+    /// The node with the new ids of its children, which were kept.
+    pub fn renumbered(&self, node: Node) -> Node
+        requires children { KeepChildren self.now node }
+        ensures node { result ≡ thinning.renumbered (thinning.rank self.now) node }
+    {
+        match node {
+            Node::Byte(b) => Node::Byte(b),
+            Node::Pair(left, right) => Node::Pair(self.moved(left), self.moved(right)),
+        }
+    }
+
     /// Whether this node of the old store was kept.
     pub fn kept(&self, id: NodeId) -> bool
         requires live { id.index < length self.now }
@@ -62,7 +78,8 @@ impl Moves {
 
 // For each node how many before it are kept, and how many are kept at all.
 fn ranks(alloc: Global, keep: &[bool]) -> Result<(Vec<usize>, usize), NoMemory>
-    ensures { IfOk result (λ made. AreRanks keep.now made.0.items (length keep.now)) }
+    ensures ranks { IfOk result (λ made. AreRanks keep.now made.0.items (length keep.now)) }
+    ensures count { IfOk result (λ made. made.1 ≡ thinning.rank keep.now (length keep.now)) }
 {
     let mut numbers = Vec::with_capacity(alloc, keep.len())?;
     let mut next: usize = 0;

@@ -4,22 +4,10 @@ ghost use Rattle.slp_model.specs.Nodes.{IsBelow};
 ghost use Rattle.slp_model.specs.Kept.{IsPlanOf};
 ghost use Rattle.slp_model.specs.Thin as thinning;
 ghost use Rattle.slp_model.specs.Thin.{IsThinOf};
-ghost use Rattle.node_store.specs.Moved.{KeepChildren};
 
-use crate::{Facts, Moves, Node, NodeId, Store};
+use crate::{Facts, Moves, NodeId, Store};
 use span_types::NoMemory;
 use std::alloc::Global;
-
-// The node with the new ids of its children, which are kept.
-fn renumbered(node: Node, moves: &Moves) -> Node
-    requires { KeepChildren moves.now node }
-    ensures { result ≡ thinning.renumbered (thinning.rank moves.now) node }
-{
-    match node {
-        Node::Byte(b) => Node::Byte(b),
-        Node::Pair(left, right) => Node::Pair(moves.moved(left), moves.moved(right)),
-    }
-}
 
 /// The kept nodes in their order, under their new numbers. They are so many.
 pub(crate) fn thinned(
@@ -40,7 +28,7 @@ pub(crate) fn thinned(
                 len: store.len(id),
                 height: store.height(id),
             };
-            thin.insert(renumbered(store.node(id), moves), facts)?;
+            thin.insert(moves.renumbered(store.node(id)), facts)?;
         }
     }
     Ok(thin)

@@ -1,14 +1,17 @@
 -- The nodes of a store may follow one another as records.
-use Rattle.std.proofs.Common.{◌≡◌, ℕ, suc, ◌+◌, ◌<◌, ◌≤◌, ◌^◌, true, List, [], ◌∷◌, ◌++◌, length, slice_get, take, Some, refl, ap, sym, subst, ◌∙◌, arith, nat_le, append_assoc, append-nil, length-append}
+use Rattle.std.proofs.Common.{◌≡◌, ℕ, suc, ◌+◌, ◌<◌, ◌≤◌, ◌^◌, Bool, true, false, List, [], ◌∷◌, ◌++◌, length, get_or, slice_get, Some, refl, ap, sym, subst, ◌∙◌, arith, nat_le, append_assoc, append-nil, length-append}
 use Rattle.std.proofs.lemmas.Bool.{le-leb}
-use Rattle.std.proofs.lemmas.Option.{slice_get_within, get_or_from_slice_get}
-use Rattle.std.proofs.Math.Seq.{take-suc}
+use Rattle.std.proofs.lemmas.Option.{slice_get_within}
 use Rattle.slp_model.specs.declared.Node.{Node}
 use Rattle.slp_model.specs.declared.Node.TheVariants.{Byte, Pair}
 use Rattle.slp_model.specs.Tree.{Tree, Fork, leaves, height, IsNear, IsBalanced}
 use Rattle.slp_model.specs.Nodes.{tree, IsSound}
 use Rattle.slp_model.specs.Join.{is_near}
+use Rattle.slp_model.specs.Kept.{Keeps}
+use Rattle.slp_model.specs.Thin.{rank, renumbered}
 use Rattle.slp_model.proofs.NodesLemmas.{tree-append, node-at}
+use Rattle.slp_model.proofs.ThinLemmas.{thin_to, thin-on}
+use Rattle.node_store.proofs.MoveLemmas.{kept-same}
 use Rattle.slp_image.specs.Written.{node_bytes, records_bytes, MayFollow, AllFollow}
 
 near-test : (g h : ℕ) → IsNear g h → is_near g h ≡ true
@@ -48,9 +51,15 @@ records-push : (ms : List Node) (n : Node) → records_bytes (ms ++ n ∷ []) �
 records-push [] n = append-nil (node_bytes n)
 records-push (m ∷ ms) n = ap (λ bs. node_bytes m ++ bs) (records-push ms n) ∙ sym (append_assoc (node_bytes m) (records_bytes ms) (node_bytes n))
 
-pub records-next : (ms : List Node) (k : ℕ) (n : Node) (old mid new : List ℕ) → slice_get ms k ≡ Some n → mid ≡ old ++ records_bytes (take k ms) → new ≡ mid ++ node_bytes n → new ≡ old ++ records_bytes (take (k + 1) ms)
-records-next ms k n old mid new at before e =
+-- one node on: it is kept, and its record is written
+pub records-kept : (ns : List Node) (ks : List Bool) (k : ℕ) (n : Node) (old mid new : List ℕ) → slice_get ns k ≡ Some n → Keeps ks k → mid ≡ old ++ records_bytes (thin_to ns ks k) → new ≡ mid ++ node_bytes (renumbered (rank ks) n) → new ≡ old ++ records_bytes (thin_to ns ks (k + 1))
+records-kept ns ks k n old mid new at keep before e =
+    let m : Node = renumbered (rank ks) n in
     let one : suc k ≡ k + 1 = omega arith in
-    let more : take (suc k) ms ≡ take k ms ++ n ∷ [] = take-suc ms k n (slice_get_within ms k n at) ∙ ap (λ (x : Node). take k ms ++ x ∷ []) (get_or_from_slice_get ms k n n at) in
-    let bytes : records_bytes (take (k + 1) ms) ≡ records_bytes (take k ms) ++ node_bytes n = ap (λ m. records_bytes (take m ms)) (sym one) ∙ (ap records_bytes more ∙ records-push (take k ms) n) in
-    e ∙ (ap (λ bs. bs ++ node_bytes n) before ∙ (append_assoc old (records_bytes (take k ms)) (node_bytes n) ∙ ap (λ bs. old ++ bs) (sym bytes)))
+    let more : thin_to ns ks (k + 1) ≡ thin_to ns ks k ++ m ∷ [] = ap (thin_to ns ks) (sym one) ∙ thin-on ns ks k n at keep in
+    let bytes : records_bytes (thin_to ns ks (k + 1)) ≡ records_bytes (thin_to ns ks k) ++ node_bytes m = ap records_bytes more ∙ records-push (thin_to ns ks k) m in
+    e ∙ (ap (λ bs. bs ++ node_bytes m) before ∙ (append_assoc old (records_bytes (thin_to ns ks k)) (node_bytes m) ∙ ap (λ bs. old ++ bs) (sym bytes)))
+
+-- or it isn't kept
+pub records-same : (ns : List Node) (ks : List Bool) (k : ℕ) (old new : List ℕ) → get_or ks k false ≡ false → new ≡ old ++ records_bytes (thin_to ns ks k) → new ≡ old ++ records_bytes (thin_to ns ks (k + 1))
+records-same ns ks k old new none before = before ∙ ap (λ ms. old ++ records_bytes ms) (kept-same ns ks k none)

@@ -1,7 +1,9 @@
 //! Fields, records and documents as bytes.
-ghost use Rattle.std.specs.Prelude.{◌≡◌, true, [], ◌∷◌, ◌++◌, length, option_map, OnOk};
+ghost use Rattle.std.specs.Prelude.{◌≡◌, ◌<◌, ◌^◌, true, [], ◌∷◌, ◌++◌, length, option_map, OnOk};
 ghost use Rattle.byteorder.specs.Endian.{big_bytes};
-ghost use Rattle.slp_model.specs.Thin.{rank};
+ghost use Rattle.slp_model.specs.Distinct.{AreDistinct};
+ghost use Rattle.slp_model.specs.Kept.{IsPlanOf};
+ghost use Rattle.slp_model.specs.Thin.{rank, thin, IsThinOf};
 ghost use Rattle.slp_image.specs.Written.{node_bytes, records_bytes, document_bytes};
 ghost use Rattle.slp_image.specs.Saved.{AreSaved, KeepsRoot, KeepsRoots};
 ghost use Rattle.span_types.specs.Names.{is_name};
@@ -46,12 +48,19 @@ fn push_node(out: &mut Vec<u8>, node: Node) -> Result<(), NoMemory>
     }
 }
 
-/// The records of all nodes of the store after the others.
-pub(crate) fn push_nodes(out: &mut Vec<u8>, store: &Store) -> Result<(), NoMemory>
-    ensures { OnOk result (out.new.items ≡ out.old.items ++ records_bytes store.now) }
+/// The records of the kept nodes of the store, in their order and under their new numbers, after the others.
+pub(crate) fn push_nodes(out: &mut Vec<u8>, store: &Store, moves: &Moves) -> Result<(), NoMemory>
+    requires plan { IsPlanOf store.now moves.now }
+    ensures bytes { OnOk result (out.new.items ≡ out.old.items ++ records_bytes (thin store.now moves.now)) }
+    ensures thin { OnOk result (IsThinOf store.now moves.now (thin store.now moves.now)) }
+    ensures distinct { OnOk result (AreDistinct (thin store.now moves.now)) }
+    ensures few { OnOk result (length (thin store.now moves.now) < 2 ^ 64) }
 {
     for index in 0..store.count() {
-        push_node(out, store.node(NodeId { index }))?;
+        let id = NodeId { index };
+        if moves.kept(id) {
+            push_node(out, moves.renumbered(store.node(id)))?;
+        }
     }
     Ok(())
 }

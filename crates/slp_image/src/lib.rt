@@ -13,7 +13,7 @@
 //!
 //! Reading takes one pair call for a pair of version 1, at most 205 for one of version 2, and at most 206·(d-1) for a
 //! run whose count has d binary digits. `write` takes time linear in the nodes of the store and in the documents, and
-//! the memory of a thin store and of the image.
+//! the memory of the image and 10 bytes for each node of the store.
 //!
 //! The grammars of version 2 are balanced by joins, as in W. Rytter, *Application of Lempel–Ziv factorization to the
 //! approximation of grammar-based compression*, Theoretical Computer Science 302, 2003.

@@ -27,12 +27,29 @@ pub struct Image {
 // The magic and the version.
 const FRONT: [u8; 5] = *b"SLPI\x01";
 
+// A number has so many bytes.
+const NUMBER: usize = 8;
+
+// The record of a pair, and that of a document whose name has the 64 bytes that a name may have.
+const MOST_OF_NODE: usize = 1 + 2 * NUMBER;
+
+const MOST_OF_DOCUMENT: usize = 1 + 64 + NUMBER;
+
 // The magic, the version and the count of nodes.
 fn push_front(out: &mut Vec<u8>, nodes: u64) -> Result<(), NoMemory>
     ensures { OnOk result (out.new.items ≡ out.old.items ++ ((83 ∷ (76 ∷ (80 ∷ (73 ∷ (1 ∷ []))))) ++ big_bytes 8 nodes)) }
 {
     out.extend_from_slice(&FRONT).map_err(|_| NoMemory)?;
     push_number(out, nodes)
+}
+
+// An image of so many nodes and documents has at most so many bytes.
+fn most_bytes(nodes: usize, docs: usize) -> usize {
+    let records = nodes.saturating_mul(MOST_OF_NODE);
+    let documents = docs.saturating_mul(MOST_OF_DOCUMENT);
+    records
+        .saturating_add(documents)
+        .saturating_add(FRONT.len() + 2 * NUMBER)
 }
 
 // The plan that keeps the roots of all documents, and the nodes below them.
@@ -64,11 +81,11 @@ pub fn write(alloc: Global, docs: &Docs, store: &Store) -> Result<Image, NoMemor
     ensures nodes { IfOk result (λ saved. IsCount (IsReached store.now (roots_of docs.now)) saved.nodes) }
 {
     let plan = plan_of(alloc, docs, store)?;
-    let (thin, moves) = plan.build(alloc, store)?;
-    let nodes = thin.count() as u64;
-    let mut bytes = Vec::new(alloc);
+    let (moves, count) = plan.moves(alloc)?;
+    let nodes = count as u64;
+    let mut bytes = Vec::with_capacity(alloc, most_bytes(count, docs.count()))?;
     push_front(&mut bytes, nodes)?;
-    push_nodes(&mut bytes, &thin)?;
+    push_nodes(&mut bytes, store, &moves)?;
     push_number(&mut bytes, docs.count() as u64)?;
     push_documents(&mut bytes, docs, &moves)?;
     Ok(Image { bytes, nodes })

@@ -72,6 +72,19 @@ impl Plan {
         Ok(())
     }
 
+    /// Where the kept nodes go, and how many they are. Takes time linear in the nodes of the store, and makes no thin
+    /// store, as one who only writes the kept nodes down needs none.
+    ///
+    /// # Errors
+    ///
+    /// `NoMemory` where none was found.
+    pub fn moves(&self, alloc: Global) -> Result<(Moves, usize), NoMemory>
+        ensures moves { IfOk result (λ made. made.0 ≡ self.now) }
+        ensures count { IfOk result (λ made. made.1 ≡ thinning.rank self.now (length self.now)) }
+    {
+        Moves::new(alloc, &self.keep)
+    }
+
     /// The thin store: the nodes that are kept, in their order, each with its tree under a new id, and where each one
     /// went. The store is the one that the plan was made for. Takes time linear in its nodes.
     ///

@@ -13,14 +13,14 @@ insert-requires c =
     let facts : Facts = record { len = c.len.result; height = c.height.result } in
     let next = next-kept c.args.store.now c.args.moves.now c.loop-index.index c.node.result facts c.count-index-end.ensures.sound c.count-index-end.ensures.bytes c.requires (sym c.kept.ensures.kept ∙ c.if-kept.true) c.node.ensures.node c.len.ensures.len c.height.ensures.height in
     subst (λ (ms : List Node). IsNext ms c.renumbered.result facts) (sym c.loop-index.invariant)
-    (subst (λ (n : Node). IsNext (thin_to c.args.store.now c.args.moves.now c.loop-index.index) n facts) (sym c.renumbered.ensures) next)
+    (subst (λ (n : Node). IsNext (thin_to c.args.store.now c.args.moves.now c.loop-index.index) n facts) (sym c.renumbered.ensures.node) next)
 
 pub loop-index-preserved : goal.loop-index-preserved
 loop-index-preserved c = elim c.if-kept.branch [
   | then-kept+in_ok-insert w ↦
       let x : Node = renumbered (rank c.args.moves.now) w.node.result in
-      let added : IsKept (thin_to c.args.store.now c.args.moves.now c.loop-index.index) w.insert.new.self x = subst (λ (ms : List Node). IsKept ms w.insert.new.self x) c.loop-index.invariant (subst (λ (n : Node). IsKept c.loop-index.thin w.insert.new.self n) w.renumbered.ensures w.insert.ensures.kept) in
-      let here : slice_get w.insert.new.self w.in_ok-insert.field-0.index ≡ Some x = w.in_ok-insert.ensures.node ∙ ap Some w.renumbered.ensures in
+      let added : IsKept (thin_to c.args.store.now c.args.moves.now c.loop-index.index) w.insert.new.self x = subst (λ (ms : List Node). IsKept ms w.insert.new.self x) c.loop-index.invariant (subst (λ (n : Node). IsKept c.loop-index.thin w.insert.new.self n) w.renumbered.ensures.node w.insert.ensures.kept) in
+      let here : slice_get w.insert.new.self w.in_ok-insert.field-0.index ≡ Some x = w.in_ok-insert.ensures.node ∙ ap Some w.renumbered.ensures.node in
       w.thin-is ∙ kept-last c.args.store.now c.args.moves.now c.loop-index.index w.node.result w.insert.new.self w.in_ok-insert.field-0.index c.count-index-end.ensures.sound c.count-index-end.ensures.distinct c.requires (sym c.kept.ensures.kept ∙ w.if-kept.true) w.node.ensures.node added here
   | else-kept w ↦ w.thin-is ∙ (c.loop-index.invariant ∙ kept-same c.args.store.now c.args.moves.now c.loop-index.index (sym c.kept.ensures.kept ∙ w.if-kept.false))
 ]
