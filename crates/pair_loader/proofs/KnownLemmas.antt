@@ -1,17 +1,17 @@
 -- Blocks and known words, over a store that grows.
-use Rattle.std.proofs.Common.{◌≡◌, ℕ, ◌+◌, ◌<◌, ◌≤◌, ◌^◌, get_or, List, [], ◌∷◌, ◌++◌, length, take, drop, Option, Some, None, IfSome, Result, Ok, Err, IfOk, ◌-◌, ◌*◌, ◌/◌, refl, ap, sym, subst, ◌∙◌, arith}
+use Rattle.std.proofs.Common.{◌≡◌, ℕ, ◌+◌, ◌<◌, ◌^◌, get_or, List, [], ◌∷◌, ◌++◌, length, take, drop, max, Option, Some, None, IfSome, refl, ap, sym, subst, ◌∙◌, arith}
 use Rattle.std.specs.Int.{Width, w16, w32, w64, to_le_bytes}
 use Rattle.std.proofs.lemmas.List.{take-append-drop}
 use Rattle.std.proofs.lemmas.List.Elements.{All-weaker}
 use Rattle.std.proofs.lemmas.Nat.{pow-add}
 use Rattle.slp_model.specs.declared.NodeId.{NodeId}
 use Rattle.slp_model.specs.declared.Node.{Node}
-use Rattle.slp_model.specs.Tree.{Tree, Leaf, Fork, text, height, leaves, IsNear}
+use Rattle.slp_model.specs.Tree.{Tree, Leaf, Fork, text, height, leaves}
 use Rattle.slp_model.specs.Nodes.{tree, Grows}
-use Rattle.slp_model.proofs.TreeLemmas.{length-text}
 use Rattle.slp_model.proofs.NodesLemmas.{tree-grows, Grows-length}
+use Rattle.node_store.specs.Blocks.{IsBlockOf}
 use Rattle.pair_loader.specs.declared.words.Word.{Word}
-use Rattle.pair_loader.specs.Blocks.{IsBlock, IsBlockAt}
+use Rattle.pair_loader.specs.Blocks.{IsFull, IsBlock, IsBlockAt}
 use Rattle.pair_loader.specs.Known.{IsWord, AreWords, Known, AreKnown}
 
 pub block-grows : (old new : List Node) (p q : ℕ) → Grows old new p q → (h : ℕ) (s : List ℕ) (i : ℕ) → IsBlockAt old h s i → IsBlockAt new h s i
@@ -51,11 +51,22 @@ joined-block mid new h s t word i j k a b live is whole = record {
 pub leaf-block : (ns : List Node) (b i : ℕ) → i < length ns → tree ns i ≡ Leaf b → IsBlockAt ns 0 (b ∷ []) i
 leaf-block ns b i live is = record { live = live; block = subst (IsBlock 0 (b ∷ [])) (sym is) (record { full = tt; high = refl; reads = refl }) }
 
-pub near-blocks : (ns : List Node) (h : ℕ) (s t : List ℕ) (i j : ℕ) → IsBlockAt ns h s i → IsBlockAt ns h t j → IsNear (height (tree ns i)) (height (tree ns j))
-near-blocks ns h s t i j a b = (omega (arith, a.block.high, b.block.high), omega (arith, a.block.high, b.block.high))
+full-leaves : (t : Tree) → IsFull t → leaves t ≡ 2 ^ height t
+full-leaves (Leaf b) full = refl
+full-leaves (Fork l r) full =
+    let left : leaves l ≡ 2 ^ height l = full-leaves l full.1 in
+    let right : leaves r ≡ 2 ^ height l = full-leaves r full.2 ∙ ap (λ h. 2 ^ h) (sym full.0) in
+    let high : max (height l) (height r) + 1 ≡ height l + 1 = omega (arith, full.0) in
+    let twice : leaves l + leaves r ≡ 2 ^ (height l + 1) = omega (arith, left, right, pow-add 2 (height l) 1) in
+    twice ∙ ap (λ h. 2 ^ h) (sym high)
 
-pub short-blocks : (ns : List Node) (h : ℕ) (s t : List ℕ) (i j n : ℕ) → IsBlockAt ns h s i → IsBlockAt ns h t j → length s + length t ≤ n → leaves (tree ns i) + leaves (tree ns j) ≤ n
-short-blocks ns h s t i j n a b m = omega (arith, m, ap length a.block.reads, ap length b.block.reads, length-text (tree ns i), length-text (tree ns j))
+-- what the store asks of a block
+pub block-of : (ns : List Node) (h : ℕ) (s : List ℕ) (id : NodeId) → IsBlockAt ns h s id.index → IsBlockOf ns h id
+block-of ns h s id b = record {
+  live = b.live;
+  high = b.block.high;
+  long = full-leaves (tree ns id.index) b.block.full ∙ ap (λ k. 2 ^ k) b.block.high;
+}
 
 -- the two parts of a word
 pub parts-of : (n : ℕ) (word first second : List ℕ) → first ≡ take n word → second ≡ drop n word → first ++ second ≡ word

@@ -1,14 +1,12 @@
 -- Blocks made level by level.
-use Rattle.std.proofs.Common.{◌≡◌, ◌≢◌, ℕ, ◌+◌, ◌-◌, ◌*◌, ◌/◌, ◌^◌, ◌<◌, ◌≤◌, List, ◌++◌, length, get_or, set, take, drop, max, refl, ap, sym, subst, ◌∙◌, arith, below_more, zero-mul, take_all, take-add, drop-drop, length-append, length-take, length-drop, get_or-set_same, get_or-set_other}
+use Rattle.std.proofs.Common.{◌≡◌, ◌≢◌, ℕ, ◌+◌, ◌-◌, ◌*◌, ◌/◌, ◌^◌, ◌<◌, ◌≤◌, List, ◌++◌, length, get_or, set, take, drop, ap, sym, subst, ◌∙◌, arith, below_more, zero-mul, take_all, take-add, drop-drop, get_or-set_same, get_or-set_other}
 use Rattle.std.specs.Fork.{slice_chunk}
 use Rattle.std.proofs.Math.Pow.{pow_mono}
 use Rattle.std.proofs.lemmas.Nat.{pow-add, pow_pos, shr-shr, le-div}
 use Rattle.slp_model.specs.declared.NodeId.{NodeId}
 use Rattle.slp_model.specs.declared.Node.{Node}
-use Rattle.slp_model.specs.Tree.{Tree, Leaf, Fork, leaves, height}
-use Rattle.slp_model.specs.Nodes.{Grows, tree}
-use Rattle.node_store.specs.Blocks.{IsBlockOf}
-use Rattle.pair_loader.specs.Blocks.{IsFull, IsBlockAt, AreBlocks}
+use Rattle.slp_model.specs.Nodes.{Grows}
+use Rattle.pair_loader.specs.Blocks.{IsBlockAt, AreBlocks}
 use Rattle.pair_loader.proofs.KnownLemmas.{block-grows}
 
 -- a chunk as the code reads it
@@ -80,20 +78,3 @@ pub whole-block : (ns : List Node) (h count : ℕ) (s : List ℕ) (ids : List No
 whole-block ns h count s ids b long some d =
     let all : slice_chunk s (2 ^ h) 0 ≡ s = ap (λ k. take (2 ^ h) (drop k s)) (zero-mul (2 ^ h)) ∙ take_all (2 ^ h) s (omega arith) in
     subst (λ t. IsBlockAt ns h t (get_or ids 0 d).index) all (b.each 0 d some)
-
-full-leaves : (t : Tree) → IsFull t → leaves t ≡ 2 ^ height t
-full-leaves (Leaf b) full = refl
-full-leaves (Fork l r) full =
-    let left : leaves l ≡ 2 ^ height l = full-leaves l full.1 in
-    let right : leaves r ≡ 2 ^ height l = full-leaves r full.2 ∙ ap (λ h. 2 ^ h) (sym full.0) in
-    let high : max (height l) (height r) + 1 ≡ height l + 1 = omega (arith, full.0) in
-    let twice : leaves l + leaves r ≡ 2 ^ (height l + 1) = omega (arith, left, right, pow-add 2 (height l) 1) in
-    twice ∙ ap (λ h. 2 ^ h) (sym high)
-
--- what the store asks of a block
-pub block-of : (ns : List Node) (h : ℕ) (s : List ℕ) (id : NodeId) → IsBlockAt ns h s id.index → IsBlockOf ns h id
-block-of ns h s id b = record {
-  live = b.live;
-  high = b.block.high;
-  long = full-leaves (tree ns id.index) b.block.full ∙ ap (λ k. 2 ^ k) b.block.high;
-}

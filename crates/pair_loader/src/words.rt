@@ -110,7 +110,7 @@ impl Words {
         let (first, second) = word.split_at(2);
         let left = self.two(store, first, pairs)?;
         let right = self.two(store, second, pairs)?;
-        let block = store.pair(left, right, pairs)?;
+        let block = store.pair_blocks(left, right, 1, pairs)?;
         note(&mut self.fours, place, bytes, block);
         Ok(block)
     }
@@ -137,7 +137,7 @@ impl Words {
         let (first, second) = word.split_at(4);
         let left = self.four(store, first, pairs)?;
         let right = self.four(store, second, pairs)?;
-        let block = store.pair(left, right, pairs)?;
+        let block = store.pair_blocks(left, right, 2, pairs)?;
         note(&mut self.eights, place, bytes, block);
         Ok(block)
     }
@@ -222,6 +222,6 @@ fn pair_of_bytes<L: Ledger>(
 {
     let left = store.byte(first)?;
     let right = store.byte(second)?;
-    let block = store.pair(left, right, pairs)?;
+    let block = store.pair_blocks(left, right, 0, pairs)?;
     Ok(block)
 }

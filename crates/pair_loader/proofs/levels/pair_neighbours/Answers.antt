@@ -1,7 +1,7 @@
 use Rattle.std.proofs.Common.{arith, ◌+◌, ◌<◌, ◌≢◌, length, refl, ◌∙◌, get_or-set_other}
 use Rattle.slp_model.proofs.NodesLemmas.{Grows-none, Grows-trans}
-use Rattle.pair_loader.proofs.KnownLemmas.{joined-block}
-use Rattle.pair_loader.proofs.LevelLemmas.{neighbours, block-of, blocks-grow, blocks-more, joined-chunks, half-count}
+use Rattle.pair_loader.proofs.KnownLemmas.{joined-block, block-of}
+use Rattle.pair_loader.proofs.LevelLemmas.{neighbours, blocks-grow, blocks-more, joined-chunks, half-count}
 use Rattle.pair_loader.proofs.levels.pair_neighbours.Goals as goal
 
 pub loop-place-init : goal.loop-place-init
@@ -17,6 +17,9 @@ slice_copy_out-pair_blocks g c = omega (arith, c.loop-place-test.true, c.require
 
 pub slice_copy_out-pair_blocks-in-loop-place : goal.slice_copy_out-pair_blocks-in-loop-place
 slice_copy_out-pair_blocks-in-loop-place g c = omega (arith, c.loop-place-test.true, c.requires.room, half-count (length c.args.piece.now) c.args.height)
+
+pub bounds-ids-place : goal.bounds-ids-place
+bounds-ids-place g c = omega (arith, c.loop-place-test.true, c.requires.room, half-count (length c.args.piece.now) c.args.height)
 
 pub pair_blocks-requires-clause-left : goal.pair_blocks-requires-clause-left
 pair_blocks-requires-clause-left g c = block-of _ c.args.height _ _ (neighbours _ _ _ _ c.loop-place.invariant.grows c.args.height c.loop-place.place c.args.piece.now _ _ (record { index = 0 }) c.requires.made c.loop-place-test.true c.loop-place.invariant.rest).left
