@@ -59,7 +59,7 @@ fn push_block<L: Ledger>(
     blocks.push(block).map_err(|_| NoMemory)
 }
 
-/// The block of 2^height bytes. One that is higher than those made level by level is made of its halves.
+/// The block of 2^height bytes, at most 512.
 pub(crate) fn block_of<L: Ledger>(
     words: &mut Words,
     store: &mut Store,

@@ -71,7 +71,6 @@ fn pair_neighbours<L: Ledger>(
     pairs: &mut Steps<L>,
 ) -> Result<(), NoMemory>
     requires low { height < 9 }
-    requires short { length piece.now ≤ 2 ^ 48 }
     requires room { length piece.now / 2 ^ height ≤ length ids.old }
     requires made { AreBlocks store.old height (length piece.now / 2 ^ height) piece.now ids.old }
     ensures grows { Grows store.old store.new pairs.old pairs.new }
