@@ -1,9 +1,9 @@
-//! Guesses of where a node stands, so that most calls need no look into the index.
+//! Guesses of where a node stands. A call whose guess is right needs no look into the index.
 use slp_model::Node;
 use std::alloc::Global;
 
-/// For each of a fixed number of places, where a node of this place was found last, and behind which node the next one may
-/// stand. A guess may be wrong, and is compared with the node that stands there before it is used.
+/// For each of a fixed number of places, where the index last found or put a node of this place, and behind which node the
+/// next one may stand. A guess may be wrong, and is compared with the node that stands there before it is used.
 #[derive(Drop)]
 pub(crate) struct Hints {
     noted: Vec<Hint>,

@@ -213,8 +213,9 @@ impl Store {
         self.intern(node, facts)
     }
 
-    /// The id of the pair of two blocks of 2^height bytes each, whose trees are both so high: what `pair` answers, and
-    /// sooner, since nothing that is known of them is looked up. It is one step.
+    /// The id of the pair of two blocks of 2^height bytes each, whose trees are both so high: what `pair` answers. It
+    /// looks up neither their lengths and heights nor a guess in the table, which a pair that isn't there yet would ask in
+    /// vain. It is one step.
     ///
     /// # Errors
     ///
