@@ -31,9 +31,11 @@ ghost use Rattle.slp_model.specs.Thin.{IsThinOf};
 ghost use Rattle.node_store.specs.Stored.{IsNext, IsKept};
 ghost use Rattle.node_store.specs.Blocks.{IsBlockOf};
 
+mod crowd;
 mod hints;
 mod moves;
 mod nodes;
+mod search_tree;
 mod thin;
 
 use hints::Hints;

@@ -1,11 +1,13 @@
 //! The nodes and their index, with ids in 32 bits.
-ghost use Rattle.std.specs.Prelude.{◌≡◌, ◌<◌, ◌++◌, ◌∷◌, [], length, slice_get, IfOk, IfSome, IsFalse, IsTrue, OnErr, Some};
+ghost use Rattle.std.specs.Prelude.{◌≡◌, ◌<◌, ◌++◌, ◌∷◌, [], length, map, slice_get, IfOk, IfSome, IsFalse, IsTrue, OnErr, Some};
 ghost use Rattle.std.specs.Hash as fed;
 ghost use Rattle.node_store.specs.Narrow.{wide, number_of, AreUnique};
 ghost use Rattle.std.specs.Cmp.Rules.{comparing, hashing};
 ghost use Rattle.std.proofs.Common.{rules};
 ghost use Rattle.node_store.specs.Stored.{IsNew};
 
+use crate::crowd::Crowd;
+use crate::search_tree::SearchTree;
 use indexmap::IndexSet;
 use slp_model::{Node, NodeId};
 use span_types::NoMemory;
@@ -20,7 +22,8 @@ pub(crate) enum Narrow {
     Pair(u32, u32),
 }
 
-// A pair is hashed as one number, since the hash of a node is most of what a look into the index costs.
+// A node is hashed as one number, by one write in place of the three of its fields. Most of what a look into the index costs is
+// the wait for memory.
 impl Hash for Narrow {
     ghost hash_input = { λ narrow. fed.u64 (number_of narrow) };
 
@@ -32,7 +35,8 @@ impl Hash for Narrow {
 }
 
 impl Narrow {
-    fn number(&self) -> u64
+    /// A number of 64 bits, which a byte and a pair may have both.
+    pub(crate) fn number(&self) -> u64
         ensures { result ≡ number_of self.now }
     {
         match *self {
@@ -72,20 +76,28 @@ impl Narrow {
     }
 }
 
-/// Nodes in the order in which they came, each once. One takes 12 bytes, and 15 in the index where it is full.
+/// Nodes in the order in which they came, each once.
+///
+/// They are found by their hashes, until so many of these are alike that looks would take long: whoever makes a text or an
+/// image can choose nodes so. From then on new nodes go to a search tree, in which no node takes many steps, and each is looked for
+/// in both. A node takes 12 bytes, and 16 in the index where it is full.
 #[derive(Drop)]
 pub(crate) struct Nodes {
-    narrow: IndexSet<Narrow>,
+    hashed: IndexSet<Narrow>,
+    late: SearchTree,
+    crowd: Crowd,
 }
 
 impl Model for Nodes {
-    ghost use Rattle.std.specs.Prelude.{List, map};
+    ghost use Rattle.std.specs.Prelude.{List, ◌++◌, map};
     ghost use Rattle.slp_model.specs.declared.Node.{Node};
-    ghost use Rattle.node_store.specs.Narrow.{wide};
+    ghost use Rattle.node_store.specs.Narrow.{wide, AreUnique};
 
     ghost Value = { List Node };
 
-    ghost view = { λ s. map wide s.narrow.keys };
+    ghost view = { λ s. map wide s.hashed.keys ++ map wide s.late };
+
+    ghost invariant = { λ s. AreUnique (map wide s.hashed.keys ++ map wide s.late) };
 }
 
 impl Nodes {
@@ -93,7 +105,9 @@ impl Nodes {
         ensures { result ≡ [] }
     {
         Nodes {
-            narrow: IndexSet::new(alloc),
+            hashed: IndexSet::new(alloc),
+            late: SearchTree::new(alloc),
+            crowd: Crowd::new(alloc),
         }
     }
 
@@ -102,7 +116,9 @@ impl Nodes {
         ensures { IfOk result (λ nodes. nodes ≡ []) }
     {
         Ok(Nodes {
-            narrow: IndexSet::with_capacity(alloc, count)?,
+            hashed: IndexSet::with_capacity(alloc, count)?,
+            late: SearchTree::new(alloc),
+            crowd: Crowd::new(alloc),
         })
     }
 
@@ -110,7 +126,7 @@ impl Nodes {
         ensures len { result ≡ length self.now }
         ensures unique { AreUnique self.now }
     {
-        self.narrow.len()
+        self.hashed.len() + self.late.len()
     }
 
     /// The node at a place.
@@ -118,7 +134,11 @@ impl Nodes {
         requires { index < length self.now }
         ensures { slice_get self.now index ≡ Some result }
     {
-        self.narrow.as_slice()[index].widened()
+        let hashed = self.hashed.as_slice();
+        if index < hashed.len() {
+            return hashed[index].widened();
+        }
+        self.late.at(index - hashed.len()).widened()
     }
 
     /// The place of the node, which is added last where it isn't there, and whether it was added.
@@ -135,9 +155,54 @@ impl Nodes {
         let Some(narrow) = Narrow::of(node) else {
             return Err(NoMemory);
         };
-        make_room(&mut self.narrow);
-        let (index, added) = self.narrow.insert_full(narrow).map_err(|_| NoMemory)?;
-        Ok((index, added))
+        if self.late.len() == 0 && !self.crowd.is_slow() {
+            insert_hashed(&mut self.hashed, &mut self.crowd, narrow)
+        } else {
+            insert_late(&self.hashed, &mut self.late, narrow)
+        }
+    }
+}
+
+// The place of the node among the hashed ones, where it is added if it isn't there, and whether it was added.
+fn insert_hashed(
+    hashed: &mut IndexSet<Narrow>,
+    crowd: &mut Crowd,
+    narrow: Narrow,
+) -> Result<(usize, bool), NoMemory>
+    ensures added { IfOk result (λ r. IsTrue r.1 → (map wide hashed.new.keys ≡ map wide hashed.old.keys ++ wide narrow ∷ []) × IsNew (map wide hashed.old.keys) (wide narrow)) }
+    ensures there { IfOk result (λ r. IsFalse r.1 → hashed.new.keys ≡ hashed.old.keys) }
+    ensures node { IfOk result (λ r. slice_get (map wide hashed.new.keys) r.0 ≡ Some (wide narrow)) }
+    ensures unique { AreUnique (map wide hashed.new.keys) }
+    ensures err { OnErr result (hashed.new.keys ≡ hashed.old.keys) }
+{
+    make_room(hashed);
+    let (index, added) = hashed.insert_full(narrow).map_err(|_| NoMemory)?;
+    if added {
+        crowd.note(hashed, narrow);
+    }
+    Ok((index, added))
+}
+
+// The place of the node among the hashed ones and those behind them, where it is added if it isn't there, and whether it
+// was added.
+fn insert_late(
+    hashed: &IndexSet<Narrow>,
+    late: &mut SearchTree,
+    narrow: Narrow,
+) -> Result<(usize, bool), NoMemory>
+    requires unique { AreUnique (map wide hashed.now.keys ++ map wide late.old) }
+    ensures unique { AreUnique (map wide hashed.now.keys ++ map wide late.new) }
+    ensures added { IfOk result (λ r. IsTrue r.1 → (late.new ≡ late.old ++ narrow ∷ []) × IsNew (map wide hashed.now.keys ++ map wide late.old) (wide narrow)) }
+    ensures there { IfOk result (λ r. IsFalse r.1 → late.new ≡ late.old) }
+    ensures node { IfOk result (λ r. slice_get (map wide hashed.now.keys ++ map wide late.new) r.0 ≡ Some (wide narrow)) }
+    ensures err { OnErr result (late.new ≡ late.old) }
+{
+    match hashed.get_index_of(&narrow) {
+        Some(index) => Ok((index, false)),
+        None => {
+            let (index, added) = late.insert(narrow)?;
+            Ok((hashed.len() + index, added))
+        }
     }
 }
 

@@ -1,0 +1,111 @@
+//! How many hashes of nodes are alike, so that the index is given up before looks into it take long.
+use crate::nodes::Narrow;
+use indexmap::IndexSet;
+use std::alloc::Global;
+use std::hash::BuildHasher;
+
+/// Counts of the nodes whose hashes lead near each other. They take a byte for 4 nodes of a full index. Nothing that is proved
+/// depends on them; without memory for them nothing is counted until the index grows.
+///
+/// The index has groups of 12 places, a power of two of them, and at most 9 nodes for each. The lowest bits of a node's hash
+/// choose its group, and a node that finds it full goes on to the next one. In each group that a look passes it reads the
+/// nodes whose tags, the hash's 8 highest bits, are the one that is looked for. Here a stretch is 32 groups in a row. Hashes that nobody chose
+/// put at most 288 nodes into it on the mean, and 9 of each kind of tags; those that are far more are counted.
+#[derive(Drop)]
+pub(crate) struct Crowd {
+    capacity: usize,
+    mask: usize,
+    stretches: Vec<u16>,
+    alike: Vec<u16>,
+    beyond: usize,
+}
+
+const NODES_OF_GROUP: usize = 9;
+
+const GROUPS_OF_STRETCH: usize = 32;
+
+// A kind of tags is what their five highest bits are.
+const KINDS: usize = 32;
+
+// Of 384 places.
+const MOST_OF_STRETCH: u16 = 352;
+
+const MOST_OF_KIND: u16 = 48;
+
+const MOST_BEYOND: usize = 64;
+
+impl Crowd {
+    /// No counts, and no memory.
+    pub(crate) fn new(alloc: Global) -> Crowd {
+        Crowd {
+            capacity: 0,
+            mask: 0,
+            stretches: Vec::new(alloc),
+            alike: Vec::new(alloc),
+            beyond: 0,
+        }
+    }
+
+    /// Whether a look may pass many nodes. Until then at most 64 nodes, and one for each 256 stretches, are more than 352 in
+    /// their stretch or more than 48 of a kind in it.
+    pub(crate) fn is_slow(&self) -> bool {
+        self.beyond > MOST_BEYOND + self.stretches.len() / 256
+    }
+
+    /// The node was added to the index.
+    pub(crate) fn note(&mut self, nodes: &IndexSet<Narrow>, narrow: Narrow) {
+        if nodes.capacity() == self.capacity {
+            self.count(hash(nodes, narrow));
+        } else {
+            self.recount(nodes);
+        }
+    }
+
+    // The index has grown.
+    fn recount(&mut self, nodes: &IndexSet<Narrow>) {
+        self.capacity = nodes.capacity();
+        let groups = self.capacity / NODES_OF_GROUP;
+        let stretches = groups / GROUPS_OF_STRETCH + 1;
+        self.mask = groups.saturating_sub(1);
+        self.beyond = 0;
+        self.stretches.clear();
+        self.alike.clear();
+        if self.stretches.resize(stretches, 0).is_err()
+            || self.alike.resize(stretches * KINDS, 0).is_err()
+        {
+            return;
+        }
+        for narrow in nodes.as_slice() {
+            self.count(hash(nodes, *narrow));
+        }
+    }
+
+    fn count(&mut self, hash: u32) {
+        let stretch = (hash as usize & self.mask) / GROUPS_OF_STRETCH;
+        let kind = stretch
+            .wrapping_mul(KINDS)
+            .wrapping_add((hash >> 27) as usize);
+        let in_stretch = raise(&mut self.stretches, stretch);
+        let of_kind = raise(&mut self.alike, kind);
+        if in_stretch > MOST_OF_STRETCH || of_kind > MOST_OF_KIND {
+            self.beyond = self.beyond.saturating_add(1);
+        }
+    }
+}
+
+// One more at this place, if it is counted.
+fn raise(counts: &mut [u16], place: usize) -> u16 {
+    match counts.get_mut(place) {
+        Some(count) => {
+            *count = count.saturating_add(1);
+            *count
+        }
+        None => 0,
+    }
+}
+
+// The hash by which the index finds the node.
+fn hash(nodes: &IndexSet<Narrow>, narrow: Narrow) -> u32 {
+    let hash = nodes.hasher().hash_one(narrow);
+    ((hash ^ (hash >> 32)) & 0xFFFF_FFFF) as u32
+}

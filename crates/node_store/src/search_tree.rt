@@ -1,0 +1,161 @@
+//! Nodes that are found by the digits of their numbers, so that none takes many steps, whatever they are.
+ghost use Rattle.std.specs.Prelude.{◌≡◌, ℕ, ◌+◌, ◌*◌, ◌^◌, ◌<◌, ◌≤◌, ◌++◌, ◌∷◌, [], length, slice_get, get_or, IfOk, IsFalse, IsTrue, OnErr, OnOk, Some};
+ghost use Rattle.node_store.specs.SearchTree.{IsSearchTree, IsAbsent, IsOpen, IsEnd};
+
+use crate::nodes::Narrow;
+use span_types::NoMemory;
+use std::alloc::Global;
+use std::marker::Model;
+
+// A link has 32 bits.
+const MOST_NODES: usize = 0xFFFF_FFFF;
+
+/// Nodes in the order in which they came, each once.
+///
+/// It is a digital search tree (D. E. Knuth, The Art of Computer Programming, volume 3, section 6.3): each node has a link for
+/// each of the digits 0 to 3, and a node hangs below those whose digits lead to it. Two nodes whose 32 digits are the same are
+/// a byte and a pair, so a look passes at most 34 nodes. A node takes 28 bytes where the vectors are full.
+#[derive(Drop)]
+pub(crate) struct SearchTree {
+    nodes: Vec<Narrow>,
+    links: Vec<u32>,
+}
+
+impl Model for SearchTree {
+    ghost use Rattle.std.specs.Prelude.{List};
+    ghost use Rattle.node_store.specs.declared.nodes.Narrow.{Narrow};
+
+    ghost Value = { List Narrow };
+
+    ghost use Rattle.node_store.specs.SearchTree.{IsSearchTree};
+
+    ghost view = { λ s. s.nodes.items };
+
+    ghost invariant = { λ s. IsSearchTree s.nodes.items s.links.items };
+}
+
+/// Where the way of a node ends: at the node of this index, or at this slot, which has no link.
+pub(crate) enum End {
+    At(usize),
+    Open(usize),
+}
+
+impl SearchTree {
+    /// No nodes, and no memory.
+    pub(crate) fn new(alloc: Global) -> SearchTree
+        ensures { result ≡ [] }
+    {
+        SearchTree {
+            nodes: Vec::new(alloc),
+            links: Vec::new(alloc),
+        }
+    }
+
+    pub(crate) fn len(&self) -> usize
+        ensures len { result ≡ length self.now }
+        ensures small { result < 2 ^ 63 }
+    {
+        self.nodes.len()
+    }
+
+    /// The node at a place.
+    pub(crate) fn at(&self, index: usize) -> Narrow
+        requires { index < length self.now }
+        ensures { slice_get self.now index ≡ Some result }
+    {
+        self.nodes[index]
+    }
+
+    /// The place of the node, which is added last where it isn't there, and whether it was added.
+    pub(crate) fn insert(&mut self, narrow: Narrow) -> Result<(usize, bool), NoMemory>
+        ensures added { IfOk result (λ r. IsTrue r.1 → (self.new ≡ self.old ++ narrow ∷ []) × IsAbsent self.old narrow) }
+        ensures there { IfOk result (λ r. IsFalse r.1 → self.new ≡ self.old) }
+        ensures node { IfOk result (λ r. slice_get self.new r.0 ≡ Some narrow) }
+        ensures small { IfOk result (λ r. r.0 < 2 ^ 63) }
+        ensures err { OnErr result (self.new ≡ self.old) }
+    {
+        match end_of(&self.nodes, &self.links, narrow) {
+            End::At(index) => Ok((index, false)),
+            End::Open(slot) => {
+                let index = self.nodes.len();
+                add(&mut self.nodes, &mut self.links, narrow, slot)?;
+                Ok((index, true))
+            }
+        }
+    }
+}
+
+// The link of a slot, which may be past the last one.
+fn link_at(links: &[u32], slot: usize) -> u32
+    ensures { result ≡ get_or links.now slot 0 }
+{
+    match links.get(slot) {
+        Some(link) => *link,
+        None => 0,
+    }
+}
+
+// Where the digits of the node lead, the lowest first.
+fn end_of(nodes: &[Narrow], links: &[u32], narrow: Narrow) -> End
+    requires { IsSearchTree nodes.now links.now }
+    ensures { IsEnd nodes.now links.now narrow result }
+{
+    let mut digits = narrow.number();
+    let mut slot = 0;
+    'way: loop {
+        let link = link_at(links, slot);
+        if link == 0 {
+            return End::Open(slot);
+        }
+        let index = (link - 1) as usize;
+        if nodes[index] == narrow {
+            return End::At(index);
+        }
+        slot = 4 * index + (digits % 4) as usize + 1;
+        digits /= 4;
+    }
+}
+
+// Adds the node and the link to it.
+fn add(
+    nodes: &mut Vec<Narrow>,
+    links: &mut Vec<u32>,
+    narrow: Narrow,
+    slot: usize,
+) -> Result<(), NoMemory>
+    requires tree { IsSearchTree nodes.old.items links.old.items }
+    requires open { IsOpen nodes.old.items links.old.items narrow slot }
+    ensures tree { IsSearchTree nodes.new.items links.new.items }
+    ensures added { OnOk result (nodes.new.items ≡ nodes.old.items ++ narrow ∷ []) }
+    ensures err { OnErr result (nodes.new.items ≡ nodes.old.items) }
+{
+    let link = link_to(nodes.len())?;
+    nodes.reserve(1)?;
+    lengthen(links, slot)?;
+    links[slot] = link;
+    nodes.push_reserved(narrow);
+    Ok(())
+}
+
+// The link to the node at this place, if there can be one.
+fn link_to(index: usize) -> Result<u32, NoMemory>
+    ensures link { IfOk result (λ link. link ≡ index + 1) }
+    ensures low { OnOk result (index < 2 ^ 32) }
+{
+    if index >= MOST_NODES {
+        return Err(NoMemory);
+    }
+    Ok(index as u32 + 1)
+}
+
+// Puts empty slots behind the last one, where this one isn't there.
+fn lengthen(links: &mut Vec<u32>, slot: usize) -> Result<(), NoMemory>
+    requires { slot < 2 ^ 63 }
+    ensures same { (s : ℕ) → get_or links.new.items s 0 ≡ get_or links.old.items s 0 }
+    ensures long { OnOk result (slot < length links.new.items) }
+{
+    if slot >= links.len() {
+        links.resize(slot + 1, 0)?;
+    }
+    Ok(())
+}
