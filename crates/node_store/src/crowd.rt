@@ -30,7 +30,7 @@ const KINDS: usize = 32;
 // Of 384 places.
 const MOST_OF_STRETCH: u16 = 352;
 
-const MOST_OF_KIND: u16 = 48;
+const MOST_OF_KIND: u16 = 32;
 
 const MOST_BEYOND: usize = 64;
 
@@ -47,7 +47,7 @@ impl Crowd {
     }
 
     /// Whether a look may pass many nodes. Until then at most 64 nodes, and one for each 256 stretches, are more than 352 in
-    /// their stretch or more than 48 of a kind in it.
+    /// their stretch or more than 32 of a kind in it.
     pub(crate) fn is_slow(&self) -> bool {
         self.beyond > MOST_BEYOND + self.stretches.len() / 256
     }

@@ -1,7 +1,7 @@
 //! The nodes and their index, with ids in 32 bits.
 ghost use Rattle.std.specs.Prelude.{◌≡◌, ◌<◌, ◌++◌, ◌∷◌, [], length, map, slice_get, IfOk, IfSome, IsFalse, IsTrue, OnErr, Some};
 ghost use Rattle.std.specs.Hash as fed;
-ghost use Rattle.node_store.specs.Narrow.{wide, number_of, AreUnique};
+ghost use Rattle.node_store.specs.Narrow.{wide, number_of, spread, AreUnique};
 ghost use Rattle.std.specs.Cmp.Rules.{comparing, hashing};
 ghost use Rattle.std.proofs.Common.{rules};
 ghost use Rattle.node_store.specs.Stored.{IsNew};
@@ -25,12 +25,12 @@ pub(crate) enum Narrow {
 // A node is hashed as one number, by one write in place of the three of its fields. Most of what a look into the index costs is
 // the wait for memory.
 impl Hash for Narrow {
-    ghost hash_input = { λ narrow. fed.u64 (number_of narrow) };
+    ghost hash_input = { λ narrow. fed.u64 (spread narrow) };
 
     ghost respects_eq = { Prim.search (hashing, rules) depth 9 };
 
     fn hash<H: Hasher>(&self, state: &mut H) {
-        state.write_u64(self.number());
+        state.write_u64(self.spread());
     }
 }
 
@@ -43,6 +43,15 @@ impl Narrow {
             Narrow::Byte(b) => u64::from(b),
             Narrow::Pair(left, right) => u64::from(left) * (1 << 32) + u64::from(right),
         }
+    }
+
+    // What is hashed. The ids of children are near each other, and the hasher alone would put them into some parts of the index more
+    // than into others; an odd factor (G. Steele and S. Vigna, Computationally easy, spectrally good multipliers, 2022)
+    // spreads them.
+    fn spread(&self) -> u64
+        ensures { result ≡ spread self.now }
+    {
+        self.number().wrapping_mul(0xD134_2543_DE82_EF95)
     }
 
     // The node in this form, unless an id is too great for it.
