@@ -15,10 +15,14 @@ use std::hash::BuildHasher;
 pub(crate) struct Crowd {
     capacity: usize,
     mask: usize,
+    counted: usize,
     stretches: Vec<u16>,
     alike: Vec<u16>,
     beyond: usize,
 }
+
+// So many nodes are counted together, which takes less time than one by one.
+const BATCH: usize = 1 << 10;
 
 const NODES_OF_GROUP: usize = 9;
 
@@ -40,6 +44,7 @@ impl Crowd {
         Crowd {
             capacity: 0,
             mask: 0,
+            counted: 0,
             stretches: Vec::new(alloc),
             alike: Vec::new(alloc),
             beyond: 0,
@@ -52,31 +57,40 @@ impl Crowd {
         self.beyond > MOST_BEYOND + self.stretches.len() / 256
     }
 
-    /// The node was added to the index.
-    pub(crate) fn note(&mut self, nodes: &IndexSet<Narrow>, narrow: Narrow) {
-        if nodes.capacity() == self.capacity {
-            self.count(hash(nodes, narrow));
-        } else {
-            self.recount(nodes);
+    /// A node was added to the index, at this place.
+    #[inline(always)]
+    pub(crate) fn note(&mut self, nodes: &IndexSet<Narrow>, index: usize) {
+        if index % BATCH == 0 {
+            self.count_added(nodes);
         }
     }
 
-    // The index has grown.
-    fn recount(&mut self, nodes: &IndexSet<Narrow>) {
-        self.capacity = nodes.capacity();
-        let groups = self.capacity / NODES_OF_GROUP;
+    // Counts the nodes that were added since the last call, or all where the index has grown.
+    #[inline(never)]
+    fn count_added(&mut self, nodes: &IndexSet<Narrow>) {
+        if nodes.capacity() != self.capacity {
+            self.begin(nodes.capacity());
+        }
+        if let Some(added) = nodes.as_slice().get(self.counted..) {
+            for narrow in added {
+                self.count(hash(nodes, *narrow));
+            }
+        }
+        self.counted = nodes.len();
+    }
+
+    // No counts, for an index with so many places.
+    fn begin(&mut self, capacity: usize) {
+        let groups = capacity / NODES_OF_GROUP;
         let stretches = groups / GROUPS_OF_STRETCH + 1;
+        self.capacity = capacity;
         self.mask = groups.saturating_sub(1);
+        self.counted = 0;
         self.beyond = 0;
         self.stretches.clear();
         self.alike.clear();
-        if self.stretches.resize(stretches, 0).is_err()
-            || self.alike.resize(stretches * KINDS, 0).is_err()
-        {
-            return;
-        }
-        for narrow in nodes.as_slice() {
-            self.count(hash(nodes, *narrow));
+        if self.stretches.resize(stretches, 0).is_ok() {
+            let _made = self.alike.resize(stretches * KINDS, 0);
         }
     }
 

@@ -139,6 +139,7 @@ impl Nodes {
     }
 
     /// The node at a place.
+    #[inline(always)]
     pub(crate) fn at(&self, index: usize) -> Node
         requires { index < length self.now }
         ensures { slice_get self.now index ≡ Some result }
@@ -187,7 +188,7 @@ fn insert_hashed(
     make_room(hashed);
     let (index, added) = hashed.insert_full(narrow).map_err(|_| NoMemory)?;
     if added {
-        crowd.note(hashed, narrow);
+        crowd.note(hashed, index);
     }
     Ok((index, added))
 }
