@@ -4,13 +4,14 @@ use indexmap::IndexSet;
 use std::alloc::Global;
 use std::hash::BuildHasher;
 
-/// Counts of the nodes whose hashes lead near each other. They take a byte for 4 nodes of a full index. Nothing that is proved
-/// depends on them; without memory for them nothing is counted until the index grows.
+/// Counts of the nodes whose hashes lead near each other. They take a byte for 4 nodes of a full index. Nothing that is
+/// proved depends on them; without memory for them nothing is counted until the index grows.
 ///
 /// The index has groups of 12 places, a power of two of them, and at most 9 nodes for each. The lowest bits of a node's hash
 /// choose its group, and a node that finds it full goes on to the next one. In each group that a look passes it reads the
-/// nodes whose tags, the hash's 8 highest bits, are the one that is looked for. Here a stretch is 32 groups in a row. Hashes that nobody chose
-/// put at most 288 nodes into it on the mean, and 9 of each kind of tags; those that are far more are counted.
+/// nodes whose tags, the hash's 8 highest bits, are the one that is looked for. Here a stretch is 32 groups in a row. Hashes
+/// that nobody chose put at most 288 nodes into it on the mean, and 9 of each kind of tags; those that are far more are
+/// counted.
 #[derive(Drop)]
 pub(crate) struct Crowd {
     capacity: usize,

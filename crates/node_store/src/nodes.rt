@@ -45,9 +45,9 @@ impl Narrow {
         }
     }
 
-    // What is hashed. The ids of children are near each other, and the hasher alone would put them into some parts of the index more
-    // than into others; an odd factor (G. Steele and S. Vigna, Computationally easy, spectrally good multipliers, 2022)
-    // spreads them.
+    // What is hashed. The ids of children are near each other, and the hasher alone would put them into some parts of the
+    // index more than into others; an odd factor (G. Steele and S. Vigna, Computationally easy, spectrally good
+    // multipliers, 2022) spreads them.
     fn spread(&self) -> u64
         ensures { result ≡ spread self.now }
     {
@@ -88,8 +88,8 @@ impl Narrow {
 /// Nodes in the order in which they came, each once.
 ///
 /// They are found by their hashes, until so many of these are alike that looks would take long: whoever makes a text or an
-/// image can choose nodes so. From then on new nodes go to a search tree, in which no node takes many steps, and each is looked for
-/// in both. A node takes 12 bytes, and 16 in the index where it is full.
+/// image can choose nodes so. From then on new nodes go to a search tree, in which no node takes many steps, and each is
+/// looked for in both. A node takes 12 bytes, and 16 in the index where it is full.
 #[derive(Drop)]
 pub(crate) struct Nodes {
     hashed: IndexSet<Narrow>,
