@@ -1,8 +1,8 @@
 //! Sets of states, walked bit by bit.
-ghost use Rattle.std.specs.Prelude.{◌≡◌, ◌≢◌, ℕ, ◌<◌, ◌≤◌, length, true, false, List};
+ghost use Rattle.std.specs.Prelude.{◌≡◌, ◌≢◌, ℕ, ◌<◌, ◌≤◌, ◌^◌, length, true, false, List};
 ghost use Rattle.marker_dfa.specs.Deterministic.{states_of};
 ghost use Rattle.state_tables.specs.StateSet.{member};
-ghost use Rattle.state_tables.specs.Table.{reached_of, row_at};
+ghost use Rattle.state_tables.specs.Table.{marked_of, reached_of, row_at};
 ghost use Rattle.state_tables.specs.Meaning.{IsTable};
 ghost use Rattle.span_enum.specs.Sets.{can_reach_of};
 ghost use Rattle.span_enum.specs.Words.{IsFork};
@@ -10,7 +10,7 @@ ghost use Rattle.span_enum.specs.Between.{AreAmong, AreBetween};
 ghost use Rattle.span_enum.specs.Quiet.{StaysQuiet, StayQuiet, LeadQuiet};
 
 use crate::trail::Ahead;
-use crate::walk::{can_reach, state_if};
+use crate::walk::state_if;
 use marker_dfa::Dfa;
 use state_tables::Table;
 use state_tables::state_set::{holds, single};
@@ -20,6 +20,13 @@ use state_tables::state_set::{holds, single};
 pub(crate) struct Between {
     pub(crate) goals: u128,
     pub(crate) quiet: u128,
+}
+
+/// Whether runs over a text lead on from a state, and quietly.
+#[derive(Clone, Copy)]
+struct Way {
+    leads: bool,
+    quiet: bool,
 }
 
 /// The least state of a set that has one.
@@ -51,17 +58,25 @@ fn reached(table: &Table, p: u8) -> u128
     table.marked(p) | single(table.unmarked(p))
 }
 
-/// Whether no run with marks over the text leads from `p` into a goal, and the one without marks leads into a quiet state.
-fn stays_quiet(table: &Table, p: u8, goals: u128, quiet: u128) -> bool
+/// Whether some run over the text leads from `p` into a goal, and whether that one alone does which has no marks, and leads
+/// into a quiet state.
+fn way_on(table: &Table, p: u8, goals: u128, quiet: u128) -> Way
     requires { p < length table.now }
-    ensures { result ≡ true → StaysQuiet table.now p goals quiet }
+    ensures leads { result.leads ≡ can_reach_of table.now p goals }
+    ensures quiet { result.quiet ≡ true → StaysQuiet table.now p goals quiet }
+    ensures small { marked_of table.now p < 2 ^ 128 }
 {
-    if table.marked(p) & goals != 0 {
-        return false;
-    }
+    let _states = table.states();
+    let marked = table.marked(p) & goals != 0;
     match table.unmarked(p) {
-        Some(q) => holds(quiet, q),
-        None => false,
+        Some(q) => Way {
+            leads: holds(goals, q) || marked,
+            quiet: holds(quiet, q) && !marked,
+        },
+        None => Way {
+            leads: marked,
+            quiet: false,
+        },
     }
 }
 
@@ -76,8 +91,9 @@ fn goals_among(table: &Table, from: u128, goals: u128, quiet: u128) -> Between
     let mut stay = 0;
     while rest != 0 {
         let q = least(rest);
-        set |= state_if(q, can_reach(table, q, goals));
-        stay |= state_if(q, stays_quiet(table, q, goals, quiet));
+        let way = way_on(table, q, goals, quiet);
+        set |= state_if(q, way.leads);
+        stay |= state_if(q, way.quiet);
         rest = without(rest, q);
     }
     Between {

@@ -30,20 +30,20 @@ loop-rest-preserved c =
         | inr done ↦ inr (member-or c.loop-rest.set _ q ∙ or-left _ _ done)
         | inl left ↦ elim (cases_eq q p) [
           | inr other ↦ inl (c.without-rest.ensures.others q other ∙ left)
-          | inl same ↦ inr (member-or c.loop-rest.set _ q ∙ or-right _ _ (if-in c.can_reach.result p q same (c.can_reach.ensures.value ∙ ap (λ n. can_reach_of table n c.args.goals) (sym same) ∙ k)))
+          | inl same ↦ inr (member-or c.loop-rest.set _ q ∙ or-right _ _ (if-in c.way_on-way.result.leads p q same (c.way_on-way.ensures.leads ∙ ap (λ n. can_reach_of table n c.args.goals) (sym same) ∙ k)))
         ]
       ];
       only = λ q h. elim (or-cases _ _ (sym (member-or c.loop-rest.set _ q) ∙ h)) [
         | inl done ↦ now.only q done
         | inr new ↦
-            let is = if-is c.can_reach.result p q new in
-            rw is.0 (c.requires p (now.left p c.least-q.ensures.member), sym c.can_reach.ensures.value ∙ is.1, c.can_reach.ensures.small)
+            let is = if-is c.way_on-way.result.leads p q new in
+            rw is.0 (c.requires p (now.left p c.least-q.ensures.member), sym c.way_on-way.ensures.leads ∙ is.1, c.way_on-way.ensures.small)
       ];
       quiet = λ q h. elim (or-cases _ _ (sym (member-or c.loop-rest.stay _ q) ∙ h)) [
         | inl done ↦ now.quiet q done
         | inr new ↦
-            let is = if-is c.stays_quiet.result p q new in
-            subst (λ n. (member c.args.from n ≡ true) × StaysQuiet table n c.args.goals c.args.quiet) (sym is.0) (now.left p c.least-q.ensures.member, c.stays_quiet.ensures is.1)
+            let is = if-is c.way_on-way.result.quiet p q new in
+            subst (λ n. (member c.args.from n ≡ true) × StaysQuiet table n c.args.goals c.args.quiet) (sym is.0) (now.left p c.least-q.ensures.member, c.way_on-way.ensures.quiet is.1)
       ];
     })
 
