@@ -5,7 +5,7 @@ ghost use Rattle.span_enum.specs.Trail.{IsGround, Stands, PassesTo, Dies, text_a
 ghost use Rattle.span_enum.specs.declared.trail.Ahead.{Ahead};
 
 use crate::ground::Ground;
-use crate::onward::{keep_mark, put_ahead, right_of};
+use crate::onward::{go_left, go_right, keep_mark};
 use crate::sets::goals_between;
 use crate::trail::{Ahead, Place, Trail, ahead_at, last_of};
 use crate::walk::{first_mark, step};
@@ -43,7 +43,7 @@ fn pass_to<'a>(ground: &Ground<'a>, trail: &Trail<'a>, from: Place, position: u6
 fn reach<'a, L: Ledger>(
     ground: &Ground<'a>,
     trail: &mut Trail<'a>,
-    here: &Ahead<'a>,
+    here: &mut Ahead<'a>,
     state: u8,
     t: &Tuple,
     position: u64,
@@ -51,30 +51,33 @@ fn reach<'a, L: Ledger>(
     looks: &mut Steps<L>,
 ) -> bool
     requires ground { IsGround ground.now }
-    requires down { CanGoDown ground.now here.now state base trail.old.marks.items trail.old.marks.capacity trail.old.ahead.items trail.old.ahead.capacity }
-    requires over { IsOver ground.now here.now position }
-    ensures laid { Laid ground.now t.now here.now state position base trail.old.marks.items trail.new.marks.items
+    requires down { CanGoDown ground.now here.old state base trail.old.marks.items trail.old.marks.capacity trail.old.ahead.items trail.old.ahead.capacity }
+    requires over { IsOver ground.now here.old position }
+    ensures laid { Laid ground.now t.now here.old state position base trail.old.marks.items trail.new.marks.items
         trail.old.ahead.items trail.new.ahead.items result }
-    ensures cost { looks.new ≤ looks.old + 2 * height_at ground.now here.now.id.index }
+    ensures cost { looks.new ≤ looks.old + 2 * height_at ground.now here.old.id.index }
     ensures marks_room { trail.new.marks.capacity ≡ trail.old.marks.capacity }
     ensures ahead_room { trail.new.ahead.capacity ≡ trail.old.ahead.capacity }
 {
     match here.look.node {
         Node::Byte(byte) => {
-            keep_mark(trail, here, byte, state, mark_at(t, here.at), base);
+            keep_mark(trail, &*here, byte, state, mark_at(t, here.at), base);
             true
         }
         Node::Pair(l, r) => {
             let left = ground.view.look(l, looks);
             let right = ground.view.look(r, looks);
-            let sibling = right_of(here, &left, r, &right);
-            if position < sibling.at {
-                let between = goals_between(ground.dfa, here, left.table, right.table, state);
-                let child = put_ahead(trail, here, l, &left, sibling, between);
-                return reach(ground, trail, &child, state, t, position, base, looks);
+            let middle = here.at + left.len;
+            if position < middle {
+                let between = goals_between(ground.dfa, &*here, left.table, right.table, state);
+                go_left(trail, here, l, &left, r, &right, between);
+                return reach(ground, trail, here, state, t, position, base, looks);
             }
             match left.table.unmarked(state) {
-                Some(q) => reach(ground, trail, &sibling, q, t, position, base, looks),
+                Some(q) => {
+                    go_right(here, left.len, r, &right);
+                    reach(ground, trail, here, q, t, position, base, looks)
+                }
                 None => false,
             }
         }
@@ -108,9 +111,18 @@ pub(crate) fn follow<'a, L: Ledger>(
     if place.next == 0 {
         return Some(place.state);
     }
-    let here = *ahead_at(&*trail, place.next);
+    let mut here = *ahead_at(&*trail, place.next);
     let base = trail.ahead.len();
-    let comes = reach(ground, trail, &here, place.state, t, position, base, looks);
+    let comes = reach(
+        ground,
+        trail,
+        &mut here,
+        place.state,
+        t,
+        position,
+        base,
+        looks,
+    );
     if !comes {
         trail.ahead.truncate(base);
         return None;

@@ -74,64 +74,67 @@ fn pass_plain<'a>(ground: &Ground<'a>, trail: &Trail<'a>, from: Place) -> Place
     place
 }
 
-/// The right child of a node.
-pub(crate) fn right_of<'a>(
-    here: &Ahead<'a>,
+/// Goes on from a node to its right child, whose left sibling has a text of this length.
+pub(crate) fn go_right<'a>(here: &mut Ahead<'a>, left: u64, r: NodeId, right: &Look<'a>)
+    requires { here.old.at + left < 2 ^ 64 }
+    ensures { here.new ≡ record {
+      id = r;
+      look = right.now;
+      at = here.old.at + left;
+      goals = here.old.goals;
+      quiet = here.old.quiet;
+      next = here.old.next;
+    } }
+{
+    here.id = r;
+    here.look = *right;
+    here.at += left;
+}
+
+/// Goes on from a node to its left child, and puts the right one ahead.
+pub(crate) fn go_left<'a>(
+    trail: &mut Trail<'a>,
+    here: &mut Ahead<'a>,
+    l: NodeId,
     left: &Look<'a>,
     r: NodeId,
     right: &Look<'a>,
-) -> Ahead<'a>
-    requires { here.now.at + left.now.len < 2 ^ 64 }
-    ensures { result ≡ record {
+    between: Between,
+)
+    requires room { length trail.old.ahead.items < trail.old.ahead.capacity }
+    requires low { here.old.at + left.now.len < 2 ^ 64 }
+    ensures child { here.new ≡ record {
+      id = l;
+      look = left.now;
+      at = here.old.at;
+      goals = between.goals;
+      quiet = between.quiet;
+      next = length trail.old.ahead.items + 1;
+    } }
+    ensures items { trail.new.ahead.items ≡ trail.old.ahead.items ++ Some (record {
       id = r;
       look = right.now;
-      at = here.now.at + left.now.len;
-      goals = here.now.goals;
-      quiet = here.now.quiet;
-      next = here.now.next;
-    } }
+      at = here.old.at + left.now.len;
+      goals = here.old.goals;
+      quiet = here.old.quiet;
+      next = here.old.next;
+    }) ∷ [] }
+    ensures room { trail.new.ahead.capacity ≡ trail.old.ahead.capacity }
+    ensures marks { trail.new.marks ≡ trail.old.marks }
 {
-    Ahead {
+    trail.ahead.push_reserved(Some(Ahead {
         id: r,
         look: *right,
         at: here.at + left.len,
         goals: here.goals,
         quiet: here.quiet,
         next: here.next,
-    }
-}
-
-/// Puts the right child of a node ahead of the left one, which is the answer.
-pub(crate) fn put_ahead<'a>(
-    trail: &mut Trail<'a>,
-    here: &Ahead<'a>,
-    l: NodeId,
-    left: &Look<'a>,
-    sibling: Ahead<'a>,
-    between: Between,
-) -> Ahead<'a>
-    requires { length trail.old.ahead.items < trail.old.ahead.capacity }
-    ensures child { result ≡ record {
-      id = l;
-      look = left.now;
-      at = here.now.at;
-      goals = between.goals;
-      quiet = between.quiet;
-      next = length trail.old.ahead.items + 1;
-    } }
-    ensures items { trail.new.ahead.items ≡ trail.old.ahead.items ++ Some sibling.entry ∷ [] }
-    ensures room { trail.new.ahead.capacity ≡ trail.old.ahead.capacity }
-    ensures marks { trail.new.marks ≡ trail.old.marks }
-{
-    trail.ahead.push_reserved(Some(sibling));
-    Ahead {
-        id: l,
-        look: *left,
-        at: here.at,
-        goals: between.goals,
-        quiet: between.quiet,
-        next: trail.ahead.len(),
-    }
+    }));
+    here.id = l;
+    here.look = *left;
+    here.goals = between.goals;
+    here.quiet = between.quiet;
+    here.next = trail.ahead.len();
 }
 
 /// How the first marked text over a pair goes over its left child.
@@ -221,35 +224,38 @@ fn place_mark<'a>(
     }
 }
 
-/// Goes down to the first mark of the first marked text over a node, and keeps it with the nodes that are then ahead.
+/// Goes down to the first mark of the first marked text over a node, and keeps it with the nodes that are then ahead. What is
+/// `here` becomes each node on the way in turn.
 fn descend<'a, L: Ledger>(
     ground: &Ground<'a>,
     trail: &mut Trail<'a>,
-    here: &Ahead<'a>,
+    here: &mut Ahead<'a>,
     state: u8,
     base: usize,
     out: &mut Tuple,
     looks: &mut Steps<L>,
 ) -> Place
     requires ground { IsGround ground.now }
-    requires down { CanGoDown ground.now here.now state base trail.old.marks.items trail.old.marks.capacity trail.old.ahead.items trail.old.ahead.capacity }
-    requires some { bit_and (marked_of here.now.look.table.now state) here.now.goals ≡ 0 → ⊥ }
-    ensures descends { Descends ground.now here.now state base trail.old.marks.items trail.new.marks.items trail.old.ahead.items trail.new.ahead.items
+    requires down { CanGoDown ground.now here.old state base trail.old.marks.items trail.old.marks.capacity trail.old.ahead.items trail.old.ahead.capacity }
+    requires some { bit_and (marked_of here.old.look.table.now state) here.old.goals ≡ 0 → ⊥ }
+    ensures descends { Descends ground.now here.old state base trail.old.marks.items trail.new.marks.items trail.old.ahead.items trail.new.ahead.items
         looks.old looks.new out.old out.new result }
     ensures marks_room { trail.new.marks.capacity ≡ trail.old.marks.capacity }
     ensures ahead_room { trail.new.ahead.capacity ≡ trail.old.ahead.capacity }
 {
     match here.look.node {
-        Node::Byte(b) => place_mark(ground, trail, here, b, state, base, out),
+        Node::Byte(b) => place_mark(ground, trail, &*here, b, state, base, out),
         Node::Pair(l, r) => {
             let left = ground.view.look(l, looks);
             let right = ground.view.look(r, looks);
-            let sibling = right_of(here, &left, r, &right);
-            match over_left(ground, here, left.table, right.table, state) {
-                OverLeft::Plain(q) => descend(ground, trail, &sibling, q, base, out, looks),
+            match over_left(ground, &*here, left.table, right.table, state) {
+                OverLeft::Plain(q) => {
+                    go_right(here, left.len, r, &right);
+                    descend(ground, trail, here, q, base, out, looks)
+                }
                 OverLeft::Marked(between) => {
-                    let child = put_ahead(trail, here, l, &left, sibling, between);
-                    descend(ground, trail, &child, state, base, out, looks)
+                    go_left(trail, here, l, &left, r, &right, between);
+                    descend(ground, trail, here, state, base, out, looks)
                 }
             }
         }
@@ -287,9 +293,9 @@ pub(crate) fn complete<'a, L: Ledger>(
         trail.ahead.truncate(base);
         return Some(place.state);
     }
-    let here = *ahead_at(&*trail, place.next);
+    let mut here = *ahead_at(&*trail, place.next);
     trail.ahead.truncate(cut_before(place.next, base));
-    let behind = descend(ground, trail, &here, place.state, base, out, looks);
+    let behind = descend(ground, trail, &mut here, place.state, base, out, looks);
     let kept = trail.ahead.len();
     complete(ground, trail, behind, kept, out, looks)
 }

@@ -24,7 +24,7 @@ descend-requires g t c κs within =
     let low : q < states_of a = run-within a c.requires.ground.automaton c.args.state q (plain (text_at ground l.index)) c.requires.down.state (sym (tl.unmarked c.args.state c.requires.down.state) ∙ p.step) in
     let down = down-right ground h c.args.state c.args.base c.args.trail.now.marks.items c.args.trail.now.marks.capacity c.args.trail.now.ahead.items c.args.trail.now.ahead.capacity l r left c.look-right.result f.pair
     c.look-left.ensures.look c.look-right.ensures.look c.requires.down q low in
-    rw c.right_of-sibling.ensures (omega (arith, c.decreases, f.pair.2), (within, (c.requires.ground, (down, p.some))))
+    rw c.go_right.ensures (omega (arith, c.decreases, f.pair.2), (within, (c.requires.ground, (down, p.some))))
 
 pub descend-requires-in-Marked : goal.descend-requires-in-Marked
 descend-requires-in-Marked g t c κs within =
@@ -38,8 +38,8 @@ descend-requires-in-Marked g t c κs within =
     let p : IsMarkedLeft ground.dfa.now c.args.state (text_at ground l.index) (text_at ground r.index) h.goals h.quiet left.table.now between = c.in-Marked.ensures.over _ _ f.whole f.left_is f.right_is in
     let down = down-left ground h c.args.state c.args.base c.args.trail.now.marks.items c.args.trail.now.marks.capacity c.args.trail.now.ahead.items c.args.trail.now.ahead.capacity l r left c.look-right.result f.pair
     c.look-left.ensures.look c.look-right.ensures.look c.requires.down between in
-    let put = c.put_ahead-child.ensures in
-    rw (put.child, put.room, put.marks, put.items, c.right_of-sibling.ensures) (omega (arith, c.decreases, f.pair.1), (within, (c.requires.ground, (down, p.some))))
+    let put = c.go_left.ensures in
+    rw (put.child, put.room, put.marks, put.items) (omega (arith, c.decreases, f.pair.1), (within, (c.requires.ground, (down, p.some))))
 
 pub returns-in-Plain-clause-descends : goal.returns-in-Plain-clause-descends
 returns-in-Plain-clause-descends g t c =
@@ -56,7 +56,7 @@ returns-in-Plain-clause-descends g t c =
     let low : q < states_of a = run-within a c.requires.ground.automaton c.args.state q (plain (text_at ground l.index)) c.requires.down.state (sym (tl.unmarked c.args.state c.requires.down.state) ∙ p.step) in
     descends-right ground c.args.trail.now.ahead.items h c.args.state l r left c.look-right.result f.pair c.look-left.ensures.look c.look-right.ensures.look c.requires.down.is_ahead c.requires.down.state tl q low p
     c.args.trail.now.marks.items c.descend.new.trail.marks.items c.descend.new.trail.ahead.items c.args.base c.args.looks.now c.look-right.new.looks c.descend.new.looks c.args.out.now c.descend.new.out c.descend.result
-    (omega (arith, c.look-left.ensures.step, c.look-right.ensures.step)) (rw c.right_of-sibling.ensures at c.descend.ensures.descends)
+    (omega (arith, c.look-left.ensures.step, c.look-right.ensures.step)) (rw c.go_right.ensures at c.descend.ensures.descends)
 
 pub returns-in-Marked-clause-descends : goal.returns-in-Marked-clause-descends
 returns-in-Marked-clause-descends g t c =
@@ -68,8 +68,8 @@ returns-in-Marked-clause-descends g t c =
     let f = fork ground c.requires.ground h c.requires.down.is_ahead l r left c.look-right.result c.in-Pair.is c.look-left.ensures.look c.look-right.ensures.look in
     let between = c.in-Marked.between in
     let p : IsMarkedLeft ground.dfa.now c.args.state (text_at ground l.index) (text_at ground r.index) h.goals h.quiet left.table.now between = c.in-Marked.ensures.over _ _ f.whole f.left_is f.right_is in
-    let put = c.put_ahead-child.ensures in
+    let put = c.go_left.ensures in
     descends-left ground c.args.trail.now.ahead.items h c.args.state l r left c.look-right.result f.pair c.look-left.ensures.look c.look-right.ensures.look c.requires.down.is_ahead
     c.args.trail.now.marks.items c.descend-in-Marked.new.trail.marks.items c.descend-in-Marked.new.trail.ahead.items between c.args.base c.args.looks.now c.look-right.new.looks c.descend-in-Marked.new.looks
     c.args.out.now c.descend-in-Marked.new.out c.descend-in-Marked.result
-    (omega (arith, c.look-left.ensures.step, c.look-right.ensures.step)) p (rw (put.child, put.items, put.marks, c.right_of-sibling.ensures) at c.descend-in-Marked.ensures.descends)
+    (omega (arith, c.look-left.ensures.step, c.look-right.ensures.step)) p (rw (put.child, put.items, put.marks) at c.descend-in-Marked.ensures.descends)
