@@ -13,4 +13,5 @@ pub mod Lowering
 pub mod Ends
 pub mod OverLeft
 pub mod Trail
+pub mod WayDown
 pub mod Answering

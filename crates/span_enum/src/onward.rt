@@ -1,7 +1,7 @@
 //! The way on to the first marked text behind a place.
 ghost use Rattle.std.specs.Prelude.{◌≡◌, ℕ, ◌<◌, ◌≤◌, ◌+◌, ◌*◌, ◌-◌, ◌++◌, ◌∷◌, [], ◌^◌, true, bit_and, length, max, List, IfSome, MatchOption, Some};
 ghost use Rattle.slp_model.specs.Nodes.{IsNodeAt};
-ghost use Rattle.slp_model.specs.declared.Node.TheVariants.{Byte};
+ghost use Rattle.slp_model.specs.declared.Node.TheVariants.{Byte, Pair};
 ghost use Rattle.marker_dfa.specs.Deterministic.{states_of};
 ghost use Rattle.state_tables.specs.Meaning.{IsTable};
 ghost use Rattle.state_tables.specs.Table.{marked_of, unmarked_of};
@@ -9,6 +9,7 @@ ghost use Rattle.span_enum.specs.Sets.{can_reach_of};
 ghost use Rattle.span_enum.specs.Words.{IsFork};
 ghost use Rattle.span_enum.specs.OverLeft.{IsOverLeft};
 ghost use Rattle.span_enum.specs.Trail.{IsGround, Stands, CanEnd, CanGo, CanFinish, PassesPlain, Turns, CanGoDown, mark_over, Descends, Completes, Fits, height_at};
+ghost use Rattle.span_enum.specs.WayDown.{GoesOnAt};
 ghost use Rattle.span_enum.specs.declared.trail.Ahead.{Ahead};
 
 use crate::ground::Ground;
@@ -224,40 +225,66 @@ fn place_mark<'a>(
     }
 }
 
+/// Goes on from a pair to the child over which the first marked text has its first mark. The answer is the state before it.
+fn go_down<'a, L: Ledger>(
+    ground: &Ground<'a>,
+    trail: &mut Trail<'a>,
+    here: &mut Ahead<'a>,
+    state: u8,
+    base: usize,
+    l: NodeId,
+    r: NodeId,
+    looks: &mut Steps<L>,
+) -> u8
+    requires ground { IsGround ground.now }
+    requires down { CanGoDown ground.now here.old state base trail.old.marks.items trail.old.marks.capacity trail.old.ahead.items trail.old.ahead.capacity }
+    requires node { here.old.look.node ≡ Pair l r }
+    requires some { bit_and (marked_of here.old.look.table.now state) here.old.goals ≡ 0 → ⊥ }
+    ensures down { CanGoDown ground.now here.new result base trail.new.marks.items trail.new.marks.capacity trail.new.ahead.items trail.new.ahead.capacity }
+    ensures some { bit_and (marked_of here.new.look.table.now result) here.new.goals ≡ 0 → ⊥ }
+    ensures on { GoesOnAt ground.now here.old state here.new result base trail.old.marks.items trail.old.ahead.items trail.new.ahead.items looks.old looks.new }
+    ensures less { here.new.id.index < here.old.id.index }
+    ensures marks { trail.new.marks ≡ trail.old.marks }
+    ensures room { trail.new.ahead.capacity ≡ trail.old.ahead.capacity }
+{
+    let left = ground.view.look(l, looks);
+    let right = ground.view.look(r, looks);
+    match over_left(ground, &*here, left.table, right.table, state) {
+        OverLeft::Plain(q) => {
+            go_right(here, left.len, r, &right);
+            q
+        }
+        OverLeft::Marked(between) => {
+            go_left(trail, here, l, &left, r, &right, between);
+            state
+        }
+    }
+}
+
 /// Goes down to the first mark of the first marked text over a node, and keeps it with the nodes that are then ahead. What is
 /// `here` becomes each node on the way in turn.
 fn descend<'a, L: Ledger>(
     ground: &Ground<'a>,
     trail: &mut Trail<'a>,
     here: &mut Ahead<'a>,
-    state: u8,
+    from: u8,
     base: usize,
     out: &mut Tuple,
     looks: &mut Steps<L>,
 ) -> Place
     requires ground { IsGround ground.now }
-    requires down { CanGoDown ground.now here.old state base trail.old.marks.items trail.old.marks.capacity trail.old.ahead.items trail.old.ahead.capacity }
-    requires some { bit_and (marked_of here.old.look.table.now state) here.old.goals ≡ 0 → ⊥ }
-    ensures descends { Descends ground.now here.old state base trail.old.marks.items trail.new.marks.items trail.old.ahead.items trail.new.ahead.items
+    requires down { CanGoDown ground.now here.old from base trail.old.marks.items trail.old.marks.capacity trail.old.ahead.items trail.old.ahead.capacity }
+    requires some { bit_and (marked_of here.old.look.table.now from) here.old.goals ≡ 0 → ⊥ }
+    ensures descends { Descends ground.now here.old from base trail.old.marks.items trail.new.marks.items trail.old.ahead.items trail.new.ahead.items
         looks.old looks.new out.old out.new result }
     ensures marks_room { trail.new.marks.capacity ≡ trail.old.marks.capacity }
     ensures ahead_room { trail.new.ahead.capacity ≡ trail.old.ahead.capacity }
 {
-    match here.look.node {
-        Node::Byte(b) => place_mark(ground, trail, &*here, b, state, base, out),
-        Node::Pair(l, r) => {
-            let left = ground.view.look(l, looks);
-            let right = ground.view.look(r, looks);
-            match over_left(ground, &*here, left.table, right.table, state) {
-                OverLeft::Plain(q) => {
-                    go_right(here, left.len, r, &right);
-                    descend(ground, trail, here, q, base, out, looks)
-                }
-                OverLeft::Marked(between) => {
-                    go_left(trail, here, l, &left, r, &right, between);
-                    descend(ground, trail, here, state, base, out, looks)
-                }
-            }
+    let mut state = from;
+    'down: loop {
+        match here.look.node {
+            Node::Byte(b) => return place_mark(ground, trail, &*here, b, state, base, out),
+            Node::Pair(l, r) => state = go_down(ground, trail, here, state, base, l, r, looks),
         }
     }
 }
