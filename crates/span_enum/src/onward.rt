@@ -8,7 +8,7 @@ ghost use Rattle.state_tables.specs.Table.{marked_of, unmarked_of};
 ghost use Rattle.span_enum.specs.Sets.{can_reach_of};
 ghost use Rattle.span_enum.specs.Words.{IsFork};
 ghost use Rattle.span_enum.specs.OverLeft.{IsOverLeft};
-ghost use Rattle.span_enum.specs.Trail.{IsGround, Stands, CanEnd, CanGo, CanFinish, PassesPlain, Turns, CanGoDown, mark_over, Descends, Completes, Fits, height_at};
+ghost use Rattle.span_enum.specs.Trail.{IsGround, IsAhead, Stands, CanEnd, CanGo, CanFinish, PassesPlain, Turns, CanGoDown, mark_over, Descends, Completes, Fits, height_at};
 ghost use Rattle.span_enum.specs.WayDown.{GoesOnAt};
 ghost use Rattle.span_enum.specs.declared.trail.Ahead.{Ahead};
 
@@ -231,18 +231,21 @@ fn go_down<'a, L: Ledger>(
     trail: &mut Trail<'a>,
     here: &mut Ahead<'a>,
     state: u8,
-    base: usize,
     l: NodeId,
     r: NodeId,
     looks: &mut Steps<L>,
 ) -> u8
     requires ground { IsGround ground.now }
-    requires down { CanGoDown ground.now here.old state base trail.old.marks.items trail.old.marks.capacity trail.old.ahead.items trail.old.ahead.capacity }
+    requires is_ahead { IsAhead ground.now here.old }
     requires node { here.old.look.node ≡ Pair l r }
+    requires state { state < states_of ground.now.dfa.now }
+    requires room { length trail.old.ahead.items < trail.old.ahead.capacity }
     requires some { bit_and (marked_of here.old.look.table.now state) here.old.goals ≡ 0 → ⊥ }
-    ensures down { CanGoDown ground.now here.new result base trail.new.marks.items trail.new.marks.capacity trail.new.ahead.items trail.new.ahead.capacity }
+    ensures down { (base : ℕ) → CanGoDown ground.now here.old state base trail.old.marks.items trail.old.marks.capacity trail.old.ahead.items trail.old.ahead.capacity
+        → CanGoDown ground.now here.new result base trail.new.marks.items trail.new.marks.capacity trail.new.ahead.items trail.new.ahead.capacity }
     ensures some { bit_and (marked_of here.new.look.table.now result) here.new.goals ≡ 0 → ⊥ }
-    ensures on { GoesOnAt ground.now here.old state here.new result base trail.old.marks.items trail.old.ahead.items trail.new.ahead.items looks.old looks.new }
+    ensures on { (base : ℕ) → GoesOnAt ground.now here.old state here.new result base trail.old.marks.items trail.old.ahead.items trail.new.ahead.items
+        looks.old looks.new }
     ensures less { here.new.id.index < here.old.id.index }
     ensures marks { trail.new.marks ≡ trail.old.marks }
     ensures room { trail.new.ahead.capacity ≡ trail.old.ahead.capacity }
@@ -284,7 +287,7 @@ fn descend<'a, L: Ledger>(
     'down: loop {
         match here.look.node {
             Node::Byte(b) => return place_mark(ground, trail, &*here, b, state, base, out),
-            Node::Pair(l, r) => state = go_down(ground, trail, here, state, base, l, r, looks),
+            Node::Pair(l, r) => state = go_down(ground, trail, here, state, l, r, looks),
         }
     }
 }
