@@ -1,7 +1,8 @@
-ghost use Rattle.std.specs.Prelude.{◌≡◌, ◌<◌, ◌≤◌, Bool, List, IfOk};
+ghost use Rattle.std.specs.Prelude.{◌≡◌, ◌<◌, ◌≤◌, Bool, List, IfOk, length};
 ghost use Rattle.span_types.specs.FormulaTree.{Set, tree_of};
 ghost use Rattle.slp_model.specs.Nodes.{IsLive};
 ghost use Rattle.marker_nfa.specs.Occurrences.{IsWithinLimits};
+ghost use Rattle.state_tables.specs.Dictionary.{count_of};
 ghost use Rattle.table_grow.specs.Schedule.{IsSchedule};
 
 use marker_dfa::{Dfa, determinise};
@@ -88,14 +89,8 @@ fn automaton(alloc: Global) -> Result<Dfa, Fail> {
     Ok(determinise(alloc, &nfa)?)
 }
 
-/// What there is after growth.
-#[derive(Clone, Copy, PartialEq, Eq, Debug)]
-struct Counts {
-    nodes: usize,
-    tables: usize,
-    distinct: usize,
-    remembered: usize,
-}
+/// What there is after growth: nodes, tables, distinct tables, and compositions that are remembered.
+type Counts = (usize, usize, usize, usize);
 
 fn grown<R: Threads + Sync, G: Gate, L: Ledger>(
     rt: &R,
@@ -125,12 +120,12 @@ fn grown<R: Threads + Sync, G: Gate, L: Ledger>(
         gate,
         places,
     )?;
-    Ok(Counts {
-        nodes: store.count(),
-        tables: tables.count(),
-        distinct: tables.distinct(),
-        remembered: memory.len(),
-    })
+    Ok((
+        store.count(),
+        tables.count(),
+        tables.distinct(),
+        memory.len(),
+    ))
 }
 
 /// What there is after growth over the row's text, and how many nodes passed the gate.
@@ -144,11 +139,10 @@ fn of_row<R: Threads + Sync, L: Ledger>(
     requires name { blank.name ≡ L.name }
     requires parts { blank.parts ≡ L.parts }
     requires some { 0 < L.parts }
-    requires size { 1 ≤ size }
-    requires small { size ≤ 65536 }
-    requires some_workers { 1 ≤ workers }
-    requires few_workers { workers ≤ 64 }
 {
+    if size < 1 || size > 65_536 || workers < 1 || workers > 64 {
+        return Err("a size and a number of workers within the limits".into());
+    }
     let mut steps = Steps::<L>::new(blank);
     let mut store = Store::new(alloc);
     let _ = load(alloc, &mut store, b"abracadabra", &mut steps)?;
@@ -160,30 +154,16 @@ fn of_row<R: Threads + Sync, L: Ledger>(
     Ok((counts, gate.passed.load(Ordering::SeqCst)))
 }
 
-const ROW: Counts = Counts {
-    nodes: 15,
-    tables: 15,
-    distinct: 1,
-    remembered: 1,
-};
+/// The sizes of the memory and the numbers of workers.
+const SETTINGS: [(usize, u8); 4] = [(1, 1), (4096, 1), (1, 4), (4096, 64)];
 
 #[test]
-fn one_table_on_one_worker(rt: HostRuntime) -> Result<(), Fail> {
+fn one_table_on_any_workers(rt: HostRuntime) -> Result<(), Fail> {
     let alloc = rt.alloc();
-    let small = of_row::<HostRuntime, Brand>(&rt, alloc, Blank::new(1), 1, 1)?;
-    assert_eq!(rt; small, (ROW, 15));
-    let large = of_row::<HostRuntime, Brand>(&rt, alloc, Blank::new(1), 4096, 1)?;
-    assert_eq!(rt; large, (ROW, 15));
-    Ok(())
-}
-
-#[test]
-fn one_table_on_many_workers(rt: HostRuntime) -> Result<(), Fail> {
-    let alloc = rt.alloc();
-    let small = of_row::<HostRuntime, Brand>(&rt, alloc, Blank::new(1), 1, 4)?;
-    assert_eq!(rt; small, (ROW, 15));
-    let large = of_row::<HostRuntime, Brand>(&rt, alloc, Blank::new(1), 4096, 64)?;
-    assert_eq!(rt; large, (ROW, 15));
+    for (size, workers) in SETTINGS {
+        let found = of_row::<HostRuntime, Brand>(&rt, alloc, Blank::new(1), size, workers)?;
+        assert_eq!(rt; found, ((15, 15, 1, 1), 15), "{size} {workers}");
+    }
     Ok(())
 }
 
@@ -248,6 +228,47 @@ fn backwards(store: &Store) -> Result<[NodeId; 2], Fail>
     }
 }
 
+/// The tables of two bytes, in an order that isn't that of their ids.
+fn filled<L: Ledger>(
+    alloc: Global,
+    store: &Store,
+    dfa: &Dfa,
+    places: &mut Steps<L>,
+) -> Result<Tables, Fail>
+    ensures { IfOk result (λ tables. count_of tables ≡ length store.now) }
+{
+    let mut tables = Tables::new(alloc, dfa);
+    let schedule = backwards(store)?;
+    fill(alloc, &mut tables, store, dfa, &schedule, places)?;
+    Ok(tables)
+}
+
+/// The tables by growth.
+fn grown_tables<R: Threads + Sync, L: Ledger>(
+    rt: &R,
+    alloc: Global,
+    store: &Store,
+    dfa: &Dfa,
+    places: &mut Steps<L>,
+) -> Result<Tables, NoMemory>
+    ensures { IfOk result (λ tables. count_of tables ≡ length store.now) }
+{
+    let mut tables = Tables::new(alloc, dfa);
+    let mut memory = Memory::new(alloc, 4096)?;
+    grow(
+        rt,
+        alloc,
+        &mut tables,
+        store,
+        dfa,
+        &mut memory,
+        1,
+        &OpenGate,
+        places,
+    )?;
+    Ok(tables)
+}
+
 /// Whether two bytes get the same tables by growth as in an order that isn't that of their ids.
 fn agree<R: Threads + Sync, L: Ledger>(rt: &R, alloc: Global, blank: Blank) -> Result<bool, Fail>
     requires name { blank.name ≡ L.name }
@@ -259,23 +280,9 @@ fn agree<R: Threads + Sync, L: Ledger>(rt: &R, alloc: Global, blank: Blank) -> R
     let first = store.byte(b'a')?;
     let second = store.byte(b'x')?;
     let dfa = automaton(alloc)?;
-    let mut filled = Tables::new(alloc, &dfa);
-    let schedule = backwards(&store)?;
-    fill(alloc, &mut filled, &store, &dfa, &schedule, &mut steps)?;
-    let mut tables = Tables::new(alloc, &dfa);
-    let mut memory = Memory::new(alloc, 4096)?;
-    grow(
-        rt,
-        alloc,
-        &mut tables,
-        &store,
-        &dfa,
-        &mut memory,
-        1,
-        &OpenGate,
-        &mut steps,
-    )?;
-    Ok(filled.table(first) == tables.table(first) && filled.table(second) == tables.table(second))
+    let filled = filled(alloc, &store, &dfa, &mut steps)?;
+    let grown = grown_tables(rt, alloc, &store, &dfa, &mut steps)?;
+    Ok(filled.table(first) == grown.table(first) && filled.table(second) == grown.table(second))
 }
 
 #[test]
