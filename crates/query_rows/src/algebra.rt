@@ -1,14 +1,12 @@
 //! Rows of unions, joins and projections of automata.
-ghost use Rattle.std.specs.Prelude.{◌≡◌, ◌≤◌, IfOk, length};
-ghost use Rattle.span_types.specs.FormulaTree.{tree_of};
-ghost use Rattle.marker_nfa.specs.Occurrences.{IsWithinLimits};
+ghost use Rattle.std.specs.Prelude.{◌≡◌, IfOk, length};
 
-use crate::formulas::{boxed, capture, capture_first, capture_last, letter};
-use marker_dfa::{Dfa, DfaRefusal, determinise};
-use marker_nfa::of_formula;
+use crate::formulas::dfa_of;
+use formula_syntax::read;
+use marker_dfa::Dfa;
 use span_algebra::{AlgebraRefusal, join, project, union};
-use span_types::{Formula, Name, NoMemory, Vars};
-use std::alloc::Global;
+use span_types::Vars;
+use std::alloc::{AllocError, Global};
 use std::test::Fail;
 
 /// An automaton and the names of its variables.
@@ -18,69 +16,22 @@ struct Side {
     names: Vars,
 }
 
-/// What a test looks at: the numbers of states and variables, the state after a mark and a byte, and its greatest end.
-#[derive(Clone, Copy, Debug, PartialEq, Eq)]
-struct Seen {
-    states: u8,
-    variables: u8,
-    next: Option<u8>,
-    end: Option<u16>,
-}
-
-/// `a` one time more than so many times, any number of times.
-fn rounds(alloc: Global, count: u16) -> Result<Formula, NoMemory>
-    requires { count ≤ 500 }
-    ensures { IfOk result (λ f. IsWithinLimits (tree_of f)) }
-{
-    let mut round = letter(b'a');
-    for turn in 0..count {
-        let first = boxed(alloc, letter(b'a'))?;
-        round = Formula::Cat(first, boxed(alloc, round)?);
-    }
-    Ok(Formula::Star(boxed(alloc, round)?))
-}
-
-/// The names with these letters.
-fn names_of(alloc: Global, letters: &[u8]) -> Result<Vars, DfaRefusal> {
-    let mut names = Vars::new(alloc);
-    for letter in letters {
-        let Ok(name) = Name::new(alloc, &[*letter]) else {
-            return Err(DfaRefusal::NoMemory);
-        };
-        if names.number_of(name).is_err() {
-            return Err(DfaRefusal::NoMemory);
-        }
-    }
+/// The names of a text's variables.
+fn names_of(alloc: Global, text: &[u8]) -> Result<Vars, Fail> {
+    let (_, names) = read(alloc, text)?;
     Ok(names)
 }
 
-/// A formula's automaton, whose variables have the names with these letters.
-fn side_of(alloc: Global, formula: &Formula, letters: &[u8]) -> Result<Side, DfaRefusal>
-    requires { IsWithinLimits (tree_of formula.now) }
+/// The automaton of a text, and its names.
+fn side_of(alloc: Global, text: &[u8]) -> Result<Side, Fail>
     ensures { IfOk result (λ s. length s.names ≡ s.dfa.variables) }
 {
-    let dfa = determinise(alloc, &of_formula(alloc, formula)?)?;
-    let names = names_of(alloc, letters)?;
+    let dfa = dfa_of(alloc, text)??;
+    let names = names_of(alloc, text)?;
     if dfa.variables() != names.count() {
-        return Err(DfaRefusal::TooManyStates);
+        return Err("a name for each variable".into());
     }
     Ok(Side { dfa, names })
-}
-
-/// What is seen of an automaton at its start.
-fn seen_at(dfa: &Dfa, mark: u16, byte: u8) -> Seen {
-    let states = dfa.states();
-    let next = dfa.next(0, mark, byte);
-    let end = match next {
-        Some(state) => dfa.ends(state).first().copied(),
-        None => None,
-    };
-    Seen {
-        states,
-        variables: dfa.variables(),
-        next,
-        end,
-    }
 }
 
 fn united(alloc: Global, left: &Side, right: &Side) -> Result<Side, AlgebraRefusal>
@@ -92,153 +43,131 @@ fn united(alloc: Global, left: &Side, right: &Side) -> Result<Side, AlgebraRefus
     Ok(Side { dfa, names })
 }
 
-fn joined(alloc: Global, left: &Side, right: &Side) -> Result<Side, AlgebraRefusal>
+fn joined(alloc: Global, left: &Side, right: &Side) -> Result<Dfa, AlgebraRefusal>
     requires left { length left.now.names ≡ left.now.dfa.variables }
     requires right { length right.now.names ≡ right.now.dfa.variables }
-    ensures { IfOk result (λ s. length s.names ≡ s.dfa.variables) }
 {
-    let (dfa, names) = join(alloc, &left.dfa, &left.names, &right.dfa, &right.names)?;
-    Ok(Side { dfa, names })
+    let (dfa, _) = join(alloc, &left.dfa, &left.names, &right.dfa, &right.names)?;
+    Ok(dfa)
+}
+
+/// What is seen of an automaton at its start: the numbers of its states and variables, the state after a mark and a byte, and
+/// the greatest end there.
+type Seen = (u8, u8, Option<u8>, Option<u16>);
+
+fn seen_at(dfa: &Dfa, mark: u16, byte: u8) -> Seen {
+    let states = dfa.states();
+    let next = dfa.next(0, mark, byte);
+    let end = match next {
+        Some(state) => dfa.ends(state).first().copied(),
+        None => None,
+    };
+    (states, dfa.variables(), next, end)
 }
 
 /// `$x{a}` or `$y{b}`
 fn either(alloc: Global) -> Result<Side, Fail>
     ensures { IfOk result (λ s. length s.names ≡ s.dfa.variables) }
 {
-    let left = side_of(alloc, &capture(alloc, b'a')?, b"x")?;
-    let right = side_of(alloc, &capture(alloc, b'b')?, b"y")?;
+    let left = side_of(alloc, b"$x{a}")?;
+    let right = side_of(alloc, b"$y{b}")?;
     Ok(united(alloc, &left, &right)?)
 }
 
-fn seen_of_union(alloc: Global, mark: u16, byte: u8) -> Result<Seen, Fail> {
-    Ok(seen_at(&either(alloc)?.dfa, mark, byte))
-}
-
-/// What is seen where x is lost.
-fn seen_of_projection(alloc: Global, mark: u16, byte: u8) -> Result<Seen, Fail> {
+/// Where x is lost.
+fn without_x(alloc: Global) -> Result<Dfa, Fail> {
     let whole = either(alloc)?;
-    let keep = names_of(alloc, b"y")?;
-    let dfa = project(alloc, &whole.dfa, &whole.names, &keep)?;
-    Ok(seen_at(&dfa, mark, byte))
-}
-
-fn is(states: u8, variables: u8, next: Option<u8>, end: Option<u16>) -> Seen {
-    Seen {
-        states,
-        variables,
-        next,
-        end,
-    }
+    let keep = names_of(alloc, b"$y{}")?;
+    Ok(project(alloc, &whole.dfa, &whole.names, &keep)?)
 }
 
 #[test]
 fn union_of_two(rt: HostRuntime) -> Result<(), Fail> {
-    let alloc = rt.alloc();
-    assert_eq!(rt; seen_of_union(alloc, 1, b'a')?, is(3, 2, Some(1), Some(2)));
-    assert_eq!(rt; seen_of_union(alloc, 4, b'b')?, is(3, 2, Some(2), Some(8)));
-    assert_eq!(rt; seen_of_union(alloc, 4, b'a')?, is(3, 2, None, None));
+    let whole = either(rt.alloc())?;
+    for (mark, byte, want) in [
+        (1, b'a', (3, 2, Some(1), Some(2))),
+        (4, b'b', (3, 2, Some(2), Some(8))),
+        (4, b'a', (3, 2, None, None)),
+    ] {
+        assert_eq!(rt; seen_at(&whole.dfa, mark, byte), want);
+    }
     Ok(())
 }
 
 #[test]
 fn projection_to_one(rt: HostRuntime) -> Result<(), Fail> {
-    let alloc = rt.alloc();
-    assert_eq!(rt;
-        seen_of_projection(alloc, 0, b'a')?,
-        is(3, 1, Some(1), Some(0))
-    );
-    assert_eq!(rt;
-        seen_of_projection(alloc, 1, b'b')?,
-        is(3, 1, Some(2), Some(2))
-    );
+    let dfa = without_x(rt.alloc())?;
+    for (mark, byte, want) in [
+        (0, b'a', (3, 1, Some(1), Some(0))),
+        (1, b'b', (3, 1, Some(2), Some(2))),
+    ] {
+        assert_eq!(rt; seen_at(&dfa, mark, byte), want);
+    }
     Ok(())
 }
 
-/// What is seen of the join of two formulas, whose variables have the names with these letters.
-fn seen_of_join(
+/// The join of two texts, or why there is none.
+fn join_of(alloc: Global, left: &[u8], right: &[u8]) -> Result<Result<Dfa, AlgebraRefusal>, Fail> {
+    let left = side_of(alloc, left)?;
+    let right = side_of(alloc, right)?;
+    Ok(joined(alloc, &left, &right))
+}
+
+/// Two texts, a mark, and what is seen after it and `a` in their join: on one name, of other spans, and without common names.
+const JOINS: [(&[u8], &[u8], u16, Seen); 5] = [
+    (b"$x{a}", b"$x{a}", 1, (2, 1, Some(1), Some(2))),
+    (b"$x{a}", b"$x{b}", 1, (1, 1, None, None)),
+    (b"$x{a}a", b"a$x{a}", 1, (1, 1, None, None)),
+    (b"$x{a}a", b"a$y{a}", 1, (3, 2, Some(1), None)),
+    (b"$x{a}", b"$y{a}", 5, (2, 2, Some(1), Some(10))),
+];
+
+#[test]
+fn joins(rt: HostRuntime) -> Result<(), Fail> {
+    for (left, right, mark, want) in JOINS {
+        let dfa = join_of(rt.alloc(), left, right)??;
+        assert_eq!(rt; seen_at(&dfa, mark, b'a'), want, "{left:?} {right:?}");
+    }
+    Ok(())
+}
+
+/// The number of states of the join of two texts, or why there is none.
+fn states_of_join(
     alloc: Global,
-    left: &Formula,
-    right: &Formula,
-    letters: &[u8],
-    mark: u16,
-) -> Result<Seen, Fail>
-    requires left { IsWithinLimits (tree_of left.now) }
-    requires right { IsWithinLimits (tree_of right.now) }
-{
-    let left = side_of(alloc, left, b"x")?;
-    let right = side_of(alloc, right, letters)?;
-    Ok(seen_at(&joined(alloc, &left, &right)?.dfa, mark, b'a'))
-}
-
-#[test]
-fn join_on_one_name(rt: HostRuntime) -> Result<(), Fail> {
-    let alloc = rt.alloc();
-    let a = capture(alloc, b'a')?;
-    let b = capture(alloc, b'b')?;
-    assert_eq!(rt;
-        seen_of_join(alloc, &a, &a, b"x", 1)?,
-        is(2, 1, Some(1), Some(2))
-    );
-    assert_eq!(rt; seen_of_join(alloc, &a, &b, b"x", 1)?, is(1, 1, None, None));
-    Ok(())
-}
-
-#[test]
-fn join_of_other_spans(rt: HostRuntime) -> Result<(), Fail> {
-    let alloc = rt.alloc();
-    let first = capture_first(alloc, b'a')?;
-    let last = capture_last(alloc)?;
-    assert_eq!(rt;
-        seen_of_join(alloc, &first, &last, b"x", 1)?,
-        is(1, 1, None, None)
-    );
-    assert_eq!(rt;
-        seen_of_join(alloc, &first, &last, b"y", 1)?,
-        is(3, 2, Some(1), None)
-    );
-    Ok(())
-}
-
-#[test]
-fn join_without_common_names(rt: HostRuntime) -> Result<(), Fail> {
-    let alloc = rt.alloc();
-    let a = capture(alloc, b'a')?;
-    assert_eq!(rt;
-        seen_of_join(alloc, &a, &a, b"y", 5)?,
-        is(2, 2, Some(1), Some(10))
-    );
-    Ok(())
-}
-
-/// The number of states of the join of rounds of one more than so many bytes, or why there is none.
-fn join_of_rounds(alloc: Global, left: u16, right: u16) -> Result<Result<u8, AlgebraRefusal>, Fail>
-    requires left { left ≤ 500 }
-    requires right { right ≤ 500 }
-{
-    let left = side_of(alloc, &rounds(alloc, left)?, b"")?;
-    let right = side_of(alloc, &rounds(alloc, right)?, b"")?;
-    match joined(alloc, &left, &right) {
-        Ok(both) => Ok(Ok(both.dfa.states())),
+    left: &[u8],
+    right: &[u8],
+) -> Result<Result<u8, AlgebraRefusal>, Fail> {
+    match join_of(alloc, left, right)? {
+        Ok(dfa) => Ok(Ok(dfa.states())),
         Err(refusal) => Ok(Err(refusal)),
     }
 }
 
+/// Rounds of 20 and 20 bytes, and of 11 and 12.
 #[test]
 fn state_cap(rt: HostRuntime) -> Result<(), Fail> {
-    let alloc = rt.alloc();
-    assert_eq!(rt; join_of_rounds(alloc, 19, 19)?, Ok(21));
-    assert_eq!(rt;
-        join_of_rounds(alloc, 10, 11)?,
-        Err(AlgebraRefusal::TooManyStates)
-    );
+    for (left, right, want) in [
+        (
+            b"(aaaaaaaaaaaaaaaaaaaa)*".as_slice(),
+            b"(aaaaaaaaaaaaaaaaaaaa)*".as_slice(),
+            Ok(21),
+        ),
+        (
+            b"(aaaaaaaaaaa)*",
+            b"(aaaaaaaaaaaa)*",
+            Err(AlgebraRefusal::TooManyStates),
+        ),
+    ] {
+        assert_eq!(rt; states_of_join(rt.alloc(), left, right)?, want);
+    }
     Ok(())
 }
 
 /// The number of variables of the union of `$a{a}` and the same with these letters, or why there is none.
 fn union_of_letters(alloc: Global, letters: &[u8]) -> Result<Result<u8, AlgebraRefusal>, Fail> {
-    let mut whole = side_of(alloc, &capture(alloc, b'a')?, b"a")?;
+    let mut whole = side_of(alloc, b"$a{a}")?;
     for letter in letters {
-        let next = side_of(alloc, &capture(alloc, b'a')?, &[*letter])?;
+        let next = side_of(alloc, &[b'$', *letter, b'{', b'a', b'}'])?;
         match united(alloc, &whole, &next) {
             Ok(more) => whole = more,
             Err(refusal) => return Ok(Err(refusal)),
@@ -249,29 +178,27 @@ fn union_of_letters(alloc: Global, letters: &[u8]) -> Result<Result<u8, AlgebraR
 
 #[test]
 fn variable_cap(rt: HostRuntime) -> Result<(), Fail> {
-    let alloc = rt.alloc();
-    assert_eq!(rt; union_of_letters(alloc, b"bcdefgh")?, Ok(8));
-    assert_eq!(rt;
-        union_of_letters(alloc, b"bcdefghi")?,
-        Err(AlgebraRefusal::TooManyVariables)
-    );
+    for (letters, want) in [
+        (b"bcdefgh".as_slice(), Ok(8)),
+        (b"bcdefghi", Err(AlgebraRefusal::TooManyVariables)),
+    ] {
+        assert_eq!(rt; union_of_letters(rt.alloc(), letters)?, want);
+    }
     Ok(())
+}
+
+fn text_of(alloc: Global, refusal: AlgebraRefusal) -> Result<String, AllocError> {
+    refusal.to_string(alloc)
 }
 
 #[test]
 fn refusals(rt: HostRuntime) -> Result<(), Fail> {
-    let alloc = rt.alloc();
-    assert_eq!(rt;
-        AlgebraRefusal::TooManyVariables.to_string(alloc)?.as_str(),
-        "too many variables"
-    );
-    assert_eq!(rt;
-        AlgebraRefusal::TooManyStates.to_string(alloc)?.as_str(),
-        "too many states"
-    );
-    assert_eq!(rt;
-        AlgebraRefusal::NoMemory.to_string(alloc)?.as_str(),
-        "no memory"
-    );
+    for (refusal, want) in [
+        (AlgebraRefusal::TooManyVariables, "too many variables"),
+        (AlgebraRefusal::TooManyStates, "too many states"),
+        (AlgebraRefusal::NoMemory, "no memory"),
+    ] {
+        assert_eq!(rt; text_of(rt.alloc(), refusal)?.as_str(), want);
+    }
     Ok(())
 }

@@ -5,7 +5,7 @@ ghost use Rattle.query_book.specs.Serving.{Serves};
 
 use query_book::{BookRefusal, QueryBook, QueryRefusal};
 use span_types::{Name, NoMemory};
-use std::alloc::Global;
+use std::alloc::{AllocError, Global};
 use std::test::Fail;
 
 /// Registers the query of a text.
@@ -35,16 +35,14 @@ fn added(alloc: Global, book: &mut QueryBook, text: &[u8]) -> Result<String, NoM
 fn faults_of_formulas(rt: HostRuntime) -> Result<(), Fail> {
     let alloc = rt.alloc();
     let mut book = QueryBook::new(alloc);
-    assert_eq!(rt; added(alloc, &mut book, b"($x{a}|b)")?.as_str(), "ok");
-    assert_eq!(rt;
-        added(alloc, &mut book, b"$x{a}$x{b}")?.as_str(),
-        "not functional in x"
-    );
-    assert_eq!(rt;
-        added(alloc, &mut book, b"($x{a})*")?.as_str(),
-        "not functional in x"
-    );
-    assert_eq!(rt; added(alloc, &mut book, b"a)")?.as_str(), "not a formula");
+    for (text, want) in [
+        (b"($x{a}|b)".as_slice(), "ok"),
+        (b"$x{a}$x{b}", "not functional in x"),
+        (b"($x{a})*", "not functional in x"),
+        (b"a)", "not a formula"),
+    ] {
+        assert_eq!(rt; added(alloc, &mut book, text)?.as_str(), want);
+    }
     let Ok(vars) = book.vars(b"q") else {
         panic!(rt; "the refused formulas took the query out");
     };
@@ -56,33 +54,32 @@ fn faults_of_formulas(rt: HostRuntime) -> Result<(), Fail> {
 fn state_cap(rt: HostRuntime) -> Result<(), Fail> {
     let alloc = rt.alloc();
     let mut book = QueryBook::new(alloc);
-    assert_eq!(rt;
-        added(alloc, &mut book, b"[ab]*a[ab][ab][ab][ab][ab]")?.as_str(),
-        "ok"
-    );
-    assert_eq!(rt;
-        added(alloc, &mut book, b"[ab]*a[ab][ab][ab][ab][ab][ab]")?.as_str(),
-        "too many states"
-    );
-    assert_eq!(rt; book.remove(b"q"), Ok(()));
-    assert_eq!(rt; book.remove(b"q"), Err(BookRefusal::NoSuchQuery));
+    for (text, want) in [
+        (b"[ab]*a[ab][ab][ab][ab][ab]".as_slice(), "ok"),
+        (b"[ab]*a[ab][ab][ab][ab][ab][ab]", "too many states"),
+    ] {
+        assert_eq!(rt; added(alloc, &mut book, text)?.as_str(), want);
+    }
+    for want in [Ok(()), Err(BookRefusal::NoSuchQuery)] {
+        assert_eq!(rt; book.remove(b"q"), want);
+    }
     Ok(())
+}
+
+fn text_of(alloc: Global, refusal: BookRefusal) -> Result<String, AllocError> {
+    refusal.to_string(alloc)
 }
 
 #[test]
 fn texts_of_refusals(rt: HostRuntime) -> Result<(), Fail> {
     let alloc = rt.alloc();
-    assert_eq!(rt;
-        BookRefusal::NoSuchQuery.to_string(alloc)?.as_str(),
-        "no query has this name"
-    );
-    assert_eq!(rt;
-        BookRefusal::NoMemory.to_string(alloc)?.as_str(),
-        "no memory"
-    );
-    assert_eq!(rt;
-        QueryRefusal::NoMemory.to_string(alloc)?.as_str(),
-        "no memory"
-    );
+    for (refusal, want) in [
+        (BookRefusal::NoSuchQuery, "no query has this name"),
+        (BookRefusal::NoMemory, "no memory"),
+    ] {
+        assert_eq!(rt; text_of(alloc, refusal)?.as_str(), want);
+    }
+    let refusal = QueryRefusal::NoMemory;
+    assert_eq!(rt; refusal.to_string(alloc)?.as_str(), "no memory");
     Ok(())
 }

@@ -2,7 +2,7 @@
 use crate::books::register;
 use line_parts::is_name_list;
 use query_book::{CombineRefusal, QueryBook};
-use span_types::{Name, NoMemory};
+use span_types::{Name, NoMemory, is_well_named};
 use std::alloc::Global;
 use std::test::Fail;
 
@@ -29,8 +29,9 @@ fn said(
     }
 }
 
-fn name(alloc: Global, bytes: &[u8]) -> Result<Name, NoMemory> {
-    Name::new(alloc, bytes).map_err(|_| NoMemory)
+/// The name of the query that is made.
+fn made_name(alloc: Global) -> Result<Name, NoMemory> {
+    Name::new(alloc, b"n").map_err(|_| NoMemory)
 }
 
 fn united(
@@ -39,9 +40,10 @@ fn united(
     left: &[u8],
     right: &[u8],
 ) -> Result<String, NoMemory> {
-    let left = name(alloc, left)?;
-    let right = name(alloc, right)?;
-    let made = book.union(alloc, name(alloc, b"n")?, left.bytes(), right.bytes());
+    if !is_well_named(left) || !is_well_named(right) {
+        return Err(NoMemory);
+    }
+    let made = book.union(alloc, made_name(alloc)?, left, right);
     said(alloc, book, made)
 }
 
@@ -51,9 +53,10 @@ fn joined(
     left: &[u8],
     right: &[u8],
 ) -> Result<String, NoMemory> {
-    let left = name(alloc, left)?;
-    let right = name(alloc, right)?;
-    let made = book.join(alloc, name(alloc, b"n")?, left.bytes(), right.bytes());
+    if !is_well_named(left) || !is_well_named(right) {
+        return Err(NoMemory);
+    }
+    let made = book.join(alloc, made_name(alloc)?, left, right);
     said(alloc, book, made)
 }
 
@@ -63,11 +66,10 @@ fn projected(
     source: &[u8],
     keep: &[u8],
 ) -> Result<String, NoMemory> {
-    let source = name(alloc, source)?;
-    if !is_name_list(keep) {
+    if !is_well_named(source) || !is_name_list(keep) {
         return Err(NoMemory);
     }
-    let made = book.project(alloc, name(alloc, b"n")?, source.bytes(), keep);
+    let made = book.project(alloc, made_name(alloc)?, source, keep);
     said(alloc, book, made)
 }
 

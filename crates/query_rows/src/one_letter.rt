@@ -6,19 +6,18 @@ ghost use Rattle.state_tables.specs.Dictionary.{count_of, table_of};
 ghost use Rattle.state_tables.specs.Meaning.{IsTable};
 ghost use Rattle.span_enum.specs.Listing.{IsReady};
 
-use crate::formulas::perhaps_x;
-use marker_dfa::{Dfa, DfaRefusal, determinise};
-use marker_nfa::of_formula;
+use crate::formulas::dfa_of;
+use marker_dfa::Dfa;
 use node_store::NodeId;
 use span_types::{NoMemory, Steps};
 use state_tables::{Tables, View, of_byte};
 use std::alloc::Global;
 use std::sync::ledger::Ledger;
+use std::test::Fail;
 
 /// The automaton of `$x{a}|a`.
-pub fn dfa_of_x(alloc: Global) -> Result<Dfa, DfaRefusal> {
-    let nfa = of_formula(alloc, &perhaps_x(alloc)?)?;
-    determinise(alloc, &nfa)
+pub fn dfa_of_x(alloc: Global) -> Result<Dfa, Fail> {
+    Ok(dfa_of(alloc, b"$x{a}|a")??)
 }
 
 /// The tables of a store whose one node is `a`.
