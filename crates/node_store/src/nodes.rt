@@ -48,7 +48,7 @@ impl Narrow {
     // What is hashed. The ids of children are near each other, and the hasher alone would put them into some parts of the
     // index more than into others; an odd factor (G. Steele and S. Vigna, Computationally easy, spectrally good
     // multipliers, 2022) spreads them.
-    fn spread(&self) -> u64
+    pub(crate) fn spread(&self) -> u64
         ensures { result ≡ spread self.now }
     {
         self.number().wrapping_mul(0xD134_2543_DE82_EF95)
