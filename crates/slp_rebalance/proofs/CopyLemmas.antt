@@ -1,5 +1,5 @@
 -- Texts as often as a number says.
-use Rattle.std.proofs.Common.{◌≡◌, ℕ, zero, suc, ◌+◌, ◌*◌, ◌-◌, ◌/◌, ◌%◌, ◌^◌, ◌<◌, ◌≤◌, List, ◌++◌, length, ap, sym, subst, ◌∙◌, arith, append_assoc, append-nil, length-append, zero-add}
+use Rattle.std.proofs.Common.{◌≡◌, ℕ, zero, suc, ◌+◌, ◌*◌, ◌-◌, ◌/◌, ◌^◌, ◌<◌, ◌≤◌, List, ◌++◌, length, ap, sym, subst, ◌∙◌, arith, append_assoc, append-nil, length-append, zero-add}
 use Rattle.slp_model.specs.Tree.{Tree, text, leaves}
 use Rattle.slp_model.proofs.TreeLemmas.{length-text}
 use Rattle.slp_rebalance.specs.Copies.{copies, digits_in, run_cost}
@@ -17,13 +17,6 @@ pub length-copies : (n : ℕ) (s : List ℕ) → length (copies n s) ≡ n * len
 length-copies zero s = omega arith
 length-copies (suc n) s = let e : suc n * length s ≡ length s + n * length s = omega arith in omega (arith, e, length-append s (copies n s), length-copies n s)
 
--- twice half as often, and once more
-pub copies-even : (h times : ℕ) (s : List ℕ) → times ≡ h + h → copies h s ++ copies h s ≡ copies times s
-copies-even h times s e = sym (ap (λ k. copies k s) e ∙ copies-add h h s)
-
-pub copies-odd : (h times : ℕ) (s : List ℕ) → times ≡ (h + h) + 1 → (copies h s ++ copies h s) ++ s ≡ copies times s
-copies-odd h times s e = sym (ap (λ k. copies k s) e ∙ (copies-add (h + h) 1 s ∙ (ap (λ x. x ++ copies 1 s) (copies-add h h s) ∙ ap (λ x. (copies h s ++ copies h s) ++ x) (copies-one s))))
-
 -- the leaves of a tree with such a text
 pub leaves-copies : (t u : Tree) (n : ℕ) → text t ≡ copies n (text u) → leaves t ≡ n * leaves u
 leaves-copies t u n e =
@@ -31,7 +24,7 @@ leaves-copies t u n e =
     let m : n * length (text u) ≡ n * leaves u = ap (λ k. n * k) (length-text u) in
     omega (arith, l, m, length-text t)
 
-times-more : (n k m : ℕ) → n * m ≤ (n + k) * m
+pub times-more : (n k m : ℕ) → n * m ≤ (n + k) * m
 times-more n k m = let e : (n + k) * m ≡ n * m + k * m = omega arith in omega (arith, e)
 
 -- half as often is no longer
@@ -41,21 +34,7 @@ half-short times m h =
     let l : (times / 2) * m ≤ times * m = subst (λ k. (times / 2) * m ≤ k * m) e (times-more (times / 2) (times - times / 2) m) in
     omega (arith, l, h)
 
-pub double-short : (times m : ℕ) → times * m ≤ 2 ^ 48 → (times / 2) * m + (times / 2) * m ≤ 2 ^ 48
-double-short times m h =
-    let e : (times / 2 + times / 2) + (times - (times / 2 + times / 2)) ≡ times = omega arith in
-    let d : (times / 2 + times / 2) * m ≡ (times / 2) * m + (times / 2) * m = omega arith in
-    let l : (times / 2 + times / 2) * m ≤ times * m = subst (λ k. (times / 2 + times / 2) * m ≤ k * m) e (times-more (times / 2 + times / 2) (times - (times / 2 + times / 2)) m) in
-    omega (arith, l, h, d)
-
-pub odd-short : (times m : ℕ) → times % 2 ≡ 1 → times * m ≤ 2 ^ 48 → ((times / 2) * m + (times / 2) * m) + m ≤ 2 ^ 48
-odd-short times m o h =
-    let e : (times / 2 + times / 2) + 1 ≡ times = omega (arith, o) in
-    let d : ((times / 2 + times / 2) + 1) * m ≡ ((times / 2) * m + (times / 2) * m) + m = omega arith in
-    let l : ((times / 2) * m + (times / 2) * m) + m ≡ times * m = sym d ∙ ap (λ k. k * m) e in
-    omega (arith, l, h)
-
-some_digits : (places n : ℕ) → 1 ≤ n → n < 2 ^ places → 1 ≤ digits_in places n
+pub some_digits : (places n : ℕ) → 1 ≤ n → n < 2 ^ places → 1 ≤ digits_in places n
 some_digits zero n a b = absurd (omega (arith, a, b))
 some_digits (suc places) zero a b = absurd (omega (arith, a))
 some_digits (suc places) (suc n) a b = omega arith

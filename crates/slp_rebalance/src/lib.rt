@@ -10,7 +10,7 @@
 //! ```
 //!
 //! So a grammar from anywhere, however deep, becomes a store of low trees. A pair makes at most 205 pair calls (one
-//! where its two sides are about as high), a run of c times at most 206 for each binary digit of c but the first, and
+//! where its two sides are about as high), a run of c times two for each binary digit of c but the first at most, and
 //! an entry takes the memory of a number.
 //!
 //! Balancing a grammar by joining height-balanced trees is due to W. Rytter, Theoretical Computer Science 302, 2003.
@@ -21,7 +21,8 @@ ghost use Rattle.slp_model.specs.Tree.{Leaf, text, leaves, height, IsNear};
 ghost use Rattle.slp_model.specs.Nodes.{tree, Grows};
 ghost use Rattle.slp_model.specs.Join.{join, IsJoined};
 ghost use Rattle.slp_rebalance.specs.Entries.{entry_trees, AreEntries, IsRepeated};
-ghost use Rattle.slp_rebalance.specs.Copies.{copies, run_cost};
+ghost use Rattle.slp_rebalance.specs.Copies.{copies, digits_in, run_cost};
+ghost use Rattle.slp_rebalance.specs.Around.{AreAround};
 
 use node_store::{NodeId, Store};
 use slp_concat::join;
@@ -155,8 +156,8 @@ impl Roots {
     }
 }
 
-// A node with the text of the node so many times: half as often, twice, and once more where the
-// number is odd. So it calls itself at most 63 times.
+// A node with the text of the node so many times: twice half as often, or, where the number is odd, half as often and
+// once more. It and `around` call themselves at most 63 times together.
 fn repeated<L: Ledger>(
     store: &mut Store,
     id: NodeId,
@@ -174,12 +175,42 @@ fn repeated<L: Ledger>(
     if times == 1 {
         return Ok(id);
     }
-    let half = repeated(store, id, times / 2, pairs)?;
-    let double = join(store, half, half, pairs)?;
     if times % 2 == 0 {
-        return Ok(double);
+        let half = repeated(store, id, times / 2, pairs)?;
+        return store.pair(half, half, pairs);
     }
-    join(store, double, id, pairs)
+    let (fewer, more) = around(store, id, times / 2, pairs)?;
+    store.pair(more, fewer, pairs)
+}
+
+// Nodes with the text of the node so many times, and once more. Their heights differ by at most one, so that each of them
+// is a pair of two such nodes for half the number, and no join has to go down: a number has two nodes for each of its binary
+// digits at most.
+fn around<L: Ledger>(
+    store: &mut Store,
+    id: NodeId,
+    times: u64,
+    pairs: &mut Steps<L>,
+) -> Result<(NodeId, NodeId), NoMemory>
+    requires live { id.index < length store.old }
+    requires some { 1 ≤ times }
+    requires short { (times + 1) * leaves (tree store.old id.index) ≤ 2 ^ 48 }
+    ensures grows { Grows store.old store.new pairs.old pairs.new }
+    ensures around { IfOk result (λ r. AreAround store.new (text (tree store.old id.index)) times r.0.index r.1.index) }
+    ensures cost { (places : ℕ) → times < 2 ^ places → pairs.new + 1 ≤ pairs.old + 2 * digits_in places times }
+{
+    if times == 1 {
+        let twice = store.pair(id, id, pairs)?;
+        return Ok((id, twice));
+    }
+    let (fewer, more) = around(store, id, times / 2, pairs)?;
+    let between = store.pair(more, fewer, pairs)?;
+    if times % 2 == 0 {
+        let twice = store.pair(fewer, fewer, pairs)?;
+        return Ok((twice, between));
+    }
+    let twice = store.pair(more, more, pairs)?;
+    Ok((between, twice))
 }
 
 #[cfg(test)]
