@@ -26,8 +26,6 @@ mod kept;
 mod memory;
 mod outside;
 mod sure;
-#[cfg(test)]
-mod tests;
 
 ghost use Rattle.std.specs.Prelude.{◌≡◌, ◌<◌, ◌≤◌, List, ℕ, None, length, take, IfOk, IfErr, IfSome, OnOk};
 ghost use Rattle.std.specs.Io.{ReadsAtMost};

@@ -160,5 +160,3 @@ impl<V> NameMap<V> {
 }
 
 mod slots;
-#[cfg(test)]
-mod tests;

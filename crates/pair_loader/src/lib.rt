@@ -161,6 +161,3 @@ pub fn load<L: Ledger>(
     loader.feed(store, bytes, pairs)?;
     loader.finish(store, pairs)
 }
-
-#[cfg(test)]
-mod tests;

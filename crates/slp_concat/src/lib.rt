@@ -100,39 +100,3 @@ pub fn join<L: Ledger>(
     }
     store.pair(a, b, pairs)
 }
-
-#[cfg(test)]
-mod tests {
-    use super::*;
-    use node_store::Node;
-    use std::alloc::Global;
-    use std::marker::Brand;
-    use std::process::Abort;
-    use std::sync::ledger::Blank;
-    use std::test::Fail;
-
-    #[test]
-    fn two_bytes_joined(rt: HostRuntime) -> Result<(), Fail> {
-        let alloc = rt.alloc();
-        joined::<Brand>(&rt, alloc, Blank::new(1))
-    }
-
-    fn joined<L: Ledger>(rt: &impl Abort, alloc: Global, blank: Blank) -> Result<(), Fail>
-        requires name { blank.name ≡ L.name }
-        requires parts { blank.parts ≡ L.parts }
-        requires some { 0 < L.parts }
-    {
-        let mut pairs = Steps::<L>::new(blank);
-        let mut store = Store::new(alloc);
-        let a = store.byte(b'a')?;
-        assert!(rt; a.index < store.count() && store.len(a) == 1);
-        let twice = join(&mut store, a, a, &mut pairs)?;
-        assert_eq!(rt; store.node(twice), Node::Pair(a, a));
-        assert!(rt; a.index < store.count() && store.len(a) == 1);
-        assert_eq!(rt;
-            concat(&mut store, Some(a), Some(a), &mut pairs)?,
-            Some(twice)
-        );
-        Ok(())
-    }
-}

@@ -1,13 +1,9 @@
 //! Gates that show that `run` hands on the workers that the words ask for.
-ghost use Rattle.std.specs.Prelude.{◌≡◌, ◌<◌};
-
-use edge_io::{MemSink, MemSource, SureShelf};
-use span_run::{Status, run};
-use span_types::Steps;
-use std::alloc::Global;
-use std::marker::Brand;
+use crate::running::{run_over, words_of};
+use edge_io::{MemSource, SureShelf, SureSink};
+use span_run::Status;
+use std::alloc::{AllocError, Global};
 use std::sync::atomic::{AtomicU64, Ordering};
-use std::sync::ledger::{Blank, Ledger};
 use std::test::Fail;
 use std::thread::Threads;
 use work_gate::Gate;
@@ -41,81 +37,43 @@ impl Gate for Meeting {
 type Met = (Status, u64, u64);
 
 /// Runs a script with two workers, over a gate that lets so many pass before it holds one.
-fn met<R: Threads + Sync, P: Ledger, T: Ledger, L: Ledger>(
+fn met<R: Threads + Sync>(
     rt: &R,
     alloc: Global,
     script: &[u8],
     passing: u64,
-    pairs: Blank,
-    places: Blank,
-    looks: Blank,
-) -> Result<Met, Fail>
-    requires pairs { (pairs.name ≡ P.name) × (pairs.parts ≡ P.parts) × (0 < P.parts) }
-    requires places { (places.name ≡ T.name) × (places.parts ≡ T.parts) × (0 < T.parts) }
-    requires looks { (looks.name ≡ L.name) × (looks.parts ≡ L.parts) × (0 < L.parts) }
-{
-    let mut words = Vec::new(alloc);
-    words.push("--workers".to_string(alloc)?)?;
-    words.push("2".to_string(alloc)?)?;
+) -> Result<Met, AllocError> {
+    let words = words_of(alloc, &["--workers", "2"])?;
     let mut source = MemSource::new(script.to_vec(alloc)?, 1000, vec![in alloc; 0]?);
-    let mut sink = MemSink::new(alloc, 1000, vec![in alloc; 0]?);
-    let mut shelf = SureShelf::new(Vec::new(alloc));
-    let mut pairs = Steps::<P>::new(pairs);
-    let mut places = Steps::<T>::new(places);
-    let mut looks = Steps::<L>::new(looks);
     let gate = Meeting {
         passing,
         arrived: AtomicU64::new(0),
         gave_up: AtomicU64::new(0),
     };
-    let status = run(
+    let status = run_over(
         rt,
         alloc,
         &words,
         &mut source,
-        &mut sink,
-        &mut shelf,
+        &mut SureSink::new(alloc),
+        &mut SureShelf::new(Vec::new(alloc)),
         &gate,
-        &mut pairs,
-        &mut places,
-        &mut looks,
     );
     let arrived = gate.arrived.load(Ordering::SeqCst);
     Ok((status, arrived, gate.gave_up.load(Ordering::SeqCst)))
 }
 
-#[test]
-fn two_nodes_meet(rt: HostRuntime) -> Result<(), Fail> {
-    let script = b"text d abcd\nquery q .*\ntest q d\n".as_slice();
-    let (status, arrived, gave_up) = met::<HostRuntime, Brand, Brand, Brand>(
-        &rt,
-        rt.alloc(),
-        script,
-        0,
-        Blank::new(1),
-        Blank::new(1),
-        Blank::new(1),
-    )?;
-    assert_eq!(rt; status, Status::Done);
-    assert_eq!(rt; arrived, 7);
-    assert_eq!(rt; gave_up, 0);
-    Ok(())
-}
+/// Scripts, how many pass before one is held, and how many arrive: first two nodes meet, and then two documents.
+const MEETINGS: [(&str, u64, u64); 2] = [
+    ("text d abcd\nquery q .*\ntest q d\n", 0, 7),
+    ("text a a\ntext b b\nquery q .\ntest q a\nlistall q\n", 2, 4),
+];
 
 #[test]
-fn two_documents_meet(rt: HostRuntime) -> Result<(), Fail> {
-    let script = b"text a a\ntext b b\nquery q .\ntest q a\nlistall q\n".as_slice();
-    let (status, arrived, gave_up) = met::<HostRuntime, Brand, Brand, Brand>(
-        &rt,
-        rt.alloc(),
-        script,
-        2,
-        Blank::new(1),
-        Blank::new(1),
-        Blank::new(1),
-    )?;
-    assert_eq!(rt; status, Status::Done);
-    assert_eq!(rt; arrived, 4);
-    assert_eq!(rt; gave_up, 0);
+fn two_pieces_meet(rt: HostRuntime) -> Result<(), Fail> {
+    for (script, passing, arrived) in MEETINGS {
+        let told = met(&rt, rt.alloc(), script.as_bytes(), passing)?;
+        assert_eq!(rt; told, (Status::Done, arrived, 0), "{script}");
+    }
     Ok(())
 }

@@ -3,12 +3,11 @@ ghost use Rattle.std.specs.Prelude.{◌≡◌, ◌<◌, ◌≤◌, Some, length,
 ghost use Rattle.std.specs.Io.KnownBytes.{WriteAppends};
 ghost use Rattle.edge_io.specs.Causes.{HasWriteCause};
 
+use crate::running::run_over;
 use edge_io::{Sink, SureShelf, SureSink, SureSource, WriteRefusal};
-use span_run::{Status, run};
-use span_types::Steps;
+use span_run::Status;
 use std::alloc::{AllocError, Global};
-use std::marker::{Brand, Model};
-use std::sync::ledger::{Blank, Ledger};
+use std::marker::Model;
 use std::thread::Threads;
 use work_gate::OpenGate;
 
@@ -67,30 +66,8 @@ pub fn ran_by_halves<R: Threads + Sync>(
     alloc: Global,
     script: Vec<u8>,
 ) -> Result<(Status, Vec<u8>), AllocError> {
-    counted::<R, Brand, Brand, Brand>(
-        rt,
-        alloc,
-        script,
-        Blank::new(1),
-        Blank::new(1),
-        Blank::new(1),
-    )
-}
-
-fn counted<R: Threads + Sync, P: Ledger, T: Ledger, L: Ledger>(
-    rt: &R,
-    alloc: Global,
-    script: Vec<u8>,
-    pairs: Blank,
-    places: Blank,
-    looks: Blank,
-) -> Result<(Status, Vec<u8>), AllocError>
-    requires pairs { (pairs.name ≡ P.name) × (pairs.parts ≡ P.parts) × (0 < P.parts) }
-    requires places { (places.name ≡ T.name) × (places.parts ≡ T.parts) × (0 < T.parts) }
-    requires looks { (looks.name ≡ L.name) × (looks.parts ≡ L.parts) × (0 < L.parts) }
-{
     let mut sink = HalfSink::new(alloc);
-    let status = run(
+    let status = run_over(
         rt,
         alloc,
         &[],
@@ -98,9 +75,6 @@ fn counted<R: Threads + Sync, P: Ledger, T: Ledger, L: Ledger>(
         &mut sink,
         &mut SureShelf::new(Vec::new(alloc)),
         &OpenGate,
-        &mut Steps::<P>::new(pairs),
-        &mut Steps::<T>::new(places),
-        &mut Steps::<L>::new(looks),
     );
     Ok((status, sink.written().to_vec(alloc)?))
 }

@@ -30,25 +30,35 @@ fn shelf_of(
     Ok(MemShelf::new(files, piece.max(1), vec![in alloc; bad_call]?))
 }
 
-/// Runs a script over such a shelf.
-fn remains_of<R: Threads + Sync>(
+/// Runs a script over a shelf.
+fn remains_over<R: Threads + Sync>(
     rt: &R,
     alloc: Global,
-    name: &str,
-    bytes: &[u8],
-    piece: usize,
-    bad_call: u64,
+    mut shelf: MemShelf,
     script: &str,
+    setting: Setting<'_>,
 ) -> Result<Remains, AllocError> {
-    let mut shelf = shelf_of(alloc, name, bytes, piece, bad_call)?;
     let script = script.as_bytes().to_vec(alloc)?;
-    let (status, written) = ran_over(rt, alloc, script, plain(), &mut shelf)?;
+    let (status, written) = ran_over(rt, alloc, script, setting, &mut shelf)?;
     let file = shelf.file(b"f").unwrap_or(&[]).to_vec(alloc)?;
     Ok(Remains {
         status,
         written,
         file,
     })
+}
+
+/// Runs a script over a shelf with one file.
+fn remains_of<R: Threads + Sync>(
+    rt: &R,
+    alloc: Global,
+    name: &str,
+    bytes: &[u8],
+    piece: usize,
+    script: &str,
+) -> Result<Remains, AllocError> {
+    let shelf = shelf_of(alloc, name, bytes, piece, 0)?;
+    remains_over(rt, alloc, shelf, script, plain())
 }
 
 /// The image of one document `d` with the text `ab`.
@@ -104,7 +114,7 @@ fn files_are_read(rt: HostRuntime) -> Result<(), Fail> {
     let alloc = rt.alloc();
     for (name, bytes, script, output, status) in ROWS {
         for piece in [1, 65_536] {
-            let remains = remains_of(&rt, alloc, name, bytes, piece, 0, script)?;
+            let remains = remains_of(&rt, alloc, name, bytes, piece, script)?;
             assert_eq!(rt; remains.status, status, "{script}");
             assert_eq!(rt; remains.written.as_slice(), output.as_bytes(), "{script}");
         }
@@ -116,7 +126,7 @@ fn files_are_read(rt: HostRuntime) -> Result<(), Fail> {
 fn saved_image<R: Threads + Sync>(rt: &R, alloc: Global) -> Result<Remains, AllocError> {
     let text = "ab".repeat(alloc, 1024)?;
     let script = "load d f\nsave f\n";
-    remains_of(rt, alloc, "f", text.as_bytes(), 65_536, 0, script)
+    remains_of(rt, alloc, "f", text.as_bytes(), 65_536, script)
 }
 
 #[test]
@@ -127,7 +137,7 @@ fn an_image_is_saved(rt: HostRuntime) -> Result<(), Fail> {
     assert!(rt; whole.written.ends_with(b"\"\nok 1 13\n"));
     assert_eq!(rt; whole.file.len(), 222);
     let _ = whole.file.pop();
-    let cut = remains_of(&rt, alloc, "f", &whole.file, 65_536, 0, "open f\n")?;
+    let cut = remains_of(&rt, alloc, "f", &whole.file, 65_536, "open f\n")?;
     assert_eq!(rt; cut.status, Status::SomeRefused);
     assert_eq!(rt; cut.written.as_slice(), b"line 1: BadImage 3\n".as_slice());
     Ok(())
@@ -241,15 +251,8 @@ fn remains_with<R: Threads + Sync>(
         bad_write,
         ..plain()
     };
-    let mut shelf = shelf_of(alloc, case.name, case.bytes, 1, bad_call)?;
-    let script = case.script.as_bytes().to_vec(alloc)?;
-    let (status, written) = ran_over(rt, alloc, script, setting, &mut shelf)?;
-    let file = shelf.file(b"f").unwrap_or(&[]).to_vec(alloc)?;
-    Ok(Remains {
-        status,
-        written,
-        file,
-    })
+    let shelf = shelf_of(alloc, case.name, case.bytes, 1, bad_call)?;
+    remains_over(rt, alloc, shelf, case.script, setting)
 }
 
 #[test]

@@ -3,6 +3,7 @@ use crate::running::{Setting, plain, ran, words_of};
 use span_run::Status;
 use std::alloc::{AllocError, Global};
 use std::test::Fail;
+use std::thread::Threads;
 
 /// A script, its whole output and its status.
 type Row = (&'static str, &'static str, Status);
@@ -193,68 +194,142 @@ pub fn ends_with(written: &[u8], end: &str) -> bool {
     written.ends_with(end.as_bytes())
 }
 
+/// A script that begins with a text and goes on with another so many times, what ends it, the status, the last bytes that are
+/// written, and whether these are all.
+type LongRow = (
+    &'static str,
+    &'static str,
+    usize,
+    &'static str,
+    Status,
+    &'static str,
+    bool,
+);
+
+/// How a long script ends, and whether the row says what it writes.
+fn told<R: Threads + Sync>(
+    rt: &R,
+    alloc: Global,
+    row: LongRow,
+    piece: usize,
+) -> Result<(Status, bool), AllocError> {
+    let (first, line, times, last, _, end, whole) = row;
+    let setting = Setting { piece, ..plain() };
+    let script = repeated(alloc, first, line, times, last)?;
+    let (status, written) = ran(rt, alloc, script, setting)?;
+    let is_whole = !whole || written.len() == end.len();
+    Ok((status, is_whole && ends_with(&written, end)))
+}
+
+const DOUBLINGS: [LongRow; 4] = [
+    (
+        "text d ab\n",
+        "let d = concat(d,d)\n",
+        47,
+        "",
+        Status::Done,
+        "\nok d 281474976710656 \"abababababababababababababababab\"\n",
+        false,
+    ),
+    (
+        "text d ab\n",
+        "let d = concat(d,d)\n",
+        48,
+        "",
+        Status::SomeRefused,
+        "\nline 49: TooLong 562949953421312\n",
+        false,
+    ),
+    (
+        "text d ab\n",
+        "let d = concat(d,d)\n",
+        12,
+        "show d 1 4098\n",
+        Status::SomeRefused,
+        "\nline 14: RangeTooWide 4097\n",
+        false,
+    ),
+    (
+        "text d ",
+        "a",
+        5000,
+        "\nshow d 1 4098\n",
+        Status::SomeRefused,
+        "\nline 2: RangeTooWide 4097\n",
+        false,
+    ),
+];
+
 #[test]
-fn doubling_to_the_limit(rt: HostRuntime) -> Result<(), Fail> {
-    let alloc = rt.alloc();
-    let line = "let d = concat(d,d)\n";
-    let (status, written) = ran(
-        &rt,
-        alloc,
-        repeated(alloc, "text d ab\n", line, 47, "")?,
-        plain(),
-    )?;
-    assert_eq!(rt; status, Status::Done);
-    assert!(rt;
-        ends_with(
-            &written,
-            "\nok d 281474976710656 \"abababababababababababababababab\"\n"
-        )
-    );
-    let (status, written) = ran(
-        &rt,
-        alloc,
-        repeated(alloc, "text d ab\n", line, 48, "")?,
-        plain(),
-    )?;
-    assert_eq!(rt; status, Status::SomeRefused);
-    assert!(rt; ends_with(&written, "\nline 49: TooLong 562949953421312\n"));
+fn lengths_and_widths(rt: HostRuntime) -> Result<(), Fail> {
+    for row in DOUBLINGS {
+        assert_eq!(rt;
+            told(&rt, rt.alloc(), row, 1000)?,
+            (row.4, true),
+            "{}",
+            row.2
+        );
+    }
     Ok(())
 }
 
 #[test]
-fn width_of_a_shown_range(rt: HostRuntime) -> Result<(), Fail> {
+fn widest_shown_range(rt: HostRuntime) -> Result<(), Fail> {
     let alloc = rt.alloc();
     let line = "let d = concat(d,d)\n";
-    let (status, written) = ran(
-        &rt,
-        alloc,
-        repeated(alloc, "text d ab\n", line, 12, "show d 1 4098\n")?,
-        plain(),
-    )?;
-    assert_eq!(rt; status, Status::SomeRefused);
-    assert!(rt; ends_with(&written, "\nline 14: RangeTooWide 4097\n"));
-    let (status, written) = ran(
-        &rt,
-        alloc,
-        repeated(alloc, "text d ab\n", line, 12, "show d 1 4097\n")?,
-        plain(),
-    )?;
+    let script = repeated(alloc, "text d ab\n", line, 12, "show d 1 4097\n")?;
+    let (status, written) = ran(&rt, alloc, script, plain())?;
     assert_eq!(rt; status, Status::Done);
     let shown = repeated(alloc, "\"", "ab", 2048, "\"\n")?;
     assert!(rt; written.ends_with(&shown));
-    let (status, written) = ran(
-        &rt,
-        alloc,
-        repeated(alloc, "text d ", "a", 5000, "\nshow d 1 4098\n")?,
-        plain(),
-    )?;
-    assert_eq!(rt; status, Status::SomeRefused);
-    assert!(rt; ends_with(&written, "\nline 2: RangeTooWide 4097\n"));
+    Ok(())
+}
+
+const LINES: [LongRow; 3] = [
+    (
+        "text d ",
+        "a",
+        65_529,
+        "\n",
+        Status::Done,
+        "ok d 65529 \"aaaaaaaaaaaaaaaaaaaaaaaaaaaaaaaa\"\n",
+        true,
+    ),
+    (
+        "text d ",
+        "a",
+        65_530,
+        "\n",
+        Status::SomeRefused,
+        "line 1: Syntax\n",
+        true,
+    ),
+    (
+        "#",
+        "a",
+        65_536,
+        "\n",
+        Status::SomeRefused,
+        "line 1: Syntax\n",
+        true,
+    ),
+];
+
+#[test]
+fn lengths_of_lines(rt: HostRuntime) -> Result<(), Fail> {
+    for row in LINES {
+        assert_eq!(rt;
+            told(&rt, rt.alloc(), row, 1 << 20)?,
+            (row.4, true),
+            "{}",
+            row.2
+        );
+    }
     Ok(())
 }
 
 #[test]
-fn lengths_of_lines_and_scripts(rt: HostRuntime) -> Result<(), Fail> {
+fn script_of_a_byte_too_many(rt: HostRuntime) -> Result<(), Fail> {
     let alloc = rt.alloc();
     let wide = Setting {
         piece: 1 << 20,
@@ -263,25 +338,6 @@ fn lengths_of_lines_and_scripts(rt: HostRuntime) -> Result<(), Fail> {
     let (status, written) = ran(&rt, alloc, vec![in alloc; b'#'; (1 << 24) + 1]?, wide)?;
     assert_eq!(rt; status, Status::ScriptTooLong);
     assert_eq!(rt; written.len(), 0);
-    let (status, written) = ran(
-        &rt,
-        alloc,
-        repeated(alloc, "text d ", "a", 65_529, "\n")?,
-        wide,
-    )?;
-    assert_eq!(rt; status, Status::Done);
-    assert!(rt; written.starts_with(b"ok d 65529 \"aaaa"));
-    let (status, written) = ran(
-        &rt,
-        alloc,
-        repeated(alloc, "text d ", "a", 65_530, "\n")?,
-        wide,
-    )?;
-    assert_eq!(rt; status, Status::SomeRefused);
-    assert_eq!(rt; written.as_slice(), b"line 1: Syntax\n".as_slice());
-    let (status, written) = ran(&rt, alloc, repeated(alloc, "#", "a", 65_536, "\n")?, wide)?;
-    assert_eq!(rt; status, Status::SomeRefused);
-    assert_eq!(rt; written.as_slice(), b"line 1: Syntax\n".as_slice());
     Ok(())
 }
 

@@ -1,8 +1,8 @@
 //! A row of cuts.
 ghost use Rattle.std.specs.Prelude.{◌≡◌, ◌<◌};
 
+use crate::tried::{len, pair, part, parts};
 use node_store::Store;
-use slp_split::{extract, split};
 use span_types::Steps;
 use std::alloc::Global;
 use std::marker::Brand;
@@ -18,18 +18,12 @@ fn cut<L: Ledger>(rt: &impl Abort, alloc: Global, blank: Blank) -> Result<(), Fa
     let mut pairs = Steps::<L>::new(blank);
     let mut store = Store::new(alloc);
     let a = store.byte(b'a')?;
-    assert!(rt; a.index < store.count() && store.len(a) == 1);
-    let twice = store.pair(a, a, &mut pairs)?;
-    assert_eq!(rt; store.len(twice), 2);
-    assert_eq!(rt;
-        split(&mut store, Some(twice), 2, &mut pairs)?,
-        (Some(a), Some(a))
-    );
-    assert!(rt; twice.index < store.count() && store.len(twice) == 2);
-    assert_eq!(rt;
-        extract(&mut store, Some(twice), 2, 3, &mut pairs)?,
-        Some(a)
-    );
+    let twice = pair(&mut store, a, a, &mut pairs)?;
+    assert!(rt; len(&store, twice) == 2);
+    let both = parts(&mut store, twice, 2, &mut pairs)?;
+    assert!(rt; both == (Some(a), Some(a)));
+    let last = part(&mut store, twice, 2, 3, &mut pairs)?;
+    assert!(rt; last == Some(a));
     Ok(())
 }
 

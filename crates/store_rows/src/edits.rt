@@ -1,6 +1,7 @@
 //! Rows of editing expressions.
-ghost use Rattle.std.specs.Prelude.{◌≡◌, ◌<◌};
+ghost use Rattle.std.specs.Prelude.{◌≡◌, ◌<◌, IfOk, length};
 
+use crate::tried::pair;
 use doc_book::Docs;
 use edit_expr::{EditRefusal, ExprRefusal, eval, read};
 use node_store::Store;
@@ -8,63 +9,67 @@ use slp_model::{Node, NodeId};
 use span_types::{Name, Steps};
 use std::alloc::{AllocError, Global};
 use std::marker::Brand;
-use std::process::Abort;
 use std::sync::ledger::{Blank, Ledger};
 use std::test::Fail;
 
+const EXPRESSIONS: [&[u8]; 11] = [
+    b"a",
+    b" a.b-c_9 ",
+    b"concat",
+    b"concat(a,b)",
+    b"  concat  (  a  ,  b  )  ",
+    b"concat (a,b)",
+    b"concat(concat,copy)",
+    b"extract(d,0,18446744073709551615)",
+    b"delete(d,1,5)",
+    b"insert(d,concat(d,e),3)",
+    b"copy( d , 1 , 3 , 5 )",
+];
+
 #[test]
 fn texts_that_write_one(rt: HostRuntime) -> Result<(), Fail> {
-    for text in [
-        b"a".as_slice(),
-        b" a.b-c_9 ".as_slice(),
-        b"concat".as_slice(),
-        b"concat(a,b)".as_slice(),
-        b"  concat  (  a  ,  b  )  ".as_slice(),
-        b"concat (a,b)".as_slice(),
-        b"concat(concat,copy)".as_slice(),
-        b"extract(d,0,18446744073709551615)".as_slice(),
-        b"delete(d,1,5)".as_slice(),
-        b"insert(d,concat(d,e),3)".as_slice(),
-        b"copy( d , 1 , 3 , 5 )".as_slice(),
-    ] {
+    for text in EXPRESSIONS {
         assert!(rt; read(rt.alloc(), text).is_ok(), "{text:?}");
     }
     Ok(())
 }
 
+const OTHERS: [&[u8]; 25] = [
+    b"",
+    b"  ",
+    b"1",
+    b"9a",
+    b"a b",
+    b"a,b",
+    b"\ta",
+    b"concat(a b)",
+    b"concat(a)",
+    b"concat(a,b",
+    b"concat(a,b))",
+    b"concat(a,b)c",
+    b"concat(a,b,c)",
+    b"concat(,b)",
+    b"con cat(a,b)",
+    b"Concat(a,b)",
+    b"join(a,b)",
+    b"(a)",
+    b"extract(d,1)",
+    b"extract(d,1,02)",
+    b"extract(d,1,18446744073709551616)",
+    b"delete(1,1,1)",
+    b"insert(d,3)",
+    b"insert(d,e)",
+    b"copy(d,1,3)",
+];
+
+fn is_none(alloc: Global, text: &[u8]) -> bool {
+    matches!(read(alloc, text), Err(ExprRefusal::Syntax))
+}
+
 #[test]
 fn texts_that_write_none(rt: HostRuntime) -> Result<(), Fail> {
-    for text in [
-        b"".as_slice(),
-        b"  ".as_slice(),
-        b"1".as_slice(),
-        b"9a".as_slice(),
-        b"a b".as_slice(),
-        b"a,b".as_slice(),
-        b"\ta".as_slice(),
-        b"concat(a b)".as_slice(),
-        b"concat(a)".as_slice(),
-        b"concat(a,b".as_slice(),
-        b"concat(a,b))".as_slice(),
-        b"concat(a,b)c".as_slice(),
-        b"concat(a,b,c)".as_slice(),
-        b"concat(,b)".as_slice(),
-        b"con cat(a,b)".as_slice(),
-        b"Concat(a,b)".as_slice(),
-        b"join(a,b)".as_slice(),
-        b"(a)".as_slice(),
-        b"extract(d,1)".as_slice(),
-        b"extract(d,1,02)".as_slice(),
-        b"extract(d,1,18446744073709551616)".as_slice(),
-        b"delete(1,1,1)".as_slice(),
-        b"insert(d,3)".as_slice(),
-        b"insert(d,e)".as_slice(),
-        b"copy(d,1,3)".as_slice(),
-    ] {
-        assert!(rt;
-            matches!(read(rt.alloc(), text), Err(ExprRefusal::Syntax)),
-            "{text:?}"
-        );
+    for text in OTHERS {
+        assert!(rt; is_none(rt.alloc(), text), "{text:?}");
     }
     Ok(())
 }
@@ -72,10 +77,11 @@ fn texts_that_write_none(rt: HostRuntime) -> Result<(), Fail> {
 #[test]
 fn nesting(rt: HostRuntime) -> Result<(), Fail> {
     let alloc = rt.alloc();
-    let deepest = nested(alloc, 64)?;
-    assert!(rt; read(alloc, &deepest).is_ok());
-    let deeper = nested(alloc, 65)?;
-    assert!(rt; matches!(read(alloc, &deeper), Err(ExprRefusal::Syntax)));
+    for (depth, is_read) in [(64, true), (65, false)] {
+        let text = nested(alloc, depth)?;
+        assert!(rt; read(alloc, &text).is_ok() == is_read);
+        assert!(rt; is_none(alloc, &text) != is_read);
+    }
     Ok(())
 }
 
@@ -106,7 +112,7 @@ fn values(rt: HostRuntime) -> Result<(), Fail> {
         (b"delete(concat(d,d),2,4)".as_slice(), b"ab".as_slice()),
         (b"delete(d,1,3)".as_slice(), b"".as_slice()),
     ] {
-        match edited::<Brand>(&rt, alloc, text, Blank::new(1))? {
+        match edited::<Brand>(alloc, text, Blank::new(1))? {
             Ok(bytes) => assert_eq!(rt; bytes.as_slice(), want, "{text:?}"),
             Err(_) => assert!(rt; false, "{text:?}"),
         }
@@ -138,36 +144,54 @@ fn refusals(rt: HostRuntime) -> Result<(), Fail> {
         ),
         (b"insert(d,nope,9)".as_slice(), "no document is named nope"),
     ] {
-        match edited::<Brand>(&rt, alloc, text, Blank::new(1))? {
+        match edited::<Brand>(alloc, text, Blank::new(1))? {
             Ok(_) => assert!(rt; false, "{text:?}"),
             Err(why) => assert_eq!(rt; why.to_string(alloc)?.as_str(), want),
         }
     }
+    Ok(())
+}
+
+fn text_of_edit(alloc: Global, refusal: EditRefusal) -> Result<String, AllocError> {
+    refusal.to_string(alloc)
+}
+
+fn text_of_expr(alloc: Global, refusal: ExprRefusal) -> Result<String, AllocError> {
+    refusal.to_string(alloc)
+}
+
+#[test]
+fn texts_of_refusals(rt: HostRuntime) -> Result<(), Fail> {
+    let alloc = rt.alloc();
     let long = EditRefusal::TooLong {
         len: 281_474_976_710_657,
     };
-    assert_eq!(rt;
-        long.to_string(alloc)?.as_str(),
-        "a text of 281474976710657 bytes is too long"
-    );
-    assert_eq!(rt;
-        EditRefusal::NoMemory.to_string(alloc)?.as_str(),
-        "no memory"
-    );
-    assert_eq!(rt;
-        ExprRefusal::Syntax.to_string(alloc)?.as_str(),
-        "not an editing expression"
-    );
-    assert_eq!(rt;
-        ExprRefusal::NoMemory.to_string(alloc)?.as_str(),
-        "no memory"
-    );
+    for (refusal, want) in [
+        (long, "a text of 281474976710657 bytes is too long"),
+        (EditRefusal::NoMemory, "no memory"),
+    ] {
+        assert!(rt; text_of_edit(alloc, refusal)?.as_str() == want);
+    }
+    for (refusal, want) in [
+        (ExprRefusal::Syntax, "not an editing expression"),
+        (ExprRefusal::NoMemory, "no memory"),
+    ] {
+        assert!(rt; text_of_expr(alloc, refusal)?.as_str() == want);
+    }
     Ok(())
+}
+
+/// `ab`
+fn ab<L: Ledger>(store: &mut Store, pairs: &mut Steps<L>) -> Result<NodeId, Fail>
+    ensures { IfOk result (λ id. id.index < length store.new) }
+{
+    let a = store.byte(b'a')?;
+    let b = store.byte(b'b')?;
+    pair(store, a, b, pairs)
 }
 
 /// The value of the expression, where the document `d` is `ab`.
 fn edited<L: Ledger>(
-    rt: &impl Abort,
     alloc: Global,
     text: &[u8],
     blank: Blank,
@@ -178,12 +202,7 @@ fn edited<L: Ledger>(
 {
     let mut pairs = Steps::<L>::new(blank);
     let mut store = Store::new(alloc);
-    let a = store.byte(b'a')?;
-    let b = store.byte(b'b')?;
-    assert!(rt; a.index < store.count() && b.index < store.count());
-    assert!(rt; store.height(a) == 0 && store.height(b) == 0);
-    assert!(rt; store.len(a) == 1 && store.len(b) == 1);
-    let both = store.pair(a, b, &mut pairs)?;
+    let both = ab(&mut store, &mut pairs)?;
     let mut docs = Docs::new(alloc);
     docs.set(alloc, Name::new(alloc, b"d")?, Some(both))?;
     let expr = read(alloc, text)?;

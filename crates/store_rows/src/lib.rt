@@ -1,12 +1,12 @@
-//! Worked rows of edits, images, cuts and compacted stores.
+//! Worked rows of values by name, joins, loaded texts, cuts, edits, images and compacted stores.
 //!
 //! ```text
 //! row    copy(concat(d,d),1,3,5), where d is ab    ababab
 //! row    an image whose magic has another byte     the first fault
 //! ```
 //!
-//! The crate has tests alone, of `edit_expr`, `slp_image`, `slp_split` and `doc_compact`. They stand apart from these, so that
-//! each of them is proved once. They take little time and memory.
+//! The crate has tests alone, of `name_map`, `slp_concat`, `pair_loader`, `slp_split`, `edit_expr`, `slp_image` and
+//! `doc_compact`. They stand apart from these, so that each of them is proved once. They take little time and memory.
 #![tactic(auto)]
 
 #[cfg(test)]
@@ -17,3 +17,11 @@ mod cuts;
 mod edits;
 #[cfg(test)]
 mod images;
+#[cfg(test)]
+mod joins;
+#[cfg(test)]
+mod loads;
+#[cfg(test)]
+mod maps;
+#[cfg(test)]
+mod tried;

@@ -1,14 +1,16 @@
-//! Worked rows of what is read: names, spans and their marks, formulas, and lines of a script.
+//! Worked rows of what is read: names, spans and their marks, formulas, lines of a script, and bytes from sources and shelves.
 //!
 //! ```text
 //! row    `($x{a})*`                  not functional in x
 //! row    `list q d limit 0`          no form
 //! ```
 //!
-//! The crate has tests alone, of `span_types`, `formula_syntax` and `script_syntax`. They stand apart from these, so that each
-//! of them is proved once. They take little time and memory.
+//! The crate has tests alone, of `span_types`, `formula_syntax`, `script_syntax` and `edge_io`. They stand apart from these, so
+//! that each of them is proved once. They take little time and memory.
 #![tactic(auto)]
 
+#[cfg(test)]
+mod edges;
 #[cfg(test)]
 mod formulas;
 #[cfg(test)]

@@ -1,11 +1,13 @@
 //! The loader's trees of short texts.
 ghost use Rattle.std.specs.Prelude.{◌≡◌, ◌<◌};
 
-use super::*;
-use node_store::Node;
+use node_store::{Node, NodeId, Store};
+use pair_loader::{Loader, load};
+use span_types::Steps;
+use std::alloc::Global;
 use std::marker::Brand;
 use std::process::Abort;
-use std::sync::ledger::Blank;
+use std::sync::ledger::{Blank, Ledger};
 use std::test::Fail;
 
 #[test]
@@ -14,22 +16,21 @@ fn trees_of_texts(rt: HostRuntime) -> Result<(), Fail> {
     texts::<Brand>(&rt, alloc, Blank::new(1))
 }
 
-// Five pieces, one, and two with an empty one between, each with the nodes after each piece.
+/// Five pieces, one, and two with an empty one between, each with the nodes after each piece.
 #[test]
 fn trees_of_pieces(rt: HostRuntime) -> Result<(), Fail> {
     let alloc = rt.alloc();
-    pieces::<Brand>(
-        &rt,
-        alloc,
-        &[1, 2, 3, 4, 5],
-        &[1, 3, 4, 7, 8],
-        Blank::new(1),
-    )?;
-    pieces::<Brand>(&rt, alloc, &[5], &[8], Blank::new(1))?;
-    pieces::<Brand>(&rt, alloc, &[2, 2, 5], &[3, 3, 8], Blank::new(1))
+    for (ends, counts) in [
+        ([1, 2, 3, 4, 5].as_slice(), [1, 3, 4, 7, 8].as_slice()),
+        ([5].as_slice(), [8].as_slice()),
+        ([2, 2, 5].as_slice(), [3, 3, 8].as_slice()),
+    ] {
+        pieces::<Brand>(&rt, alloc, ends, counts, Blank::new(1))?;
+    }
+    Ok(())
 }
 
-// A text of 20,000 bytes, of whose words all but the first are found.
+/// A text of 20,000 bytes, of whose words all but the first are found.
 #[test]
 fn tree_of_a_long_text(rt: HostRuntime) -> Result<(), Fail> {
     let alloc = rt.alloc();
@@ -96,24 +97,24 @@ fn pieces<L: Ledger>(
     Ok(())
 }
 
-// Pair(Pair(a, b), Pair(Pair(c, d), e)), beside the block of `abcd`.
+/// The nodes of `abcde`: `Pair(Pair(a, b), Pair(Pair(c, d), e))`, beside the block of `abcd`.
+const ABCDE: [Node; 10] = [
+    Node::Byte(b'a'),
+    Node::Byte(b'b'),
+    Node::Pair(NodeId { index: 0 }, NodeId { index: 1 }),
+    Node::Byte(b'c'),
+    Node::Byte(b'd'),
+    Node::Pair(NodeId { index: 3 }, NodeId { index: 4 }),
+    Node::Pair(NodeId { index: 2 }, NodeId { index: 5 }),
+    Node::Byte(b'e'),
+    Node::Pair(NodeId { index: 5 }, NodeId { index: 7 }),
+    Node::Pair(NodeId { index: 2 }, NodeId { index: 8 }),
+];
+
 fn check_abcde(rt: &impl Abort, store: &Store, root: Option<NodeId>) {
-    let pair = |left, right| Node::Pair(NodeId { index: left }, NodeId { index: right });
-    let nodes = [
-        Node::Byte(b'a'),
-        Node::Byte(b'b'),
-        pair(0, 1),
-        Node::Byte(b'c'),
-        Node::Byte(b'd'),
-        pair(3, 4),
-        pair(2, 5),
-        Node::Byte(b'e'),
-        pair(5, 7),
-        pair(2, 8),
-    ];
     assert_eq!(rt; root, Some(NodeId { index: 9 }));
     assert_eq!(rt; store.count(), 10);
-    for (index, node) in nodes.iter().enumerate() {
-        assert_eq!(rt; store.node(NodeId { index }), *node);
+    for index in 0..10 {
+        assert_eq!(rt; store.node(NodeId { index }), ABCDE[index]);
     }
 }

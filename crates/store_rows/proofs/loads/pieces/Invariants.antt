@@ -1,6 +1,6 @@
 use Rattle.std.proofs.Common.{◌≡◌, length}
 use Rattle.pair_loader.specs.Pending.{IsLoader, fed}
-use Rattle.pair_loader.proofs.tests.pieces.Given as goal
+use Rattle.store_rows.proofs.loads.pieces.Given as goal
 
 abbrev pub invariant-loop-end : goal.invariant-loop-end
 invariant-loop-end g l = record {

@@ -1,4 +1,4 @@
-use Rattle.span_rows.proofs.running.ran_over.Given as goal
+use Rattle.span_rows.proofs.running.run_over.Given as goal
 
 abbrev pub ghosts-counted-P-Ledger : goal.ghosts-counted-P-Ledger
 ghosts-counted-P-Ledger g a = record { name = a.pairs.name; parts = a.pairs.parts }

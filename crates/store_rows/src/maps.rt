@@ -1,0 +1,81 @@
+//! Rows of values by name.
+use name_map::NameMap;
+use span_types::{Name, NoMemory};
+use std::alloc::Global;
+use std::process::Abort;
+use std::test::Fail;
+
+fn set(alloc: Global, sizes: &mut NameMap<u8>, name: &[u8], size: u8) -> Result<(), NoMemory> {
+    let name = Name::new(alloc, name).map_err(|_| NoMemory)?;
+    sizes.set(alloc, name, size)
+}
+
+/// The sizes of these names, each set in turn.
+fn sizes_of(alloc: Global, rows: &[(&[u8], u8)]) -> Result<NameMap<u8>, NoMemory> {
+    let mut sizes = NameMap::new(alloc);
+    for (name, size) in rows {
+        set(alloc, &mut sizes, name, *size)?;
+    }
+    Ok(sizes)
+}
+
+/// Whether the name and the size stand at a place.
+fn stands_at(sizes: &NameMap<u8>, place: usize, name: &[u8], size: u8) -> bool {
+    if place >= sizes.count() {
+        return false;
+    }
+    let (found, value) = sizes.at(place);
+    found.bytes() == name && *value == size
+}
+
+fn put_at(sizes: &mut NameMap<u8>, place: usize, size: u8) {
+    if place < sizes.count() {
+        *sizes.value_mut(place) = size;
+    }
+}
+
+fn size_of(sizes: &NameMap<u8>, name: &[u8]) -> Option<u8> {
+    sizes.get(name).copied()
+}
+
+fn taken(sizes: &mut NameMap<u8>, name: &[u8]) -> Option<u8> {
+    sizes.take_out(name)
+}
+
+fn count(sizes: &NameMap<u8>) -> usize {
+    sizes.count()
+}
+
+#[test]
+fn sizes_by_name(rt: HostRuntime) -> Result<(), Fail> {
+    let mut sizes = sizes_of(rt.alloc(), &[(b"a", 1), (b"b", 2), (b"a", 3)])?;
+    assert!(rt; count(&sizes) == 2);
+    assert!(rt; stands_at(&sizes, 0, b"a", 3));
+    put_at(&mut sizes, 1, 4);
+    assert!(rt; size_of(&sizes, b"b") == Some(4));
+    assert!(rt; size_of(&sizes, b"c") == None);
+    assert!(rt; taken(&mut sizes, b"a") == Some(3));
+    assert!(rt; taken(&mut sizes, b"a") == None);
+    assert!(rt; count(&sizes) == 1);
+    Ok(())
+}
+
+/// The first name is taken out and comes again, which puts it last.
+fn b_and_a(rt: &impl Abort, alloc: Global) -> Result<NameMap<u8>, NoMemory> {
+    let mut sizes = sizes_of(alloc, &[(b"a", 1), (b"b", 2), (b"a", 3)])?;
+    assert!(rt; taken(&mut sizes, b"a") == Some(3));
+    set(alloc, &mut sizes, b"a", 5)?;
+    Ok(sizes)
+}
+
+#[test]
+fn first_name_goes_last(rt: HostRuntime) -> Result<(), Fail> {
+    let mut sizes = b_and_a(&rt, rt.alloc())?;
+    assert!(rt; count(&sizes) == 2);
+    assert!(rt; stands_at(&sizes, 0, b"b", 2));
+    assert!(rt; stands_at(&sizes, 1, b"a", 5));
+    assert!(rt; taken(&mut sizes, b"a") == Some(5));
+    assert!(rt; taken(&mut sizes, b"b") == Some(2));
+    assert!(rt; count(&sizes) == 0);
+    Ok(())
+}

@@ -1,0 +1,84 @@
+//! Calls whose conditions are looked at when they run, so that a row needs no clauses.
+ghost use Rattle.std.specs.Prelude.{◌<◌, IfOk, length};
+
+use node_store::{NodeId, Store};
+use slp_concat::join;
+use slp_split::{extract, split};
+use span_types::Steps;
+use std::sync::ledger::Ledger;
+use std::test::Fail;
+
+/// The length of a node's text, and 0 where there is no such node.
+pub fn len(store: &Store, id: NodeId) -> u64 {
+    if id.index < store.count() {
+        store.len(id)
+    } else {
+        0
+    }
+}
+
+/// The pair of two bytes.
+pub fn pair<L: Ledger>(
+    store: &mut Store,
+    left: NodeId,
+    right: NodeId,
+    pairs: &mut Steps<L>,
+) -> Result<NodeId, Fail>
+    ensures { IfOk result (λ id. id.index < length store.new) }
+{
+    let count = store.count();
+    if left.index >= count || right.index >= count {
+        return Err("two nodes".into());
+    }
+    if store.height(left) != 0 || store.height(right) != 0 {
+        return Err("two bytes".into());
+    }
+    if store.len(left) != 1 || store.len(right) != 1 {
+        return Err("two bytes".into());
+    }
+    Ok(store.pair(left, right, pairs)?)
+}
+
+/// The join of two short texts.
+pub fn joined<L: Ledger>(
+    store: &mut Store,
+    left: NodeId,
+    right: NodeId,
+    pairs: &mut Steps<L>,
+) -> Result<NodeId, Fail> {
+    let count = store.count();
+    if left.index >= count || right.index >= count {
+        return Err("two nodes".into());
+    }
+    if store.len(left) > 100 || store.len(right) > 100 {
+        return Err("two short texts".into());
+    }
+    Ok(join(store, left, right, pairs)?)
+}
+
+/// The two parts of a text that is cut.
+pub fn parts<L: Ledger>(
+    store: &mut Store,
+    id: NodeId,
+    at: u64,
+    pairs: &mut Steps<L>,
+) -> Result<(Option<NodeId>, Option<NodeId>), Fail> {
+    if id.index >= store.count() || at < 1 || at > store.len(id) {
+        return Err("a place in the text".into());
+    }
+    Ok(split(store, Some(id), at, pairs)?)
+}
+
+/// A range of a text.
+pub fn part<L: Ledger>(
+    store: &mut Store,
+    id: NodeId,
+    from: u64,
+    to: u64,
+    pairs: &mut Steps<L>,
+) -> Result<Option<NodeId>, Fail> {
+    if id.index >= store.count() || from < 1 || from > to || to > store.len(id) + 1 {
+        return Err("a range of the text".into());
+    }
+    Ok(extract(store, Some(id), from, to, pairs)?)
+}
