@@ -3,7 +3,7 @@ use Rattle.std.proofs.Common.{◌≡◌, ◌≢◌, ◌⊎◌, ℕ, zero, suc, �
 use Rattle.std.proofs.lemmas.Bool.{cases_lt}
 use Rattle.std.proofs.lemmas.List.{get_or_push, get_or_append_left}
 use Rattle.std.proofs.lemmas.Option.{slice_get_within, get_or_from_slice_get, slice_get-get_or}
-use Rattle.node_store.specs.declared.nodes.Narrow.{Narrow}
+use Rattle.node_store.specs.declared.narrow.Narrow.{Narrow}
 use Rattle.node_store.specs.Narrow.{number_of}
 use Rattle.node_store.specs.SearchTree.{slot_of, Leads, LeadsTo, IsSearchTree, Extends, IsOpen}
 
@@ -56,7 +56,7 @@ tree-same nodes links new same tree = record {
   found = λ i n h. let led = tree.found i n h in (led.0, leads-on links new (λ slot j e. same slot ∙ e) led.0 (number_of n) 0 i led.1);
 }
 
-same_or_other : (s t : ℕ) → (s ≡ t) ⊎ (s ≢ t)
+pub same_or_other : (s t : ℕ) → (s ≡ t) ⊎ (s ≢ t)
 same_or_other s t = elim (cases_lt s t) [
   | inl lt ↦ inr (λ e. omega (arith, lt, e))
   | inr ge ↦ elim (cases_lt t s) [ inl gt ↦ inr (λ e. omega (arith, gt, e)) | inr le ↦ inl (omega (arith, ge, le)) ]

@@ -4,8 +4,8 @@ use Rattle.std.specs.List.{IsDistinct}
 use Rattle.slp_model.specs.declared.Node.{Node}
 use Rattle.slp_model.specs.declared.Node.TheVariants as node
 use Rattle.slp_model.specs.contracts.NodePartialEq.TheImpl.{ghosts}
-use Rattle.node_store.specs.declared.nodes.Narrow.{Narrow}
-use Rattle.node_store.specs.declared.nodes.Narrow.TheVariants.{Byte, Pair}
+use Rattle.node_store.specs.declared.narrow.Narrow.{Narrow}
+use Rattle.node_store.specs.declared.narrow.Narrow.TheVariants.{Byte, Pair}
 
 -- the node that a narrow one stands for
 abbrev pub wide : Narrow → Node

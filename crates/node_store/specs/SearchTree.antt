@@ -1,6 +1,6 @@
 -- Nodes that are found by the digits of their numbers.
 use Rattle.std.specs.Prelude.{◌≡◌, ◌≢◌, ℕ, zero, suc, ◌+◌, ◌*◌, ◌/◌, ◌%◌, ◌<◌, ◌≤◌, List, length, slice_get, get_or, Some}
-use Rattle.node_store.specs.declared.nodes.Narrow.{Narrow}
+use Rattle.node_store.specs.declared.narrow.Narrow.{Narrow}
 use Rattle.node_store.specs.declared.search_tree.End.{End}
 use Rattle.node_store.specs.declared.search_tree.End.TheVariants.{At, Open}
 use Rattle.node_store.specs.Narrow.{number_of}

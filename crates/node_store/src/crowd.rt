@@ -1,5 +1,5 @@
 //! How many hashes of nodes are alike, so that the index is given up before looks into it take long.
-use crate::nodes::Narrow;
+use crate::narrow::Narrow;
 use indexmap::IndexSet;
 use std::alloc::Global;
 
@@ -135,7 +135,7 @@ fn raise_kind(counts: &mut [u8], place: usize) -> u8 {
 
 // The hash by which the index finds the node, as the hasher of the set makes it of one number: a call of that one would take
 // longer than all else here.
-fn hash(narrow: Narrow) -> u32 {
+pub(crate) fn hash(narrow: Narrow) -> u32 {
     let product = u128::from(narrow.spread() ^ HASHER_SEED).wrapping_mul(u128::from(HASHER_FACTOR));
     let hash = product ^ (product >> 64);
     ((hash ^ (hash >> 32)) & 0xFFFF_FFFF) as u32

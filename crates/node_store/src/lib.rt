@@ -11,9 +11,10 @@
 //! Nodes are only added and never change, so an id means the same text ever after.
 //!
 //! `byte` and `pair` take expected constant time, amortized where the store grows, the other calls on a node constant
-//! time, and `thin` linear time. The first node takes a table of guesses where nodes stand, 2 MiB. A node takes 36
-//! bytes where the vectors are full: 12 itself, 9 its length and height, and 15 in the index. Full vectors double, and a
-//! full index grows fourfold.
+//! time, and `thin` linear time. The first node takes a table of guesses where nodes stand, 2 MiB. A node takes 25
+//! bytes where the vectors are full: 12 itself, 9 its length and height, and 4 for the first pair that has it on the left. Most
+//! nodes are such a first pair, and are found through their left child; each other one takes 31 bytes more. Full vectors
+//! double, and a full index grows fourfold.
 //!
 //! Nodes that are made once each are hash consing (A. Ershov, *On programming of arithmetic operations*, 1958). That
 //! the trees are balanced is from M. L. Schmid and N. Schweikardt, *Query evaluation over SLP-represented document
@@ -34,7 +35,9 @@ ghost use Rattle.node_store.specs.Blocks.{IsBlockOf};
 mod crowd;
 mod hints;
 mod moves;
+mod narrow;
 mod nodes;
+mod others;
 mod search_tree;
 mod thin;
 
@@ -59,9 +62,10 @@ pub(crate) struct Facts {
 /// and nodes never change.
 ///
 /// Without a node it takes no memory. The first node that `byte` or `pair` adds takes a table of 2^18 guesses of 8
-/// bytes each, 2 MiB; where there is no memory for it, calls go on without. Beside that a node takes 36 bytes where
-/// the vectors are full. Full vectors are doubled and a full index grows fourfold, and the old one stands until the new one
-/// is filled. There are at most 9·2^28 nodes.
+/// bytes each, 2 MiB; where there is no memory for it, calls go on without. Beside that a node takes 25 bytes where
+/// the vectors are full, and 31 more where it isn't the first pair with its left child. Full vectors are doubled and a full index
+/// grows fourfold, and the old one stands until the new one is filled. There are fewer than 2^32 nodes, and at most 9·2^28 that
+/// are no such first pair.
 #[derive(Drop)]
 pub struct Store {
     nodes: Nodes,

@@ -1,133 +1,76 @@
-//! The nodes and their index, with ids in 32 bits.
-ghost use Rattle.std.specs.Prelude.{◌≡◌, ◌<◌, ◌++◌, ◌∷◌, [], length, map, slice_get, IfOk, IfSome, IsFalse, IsTrue, OnErr, Some};
-ghost use Rattle.std.specs.Hash as fed;
-ghost use Rattle.node_store.specs.Narrow.{wide, number_of, spread, AreUnique};
-ghost use Rattle.std.specs.Cmp.Rules.{comparing, hashing};
-ghost use Rattle.std.proofs.Common.{rules};
+//! The nodes, and how one is found by its children.
+ghost use Rattle.std.specs.Prelude.{◌≡◌, ℕ, suc, ◌+◌, ◌^◌, ◌<◌, ◌++◌, ◌∷◌, [], length, map, get_or, set, slice_get, IfOk, IsFalse, IsTrue, OnErr, OnOk, Some};
+ghost use Rattle.slp_model.specs.Nodes.{IsBelow};
+ghost use Rattle.node_store.specs.Narrow.{wide, AreUnique};
+ghost use Rattle.node_store.specs.SearchTree.{IsAbsent};
 ghost use Rattle.node_store.specs.Stored.{IsNew};
+ghost use Rattle.node_store.specs.Firsts.{IsIndexed, IsWay};
 
-use crate::crowd::Crowd;
-use crate::search_tree::SearchTree;
-use indexmap::IndexSet;
-use slp_model::{Node, NodeId};
+use crate::narrow::Narrow;
+use crate::others::Others;
+use slp_model::Node;
 use span_types::NoMemory;
 use std::alloc::Global;
-use std::hash::{Hash, Hasher};
 use std::marker::Model;
-
-/// A node whose children's ids are below 2^32.
-#[derive(Clone, Copy, PartialEq, Eq)]
-pub(crate) enum Narrow {
-    Byte(u8),
-    Pair(u32, u32),
-}
-
-// A node is hashed as one number, by one write in place of the three of its fields. Most of what a look into the index costs is
-// the wait for memory.
-impl Hash for Narrow {
-    ghost hash_input = { λ narrow. fed.u64 (spread narrow) };
-
-    ghost respects_eq = { Prim.search (hashing, rules) depth 9 };
-
-    fn hash<H: Hasher>(&self, state: &mut H) {
-        state.write_u64(self.spread());
-    }
-}
-
-impl Narrow {
-    /// A number of 64 bits, which a byte and a pair may have both.
-    pub(crate) fn number(&self) -> u64
-        ensures { result ≡ number_of self.now }
-    {
-        match *self {
-            Narrow::Byte(b) => u64::from(b),
-            Narrow::Pair(left, right) => u64::from(left) * (1 << 32) + u64::from(right),
-        }
-    }
-
-    // What is hashed. The ids of children are near each other, and the hasher alone would put them into some parts of the
-    // index more than into others; an odd factor (G. Steele and S. Vigna, Computationally easy, spectrally good
-    // multipliers, 2022) spreads them.
-    pub(crate) fn spread(&self) -> u64
-        ensures { result ≡ spread self.now }
-    {
-        self.number().wrapping_mul(0xD134_2543_DE82_EF95)
-    }
-
-    // The node in this form, unless an id is too great for it.
-    fn of(node: Node) -> Option<Narrow>
-        ensures { IfSome result (λ narrow. wide narrow ≡ node) }
-    {
-        match node {
-            Node::Byte(b) => Some(Narrow::Byte(b)),
-            Node::Pair(left, right) => {
-                let left = u32::try_from(left.index).ok()?;
-                let right = u32::try_from(right.index).ok()?;
-                Some(Narrow::Pair(left, right))
-            }
-        }
-    }
-
-    fn widened(self) -> Node
-        ensures { result ≡ wide self }
-    {
-        match self {
-            Narrow::Byte(b) => Node::Byte(b),
-            Narrow::Pair(left, right) => Node::Pair(
-                NodeId {
-                    index: left as usize,
-                },
-                NodeId {
-                    index: right as usize,
-                },
-            ),
-        }
-    }
-}
 
 /// Nodes in the order in which they came, each once.
 ///
-/// They are found by their hashes, until so many of these are alike that looks would take long: whoever makes a text or an
-/// image can choose nodes so. From then on new nodes go to a search tree, in which no node takes many steps, and each is
-/// looked for in both. A node takes 12 bytes, and 16 in the index where it is full.
+/// The first pair with a left child is found through this child, and no pair of a child without one is there yet. So most nodes
+/// are found, and most new ones taken in, without a hash and a look into an index, whose wait for memory costs most; and where
+/// a text is new, children stand side by side. The other pairs, and the bytes, are found by their hashes. A node takes 12 bytes
+/// and 4 for the first pair that it begins, and one of the others 31 more where the vectors are full.
 #[derive(Drop)]
 pub(crate) struct Nodes {
-    hashed: IndexSet<Narrow>,
-    late: SearchTree,
-    crowd: Crowd,
+    all: Vec<Narrow>,
+    // For each node the index of the first pair that has it on the left, and one; 0 is none.
+    firsts: Vec<u32>,
+    others: Others,
+    // For each of the others its index.
+    indices: Vec<u32>,
 }
 
 impl Model for Nodes {
-    ghost use Rattle.std.specs.Prelude.{List, ◌++◌, map};
+    ghost use Rattle.std.specs.Prelude.{List, map};
     ghost use Rattle.slp_model.specs.declared.Node.{Node};
-    ghost use Rattle.node_store.specs.Narrow.{wide, AreUnique};
+    ghost use Rattle.node_store.specs.Narrow.{wide};
+    ghost use Rattle.node_store.specs.Firsts.{IsIndexed};
 
     ghost Value = { List Node };
 
-    ghost view = { λ s. map wide s.hashed.keys ++ map wide s.late };
+    ghost view = { λ s. map wide s.all.items };
 
-    ghost invariant = { λ s. AreUnique (map wide s.hashed.keys ++ map wide s.late) };
+    ghost invariant = { λ s. IsIndexed s.all.items s.firsts.items s.others s.indices.items };
+}
+
+/// How a node is found: at this index; not at all, since no pair has this left child yet; or among the others, if anywhere.
+pub(crate) enum Way {
+    Known(usize),
+    First(usize),
+    Other,
 }
 
 impl Nodes {
+    /// No nodes, and no memory.
     pub(crate) fn new(alloc: Global) -> Nodes
         ensures { result ≡ [] }
     {
         Nodes {
-            hashed: IndexSet::new(alloc),
-            late: SearchTree::new(alloc),
-            crowd: Crowd::new(alloc),
+            all: Vec::new(alloc),
+            firsts: Vec::new(alloc),
+            others: Others::new(alloc),
+            indices: Vec::new(alloc),
         }
     }
 
-    /// No nodes, and room for so many.
+    /// No nodes, and room for so many, but for the index of the others.
     pub(crate) fn with_capacity(alloc: Global, count: usize) -> Result<Nodes, NoMemory>
         ensures { IfOk result (λ nodes. nodes ≡ []) }
     {
         Ok(Nodes {
-            hashed: IndexSet::with_capacity(alloc, count)?,
-            late: SearchTree::new(alloc),
-            crowd: Crowd::new(alloc),
+            all: Vec::with_capacity(alloc, count)?,
+            firsts: Vec::with_capacity(alloc, count)?,
+            others: Others::new(alloc),
+            indices: Vec::new(alloc),
         })
     }
 
@@ -135,7 +78,7 @@ impl Nodes {
         ensures len { result ≡ length self.now }
         ensures unique { AreUnique self.now }
     {
-        self.hashed.len() + self.late.len()
+        self.all.len()
     }
 
     /// The node at a place.
@@ -144,19 +87,17 @@ impl Nodes {
         requires { index < length self.now }
         ensures { slice_get self.now index ≡ Some result }
     {
-        let hashed = self.hashed.as_slice();
-        if index < hashed.len() {
-            return hashed[index].widened();
-        }
-        self.late.at(index - hashed.len()).widened()
+        self.all[index].widened()
     }
 
-    /// The place of the node, which is added last where it isn't there, and whether it was added.
+    /// The place of the node, which is added last where it isn't there, and whether it was added. Its children are among the
+    /// nodes.
     ///
     /// # Errors
     ///
-    /// `NoMemory` where none was found, or where the node is a pair of an id of 2^32 or more.
+    /// `NoMemory` where none was found, or where there are 2^32 - 1 nodes.
     pub(crate) fn insert(&mut self, node: Node) -> Result<(usize, bool), NoMemory>
+        requires { IsBelow (length self.old) node }
         ensures added { IfOk result (λ r. IsTrue r.1 → (self.new ≡ self.old ++ node ∷ []) × IsNew self.old node) }
         ensures there { IfOk result (λ r. IsFalse r.1 → self.new ≡ self.old) }
         ensures node { IfOk result (λ r. slice_get self.new r.0 ≡ Some node) }
@@ -165,64 +106,127 @@ impl Nodes {
         let Some(narrow) = Narrow::of(node) else {
             return Err(NoMemory);
         };
-        if self.late.len() == 0 && !self.crowd.is_slow() {
-            insert_hashed(&mut self.hashed, &mut self.crowd, narrow)
-        } else {
-            insert_late(&self.hashed, &mut self.late, narrow)
-        }
+        let (index, added) = insert_narrow(
+            &mut self.all,
+            &mut self.firsts,
+            &mut self.others,
+            &mut self.indices,
+            narrow,
+        )?;
+        Ok((index, added))
     }
 }
 
-// The place of the node among the hashed ones, where it is added if it isn't there, and whether it was added.
-fn insert_hashed(
-    hashed: &mut IndexSet<Narrow>,
-    crowd: &mut Crowd,
+// The same over the parts.
+fn insert_narrow(
+    all: &mut Vec<Narrow>,
+    firsts: &mut Vec<u32>,
+    others: &mut Others,
+    indices: &mut Vec<u32>,
     narrow: Narrow,
 ) -> Result<(usize, bool), NoMemory>
-    ensures added { IfOk result (λ r. IsTrue r.1 → (map wide hashed.new.keys ≡ map wide hashed.old.keys ++ wide narrow ∷ []) × IsNew (map wide hashed.old.keys) (wide narrow)) }
-    ensures there { IfOk result (λ r. IsFalse r.1 → hashed.new.keys ≡ hashed.old.keys) }
-    ensures node { IfOk result (λ r. slice_get (map wide hashed.new.keys) r.0 ≡ Some (wide narrow)) }
-    ensures unique { AreUnique (map wide hashed.new.keys) }
-    ensures err { OnErr result (hashed.new.keys ≡ hashed.old.keys) }
+    requires indexed { IsIndexed all.old.items firsts.old.items others.old indices.old.items }
+    requires below { IsBelow (length all.old.items) (wide narrow) }
+    ensures indexed { IsIndexed all.new.items firsts.new.items others.new indices.new.items }
+    ensures added { IfOk result (λ r. IsTrue r.1 → (all.new.items ≡ all.old.items ++ narrow ∷ []) × IsAbsent all.old.items narrow) }
+    ensures there { IfOk result (λ r. IsFalse r.1 → all.new.items ≡ all.old.items) }
+    ensures node { IfOk result (λ r. slice_get all.new.items r.0 ≡ Some narrow) }
+    ensures err { OnErr result (all.new.items ≡ all.old.items) }
 {
-    make_room(hashed);
-    let (index, added) = hashed.insert_full(narrow).map_err(|_| NoMemory)?;
-    if added {
-        crowd.note(hashed, index);
+    match way_of(all, firsts, narrow) {
+        Way::Known(index) => Ok((index, false)),
+        Way::First(left) => {
+            let index = add_first(all, firsts, narrow, left)?;
+            Ok((index, true))
+        }
+        Way::Other => insert_other(all, firsts, others, indices, narrow),
     }
-    Ok((index, added))
 }
 
-// The place of the node among the hashed ones and those behind them, where it is added if it isn't there, and whether it
-// was added.
-fn insert_late(
-    hashed: &IndexSet<Narrow>,
-    late: &mut SearchTree,
+// Adds a pair that is the first one with this left child, and answers its index.
+fn add_first(
+    all: &mut Vec<Narrow>,
+    firsts: &mut Vec<u32>,
+    narrow: Narrow,
+    left: usize,
+) -> Result<usize, NoMemory>
+    requires { left < length firsts.old.items }
+    ensures index { IfOk result (λ index. index ≡ length all.old.items) }
+    ensures all { OnOk result (all.new.items ≡ all.old.items ++ narrow ∷ []) }
+    ensures firsts { OnOk result (firsts.new.items ≡ set firsts.old.items left (suc (length all.old.items)) ++ 0 ∷ []) }
+    ensures err { OnErr result ((all.new.items ≡ all.old.items) × (firsts.new.items ≡ firsts.old.items)) }
+{
+    let index = all.len();
+    let link = number_after(index)? + 1;
+    all.reserve(1)?;
+    firsts.reserve(1)?;
+    firsts[left] = link;
+    all.push_reserved(narrow);
+    firsts.push_reserved(0);
+    Ok(index)
+}
+
+// The index of a node that its left child doesn't lead to, which is added last where it isn't among the others, and whether
+// it was added.
+fn insert_other(
+    all: &mut Vec<Narrow>,
+    firsts: &mut Vec<u32>,
+    others: &mut Others,
+    indices: &mut Vec<u32>,
     narrow: Narrow,
 ) -> Result<(usize, bool), NoMemory>
-    requires unique { AreUnique (map wide hashed.now.keys ++ map wide late.old) }
-    ensures unique { AreUnique (map wide hashed.now.keys ++ map wide late.new) }
-    ensures added { IfOk result (λ r. IsTrue r.1 → (late.new ≡ late.old ++ narrow ∷ []) × IsNew (map wide hashed.now.keys ++ map wide late.old) (wide narrow)) }
-    ensures there { IfOk result (λ r. IsFalse r.1 → late.new ≡ late.old) }
-    ensures node { IfOk result (λ r. slice_get (map wide hashed.now.keys ++ map wide late.new) r.0 ≡ Some (wide narrow)) }
-    ensures err { OnErr result (late.new ≡ late.old) }
+    requires indexed { IsIndexed all.old.items firsts.old.items others.old indices.old.items }
+    requires other { IsWay all.old.items firsts.old.items narrow Way.Other }
+    ensures indexed { IsIndexed all.new.items firsts.new.items others.new indices.new.items }
+    ensures added { IfOk result (λ r. IsTrue r.1 → (all.new.items ≡ all.old.items ++ narrow ∷ []) × IsAbsent all.old.items narrow) }
+    ensures there { IfOk result (λ r. IsFalse r.1 → all.new.items ≡ all.old.items) }
+    ensures node { IfOk result (λ r. slice_get all.new.items r.0 ≡ Some narrow) }
+    ensures err { OnErr result (all.new.items ≡ all.old.items) }
 {
-    match hashed.get_index_of(&narrow) {
-        Some(index) => Ok((index, false)),
-        None => {
-            let (index, added) = late.insert(narrow)?;
-            Ok((hashed.len() + index, added))
-        }
+    let index = all.len();
+    let number = number_after(index)?;
+    all.reserve(1)?;
+    firsts.reserve(1)?;
+    indices.reserve(1)?;
+    let (place, added) = others.insert(narrow)?;
+    if !added {
+        return Ok((indices[place] as usize, false));
     }
+    indices.push_reserved(number);
+    all.push_reserved(narrow);
+    firsts.push_reserved(0);
+    Ok((index, true))
 }
 
-// A full index grows fourfold where there is memory for it. As it grows each node is put in anew, at a place of its own in
-// memory, and by doubling that would come to one more time for each node, by four to a third.
-fn make_room(narrow: &mut IndexSet<Narrow>)
-    ensures { narrow.new.keys ≡ narrow.old.keys }
+// The number of the next node in 32 bits, if one more than it has them too.
+fn number_after(len: usize) -> Result<u32, NoMemory>
+    ensures number { IfOk result (λ number. number ≡ len) }
+    ensures low { OnOk result (len + 1 < 2 ^ 32) }
 {
-    let len = narrow.len();
-    if len == narrow.capacity() {
-        let _grown = narrow.reserve(len.saturating_mul(3));
+    let number = u32::try_from(len).map_err(|_| NoMemory)?;
+    if number == u32::MAX {
+        return Err(NoMemory);
+    }
+    Ok(number)
+}
+
+// How the node is found.
+fn way_of(all: &[Narrow], firsts: &[u32], narrow: Narrow) -> Way
+    requires below { IsBelow (length firsts.now) (wide narrow) }
+    requires inside { (l i : ℕ) → get_or firsts.now l 0 ≡ suc i → i < length all.now }
+    ensures { IsWay all.now firsts.now narrow result }
+{
+    let Narrow::Pair(left, _) = narrow else {
+        return Way::Other;
+    };
+    let first = firsts[left as usize];
+    if first == 0 {
+        return Way::First(left as usize);
+    }
+    let index = (first - 1) as usize;
+    if all[index] == narrow {
+        Way::Known(index)
+    } else {
+        Way::Other
     }
 }

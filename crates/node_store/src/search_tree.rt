@@ -2,7 +2,7 @@
 ghost use Rattle.std.specs.Prelude.{◌≡◌, ℕ, ◌+◌, ◌*◌, ◌^◌, ◌<◌, ◌≤◌, ◌++◌, ◌∷◌, [], length, slice_get, get_or, IfOk, IsFalse, IsTrue, OnErr, OnOk, Some};
 ghost use Rattle.node_store.specs.SearchTree.{IsSearchTree, IsAbsent, IsOpen, IsEnd};
 
-use crate::nodes::Narrow;
+use crate::narrow::Narrow;
 use span_types::NoMemory;
 use std::alloc::Global;
 use std::marker::Model;
@@ -23,7 +23,7 @@ pub(crate) struct SearchTree {
 
 impl Model for SearchTree {
     ghost use Rattle.std.specs.Prelude.{List};
-    ghost use Rattle.node_store.specs.declared.nodes.Narrow.{Narrow};
+    ghost use Rattle.node_store.specs.declared.narrow.Narrow.{Narrow};
 
     ghost Value = { List Narrow };
 

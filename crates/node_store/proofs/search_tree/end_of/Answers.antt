@@ -1,6 +1,6 @@
 use Rattle.std.proofs.Common.{rules, arith, ◌≡◌, suc, ◌-◌, true, false, get_or}
-use Rattle.node_store.specs.declared.nodes.Narrow.TheVariants.{Byte}
-use Rattle.node_store.specs.contracts.nodes.NarrowPartialEq.TheImpl.{ghosts}
+use Rattle.node_store.specs.declared.narrow.Narrow.TheVariants.{Byte}
+use Rattle.node_store.specs.contracts.narrow.NarrowPartialEq.TheImpl.{ghosts}
 use Rattle.node_store.proofs.NarrowLemmas.{differs-at, equals-at}
 use Rattle.node_store.proofs.SearchTreeLemmas.{on_way-step, on_way-end}
 use Rattle.node_store.proofs.search_tree.end_of.Goals as goal

@@ -1,0 +1,147 @@
+//! Nodes that are found by their hashes.
+ghost use Rattle.std.specs.Prelude.{◌≡◌, ◌++◌, ◌∷◌, [], slice_get, IfOk, IsFalse, IsTrue, OnErr, Some};
+ghost use Rattle.node_store.specs.SearchTree.{IsAbsent};
+
+use crate::crowd::Crowd;
+use crate::narrow::Narrow;
+use crate::search_tree::SearchTree;
+use indexmap::IndexSet;
+use span_types::NoMemory;
+use std::alloc::Global;
+use std::marker::Model;
+
+/// Nodes in the order in which they came, each once.
+///
+/// They are found by their hashes, until so many of these are alike that looks would take long: whoever makes a text or an
+/// image can choose nodes so. From then on new nodes go to a search tree, in which no node takes many steps, and each is
+/// looked for in both. A node takes 12 bytes, and 15 in the index where it is full.
+#[derive(Drop)]
+pub(crate) struct Others {
+    hashed: IndexSet<Narrow>,
+    late: SearchTree,
+    crowd: Crowd,
+}
+
+impl Model for Others {
+    ghost use Rattle.std.specs.Prelude.{List, ◌++◌};
+    ghost use Rattle.node_store.specs.declared.narrow.Narrow.{Narrow};
+
+    ghost Value = { List Narrow };
+
+    ghost view = { λ s. s.hashed.keys ++ s.late };
+}
+
+impl Others {
+    /// No nodes, and no memory.
+    pub(crate) fn new(alloc: Global) -> Others
+        ensures { result ≡ [] }
+    {
+        Others {
+            hashed: IndexSet::new(alloc),
+            late: SearchTree::new(alloc),
+            crowd: Crowd::new(alloc),
+        }
+    }
+
+    /// The place of the node, which is added last where it isn't there, and whether it was added.
+    ///
+    /// # Errors
+    ///
+    /// `NoMemory` where none was found.
+    pub(crate) fn insert(&mut self, narrow: Narrow) -> Result<(usize, bool), NoMemory>
+        ensures added { IfOk result (λ r. IsTrue r.1 → (self.new ≡ self.old ++ narrow ∷ []) × IsAbsent self.old narrow) }
+        ensures there { IfOk result (λ r. IsFalse r.1 → self.new ≡ self.old) }
+        ensures node { IfOk result (λ r. slice_get self.new r.0 ≡ Some narrow) }
+        ensures err { OnErr result (self.new ≡ self.old) }
+    {
+        if self.late.len() == 0 && !self.crowd.is_slow() {
+            insert_hashed(&mut self.hashed, &mut self.crowd, narrow)
+        } else {
+            insert_late(&self.hashed, &mut self.late, narrow)
+        }
+    }
+}
+
+// The place of the node among the hashed ones, where it is added if it isn't there, and whether it was added.
+fn insert_hashed(
+    hashed: &mut IndexSet<Narrow>,
+    crowd: &mut Crowd,
+    narrow: Narrow,
+) -> Result<(usize, bool), NoMemory>
+    ensures added { IfOk result (λ r. IsTrue r.1 → (hashed.new.keys ≡ hashed.old.keys ++ narrow ∷ []) × IsAbsent hashed.old.keys narrow) }
+    ensures there { IfOk result (λ r. IsFalse r.1 → hashed.new.keys ≡ hashed.old.keys) }
+    ensures node { IfOk result (λ r. slice_get hashed.new.keys r.0 ≡ Some narrow) }
+    ensures err { OnErr result (hashed.new.keys ≡ hashed.old.keys) }
+{
+    make_room(hashed);
+    let (index, added) = hashed.insert_full(narrow).map_err(|_| NoMemory)?;
+    if added {
+        crowd.note(hashed, index);
+    }
+    Ok((index, added))
+}
+
+// The place of the node among the hashed ones and those behind them, where it is added if it isn't there, and whether it
+// was added.
+fn insert_late(
+    hashed: &IndexSet<Narrow>,
+    late: &mut SearchTree,
+    narrow: Narrow,
+) -> Result<(usize, bool), NoMemory>
+    ensures added { IfOk result (λ r. IsTrue r.1 → (late.new ≡ late.old ++ narrow ∷ []) × IsAbsent (hashed.now.keys ++ late.old) narrow) }
+    ensures there { IfOk result (λ r. IsFalse r.1 → late.new ≡ late.old) }
+    ensures node { IfOk result (λ r. slice_get (hashed.now.keys ++ late.new) r.0 ≡ Some narrow) }
+    ensures err { OnErr result (late.new ≡ late.old) }
+{
+    match hashed.get_index_of(&narrow) {
+        Some(index) => Ok((index, false)),
+        None => {
+            let (index, added) = late.insert(narrow)?;
+            Ok((hashed.len() + index, added))
+        }
+    }
+}
+
+// A full index grows fourfold where there is memory for it. As it grows each node is put in anew, at a place of its own in
+// memory, and by doubling that would come to one more time for each node, by four to a third.
+fn make_room(narrow: &mut IndexSet<Narrow>)
+    ensures { narrow.new.keys ≡ narrow.old.keys }
+{
+    let len = narrow.len();
+    if len == narrow.capacity() {
+        let _grown = narrow.reserve(len.saturating_mul(3));
+    }
+}
+
+#[cfg(test)]
+mod tests {
+    use super::*;
+    use crate::crowd::hash;
+    use std::process::Abort;
+    use std::test::Fail;
+
+    #[test]
+    fn alike_nodes_go_to_the_search_tree(rt: HostRuntime) -> Result<(), Fail> {
+        let mut others = Others::new(rt.alloc());
+        let (tried, added) = insert_alike(&mut others)?;
+        let (_, more) = insert_alike(&mut others)?;
+        assert!(rt; 7_000 < tried && others.hashed.len() < 1_100);
+        assert_eq!(rt; (added, more), (tried, 0));
+        Ok(())
+    }
+
+    // Inserts the pairs of small ids whose hashes lead to the first eighth of 256 groups.
+    fn insert_alike(others: &mut Others) -> Result<(usize, usize), NoMemory> {
+        let mut tried: usize = 0;
+        let mut added: usize = 0;
+        for number in 0..65_536u32 {
+            let narrow = Narrow::Pair(number / 256, number % 256);
+            if hash(narrow) % 256 < 32 {
+                let (_, is_new) = others.insert(narrow)?;
+                tried = tried.saturating_add(1);
+                added = added.saturating_add(usize::from(is_new));
+            }
+        }
+        Ok((tried, added))
+    }
+}
