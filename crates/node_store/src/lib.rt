@@ -256,6 +256,18 @@ impl Store {
         self.insert(pair, facts)
     }
 
+    /// Makes room for the pairs of neighbours, the first with the second, the third with the fourth and so on, that aren't
+    /// known by their left children, as far as there is memory. Where many pairs are asked for one after the other this is
+    /// worth a call before: the places in memory that all of them need are then waited for at once.
+    pub fn make_room(&mut self, blocks: &[NodeId])
+        ensures { self.new ≡ self.old }
+    {
+        let count = self.nodes.unknown_pairs(blocks);
+        let _lens = self.lens.reserve(count);
+        let _heights = self.heights.reserve(count);
+        self.nodes.make_room(count);
+    }
+
     // The id of the node, where it stands behind the one that was found last.
     fn found_next(&mut self, node: Node) -> Option<NodeId>
         ensures sound { IsSound self.old }

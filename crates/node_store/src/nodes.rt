@@ -8,7 +8,7 @@ ghost use Rattle.node_store.specs.Firsts.{IsIndexed, IsWay};
 
 use crate::narrow::Narrow;
 use crate::others::Others;
-use slp_model::Node;
+use slp_model::{Node, NodeId};
 use span_types::NoMemory;
 use std::alloc::Global;
 use std::marker::Model;
@@ -88,6 +88,35 @@ impl Nodes {
         ensures { slice_get self.now index ≡ Some result }
     {
         self.all[index].widened()
+    }
+
+    /// How many of the pairs of neighbours aren't the first pair with their left child.
+    pub(crate) fn unknown_pairs(&self, blocks: &[NodeId]) -> usize {
+        let mut count: usize = 0;
+        for place in 0..blocks.len() / 2 {
+            if !self.is_first_pair(blocks[2 * place], blocks[2 * place + 1]) {
+                count = count.saturating_add(1);
+            }
+        }
+        count
+    }
+
+    // Whether the pair is the first one with its left child. It may be there without that.
+    #[inline(always)]
+    fn is_first_pair(&self, left: NodeId, right: NodeId) -> bool {
+        let link = self.firsts.get(left.index).copied().unwrap_or(0);
+        match self.all.get((link as usize).wrapping_sub(1)) {
+            Some(narrow) => narrow.widened() == Node::Pair(left, right),
+            None => false,
+        }
+    }
+
+    /// Makes room for so many nodes, as far as there is memory.
+    pub(crate) fn make_room(&mut self, count: usize)
+        ensures { self.new ≡ self.old }
+    {
+        let _all = self.all.reserve(count);
+        let _firsts = self.firsts.reserve(count);
     }
 
     /// The place of the node, which is added last where it isn't there, and whether it was added. Its children are among the

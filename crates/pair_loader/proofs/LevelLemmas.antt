@@ -45,6 +45,9 @@ few-words n high long low = let less : 2 ^ high ≤ 2 ^ 9 = pow_mono low in omeg
 pub blocks-grow : (old new : List Node) (p q : ℕ) → Grows old new p q → (h count : ℕ) (s : List ℕ) (ids : List NodeId) → AreBlocks old h count s ids → AreBlocks new h count s ids
 blocks-grow old new p q g h count s ids b = record { each = λ i d m. block-grows old new p q g h (slice_chunk s (2 ^ h) i) (get_or ids i d).index (b.each i d m) }
 
+pub blocks-same : (old new : List Node) (h count : ℕ) (s : List ℕ) (ids : List NodeId) → new ≡ old → AreBlocks old h count s ids → AreBlocks new h count s ids
+blocks-same old new h count s ids same b = subst (λ ns. AreBlocks ns h count s ids) (sym same) b
+
 -- the two blocks that become the pair at place i
 pub record AreNeighbours (ns : List Node) (h i : ℕ) (s : List ℕ) (ids : List NodeId) (d : NodeId) : Type 0 where
   pub left : IsBlockAt ns h (slice_chunk s (2 ^ h) (2 * i)) (get_or ids (2 * i) d).index

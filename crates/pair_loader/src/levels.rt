@@ -77,6 +77,7 @@ fn pair_neighbours<L: Ledger>(
     ensures made { OnOk result (AreBlocks store.new (height + 1) (length piece.now / 2 ^ (height + 1)) piece.now ids.new) }
     ensures cost { pairs.new ≤ pairs.old + length piece.now / 2 ^ (height + 1) }
 {
+    store.make_room(&ids[..piece.len() >> height]);
     for place in 0..piece.len() >> (height + 1) {
         ids[place] = store.pair_blocks(ids[2 * place], ids[2 * place + 1], height, pairs)?;
     }

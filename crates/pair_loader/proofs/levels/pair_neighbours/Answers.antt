@@ -1,12 +1,12 @@
 use Rattle.std.proofs.Common.{arith, ◌+◌, ◌<◌, ◌≢◌, length, refl, ◌∙◌, get_or-set_other}
 use Rattle.slp_model.proofs.NodesLemmas.{Grows-none, Grows-trans}
 use Rattle.pair_loader.proofs.KnownLemmas.{joined-block, block-of}
-use Rattle.pair_loader.proofs.LevelLemmas.{neighbours, blocks-grow, blocks-more, joined-chunks, half-count}
+use Rattle.pair_loader.proofs.LevelLemmas.{neighbours, blocks-same, blocks-grow, blocks-more, joined-chunks, half-count}
 use Rattle.pair_loader.proofs.levels.pair_neighbours.Goals as goal
 
 pub loop-place-init : goal.loop-place-init
 loop-place-init g c = record {
-  grows = Grows-none c.args.store.now c.args.pairs.now c.args.pairs.now (omega arith);
+  grows = Grows-none c.make_room.new.self c.args.pairs.now c.args.pairs.now (omega arith);
   made = record { each = λ i d m. absurd (omega arith) };
   rest = λ i d m. refl;
   cost = omega arith;
@@ -22,14 +22,19 @@ pub bounds-ids-place : goal.bounds-ids-place
 bounds-ids-place g c = omega (arith, c.loop-place-test.true, c.requires.room, half-count (length c.args.piece.now) c.args.height)
 
 pub pair_blocks-requires-clause-left : goal.pair_blocks-requires-clause-left
-pair_blocks-requires-clause-left g c = block-of _ c.args.height _ _ (neighbours _ _ _ _ c.loop-place.invariant.grows c.args.height c.loop-place.place c.args.piece.now _ _ (record { index = 0 }) c.requires.made c.loop-place-test.true c.loop-place.invariant.rest).left
+pair_blocks-requires-clause-left g c =
+    let made = blocks-same _ _ c.args.height _ c.args.piece.now c.args.ids.now c.make_room.ensures c.requires.made in
+    block-of _ c.args.height _ _ (neighbours _ _ _ _ c.loop-place.invariant.grows c.args.height c.loop-place.place c.args.piece.now _ _ (record { index = 0 }) made c.loop-place-test.true c.loop-place.invariant.rest).left
 
 pub pair_blocks-requires-clause-right : goal.pair_blocks-requires-clause-right
-pair_blocks-requires-clause-right g c = block-of _ c.args.height _ _ (neighbours _ _ _ _ c.loop-place.invariant.grows c.args.height c.loop-place.place c.args.piece.now _ _ (record { index = 0 }) c.requires.made c.loop-place-test.true c.loop-place.invariant.rest).right
+pair_blocks-requires-clause-right g c =
+    let made = blocks-same _ _ c.args.height _ c.args.piece.now c.args.ids.now c.make_room.ensures c.requires.made in
+    block-of _ c.args.height _ _ (neighbours _ _ _ _ c.loop-place.invariant.grows c.args.height c.loop-place.place c.args.piece.now _ _ (record { index = 0 }) made c.loop-place-test.true c.loop-place.invariant.rest).right
 
 pub loop-place-preserved : goal.loop-place-preserved
 loop-place-preserved g c =
-    let two = neighbours _ _ _ _ c.loop-place.invariant.grows c.args.height c.loop-place.place c.args.piece.now _ _ (record { index = 0 }) c.requires.made c.loop-place-test.true c.loop-place.invariant.rest in
+    let made = blocks-same _ _ c.args.height _ c.args.piece.now c.args.ids.now c.make_room.ensures c.requires.made in
+    let two = neighbours _ _ _ _ c.loop-place.invariant.grows c.args.height c.loop-place.place c.args.piece.now _ _ (record { index = 0 }) made c.loop-place-test.true c.loop-place.invariant.rest in
     let within : c.loop-place.place < length c.loop-place.ids = omega (arith, c.loop-place-test.true, c.requires.room, half-count (length c.args.piece.now) c.args.height) in
     let here = joined-block _ c.pair_blocks.new.self c.args.height _ _ _ _ _ c.in_ok-ids.field-0.index two.left two.right c.in_ok-ids.ensures.live c.in_ok-ids.ensures.tree (joined-chunks c.args.piece.now c.args.height c.loop-place.place) in
     record {
