@@ -1,12 +1,13 @@
 //! Rows of editing expressions.
-ghost use Rattle.std.specs.Prelude.{◌≡◌, ◌<◌, IfOk, length};
+ghost use Rattle.std.specs.Prelude.{◌≡◌, ◌<◌, IfOk};
+ghost use Rattle.edit_expr.specs.Values.{AreLive};
 
 use crate::tried::pair;
 use doc_book::Docs;
 use edit_expr::{EditRefusal, ExprRefusal, eval, read};
 use node_store::Store;
 use slp_model::{Node, NodeId};
-use span_types::{Name, Steps};
+use span_types::{Name, NoMemory, Steps};
 use std::alloc::{AllocError, Global};
 use std::marker::Brand;
 use std::sync::ledger::{Blank, Ledger};
@@ -98,56 +99,51 @@ fn nested(alloc: Global, depth: u8) -> Result<Vec<u8>, AllocError> {
     Ok(text)
 }
 
+/// Expressions where `d` is `ab`, and their values.
+const VALUES: &[(&[u8], &[u8])] = &[
+    (b"d", b"ab"),
+    (b"concat(d,d)", b"abab"),
+    (b"copy(concat(d,d),1,3,5)", b"ababab"),
+    (b"copy(d,2,3,1)", b"bab"),
+    (b"insert(d,concat(d,d),2)", b"aababb"),
+    (b"extract(d,2,3)", b"b"),
+    (b"extract(d,3,3)", b""),
+    (b"delete(concat(d,d),2,4)", b"ab"),
+    (b"delete(d,1,3)", b""),
+];
+
 #[test]
 fn values(rt: HostRuntime) -> Result<(), Fail> {
-    let alloc = rt.alloc();
-    for (text, want) in [
-        (b"d".as_slice(), b"ab".as_slice()),
-        (b"concat(d,d)".as_slice(), b"abab".as_slice()),
-        (b"copy(concat(d,d),1,3,5)".as_slice(), b"ababab".as_slice()),
-        (b"copy(d,2,3,1)".as_slice(), b"bab".as_slice()),
-        (b"insert(d,concat(d,d),2)".as_slice(), b"aababb".as_slice()),
-        (b"extract(d,2,3)".as_slice(), b"b".as_slice()),
-        (b"extract(d,3,3)".as_slice(), b"".as_slice()),
-        (b"delete(concat(d,d),2,4)".as_slice(), b"ab".as_slice()),
-        (b"delete(d,1,3)".as_slice(), b"".as_slice()),
-    ] {
-        match edited::<Brand>(alloc, text, Blank::new(1))? {
-            Ok(bytes) => assert_eq!(rt; bytes.as_slice(), want, "{text:?}"),
-            Err(_) => assert!(rt; false, "{text:?}"),
-        }
+    for (text, want) in VALUES {
+        let bytes = edited::<Brand>(rt.alloc(), text, Blank::new(1))?;
+        assert!(rt; bytes.as_slice() == *want, "{text:?}");
     }
     Ok(())
 }
 
+/// Expressions where `d` is `ab`, and why they have no values.
+const REFUSALS: &[(&[u8], &str)] = &[
+    (b"nope", "no document is named nope"),
+    (b"concat(d,nope)", "no document is named nope"),
+    (b"extract(d,3,2)", "the range 3 to 2 is not within 2 bytes"),
+    (b"delete(d,0,1)", "the range 0 to 1 is not within 2 bytes"),
+    (b"copy(d,1,4,9)", "the range 1 to 4 is not within 2 bytes"),
+    (b"copy(d,1,3,4)", "the range 4 to 4 is not within 2 bytes"),
+    (b"insert(d,nope,9)", "no document is named nope"),
+];
+
+/// The text of an expression's refusal, or none where it has a value.
+fn refusal_of(alloc: Global, text: &[u8]) -> Result<String, AllocError> {
+    match edited::<Brand>(alloc, text, Blank::new(1)) {
+        Ok(_) => Ok(String::new(alloc)),
+        Err(why) => why.to_string(alloc),
+    }
+}
+
 #[test]
 fn refusals(rt: HostRuntime) -> Result<(), Fail> {
-    let alloc = rt.alloc();
-    for (text, want) in [
-        (b"nope".as_slice(), "no document is named nope"),
-        (b"concat(d,nope)".as_slice(), "no document is named nope"),
-        (
-            b"extract(d,3,2)".as_slice(),
-            "the range 3 to 2 is not within 2 bytes",
-        ),
-        (
-            b"delete(d,0,1)".as_slice(),
-            "the range 0 to 1 is not within 2 bytes",
-        ),
-        (
-            b"copy(d,1,4,9)".as_slice(),
-            "the range 1 to 4 is not within 2 bytes",
-        ),
-        (
-            b"copy(d,1,3,4)".as_slice(),
-            "the range 4 to 4 is not within 2 bytes",
-        ),
-        (b"insert(d,nope,9)".as_slice(), "no document is named nope"),
-    ] {
-        match edited::<Brand>(alloc, text, Blank::new(1))? {
-            Ok(_) => assert!(rt; false, "{text:?}"),
-            Err(why) => assert_eq!(rt; why.to_string(alloc)?.as_str(), want),
-        }
+    for (text, want) in REFUSALS {
+        assert!(rt; refusal_of(rt.alloc(), text)?.as_str() == *want, "{text:?}");
     }
     Ok(())
 }
@@ -181,35 +177,48 @@ fn texts_of_refusals(rt: HostRuntime) -> Result<(), Fail> {
     Ok(())
 }
 
-/// `ab`
-fn ab<L: Ledger>(store: &mut Store, pairs: &mut Steps<L>) -> Result<NodeId, Fail>
-    ensures { IfOk result (λ id. id.index < length store.new) }
+/// The document `d`, whose text is `ab`.
+fn docs_of_ab<L: Ledger>(
+    alloc: Global,
+    store: &mut Store,
+    pairs: &mut Steps<L>,
+) -> Result<Docs, NoMemory>
+    ensures { IfOk result (AreLive store.new) }
 {
     let a = store.byte(b'a')?;
     let b = store.byte(b'b')?;
-    pair(store, a, b, pairs)
+    let root = pair(store, a, b, pairs)?;
+    let name = Name::new(alloc, b"d").map_err(|_| NoMemory)?;
+    let mut docs = Docs::new(alloc);
+    docs.set(alloc, name, Some(root))?;
+    Ok(docs)
 }
 
-/// The value of the expression, where the document `d` is `ab`.
-fn edited<L: Ledger>(
+/// The bytes of an expression's value over these documents.
+fn value_of<L: Ledger>(
     alloc: Global,
     text: &[u8],
-    blank: Blank,
-) -> Result<Result<Vec<u8>, EditRefusal>, Fail>
+    docs: &Docs,
+    store: &mut Store,
+    pairs: &mut Steps<L>,
+) -> Result<Vec<u8>, EditRefusal>
+    requires { AreLive store.old docs.now }
+{
+    let expr = read(alloc, text).map_err(|_| EditRefusal::NoMemory)?;
+    let root = eval(alloc, &expr, docs, store, pairs)?;
+    bytes_of(alloc, store, root).map_err(|_| EditRefusal::NoMemory)
+}
+
+/// The bytes of an expression's value, where the document `d` is `ab`.
+fn edited<L: Ledger>(alloc: Global, text: &[u8], blank: Blank) -> Result<Vec<u8>, EditRefusal>
     requires name { blank.name ≡ L.name }
     requires parts { blank.parts ≡ L.parts }
     requires some { 0 < L.parts }
 {
     let mut pairs = Steps::<L>::new(blank);
     let mut store = Store::new(alloc);
-    let both = ab(&mut store, &mut pairs)?;
-    let mut docs = Docs::new(alloc);
-    docs.set(alloc, Name::new(alloc, b"d")?, Some(both))?;
-    let expr = read(alloc, text)?;
-    match eval(alloc, &expr, &docs, &mut store, &mut pairs) {
-        Ok(root) => Ok(Ok(bytes_of(alloc, &store, root)?)),
-        Err(why) => Ok(Err(why)),
-    }
+    let docs = docs_of_ab(alloc, &mut store, &mut pairs)?;
+    value_of(alloc, text, &docs, &mut store, &mut pairs)
 }
 
 /// The bytes below a root, of which there are few.

@@ -4,7 +4,7 @@ ghost use Rattle.std.specs.Prelude.{◌≡◌, ◌<◌};
 use crate::tried::{joined, len};
 use node_store::{Node, NodeId, Store};
 use slp_concat::concat;
-use span_types::Steps;
+use span_types::{NoMemory, Steps};
 use std::alloc::Global;
 use std::marker::Brand;
 use std::process::Abort;
@@ -23,15 +23,15 @@ fn concatenated<L: Ledger>(
     left: NodeId,
     right: NodeId,
     pairs: &mut Steps<L>,
-) -> Result<Option<NodeId>, Fail> {
+) -> Result<Option<NodeId>, NoMemory> {
     let count = store.count();
     if left.index >= count || right.index >= count {
-        return Err("two nodes".into());
+        return Err(NoMemory);
     }
     if store.len(left) > 100 || store.len(right) > 100 {
-        return Err("two short texts".into());
+        return Err(NoMemory);
     }
-    Ok(concat(store, Some(left), Some(right), pairs)?)
+    concat(store, Some(left), Some(right), pairs)
 }
 
 fn is_pair(store: &Store, id: NodeId, left: NodeId, right: NodeId) -> bool {

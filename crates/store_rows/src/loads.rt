@@ -3,80 +3,62 @@ ghost use Rattle.std.specs.Prelude.{◌≡◌, ◌<◌};
 
 use node_store::{Node, NodeId, Store};
 use pair_loader::{Loader, load};
-use span_types::Steps;
+use span_types::{NoMemory, Steps};
 use std::alloc::Global;
 use std::marker::Brand;
-use std::process::Abort;
 use std::sync::ledger::{Blank, Ledger};
 use std::test::Fail;
 
+/// A text's length and its root's height, each 0 where it has no root, and the number of nodes.
+type Shape = (u64, u8, usize);
+
+/// The shape of a text of at most 2^20 bytes that is loaded.
+fn loaded<L: Ledger>(alloc: Global, text: &[u8], blank: Blank) -> Result<Shape, NoMemory>
+    requires name { blank.name ≡ L.name }
+    requires parts { blank.parts ≡ L.parts }
+    requires some { 0 < L.parts }
+{
+    if text.len() > 1 << 20 {
+        return Err(NoMemory);
+    }
+    let mut pairs = Steps::<L>::new(blank);
+    let mut store = Store::new(alloc);
+    match load(alloc, &mut store, text, &mut pairs)? {
+        Some(id) => Ok((store.len(id), store.height(id), store.count())),
+        None => Ok((0, 0, store.count())),
+    }
+}
+
+fn shape(alloc: Global, text: &[u8]) -> Result<Shape, NoMemory> {
+    loaded::<Brand>(alloc, text, Blank::new(1))
+}
+
+/// A text of 20,000 bytes, of whose words all but the first are found, is the last.
 #[test]
 fn trees_of_texts(rt: HostRuntime) -> Result<(), Fail> {
     let alloc = rt.alloc();
-    texts::<Brand>(&rt, alloc, Blank::new(1))
-}
-
-/// Five pieces, one, and two with an empty one between, each with the nodes after each piece.
-#[test]
-fn trees_of_pieces(rt: HostRuntime) -> Result<(), Fail> {
-    let alloc = rt.alloc();
-    for (ends, counts) in [
-        ([1, 2, 3, 4, 5].as_slice(), [1, 3, 4, 7, 8].as_slice()),
-        ([5].as_slice(), [8].as_slice()),
-        ([2, 2, 5].as_slice(), [3, 3, 8].as_slice()),
-    ] {
-        pieces::<Brand>(&rt, alloc, ends, counts, Blank::new(1))?;
-    }
+    assert!(rt; shape(alloc, b"")? == (0, 0, 0));
+    assert!(rt; shape(alloc, b"abracadabra")? == (11, 4, 15));
+    let long = vec![in alloc; b'a'; 20_000]?;
+    let (len, height, _) = shape(alloc, &long)?;
+    assert!(rt; (len, height) == (20_000, 15));
     Ok(())
 }
 
-/// A text of 20,000 bytes, of whose words all but the first are found.
-#[test]
-fn tree_of_a_long_text(rt: HostRuntime) -> Result<(), Fail> {
-    let alloc = rt.alloc();
-    long_text::<Brand>(&rt, alloc, Blank::new(1))
-}
+/// Where the pieces of `abcde` end, and how many nodes there are after each.
+const PIECES: &[(&[usize], &[usize])] = &[
+    (&[1, 2, 3, 4, 5], &[1, 3, 4, 7, 8]),
+    (&[5], &[8]),
+    (&[2, 2, 5], &[3, 3, 8]),
+];
 
-fn long_text<L: Ledger>(rt: &impl Abort, alloc: Global, blank: Blank) -> Result<(), Fail>
-    requires name { blank.name ≡ L.name }
-    requires parts { blank.parts ≡ L.parts }
-    requires some { 0 < L.parts }
-{
-    let mut pairs = Steps::<L>::new(blank);
-    let mut store = Store::new(alloc);
-    let text = vec![in alloc; b'a'; 20_000]?;
-    let Some(id) = load(alloc, &mut store, text.as_slice(), &mut pairs)? else {
-        return Ok(assert!(rt; false));
-    };
-    assert_eq!(rt; (store.len(id), store.height(id)), (20_000, 15));
-    Ok(())
-}
-
-fn texts<L: Ledger>(rt: &impl Abort, alloc: Global, blank: Blank) -> Result<(), Fail>
-    requires name { blank.name ≡ L.name }
-    requires parts { blank.parts ≡ L.parts }
-    requires some { 0 < L.parts }
-{
-    let mut pairs = Steps::<L>::new(blank);
-    let mut store = Store::new(alloc);
-    assert_eq!(rt; load(alloc, &mut store, b"", &mut pairs)?, None);
-    let root = load(alloc, &mut store, b"abcde", &mut pairs)?;
-    check_abcde(rt, &store, root);
-    let mut store = Store::new(alloc);
-    let Some(id) = load(alloc, &mut store, b"abracadabra", &mut pairs)? else {
-        return Ok(assert!(rt; false));
-    };
-    assert_eq!(rt; (store.height(id), store.count()), (4, 15));
-    Ok(())
-}
-
+/// Whether `abcde` in these pieces has so many nodes after each, and in the end its tree.
 fn pieces<L: Ledger>(
-    rt: &impl Abort,
     alloc: Global,
     ends: &[usize],
     counts: &[usize],
     blank: Blank,
-) -> Result<(), Fail>
+) -> Result<bool, NoMemory>
     requires name { blank.name ≡ L.name }
     requires parts { blank.parts ≡ L.parts }
     requires some { 0 < L.parts }
@@ -87,13 +69,28 @@ fn pieces<L: Ledger>(
     let text: &[u8] = b"abcde";
     let mut start = 0;
     for (&end, &count) in ends.iter().zip(counts) {
-        assert!(rt; start <= end && end <= text.len());
+        if start > end || end > text.len() {
+            return Ok(false);
+        }
         loader.feed(&mut store, &text[start..end], &mut pairs)?;
-        assert_eq!(rt; store.count(), count);
+        if store.count() != count {
+            return Ok(false);
+        }
         start = end;
     }
     let root = loader.finish(&mut store, &mut pairs)?;
-    check_abcde(rt, &store, root);
+    Ok(root == Some(NodeId { index: 9 }) && has_abcde(&store))
+}
+
+/// Five pieces, one, and two with an empty one between.
+#[test]
+fn trees_of_pieces(rt: HostRuntime) -> Result<(), Fail> {
+    for (ends, counts) in PIECES {
+        assert!(rt;
+            pieces::<Brand>(rt.alloc(), ends, counts, Blank::new(1))?,
+            "{ends:?}"
+        );
+    }
     Ok(())
 }
 
@@ -111,10 +108,11 @@ const ABCDE: [Node; 10] = [
     Node::Pair(NodeId { index: 2 }, NodeId { index: 8 }),
 ];
 
-fn check_abcde(rt: &impl Abort, store: &Store, root: Option<NodeId>) {
-    assert_eq!(rt; root, Some(NodeId { index: 9 }));
-    assert_eq!(rt; store.count(), 10);
+fn has_abcde(store: &Store) -> bool {
+    let mut all = store.count() == 10;
     for index in 0..10 {
-        assert_eq!(rt; store.node(NodeId { index }), ABCDE[index]);
+        let id = NodeId { index };
+        all = all && index < store.count() && store.node(id) == ABCDE[index];
     }
+    all
 }

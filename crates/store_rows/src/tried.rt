@@ -1,12 +1,12 @@
-//! Calls whose conditions are looked at when they run, so that a row needs no clauses.
+//! Calls whose conditions are looked at when they run, so that a row needs no clauses. One that doesn't hold is told as a want
+//! of memory.
 ghost use Rattle.std.specs.Prelude.{◌<◌, IfOk, length};
 
 use node_store::{NodeId, Store};
 use slp_concat::join;
 use slp_split::{extract, split};
-use span_types::Steps;
+use span_types::{NoMemory, Steps};
 use std::sync::ledger::Ledger;
-use std::test::Fail;
 
 /// The length of a node's text, and 0 where there is no such node.
 pub fn len(store: &Store, id: NodeId) -> u64 {
@@ -23,20 +23,20 @@ pub fn pair<L: Ledger>(
     left: NodeId,
     right: NodeId,
     pairs: &mut Steps<L>,
-) -> Result<NodeId, Fail>
+) -> Result<NodeId, NoMemory>
     ensures { IfOk result (λ id. id.index < length store.new) }
 {
     let count = store.count();
     if left.index >= count || right.index >= count {
-        return Err("two nodes".into());
+        return Err(NoMemory);
     }
     if store.height(left) != 0 || store.height(right) != 0 {
-        return Err("two bytes".into());
+        return Err(NoMemory);
     }
     if store.len(left) != 1 || store.len(right) != 1 {
-        return Err("two bytes".into());
+        return Err(NoMemory);
     }
-    Ok(store.pair(left, right, pairs)?)
+    store.pair(left, right, pairs)
 }
 
 /// The join of two short texts.
@@ -45,15 +45,15 @@ pub fn joined<L: Ledger>(
     left: NodeId,
     right: NodeId,
     pairs: &mut Steps<L>,
-) -> Result<NodeId, Fail> {
+) -> Result<NodeId, NoMemory> {
     let count = store.count();
     if left.index >= count || right.index >= count {
-        return Err("two nodes".into());
+        return Err(NoMemory);
     }
     if store.len(left) > 100 || store.len(right) > 100 {
-        return Err("two short texts".into());
+        return Err(NoMemory);
     }
-    Ok(join(store, left, right, pairs)?)
+    join(store, left, right, pairs)
 }
 
 /// The two parts of a text that is cut.
@@ -62,11 +62,11 @@ pub fn parts<L: Ledger>(
     id: NodeId,
     at: u64,
     pairs: &mut Steps<L>,
-) -> Result<(Option<NodeId>, Option<NodeId>), Fail> {
+) -> Result<(Option<NodeId>, Option<NodeId>), NoMemory> {
     if id.index >= store.count() || at < 1 || at > store.len(id) {
-        return Err("a place in the text".into());
+        return Err(NoMemory);
     }
-    Ok(split(store, Some(id), at, pairs)?)
+    split(store, Some(id), at, pairs)
 }
 
 /// A range of a text.
@@ -76,9 +76,9 @@ pub fn part<L: Ledger>(
     from: u64,
     to: u64,
     pairs: &mut Steps<L>,
-) -> Result<Option<NodeId>, Fail> {
+) -> Result<Option<NodeId>, NoMemory> {
     if id.index >= store.count() || from < 1 || from > to || to > store.len(id) + 1 {
-        return Err("a range of the text".into());
+        return Err(NoMemory);
     }
-    Ok(extract(store, Some(id), from, to, pairs)?)
+    extract(store, Some(id), from, to, pairs)
 }
