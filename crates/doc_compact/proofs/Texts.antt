@@ -75,6 +75,8 @@ module _ (ns : List Node) (keep : List Bool) (ms : List Node) (is : IsThinOf ns 
         trees = is;
         live = live-docs ds docs;
         kept = live-versions vs versions;
+        docs_moved = refl;
+        versions_moved = refl;
         texts = texts-docs ds docs;
         versions = texts-versions vs versions;
         reached = λ j lt. subst (λ (l : List (Option NodeId)). AnyReaches ms l j) (roots-docs ds (version_roots vs) (version_roots (moved_versions keep vs)) (roots-versions vs)) (is.reached (roots_of ds ++ version_roots vs) exact j lt);

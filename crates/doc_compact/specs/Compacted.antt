@@ -30,13 +30,16 @@ moved_docs keep ds = map (λ d. record { name = d.name; root = moved keep d.root
 abbrev pub moved_versions : List Bool → Named (List Doc) → Named (List Doc)
 moved_versions keep vs = map (λ v. (v.0, moved_docs keep v.1)) vs
 
--- the nodes of a plan are left, under new numbers: each text is as before, and each node is reached from a document, or from one of a version
+-- the nodes of a plan are left, under new numbers, which the roots have now: each text is as before, and each node is reached from a document,
+-- or from one of a version
 pub record IsCompacted (ns : List Node) (ds : List Doc) (vs : Named (List Doc)) (keep : List Bool) (ms : List Node) (es : List Doc) (ws : Named (List Doc)) : Type 0 where
   pub plan : IsPlanOf ns keep
   pub thin_is : ms ≡ thin ns keep
   pub trees : IsThinOf ns keep ms
   pub live : AreLive ms es
   pub kept : AreKept ms ws
+  pub docs_moved : es ≡ moved_docs keep ds
+  pub versions_moved : ws ≡ moved_versions keep vs
   pub texts : plain ms es ≡ plain ns ds
   pub versions : plain_versions ms ws ≡ plain_versions ns vs
   pub reached : (j : ℕ) → j < length ms → AnyReaches ms (roots_of es ++ version_roots ws) j
