@@ -54,7 +54,7 @@ impl<'a> Model for Answers<'a> {
 }
 
 impl<'a> Answers<'a> {
-    /// Stands before the first answer. It makes a look at the root, and takes the memory that `next` will need.
+    /// Stands before the first answer. It makes at most one look and takes the memory that `next` will need.
     ///
     /// The view's tables are those of the automaton, and the root is one of its nodes or none.
     ///
@@ -70,6 +70,7 @@ impl<'a> Answers<'a> {
     ) -> Result<Answers<'a>, NoMemory>
         requires { IsReady dfa.now view.store.now view.tables.now root }
         ensures listing { IfOk result (λ a. a ≡ record { automaton = dfa.now; text = text_of view.entry.store.now root; after = None }) }
+        ensures look { looks.new ≤ looks.old + 1 }
         ensures cost { looks.new ≤ looks.old + looks_limit dfa.now.variables (length (text_of view.entry.store.now root)) }
     {
         let ground = Ground::new(view, dfa, root);
@@ -355,6 +356,7 @@ pub fn nonempty<L: Ledger>(
 ) -> bool
     requires { IsReady dfa.now view.store.now view.tables.now root }
     ensures some { IsTrue result ↔ HasMember dfa.now (text_of view.entry.store.now root) }
+    ensures look { looks.new ≤ looks.old + 1 }
     ensures cost { looks.new ≤ looks.old + looks_limit dfa.now.variables (length (text_of view.entry.store.now root)) }
 {
     let _states = dfa.states();
