@@ -1,1 +1,3 @@
 pub mod Bounds
+mod Backwards
+mod Documents

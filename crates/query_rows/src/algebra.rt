@@ -2,11 +2,12 @@
 ghost use Rattle.std.specs.Prelude.{◌≡◌, IfOk, length};
 
 use crate::formulas::dfa_of;
+use crate::subsets::says;
 use formula_syntax::read;
 use marker_dfa::Dfa;
 use span_algebra::{AlgebraRefusal, join, project, union};
-use span_types::Vars;
-use std::alloc::{AllocError, Global};
+use span_types::{NoMemory, Vars};
+use std::alloc::Global;
 use std::test::Fail;
 
 /// An automaton and the names of its variables.
@@ -16,20 +17,24 @@ struct Side {
     names: Vars,
 }
 
-/// The names of a text's variables.
-fn names_of(alloc: Global, text: &[u8]) -> Result<Vars, Fail> {
-    let (_, names) = read(alloc, text)?;
-    Ok(names)
+/// The names of a text's variables. A text that is no formula is told as a want of memory, here and below.
+fn names_of(alloc: Global, text: &[u8]) -> Result<Vars, NoMemory> {
+    match read(alloc, text) {
+        Ok((_, names)) => Ok(names),
+        Err(_) => Err(NoMemory),
+    }
 }
 
 /// The automaton of a text, and its names.
-fn side_of(alloc: Global, text: &[u8]) -> Result<Side, Fail>
+fn side_of(alloc: Global, text: &[u8]) -> Result<Side, NoMemory>
     ensures { IfOk result (λ s. length s.names ≡ s.dfa.variables) }
 {
-    let dfa = dfa_of(alloc, text)??;
+    let Ok(dfa) = dfa_of(alloc, text) else {
+        return Err(NoMemory);
+    };
     let names = names_of(alloc, text)?;
     if dfa.variables() != names.count() {
-        return Err("a name for each variable".into());
+        return Err(NoMemory);
     }
     Ok(Side { dfa, names })
 }
@@ -66,19 +71,19 @@ fn seen_at(dfa: &Dfa, mark: u16, byte: u8) -> Seen {
 }
 
 /// `$x{a}` or `$y{b}`
-fn either(alloc: Global) -> Result<Side, Fail>
+fn either(alloc: Global) -> Result<Side, AlgebraRefusal>
     ensures { IfOk result (λ s. length s.names ≡ s.dfa.variables) }
 {
     let left = side_of(alloc, b"$x{a}")?;
     let right = side_of(alloc, b"$y{b}")?;
-    Ok(united(alloc, &left, &right)?)
+    united(alloc, &left, &right)
 }
 
 /// Where x is lost.
-fn without_x(alloc: Global) -> Result<Dfa, Fail> {
+fn without_x(alloc: Global) -> Result<Dfa, AlgebraRefusal> {
     let whole = either(alloc)?;
     let keep = names_of(alloc, b"$y{}")?;
-    Ok(project(alloc, &whole.dfa, &whole.names, &keep)?)
+    project(alloc, &whole.dfa, &whole.names, &keep)
 }
 
 #[test]
@@ -107,14 +112,14 @@ fn projection_to_one(rt: HostRuntime) -> Result<(), Fail> {
 }
 
 /// The join of two texts, or why there is none.
-fn join_of(alloc: Global, left: &[u8], right: &[u8]) -> Result<Result<Dfa, AlgebraRefusal>, Fail> {
+fn join_of(alloc: Global, left: &[u8], right: &[u8]) -> Result<Dfa, AlgebraRefusal> {
     let left = side_of(alloc, left)?;
     let right = side_of(alloc, right)?;
-    Ok(joined(alloc, &left, &right))
+    joined(alloc, &left, &right)
 }
 
 /// Two texts, a mark, and what is seen after it and `a` in their join: on one name, of other spans, and without common names.
-const JOINS: [(&[u8], &[u8], u16, Seen); 5] = [
+const JOINS: &[(&[u8], &[u8], u16, Seen)] = &[
     (b"$x{a}", b"$x{a}", 1, (2, 1, Some(1), Some(2))),
     (b"$x{a}", b"$x{b}", 1, (1, 1, None, None)),
     (b"$x{a}a", b"a$x{a}", 1, (1, 1, None, None)),
@@ -125,80 +130,71 @@ const JOINS: [(&[u8], &[u8], u16, Seen); 5] = [
 #[test]
 fn joins(rt: HostRuntime) -> Result<(), Fail> {
     for (left, right, mark, want) in JOINS {
-        let dfa = join_of(rt.alloc(), left, right)??;
-        assert_eq!(rt; seen_at(&dfa, mark, b'a'), want, "{left:?} {right:?}");
+        let dfa = join_of(rt.alloc(), left, right)?;
+        assert!(rt; seen_at(&dfa, *mark, b'a') == *want, "{left:?} {right:?}");
     }
     Ok(())
 }
 
 /// The number of states of the join of two texts, or why there is none.
-fn states_of_join(
-    alloc: Global,
-    left: &[u8],
-    right: &[u8],
-) -> Result<Result<u8, AlgebraRefusal>, Fail> {
-    match join_of(alloc, left, right)? {
-        Ok(dfa) => Ok(Ok(dfa.states())),
-        Err(refusal) => Ok(Err(refusal)),
-    }
+fn states_of_join(alloc: Global, left: &[u8], right: &[u8]) -> Result<u8, AlgebraRefusal> {
+    Ok(join_of(alloc, left, right)?.states())
 }
 
-/// Rounds of 20 and 20 bytes, and of 11 and 12.
+/// Rounds of 20 and 20 bytes, and of 11 and 12, and the states of their joins.
+const ROUNDS: &[(&[u8], &[u8], Result<u8, AlgebraRefusal>)] = &[
+    (
+        b"(aaaaaaaaaaaaaaaaaaaa)*",
+        b"(aaaaaaaaaaaaaaaaaaaa)*",
+        Ok(21),
+    ),
+    (
+        b"(aaaaaaaaaaa)*",
+        b"(aaaaaaaaaaaa)*",
+        Err(AlgebraRefusal::TooManyStates),
+    ),
+];
+
 #[test]
-fn state_cap(rt: HostRuntime) -> Result<(), Fail> {
-    for (left, right, want) in [
-        (
-            b"(aaaaaaaaaaaaaaaaaaaa)*".as_slice(),
-            b"(aaaaaaaaaaaaaaaaaaaa)*".as_slice(),
-            Ok(21),
-        ),
-        (
-            b"(aaaaaaaaaaa)*",
-            b"(aaaaaaaaaaaa)*",
-            Err(AlgebraRefusal::TooManyStates),
-        ),
-    ] {
-        assert_eq!(rt; states_of_join(rt.alloc(), left, right)?, want);
+fn state_cap(rt: HostRuntime) {
+    for (left, right, want) in ROUNDS {
+        assert!(rt; states_of_join(rt.alloc(), left, right) == *want);
     }
-    Ok(())
 }
 
 /// The number of variables of the union of `$a{a}` and the same with these letters, or why there is none.
-fn union_of_letters(alloc: Global, letters: &[u8]) -> Result<Result<u8, AlgebraRefusal>, Fail> {
+fn union_of_letters(alloc: Global, letters: &[u8]) -> Result<u8, AlgebraRefusal> {
     let mut whole = side_of(alloc, b"$a{a}")?;
     for letter in letters {
         let next = side_of(alloc, &[b'$', *letter, b'{', b'a', b'}'])?;
-        match united(alloc, &whole, &next) {
-            Ok(more) => whole = more,
-            Err(refusal) => return Ok(Err(refusal)),
-        }
+        whole = united(alloc, &whole, &next)?;
     }
-    Ok(Ok(whole.names.count()))
+    Ok(whole.names.count())
 }
+
+const LETTERS: &[(&[u8], Result<u8, AlgebraRefusal>)] = &[
+    (b"bcdefgh", Ok(8)),
+    (b"bcdefghi", Err(AlgebraRefusal::TooManyVariables)),
+];
 
 #[test]
-fn variable_cap(rt: HostRuntime) -> Result<(), Fail> {
-    for (letters, want) in [
-        (b"bcdefgh".as_slice(), Ok(8)),
-        (b"bcdefghi", Err(AlgebraRefusal::TooManyVariables)),
-    ] {
-        assert_eq!(rt; union_of_letters(rt.alloc(), letters)?, want);
+fn variable_cap(rt: HostRuntime) {
+    for (letters, want) in LETTERS {
+        assert!(rt; union_of_letters(rt.alloc(), letters) == *want);
     }
-    Ok(())
-}
-
-fn text_of(alloc: Global, refusal: AlgebraRefusal) -> Result<String, AllocError> {
-    refusal.to_string(alloc)
 }
 
 #[test]
 fn refusals(rt: HostRuntime) -> Result<(), Fail> {
-    for (refusal, want) in [
-        (AlgebraRefusal::TooManyVariables, "too many variables"),
-        (AlgebraRefusal::TooManyStates, "too many states"),
-        (AlgebraRefusal::NoMemory, "no memory"),
-    ] {
-        assert_eq!(rt; text_of(rt.alloc(), refusal)?.as_str(), want);
-    }
+    let alloc = rt.alloc();
+    assert!(rt;
+        says(
+            alloc,
+            AlgebraRefusal::TooManyVariables,
+            "too many variables"
+        )?
+    );
+    assert!(rt; says(alloc, AlgebraRefusal::TooManyStates, "too many states")?);
+    assert!(rt; says(alloc, AlgebraRefusal::NoMemory, "no memory")?);
     Ok(())
 }

@@ -3,9 +3,10 @@ ghost use Rattle.std.specs.Prelude.{List};
 ghost use Rattle.slp_model.specs.declared.Node.{Node};
 ghost use Rattle.query_book.specs.Serving.{Serves};
 
+use crate::subsets::says;
 use query_book::{BookRefusal, QueryBook, QueryRefusal};
 use span_types::{Name, NoMemory};
-use std::alloc::{AllocError, Global};
+use std::alloc::Global;
 use std::test::Fail;
 
 /// Registers the query of a text.
@@ -31,55 +32,42 @@ fn added(alloc: Global, book: &mut QueryBook, text: &[u8]) -> Result<String, NoM
     Ok(said?)
 }
 
-#[test]
-fn faults_of_formulas(rt: HostRuntime) -> Result<(), Fail> {
-    let alloc = rt.alloc();
-    let mut book = QueryBook::new(alloc);
-    for (text, want) in [
-        (b"($x{a}|b)".as_slice(), "ok"),
-        (b"$x{a}$x{b}", "not functional in x"),
-        (b"($x{a})*", "not functional in x"),
-        (b"a)", "not a formula"),
-    ] {
-        assert_eq!(rt; added(alloc, &mut book, text)?.as_str(), want);
+/// Texts for a query, and what is said of each.
+const TEXTS: &[(&[u8], &str)] = &[
+    (b"[ab]*a[ab][ab][ab][ab][ab][ab]", "too many states"),
+    (b"[ab]*a[ab][ab][ab][ab][ab]", "ok"),
+    (b"($x{a}|b)", "ok"),
+    (b"$x{a}$x{b}", "not functional in x"),
+    (b"($x{a})*", "not functional in x"),
+    (b"a)", "not a formula"),
+];
+
+/// The number of a query's variables, or none where there is no such query.
+fn variables(book: &QueryBook, name: &[u8]) -> Option<u8> {
+    match book.vars(name) {
+        Ok(vars) => Some(vars.count()),
+        Err(_) => None,
     }
-    let Ok(vars) = book.vars(b"q") else {
-        panic!(rt; "the refused formulas took the query out");
-    };
-    assert_eq!(rt; vars.count(), 1);
-    Ok(())
 }
 
+/// A refused text leaves the query that was there.
 #[test]
-fn state_cap(rt: HostRuntime) -> Result<(), Fail> {
-    let alloc = rt.alloc();
-    let mut book = QueryBook::new(alloc);
-    for (text, want) in [
-        (b"[ab]*a[ab][ab][ab][ab][ab]".as_slice(), "ok"),
-        (b"[ab]*a[ab][ab][ab][ab][ab][ab]", "too many states"),
-    ] {
-        assert_eq!(rt; added(alloc, &mut book, text)?.as_str(), want);
+fn one_query(rt: HostRuntime) -> Result<(), Fail> {
+    let mut book = QueryBook::new(rt.alloc());
+    for (text, want) in TEXTS {
+        assert!(rt; added(rt.alloc(), &mut book, text)?.as_str() == *want);
     }
-    for want in [Ok(()), Err(BookRefusal::NoSuchQuery)] {
-        assert_eq!(rt; book.remove(b"q"), want);
-    }
+    assert!(rt; variables(&book, b"q") == Some(1));
+    assert!(rt; book.remove(b"q") == Ok(()));
+    assert!(rt; book.remove(b"q") == Err(BookRefusal::NoSuchQuery));
     Ok(())
-}
-
-fn text_of(alloc: Global, refusal: BookRefusal) -> Result<String, AllocError> {
-    refusal.to_string(alloc)
 }
 
 #[test]
 fn texts_of_refusals(rt: HostRuntime) -> Result<(), Fail> {
     let alloc = rt.alloc();
-    for (refusal, want) in [
-        (BookRefusal::NoSuchQuery, "no query has this name"),
-        (BookRefusal::NoMemory, "no memory"),
-    ] {
-        assert_eq!(rt; text_of(alloc, refusal)?.as_str(), want);
-    }
-    let refusal = QueryRefusal::NoMemory;
-    assert_eq!(rt; refusal.to_string(alloc)?.as_str(), "no memory");
+    assert!(rt; says(alloc, BookRefusal::NoSuchQuery, "no query has this name")?);
+    assert!(rt; says(alloc, BookRefusal::NoMemory, "no memory")?);
+    assert!(rt; says(alloc, QueryRefusal::NoMemory, "no memory")?);
     Ok(())
 }

@@ -73,90 +73,93 @@ fn projected(
     said(alloc, book, made)
 }
 
-/// A book of some queries.
+/// Queries by their names.
+const OPERANDS: &[(&[u8], &[u8])] = &[
+    (b"q", b".*$x{a+}$z{}.*"),
+    (b"r", b"$y{.}$x{b*}"),
+    (b"eight", b"$a{}$b{}$c{}$d{}$e{}$f{}$g{}$h{}"),
+    (b"late", b"[ab]*a[ab][ab][ab][ab][ab]"),
+    (b"thirds", b"([ab][ab][ab])*"),
+    (b"marked", b"[ab]*$x{a}[ab][ab][ab][ab][ab][ab]"),
+];
+
 fn operands(alloc: Global) -> Result<QueryBook, NoMemory> {
     let mut book = QueryBook::new(alloc);
-    for (name, text) in [
-        (b"q".as_slice(), b".*$x{a+}$z{}.*".as_slice()),
-        (b"r", b"$y{.}$x{b*}"),
-        (b"eight", b"$a{}$b{}$c{}$d{}$e{}$f{}$g{}$h{}"),
-        (b"late", b"[ab]*a[ab][ab][ab][ab][ab]"),
-        (b"thirds", b"([ab][ab][ab])*"),
-        (b"marked", b"[ab]*$x{a}[ab][ab][ab][ab][ab][ab]"),
-    ] {
+    for (name, text) in OPERANDS {
         register(alloc, &mut book, name, text)?;
     }
     Ok(book)
 }
 
+/// Two names, and what is said of their union, and of their join.
+const PAIRS: &[(&[u8], &[u8], &str)] = &[
+    (b"q", b"r", "x z y "),
+    (b"r", b"q", "y x z "),
+    (b"z", b"zz", "no query is named z"),
+    (b"q", b"zz", "no query is named zz"),
+    (b"eight", b"r", "too many variables"),
+    (b"late", b"thirds", "too many states"),
+];
+
 #[test]
 fn unions(rt: HostRuntime) -> Result<(), Fail> {
-    let alloc = rt.alloc();
-    let mut book = operands(alloc)?;
-    for (left, right, want) in [
-        (b"q".as_slice(), b"r".as_slice(), "x z y "),
-        (b"r", b"q", "y x z "),
-        (b"z", b"zz", "no query is named z"),
-        (b"q", b"zz", "no query is named zz"),
-        (b"eight", b"r", "too many variables"),
-        (b"late", b"thirds", "too many states"),
-    ] {
-        assert_eq!(rt; united(alloc, &mut book, left, right)?.as_str(), want);
+    let mut book = operands(rt.alloc())?;
+    for (left, right, want) in PAIRS {
+        assert!(rt; united(rt.alloc(), &mut book, left, right)?.as_str() == *want);
     }
     Ok(())
 }
 
 #[test]
 fn joins(rt: HostRuntime) -> Result<(), Fail> {
-    let alloc = rt.alloc();
-    let mut book = operands(alloc)?;
-    for (left, right, want) in [
-        (b"q".as_slice(), b"r".as_slice(), "x z y "),
-        (b"r", b"q", "y x z "),
-        (b"z", b"zz", "no query is named z"),
-        (b"q", b"zz", "no query is named zz"),
-        (b"eight", b"r", "too many variables"),
-        (b"late", b"thirds", "too many states"),
-    ] {
-        assert_eq!(rt; joined(alloc, &mut book, left, right)?.as_str(), want);
+    let mut book = operands(rt.alloc())?;
+    for (left, right, want) in PAIRS {
+        assert!(rt; joined(rt.alloc(), &mut book, left, right)?.as_str() == *want);
     }
     Ok(())
 }
 
+/// A name, the variables to keep, and what is said of the projection.
+const PROJECTIONS: &[(&[u8], &[u8], &str)] = &[
+    (b"q", b"z,x", "z x "),
+    (b"q", b"z", "z "),
+    (b"q", b"()", ""),
+    (b"z", b"x,x", "no query is named z"),
+    (b"q", b"x,y", "other variables"),
+    (b"q", b"x,z,x", "other variables"),
+    (b"marked", b"()", "too many states"),
+];
+
 #[test]
 fn projections(rt: HostRuntime) -> Result<(), Fail> {
-    let alloc = rt.alloc();
-    let mut book = operands(alloc)?;
-    for (source, keep, want) in [
-        (b"q".as_slice(), b"z,x".as_slice(), "z x "),
-        (b"q", b"z", "z "),
-        (b"q", b"()", ""),
-        (b"z", b"x,x", "no query is named z"),
-        (b"q", b"x,y", "other variables"),
-        (b"q", b"x,z,x", "other variables"),
-        (b"marked", b"()", "too many states"),
-    ] {
-        assert_eq!(rt; projected(alloc, &mut book, source, keep)?.as_str(), want);
+    let mut book = operands(rt.alloc())?;
+    for (source, keep, want) in PROJECTIONS {
+        assert!(rt; projected(rt.alloc(), &mut book, source, keep)?.as_str() == *want);
     }
     Ok(())
+}
+
+/// A book whose query `n` is of 127 parts.
+fn many_parts(alloc: Global) -> Result<QueryBook, NoMemory> {
+    let mut book = QueryBook::new(alloc);
+    register(alloc, &mut book, b"n", b"a")?;
+    for _ in 0..6 {
+        let _ = united(alloc, &mut book, b"n", b"n")?;
+    }
+    Ok(book)
 }
 
 #[test]
 fn most_parts(rt: HostRuntime) -> Result<(), Fail> {
     let alloc = rt.alloc();
-    let mut book = QueryBook::new(alloc);
-    register(alloc, &mut book, b"n", b"a")?;
-    for _ in 0..6 {
-        assert_eq!(rt; united(alloc, &mut book, b"n", b"n")?.as_str(), "");
+    let mut book = many_parts(alloc)?;
+    let want = "a query of 255 parts is too large";
+    assert!(rt; joined(alloc, &mut book, b"n", b"n")?.as_str() == want);
+    for (keep, want) in [
+        (b"()".as_slice(), ""),
+        (b"x", "a query of 129 parts is too large"),
+    ] {
+        assert!(rt; projected(alloc, &mut book, b"n", keep)?.as_str() == want);
     }
-    assert_eq!(rt;
-        joined(alloc, &mut book, b"n", b"n")?.as_str(),
-        "a query of 255 parts is too large"
-    );
-    assert_eq!(rt; projected(alloc, &mut book, b"n", b"()")?.as_str(), "");
-    assert_eq!(rt;
-        projected(alloc, &mut book, b"n", b"x")?.as_str(),
-        "a query of 129 parts is too large"
-    );
     Ok(())
 }

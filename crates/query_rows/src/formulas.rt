@@ -2,19 +2,19 @@
 use formula_syntax::read;
 use marker_dfa::{Dfa, DfaRefusal, determinise};
 use marker_nfa::{Nfa, of_formula};
+use span_types::NoMemory;
 use std::alloc::Global;
-use std::test::Fail;
 
-/// The position automaton of a text.
-pub fn nfa_of(alloc: Global, text: &[u8]) -> Result<Nfa, Fail> {
+/// The position automaton of a text, which is a formula: another one is told as a want of memory.
+pub fn nfa_of(alloc: Global, text: &[u8]) -> Result<Nfa, NoMemory> {
     let Ok((formula, _)) = read(alloc, text) else {
-        return Err("a formula".into());
+        return Err(NoMemory);
     };
-    Ok(of_formula(alloc, &formula)?)
+    of_formula(alloc, &formula)
 }
 
 /// The deterministic automaton of a text, or why there is none.
-pub fn dfa_of(alloc: Global, text: &[u8]) -> Result<Result<Dfa, DfaRefusal>, Fail> {
+pub fn dfa_of(alloc: Global, text: &[u8]) -> Result<Dfa, DfaRefusal> {
     let nfa = nfa_of(alloc, text)?;
-    Ok(determinise(alloc, &nfa))
+    determinise(alloc, &nfa)
 }

@@ -1,14 +1,15 @@
-//! Worked rows of queries: the automata of formulas, their algebra, their answers on a text, spans that are replaced, and
-//! books of queries.
+//! Worked rows of queries: the automata of formulas, their algebra, their tables and answers on a text, spans that are
+//! replaced, books of queries, and pages of documents.
 //!
 //! ```text
 //! row    $x{a*}                        2 states, of which the first one ends with the mark 3
 //! row    the union of q and r, in a book    the variables x, z and y
+//! row    abracadabra, with 1, 4 and 64 workers    15 nodes, 15 tables, of which one is distinct
 //! ```
 //!
-//! The crate has tests alone, of `marker_nfa`, `marker_dfa`, `span_algebra`, `span_enum`, `span_replace` and `query_book`.
-//! They stand apart from these, so that each of them is proved once, and so that all share the formulas. They take little time
-//! and memory.
+//! The crate has tests alone, of `marker_nfa`, `marker_dfa`, `table_grow`, `span_algebra`, `span_enum`, `span_replace`,
+//! `query_book` and `list_all`. They stand apart from these, so that each of them is proved once, and so that all share the
+//! formulas. They take little time and memory.
 #![tactic(auto)]
 
 #[cfg(test)]
@@ -24,6 +25,8 @@ mod combining;
 #[cfg(test)]
 mod formulas;
 #[cfg(test)]
+mod listings;
+#[cfg(test)]
 mod one_letter;
 #[cfg(test)]
 mod positions;
@@ -31,3 +34,5 @@ mod positions;
 mod replacing;
 #[cfg(test)]
 mod subsets;
+#[cfg(test)]
+mod tables;

@@ -7,17 +7,16 @@ ghost use Rattle.state_tables.specs.Meaning.{IsTable};
 ghost use Rattle.span_enum.specs.Listing.{IsReady};
 
 use crate::formulas::dfa_of;
-use marker_dfa::Dfa;
+use marker_dfa::{Dfa, DfaRefusal};
 use node_store::NodeId;
 use span_types::{NoMemory, Steps};
 use state_tables::{Tables, View, of_byte};
 use std::alloc::Global;
 use std::sync::ledger::Ledger;
-use std::test::Fail;
 
 /// The automaton of `$x{a}|a`.
-pub fn dfa_of_x(alloc: Global) -> Result<Dfa, Fail> {
-    Ok(dfa_of(alloc, b"$x{a}|a")??)
+pub fn dfa_of_x(alloc: Global) -> Result<Dfa, DfaRefusal> {
+    dfa_of(alloc, b"$x{a}|a")
 }
 
 /// The tables of a store whose one node is `a`.

@@ -1,6 +1,7 @@
 //! Rows of position automata.
 use crate::formulas::nfa_of;
 use marker_nfa::{End, Nfa};
+use span_types::NoMemory;
 use std::alloc::Global;
 use std::test::Fail;
 
@@ -43,15 +44,15 @@ fn many_stars(rt: HostRuntime) -> Result<(), Fail> {
 }
 
 /// The parts of a captured star's automaton make another one.
-fn made_of_parts(alloc: Global) -> Result<Nfa, Fail> {
+fn made_of_parts(alloc: Global) -> Result<Nfa, NoMemory> {
     let made = nfa_of(alloc, b"$x{a*}")?;
-    Ok(Nfa::of_parts(
+    Nfa::of_parts(
         alloc,
         made.states(),
         made.variables(),
         made.edges(),
         made.ends(),
-    )?)
+    )
 }
 
 #[test]

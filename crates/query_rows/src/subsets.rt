@@ -2,6 +2,7 @@
 use crate::formulas::dfa_of;
 use marker_dfa::{Dfa, DfaRefusal};
 use std::alloc::{AllocError, Global};
+use std::fmt::Display;
 use std::test::Fail;
 
 /// The state after a mark and a byte, where the automaton has the state before.
@@ -24,7 +25,7 @@ fn marks<'a>(dfa: &'a Dfa, state: u8, byte: u8) -> (&'a [u16], &'a [u16]) {
 
 #[test]
 fn two_states(rt: HostRuntime) -> Result<(), Fail> {
-    let dfa = dfa_of(rt.alloc(), b"$x{a*}")??;
+    let dfa = dfa_of(rt.alloc(), b"$x{a*}")?;
     assert_eq!(rt; (dfa.variables(), dfa.states()), (1, 2));
     for (state, mark, byte, want) in [
         (0, 1, b'a', Some(1)),
@@ -41,34 +42,34 @@ fn two_states(rt: HostRuntime) -> Result<(), Fail> {
 }
 
 /// How many states the automaton of a text has, or why there is none.
-fn states_of(alloc: Global, text: &[u8]) -> Result<Result<u8, DfaRefusal>, Fail> {
-    match dfa_of(alloc, text)? {
-        Ok(dfa) => Ok(Ok(dfa.states())),
-        Err(why) => Ok(Err(why)),
-    }
+fn states_of(alloc: Global, text: &[u8]) -> Result<u8, DfaRefusal> {
+    Ok(dfa_of(alloc, text)?.states())
 }
 
-fn text_of(alloc: Global, refusal: DfaRefusal) -> Result<String, AllocError> {
-    refusal.to_string(alloc)
+const STATES: &[(&[u8], Result<u8, DfaRefusal>)] = &[
+    (b"[ab]*a[ab][ab][ab][ab][ab]", Ok(65)),
+    (
+        b"[ab]*a[ab][ab][ab][ab][ab][ab]",
+        Err(DfaRefusal::TooManyStates),
+    ),
+];
+
+#[test]
+fn state_cap(rt: HostRuntime) {
+    for (text, want) in STATES {
+        assert!(rt; states_of(rt.alloc(), text) == *want);
+    }
 }
 
 #[test]
-fn state_cap(rt: HostRuntime) -> Result<(), Fail> {
+fn texts_of_refusals(rt: HostRuntime) -> Result<(), Fail> {
     let alloc = rt.alloc();
-    for (text, want) in [
-        (b"[ab]*a[ab][ab][ab][ab][ab]".as_slice(), Ok(65)),
-        (
-            b"[ab]*a[ab][ab][ab][ab][ab][ab]",
-            Err(DfaRefusal::TooManyStates),
-        ),
-    ] {
-        assert_eq!(rt; states_of(alloc, text)?, want);
-    }
-    for (refusal, want) in [
-        (DfaRefusal::TooManyStates, "too many states"),
-        (DfaRefusal::NoMemory, "no memory"),
-    ] {
-        assert_eq!(rt; text_of(alloc, refusal)?.as_str(), want);
-    }
+    assert!(rt; says(alloc, DfaRefusal::TooManyStates, "too many states")?);
+    assert!(rt; says(alloc, DfaRefusal::NoMemory, "no memory")?);
     Ok(())
+}
+
+/// Whether a refusal is printed as this text.
+pub fn says<D: Display + Drop>(alloc: Global, why: D, text: &str) -> Result<bool, AllocError> {
+    Ok(why.to_string(alloc)?.as_str() == text)
 }

@@ -1,3 +1,4 @@
+//! Rows of pages of documents, and a gate that shows that two pieces of the places run at once.
 ghost use Rattle.std.specs.Prelude.{◌≡◌, ◌<◌, ◌≤◌, List, IfOk};
 ghost use Rattle.std.specs.List.{AllByRecursion};
 ghost use Rattle.slp_model.specs.declared.Node.{Node};
@@ -160,59 +161,47 @@ fn seen_at(pages: &Pages, place: usize) -> Option<(usize, bool)> {
     }
 }
 
+/// What is seen at the first three places.
+type Seen = [Option<(usize, bool)>; 3];
+
+/// What is seen of the pages of two letters.
+fn seen<R: Threads + Sync, G: Gate>(
+    rt: &R,
+    alloc: Global,
+    letters: (u8, u8),
+    workers: u8,
+    gate: &G,
+) -> Result<Seen, NoMemory>
+    requires least { 1 ≤ workers }
+    requires most { workers ≤ 64 }
+{
+    let blank = Blank::new(1);
+    let pages = listed::<R, G, Brand>(rt, alloc, blank, letters, workers, gate)?;
+    Ok([seen_at(&pages, 0), seen_at(&pages, 1), seen_at(&pages, 2)])
+}
+
 #[test]
 fn pages_on_many_workers(rt: HostRuntime) -> Result<(), Fail> {
-    let alloc = rt.alloc();
-    let letters = (b'a', b'b');
-    let found = listed::<HostRuntime, OpenGate, Brand>(
-        &rt,
-        alloc,
-        Blank::new(1),
-        letters,
-        64,
-        &OpenGate,
-    )?;
-    assert_eq!(rt; seen_at(&found, 0), Some((1, false)));
-    assert_eq!(rt; seen_at(&found, 1), Some((0, false)));
-    assert_eq!(rt; seen_at(&found, 2), None);
+    let found = seen(&rt, rt.alloc(), (b'a', b'b'), 64, &OpenGate)?;
+    assert_eq!(rt; found, [Some((1, false)), Some((0, false)), None]);
     Ok(())
 }
 
 #[test]
 fn one_page_for_equal_roots(rt: HostRuntime) -> Result<(), Fail> {
-    let alloc = rt.alloc();
-    let letters = (b'a', b'a');
-    let found = listed::<HostRuntime, OpenGate, Brand>(
-        &rt,
-        alloc,
-        Blank::new(1),
-        letters,
-        1,
-        &OpenGate,
-    )?;
-    assert_eq!(rt; seen_at(&found, 0), Some((1, false)));
-    assert_eq!(rt; seen_at(&found, 1), Some((1, false)));
-    assert_eq!(rt; seen_at(&found, 2), None);
+    let found = seen(&rt, rt.alloc(), (b'a', b'a'), 1, &OpenGate)?;
+    assert_eq!(rt; found, [Some((1, false)), Some((1, false)), None]);
     Ok(())
 }
 
 #[test]
 fn two_places_meet(rt: HostRuntime) -> Result<(), Fail> {
-    let alloc = rt.alloc();
     let gate = Meeting {
         arrived: AtomicU64::new(0),
         gave_up: AtomicU64::new(0),
     };
-    let letters = (b'a', b'b');
-    let found = listed::<HostRuntime, Meeting, Brand>(
-        &rt,
-        alloc,
-        Blank::new(1),
-        letters,
-        2,
-        &gate,
-    )?;
-    assert_eq!(rt; found.count(), 2);
+    let found = seen(&rt, rt.alloc(), (b'a', b'b'), 2, &gate)?;
+    assert!(rt; found[1].is_some() && found[2] == None);
     assert_eq!(rt; gate.arrived.load(Ordering::SeqCst), 2);
     assert_eq!(rt; gate.gave_up.load(Ordering::SeqCst), 0);
     Ok(())

@@ -1,15 +1,15 @@
-ghost use Rattle.std.specs.Prelude.{◌≡◌, ◌<◌, ◌≤◌, Bool, List, IfOk, length};
-ghost use Rattle.span_types.specs.FormulaTree.{Set, tree_of};
+//! Rows of tables: gates that show that each node passes and that two pieces of a height run at once, and an order of nodes
+//! that isn't that of their ids.
+ghost use Rattle.std.specs.Prelude.{◌≡◌, ◌<◌, ◌≤◌, IfOk, length};
 ghost use Rattle.slp_model.specs.Nodes.{IsLive};
-ghost use Rattle.marker_nfa.specs.Occurrences.{IsWithinLimits};
 ghost use Rattle.state_tables.specs.Dictionary.{count_of};
 ghost use Rattle.table_grow.specs.Schedule.{IsSchedule};
 
-use marker_dfa::{Dfa, determinise};
-use marker_nfa::of_formula;
+use crate::formulas::dfa_of;
+use marker_dfa::{Dfa, DfaRefusal};
 use node_store::{Node, NodeId, Store};
 use pair_loader::load;
-use span_types::{ByteSet, Formula, NoMemory, Steps};
+use span_types::{NoMemory, Steps};
 use state_tables::Tables;
 use std::alloc::Global;
 use std::marker::Brand;
@@ -61,32 +61,9 @@ impl Gate for Meeting {
     }
 }
 
-fn letters(bytes: &[u8]) -> Formula
-    ensures { (members : List Bool) × (tree_of result ≡ Set members) }
-{
-    let mut letters = ByteSet::empty();
-    for byte in bytes {
-        letters.insert(*byte);
-    }
-    Formula::Set(letters)
-}
-
-fn boxed(alloc: Global, formula: Formula) -> Result<Box<Formula>, NoMemory>
-    ensures { IfOk result (λ place. place.value ≡ formula) }
-{
-    Ok(Box::new(alloc, formula)?)
-}
-
-/// `[abcdr]*`
-fn star(alloc: Global) -> Result<Formula, NoMemory>
-    ensures { IfOk result (λ f. IsWithinLimits (tree_of f)) }
-{
-    Ok(Formula::Star(boxed(alloc, letters(b"abcdr"))?))
-}
-
-fn automaton(alloc: Global) -> Result<Dfa, Fail> {
-    let nfa = of_formula(alloc, &star(alloc)?)?;
-    Ok(determinise(alloc, &nfa)?)
+/// The automaton of `[abcdr]*`.
+fn automaton(alloc: Global) -> Result<Dfa, DfaRefusal> {
+    dfa_of(alloc, b"[abcdr]*")
 }
 
 /// What there is after growth: nodes, tables, distinct tables, and compositions that are remembered.

@@ -1,4 +1,4 @@
-use Rattle.table_rows.proofs.tests.any_order_gives_the_same.Given as goal
+use Rattle.query_rows.proofs.tables.any_order_gives_the_same.Given as goal
 
 abbrev pub ghosts-agree : goal.ghosts-agree
 ghosts-agree g a = record { name = a.blank.name; parts = a.blank.parts }

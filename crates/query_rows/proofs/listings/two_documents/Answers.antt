@@ -1,7 +1,7 @@
 use Rattle.std.proofs.Common.{[]}
 use Rattle.doc_book.specs.Docs.{put}
-use Rattle.list_rows.proofs.Documents.{live-put}
-use Rattle.list_rows.proofs.tests.two_documents.Goals as goal
+use Rattle.query_rows.proofs.Documents.{live-put}
+use Rattle.query_rows.proofs.listings.two_documents.Goals as goal
 
 pub returns : goal.returns
 returns c =
