@@ -155,6 +155,3 @@ impl Docs {
         Ok(copy)
     }
 }
-
-#[cfg(test)]
-mod tests;

@@ -149,6 +149,3 @@ impl Versions {
         self.by_name.value_mut(place).set_root(doc, root);
     }
 }
-
-#[cfg(test)]
-mod tests;

@@ -13,9 +13,6 @@
 //! stack of what is still to come (D. Knuth, *The Art of Computer Programming*, volume 1, section 2.3.1).
 #![tactic(auto)]
 
-#[cfg(test)]
-mod tests;
-
 ghost use Rattle.std.specs.Prelude.{◌≡◌, ◌+◌, ◌-◌, ◌<◌, ◌≤◌, ◌∷◌, ◌++◌, length, take, drop, IfOk, vec_len, vec_capacity};
 ghost use Rattle.slp_model.specs.Tree.{text, height, leaves, root_text, root_leaves};
 ghost use Rattle.slp_model.specs.Nodes.{tree, root_tree, IsLive};

@@ -212,35 +212,3 @@ fn around<L: Ledger>(
     let twice = store.pair(more, more, pairs)?;
     Ok((between, twice))
 }
-
-#[cfg(test)]
-mod tests {
-    use super::*;
-    use std::marker::Brand;
-    use std::process::Abort;
-    use std::sync::ledger::Blank;
-    use std::test::Fail;
-
-    #[test]
-    fn a_byte_three_times(rt: HostRuntime) -> Result<(), Fail> {
-        let alloc = rt.alloc();
-        two_bytes::<Brand>(&rt, alloc, Blank::new(1))
-    }
-
-    fn two_bytes<L: Ledger>(rt: &impl Abort, alloc: Global, blank: Blank) -> Result<(), Fail>
-        requires name { blank.name ≡ L.name }
-        requires parts { blank.parts ≡ L.parts }
-        requires some { 0 < L.parts }
-    {
-        let mut pairs = Steps::<L>::new(blank);
-        let mut store = Store::new(alloc);
-        let mut roots = Roots::new(alloc);
-        roots.byte(&mut store, b'a')?;
-        roots.byte(&mut store, b'b')?;
-        roots.pair(&mut store, 0, 1, &mut pairs)?;
-        roots.repeat(&mut store, 1, 3, &mut pairs)?;
-        assert_eq!(rt; roots.count(), 4);
-        assert_eq!(rt; store.count(), 5);
-        Ok(())
-    }
-}

@@ -118,6 +118,3 @@ fn keep_below(store: &Store, keep: &mut [bool], id: NodeId)
     }
     keep[id.index] = true;
 }
-
-#[cfg(test)]
-mod tests;

@@ -1,4 +1,4 @@
-//! A row of a store that is compacted.
+//! Rows of stores that are compacted.
 use doc_book::Docs;
 use doc_compact::compact;
 use doc_versions::Versions;
@@ -6,6 +6,7 @@ use node_store::Store;
 use span_types::NoMemory;
 use std::alloc::Global;
 use std::test::Fail;
+use store_compact::Plan;
 
 /// How many nodes there are before and after, where no document is there.
 fn counts(alloc: Global) -> Result<(usize, usize), NoMemory> {
@@ -25,5 +26,24 @@ fn nodes_that_nothing_reaches_go(rt: HostRuntime) -> Result<(), Fail> {
         panic!(rt; "out of memory");
     };
     assert_eq!(rt; counts, (2, 0));
+    Ok(())
+}
+
+/// How many nodes are left of two bytes of which the second is kept, and whether the first and the second are.
+fn second_of_two(alloc: Global) -> Result<(usize, bool, bool), NoMemory> {
+    let mut store = Store::new(alloc);
+    let first = store.byte(b'a')?;
+    let second = store.byte(b'b')?;
+    let mut plan = Plan::new(alloc, &store)?;
+    plan.keep_root(&store, None)?;
+    plan.keep_root(&store, Some(second))?;
+    let (thin, moves) = plan.build(alloc, &store)?;
+    Ok((thin.count(), moves.kept(first), moves.kept(second)))
+}
+
+#[test]
+fn second_byte_is_kept(rt: HostRuntime) -> Result<(), Fail> {
+    let told = second_of_two(rt.alloc())?;
+    assert!(rt; told == (1, false, true));
     Ok(())
 }

@@ -1,11 +1,11 @@
-//! Worked rows of values by name, joins, loaded texts, cuts, edits, images and compacted stores.
+//! Worked rows of documents by name, joins, loaded texts, cuts, ranges, edits, images and compacted stores.
 //!
 //! ```text
 //! row    copy(concat(d,d),1,3,5), where d is ab    ababab
 //! row    an image whose magic has another byte     the first fault
 //! ```
 //!
-//! The crate has tests alone, of `name_map`, `slp_concat`, `pair_loader`, `slp_split`, `edit_expr`, `slp_image` and
+//! The crate has tests alone, of the crates between `name_map` and `slp_image`, as `node_store`, `pair_loader`, `edit_expr` and
 //! `doc_compact`. They stand apart from these, so that each of them is proved once. They take little time and memory.
 #![tactic(auto)]
 
@@ -13,6 +13,8 @@
 mod compacting;
 #[cfg(test)]
 mod cuts;
+#[cfg(test)]
+mod documents;
 #[cfg(test)]
 mod edits;
 #[cfg(test)]
@@ -23,5 +25,9 @@ mod joins;
 mod loads;
 #[cfg(test)]
 mod maps;
+#[cfg(test)]
+mod ranges;
+#[cfg(test)]
+mod roots;
 #[cfg(test)]
 mod tried;

@@ -6,6 +6,8 @@ use node_store::{NodeId, Store};
 use slp_concat::join;
 use slp_split::{extract, split};
 use span_types::{NoMemory, Steps};
+use std::alloc::{AllocError, Global};
+use std::fmt::Display;
 use std::sync::ledger::Ledger;
 
 /// The length of a node's text, and 0 where there is no such node.
@@ -81,4 +83,9 @@ pub fn part<L: Ledger>(
         return Err(NoMemory);
     }
     extract(store, Some(id), from, to, pairs)
+}
+
+/// Whether a refusal is printed as this text.
+pub fn says<D: Display + Drop>(alloc: Global, why: D, text: &str) -> Result<bool, AllocError> {
+    Ok(why.to_string(alloc)?.as_str() == text)
 }
