@@ -1,15 +1,9 @@
 -- Queries by name, and how many nodes have their tables.
-use Rattle.std.proofs.Common.{◌≡◌, ℕ, suc, ◌+◌, ◌*◌, ◌≤◌, Bool, true, false, cond, List, [], ◌∷◌, length, Option, Some, None, refl, sym, ap, subst, ◌∙◌, arith, eq-eqb}
-use Rattle.std.specs.Prelude.{◌&&◌, nat_eq, IsSome}
-use Rattle.std.specs.Cmp.Lexicographic.{pointwise}
-use Rattle.std.specs.List.{AllByRecursion}
-use Rattle.slp_model.specs.declared.Node.{Node}
-use Rattle.slp_model.specs.Nodes.{Grows}
+use Rattle.std.proofs.Common.{◌≡◌, ℕ, suc, ◌+◌, ◌*◌, ◌≤◌, true, false, cond, List, [], ◌∷◌, length, Option, Some, None, refl, sym, ap, subst, ◌∙◌, arith, IsSome, option_map}
+use Rattle.span_run.proofs.Names.{AllByRecursion, ArePartlyAt, covered_of, Entry, Grows, IsNamed, names_of, Node, Places, PlacesPart, Query, same_Some, Serves}
+use Rattle.span_run.proofs.Names.{sum_of}
 use Rattle.query_book.specs.Named.{Named, is_same, value_of, put, taken_out}
-use Rattle.query_book.specs.declared.entry.Entry.{Entry}
-use Rattle.query_book.specs.Serving.{Serves, covered_of, sum_of, ArePartlyAt}
 use Rattle.query_book.proofs.Served.{serves-more}
-use Rattle.span_language.specs.Counts.{Places, PlacesPart}
 use Rattle.span_run.proofs.PlacesLemmas.{sum_within}
 
 -- tables stay true where the store grows
@@ -21,44 +15,34 @@ pub covered-within : (ns : List Node) (es : List Entry) → Serves ns es → All
 covered-within ns [] h = tt
 covered-within ns (e ∷ es) h = (h.0.covered, covered-within ns es h.1)
 
-is_same-refl : (name : List ℕ) → is_same name name ≡ true
-is_same-refl [] = refl
-is_same-refl (x ∷ xs) = ap (λ (b : Bool). b && pointwise nat_eq xs xs) (eq-eqb x x refl) ∙ is_same-refl xs
-
-at_own_name : {A : Type 0} (name : List ℕ) (x y : Option A) → cond (is_same name name) x y ≡ x
-at_own_name name x y = ap (λ (b : Bool). cond b x y) (is_same-refl name)
-
--- the value that a name was given
-pub value_of-put : {A : Type 0} (ps : Named A) (name : List ℕ) (value : A) → value_of (put ps name value) name ≡ Some value
-value_of-put [] name value = at_own_name name (Some value) None
-value_of-put (p ∷ ps) name value = at (value_of-put ps name value) (is_same name p.0) refl
-  where
-    at : value_of (put ps name value) name ≡ Some value → (b : Bool) → is_same name p.0 ≡ b → value_of (cond b ((name, value) ∷ ps) (p ∷ put ps name value)) name ≡ Some value
-    at rest true is = at_own_name name (Some value) (value_of ps name)
-    at rest false is = ap (λ (b : Bool). cond b (Some p.1) (value_of (put ps name value) name)) is ∙ rest
-
 -- the value of a name that is there
 pub some_value : {A : Type 0} (o : Option A) → IsSome o → (x : A) × (o ≡ Some x)
 some_value None h = absurd (let bad : ⊥ = cc h in bad)
 some_value (Some x) h = (x, refl)
 
+-- the query whose variables were told
+pub query_of : (o : Option Query) (names : List (List ℕ)) → option_map names_of o ≡ Some names → (q : Query) × (o ≡ Some q) × (names_of q ≡ names)
+query_of None names told = let bad : ⊥ = cc told in absurd bad
+query_of (Some q) names told = (q, refl, same_Some (names_of q) names told)
+
+pub names_known : {P : Query → Type 0} (queries : Named Query) (name : List ℕ) (names : List (List ℕ)) (named : IsNamed queries name P) → option_map names_of (value_of queries name) ≡ Some names → names ≡ names_of named.query
+names_known queries name names named told = sym (same_Some (names_of named.query) names (ap (option_map names_of) (sym named.there) ∙ told))
+
 -- a query that is registered, anew or for the first time
 pub put-places : (n : ℕ) (ps : Named ℕ) (name : List ℕ) → AllByRecursion (λ p. p.1 ≤ n) ps → sum_of ps + n * length (put ps name 0) ≤ sum_of (put ps name 0) + n * length ps + n
 put-places n [] name h = omega arith
-put-places n (p ∷ ps) name h = at (put-places n ps name h.1) (is_same name p.0)
-  where
-    at : sum_of ps + n * length (put ps name 0) ≤ sum_of (put ps name 0) + n * length ps + n → (b : Bool) → sum_of (p ∷ ps) + n * length (cond b ((name, 0) ∷ ps) (p ∷ put ps name 0)) ≤ sum_of (cond b ((name, 0) ∷ ps) (p ∷ put ps name 0)) + n * length (p ∷ ps) + n
-    at rest true = omega (arith, h.0)
-    at rest false = omega (arith, rest)
+put-places n (p ∷ ps) name h =
+    let rest = put-places n ps name h.1 in
+    elim (is_same name p.0) as (λ b. sum_of (p ∷ ps) + n * length (cond b ((name, 0) ∷ ps) (p ∷ put ps name 0)) ≤ sum_of (cond b ((name, 0) ∷ ps) (p ∷ put ps name 0)) + n * length (p ∷ ps) + n)
+    [ true ↦ omega (arith, h.0) | false ↦ omega (arith, rest) ]
 
 -- a query that is taken out
 pub take-places : (n : ℕ) (ps : Named ℕ) (name : List ℕ) → AllByRecursion (λ p. p.1 ≤ n) ps → sum_of ps + n * length (taken_out ps name) ≤ sum_of (taken_out ps name) + n * length ps
 take-places n [] name h = omega arith
-take-places n (p ∷ ps) name h = at (take-places n ps name h.1) (is_same name p.0)
-  where
-    at : sum_of ps + n * length (taken_out ps name) ≤ sum_of (taken_out ps name) + n * length ps → (b : Bool) → sum_of (p ∷ ps) + n * length (cond b ps (p ∷ taken_out ps name)) ≤ sum_of (cond b ps (p ∷ taken_out ps name)) + n * length (p ∷ ps)
-    at rest true = omega (arith, h.0)
-    at rest false = omega (arith, rest)
+take-places n (p ∷ ps) name h =
+    let rest = take-places n ps name h.1 in
+    elim (is_same name p.0) as (λ b. sum_of (p ∷ ps) + n * length (cond b ps (p ∷ taken_out ps name)) ≤ sum_of (cond b ps (p ∷ taken_out ps name)) + n * length (p ∷ ps))
+    [ true ↦ omega (arith, h.0) | false ↦ omega (arith, rest) ]
 
 within-more : (m n : ℕ) (ps : Named ℕ) → m ≤ n → AllByRecursion (λ p. p.1 ≤ m) ps → AllByRecursion (λ p. p.1 ≤ n) ps
 within-more m n [] le h = tt

@@ -1,31 +1,14 @@
 -- What the parts of a command say of the whole.
-use Rattle.std.proofs.Common.{◌≡◌, ◌⊎◌, inl, inr, ℕ, ◌+◌, ◌*◌, ◌≤◌, List, [], ◌∷◌, ◌++◌, length, Option, Some, None, Result, Ok, Err, refl, sym, ap, subst, ◌∙◌, arith, drop, zero, suc, codes, append_assoc}
-use Rattle.std.specs.Prelude.{slice_get, ok_or, OnOk, OnErr, IfOk, IfErr}
-use Rattle.std.specs.Option.{option_map_or}
-use Rattle.std.specs.List.{flat_map}
-use Rattle.span_types.specs.Fibonacci.{height_limit}
+use Rattle.std.proofs.Common.{◌≡◌, ◌⊎◌, inl, inr, ℕ, ◌+◌, ◌*◌, ◌≤◌, List, [], ◌∷◌, ◌++◌, length, Option, Some, None, Result, Ok, Err, refl, sym, ap, subst, ◌∙◌, arith, drop, codes, append_assoc, slice_get, ok_or}
+use Rattle.span_run.proofs.Names.{Accepted, Assigns, at_drop_all, Carries, Command, Counters, counters, Doc, Documents, edit_limit, entry_text, eval, Expr}
+use Rattle.span_run.proofs.Names.{ExprReads, Files, flat_map, greatest, height_limit, IsDenied, IsPaid, IsShown, load_limit, Named, names_text, no_steps, Node}
+use Rattle.span_run.proofs.Names.{NodeId, NoSuchDocument, ok_text, operations, option_map_or, Outcome, PaysFor, PaysForPart, plain, put, Refusal, shown_range}
+use Rattle.span_run.proofs.Names.{State, taken_out, text_at, Told, value_of, with_documents, with_versions, World, world}
+use Rattle.report_text.proofs.Vars.{drop_at}
 use Rattle.doc_book.specs.declared.Missing.{Missing}
-use Rattle.edge_io.specs.Files.{Files}
-use Rattle.slp_model.specs.declared.NodeId.{NodeId}
-use Rattle.slp_model.specs.declared.Node.{Node}
-use Rattle.doc_book.specs.declared.Doc.{Doc}
-use Rattle.edit_expr.specs.declared.expr.Expr.{Expr}
 use Rattle.edit_expr.specs.declared.refusal.EditRefusal.{EditRefusal}
 use Rattle.edit_expr.specs.declared.refusal.EditRefusal.TheVariants as edit
-use Rattle.edit_expr.specs.Expressions.{ExprReads}
-use Rattle.edit_expr.specs.Eval.{Outcome, eval, greatest, operations}
-use Rattle.edit_expr.specs.Values.{plain, text_at}
-use Rattle.script_syntax.specs.declared.form.Command.{Command}
 use Rattle.script_syntax.specs.declared.form.Command.TheVariants as form
-use Rattle.report_text.specs.declared.refusal.Refusal.{Refusal}
-use Rattle.report_text.specs.declared.refusal.Refusal.TheVariants.{NoSuchDocument}
-use Rattle.span_language.specs.State.{State, World, Documents, with_documents, world, put, value_of, taken_out, Named, with_versions}
-use Rattle.span_language.specs.Replies.{entry_text, names_text, ok_text, shown_range}
-use Rattle.span_run.specs.Shown.{Assigns, IsDenied, IsShown}
-use Rattle.span_language.specs.Allowance.{Counters, counters, no_steps, edit_limit, load_limit, IsPaid, PaysFor, PaysForPart}
-use Rattle.span_language.specs.Step.{Carries}
-use Rattle.span_language.specs.declared.told.Told.{Told}
-use Rattle.span_language.specs.declared.told.Told.TheVariants.{Accepted}
 
 -- an assignment, seen from equal documents and with an equal text
 pub assigned_after : (old mid new : Documents) (number : ℕ) (name x y : List ℕ) (told : Told) (reply : List ℕ) → mid ≡ old → x ≡ y
@@ -52,21 +35,15 @@ only_documents st old new files same = ap (λ (d : Documents). world (with_docum
 
 pub text_carries : (st : State) (new : Documents) (number : ℕ) (name bytes : List ℕ) (told : Told) (reply : List ℕ) (files : Option Files) → Assigns st.documents number name (Ok bytes) told reply new
     → Carries (world st files) number (form.Text name bytes) told reply (world (with_documents st new) files)
-text_carries st new number name bytes told reply files h =
-    subst (λ (t : Told). Carries (world st files) number (form.Text name bytes) t reply (world (with_documents st new) files)) (sym h.0.0)
-    (h.0.1, only_documents st (put st.documents name bytes) new files h.1)
+text_carries st new number name bytes told reply files h = rw h.0.0 (h.0.1, only_documents st (put st.documents name bytes) new files h.1)
 
 pub let_carries : (st : State) (new : Documents) (number : ℕ) (name expr : List ℕ) (e : Expr) (told : Told) (reply : List ℕ) (files : Option Files) → ExprReads expr e → Assigns st.documents number name (eval st.documents e) told reply new
     → Carries (world st files) number (form.LetDoc name expr) told reply (world (with_documents st new) files)
 let_carries st new number name expr e told reply files reads h = at (eval st.documents e) refl h
   where
     at : (o : Outcome) → eval st.documents e ≡ o → Assigns st.documents number name o told reply new → Carries (world st files) number (form.LetDoc name expr) told reply (world (with_documents st new) files)
-    at (Ok text) is g =
-        subst (λ (t : Told). Carries (world st files) number (form.LetDoc name expr) t reply (world (with_documents st new) files)) (sym g.0.0)
-        (e, text, reads, is, g.0.1, only_documents st (put st.documents name text) new files g.1)
-    at (Err refusal) is g =
-        subst (λ (t : Told). Carries (world st files) number (form.LetDoc name expr) t reply (world (with_documents st new) files)) (sym g.0.0)
-        (g.0.1, inr (e, refusal, reads, is, g.0.2), g.0.3, only_documents st st.documents new files g.1)
+    at (Ok text) is g = rw g.0.0 (e, text, reads, is, g.0.1, only_documents st (put st.documents name text) new files g.1)
+    at (Err refusal) is g = rw g.0.0 (g.0.1, inr (e, refusal, reads, is, g.0.2), g.0.3, only_documents st st.documents new files g.1)
 
 pub show_carries : (w : World) (number : ℕ) (name : List ℕ) (i j : ℕ) (text : List ℕ) (told : Told) (reply : List ℕ) → value_of w.state.documents name ≡ Some text → IsShown number (shown_range text i j) told reply
     → Carries w number (form.Show name i j) told reply w
@@ -76,14 +53,12 @@ show_carries w number name i j text told reply there h = at (shown_range text i 
     here o is = ap (λ v. option_map_or (λ s. shown_range s i j) v (Err (NoSuchDocument name))) there ∙ is
 
     at : (o : Result (List ℕ) Refusal) → shown_range text i j ≡ o → IsShown number o told reply → Carries w number (form.Show name i j) told reply w
-    at (Ok bytes) is g = subst (λ (t : Told). Carries w number (form.Show name i j) t reply w) (sym g.0) (bytes, here (Ok bytes) is, g.1, refl)
-    at (Err why) is g = subst (λ (t : Told). Carries w number (form.Show name i j) t reply w) (sym g.0) (why, here (Err why) is, g.1, refl)
+    at (Ok bytes) is g = rw g.0 (bytes, here (Ok bytes) is, g.1, refl)
+    at (Err why) is g = rw g.0 (why, here (Err why) is, g.1, refl)
 
 pub drop_carries : (st : State) (new : Documents) (number : ℕ) (name text : List ℕ) (told : Told) (reply : List ℕ) (files : Option Files) → value_of st.documents name ≡ Some text → new ≡ taken_out st.documents name → told ≡ Accepted → reply ≡ ok_text
     → Carries (world st files) number (form.DropDoc name) told reply (world (with_documents st new) files)
-drop_carries st new number name text told reply files there taken is written =
-    subst (λ (t : Told). Carries (world st files) number (form.DropDoc name) t reply (world (with_documents st new) files)) (sym is)
-    (text, there, written, only_documents st (taken_out st.documents name) new files taken)
+drop_carries st new number name text told reply files there taken is written = rw is (text, there, written, only_documents st (taken_out st.documents name) new files taken)
 
 pub none_paid : (looks p q : ℕ) → q ≡ p → IsPaid no_steps (counters looks p) (counters looks q)
 none_paid looks p q is = record { looks = omega arith; pairs = omega (arith, is) }
@@ -108,38 +83,17 @@ pub none_of_err : (o : Option (Option NodeId)) (f e : Missing) → Err f ≡ ok_
 none_of_err None f e p = refl
 none_of_err (Some x) f e p = let bad : ⊥ = cc p in absurd bad
 
-pub if_ok_map : {T E : Type 0} (r : Result T E) (P Q : T → Type 0) → ((x : T) → P x → Q x) → IfOk r P → IfOk r Q
-if_ok_map (Ok x) P Q f h = f x h
-if_ok_map (Err e) P Q f h = tt
-
-pub if_err_map : {T E : Type 0} (r : Result T E) (P Q : E → Type 0) → ((x : E) → P x → Q x) → IfErr r P → IfErr r Q
-if_err_map (Ok x) P Q f h = tt
-if_err_map (Err e) P Q f h = f e h
-
-pub on_ok_map : {T E : Type 0} (r : Result T E) (P Q : Type 0) → (P → Q) → OnOk r P → OnOk r Q
-on_ok_map (Ok x) P Q f h = f h
-on_ok_map (Err e) P Q f h = tt
-
-pub on_err_map : {T E : Type 0} (r : Result T E) (P Q : Type 0) → (P → Q) → OnErr r P → OnErr r Q
-on_err_map (Ok x) P Q f h = tt
-on_err_map (Err e) P Q f h = f h
-
 -- the lines of the documents from a place on, and the end
 abbrev pub names_rest : List Node → List Doc → ℕ → List ℕ
 names_rest ns ds place = names_text (plain ns (drop place ds))
 
-pub names_rest-next : (ns : List Node) (ds : List Doc) (place : ℕ) (d : Doc) → slice_get ds place ≡ Some d → names_rest ns ds place ≡ entry_text (d.name, text_at ns d.root) ++ names_rest ns ds (suc place)
-names_rest-next ns [] place d e = let bad : ⊥ = cc e in absurd bad
-names_rest-next ns (x ∷ ds) zero d e =
-    let same : x ≡ d = cc e in
-    ap (λ (y : Doc). names_text ((y.name, text_at ns y.root) ∷ plain ns ds)) same ∙ append_assoc (entry_text (d.name, text_at ns d.root)) (flat_map entry_text (plain ns ds)) (codes "end" ++ 10 ∷ [])
-names_rest-next ns (x ∷ ds) (suc place) d e = names_rest-next ns ds place d e
+pub names_rest-next : (ns : List Node) (ds : List Doc) (place : ℕ) (d : Doc) → slice_get ds place ≡ Some d → names_rest ns ds place ≡ entry_text (d.name, text_at ns d.root) ++ names_rest ns ds (place + 1)
+names_rest-next ns ds place d e =
+    ap (λ (es : List Doc). names_text (plain ns es)) (drop_at ds place d e)
+    ∙ append_assoc (entry_text (d.name, text_at ns d.root)) (flat_map entry_text (plain ns (drop (place + 1) ds))) (codes "end" ++ 10 ∷ [])
 
 pub names_rest-end : (ns : List Node) (ds : List Doc) (place : ℕ) → length ds ≤ place → names_rest ns ds place ≡ codes "end" ++ 10 ∷ []
-names_rest-end ns [] zero h = refl
-names_rest-end ns [] (suc place) h = refl
-names_rest-end ns (x ∷ ds) zero h = absurd (omega (arith, h))
-names_rest-end ns (x ∷ ds) (suc place) h = names_rest-end ns ds place (omega (arith, h))
+names_rest-end ns ds place h = at_drop_all (λ (es : List Doc). names_text (plain ns es)) ds place h
 
 -- ---- what commands do with versions
 only_versions : (st : State) (old new : Named Documents) (files : Option Files) → new ≡ old → world (with_versions st new) files ≡ world (with_versions st old) files
@@ -147,16 +101,12 @@ only_versions st old new files same = ap (λ (v : Named Documents). world (with_
 
 pub mark_carries : (st : State) (new : Named Documents) (number : ℕ) (name : List ℕ) (told : Told) (reply : List ℕ) (files : Option Files) → new ≡ put st.versions name st.documents → told ≡ Accepted → reply ≡ ok_text
     → Carries (world st files) number (form.MarkDocs name) told reply (world (with_versions st new) files)
-mark_carries st new number name told reply files is accepted written =
-    subst (λ (t : Told). Carries (world st files) number (form.MarkDocs name) t reply (world (with_versions st new) files)) (sym accepted) (written, only_versions st (put st.versions name st.documents) new files is)
+mark_carries st new number name told reply files is accepted written = rw accepted (written, only_versions st (put st.versions name st.documents) new files is)
 
 pub unmark_carries : (st : State) (new : Named Documents) (number : ℕ) (name : List ℕ) (documents : Documents) (told : Told) (reply : List ℕ) (files : Option Files) → value_of st.versions name ≡ Some documents → new ≡ taken_out st.versions name → told ≡ Accepted → reply ≡ ok_text
     → Carries (world st files) number (form.UnmarkDocs name) told reply (world (with_versions st new) files)
-unmark_carries st new number name documents told reply files there is accepted written =
-    subst (λ (t : Told). Carries (world st files) number (form.UnmarkDocs name) t reply (world (with_versions st new) files)) (sym accepted)
-    (documents, there, written, only_versions st (taken_out st.versions name) new files is)
+unmark_carries st new number name documents told reply files there is accepted written = rw accepted (documents, there, written, only_versions st (taken_out st.versions name) new files is)
 
 pub back_carries : (st : State) (number : ℕ) (name : List ℕ) (documents : Documents) (told : Told) (reply : List ℕ) (files : Option Files) → value_of st.versions name ≡ Some documents → told ≡ Accepted → reply ≡ ok_text
     → Carries (world st files) number (form.BackDocs name) told reply (world (with_documents st documents) files)
-back_carries st number name documents told reply files there accepted written =
-    subst (λ (t : Told). Carries (world st files) number (form.BackDocs name) t reply (world (with_documents st documents) files)) (sym accepted) (documents, there, written, refl)
+back_carries st number name documents told reply files there accepted written = rw accepted (documents, there, written, refl)

@@ -1,33 +1,14 @@
 -- What registering a query that is made of others does.
-use Rattle.std.proofs.Common.{rules, ◌≡◌, ◌∙◌, inr, ℕ, List, length, Option, Some, refl, sym, ap, subst}
-use Rattle.std.specs.Prelude.{IsSome}
-use Rattle.edge_io.specs.Files.{Files}
-use Rattle.report_text.specs.Reply.{query_text}
-use Rattle.report_text.specs.declared.refusal.Refusal.{Refusal}
-use Rattle.script_syntax.specs.declared.form.Command.{Command}
-use Rattle.span_types.specs.Query.{Query, Project}
-use Rattle.span_types.specs.Rel.{names_of}
-use Rattle.query_book.specs.declared.entry.Entry.{Entry}
+use Rattle.std.proofs.Common.{rules, ◌≡◌, ◌∙◌, inr, ℕ, List, length, Option, Some, refl, sym, ap, subst, IsSome}
+use Rattle.name_map.proofs.NamedLaws.{value_of-put}
+use Rattle.span_run.proofs.Names.{Accepted, Answer, Answers, at, Carries, Command, Compacts, covered_of, Does, Entry, Files, Held, IsAllowed, IsCombineRefusal}
+use Rattle.span_run.proofs.Names.{IsHeld, IsNamed, IsOfFile, IsRefused, IsRegistered, IsUncombinedTold, Named, names_of, no_steps, Project, put, queries_of}
+use Rattle.span_run.proofs.Names.{Query, query_text, Refusal, Registers, Serves, State, state_of, Stays, Told, value_of, with_queries, World, world}
 use Rattle.query_book.specs.declared.refusal.CombineRefusal.{CombineRefusal}
-use Rattle.query_book.specs.Book.{queries_of}
-use Rattle.query_book.specs.Answers.{IsNamed}
 use Rattle.query_book.specs.Combining.{HasPair, HasProjection, IsAccepted, IsPairRefused, IsProjectRefused}
 use Rattle.query_book.specs.Keeping.{IsVarsText}
-use Rattle.query_book.specs.Serving.{Serves, covered_of}
-use Rattle.span_language.specs.State.{Named, State, World, put, value_of, with_queries, world}
-use Rattle.span_language.specs.Allowance.{IsAllowed, no_steps}
-use Rattle.span_language.specs.Counts.{Compacts, Registers}
-use Rattle.span_language.specs.Step.{Carries, Does, IsCombineRefusal, IsOfFile, IsRefused, IsRegistered}
-use Rattle.span_language.specs.declared.told.Told.{Told}
-use Rattle.span_language.specs.declared.told.Told.TheVariants.{Accepted}
 use Rattle.span_language.specs.declared.told.Stop.TheVariants as stop
-use Rattle.span_run.specs.declared.answer.Answer.{Answer}
-use Rattle.span_run.specs.declared.held.Held.{Held}
-use Rattle.span_run.specs.Held.{IsHeld, state_of}
-use Rattle.span_run.specs.Shown.{IsUncombinedTold}
-use Rattle.span_run.specs.Site.{at}
-use Rattle.span_run.specs.Answers.{Answers, Stays}
-use Rattle.span_run.proofs.BookLemmas.{value_of-put, put_placed, covered-within}
+use Rattle.span_run.proofs.BookLemmas.{put_placed, covered-within}
 use Rattle.span_run.proofs.Goes.{booked_answers, booked_stops, never, once_accepted, refused_answers, stays}
 use Rattle.span_run.proofs.QueryLemmas.{only_queries}
 

@@ -1,51 +1,30 @@
 -- A listing of the answers on every document in progress.
-use Rattle.std.proofs.Common.{◌≡◌, ℕ, zero, suc, ◌+◌, ◌<◌, ◌≤◌, ◌^◌, Bool, true, false, nat_lt, get_or, refl, ap, sym, subst, ◌∙◌, arith, List, [], ◌∷◌, ◌++◌, append_assoc, length, take, drop, Option, Some, None, Contains}
-use Rattle.std.specs.Prelude.{slice_get, map, option_map}
-use Rattle.std.specs.Io.KnownBytes.{Appends}
-use Rattle.std.specs.List.{flat_map}
-use Rattle.std.proofs.lemmas.Bool.{ltb-true, ltb-false}
-use Rattle.std.proofs.lemmas.List.{append-nil, drop_all}
+use Rattle.std.proofs.Common.{◌≡◌, ℕ, zero, suc, ◌+◌, ◌<◌, ◌≤◌, ◌^◌, Bool, true, false, nat_lt, get_or, refl, ap, sym, subst, ◌∙◌, arith, List, [], ◌∷◌, ◌++◌, append_assoc, length, take, drop, Option, Some, None, Contains, slice_get, map, option_map}
+use Rattle.span_run.proofs.BookLemmas.{query_of}
+use Rattle.span_run.proofs.Names.{after-none, append-nil, Appends, Appends-trans, AppendsFront, AreAnswered, AreAnswersOf, AreListed, AreLive, AreShort}
+use Rattle.span_run.proofs.Names.{AreTables, at_drop_more, Command, count_of, DeterministicAutomaton, Dictionary, Doc, doc_line, done_line, drop_all}
+use Rattle.span_run.proofs.Names.{every_text, first_page_text, flat_map, get_or_from_slice_get, HasAnswersOf, IsDeterministic, IsPage, IsPageOf, IsWellFormed}
+use Rattle.span_run.proofs.Names.{ltb-false, ltb-true, Named, names_of, Node, Page, page_text, plain, Query, rest_text, slice_get-get_or, slice_get_within}
+use Rattle.span_run.proofs.Names.{text_at, text_of, Tuple, tuple_line, value_of}
 use Rattle.std.proofs.lemmas.List.Elements.{Contains-get_or}
-use Rattle.std.proofs.lemmas.Option.{get_or_from_slice_get, slice_get_within, slice_get-get_or}
-use Rattle.slp_model.specs.declared.Node.{Node}
-use Rattle.script_syntax.specs.declared.form.Command.{Command}
 use Rattle.script_syntax.specs.declared.form.Command.TheVariants as form
-use Rattle.script_syntax.specs.Syntax.{IsLimit, Reads}
-use Rattle.marker_dfa.specs.Deterministic.{DeterministicAutomaton, IsDeterministic}
-use Rattle.state_tables.specs.Dictionary.{AreTables, Dictionary, count_of}
-use Rattle.span_types.specs.Answers.{IsPage}
-use Rattle.span_types.specs.Query.{Query}
-use Rattle.span_types.specs.Rel.{names_of}
-use Rattle.span_enum.specs.Listing.{text_of}
-use Rattle.span_enum.specs.Members.{Tuple, AreAnswersOf}
+use Rattle.script_syntax.specs.Syntax.{Reads}
 use Rattle.span_enum.proofs.Exists.{answers-exist}
-use Rattle.span_enum.proofs.Pages.{after-none}
-use Rattle.list_all.specs.Page.{Page, IsPageOf}
-use Rattle.span_language.specs.State.{Named, value_of}
-use Rattle.query_book.specs.Parts.{HasAnswersOf}
 use Rattle.query_book.proofs.Covered.{bytes-found}
-use Rattle.doc_book.specs.declared.Doc.{Doc}
-use Rattle.edit_expr.specs.Values.{AreLive, plain, text_at}
-use Rattle.span_language.specs.Listed.{AreListed, doc_line, done_line, first_page_text, page_text, tuple_line}
-use Rattle.span_language.specs.Step.{AppendsFront}
-use Rattle.span_run.specs.Answers.{IsWellFormed}
-use Rattle.span_run.specs.Every.{AreAnswered, AreShort, IsRegistered, every_text, rest_text}
-use Rattle.span_run.proofs.Written.{IsListing, both_written, listing_ends, listing_goes_on, listing_stops}
+use Rattle.span_run.specs.Every.{IsRegistered}
+use Rattle.span_run.proofs.Written.{IsListing, listing_ends, listing_goes_on, listing_stops}
 
 -- a line's limit is one that a line can give, and so is its list of names
 pub well_formed : (line : List ℕ) (command : Command) → Reads line command → IsWellFormed command
-well_formed line (form.ListAll q k) (name, given, is, text) = at given is
-  where
-    at : (o : Option ℕ) → IsLimit o k → IsWellFormed (form.ListAll q k)
-    at None e = (omega (arith, e), omega (arith, e))
-    at (Some n) (low, high, e) = (omega (arith, low, e), omega (arith, high, e))
+well_formed line (form.ListAll q k) (name, None, e, text) = (omega (arith, e), omega (arith, e))
+well_formed line (form.ListAll q k) (name, Some n, (low, high, e), text) = (omega (arith, low, e), omega (arith, high, e))
 well_formed line (form.ProjectQuery n q k) (name, source, names, text) = names
 well_formed line _ h = tt
 
 -- ---- a part of the whole was written up to what is left of it
 pub listing_part : (a b c : Option (List ℕ)) (left mid whole : List ℕ) → IsListing a b mid whole → IsListing b c left mid → IsListing a c left whole
 listing_part a b c left mid whole (front, before, is) (piece, wrote, cut) =
-    (front ++ piece, both_written a b c front piece before wrote, is ∙ ap (λ (l : List ℕ). front ++ l) cut ∙ sym (append_assoc front piece left))
+    (front ++ piece, Appends-trans a b c front piece before wrote, is ∙ ap (λ (l : List ℕ). front ++ l) cut ∙ sym (append_assoc front piece left))
 
 pub listing_breaks : (a b c : Option (List ℕ)) (mid whole : List ℕ) → IsListing a b mid whole → AppendsFront b c mid → AppendsFront a c whole
 listing_breaks a b c mid whole h stopped = listing_stops a b c mid [] whole (subst (λ (l : List ℕ). IsListing a b l whole) (sym (append-nil mid)) h) stopped
@@ -134,11 +113,8 @@ page_at (p ∷ ps) zero ts more e f =
 page_at (p ∷ ps) (suc k) ts more e f = page_at ps k ts more e f
 
 pub registered : (queries : Named Query) (bytes name : List ℕ) (names : List (List ℕ)) → option_map names_of (value_of queries bytes) ≡ Some names → bytes ≡ name → IsRegistered queries name
-registered queries bytes name names is same = at (value_of queries bytes) refl is
-  where
-    at : (o : Option Query) → value_of queries bytes ≡ o → option_map names_of o ≡ Some names → IsRegistered queries name
-    at None e bad = let no_names : ⊥ = cc bad in absurd no_names
-    at (Some q) e given = record { query = q; there = ap (λ (m : List ℕ). value_of queries m) (sym same) ∙ e }
+registered queries bytes name names is same =
+    let q = query_of (value_of queries bytes) names is in record { query = q.0; there = ap (λ (m : List ℕ). value_of queries m) (sym same) ∙ q.1 }
 
 -- ---- lengths that were looked at
 pub short_next : (ns : List Node) (ds : List Doc) (place len : ℕ) (x : Doc) → ((k : ℕ) (d : Doc) → k < place → slice_get ds k ≡ Some d → length (text_at ns d.root) ≤ 2 ^ 48) → slice_get ds place ≡ Some x → len ≡ length (text_at ns x.root) → len ≤ 2 ^ 48
@@ -160,24 +136,15 @@ short_all ns ds place h past k d e = h k d (omega (arith, past, slice_get_within
 pub sized_at : (ts : List Tuple) (n : ℕ) → ((k : ℕ) (t : Tuple) → slice_get ts k ≡ Some t → n ≡ length t) → (i : ℕ) (t : Tuple) → t ≡ get_or ts i t → i < length ts → n ≡ length t
 sized_at ts n h i t is lt = subst (λ (u : Tuple). n ≡ length u) (sym is) (h i (get_or ts i t) (slice_get-get_or ts i t lt))
 
-lines_next : (names : List (List ℕ)) (ts : List Tuple) (i : ℕ) (d : Tuple) → i < length ts
-    → flat_map (tuple_line names) (drop i ts) ≡ tuple_line names (get_or ts i d) ++ flat_map (tuple_line names) (drop (suc i) ts)
-lines_next names [] i d lt = absurd (omega (arith, lt))
-lines_next names (t ∷ ts) zero d lt = refl
-lines_next names (t ∷ ts) (suc i) d lt = lines_next names ts i d (omega (arith, lt))
-
 module _ (a b c : Option (List ℕ)) (names : List (List ℕ)) (ts : List Tuple) (i : ℕ) (t : Tuple) (is : t ≡ get_or ts i t) (lt : i < length ts) (so_far : IsListing a b (flat_map (tuple_line names) (drop i ts)) (flat_map (tuple_line names) ts)) where
-  cut : IsListing a b (tuple_line names t ++ flat_map (tuple_line names) (drop (suc i) ts)) (flat_map (tuple_line names) ts)
-  cut = subst (λ (l : List ℕ). IsListing a b l (flat_map (tuple_line names) ts)) (lines_next names ts i t lt ∙ ap (λ (u : Tuple). tuple_line names u ++ flat_map (tuple_line names) (drop (suc i) ts)) (sym is)) so_far
+  cut : IsListing a b (tuple_line names t ++ flat_map (tuple_line names) (drop (i + 1) ts)) (flat_map (tuple_line names) ts)
+  cut = subst (λ (l : List ℕ). IsListing a b l (flat_map (tuple_line names) ts)) (at_drop_more (flat_map (tuple_line names)) ts i t lt ∙ ap (λ (u : Tuple). tuple_line names u ++ flat_map (tuple_line names) (drop (i + 1) ts)) (sym is)) so_far
 
   pub tuples_next : Appends b c (tuple_line names t) → IsListing a c (flat_map (tuple_line names) (drop (i + 1) ts)) (flat_map (tuple_line names) ts)
-  tuples_next wrote =
-      let next : suc i ≡ i + 1 = omega arith in
-      subst (λ (k : ℕ). IsListing a c (flat_map (tuple_line names) (drop k ts)) (flat_map (tuple_line names) ts)) next
-      (listing_goes_on a b c (tuple_line names t) (flat_map (tuple_line names) (drop (suc i) ts)) (flat_map (tuple_line names) ts) cut wrote)
+  tuples_next wrote = listing_goes_on a b c (tuple_line names t) (flat_map (tuple_line names) (drop (i + 1) ts)) (flat_map (tuple_line names) ts) cut wrote
 
   pub tuples_stop : AppendsFront b c (tuple_line names t) → AppendsFront a c (flat_map (tuple_line names) ts)
-  tuples_stop stopped = listing_stops a b c (tuple_line names t) (flat_map (tuple_line names) (drop (suc i) ts)) (flat_map (tuple_line names) ts) cut stopped
+  tuples_stop stopped = listing_stops a b c (tuple_line names t) (flat_map (tuple_line names) (drop (i + 1) ts)) (flat_map (tuple_line names) ts) cut stopped
 
 pub tuples_end : (a b : Option (List ℕ)) (names : List (List ℕ)) (ts : List Tuple) (i : ℕ) → length ts ≤ i → IsListing a b (flat_map (tuple_line names) (drop i ts)) (flat_map (tuple_line names) ts) → Appends a b (flat_map (tuple_line names) ts)
 tuples_end a b names ts i past so_far =

@@ -1,34 +1,19 @@
 -- What the parts of a listing of the answers on every document write.
-use Rattle.std.proofs.Common.{◌≡◌, ℕ, suc, ◌+◌, ◌≤◌, Bool, refl, sym, subst, ◌∙◌, arith, List, [], ◌++◌, append_assoc, length, Option, Some, ap}
-use Rattle.std.specs.Prelude.{map, slice_get}
-use Rattle.std.specs.Io.KnownBytes.{Appends}
-use Rattle.std.specs.List.{flat_map}
-use Rattle.std.proofs.lemmas.List.{append-nil}
+use Rattle.std.proofs.Common.{◌≡◌, ℕ, suc, ◌+◌, ◌≤◌, Bool, refl, sym, subst, ◌∙◌, arith, List, [], ◌++◌, append_assoc, length, Option, Some, ap, map, slice_get}
+use Rattle.span_run.proofs.BookLemmas.{names_known}
+use Rattle.span_run.proofs.Names.{append-nil, Appends, Appends-nil, Appends-trans, AppendsFront, AreAnswered, AreListed, AreLive, AreShort, AreTables, count_of}
+use Rattle.span_run.proofs.Names.{DeterministicAutomaton, Dictionary, Doc, doc_line, done_line, every_text, flat_map, HasAnswersOf, IsDeterministic, IsNamed}
+use Rattle.span_run.proofs.Names.{IsPageOf, last_line, ListsEvery, Named, names_of, Node, Page, page_text, plain, Query, rest_text, text_of, Tuple, tuple_line}
+use Rattle.span_run.proofs.Names.{value_of}
 use Rattle.std.specs.Option.{option_map}
-use Rattle.slp_model.specs.declared.Node.{Node}
-use Rattle.marker_dfa.specs.Deterministic.{DeterministicAutomaton, IsDeterministic}
-use Rattle.span_enum.specs.Listing.{text_of}
-use Rattle.span_enum.specs.Members.{Tuple}
 use Rattle.list_all.specs.Every.{ArePages}
-use Rattle.list_all.specs.Page.{Page, IsPageOf}
-use Rattle.doc_book.specs.declared.Doc.{Doc}
-use Rattle.span_language.specs.Listed.{doc_line, done_line, last_line, page_text, tuple_line, AreListed}
-use Rattle.span_language.specs.Step.{AppendsFront}
-use Rattle.span_run.specs.Every.{AreAnswered, every_text, rest_text, AreShort, ListsEvery}
-use Rattle.state_tables.specs.Dictionary.{AreTables, Dictionary, count_of}
-use Rattle.span_types.specs.Query.{Query}
-use Rattle.span_types.specs.Rel.{names_of}
-use Rattle.query_book.specs.Answers.{IsNamed}
-use Rattle.query_book.specs.Parts.{HasAnswersOf}
-use Rattle.edit_expr.specs.Values.{AreLive, plain}
-use Rattle.span_language.specs.State.{Named, value_of}
 use Rattle.span_run.proofs.EveryLemmas.{answered_at, page_at, page_sizes, rest_end, rest_next, listed, lists_exist}
-use Rattle.span_run.proofs.Written.{IsListing, both_written, front_of_whole, listing_goes_on, listing_stops, nothing_written}
+use Rattle.span_run.proofs.Written.{IsListing, front_of_whole, listing_goes_on, listing_stops}
 
 -- ---- a document: its line, the lines of its tuples, and the last
 module _ (a b c d : Option (List ℕ)) (name : List ℕ) (names : List (List ℕ)) (tuples : List Tuple) (more : Bool) where
   pub line_stops : AppendsFront a b (doc_line name) → AppendsFront a b (doc_line name ++ page_text names tuples more)
-  line_stops stopped = front_of_whole a a b [] (doc_line name) (page_text names tuples more) (doc_line name ++ page_text names tuples more) refl (nothing_written a) stopped
+  line_stops stopped = front_of_whole a a b [] (doc_line name) (page_text names tuples more) (doc_line name ++ page_text names tuples more) refl (Appends-nil a) stopped
 
   pub tuples_cut : Appends a b (doc_line name) → AppendsFront b c (flat_map (tuple_line names) tuples) → AppendsFront a c (doc_line name ++ page_text names tuples more)
   tuples_cut line stopped =
@@ -39,7 +24,7 @@ module _ (a b c d : Option (List ℕ)) (name : List ℕ) (names : List (List ℕ
   last_stops line tuples_written stopped =
       front_of_whole a c d (doc_line name ++ flat_map (tuple_line names) tuples) (last_line more) [] (doc_line name ++ page_text names tuples more)
       (sym (append-nil ((doc_line name ++ flat_map (tuple_line names) tuples) ++ last_line more) ∙ append_assoc (doc_line name) (flat_map (tuple_line names) tuples) (last_line more)))
-      (both_written a b c (doc_line name) (flat_map (tuple_line names) tuples) line tuples_written) stopped
+      (Appends-trans a b c (doc_line name) (flat_map (tuple_line names) tuples) line tuples_written) stopped
 
 -- ---- a batch: the page of a place that was found
 module _ (a : DeterministicAutomaton) (ns : List Node) (ds : List Doc) (first count n : ℕ) (pages : List Page) (are : ArePages a ns ds first count n pages)
@@ -79,10 +64,7 @@ module _ (x y z : Option (List ℕ)) (names : List (List ℕ)) (n : ℕ) (a : De
 -- ---- a listing of a query's answers on every document, by its automaton
 module _ (a : DeterministicAutomaton) (queries : Named Query) (bytes : List ℕ) (names : List (List ℕ)) (named : IsNamed queries bytes (HasAnswersOf a)) (names_are : option_map names_of (value_of queries bytes) ≡ Some names) where
   own_names : names ≡ names_of named.query
-  own_names =
-      let both : Some (names_of named.query) ≡ Some names = ap (option_map names_of) (sym named.there) ∙ names_are in
-      let same : names_of named.query ≡ names = cc both in
-      sym same
+  own_names = names_known queries bytes names named names_are
 
   pub variables_are : length names ≡ a.variables
   variables_are = ap length own_names ∙ sym named.holds.defines.variables

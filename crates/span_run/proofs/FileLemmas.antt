@@ -1,40 +1,27 @@
 -- What loading a file does.
 use Rattle.std.proofs.Common.{◌≡◌, inl, inr, ℕ, ◌+◌, ◌≤◌, List, length, Option, Some, Result, Ok, Err, refl, sym, subst, arith}
-use Rattle.edge_io.specs.Files.{Files}
+use Rattle.span_run.proofs.Names.{Assigns, BadImage, Carries, counters, Documents, Files, FileTooLong, image, IsFileDenied, IsLoadPaid, IsTurnedAway, IsWithin}
+use Rattle.span_run.proofs.Names.{load_limit, load_size, Meaning, no_steps, NoSuchFile, open_size, Opens, PaysFor, PaysForPart, put, refusal_text, Refused}
+use Rattle.span_run.proofs.Names.{State, Told, with_documents, World, world}
 use Rattle.script_syntax.specs.declared.form.Command.TheVariants as form
-use Rattle.report_text.specs.Reply.{refusal_text}
-use Rattle.report_text.specs.declared.refusal.Refusal.TheVariants.{NoSuchFile, FileTooLong, BadImage}
-use Rattle.span_language.specs.State.{State, World, Documents, with_documents, world, put}
-use Rattle.span_run.specs.Shown.{Assigns, IsFileDenied, Opens}
-use Rattle.span_language.specs.Allowance.{counters, no_steps, load_limit, PaysFor, PaysForPart}
 use Rattle.slp_image.specs.Fields.{kind_of}
-use Rattle.slp_image.specs.Image.{Meaning, image}
 use Rattle.slp_image.specs.Documents.{Fails}
 use Rattle.slp_image.specs.declared.refusal.ImageRefusal.{ImageRefusal}
 use Rattle.slp_image.specs.declared.refusal.ImageRefusal.TheVariants as fault
-use Rattle.span_run.specs.Reading.{IsTurnedAway, IsLoadPaid}
-use Rattle.span_language.specs.Step.{Carries, IsWithin, load_size, open_size}
 use Rattle.span_run.specs.declared.reading.FileRefusal.{FileRefusal}
 use Rattle.span_run.specs.declared.reading.FileRefusal.TheVariants as turned
-use Rattle.span_language.specs.declared.told.Told.{Told}
-use Rattle.span_language.specs.declared.told.Told.TheVariants.{Refused}
-use Rattle.span_run.proofs.CarryLemmas.{only_documents, none_paid, part_of_paid}
+use Rattle.span_run.proofs.CarryLemmas.{only_documents, none_paid}
 
 pub load_carries : (st : State) (new : Documents) (number : ℕ) (name file bytes : List ℕ) (told : Told) (reply : List ℕ) (files : Option Files) → IsWithin files file load_size bytes
     → Assigns st.documents number name (Ok bytes) told reply new
     → Carries (world st files) number (form.LoadFile name file) told reply (world (with_documents st new) files)
-load_carries st new number name file bytes told reply files there h =
-    subst (λ (t : Told). Carries (world st files) number (form.LoadFile name file) t reply (world (with_documents st new) files)) (sym h.0.0)
-    (bytes, there, h.0.1, only_documents st (put st.documents name bytes) new files h.1)
+load_carries st new number name file bytes told reply files there h = rw h.0.0 (bytes, there, h.0.1, only_documents st (put st.documents name bytes) new files h.1)
 
 pub load_denied : (w : World) (number : ℕ) (name file : List ℕ) (why : FileRefusal) (told : Told) (reply : List ℕ) → IsTurnedAway w.files file load_size why
     → IsFileDenied number file why told reply → Carries w number (form.LoadFile name file) told reply w
-load_denied w number name file turned.Absent told reply why h =
-    subst (λ (t : Told). Carries w number (form.LoadFile name file) t reply w) (sym h.0) (NoSuchFile file, inl (why, refl), h.1, refl)
-load_denied w number name file turned.TooLong told reply why h =
-    subst (λ (t : Told). Carries w number (form.LoadFile name file) t reply w) (sym h.0) (FileTooLong file, inr (why.0, why.1, why.2, refl), h.1, refl)
-load_denied w number name file turned.Failed told reply why h = absurd h
-load_denied w number name file turned.NoMemory told reply why h = absurd h
+load_denied w number name file turned.Absent told reply why h = rw h.0 (NoSuchFile file, inl (why, refl), h.1, refl)
+load_denied w number name file turned.TooLong told reply why h = rw h.0 (FileTooLong file, inr (why.0, why.1, why.2, refl), h.1, refl)
+load_denied w number name file _ told reply why h = absurd h
 
 -- loading a file: nothing was asked for, or no more than its bytes allow
 pub file_paid : (old : World) (name file bytes : List ℕ) (looks p q : ℕ) → IsWithin old.files file load_size bytes → IsLoadPaid old.files file p q → PaysFor old (form.LoadFile name file) (counters looks p) (counters looks q)
@@ -46,8 +33,7 @@ pub file_refused_paid : (old : World) (name file : List ℕ) (number : ℕ) (why
 file_refused_paid old name file number why told reply looks p q turned denied (inr (all, within, paid)) = (record { looks = 0; pairs = load_limit (length all) }, inr (all, within, refl), record { looks = omega arith; pairs = omega (arith, paid) })
 file_refused_paid old name file number turned.Absent told reply looks p q lacks denied (inl same) = (no_steps, inl (NoSuchFile file, inl (lacks, refl), refl), none_paid looks p q same)
 file_refused_paid old name file number turned.TooLong told reply looks p q long denied (inl same) = (no_steps, inl (FileTooLong file, inr (long.0, long.1, long.2, refl), refl), none_paid looks p q same)
-file_refused_paid old name file number turned.Failed told reply looks p q h denied (inl same) = absurd denied
-file_refused_paid old name file number turned.NoMemory told reply looks p q h denied (inl same) = absurd denied
+file_refused_paid old name file number _ told reply looks p q h denied (inl same) = absurd denied
 
 pub file_begun : (old : World) (name file : List ℕ) (looks p q : ℕ) → IsLoadPaid old.files file p q → PaysForPart old (form.LoadFile name file) (counters looks p) (counters looks q)
 file_begun old name file looks p q (inl same) = (no_steps, inl refl, none_paid looks p q same)
@@ -57,34 +43,23 @@ file_begun old name file looks p q (inr (all, within, paid)) = (record { looks =
 pub open_carries : (st : State) (new : Documents) (number : ℕ) (file bytes : List ℕ) (o : Result Meaning ImageRefusal) (told : Told) (reply : List ℕ) (files : Option Files) → IsWithin files file open_size bytes → (image bytes).answer ≡ o
     → Opens st.documents number o told reply new
     → Carries (world st files) number (form.OpenFile file) told reply (world (with_documents st new) files)
-open_carries st new number file bytes (Ok m) told reply files there is h =
-    subst (λ (t : Told). Carries (world st files) number (form.OpenFile file) t reply (world (with_documents st new) files)) (sym h.0)
-    (bytes, m.documents, m.nodes, there, is, h.1, only_documents st m.documents new files h.2)
-open_carries st new number file bytes (Err why) told reply files there is h =
-    subst (λ (t : Told). Carries (world st files) number (form.OpenFile file) t reply (world (with_documents st new) files)) (sym h.0)
-    (BadImage h.1, inr (bytes, h.1, there, record { refusal = why; means = is; kind_is = h.2 }, refl), h.3, only_documents st st.documents new files h.4)
+open_carries st new number file bytes (Ok m) told reply files there is h = rw h.0 (bytes, m.documents, m.nodes, there, is, h.1, only_documents st m.documents new files h.2)
+open_carries st new number file bytes (Err why) told reply files there is h = rw h.0 (BadImage h.1, inr (bytes, h.1, there, record { refusal = why; means = is; kind_is = h.2 }, refl), h.3, only_documents st st.documents new files h.4)
 
 pub open_denied : (w : World) (number : ℕ) (file : List ℕ) (why : FileRefusal) (told : Told) (reply : List ℕ) → IsTurnedAway w.files file open_size why
     → IsFileDenied number file why told reply → Carries w number (form.OpenFile file) told reply w
-open_denied w number file turned.Absent told reply why h =
-    subst (λ (t : Told). Carries w number (form.OpenFile file) t reply w) (sym h.0) (NoSuchFile file, inl (inl (why, refl)), h.1, refl)
-open_denied w number file turned.TooLong told reply why h =
-    subst (λ (t : Told). Carries w number (form.OpenFile file) t reply w) (sym h.0) (FileTooLong file, inl (inr (why.0, why.1, why.2, refl)), h.1, refl)
-open_denied w number file turned.Failed told reply why h = absurd h
-open_denied w number file turned.NoMemory told reply why h = absurd h
+open_denied w number file turned.Absent told reply why h = rw h.0 (NoSuchFile file, inl (inl (why, refl)), h.1, refl)
+open_denied w number file turned.TooLong told reply why h = rw h.0 (FileTooLong file, inl (inr (why.0, why.1, why.2, refl)), h.1, refl)
+open_denied w number file _ told reply why h = absurd h
 
 pub open_paid : (old : World) (file bytes : List ℕ) (looks p q : ℕ) → IsWithin old.files file open_size bytes → q ≤ p + (image bytes).cost → PaysFor old (form.OpenFile file) (counters looks p) (counters looks q)
 open_paid old file bytes looks p q there paid = (record { looks = 0; pairs = (image bytes).cost }, inr (bytes, there, refl), record { looks = omega arith; pairs = paid })
-
-pub open_begun : (old : World) (file bytes : List ℕ) (looks p q : ℕ) → IsWithin old.files file open_size bytes → q ≤ p + (image bytes).cost → PaysForPart old (form.OpenFile file) (counters looks p) (counters looks q)
-open_begun old file bytes looks p q there paid = part_of_paid old (form.OpenFile file) (counters looks p) (counters looks q) (open_paid old file bytes looks p q there paid)
 
 pub open_refused_paid : (old : World) (file : List ℕ) (number : ℕ) (why : FileRefusal) (told : Told) (reply : List ℕ) (looks p : ℕ) → IsTurnedAway old.files file open_size why → IsFileDenied number file why told reply
     → PaysFor old (form.OpenFile file) (counters looks p) (counters looks p)
 open_refused_paid old file number turned.Absent told reply looks p lacks denied = (no_steps, inl (NoSuchFile file, inl (lacks, refl), refl), none_paid looks p p refl)
 open_refused_paid old file number turned.TooLong told reply looks p long denied = (no_steps, inl (FileTooLong file, inr (long.0, long.1, long.2, refl), refl), none_paid looks p p refl)
-open_refused_paid old file number turned.Failed told reply looks p h denied = absurd denied
-open_refused_paid old file number turned.NoMemory told reply looks p h denied = absurd denied
+open_refused_paid old file number _ told reply looks p h denied = absurd denied
 
 -- the reply to a faulty image
 pub opens_refused : (old new : Documents) (number : ℕ) (o : Result Meaning ImageRefusal) (why : ImageRefusal) (told : Told) (reply : List ℕ) → new ≡ old → Fails why o → told ≡ Refused
@@ -93,16 +68,5 @@ opens_refused old new number o why told reply same fails is (kind, known, writte
     subst (λ (r : Result Meaning ImageRefusal). Opens old number r told reply new) (sym (fails_at why o kind known fails)) (is, kind, known, written, same)
   where
     fails_at : (e : ImageRefusal) (r : Result Meaning ImageRefusal) (k : ℕ) → kind_of e ≡ Some k → Fails e r → r ≡ Err e
-    fails_at fault.Magic r k known h = h
-    fails_at fault.Version r k known h = h
-    fails_at fault.Cut r k known h = h
-    fails_at fault.Kind r k known h = h
-    fails_at fault.Child r k known h = h
-    fails_at fault.Balance r k known h = h
-    fails_at fault.Length r k known h = h
-    fails_at fault.Root r k known h = h
-    fails_at fault.Name r k known h = h
-    fails_at fault.RepeatName r k known h = h
-    fails_at fault.Rest r k known h = h
-    fails_at fault.Count r k known h = h
     fails_at fault.NoMemory r k known h = let bad : ⊥ = cc known in absurd bad
+    fails_at _ r k known h = h

@@ -1,36 +1,13 @@
 -- What commands that grow the store, or that give tables, or that do neither, say of what is held.
-use Rattle.std.proofs.Common.{◌≡◌, ◌⊎◌, ◌∙◌, ◌+◌, ◌≤◌, ℕ, List, length, Option, Result, Ok, Err, inl, inr, refl, sym, ap, subst, arith}
-use Rattle.std.specs.Prelude.{IfErr, IfOk, OnErr, OnOk}
+use Rattle.std.proofs.Common.{◌≡◌, ◌⊎◌, ◌∙◌, ◌+◌, ◌≤◌, ℕ, List, length, Option, Result, Ok, Err, inl, inr, refl, sym, ap, subst, arith, IfErr, IfOk, OnErr, OnOk}
 use Rattle.std.specs.Result.{IsErrAnd}
-use Rattle.edge_io.specs.Causes.{Rose}
-use Rattle.edge_io.specs.Files.{Files, KeepsOthers}
-use Rattle.report_text.specs.Reply.{saved_text}
-use Rattle.edit_expr.specs.Values.{AreLive, plain}
-use Rattle.edit_expr.proofs.EvalLemmas.{AreLive-grows, plain-grows}
-use Rattle.doc_book.specs.declared.Doc.{Doc}
-use Rattle.slp_model.specs.declared.Node.{Node}
-use Rattle.slp_model.specs.Nodes.{Grows}
-use Rattle.slp_model.proofs.NodesLemmas.{Grows-length, Grows-none}
-use Rattle.script_syntax.specs.declared.form.Command.{Command}
+use Rattle.span_run.proofs.Names.{Accepted, Answer, Answers, AreKept, AreLive, AreLive-grows, ArePartlyAt, at, Carries, Command, Compacts, counters, covered_of}
+use Rattle.span_run.proofs.Names.{Doc, Documents, Entry, Files, Goes, Grows, Grows-length, Grows-none, Held, IsAllowed, IsHeld, IsOfFile, IsOnce, IsPut, IsSave}
+use Rattle.span_run.proofs.Names.{IsSaved, KeepsFiles, KeepsOthers, Named, no_steps, Node, nodes_of, pairs_of, PaysFor, PaysForPart, Places, plain, plain-grows}
+use Rattle.span_run.proofs.Names.{plain_versions, queries_of, Query, Quiet, Refused, Registers, Rose, saved_text, Scene, scene, Serves, State, state_of, Stays}
+use Rattle.span_run.proofs.Names.{Stop, sum_of, Tallies, Told, with_documents, with_queries, world, world_at}
 use Rattle.script_syntax.specs.declared.form.Command.TheVariants as form
-use Rattle.span_types.specs.Query.{Query}
-use Rattle.query_book.specs.declared.entry.Entry.{Entry}
-use Rattle.query_book.specs.Book.{queries_of}
-use Rattle.query_book.specs.Serving.{Serves, ArePartlyAt, covered_of, sum_of}
-use Rattle.span_language.specs.State.{Documents, Named, State, with_documents, with_queries, world}
-use Rattle.span_language.specs.Allowance.{IsAllowed, PaysFor, PaysForPart, counters, no_steps}
-use Rattle.span_language.specs.Counts.{Compacts, IsOnce, Places, Registers}
-use Rattle.span_language.specs.Step.{Carries, IsOfFile, IsPut, IsSave, IsSaved, KeepsFiles}
-use Rattle.span_language.specs.declared.told.Told.{Told}
-use Rattle.span_language.specs.declared.told.Told.TheVariants.{Quiet, Accepted, Refused}
-use Rattle.span_language.specs.declared.told.Stop.{Stop}
 use Rattle.span_language.specs.declared.told.Stop.TheVariants as stop
-use Rattle.span_run.specs.declared.answer.Answer.{Answer}
-use Rattle.span_run.specs.declared.held.Held.{Held}
-use Rattle.span_run.specs.Held.{AreKept, IsHeld, nodes_of, pairs_of, plain_versions, state_of}
-use Rattle.span_run.specs.Site.{at, world_at}
-use Rattle.span_run.specs.Scene.{Scene, Tallies, scene}
-use Rattle.span_run.specs.Answers.{Goes, Answers, Stays}
 use Rattle.span_run.proofs.HeldLemmas.{AreKept-grows, Grows-pairs, plain_versions-grows}
 use Rattle.span_run.proofs.CarryLemmas.{none_paid, not_begun, part_of_paid}
 use Rattle.span_run.proofs.PlacesLemmas.{none_placed, none_placed_part}
@@ -336,3 +313,10 @@ pub placed_stops : (h : Held) (book : List Entry) (number : ℕ) (command : Comm
     → Stays (at h files faults looks pairs p) number command (at (record h { book = book }) files faults more pairs q) stop.NoMemory
 placed_stops h book number command files faults looks more pairs p q is serves same partly steps begun =
     moved_stops h h.store h.docs book number command files faults looks more pairs pairs p q is (Grows-none h.store pairs pairs (omega arith)) is.live serves same partly steps refl begun
+
+-- and there was no memory for all of them
+pub unplaced : (h : Held) (book : List Entry) (number : ℕ) (command : Command) (files : Option Files) (faults looks pairs p q : ℕ) → IsHeld h → Serves h.store book → queries_of book ≡ queries_of h.book
+    → ArePartlyAt (length h.store) (covered_of h.book) (covered_of book) → q + sum_of (covered_of h.book) ≡ p + sum_of (covered_of book)
+    → Stays (at h files faults looks pairs p) number command (at (record h { book = book }) files faults looks pairs q) stop.NoMemory
+unplaced h book number command files faults looks pairs p q is serves same partly steps =
+    placed_stops h book number command files faults looks looks pairs p q is serves same partly steps (not_begun (world (state_of h) files) command looks pairs)

@@ -1,20 +1,10 @@
 -- Documents in a store, and the plain documents that they stand for.
-use Rattle.std.proofs.Common.{◌≡◌, ℕ, ◌+◌, ◌≤◌, Bool, true, false, cond, List, [], ◌∷◌, ◌++◌, length, Option, Some, refl, ap, ◌∙◌, arith, subst, zero, suc}
-use Rattle.std.specs.Prelude.{option_map, slice_get}
-use Rattle.std.proofs.Common.{◌-◌, take, min}
-use Rattle.std.proofs.lemmas.List.{take_min}
-use Rattle.slp_model.specs.declared.NodeId.{NodeId}
-use Rattle.slp_model.specs.declared.Node.{Node}
-use Rattle.slp_model.specs.Tree.{root_leaves}
-use Rattle.slp_model.specs.Nodes.{Grows, IsLive, root_tree, pair_count, pair_weight}
+use Rattle.std.proofs.Common.{◌≡◌, ℕ, ◌+◌, ◌≤◌, Bool, true, false, cond, List, [], ◌∷◌, ◌++◌, length, Option, Some, refl, ap, ◌∙◌, arith, subst, option_map, ◌-◌, take, min}
+use Rattle.span_run.proofs.Names.{AreKept, AreLive, AreLive-grows, Doc, Grows, is_same, IsLive, Named, Node, NodeId, pair_weight, plain, plain-grows}
+use Rattle.span_run.proofs.Names.{plain_versions, put, root_leaves, root_tree, sum_by-append, take_min, taken_out, text_at, value_of}
+use Rattle.slp_model.specs.Nodes.{pair_count}
 use Rattle.slp_model.proofs.TreeLemmas.{length-root_text}
-use Rattle.std.proofs.lemmas.List.Sums.{sum_by-append}
-use Rattle.edit_expr.specs.Values.{AreLive, plain, text_at}
-use Rattle.doc_book.specs.declared.Doc.{Doc}
 use Rattle.doc_book.specs.Docs as book
-use Rattle.span_language.specs.State.{Named, is_same, value_of, put, taken_out}
-use Rattle.edit_expr.proofs.EvalLemmas.{AreLive-grows, plain-grows}
-use Rattle.span_run.specs.Held.{AreKept, plain_versions}
 
 pub length-text_at : (ns : List Node) (root : Option NodeId) → length (text_at ns root) ≡ root_leaves (root_tree ns root)
 length-text_at ns root = length-root_text (root_tree ns root)
@@ -56,11 +46,6 @@ live_root ns (d ∷ ds) name root h e = at (is_same name d.name) (λ f. live_roo
     at : (b : Bool) → (book.root_of ds name ≡ Some root → IsLive ns root) → option_map (λ (x : Doc). x.root) (cond b (Some d) (book.doc_of ds name)) ≡ Some root → IsLive ns root
     at true rest f = let same : d.root ≡ root = cc f in subst (IsLive ns) same h.0
     at false rest f = rest f
-
-pub live_at : (ns : List Node) (ds : List Doc) (place : ℕ) (d : Doc) → AreLive ns ds → slice_get ds place ≡ Some d → IsLive ns d.root
-live_at ns [] place d h e = let bad : ⊥ = cc e in absurd bad
-live_at ns (x ∷ ds) zero d h e = let same : x ≡ d = cc e in subst (λ (y : Doc). IsLive ns y.root) same h.0
-live_at ns (x ∷ ds) (suc place) d h e = live_at ns ds place d h.1 e
 
 -- the lesser of a length and 32 bytes, as the program counts it
 pub head_of-text : (xs head : List ℕ) (n k : ℕ) → n ≡ length xs → k ≡ min n 32 → head ≡ take (k + 1 - 1) xs → head ≡ take 32 xs

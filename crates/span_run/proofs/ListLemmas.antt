@@ -1,38 +1,23 @@
 -- A listing of answers in progress.
-use Rattle.std.proofs.Common.{suc, zero, ◌≡◌, ℕ, Bool, ◌+◌, ◌*◌, ◌≤◌, ◌<◌, true, false, nat_lt, refl, ap, sym, subst, ◌∙◌, arith, List, [], ◌∷◌, ◌++◌, append_assoc, length, take, Option, Some}
-use Rattle.std.specs.List.{flat_map}
-use Rattle.std.proofs.lemmas.Bool.{ltb-true, ltb-false}
-use Rattle.std.proofs.lemmas.List.{append-nil}
-use Rattle.span_types.specs.Fibonacci.{looks_limit}
-use Rattle.span_types.specs.Answers.{IsAfter}
-use Rattle.span_enum.specs.Listing.{Listing}
-use Rattle.span_enum.specs.Members.{Tuple, AreAnswersOf, IsFirstMember, NoMemberLeft}
-use Rattle.span_enum.proofs.Pages.{first-after, after-first, none-after}
-use Rattle.span_language.specs.Step.{AppendsFront}
-use Rattle.span_language.specs.Listed.{tuple_line, last_line, first_page_text}
-use Rattle.std.specs.Io.KnownBytes.{Appends}
+use Rattle.std.proofs.Common.{suc, zero, ◌≡◌, ℕ, Bool, ◌+◌, ◌*◌, ◌≤◌, true, false, nat_lt, refl, ap, sym, subst, ◌∙◌, arith, List, [], ◌∷◌, ◌++◌, append_assoc, length, take, Option, Some}
+use Rattle.span_run.proofs.Names.{after-first, append-nil, Appends, AppendsFront, AreAnswersOf, first-after, first_page_text, flat_map, IsAfter, IsFirstMember}
+use Rattle.span_run.proofs.Names.{last_line, le-ltb, Listing, looks_limit, lt-ltb, ltb-false, ltb-true, NoMemberLeft, none-after, Tuple, tuple_line}
 use Rattle.span_run.proofs.Written.{IsListing, listing_starts, listing_goes_on, listing_stops, listing_ends}
-
-lt_false : (m n : ℕ) → n ≤ m → nat_lt m n ≡ false
-lt_false m n h = grind arith
-
-lt_true : (m n : ℕ) → m < n → nat_lt m n ≡ true
-lt_true m n h = grind arith
 
 lt_suc : (m n : ℕ) → nat_lt (suc m) (suc n) ≡ nat_lt m n
 lt_suc m n = by (nat_lt m n) refl
   where
     by : (b : Bool) → nat_lt m n ≡ b → nat_lt (suc m) (suc n) ≡ b
-    by true e = lt_true (suc m) (suc n) (omega (arith, ltb-true m n e))
-    by false e = lt_false (suc m) (suc n) (omega (arith, ltb-false m n e))
+    by true e = lt-ltb (suc m) (suc n) (omega (arith, ltb-true m n e))
+    by false e = le-ltb (suc m) (suc n) (omega (arith, ltb-false m n e))
 
 -- the page without a tuple
 pub page_none : (names : List (List ℕ)) (n : ℕ) → first_page_text names n [] ≡ last_line false
-page_none names zero = ap last_line (lt_false 0 0 (omega arith))
-page_none names (suc n) = ap last_line (lt_false (suc n) 0 (omega arith))
+page_none names zero = ap last_line (le-ltb 0 0 (omega arith))
+page_none names (suc n) = ap last_line (le-ltb (suc n) 0 (omega arith))
 
 pub page_full : (names : List (List ℕ)) (t : Tuple) (ts : List Tuple) → first_page_text names 0 (t ∷ ts) ≡ last_line true
-page_full names t ts = ap last_line (lt_true 0 (suc (length ts)) (omega arith))
+page_full names t ts = ap last_line (lt-ltb 0 (suc (length ts)) (omega arith))
 
 pub page_next : (names : List (List ℕ)) (n : ℕ) (t : Tuple) (ts : List Tuple) → first_page_text names (suc n) (t ∷ ts) ≡ tuple_line names t ++ first_page_text names n ts
 page_next names n t ts =

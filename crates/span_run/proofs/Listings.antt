@@ -1,33 +1,14 @@
 -- A listing of a query's answers, as a line.
 use Rattle.std.proofs.Common.{◌≡◌, ◌⊎◌, ◌+◌, ◌≤◌, ℕ, List, length, Option, Some, inl, inr, sym, subst, refl}
-use Rattle.std.specs.Io.KnownBytes.{Appends, Keeps}
-use Rattle.edge_io.specs.Causes.{Rose}
-use Rattle.edge_io.specs.Files.{Files}
-use Rattle.edit_expr.specs.Values.{plain}
-use Rattle.query_book.specs.declared.entry.Entry.{Entry}
-use Rattle.query_book.specs.Book.{queries_of}
-use Rattle.query_book.specs.Serving.{Serves, ArePartlyAt, covered_of, sum_of}
+use Rattle.span_run.proofs.Names.{Accepted, Appends, AppendsFront, ArePartlyAt, at, Carried, Carries, counters, covered_of, Done, Entry, Files, Finishes, Halts}
+use Rattle.span_run.proofs.Names.{Held, IsHeld, Keeps, ListsEvery, Named, no_steps, Outlet, Passes, plain, queries_of, Query, Rose, seen, Serves, standing_of}
+use Rattle.span_run.proofs.Names.{State, state_of, Stop, Stopped, sum_of, Tells, Told, value_of, world}
 use Rattle.script_syntax.specs.declared.form.Command.TheVariants as form
-use Rattle.span_types.specs.Query.{Query}
-use Rattle.span_language.specs.State.{Named, State, value_of, world}
-use Rattle.span_language.specs.Means.{Carried}
-use Rattle.span_language.specs.Step.{AppendsFront, Finishes, Halts, Carries}
-use Rattle.span_language.specs.declared.told.Told.{Told}
-use Rattle.span_language.specs.declared.told.Stop.{Stop}
 use Rattle.span_language.specs.declared.told.Stop.TheVariants as stop
-use Rattle.span_run.specs.declared.held.Held.{Held}
-use Rattle.span_run.specs.Held.{IsHeld, standing_of, state_of}
-use Rattle.span_run.specs.Site.{at}
-use Rattle.span_run.specs.Scene.{seen}
-use Rattle.span_run.specs.Listing.{Tells}
-use Rattle.span_run.specs.Carried.{Done, Outlet, Stopped, Passes}
-use Rattle.span_language.specs.Allowance.{no_steps}
-use Rattle.span_language.specs.declared.told.Told.TheVariants.{Accepted}
-use Rattle.span_run.specs.Every.{ListsEvery}
-use Rattle.span_run.proofs.PageLemmas.{list_begun, list_finishes, list_halts, list_paid}
+use Rattle.span_run.proofs.PageLemmas.{list_finishes, list_halts, list_paid}
 use Rattle.span_run.proofs.Goes.{placed_goes, placed_tallied, same_queries}
 use Rattle.span_run.proofs.Sending.{passes_of}
-use Rattle.span_run.proofs.CarryLemmas.{none_paid, not_begun}
+use Rattle.span_run.proofs.CarryLemmas.{none_paid, not_begun, part_of_paid}
 
 module _ (h : Held) (book : List Entry) (number : ℕ) (query name text : List ℕ) (word : Option (List ℕ)) (n : ℕ) (files : Option Files) (faults looks more pairs p q : ℕ) (before after : Outlet) (is : IsHeld h) (serves : Serves h.store book) (same : queries_of book ≡ queries_of h.book) (partly : ArePartlyAt (length h.store) (covered_of h.book) (covered_of book)) (steps : q + sum_of (covered_of h.book) ≡ p + sum_of (covered_of book)) (there : value_of (plain h.store h.docs) name ≡ Some text) (later : before.faults ≤ after.faults) (wants_later : before.wants ≤ after.wants) where
   -- told of the queries of before
@@ -43,7 +24,7 @@ module _ (h : Held) (book : List Entry) (number : ℕ) (query name text : List �
       let old = of_old Writes told tells in
       record {
         passes = passes_of (at h files faults looks pairs p) (at (record h { book = book }) files faults more pairs q) command before after
-            (placed_goes h book command files faults looks more pairs p q is serves partly steps (list_begun w number query name text word n there Writes told looks more pairs old)) later wants_later;
+            (placed_goes h book command files faults looks more pairs p q is serves partly steps (part_of_paid w command (counters looks pairs) (counters more pairs) (list_paid w number query name text word n there Writes told looks more pairs old))) later wants_later;
         finishes = subst (λ (st : State). Finishes (Carried w number (Some command)) told before.written after.written (world st files)) (sym (same_queries h book same))
             (list_finishes w number query name text word n there before.written after.written told looks more old);
         paid = list_paid w number query name text word n there Writes told looks more pairs old;
@@ -60,7 +41,7 @@ module _ (h : Held) (book : List Entry) (number : ℕ) (query name text : List �
       let old = of_old Writes tells.0 tells.1 in
       record {
         passes = passes_of (at h files faults looks pairs p) (at (record h { book = book }) files faults more pairs q) command before after
-            (placed_goes h book command files faults looks more pairs p q is serves partly steps (list_begun w number query name text word n there Writes tells.0 looks more pairs old)) later wants_later;
+            (placed_goes h book command files faults looks more pairs p q is serves partly steps (part_of_paid w command (counters looks pairs) (counters more pairs) (list_paid w number query name text word n there Writes tells.0 looks more pairs old))) later wants_later;
         halts = subst (λ (st : State). Halts (Carried w number (Some command)) w before.written after.written (world st files)) (sym (same_queries h book same))
             (list_halts w number query name text word n there before.written after.written tells.0 looks more old);
         fault = λ e. ((λ nothing. let bad : ⊥ = cc nothing in bad), fault e);

@@ -1,32 +1,14 @@
 -- What listing the answers of a query does.
 use Rattle.std.proofs.Common.{◌≡◌, inl, inr, ℕ, ◌+◌, ◌*◌, ◌≤◌, nat_lt, List, Option, Some, None, length, take, refl, sym, ap, subst, ◌∙◌, arith}
+use Rattle.span_run.proofs.BookLemmas.{names_known, query_of}
+use Rattle.span_run.proofs.Names.{Accepted, answers_steps, Appends, AppendsFront, AreAnswersOf, Carries, counters, Finishes, first_page_text, Halts, HasCursor}
+use Rattle.span_run.proofs.Names.{HasList, IfNamed, IsAfter, IsAllowed, IsCursorFor, IsListingOf, IsListReply, IsNamed, IsRefused, IsUnreadCursor}
+use Rattle.span_run.proofs.Names.{IsWordRefusal, Listing, Lists, looks_limit, most_looks, Named, names_of, no_steps, NoSuchDocument, page_text, PaysFor, Query}
+use Rattle.span_run.proofs.Names.{Quiet, Refusal, refusal_text, Refused, same_Some, Tells, Told, Tuple, Unread, value_of, World}
 use Rattle.std.specs.Option.{option_map}
-use Rattle.std.specs.Io.KnownBytes.{Appends}
 use Rattle.script_syntax.specs.declared.form.Command.TheVariants as form
-use Rattle.report_text.specs.Reply.{refusal_text}
-use Rattle.report_text.specs.declared.refusal.Refusal.{Refusal}
-use Rattle.report_text.specs.declared.refusal.Refusal.TheVariants.{NoSuchDocument}
-use Rattle.span_types.specs.Fibonacci.{looks_limit}
-use Rattle.span_types.specs.Answers.{IsAfter}
-use Rattle.span_types.specs.Query.{Query}
-use Rattle.span_types.specs.Rel.{names_of}
-use Rattle.span_enum.specs.Listing.{Listing}
-use Rattle.span_enum.specs.Members.{Tuple, AreAnswersOf}
-use Rattle.query_book.specs.Answers.{HasList, IfNamed, IsListingOf, IsNamed, most_looks}
-use Rattle.span_language.specs.State.{World, Named, value_of}
-use Rattle.span_language.specs.Step.{AppendsFront, Carries, Finishes, Halts, IsRefused}
 use Rattle.span_language.specs.Cursors.{IsCursorOf}
-use Rattle.span_run.specs.Words.{IsCursorFor, IsUnreadCursor, IsWordRefusal}
-use Rattle.span_language.specs.Listed.{IsListReply, first_page_text, page_text}
-use Rattle.span_run.specs.Listing.{HasCursor, Lists, Tells}
-use Rattle.span_run.specs.declared.words.Unread.{Unread}
 use Rattle.span_run.specs.declared.words.Unread.TheVariants as unread
-use Rattle.span_language.specs.declared.told.Told.{Told}
-use Rattle.span_language.specs.declared.told.Told.TheVariants.{Quiet, Accepted, Refused}
-use Rattle.span_language.specs.Allowance.{counters, no_steps, answers_steps, IsAllowed, PaysFor, PaysForPart}
-
-same_query : (queries : Named Query) (name : List ℕ) (p q : Query) → value_of queries name ≡ Some p → value_of queries name ≡ Some q → p ≡ q
-same_query queries name p q first second = let both : Some p ≡ Some q = sym first ∙ second in cc both
 
 pub has_cursor : (queries : Named Query) (name : List ℕ) (word : Option (List ℕ)) (cursor : Option Tuple) → IsCursorFor queries name word cursor → HasCursor queries name cursor
 has_cursor queries name word cursor h = record { query = h.query; there = h.there; size = λ t is. size word h.gives t is }
@@ -40,11 +22,8 @@ has_cursor queries name word cursor h = record { query = h.query; there = h.ther
 
 -- without a word there is no cursor
 pub no_word : (queries : Named Query) (name : List ℕ) (word : Option (List ℕ)) (names : List (List ℕ)) → word ≡ None → option_map names_of (value_of queries name) ≡ Some names → IsCursorFor queries name word None
-no_word queries name word names none is = at (value_of queries name) refl is
-  where
-    at : (o : Option Query) → value_of queries name ≡ o → option_map names_of o ≡ Some names → IsCursorFor queries name word None
-    at None e bad = let no_names : ⊥ = cc bad in absurd no_names
-    at (Some q) e given = record { query = q; there = e; gives = subst (λ (w : Option (List ℕ)). IsCursorOf q w None) (sym none) refl }
+no_word queries name word names none is =
+    let q = query_of (value_of queries name) names is in record { query = q.0; there = q.1; gives = subst (λ (w : Option (List ℕ)). IsCursorOf q.0 w None) (sym none) refl }
 
 module _ (Writes : List ℕ → Type 0) (queries : Named Query) (name text : List ℕ) (cursor : Option Tuple) (n before after : ℕ) (list : IfNamed queries name (HasList text cursor)) where
   lists : (q : Query) → value_of queries name ≡ Some q → (l : HasList text cursor q) → Writes (first_page_text (names_of q) n l.rest)
@@ -73,7 +52,7 @@ module _ (Writes : List ℕ → Type 0) (queries : Named Query) (name text : Lis
       record { rising = l.answers.rising; members = λ t. (λ m. (is.members t).0 ((l.answers.members t).0 m), λ m. (l.answers.members t).1 ((is.members t).1 m)) } in
       let are : AreAnswersOf listing.automaton listing.text l.all = subst (λ (s : List ℕ). AreAnswersOf listing.automaton s l.all) (sym is.text) here in
       let rest : IsAfter l.all listing.after l.rest = subst (λ (o : Option Tuple). IsAfter l.all o l.rest) (sym is.after) l.after in
-      let same : names ≡ names_of q = named_names named.there names_are in
+      let same : names ≡ names_of q = names_known queries name names named names_are in
       let wrote : Writes (first_page_text (names_of q) n l.rest) = subst (λ (ns : List (List ℕ)). Writes (first_page_text ns n l.rest)) same (writes l.all l.rest are rest) in
       let most : mid ≤ before + 2 * looks_limit (length (names_of q)) (length text) = subst (λ (o : Option Query). mid ≤ before + 2 * most_looks o text) named.there begun in
       let each : looks_limit listing.automaton.variables (length listing.text) ≡ looks_limit (length (names_of q)) (length text) =
@@ -81,12 +60,6 @@ module _ (Writes : List ℕ → Type 0) (queries : Named Query) (name text : Lis
       let page : after ≤ mid + (length (take n l.rest) + 1) * looks_limit (length (names_of q)) (length text) =
       subst (λ (b : ℕ). after ≤ mid + (length (take n l.rest) + 1) * b) each (paid l.all l.rest are rest) in
       lists q named.there l wrote (omega (arith, most, page))
-    where
-      named_names : (there : value_of queries name ≡ Some named.query) → option_map names_of (value_of queries name) ≡ Some names → names ≡ names_of named.query
-      named_names there is =
-          let both : Some (names_of named.query) ≡ Some names = ap (option_map names_of) (sym there) ∙ is in
-          let same : names_of named.query ≡ names = cc both in
-          sym same
 
   -- of the page nothing was written
   pub lists_none : HasCursor queries name cursor → after ≤ before + 2 * most_looks (value_of queries name) text → ((reply : List ℕ) → Writes reply) → Lists Writes queries name text cursor n before after
@@ -97,37 +70,24 @@ module _ (Writes : List ℕ → Type 0) (queries : Named Query) (name text : Lis
 
 pub named_count : (queries : Named Query) (name text : List ℕ) (cursor : Option Tuple) (listing : Listing) (names : List (List ℕ)) → IsNamed queries name (IsListingOf text cursor listing) → option_map names_of (value_of queries name) ≡ Some names
     → length names ≡ listing.automaton.variables
-named_count queries name text cursor listing names named is =
-    let both : Some (names_of named.query) ≡ Some names = ap (option_map names_of) (sym named.there) ∙ is in
-    let same : names_of named.query ≡ names = cc both in
-    ap length (sym same) ∙ sym named.holds.defines.variables
+named_count queries name text cursor listing names named is = ap length (names_known queries name names named is) ∙ sym named.holds.defines.variables
 
 -- ---- what the line does
+word_refused : (w : World) (query name text : List ℕ) (word : Option (List ℕ)) (n : ℕ) (u : Unread) (why : Refusal) → value_of w.state.documents name ≡ Some text → IsUnreadCursor w.state.queries query word u → IsWordRefusal query u why
+    → IsRefused w (form.List query name word n) why
+word_refused w query name text None n u why there (same, none) written = inl (inr (text, there, none, subst (λ (x : Unread). IsWordRefusal query x why) same written))
+word_refused w query name text (Some bytes) n unread.NoSuchQuery why there none written = inl (inr (text, there, none, written))
+word_refused w query name text (Some bytes) n unread.BadTuple why there (q, registered, bad) written = inr (q, text, record { document = there; registered = registered }, inl (bad, written))
+word_refused w query name text (Some bytes) n unread.OtherVariables why there (q, registered, other) written = inr (q, text, record { document = there; registered = registered }, inr (other, written))
+
 module _ (w : World) (number : ℕ) (query name text : List ℕ) (word : Option (List ℕ)) (n : ℕ) (there : value_of w.state.documents name ≡ Some text) where
-  word_refused : (u : Unread) (why : Refusal) → IsUnreadCursor w.state.queries query word u → IsWordRefusal query u why → IsRefused w (form.List query name word n) why
-  word_refused u why not_read is = at word refl not_read
-    where
-      refused_by : (v : Unread) → value_of w.state.queries query ≡ None → IsWordRefusal query v why → v ≡ unread.NoSuchQuery → IsRefused w (form.List query name word n) why
-      refused_by v none written same = inl (inr (text, there, none, subst (λ (x : Unread). IsWordRefusal query x why) same written))
-
-      some_refused : (bytes : List ℕ) (v : Unread) → word ≡ Some bytes → IsUnreadCursor w.state.queries query (Some bytes) v → IsWordRefusal query v why → IsRefused w (form.List query name word n) why
-      some_refused bytes unread.NoSuchQuery e none written = inl (inr (text, there, none, written))
-      some_refused bytes unread.BadTuple e (q, registered, bad) written =
-          subst (λ (o : Option (List ℕ)). IsRefused w (form.List query name o n) why) (sym e) (inr (q, text, record { document = there; registered = registered }, inl (bad, written)))
-      some_refused bytes unread.OtherVariables e (q, registered, other) written =
-          subst (λ (o : Option (List ℕ)). IsRefused w (form.List query name o n) why) (sym e) (inr (q, text, record { document = there; registered = registered }, inr (other, written)))
-
-      at : (o : Option (List ℕ)) → word ≡ o → IsUnreadCursor w.state.queries query o u → IsRefused w (form.List query name word n) why
-      at None e (same, none) = refused_by u none is same
-      at (Some bytes) e h = some_refused bytes u e h is
-
   reply_of : (Writes : List ℕ → Type 0) (cursor : Option Tuple) (before after : ℕ) → IsCursorFor w.state.queries query word cursor → (l : Lists Writes w.state.queries query text cursor n before after)
       → IsListReply l.query text word n (page_text (names_of l.query) l.page l.more)
   reply_of Writes cursor before after h l = record {
     cursor = cursor;
     page = l.page;
     more = l.more;
-    cursor_is = subst (λ (q : Query). IsCursorOf q word cursor) (same_query w.state.queries query h.query l.query h.there l.there) h.gives;
+    cursor_is = subst (λ (q : Query). IsCursorOf q word cursor) (same_Some h.query l.query (sym h.there ∙ l.there)) h.gives;
     page_is = l.page_is;
     reply_is = refl;
   }
@@ -141,7 +101,7 @@ module _ (w : World) (number : ℕ) (query name text : List ℕ) (word : Option 
     (l.query, text, record { document = there; registered = l.there }, reply_of Writes cursor before after h l, refl),
     l.writes,
   )
-  list_carries Writes Refused before after (u, why, not_read, is, wrote, same) = (refusal_text number why, (why, word_refused u why not_read is, refl, refl), wrote)
+  list_carries Writes Refused before after (u, why, not_read, is, wrote, same) = (refusal_text number why, (why, word_refused w query name text word n u why there not_read is, refl, refl), wrote)
 
   pub list_finishes : (a b : Option (List ℕ)) (told : Told) (before after : ℕ) → Tells (Appends a b) number w.state.queries query word text n told before after → Finishes (Carries w number (form.List query name word n)) told a b w
   list_finishes a b told before after h = list_carries (Appends a b) told before after h
@@ -159,11 +119,7 @@ module _ (w : World) (number : ℕ) (query name text : List ℕ) (word : Option 
     record { looks = l.paid; pairs = omega arith },
   )
   list_paid Writes Refused before after pairs (u, why, not_read, is, wrote, same) =
-      (no_steps, inl (why, word_refused u why not_read is, refl), record { looks = omega (arith, same); pairs = omega arith })
-
-  pub list_begun : (Writes : List ℕ → Type 0) (told : Told) (before after pairs : ℕ) → Tells Writes number w.state.queries query word text n told before after
-      → PaysForPart w (form.List query name word n) (counters before pairs) (counters after pairs)
-  list_begun Writes told before after pairs h = let p = list_paid Writes told before after pairs h in (p.0, inr p.1, p.2)
+      (no_steps, inl (why, word_refused w query name text word n u why there not_read is, refl), record { looks = omega (arith, same); pairs = omega arith })
 
 pub list_free : (w : World) (query name : List ℕ) (word : Option (List ℕ)) (n : ℕ) → value_of w.state.documents name ≡ None → IsAllowed w (form.List query name word n) no_steps
 list_free w query name word n missing = inl (NoSuchDocument name, inl (inl (missing, refl)), refl)

@@ -1,10 +1,6 @@
 -- Each query has at most one table of each node.
 use Rattle.std.proofs.Common.{ℕ, ◌+◌, ◌*◌, ◌≤◌, [], ◌∷◌, length, arith}
-use Rattle.std.specs.List.{AllByRecursion}
-use Rattle.query_book.specs.Serving.{sum_of}
-use Rattle.span_language.specs.State.{Named}
-use Rattle.span_run.specs.Held.{Standing, IsStanding, nodes_of}
-use Rattle.span_language.specs.Counts.{Places, PlacesPart}
+use Rattle.span_run.proofs.Names.{AllByRecursion, IsStanding, Named, nodes_of, Places, PlacesPart, Standing, sum_of}
 
 -- what was placed so far, where so many queries were registered and so many nodes dropped
 abbrev pub PlacesSoFar : ℕ → ℕ → Standing → ℕ → ℕ → Type 0

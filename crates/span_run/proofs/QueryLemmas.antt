@@ -1,37 +1,17 @@
 -- What registering and asking queries does.
-use Rattle.std.proofs.Common.{rules, ◌≡◌, inl, inr, ℕ, ◌+◌, ◌≤◌, List, Option, Some, None, refl, sym, ap, subst, ◌∙◌, arith, length}
-use Rattle.std.specs.Prelude.{◌↔◌, IsSome, IsTrue, Bool, true, false, option_map}
-use Rattle.edge_io.specs.Files.{Files}
+use Rattle.std.proofs.Common.{rules, ◌≡◌, inl, inr, ℕ, ◌+◌, ◌≤◌, List, Option, Some, None, refl, sym, ap, subst, ◌∙◌, arith, length, ◌↔◌, IsSome, IsTrue, Bool, true, false, option_map}
+use Rattle.span_run.proofs.Names.{Accepted, answers_steps, BadTuple, Carries, counters, Doc, Files, HasAnswer, HasVariablesOf, IsAllowed, IsAnswer, IsAnswered}
+use Rattle.span_run.proofs.Names.{IsFormulaRefusal, IsJudged, IsNamed, IsRefused, IsTextDenied, IsTextRefusal, IsTextRefused, IsTupleOf, IsUnread, IsWordPaid}
+use Rattle.span_run.proofs.Names.{IsWordRefusal, IsYesOrNo, most_looks, Named, names_of, no_steps, no_text, Node, NodeId, NoSuchDocument, NoSuchQuery, ok_text}
+use Rattle.span_run.proofs.Names.{OtherVariables, PaysFor, plain, Query, Quiet, Refusal, refusal_text, Refused, State, taken_out, text_at, Told, Tuple}
+use Rattle.span_run.proofs.Names.{TupleText, Unread, value_of, with_queries, World, world, yes_text}
 use Rattle.script_syntax.specs.declared.form.Command.TheVariants as form
-use Rattle.report_text.specs.Reply.{refusal_text}
-use Rattle.span_types.specs.Query.{Query}
-use Rattle.span_types.specs.Rel.{names_of}
 use Rattle.query_book.specs.Registering.{IsRefused as IsUnregistered}
 use Rattle.query_book.specs.declared.refusal.QueryRefusal.{QueryRefusal}
 use Rattle.query_book.specs.declared.refusal.QueryRefusal.TheVariants as query
 use Rattle.formula_syntax.specs.declared.refusal.FormulaRefusal.{FormulaRefusal}
 use Rattle.formula_syntax.specs.declared.refusal.FormulaRefusal.TheVariants as formula
-use Rattle.span_run.specs.Shown.{IsFormulaRefusal, IsTextRefusal, IsTextDenied}
-use Rattle.span_language.specs.State.{State, World, Named, with_queries, world, value_of, taken_out}
-use Rattle.span_language.specs.Replies.{ok_text, yes_text, no_text}
-use Rattle.span_language.specs.Step.{Carries, IsTextRefused, IsYesOrNo, IsRefused}
-use Rattle.span_language.specs.declared.told.Told.{Told}
-use Rattle.span_language.specs.declared.told.Told.TheVariants.{Quiet, Accepted, Refused}
-use Rattle.slp_model.specs.declared.NodeId.{NodeId}
-use Rattle.slp_model.specs.declared.Node.{Node}
-use Rattle.doc_book.specs.declared.Doc.{Doc}
 use Rattle.doc_book.specs.Docs as book
-use Rattle.edit_expr.specs.Values.{plain, text_at}
-use Rattle.query_book.specs.Answers.{HasAnswer, IsNamed, most_looks, HasVariablesOf, IsAnswer}
-use Rattle.report_text.specs.declared.refusal.Refusal.TheVariants.{NoSuchDocument, NoSuchQuery, BadTuple, OtherVariables}
-use Rattle.span_run.specs.Asked.{IsAnswered}
-use Rattle.span_language.specs.Allowance.{counters, no_steps, answers_steps, IsAllowed, PaysFor, PaysForPart}
-use Rattle.report_text.specs.declared.refusal.Refusal.{Refusal}
-use Rattle.span_enum.specs.Members.{Tuple}
-use Rattle.span_cursor.specs.Tuples.{TupleText}
-use Rattle.span_run.specs.Words.{IsTupleOf, IsUnread, IsWordRefusal}
-use Rattle.span_run.specs.Judged.{IsJudged, IsWordPaid}
-use Rattle.span_run.specs.declared.words.Unread.{Unread}
 use Rattle.span_run.specs.declared.words.Unread.TheVariants as unread
 use Rattle.span_run.proofs.HeldLemmas.{value_of-plain}
 use Rattle.span_run.proofs.BookLemmas.{some_value}
@@ -50,9 +30,7 @@ unquery_carries st new number name told reply files there taken accepted written
 -- the answer of a question, as a reply
 pub answered : (Holds : Query → Type 0) (number : ℕ) (queries : Named Query) (bytes name : List ℕ) (b : Bool) (told : Told) (reply : List ℕ) → bytes ≡ name → IsNamed queries bytes (λ q. IsTrue b ↔ Holds q)
     → told ≡ Accepted → (b ≡ true → reply ≡ yes_text) → (b ≡ false → reply ≡ no_text) → IsAnswered Holds number queries name told reply
-answered Holds number queries bytes name b told reply is named accepted true_line false_line =
-    subst (λ (t : Told). IsAnswered Holds number queries name t reply) (sym accepted)
-    (named.query, ap (λ (n : List ℕ). value_of queries n) (sym is) ∙ named.there, decided b named.holds true_line false_line)
+answered Holds number queries bytes name b told reply is named accepted true_line false_line = rw accepted (named.query, ap (λ (n : List ℕ). value_of queries n) (sym is) ∙ named.there, decided b named.holds true_line false_line)
   where
     decided : (v : Bool) → IsTrue v ↔ Holds named.query → (v ≡ true → reply ≡ yes_text) → (v ≡ false → reply ≡ no_text) → IsYesOrNo (Holds named.query) reply
     decided true h t f = inl (h.0 (search rules), t refl)
@@ -65,50 +43,31 @@ document_is ns ds name root there = value_of-plain ns ds name ∙ ap (option_map
 pub document_lacks : (ns : List Node) (ds : List Doc) (name : List ℕ) → book.root_of ds name ≡ None → value_of (plain ns ds) name ≡ None
 document_lacks ns ds name missing = value_of-plain ns ds name ∙ ap (option_map (text_at ns)) missing
 
-module _ (w : World) (number : ℕ) (query name text : List ℕ) (told : Told) (reply : List ℕ) (there : value_of w.state.documents name ≡ Some text) where
-  pub test_carries : IsAnswered (λ q. HasAnswer q text) number w.state.queries query told reply → Carries w number (form.Nonempty query name) told reply w
-  test_carries h = at told h
-    where
-      at : (t : Told) → IsAnswered (λ q. HasAnswer q text) number w.state.queries query t reply → Carries w number (form.Nonempty query name) t reply w
-      at Quiet g = absurd g
-      at Accepted (q, registered, answer) = (q, text, record { document = there; registered = registered }, answer, refl)
-      at Refused (none, written) = (NoSuchQuery query, inr (text, there, none, refl), written, refl)
+pub test_carries : (w : World) (number : ℕ) (query name text : List ℕ) (told : Told) (reply : List ℕ) → value_of w.state.documents name ≡ Some text → IsAnswered (λ q. HasAnswer q text) number w.state.queries query told reply
+    → Carries w number (form.Nonempty query name) told reply w
+test_carries w number query name text Quiet reply there h = absurd h
+test_carries w number query name text Accepted reply there (q, registered, answer) = (q, text, record { document = there; registered = registered }, answer, refl)
+test_carries w number query name text Refused reply there (none, written) = (NoSuchQuery query, inr (text, there, none, refl), written, refl)
 
-  pub test_paid : (looks more pairs : ℕ) → IsAnswered (λ q. HasAnswer q text) number w.state.queries query told reply → more ≤ looks + most_looks (value_of w.state.queries query) text
-      → PaysFor w (form.Nonempty query name) (counters looks pairs) (counters more pairs)
-  test_paid looks more pairs h cost = at told h (value_of w.state.queries query) refl
-    where
-      at : (t : Told) → IsAnswered (λ q. HasAnswer q text) number w.state.queries query t reply → (o : Option Query) → value_of w.state.queries query ≡ o → PaysFor w (form.Nonempty query name) (counters looks pairs) (counters more pairs)
-      at t g (Some q) is = let paid : more ≤ looks + most_looks (Some q) text = subst (λ (o : Option Query). more ≤ looks + most_looks o text) is cost in
-          (answers_steps 1 q text, inr (q, text, record { document = there; registered = is }, refl), record { looks = omega (arith, paid); pairs = omega arith })
-      at t g None is = let paid : more ≤ looks + most_looks None text = subst (λ (o : Option Query). more ≤ looks + most_looks o text) is cost in
-          (no_steps, inl (NoSuchQuery query, inr (text, there, is, refl), refl), record { looks = omega (arith, paid); pairs = omega arith })
-
-pub test_begun : (w : World) (query name text : List ℕ) (looks more pairs : ℕ) → value_of w.state.documents name ≡ Some text → more ≤ looks + most_looks (value_of w.state.queries query) text
-    → PaysForPart w (form.Nonempty query name) (counters looks pairs) (counters more pairs)
-test_begun w query name text looks more pairs there cost = at (value_of w.state.queries query) refl
+-- the looks of a test: those of one answer where there is such a query, else none
+pub test_paid : (w : World) (query name text : List ℕ) (looks more pairs : ℕ) → value_of w.state.documents name ≡ Some text → more ≤ looks + most_looks (value_of w.state.queries query) text
+    → PaysFor w (form.Nonempty query name) (counters looks pairs) (counters more pairs)
+test_paid w query name text looks more pairs there cost = at (value_of w.state.queries query) refl cost
   where
-    at : (o : Option Query) → value_of w.state.queries query ≡ o → PaysForPart w (form.Nonempty query name) (counters looks pairs) (counters more pairs)
-    at None is = let paid : more ≤ looks + most_looks None text = subst (λ (o : Option Query). more ≤ looks + most_looks o text) is cost in (no_steps, inl refl, record { looks = omega (arith, paid); pairs = omega arith })
-    at (Some q) is = let paid : more ≤ looks + most_looks (Some q) text = subst (λ (o : Option Query). more ≤ looks + most_looks o text) is cost in
-        (answers_steps 1 q text, inr (inr (q, text, record { document = there; registered = is }, refl)), record { looks = omega (arith, paid); pairs = omega arith })
+    at : (o : Option Query) → value_of w.state.queries query ≡ o → more ≤ looks + most_looks o text → PaysFor w (form.Nonempty query name) (counters looks pairs) (counters more pairs)
+    at (Some q) is paid = (answers_steps 1 q text, inr (q, text, record { document = there; registered = is }, refl), record { looks = omega (arith, paid); pairs = omega arith })
+    at None is paid = (no_steps, inl (NoSuchQuery query, inr (text, there, is, refl), refl), record { looks = omega (arith, paid); pairs = omega arith })
 
 pub test_free : (w : World) (query name : List ℕ) → value_of w.state.documents name ≡ None → IsAllowed w (form.Nonempty query name) no_steps
 test_free w query name missing = inl (NoSuchDocument name, inl (missing, refl), refl)
 
 -- a text that gives no query
 pub query_denied : (w : World) (number : ℕ) (name text : List ℕ) (why : QueryRefusal) (told : Told) (reply : List ℕ) → IsUnregistered text why → IsTextDenied number why told reply → Carries w number (form.Query name text) told reply w
-query_denied w number name text why told reply refuses (is, kept, refusal, written) =
-    subst (λ (t : Told). Carries w number (form.Query name text) t reply w) (sym is) (kept, at_why why refuses refusal, written, refl)
+query_denied w number name text why told reply refuses (is, kept, refusal, written) = rw is (kept, at_why why refuses refusal, written, refl)
   where
     at_formula : (f : FormulaRefusal) → IsUnregistered text (query.Formula f) → IsFormulaRefusal f kept → IsTextRefused text kept
-    at_formula (formula.TooLong len) h e = subst (IsTextRefused text) (sym e) h
-    at_formula formula.BadText h e = subst (IsTextRefused text) (sym e) h
-    at_formula formula.TooDeep h e = subst (IsTextRefused text) (sym e) h
-    at_formula formula.TooManyPositions h e = subst (IsTextRefused text) (sym e) h
-    at_formula formula.TooManyVariables h e = subst (IsTextRefused text) (sym e) h
-    at_formula (formula.NotFunctional name) h e = subst (IsTextRefused text) (sym e) h
     at_formula formula.NoMemory h e = absurd e
+    at_formula _ h e = subst (IsTextRefused text) (sym e) h
 
     at_why : (y : QueryRefusal) → IsUnregistered text y → IsTextRefusal y kept → IsTextRefused text kept
     at_why (query.Formula f) h e = at_formula f h e
@@ -133,8 +92,7 @@ judged number queries name word text tuple Refused reply h (none, written) = (un
 
 pub judged_unread : (number : ℕ) (queries : Named Query) (name word text : List ℕ) (u : Unread) (why : Refusal) (told : Told) (reply : List ℕ) → IsUnread queries name word u → IsWordRefusal name u why
     → told ≡ Refused → reply ≡ refusal_text number why → IsJudged number queries name word text told reply
-judged_unread number queries name word text u why told reply not_read is refused written =
-    subst (λ (t : Told). IsJudged number queries name word text t reply) (sym refused) (u, why, not_read, is, written)
+judged_unread number queries name word text u why told reply not_read is refused written = rw refused (u, why, not_read, is, written)
 
 has_refused : (w : World) (query name word text : List ℕ) → value_of w.state.documents name ≡ Some text → (u : Unread) (why : Refusal) → IsUnread w.state.queries query word u → IsWordRefusal query u why → IsRefused w (form.Has query name word) why
 has_refused w query name word text there unread.NoSuchQuery why none is = inl (inr (text, there, none, is))
@@ -160,10 +118,6 @@ has_paid w query name word text looks more pairs there (inl (u, not_read, same))
 has_paid w query name word text looks more pairs there (inr (tuple, is, cost)) =
     let paid : more ≤ looks + most_looks (Some is.query) text = subst (λ (o : Option Query). more ≤ looks + most_looks o text) is.there cost in
     (answers_steps 1 is.query text, inr (is.query, text, tuple, record { document = there; registered = is.there }, is.text, refl), record { looks = omega (arith, paid); pairs = omega arith })
-
-pub has_begun : (w : World) (query name word text : List ℕ) (looks more pairs : ℕ) → value_of w.state.documents name ≡ Some text → IsWordPaid w.state.queries query word text looks more
-    → PaysForPart w (form.Has query name word) (counters looks pairs) (counters more pairs)
-has_begun w query name word text looks more pairs there cost = let p = has_paid w query name word text looks more pairs there cost in (p.0, inr p.1, p.2)
 
 pub has_free : (w : World) (query name word : List ℕ) → value_of w.state.documents name ≡ None → IsAllowed w (form.Has query name word) no_steps
 has_free w query name word missing = inl (NoSuchDocument name, inl (inl (missing, refl)), refl)

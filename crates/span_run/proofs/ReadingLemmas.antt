@@ -1,24 +1,8 @@
 -- The pieces of a file, put together.
-use Rattle.std.proofs.Common.{◌≡◌, inr, ℕ, ◌+◌, ◌*◌, ◌<◌, ◌≤◌, List, [], ◌++◌, length, take, drop, refl, sym, ap, subst, ◌∙◌, arith, append_assoc, length-append, length-drop}
-use Rattle.std.specs.Prelude.{Option, Some, None, IfSome}
-use Rattle.std.specs.Io.KnownBytes.{Consumes}
-use Rattle.std.proofs.Math.Seq.{take-add}
-use Rattle.std.proofs.lemmas.List.{take_all, length-take, length-take-le, length-replicate}
-use Rattle.std.specs.Prelude.{replicate}
-use Rattle.span_types.specs.Fibonacci.{height_limit}
-use Rattle.edge_io.specs.Files.{Files, Holds, HasPiece}
-use Rattle.span_language.specs.Step.{IsWithin, load_size}
-use Rattle.span_run.specs.Reading.{IsFileFront, IsLoadPaid}
-
-some_is : {A : Type 0} (x y : A) → Some x ≡ Some y → x ≡ y
-some_is x y e = cc e
-
--- what was taken of a source's bytes, and then some more
-pub Consumes-more : (old mid new : Option (List ℕ)) (xs ys : List ℕ) → Consumes old mid xs → Consumes mid new ys → Consumes old new (xs ++ ys)
-Consumes-more None mid new xs ys h i = tt
-Consumes-more (Some a) None new xs ys h i = absurd h
-Consumes-more (Some a) (Some b) None xs ys h i = absurd i
-Consumes-more (Some a) (Some b) (Some c) xs ys h i = h ∙ ap (λ t. xs ++ t) i ∙ sym (append_assoc xs ys c)
+use Rattle.std.proofs.Common.{◌≡◌, inr, ℕ, ◌+◌, ◌*◌, ◌<◌, ◌≤◌, List, [], ◌++◌, length, take, drop, refl, sym, ap, subst, ◌∙◌, arith, length-append, length-drop, Option, Some, None, IfSome, replicate}
+use Rattle.span_run.proofs.Names.{Files, HasPiece, height_limit, Holds, IsFileFront, IsLoadPaid, IsWithin, length-replicate, length-take-le}
+use Rattle.span_run.proofs.Names.{load_size, same_Some, take-add, take_all}
+use Rattle.std.proofs.lemmas.List.{length-take}
 
 -- and where a byte stands there the file is too long
 pub some_behind : (files : Option Files) (name : List ℕ) (from : ℕ) (front piece : List ℕ) → length front ≡ from → 0 < length piece
@@ -32,7 +16,7 @@ pub one_piece : (files : Option Files) (name : List ℕ) (limit : ℕ) (front pi
     → IfSome files (λ all. HasPiece all name (length front) piece) → IsFileFront files name limit (front ++ piece)
 one_piece None name limit front piece so_far h = tt
 one_piece (Some all) name limit front piece so_far (bytes, there, is) =
-    let same : so_far.file ≡ bytes = some_is so_far.file bytes (sym so_far.there ∙ there) in
+    let same : so_far.file ≡ bytes = same_Some so_far.file bytes (sym so_far.there ∙ there) in
     let begins : front ++ piece ≡ take (length front + length piece) bytes =
     ap (λ (l : List ℕ). l ++ piece) so_far.begins
     ∙ ap (λ (l : List ℕ). take (length front) l ++ piece) same
@@ -50,7 +34,7 @@ pub no_piece : (files : Option Files) (name : List ℕ) (limit : ℕ) (front : L
     → IfSome files (λ all. HasPiece all name (length front) []) → IsWithin files name limit front
 no_piece None name limit front short so_far h = record { held = tt; short = short }
 no_piece (Some all) name limit front short so_far (bytes, there, is) =
-    let same : so_far.file ≡ bytes = some_is so_far.file bytes (sym so_far.there ∙ there) in
+    let same : so_far.file ≡ bytes = same_Some so_far.file bytes (sym so_far.there ∙ there) in
     let whole : front ≡ bytes = so_far.begins ∙ ap (take (length front)) same ∙ take_all (length front) bytes (is.end refl) in
     record { held = there ∙ ap Some (sym whole); short = short }
 

@@ -1,32 +1,13 @@
 -- What a replacement does.
-use Rattle.std.proofs.Common.{◌≡◌, ◌∙◌, inl, inr, ℕ, ◌+◌, ◌*◌, ◌<◌, ◌≤◌, List, length, min, Option, Some, None, refl, sym, ap, subst, arith, Result}
-use Rattle.edge_io.specs.Files.{Files}
+use Rattle.std.proofs.Common.{◌≡◌, ◌∙◌, inl, inr, ℕ, ◌+◌, ◌*◌, ◌<◌, ◌≤◌, List, length, min, Option, Some, refl, sym, ap, subst, arith, Result, option_map}
+use Rattle.span_run.proofs.BookLemmas.{query_of}
+use Rattle.span_run.proofs.Names.{ArePartlyAt, AreSources, at, Carries, Chooses, counters, covered_of, Documents, Entry, Files, Held, IsChosenOf, IsHeld}
+use Rattle.span_run.proofs.Names.{IsReplacing, looks_limit, most_spans, Named, names_of, NotOneVariable, PaysFor, put, queries_of, Query, refusal_text, Refused}
+use Rattle.span_run.proofs.Names.{replace_steps, replaced, ReplaceRefusal, Replaces, same_Some, Serves, Span, State, state_of, Stays, sum_of, text_at, Told}
+use Rattle.span_run.proofs.Names.{TooLong, TooManyMatches, value_of, with_documents, World, world}
 use Rattle.script_syntax.specs.declared.form.Command.TheVariants as form
-use Rattle.report_text.specs.Reply.{refusal_text}
-use Rattle.report_text.specs.declared.refusal.Refusal.TheVariants.{NotOneVariable, TooLong, TooManyMatches}
-use Rattle.span_replace.specs.Replaced.{replaced}
-use Rattle.span_types.specs.declared.tuple.Span.{Span}
-use Rattle.span_types.specs.Fibonacci.{looks_limit}
-use Rattle.span_types.specs.Query.{Query}
-use Rattle.span_types.specs.Rel.{names_of}
-use Rattle.span_language.specs.State.{Documents, State, World, put, value_of, with_documents, world, Named}
-use Rattle.span_language.specs.Allowance.{PaysFor, counters, replace_steps}
-use Rattle.span_language.specs.Step.{Carries, IsChosenOf, IsReplacing, most_spans}
-use Rattle.span_language.specs.declared.told.Told.{Told}
-use Rattle.span_language.specs.declared.told.Told.TheVariants.{Refused}
 use Rattle.span_language.specs.declared.told.Stop.TheVariants as stop
-use Rattle.edit_expr.specs.Values.{text_at}
-use Rattle.query_book.specs.Book.{queries_of}
-use Rattle.std.specs.Prelude.{option_map}
-use Rattle.span_run.specs.declared.held.Held.{Held}
 use Rattle.span_run.specs.declared.replacing.Sources.{Sources}
-use Rattle.span_run.specs.Held.{state_of, IsHeld}
-use Rattle.span_run.specs.Replacing.{AreSources, Replaces, Chooses}
-use Rattle.span_replace.specs.declared.refusal.ReplaceRefusal.{ReplaceRefusal}
-use Rattle.query_book.specs.declared.entry.Entry.{Entry}
-use Rattle.query_book.specs.Serving.{ArePartlyAt, Serves, covered_of, sum_of}
-use Rattle.span_run.specs.Answers.{Stays}
-use Rattle.span_run.specs.Site.{at}
 use Rattle.span_run.proofs.QueryLemmas.{document_is}
 use Rattle.span_run.proofs.CarryLemmas.{only_documents, part_of_paid}
 use Rattle.span_run.proofs.Goes.{placed_stops}
@@ -35,27 +16,18 @@ module _ (st : State) (files : Option Files) (number : ℕ) (name query source b
   -- the document has the text, or it would be too long
   pub replace_carries : (new : Documents) (told : Told) (reply : List ℕ) → length spans ≤ most_spans → Replaces st.documents number name (replaced text spans other) told reply new
       → Carries (world st files) number (form.ReplaceDoc name query source by) told reply (world (with_documents st new) files)
-  replace_carries new told reply few (inl (short, given, is)) =
-      subst (λ (t : Told). Carries (world st files) number (form.ReplaceDoc name query source by) t reply (world (with_documents st new) files)) (sym given.0)
-      (q, text, other, spans, asked, chosen, few, short, given.1, only_documents st (put st.documents name (replaced text spans other)) new files is)
-  replace_carries new told reply few (inr (long, refused, written, is)) =
-      subst (λ (t : Told). Carries (world st files) number (form.ReplaceDoc name query source by) t reply (world (with_documents st new) files)) (sym refused)
-      (TooLong (length (replaced text spans other)), inr (q, text, other, spans, asked, chosen, inr (few, long, refl)), written, only_documents st st.documents new files is)
+  replace_carries new told reply few (inl (short, given, is)) = rw given.0 (q, text, other, spans, asked, chosen, few, short, given.1, only_documents st (put st.documents name (replaced text spans other)) new files is)
+  replace_carries new told reply few (inr (long, refused, written, is)) = rw refused (TooLong (length (replaced text spans other)), inr (q, text, other, spans, asked, chosen, inr (few, long, refl)), written, only_documents st st.documents new files is)
 
   -- there are too many spans
   pub replace_many : (told : Told) (reply : List ℕ) → most_spans < length spans → told ≡ Refused → reply ≡ refusal_text number TooManyMatches
       → Carries (world st files) number (form.ReplaceDoc name query source by) told reply (world st files)
-  replace_many told reply many refused written =
-      subst (λ (t : Told). Carries (world st files) number (form.ReplaceDoc name query source by) t reply (world st files)) (sym refused)
-      (TooManyMatches, inr (q, text, other, spans, asked, chosen, inl (many, refl)), written, refl)
+  replace_many told reply many refused written = rw refused (TooManyMatches, inr (q, text, other, spans, asked, chosen, inl (many, refl)), written, refl)
 
   pub replace_paid : (looks more p r : ℕ) → more ≤ looks + 3 * (min (length spans) most_spans + 1) * looks_limit 1 (length text) → r ≤ p + 1770 * (min (length spans) most_spans + 1)
       → PaysFor (world st files) (form.ReplaceDoc name query source by) (counters looks p) (counters more r)
   replace_paid looks more p r looked paired =
       (replace_steps (min (length spans) most_spans) (length text), inr (q, text, other, spans, asked, chosen, refl), record { looks = looked; pairs = paired })
-
-one_query : (o : Option Query) (p q : Query) → o ≡ Some p → o ≡ Some q → p ≡ q
-one_query o p q first second = let both : Some p ≡ Some q = sym first ∙ second in cc both
 
 -- what a replacement works on, seen by its texts
 pub is_replacing : (h : Held) (files : Option Files) (query source by : List ℕ) (s : Sources) → AreSources h query source by s → (q : Query) → value_of (queries_of h.book) query ≡ Some q
@@ -64,7 +36,7 @@ is_replacing h files query source by s a q there = record {
   document = document_is h.store h.docs source s.root a.root;
   put_there = document_is h.store h.docs by s.other a.other;
   registered = there;
-  one = subst (λ (p : Query). length (names_of p) ≡ 1) (one_query (value_of (queries_of h.book) query) a.variable.query q a.variable.there there) a.variable.one;
+  one = subst (λ (p : Query). length (names_of p) ≡ 1) (same_Some a.variable.query q (sym a.variable.there ∙ there)) a.variable.one;
 }
 
 -- a choice, seen with the queries as they were before they were given tables
@@ -91,12 +63,7 @@ choose_stops h book number files faults looks more pairs p q name query source b
 pub not_one : (w : World) (query source by text other : List ℕ) (names : List (List ℕ)) (count : ℕ) → value_of w.state.documents source ≡ Some text → value_of w.state.documents by ≡ Some other → option_map names_of (value_of w.state.queries query) ≡ Some names
     → count ≡ length names → (count ≡ 1 → ⊥)
     → (s t : List ℕ) × (q : Query) × (value_of w.state.documents source ≡ Some s) × (value_of w.state.documents by ≡ Some t) × (value_of w.state.queries query ≡ Some q) × (length (names_of q) ≡ 1 → ⊥) × (NotOneVariable count ≡ NotOneVariable (length (names_of q)))
-not_one w query source by text other names count document put_there are counted other_count = at (value_of w.state.queries query) refl are
-  where
-    at : (o : Option Query) → value_of w.state.queries query ≡ o → option_map names_of o ≡ Some names
-        → (s t : List ℕ) × (q : Query) × (value_of w.state.documents source ≡ Some s) × (value_of w.state.documents by ≡ Some t) × (value_of w.state.queries query ≡ Some q) × (length (names_of q) ≡ 1 → ⊥) × (NotOneVariable count ≡ NotOneVariable (length (names_of q)))
-    at None is none = let bad : ⊥ = cc none in absurd bad
-    at (Some q) is some =
-        let same : names_of q ≡ names = cc some in
-        let number : count ≡ length (names_of q) = counted ∙ ap length (sym same) in
-        (text, other, q, document, put_there, is, (λ one. other_count (number ∙ one)), ap NotOneVariable number)
+not_one w query source by text other names count document put_there are counted other_count =
+    let q = query_of (value_of w.state.queries query) names are in
+    let number : count ≡ length (names_of q.0) = counted ∙ ap length (sym q.2) in
+    (text, other, q.0, document, put_there, q.1, (λ one. other_count (number ∙ one)), ap NotOneVariable number)

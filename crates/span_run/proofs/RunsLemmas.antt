@@ -1,26 +1,13 @@
 -- A run goes on by one line.
-use Rattle.std.proofs.Common.{◌≡◌, ◌⊎◌, ℕ, suc, ◌+◌, ◌-◌, ◌*◌, ◌≤◌, Bool, true, false, List, [], ◌∷◌, ◌++◌, length, take, refl, sym, ◌∙◌, ap, subst, arith, inl, inr, append_assoc, length-append}
-use Rattle.std.specs.Prelude.{◌||◌, Option, Some, None, IfSome}
-use Rattle.std.specs.Io.KnownBytes.{Appends}
-use Rattle.std.proofs.lemmas.List.{append-nil}
+use Rattle.std.proofs.Common.{◌≡◌, ◌⊎◌, ℕ, suc, ◌+◌, ◌-◌, ◌*◌, ◌≤◌, Bool, true, false, List, [], ◌∷◌, ◌++◌, length, take, refl, sym, ◌∙◌, ap, subst, arith, inl, inr, append_assoc, length-append, ◌||◌, Option, Some, None, IfSome}
+use Rattle.span_run.proofs.Names.{Adds, Allowance, Anywhere, append-nil, Appends, Appends-kept, Appends-nil, Appends-trans, both, both_of, Carried, Command}
+use Rattle.span_run.proofs.Names.{Counters, Halts, InFileLine, is_refused, IsDone, IsFront, IsList, IsPaid, IsStanding, IsStopped, Leaves, Means, Named}
+use Rattle.span_run.proofs.Names.{no_lines, no_steps, nodes_of, nothing, Of, Outlet, Outside, outside, pairs_of, PlacesFew, Rose, Runs, RunsAll, RunsFront}
+use Rattle.span_run.proofs.Names.{Scene, Standing, start, State, Stop, Stopped, Sum, sum_of, Told, UnlessList, World, world, world_in}
 use Rattle.std.proofs.Math.Nat.{mul-le-mul_left}
-use Rattle.edge_io.specs.Causes.{Rose}
-use Rattle.script_syntax.specs.declared.form.Command.{Command}
 use Rattle.slp_model.specs.Nodes.{pair_count}
-use Rattle.span_language.specs.State.{State, Named, World, world, nothing}
-use Rattle.query_book.specs.Serving.{sum_of}
-use Rattle.span_language.specs.Allowance.{Allowance, Counters, no_steps, both_of, IsPaid}
-use Rattle.span_language.specs.Means.{Carried, Means, Of}
-use Rattle.span_language.specs.Step.{Halts, IsList, Leaves}
-use Rattle.span_language.specs.Runs.{Adds, Runs, Sum, both, no_lines, is_refused, Outside, outside, start, IsFront, PlacesFew, Anywhere, InFileLine, UnlessList, RunsAll, RunsFront}
-use Rattle.span_language.specs.declared.told.Told.{Told}
-use Rattle.span_language.specs.declared.told.Stop.{Stop}
 use Rattle.span_language.specs.declared.told.Stop.TheVariants as stop
-use Rattle.span_run.specs.Held.{Standing, IsStanding, nodes_of, pairs_of}
-use Rattle.span_run.specs.Scene.{Scene, world_in}
-use Rattle.span_run.specs.Carried.{IsDone, IsStopped, Outlet, Stopped}
 use Rattle.span_run.proofs.PlacesLemmas.{PlacesSoFar, places_go_on, places_few, places_few_part}
-use Rattle.span_run.proofs.Written.{both_written, kept_is_none_written, nothing_written}
 
 -- what a scene and a sink tell
 abbrev pub told_of : Scene → Outlet → Outside
@@ -109,7 +96,7 @@ at_start lines before st is none new = record {
   sum = no_lines;
   ran = (refl, ap (λ (s : State). world s before.files) is);
   refused_is = refl;
-  wrote = nothing_written before.written;
+  wrote = Appends-nil before.written;
   paid = none_paid before.counters;
   dropped = 0;
   placed = subst (λ (l : Named ℕ). (n : ℕ) → nodes_of st ≤ n → before.places + n * length l ≤ before.places + sum_of l + (n + 0) * 0) (sym none) (λ n le. omega arith);
@@ -147,7 +134,7 @@ module _ (lines left rest : List (List ℕ)) (line : List ℕ) (number : ℕ) (r
         sum = both at.sum one;
         ran = one_more (start before) 1 at.done at.sum (world_in old) line one (world_in new) at.ran (subst (λ (k : ℕ). Adds (world_in old) k line one (world_in new)) at.counted adds);
         refused_is = ap (λ (b : Bool). b || is_refused told) at.refused_is;
-        wrote = both_written before.written sink.written after.written at.sum.output d.finishes.0 at.wrote d.finishes.2;
+        wrote = Appends-trans before.written sink.written after.written at.sum.output d.finishes.0 at.wrote d.finishes.2;
         paid = both_paid at.sum.cost d.paid.0 before.counters (told_of old sink).counters (told_of new after).counters at.paid d.paid.2;
         dropped = at.dropped + d.tallies.dropped;
         placed = places_go_on at.sum.queries at.dropped d.tallies.queries d.tallies.dropped old.standing new.standing before.places old.places new.places d.tallies.nodes at.placed d.tallies.placed;
@@ -166,8 +153,8 @@ module _ (lines left rest : List (List ℕ)) (line : List ℕ) (number : ℕ) (r
   part_is_front meaning (inr (told, reply, carried, (n, wrote))) = inr (told, reply, world_in new, n, subst (λ (k : ℕ). Carried (world_in old) k meaning told reply (world_in new)) at.counted carried, refl)
 
   part_written : (meaning : Option Command) (h : HaltsAt meaning) → Appends before.written after.written (at.sum.output ++ part_of meaning h)
-  part_written meaning (inl kept) = both_written before.written sink.written after.written at.sum.output [] at.wrote (kept_is_none_written sink.written after.written kept.written)
-  part_written meaning (inr (told, reply, carried, (n, wrote))) = both_written before.written sink.written after.written at.sum.output (take n reply) at.wrote wrote
+  part_written meaning (inl kept) = Appends-trans before.written sink.written after.written at.sum.output [] at.wrote (Appends-kept sink.written sink.written after.written [] (Appends-nil sink.written) kept.written)
+  part_written meaning (inr (told, reply, carried, (n, wrote))) = Appends-trans before.written sink.written after.written at.sum.output (take n reply) at.wrote wrote
 
   -- a run that is stopped in this line
   stops : (Ends : Option Command → List ℕ → Type 0) (why : Stop) (meaning : Option Command) → IsStanding old.standing → IsStanding new.standing → Means line meaning → Stopped number meaning old sink new after why → (h : HaltsAt meaning) → Ends meaning (part_of meaning h)
@@ -258,7 +245,7 @@ none_ran Ends lines before ends = record {
   part = [];
   last = no_steps;
   next = inl (refl, refl, refl, ends);
-  wrote = nothing_written before.written;
+  wrote = Appends-nil before.written;
   paid = none_paid before.counters;
   placed = omega arith;
 }

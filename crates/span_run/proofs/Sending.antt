@@ -1,30 +1,12 @@
 -- A reply that was sent, or wasn't, and lines that do nothing.
 use Rattle.std.proofs.Common.{◌≡◌, ◌∙◌, ◌≤◌, ℕ, [], Option, Some, None, inl, inr, refl, sym, subst, arith, length, List}
-use Rattle.edge_io.specs.Files.{Files}
-use Rattle.report_text.specs.Reply.{refusal_text}
-use Rattle.report_text.specs.declared.refusal.Refusal.TheVariants.{Syntax}
-use Rattle.script_syntax.specs.declared.form.Command.{Command}
+use Rattle.span_run.proofs.Names.{Answer, Answers, Appends-nil, at, Carried, Carries, Command, Compacts, covered_of, Done, Files, Finishes, Goes, Held}
+use Rattle.span_run.proofs.Names.{IsAnswering, IsHeld, IsList, IsRefused, IsRefusedFreely, IsSent, IsUnsent, Keeps-refl, Leaves, no_steps, Of, Outlet, Passes}
+use Rattle.span_run.proofs.Names.{Quiet, Refusal, refusal_text, Refused, Registers, Replies, scene, seen, Site, standing_of, state_of, Stays, Stop, Stopped}
+use Rattle.span_run.proofs.Names.{Syntax, Tallies, Told, World, world, world_at}
 use Rattle.script_syntax.specs.declared.form.Command.TheVariants as form
-use Rattle.query_book.specs.Serving.{covered_of}
-use Rattle.span_language.specs.State.{world, World}
-use Rattle.span_language.specs.Allowance.{no_steps}
-use Rattle.span_language.specs.Counts.{Compacts, Registers}
-use Rattle.span_language.specs.Means.{Carried, Of, Replies}
-use Rattle.span_language.specs.Step.{Finishes, IsList, Leaves, Carries, IsRefused}
-use Rattle.span_language.specs.declared.told.Told.{Told}
-use Rattle.span_language.specs.declared.told.Told.TheVariants.{Quiet, Refused}
-use Rattle.span_language.specs.declared.told.Stop.{Stop}
 use Rattle.span_language.specs.declared.told.Stop.TheVariants as stop
-use Rattle.span_run.specs.declared.answer.Answer.{Answer}
-use Rattle.span_run.specs.declared.held.Held.{Held}
-use Rattle.span_run.specs.Held.{IsHeld, standing_of, state_of}
-use Rattle.span_run.specs.Site.{Site, world_at, at}
-use Rattle.span_run.specs.Scene.{Tallies, scene, seen}
-use Rattle.span_run.specs.Answers.{Goes, Answers, IsAnswering, Stays}
-use Rattle.span_run.specs.Carried.{Outlet, Passes, Done, Stopped, IsSent, IsUnsent}
-use Rattle.report_text.specs.declared.refusal.Refusal.{Refusal}
-use Rattle.span_run.specs.Refusing.{IsRefusedFreely}
-use Rattle.span_run.proofs.Written.{kept_same, nothing_front, nothing_written}
+use Rattle.span_run.proofs.Written.{nothing_front}
 use Rattle.span_run.proofs.CarryLemmas.{none_paid}
 use Rattle.span_run.proofs.PlacesLemmas.{none_placed, none_placed_part}
 use Rattle.span_run.proofs.BookLemmas.{covered-within}
@@ -76,7 +58,7 @@ pub stays_stopped : (old new : Site) (number : ℕ) (command : Command) (before 
 stays_stopped old new number command before why answering s = record {
   passes = passes_of old new command before before s.goes (omega arith) (omega arith);
   halts = elim s.state [
-    | inl same ↦ inl (record { written = kept_same before.written; state = same })
+    | inl same ↦ inl (record { written = Keeps-refl before.written; state = same })
     | inr more ↦ inr (more.1.0, more.1.1, more.1.2, nothing_front before.written more.1.1)
   ];
   fault = λ is. absurd (s.sink is);
@@ -84,7 +66,7 @@ stays_stopped old new number command before why answering s = record {
     file.0,
     file.1,
     elim s.state [
-      | inl same ↦ record { written = kept_same before.written; state = same }
+      | inl same ↦ record { written = Keeps-refl before.written; state = same }
       | inr more ↦ absurd (more.0 file.0)
     ],
   );
@@ -94,7 +76,7 @@ stays_stopped old new number command before why answering s = record {
 -- a command that was stopped before it wrote anything
 pub unstarted : (old new : Site) (number : ℕ) (command : Command) (before : Outlet) → Goes old command new → state_of new.held ≡ state_of old.held → Stopped number (Some command) (scene old) before (scene new) before stop.NoMemory
 unstarted old new number command before goes same =
-    let left : Leaves (world_at old) before.written before.written (world_at new) = record { written = kept_same before.written; state = same } in
+    let left : Leaves (world_at old) before.written before.written (world_at new) = record { written = Keeps-refl before.written; state = same } in
     record {
       passes = passes_of old new command before before goes (omega arith) (omega arith);
       halts = inl left;
@@ -128,7 +110,7 @@ pub not_begun : (number : ℕ) (meaning : Option Command) (h : Held) (files : Op
     → Stopped number meaning (seen (standing_of h) files faults looks pairs places) before (seen (standing_of h) files faults looks pairs places) before stop.NoMemory
 not_begun number meaning h files faults looks pairs places before is =
     let here = world (state_of h) files in
-    let left : Leaves here before.written before.written here = record { written = kept_same before.written; state = refl } in
+    let left : Leaves here before.written before.written here = record { written = Keeps-refl before.written; state = refl } in
     record {
       passes = passes_by meaning h files faults looks pairs places before before is (omega arith) (omega arith);
       halts = inl left;
@@ -141,7 +123,7 @@ pub quiet_done : (number : ℕ) (h : Held) (files : Option Files) (faults looks 
     → Done number (Some form.Nothing) (seen (standing_of h) files faults looks pairs places) before (seen (standing_of h) files faults looks pairs places) before Quiet
 quiet_done number h files faults looks pairs places before is = record {
   passes = passes_by (Some form.Nothing) h files faults looks pairs places before before is (omega arith) (omega arith);
-  finishes = ([], (refl, refl, refl), nothing_written before.written);
+  finishes = ([], (refl, refl, refl), Appends-nil before.written);
   paid = (no_steps, refl, none_paid looks pairs pairs refl);
   tallies = calm_tallied (Registers form.Nothing) (Compacts form.Nothing) Quiet h files faults looks pairs places (λ no. no) (λ no. no);
 }

@@ -1,31 +1,15 @@
 -- What is held when the nodes that nothing reaches are gone.
 use Rattle.std.proofs.Common.{◌≡◌, ◌∙◌, ◌+◌, ◌-◌, ◌*◌, ◌≤◌, ℕ, zero, suc, Bool, true, false, List, [], ◌∷◌, length, map, Option, inl, inr, refl, sym, ap, subst, arith}
-use Rattle.std.specs.List.{AllByRecursion}
-use Rattle.std.proofs.lemmas.List.Sums.{sum_by-cons}
-use Rattle.edge_io.specs.Files.{Files}
-use Rattle.slp_model.specs.declared.Node.{Node}
+use Rattle.slp_model.proofs.RankLemmas.{rank-most}
+use Rattle.span_run.proofs.Names.{Accepted, AllByRecursion, Answer, Answers, at, Carries, Compacts, covered_of, Doc, Entry, Files, Held, IsHeld, Named}
+use Rattle.span_run.proofs.Names.{no_steps, Node, ok_text, pair_weight, Places, queries_of, Registers, Serves, State, state_of, sum_by-cons, sum_of, Told}
+use Rattle.span_run.proofs.Names.{world}
 use Rattle.slp_model.specs.declared.Node.TheVariants.{Byte, Pair}
-use Rattle.slp_model.specs.Nodes.{pair_count, pair_weight}
+use Rattle.slp_model.specs.Nodes.{pair_count}
 use Rattle.slp_model.specs.Thin.{kept_of, rank, renumbered}
-use Rattle.doc_book.specs.declared.Doc.{Doc}
 use Rattle.doc_compact.specs.Compacted.{IsCompacted}
-use Rattle.query_book.specs.declared.entry.Entry.{Entry}
-use Rattle.query_book.specs.Book.{queries_of}
-use Rattle.query_book.specs.Serving.{Serves, covered_of, sum_of}
 use Rattle.query_book.specs.Renumbering.{ranked}
 use Rattle.script_syntax.specs.declared.form.Command.TheVariants as form
-use Rattle.span_language.specs.State.{Named, State, world}
-use Rattle.span_language.specs.Allowance.{no_steps}
-use Rattle.span_language.specs.Counts.{Compacts, Places, Registers}
-use Rattle.span_language.specs.Replies.{ok_text}
-use Rattle.span_language.specs.Step.{Carries}
-use Rattle.span_language.specs.declared.told.Told.{Told}
-use Rattle.span_language.specs.declared.told.Told.TheVariants.{Accepted}
-use Rattle.span_run.specs.declared.answer.Answer.{Answer}
-use Rattle.span_run.specs.declared.held.Held.{Held}
-use Rattle.span_run.specs.Held.{IsHeld, state_of}
-use Rattle.span_run.specs.Site.{at}
-use Rattle.span_run.specs.Answers.{Answers}
 use Rattle.span_run.proofs.BookLemmas.{covered-within}
 use Rattle.span_run.proofs.CarryLemmas.{none_paid, not_begun}
 use Rattle.span_run.proofs.Goes.{never, once_accepted}
@@ -36,13 +20,7 @@ rank-gap : (keep : List Bool) (i n : ℕ) → i ≤ n → n ≤ length keep → 
 rank-gap keep zero zero le long = omega arith
 rank-gap keep (suc i) zero le long = let bad : ⊥ = omega (arith, le) in absurd bad
 rank-gap [] i (suc n) le long = let bad : ⊥ = omega (arith, long) in absurd bad
-rank-gap (b ∷ bs) zero (suc n) le long = omega (arith, rank-few (b ∷ bs) (suc n))
-  where
-    rank-few : (ks : List Bool) (m : ℕ) → rank ks m ≤ m
-    rank-few ks zero = omega arith
-    rank-few [] (suc m) = omega arith
-    rank-few (true ∷ ks) (suc m) = omega (arith, rank-few ks m)
-    rank-few (false ∷ ks) (suc m) = omega (arith, rank-few ks m)
+rank-gap (b ∷ bs) zero (suc n) le long = omega (arith, rank-most (b ∷ bs) (suc n))
 rank-gap (b ∷ bs) (suc i) (suc n) le long = omega (arith, rank-gap bs i n (omega (arith, le)) (omega (arith, long)))
 
 pair-more : (n : Node) (ns : List Node) → pair_count (n ∷ ns) ≡ pair_weight n + pair_count ns

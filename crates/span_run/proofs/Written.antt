@@ -1,37 +1,15 @@
 -- What a sink holds after several writes.
-use Rattle.std.proofs.Common.{◌≡◌, length, arith, ℕ, ◌+◌, ◌≤◌, List, [], ◌++◌, take, drop, refl, sym, ◌∙◌, ap, subst, append_assoc}
-use Rattle.std.specs.Prelude.{Option, Some, None, min}
-use Rattle.span_language.specs.Step.{AppendsFront}
-use Rattle.std.specs.Io.KnownBytes.{Appends, Keeps}
-use Rattle.std.proofs.Math.Seq.{take-add, take-append-add, take-append_seam}
-use Rattle.std.proofs.lemmas.List.{append-nil, take-append-le, take_min}
-
-pub both_written : (a b c : Option (List ℕ)) (xs ys : List ℕ) → Appends a b xs → Appends b c ys → Appends a c (xs ++ ys)
-both_written None b c xs ys first second = tt
-both_written (Some a) None c xs ys first second = absurd first
-both_written (Some a) (Some b) None xs ys first second = absurd second
-both_written (Some a) (Some b) (Some c) xs ys first second = second ∙ ap (λ (l : List ℕ). l ++ ys) first ∙ append_assoc a xs ys
-
-pub kept_is_none_written : (a b : Option (List ℕ)) → Keeps a b → Appends a b []
-kept_is_none_written None b kept = tt
-kept_is_none_written (Some a) None kept = absurd kept
-kept_is_none_written (Some a) (Some b) kept = kept ∙ sym (append-nil a)
-
-pub kept_same : (w : Option (List ℕ)) → Keeps w w
-kept_same None = tt
-kept_same (Some xs) = refl
-
-pub nothing_written : (w : Option (List ℕ)) → Appends w w []
-nothing_written None = tt
-nothing_written (Some xs) = sym (append-nil xs)
+use Rattle.std.proofs.Common.{◌≡◌, length, arith, ℕ, ◌+◌, ◌≤◌, List, [], ◌++◌, take, drop, refl, sym, ◌∙◌, ap, subst, append_assoc, Option, min}
+use Rattle.span_run.proofs.Names.{append-nil, Appends, Appends-nil, Appends-trans, AppendsFront, take-add, take-append-add, take-append-le}
+use Rattle.span_run.proofs.Names.{take-append_seam, take_min}
 
 -- nothing is a front of anything
 pub nothing_front : (w : Option (List ℕ)) (reply : List ℕ) → AppendsFront w w reply
-nothing_front w reply = (0, nothing_written w)
+nothing_front w reply = (0, Appends-nil w)
 
 pub more_of_piece : (a b c : Option (List ℕ)) (piece : List ℕ) (done n : ℕ) → Appends a b (take done piece) → Appends b c (take n (drop done piece)) → Appends a c (take (done + n) piece)
 more_of_piece a b c piece done n first second =
-    subst (λ (l : List ℕ). Appends a c l) (sym (take-add done n piece)) (both_written a b c (take done piece) (take n (drop done piece)) first second)
+    subst (λ (l : List ℕ). Appends a c l) (sym (take-add done n piece)) (Appends-trans a b c (take done piece) (take n (drop done piece)) first second)
 
 -- a front of a piece, behind the pieces before it, is a front of the whole
 pub front_of_whole : (a b c : Option (List ℕ)) (before piece after whole : List ℕ) → whole ≡ before ++ piece ++ after
@@ -43,7 +21,7 @@ front_of_whole a b c before piece after whole is first (n, second) =
     ap (λ (l : List ℕ). take m l) (is ∙ append_assoc before piece after)
     ∙ take-append-add before (piece ++ after) (min n (length piece))
     ∙ ap (λ (l : List ℕ). before ++ l) (take-append-le (min n (length piece)) piece after few ∙ take_min n piece)
-    in (m, subst (λ (l : List ℕ). Appends a c l) (sym front) (both_written a b c before (take n piece) first second))
+    in (m, subst (λ (l : List ℕ). Appends a c l) (sym front) (Appends-trans a b c before (take n piece) first second))
 
 -- and so is what stands before the piece
 pub before_of_whole : (a b : Option (List ℕ)) (before rest whole : List ℕ) → whole ≡ before ++ rest → Appends a b before → AppendsFront a b whole
@@ -54,10 +32,10 @@ abbrev pub IsListing : Option (List ℕ) → Option (List ℕ) → List ℕ → 
 IsListing a b left whole = (done : List ℕ) × Appends a b done × (whole ≡ done ++ left)
 
 pub listing_starts : (a : Option (List ℕ)) (whole : List ℕ) → IsListing a a whole whole
-listing_starts a whole = ([], nothing_written a, refl)
+listing_starts a whole = ([], Appends-nil a, refl)
 
 pub listing_goes_on : (a b c : Option (List ℕ)) (piece left whole : List ℕ) → IsListing a b (piece ++ left) whole → Appends b c piece → IsListing a c left whole
-listing_goes_on a b c piece left whole (done, before, is) wrote = (done ++ piece, both_written a b c done piece before wrote, is ∙ sym (append_assoc done piece left))
+listing_goes_on a b c piece left whole (done, before, is) wrote = (done ++ piece, Appends-trans a b c done piece before wrote, is ∙ sym (append_assoc done piece left))
 
 pub listing_waits : (a b : Option (List ℕ)) (left whole : List ℕ) → IsListing a b left whole → AppendsFront a b whole
 listing_waits a b left whole (done, before, is) = before_of_whole a b done left whole is before

@@ -1,10 +1,5 @@
 use Rattle.std.proofs.Common.{rules, Some, sym, subst}
-use Rattle.script_syntax.specs.declared.form.Command.{Command}
-use Rattle.span_language.specs.declared.told.Told.TheVariants.{Quiet}
-use Rattle.span_run.specs.Answers.{IsWellFormed}
-use Rattle.span_run.specs.Carried.{Done, outlet}
-use Rattle.span_run.specs.Held.{standing_of}
-use Rattle.span_run.specs.Scene.{seen}
+use Rattle.span_run.proofs.Names.{Command, Done, IsWellFormed, outlet, Quiet, seen, standing_of}
 use Rattle.span_run.proofs.Sending.{quiet_done, is_answering}
 use Rattle.span_run.proofs.carrying.carry.Goals as goal
 

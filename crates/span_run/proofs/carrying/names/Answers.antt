@@ -1,12 +1,6 @@
 use Rattle.std.proofs.Common.{inl, inr, refl, Some}
-use Rattle.std.proofs.lemmas.Result.{err_from_is_err_and}
-use Rattle.edit_expr.specs.Values.{plain}
+use Rattle.span_run.proofs.Names.{Accepted, Compacts, err_from_is_err_and, names_text, no_steps, outlet, plain, Registers}
 use Rattle.script_syntax.specs.declared.form.Command.TheVariants as form
-use Rattle.span_language.specs.Allowance.{no_steps}
-use Rattle.span_language.specs.Counts.{Compacts, Registers}
-use Rattle.span_language.specs.Replies.{names_text}
-use Rattle.span_language.specs.declared.told.Told.TheVariants.{Accepted}
-use Rattle.span_run.specs.Carried.{outlet}
 use Rattle.span_run.proofs.CarryLemmas.{none_paid}
 use Rattle.span_run.proofs.Sending.{calm_tallied, passes_by}
 use Rattle.span_run.proofs.carrying.names.Goals as goal

@@ -1,6 +1,4 @@
-use Rattle.std.proofs.lemmas.Result.{err_from_is_err_and}
-use Rattle.span_run.specs.Site.{at}
-use Rattle.span_run.proofs.CarryLemmas.{if_err_map}
+use Rattle.span_run.proofs.Names.{at, err_from_is_err_and, IfErr-weaker}
 use Rattle.span_run.proofs.Goes.{if_ok_both}
 use Rattle.span_run.proofs.Sending.{answer_done, answer_stopped, replies, stays_stopped}
 use Rattle.span_run.proofs.carrying.reply.Goals as goal
@@ -28,5 +26,5 @@ returns g c =
     record {
       held = a.ensures.done.goes.held;
       done = if_ok_both c.send.result _ _ _ (λ told is sent. answer_done old new c.args.context.number c.args.command a.answer _ _ told a.ensures.done is sent) c.send.ensures.told c.send.ensures.done;
-      stopped = if_err_map c.send.result _ _ (λ why unsent. answer_stopped old new c.args.context.number c.args.command a.answer _ _ why (replies c.args.command c.requires.answering) a.ensures.done unsent) c.send.ensures.stopped;
+      stopped = IfErr-weaker c.send.result _ _ (λ why unsent. answer_stopped old new c.args.context.number c.args.command a.answer _ _ why (replies c.args.command c.requires.answering) a.ensures.done unsent) c.send.ensures.stopped;
     }

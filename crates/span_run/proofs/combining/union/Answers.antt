@@ -1,10 +1,6 @@
 use Rattle.std.proofs.Common.{◌≡◌, ◌∙◌, ap, List, ℕ, refl}
-use Rattle.report_text.specs.Reply.{query_text}
+use Rattle.span_run.proofs.Names.{names_of, queries_of, query_text, state_of, Union}
 use Rattle.script_syntax.specs.declared.form.Command.TheVariants as form
-use Rattle.span_types.specs.Query.{Union}
-use Rattle.span_types.specs.Rel.{names_of}
-use Rattle.query_book.specs.Book.{queries_of}
-use Rattle.span_run.specs.Held.{state_of}
 use Rattle.span_run.proofs.Combined.{combined_answers, combined_stops, is_there, made, pair_does, pair_refused, uncombined_answers, uncombined_stops}
 use Rattle.span_run.proofs.Goes.{passed_on, stays}
 use Rattle.span_run.proofs.combining.union.Goals as goal

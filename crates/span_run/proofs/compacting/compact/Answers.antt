@@ -1,11 +1,7 @@
 use Rattle.std.proofs.Common.{◌∙◌, ap, sym, subst, List}
-use Rattle.slp_model.specs.declared.Node.{Node}
-use Rattle.doc_book.specs.declared.Doc.{Doc}
+use Rattle.span_run.proofs.Names.{at, Doc, Named, Node, Stays}
 use Rattle.script_syntax.specs.declared.form.Command.TheVariants as form
-use Rattle.span_language.specs.State.{Named}
 use Rattle.span_language.specs.declared.told.Stop.TheVariants as stop
-use Rattle.span_run.specs.Site.{at}
-use Rattle.span_run.specs.Answers.{Stays}
 use Rattle.span_run.proofs.Thinned.{compact_answers}
 use Rattle.span_run.proofs.Goes.{passed_on, stays}
 use Rattle.span_run.proofs.compacting.compact.Goals as goal

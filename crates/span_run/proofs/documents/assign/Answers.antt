@@ -1,8 +1,5 @@
 use Rattle.std.proofs.Common.{ap, ◌∙◌}
-use Rattle.std.proofs.lemmas.Result.{err_from_is_err_and}
-use Rattle.edit_expr.specs.Eval.{eval}
-use Rattle.edit_expr.specs.Values.{plain, text_at}
-use Rattle.edit_expr.proofs.EvalLemmas.{AreLive-grows, plain-grows}
+use Rattle.span_run.proofs.Names.{AreLive-grows, err_from_is_err_and, eval, plain, plain-grows, text_at}
 use Rattle.span_run.proofs.CarryLemmas.{assigned_value, assigned_refusal}
 use Rattle.span_run.proofs.documents.assign.Goals as goal
 

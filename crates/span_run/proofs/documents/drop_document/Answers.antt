@@ -1,10 +1,7 @@
-use Rattle.std.proofs.Common.{◌∙◌, sym, ap, subst, refl, List, ℕ}
-use Rattle.std.specs.Prelude.{IsSome}
-use Rattle.doc_book.specs.declared.Doc.{Doc}
+use Rattle.std.proofs.Common.{◌∙◌, sym, ap, subst, refl, List, ℕ, IsSome}
+use Rattle.span_run.proofs.Names.{AreLive, Doc, plain, state_of, text_at}
 use Rattle.doc_book.specs.Docs as book
-use Rattle.edit_expr.specs.Values.{AreLive, plain, text_at}
 use Rattle.script_syntax.specs.declared.form.Command.TheVariants as form
-use Rattle.span_run.specs.Held.{state_of}
 use Rattle.span_run.proofs.HeldLemmas.{AreLive-taken_out, plain-taken_out}
 use Rattle.span_run.proofs.BookLemmas.{some_value}
 use Rattle.span_run.proofs.CarryLemmas.{drop_carries}

@@ -1,5 +1,5 @@
 use Rattle.std.proofs.Common.{sym, ap, subst, ◌∙◌}
-use Rattle.edit_expr.specs.Values.{AreLive, plain}
+use Rattle.span_run.proofs.Names.{AreLive, plain}
 use Rattle.span_run.proofs.HeldLemmas.{AreLive-put, plain-put}
 use Rattle.span_run.proofs.documents.give.Goals as goal
 

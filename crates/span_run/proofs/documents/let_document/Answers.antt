@@ -1,11 +1,6 @@
 use Rattle.std.proofs.Common.{arith, refl, sym, subst, List, ℕ, rules, inl}
-use Rattle.edit_expr.specs.declared.expr.Expr.{Expr}
-use Rattle.edit_expr.specs.Expressions.{ExprReads}
-use Rattle.edit_expr.specs.Values.{plain}
+use Rattle.span_run.proofs.Names.{counters, Expr, ExprReads, plain, state_of, world}
 use Rattle.script_syntax.specs.declared.form.Command.TheVariants as form
-use Rattle.span_language.specs.State.{world}
-use Rattle.span_language.specs.Allowance.{counters}
-use Rattle.span_run.specs.Held.{state_of}
 use Rattle.span_run.proofs.CarryLemmas.{let_carries, let_paid, part_of_paid}
 use Rattle.span_run.proofs.Goes.{grown_answers, grown_stops, passed_on, stays}
 use Rattle.span_run.proofs.documents.let_document.Goals as goal

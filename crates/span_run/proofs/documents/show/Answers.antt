@@ -1,12 +1,7 @@
 use Rattle.std.proofs.Common.{refl, sym, ap, ◌∙◌, Err}
 use Rattle.doc_book.specs.Docs as book
-use Rattle.edit_expr.specs.Values.{text_at}
+use Rattle.span_run.proofs.Names.{NoSuchDocument, option_map_or, shown_range, state_of, text_at, world}
 use Rattle.script_syntax.specs.declared.form.Command.TheVariants as form
-use Rattle.span_language.specs.State.{world}
-use Rattle.std.specs.Option.{option_map_or}
-use Rattle.span_language.specs.Replies.{shown_range}
-use Rattle.report_text.specs.declared.refusal.Refusal.TheVariants.{NoSuchDocument}
-use Rattle.span_run.specs.Held.{state_of}
 use Rattle.span_run.proofs.HeldLemmas.{live_root}
 use Rattle.span_run.proofs.CarryLemmas.{show_carries, some_of_ok, none_of_err}
 use Rattle.span_run.proofs.QueryLemmas.{document_is, document_lacks}

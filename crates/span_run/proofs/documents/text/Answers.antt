@@ -1,13 +1,6 @@
 use Rattle.std.proofs.Common.{◌≡◌, ◌∙◌, ◌≤◌, ◌+◌, ◌*◌, List, ℕ, length, refl, ap, subst, arith}
-use Rattle.slp_model.specs.Tree.{root_text}
-use Rattle.slp_model.proofs.ShapeLemmas.{shape-text}
-use Rattle.span_types.specs.Fibonacci.{height_limit}
-use Rattle.edit_expr.specs.Values.{plain, text_at}
-use Rattle.edit_expr.proofs.EvalLemmas.{AreLive-grows, plain-grows}
+use Rattle.span_run.proofs.Names.{AreLive-grows, counters, height_limit, PaysFor, plain, plain-grows, root_text, shape-text, state_of, text_at, world}
 use Rattle.script_syntax.specs.declared.form.Command.TheVariants as form
-use Rattle.span_language.specs.State.{world}
-use Rattle.span_language.specs.Allowance.{PaysFor, counters}
-use Rattle.span_run.specs.Held.{state_of}
 use Rattle.span_run.proofs.CarryLemmas.{assigned_after, load_paid, part_of_paid, text_carries}
 use Rattle.span_run.proofs.Goes.{grown_answers, grown_stops, passed_on}
 use Rattle.span_run.proofs.documents.text.Goals as goal

@@ -1,20 +1,13 @@
-use Rattle.std.proofs.Common.{◌≡◌, ◌∙◌, ◌+◌, ◌++◌, ◌∷◌, [], List, ℕ, suc, sym, ap, subst, arith, codes}
-use Rattle.std.proofs.lemmas.Result.{err_from_is_err_and}
-use Rattle.std.proofs.lemmas.List.{append-nil}
-use Rattle.std.specs.Io.KnownBytes.{Appends}
-use Rattle.report_text.specs.Reply.{name_text}
-use Rattle.edit_expr.specs.Values.{plain, text_at}
-use Rattle.span_language.specs.Replies.{entry_text, names_text}
-use Rattle.span_language.specs.Step.{AppendsFront}
+use Rattle.std.proofs.Common.{◌≡◌, ◌∙◌, ◌+◌, ◌++◌, ◌∷◌, [], List, ℕ, sym, ap, subst, arith, codes}
+use Rattle.span_run.proofs.Names.{append-nil, Appends, AppendsFront, entry_text, err_from_is_err_and, live-at, name_text, names_text, plain, text_at}
 use Rattle.span_run.proofs.Written.{IsListing, listing_goes_on, listing_waits, listing_stops}
-use Rattle.span_run.proofs.HeldLemmas.{live_at}
 use Rattle.span_run.proofs.CarryLemmas.{names_rest, names_rest-next, names_rest-end}
 use Rattle.span_run.proofs.documents.write_names.Given as given
 use Rattle.span_run.proofs.documents.write_names.Goals as goal
 use Rattle.span_run.proofs.documents.write_names.Goals.{After-offer}
 
 pub root_len-len-requires : goal.root_len-len-requires
-root_len-len-requires g c = live_at c.args.store.now c.args.docs.now c.loop-place.place (record { name = c.at-root.result.0.now; root = c.at-root.result.1 }) c.requires c.at-root.ensures
+root_len-len-requires g c = live-at c.args.store.now c.args.docs.now c.loop-place.place (record { name = c.at-root.result.0.now; root = c.at-root.result.1 }) c.requires c.at-root.ensures
 
 pub returns-in_err-name_line-clause-stopped : goal.returns-in_err-name_line-clause-stopped
 returns-in_err-name_line-clause-stopped g c =
@@ -23,7 +16,7 @@ returns-in_err-name_line-clause-stopped g c =
 
 -- the listing so far, cut at this document's line
 so_far : (g : given.Over) (c : After-offer g) → IsListing (g.K.Sink.written c.args.out.now) (g.K.Sink.written c.loop-place.out)
-    (entry_text (c.at-root.result.0.now, text_at c.args.store.now c.at-root.result.1) ++ names_rest c.args.store.now c.args.docs.now (suc c.loop-place.place)) (names_text (plain c.args.store.now c.args.docs.now))
+    (entry_text (c.at-root.result.0.now, text_at c.args.store.now c.at-root.result.1) ++ names_rest c.args.store.now c.args.docs.now (c.loop-place.place + 1)) (names_text (plain c.args.store.now c.args.docs.now))
 so_far g c =
     subst (λ (l : List ℕ). IsListing (g.K.Sink.written c.args.out.now) (g.K.Sink.written c.loop-place.out) l (names_text (plain c.args.store.now c.args.docs.now)))
     (names_rest-next c.args.store.now c.args.docs.now c.loop-place.place (record { name = c.at-root.result.0.now; root = c.at-root.result.1 }) c.at-root.ensures) c.loop-place.invariant.so_far
@@ -46,10 +39,8 @@ loop-place-preserved g c =
     let a = g.K.Sink.written c.args.out.now in
     let b = g.K.Sink.written c.loop-place.out in
     let d = g.K.Sink.written c.offer.new.out in
-    let next : suc c.loop-place.place ≡ c.loop-place.place + 1 = omega arith in
     record {
-      so_far = subst (λ (k : ℕ). IsListing a d (names_rest c.args.store.now c.args.docs.now k) (names_text (plain c.args.store.now c.args.docs.now))) next
-          (listing_goes_on a b d _ _ _ (so_far g now) (subst (λ (l : List ℕ). Appends b d l) (line_is g now) c.in_ok-offer.ensures.done));
+      so_far = listing_goes_on a b d _ _ _ (so_far g now) (subst (λ (l : List ℕ). Appends b d l) (line_is g now) c.in_ok-offer.ensures.done);
       later = omega (arith, c.loop-place.invariant.later, c.offer.ensures.later);
       wants_later = omega (arith, c.loop-place.invariant.wants_later, c.offer.ensures.wants_later);
     }

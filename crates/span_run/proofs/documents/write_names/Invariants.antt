@@ -1,6 +1,5 @@
 use Rattle.std.proofs.Common.{◌≤◌}
-use Rattle.edit_expr.specs.Values.{plain}
-use Rattle.span_language.specs.Replies.{names_text}
+use Rattle.span_run.proofs.Names.{names_text, plain}
 use Rattle.span_run.proofs.Written.{IsListing}
 use Rattle.span_run.proofs.CarryLemmas.{names_rest}
 use Rattle.span_run.proofs.documents.write_names.Given as goal

@@ -1,10 +1,10 @@
 use Rattle.std.proofs.Common.{arith}
-use Rattle.span_run.proofs.HeldLemmas.{live_at}
+use Rattle.span_run.proofs.Names.{live-at}
 use Rattle.span_run.proofs.EveryLemmas.{short_all, short_next}
 use Rattle.span_run.proofs.every.check_lengths.Goals as goal
 
 pub root_len-len-requires : goal.root_len-len-requires
-root_len-len-requires c = live_at c.args.store.now c.args.docs.now c.loop-place.place (record { name = c.at-root.result.0.now; root = c.at-root.result.1 }) c.requires c.at-root.ensures
+root_len-len-requires c = live-at c.args.store.now c.args.docs.now c.loop-place.place (record { name = c.at-root.result.0.now; root = c.at-root.result.1 }) c.requires c.at-root.ensures
 
 pub loop-place-preserved : goal.loop-place-preserved
 loop-place-preserved c =

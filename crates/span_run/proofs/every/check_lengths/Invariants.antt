@@ -1,7 +1,5 @@
-use Rattle.std.proofs.Common.{◌≡◌, ℕ, ◌<◌, ◌≤◌, ◌^◌, length, Some}
-use Rattle.std.specs.Prelude.{slice_get}
-use Rattle.doc_book.specs.declared.Doc.{Doc}
-use Rattle.edit_expr.specs.Values.{text_at}
+use Rattle.std.proofs.Common.{◌≡◌, ℕ, ◌<◌, ◌≤◌, ◌^◌, length, Some, slice_get}
+use Rattle.span_run.proofs.Names.{Doc, text_at}
 use Rattle.span_run.proofs.every.check_lengths.Given as goal
 
 abbrev pub invariant-loop-place : goal.invariant-loop-place

@@ -1,4 +1,4 @@
-use Rattle.query_book.specs.Book.{queries_of}
+use Rattle.span_run.proofs.Names.{queries_of}
 use Rattle.span_run.proofs.EveryLemmas.{registered}
 use Rattle.span_run.proofs.every.has_query.Goals as goal
 

@@ -1,16 +1,8 @@
 use Rattle.std.proofs.Common.{refl, Option}
-use Rattle.std.proofs.lemmas.Result.{err_from_is_err_and}
-use Rattle.edge_io.specs.Files.{Files}
-use Rattle.report_text.specs.declared.refusal.Refusal.TheVariants.{NoSuchQuery}
+use Rattle.span_run.proofs.Names.{at, err_from_is_err_and, Files, IsRefusedFreely, NoSuchQuery, outlet}
 use Rattle.script_syntax.specs.declared.form.Command.TheVariants as form
-use Rattle.span_language.specs.State.{world}
-use Rattle.span_run.specs.Carried.{outlet}
-use Rattle.span_run.specs.Held.{state_of}
-use Rattle.span_run.specs.Refusing.{IsRefusedFreely}
-use Rattle.span_run.specs.Site.{at}
-use Rattle.span_run.proofs.CarryLemmas.{not_begun}
 use Rattle.span_run.proofs.Listings.{every_done, every_stopped}
-use Rattle.span_run.proofs.Goes.{passed_on, placed_stops, same_queries}
+use Rattle.span_run.proofs.Goes.{passed_on, same_queries, unplaced}
 use Rattle.span_run.proofs.Sending.{unstarted}
 use Rattle.span_run.proofs.every.list_all.Goals as goal
 
@@ -20,9 +12,9 @@ returns-in_err-grow_all-clause-stopped g c = λ files faults looks pairs.
     let k = g.K.Sink in
     let command = form.ListAll c.args.query c.args.limit in
     let grown = c.grow_all.ensures in
-    let stops = placed_stops h c.grow_all.new.self c.args.context.number command files faults looks looks pairs c.args.places.now c.grow_all.new.places c.requires.held grown.serves grown.queries grown.some grown.steps (not_begun (world (state_of h) files) command looks pairs) in
     passed_on c.from_residual.result _ c.from_residual.ensures.1
-    (unstarted (at h files faults looks pairs c.args.places.now) (at (record h { book = c.grow_all.new.self }) files faults looks pairs c.grow_all.new.places) c.args.context.number command (outlet (k.written c.args.out.now) (k.faults c.args.out.now) (k.wants c.args.out.now)) stops.goes (same_queries h c.grow_all.new.self grown.queries))
+    (unstarted (at h files faults looks pairs c.args.places.now) (at (record h { book = c.grow_all.new.self }) files faults looks pairs c.grow_all.new.places) c.args.context.number command (outlet (k.written c.args.out.now) (k.faults c.args.out.now) (k.wants c.args.out.now))
+    (unplaced h c.grow_all.new.self c.args.context.number command files faults looks pairs c.args.places.now c.grow_all.new.places c.requires.held grown.serves grown.queries grown.some grown.steps).goes (same_queries h c.grow_all.new.self grown.queries))
 
 pub returns-in_err-list_query-clause-stopped : goal.returns-in_err-list_query-clause-stopped
 returns-in_err-list_query-clause-stopped g c = λ files faults looks pairs.

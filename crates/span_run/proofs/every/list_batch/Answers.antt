@@ -1,5 +1,5 @@
 use Rattle.std.proofs.Common.{arith, length}
-use Rattle.std.proofs.lemmas.Result.{err_from_is_err_and}
+use Rattle.span_run.proofs.Names.{err_from_is_err_and}
 use Rattle.span_run.proofs.EveryParts.{batch_next, batch_stops, found_sizes}
 use Rattle.span_run.proofs.every.list_batch.Goals as goal
 

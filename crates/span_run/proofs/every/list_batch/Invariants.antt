@@ -1,6 +1,5 @@
 use Rattle.std.proofs.Common.{◌≤◌, ◌+◌, List}
-use Rattle.span_enum.specs.Members.{Tuple}
-use Rattle.span_run.specs.Every.{AreAnswered, rest_text}
+use Rattle.span_run.proofs.Names.{AreAnswered, rest_text, Tuple}
 use Rattle.span_run.proofs.Written.{IsListing}
 use Rattle.span_run.proofs.every.list_batch.Given as goal
 

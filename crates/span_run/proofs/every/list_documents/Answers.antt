@@ -1,7 +1,5 @@
 use Rattle.std.proofs.Common.{◌+◌, arith}
-use Rattle.std.proofs.lemmas.Result.{err_from_is_err_and}
-use Rattle.span_run.specs.Every.{every_text, rest_text}
-use Rattle.span_run.proofs.CarryLemmas.{on_err_map}
+use Rattle.span_run.proofs.Names.{err_from_is_err_and, every_text, on_err_weaker, rest_text}
 use Rattle.span_run.proofs.EveryLemmas.{listing_breaks, listing_part}
 use Rattle.span_run.proofs.EveryParts.{last_cut}
 use Rattle.span_run.proofs.every.list_documents.Goals as goal
@@ -20,4 +18,4 @@ returns-in_err-list_batch-clause-stopped g c =
     rw (p.1) (λ lists are. listing_breaks (g.K.Sink.written c.args.out.now) (g.K.Sink.written c.loop-first.out) (g.K.Sink.written c.list_batch.new.out) (rest_text c.args.survey.vars.now c.args.survey.limit c.args.survey.docs.now lists c.loop-first.first) (every_text c.args.survey.vars.now c.args.survey.limit c.args.survey.docs.now lists) (c.loop-first.invariant.so_far lists are) (c.in_err-list_batch.ensures.stopped lists are))
 
 pub returns-clause-stopped : goal.returns-clause-stopped
-returns-clause-stopped g c = on_err_map c.offer.result _ _ (λ stopped lists are. last_cut (g.K.Sink.written c.args.out.now) (g.K.Sink.written c.loop-first.out) (g.K.Sink.written c.offer.new.out) c.args.survey.vars.now c.args.survey.limit c.args.survey.dfa.now c.args.survey.view.store.now c.args.survey.docs.now lists c.loop-first.first (omega (arith, c.loop-first-test.false, c.count-all.ensures.count)) (c.loop-first.invariant.so_far lists are) stopped) c.offer.ensures.stopped
+returns-clause-stopped g c = on_err_weaker c.offer.result (λ stopped lists are. last_cut (g.K.Sink.written c.args.out.now) (g.K.Sink.written c.loop-first.out) (g.K.Sink.written c.offer.new.out) c.args.survey.vars.now c.args.survey.limit c.args.survey.dfa.now c.args.survey.view.store.now c.args.survey.docs.now lists c.loop-first.first (omega (arith, c.loop-first-test.false, c.count-all.ensures.count)) (c.loop-first.invariant.so_far lists are) stopped) c.offer.ensures.stopped

@@ -1,10 +1,5 @@
 use Rattle.std.proofs.Common.{subst, sym, List}
-use Rattle.std.specs.Io.KnownBytes.{Appends}
-use Rattle.slp_model.specs.declared.Node.{Node}
-use Rattle.edit_expr.specs.Values.{AreLive}
-use Rattle.query_book.specs.Book.{queries_of}
-use Rattle.span_language.specs.Step.{AppendsFront}
-use Rattle.span_run.proofs.CarryLemmas.{on_err_map, on_ok_map}
+use Rattle.span_run.proofs.Names.{Appends, AppendsFront, AreLive, Node, on_err_weaker, on_ok_weaker, queries_of}
 use Rattle.span_run.proofs.EveryParts.{lists_are, lists_every, variables_are}
 use Rattle.span_run.proofs.every.list_query.Goals as goal
 
@@ -27,7 +22,7 @@ returns-clause-done g c =
     let found = c.in-Ok.ensures in
     let v = c.in-Ok.view in
     let k = g.K.Sink in
-    on_ok_map c.list_documents.result _ _ (lists_every c.in-Ok.dfa.now (queries_of c.args.book.now) c.bytes-name.result.now c.in-Ok-vars.vars.now found.query c.in-Ok-vars.ensures v.store.now c.args.store.now v.tables.now c.args.docs.now found.automaton found.tables v.counted found.store c.requires.live c.check_lengths.ensures
+    on_ok_weaker c.list_documents.result (lists_every c.in-Ok.dfa.now (queries_of c.args.book.now) c.bytes-name.result.now c.in-Ok-vars.vars.now found.query c.in-Ok-vars.ensures v.store.now c.args.store.now v.tables.now c.args.docs.now found.automaton found.tables v.counted found.store c.requires.live c.check_lengths.ensures
     (Appends (k.written c.args.out.now) (k.written c.list_documents.new.out)) c.args.query.now c.args.limit c.bytes-name.ensures.value) c.list_documents.ensures.done
 
 pub returns-clause-stopped : goal.returns-clause-stopped
@@ -35,5 +30,5 @@ returns-clause-stopped g c =
     let found = c.in-Ok.ensures in
     let v = c.in-Ok.view in
     let k = g.K.Sink in
-    on_err_map c.list_documents.result _ _ (lists_every c.in-Ok.dfa.now (queries_of c.args.book.now) c.bytes-name.result.now c.in-Ok-vars.vars.now found.query c.in-Ok-vars.ensures v.store.now c.args.store.now v.tables.now c.args.docs.now found.automaton found.tables v.counted found.store c.requires.live c.check_lengths.ensures
+    on_err_weaker c.list_documents.result (lists_every c.in-Ok.dfa.now (queries_of c.args.book.now) c.bytes-name.result.now c.in-Ok-vars.vars.now found.query c.in-Ok-vars.ensures v.store.now c.args.store.now v.tables.now c.args.docs.now found.automaton found.tables v.counted found.store c.requires.live c.check_lengths.ensures
     (AppendsFront (k.written c.args.out.now) (k.written c.list_documents.new.out)) c.args.query.now c.args.limit c.bytes-name.ensures.value) c.list_documents.ensures.stopped

@@ -1,9 +1,5 @@
 use Rattle.std.proofs.Common.{◌≡◌, ◌∙◌, List, ℕ, Bool, sym, subst}
-use Rattle.std.proofs.lemmas.Result.{err_from_is_err_and}
-use Rattle.std.specs.Io.KnownBytes.{Appends}
-use Rattle.span_language.specs.Listed.{doc_line, last_line}
-use Rattle.span_language.specs.Step.{AppendsFront}
-use Rattle.span_run.proofs.CarryLemmas.{on_err_map}
+use Rattle.span_run.proofs.Names.{Appends, AppendsFront, doc_line, err_from_is_err_and, last_line, on_err_weaker}
 use Rattle.span_run.proofs.EveryParts.{last_stops, line_stops, tuples_cut}
 use Rattle.span_run.proofs.every.write_document.Goals as goal
 
@@ -28,7 +24,7 @@ returns-then-more-clause-stopped g c =
     let w = g.K.Sink.written in
     let e = c.offer-then-more in
     let line : c.deref.result.now ≡ doc_line c.args.name.now = c.deref.ensures.value ∙ c.in_ok-line.ensures in
-    on_err_map e.result _ _ (λ last. last_stops (w c.args.out.now) (w c.offer.new.out) (w c.write_tuples.new.out) (w e.new.out) c.args.name.now c.args.vars.now c.args.tuples.now c.args.more
+    on_err_weaker e.result (λ last. last_stops (w c.args.out.now) (w c.offer.new.out) (w c.write_tuples.new.out) (w e.new.out) c.args.name.now c.args.vars.now c.args.tuples.now c.args.more
     (subst (λ (l : List ℕ). Appends (w c.args.out.now) (w c.offer.new.out) l) line c.in_ok-offer.ensures.done) c.in_ok-write_tuples.ensures.done
     (subst (λ (b : Bool). AppendsFront (w c.write_tuples.new.out) (w e.new.out) (last_line b)) (sym c.if-more.true) last)) e.ensures.stopped
 
@@ -37,6 +33,6 @@ returns-clause-stopped g c =
     let w = g.K.Sink.written in
     let e = c.offer-else-more in
     let line : c.deref.result.now ≡ doc_line c.args.name.now = c.deref.ensures.value ∙ c.in_ok-line.ensures in
-    on_err_map e.result _ _ (λ last. last_stops (w c.args.out.now) (w c.offer.new.out) (w c.write_tuples.new.out) (w e.new.out) c.args.name.now c.args.vars.now c.args.tuples.now c.args.more
+    on_err_weaker e.result (λ last. last_stops (w c.args.out.now) (w c.offer.new.out) (w c.write_tuples.new.out) (w e.new.out) c.args.name.now c.args.vars.now c.args.tuples.now c.args.more
     (subst (λ (l : List ℕ). Appends (w c.args.out.now) (w c.offer.new.out) l) line c.in_ok-offer.ensures.done) c.in_ok-write_tuples.ensures.done
     (subst (λ (b : Bool). AppendsFront (w c.write_tuples.new.out) (w e.new.out) (last_line b)) (sym c.if-more.false) last)) e.ensures.stopped

@@ -1,5 +1,5 @@
 use Rattle.std.proofs.Common.{arith, length}
-use Rattle.std.proofs.lemmas.Result.{err_from_is_err_and}
+use Rattle.span_run.proofs.Names.{err_from_is_err_and}
 use Rattle.span_run.proofs.EveryLemmas.{sized_at, tuples_end, tuples_next, tuples_stop}
 use Rattle.span_run.proofs.every.write_tuples.Goals as goal
 

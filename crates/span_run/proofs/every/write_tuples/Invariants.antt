@@ -1,6 +1,5 @@
 use Rattle.std.proofs.Common.{◌≤◌, drop}
-use Rattle.std.specs.List.{flat_map}
-use Rattle.span_language.specs.Listed.{tuple_line}
+use Rattle.span_run.proofs.Names.{flat_map, tuple_line}
 use Rattle.span_run.proofs.Written.{IsListing}
 use Rattle.span_run.proofs.every.write_tuples.Given as goal
 

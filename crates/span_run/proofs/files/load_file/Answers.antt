@@ -1,13 +1,8 @@
 use Rattle.std.proofs.Common.{◌∙◌, ap, subst, List, ℕ, refl, Ok}
-use Rattle.edit_expr.specs.Values.{plain, text_at}
-use Rattle.edit_expr.proofs.EvalLemmas.{AreLive-grows, plain-grows}
+use Rattle.span_run.proofs.Names.{AreLive-grows, Assigns, IfOk-weaker, IsLoadPaid, IsTurnedAway, IsWithin, load_size, plain, plain-grows, state_of, text_at}
+use Rattle.span_run.proofs.Names.{world}
 use Rattle.script_syntax.specs.declared.form.Command.TheVariants as form
-use Rattle.span_language.specs.State.{world}
-use Rattle.span_language.specs.Step.{IsWithin, load_size}
-use Rattle.span_run.specs.Held.{state_of}
-use Rattle.span_run.specs.Shown.{Assigns}
-use Rattle.span_run.specs.Reading.{IsTurnedAway, IsLoadPaid}
-use Rattle.span_run.proofs.CarryLemmas.{assigned_after, if_ok_map}
+use Rattle.span_run.proofs.CarryLemmas.{assigned_after}
 use Rattle.span_run.proofs.FileLemmas.{load_carries, load_denied, file_paid, file_refused_paid, file_begun}
 use Rattle.span_run.proofs.Goes.{grown_answers, grown_same, grown_stays, grown_stops, if_err_both, passed_on}
 use Rattle.span_run.proofs.files.load_file.Goals as goal
@@ -57,7 +52,7 @@ returns-in-Err g c =
     let turned : IsTurnedAway files c.args.file load_size c.in-Err.why = subst (λ (n : List ℕ). IsTurnedAway files n load_size c.in-Err.why) c.bytes.ensures c.in-Err.ensures.refused in
     let paid : IsLoadPaid files c.args.file c.args.pairs.now l.new.pairs = subst (λ (n : List ℕ). IsLoadPaid files n c.args.pairs.now l.new.pairs) c.bytes.ensures l.ensures.paid in
     record {
-      done = λ looks places. if_ok_map c.turned_away.result _ _ (λ answer denied. grown_same h l.new.store c.args.number command answer files (f.files l.new.shelf) (f.faults c.args.shelf.now) (f.faults l.new.shelf) looks c.args.pairs.now l.new.pairs places c.requires l.ensures.grows (λ no. no) (λ no. no)
+      done = λ looks places. IfOk-weaker c.turned_away.result _ _ (λ answer denied. grown_same h l.new.store c.args.number command answer files (f.files l.new.shelf) (f.faults c.args.shelf.now) (f.faults l.new.shelf) looks c.args.pairs.now l.new.pairs places c.requires l.ensures.grows (λ no. no) (λ no. no)
           (file_refused_paid w c.args.name c.args.file c.args.number c.in-Err.why answer.told answer.line.items looks c.args.pairs.now l.new.pairs turned denied paid) l.ensures.files l.ensures.later
           (load_denied w c.args.number c.args.name c.args.file c.in-Err.why answer.told answer.line.items turned denied)) c.turned_away.ensures.ok;
       stopped = λ looks places. if_err_both c.turned_away.result _ _ _ (λ why fault sink. grown_stays h l.new.store h.docs c.args.number command files (f.files l.new.shelf) (f.faults c.args.shelf.now) (f.faults l.new.shelf) looks c.args.pairs.now l.new.pairs places why c.requires l.ensures.grows

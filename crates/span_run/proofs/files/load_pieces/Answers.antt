@@ -1,13 +1,6 @@
 use Rattle.std.proofs.Common.{rules, ◌≡◌, ◌∙◌, ◌++◌, length, take, arith, sym, ap, subst, length-append, refl}
-use Rattle.std.proofs.lemmas.List.{length-take-le}
-use Rattle.slp_model.specs.Tree.{root_text}
-use Rattle.slp_model.proofs.NodesLemmas.{Grows-none, Grows-trans}
-use Rattle.slp_model.proofs.ShapeLemmas.{shape-text}
-use Rattle.edit_expr.specs.Values.{text_at}
-use Rattle.pair_loader.specs.Pending.{fed}
+use Rattle.span_run.proofs.Names.{fed, Grows-none, Grows-trans, IsFileFront, IsWithin, length-take-le, load_size, root_text, shape-text, text_at}
 use Rattle.pair_loader.proofs.BlockLemmas.{new-loader}
-use Rattle.span_language.specs.Step.{IsWithin, load_size}
-use Rattle.span_run.specs.Reading.{IsFileFront}
 use Rattle.span_run.proofs.ReadingLemmas.{piece_at, last_piece, some_behind, one_piece, no_piece, front_paid, whole_paid}
 use Rattle.span_run.proofs.files.load_pieces.Goals as goal
 

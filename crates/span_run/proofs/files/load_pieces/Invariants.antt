@@ -1,8 +1,5 @@
 use Rattle.std.proofs.Common.{◌≡◌, ◌+◌, ◌-◌, ◌^◌, ◌≤◌, length}
-use Rattle.slp_model.specs.Nodes.{Grows}
-use Rattle.pair_loader.specs.Pending.{IsLoader, fed, pending_count}
-use Rattle.span_language.specs.Step.{load_size}
-use Rattle.span_run.specs.Reading.{IsFileFront}
+use Rattle.span_run.proofs.Names.{fed, Grows, IsFileFront, IsLoader, load_size, pending_count}
 use Rattle.span_run.proofs.files.load_pieces.Given as goal
 
 abbrev pub invariant-loop-at : goal.invariant-loop-at

@@ -1,14 +1,8 @@
 use Rattle.std.proofs.Common.{sym, subst, List, ℕ, refl, arith}
-use Rattle.edit_expr.specs.Values.{plain}
+use Rattle.span_run.proofs.Names.{counters, Grows-none, IfOk-weaker, image, IsTurnedAway, IsWithin, open_size, plain, state_of, world}
 use Rattle.script_syntax.specs.declared.form.Command.TheVariants as form
-use Rattle.slp_image.specs.Image.{image}
-use Rattle.slp_model.proofs.NodesLemmas.{Grows-none}
-use Rattle.span_language.specs.State.{world}
-use Rattle.span_language.specs.Step.{IsWithin, open_size}
-use Rattle.span_run.specs.Held.{state_of}
-use Rattle.span_run.specs.Reading.{IsTurnedAway}
-use Rattle.span_run.proofs.CarryLemmas.{if_ok_map, not_begun}
-use Rattle.span_run.proofs.FileLemmas.{open_carries, open_denied, open_paid, open_refused_paid, open_begun}
+use Rattle.span_run.proofs.CarryLemmas.{not_begun, part_of_paid}
+use Rattle.span_run.proofs.FileLemmas.{open_carries, open_denied, open_paid, open_refused_paid}
 use Rattle.span_run.proofs.Goes.{grown_answers, grown_same, grown_stays, grown_stops, if_err_both, passed_on}
 use Rattle.span_run.proofs.files.open_file.Goals as goal
 
@@ -21,7 +15,7 @@ returns-in_err-answer-in-Ok-clause-stopped g c = λ looks places.
     let there : IsWithin files c.args.file open_size c.deref.result.now = subst (λ (n : List ℕ). IsWithin files n open_size c.deref.result.now) c.bytes.ensures (subst (IsWithin files c.bytes.result.now open_size) (sym c.deref.ensures.value) c.in-Ok.ensures.ok) in
     passed_on c.from_residual.result _ c.from_residual.ensures.1
     (grown_stops h o.new.store o.new.docs c.args.number (form.OpenFile c.args.file) files (f.files c.read_file.new.shelf) (f.faults c.args.shelf.now) (f.faults c.read_file.new.shelf) looks c.args.pairs.now o.new.pairs places c.requires o.ensures.grows o.ensures.live c.in_err-answer-in-Ok.ensures.err
-    (open_begun (world (state_of h) files) c.args.file c.deref.result.now looks c.args.pairs.now o.new.pairs there o.ensures.cost) c.read_file.ensures.files c.read_file.ensures.later)
+    (part_of_paid (world (state_of h) files) (form.OpenFile c.args.file) (counters looks c.args.pairs.now) (counters looks o.new.pairs) (open_paid (world (state_of h) files) c.args.file c.deref.result.now looks c.args.pairs.now o.new.pairs there o.ensures.cost)) c.read_file.ensures.files c.read_file.ensures.later)
 
 pub returns-in_ok-answer-in-Ok-clause-done : goal.returns-in_ok-answer-in-Ok-clause-done
 returns-in_ok-answer-in-Ok-clause-done g c = λ looks places.
@@ -46,7 +40,7 @@ returns-in-Err g c =
     let read = c.read_file in
     let turned : IsTurnedAway files c.args.file open_size c.in-Err.why = subst (λ (n : List ℕ). IsTurnedAway files n open_size c.in-Err.why) c.bytes.ensures c.in-Err.ensures.refused in
     record {
-      done = λ looks places. if_ok_map c.turned_away.result _ _ (λ answer denied. grown_same h h.store c.args.number command answer files (f.files read.new.shelf) (f.faults c.args.shelf.now) (f.faults read.new.shelf) looks p p places c.requires (Grows-none h.store p p (omega arith)) (λ no. no) (λ no. no)
+      done = λ looks places. IfOk-weaker c.turned_away.result _ _ (λ answer denied. grown_same h h.store c.args.number command answer files (f.files read.new.shelf) (f.faults c.args.shelf.now) (f.faults read.new.shelf) looks p p places c.requires (Grows-none h.store p p (omega arith)) (λ no. no) (λ no. no)
           (open_refused_paid w c.args.file c.args.number c.in-Err.why answer.told answer.line.items looks p turned denied) read.ensures.files read.ensures.later
           (open_denied w c.args.number c.args.file c.in-Err.why answer.told answer.line.items turned denied)) c.turned_away.ensures.ok;
       stopped = λ looks places. if_err_both c.turned_away.result _ _ _ (λ why fault sink. grown_stays h h.store h.docs c.args.number command files (f.files read.new.shelf) (f.faults c.args.shelf.now) (f.faults read.new.shelf) looks p p places why c.requires (Grows-none h.store p p (omega arith)) c.requires.live refl

@@ -1,7 +1,4 @@
-use Rattle.std.proofs.lemmas.Result.{err_from_is_err_and}
-use Rattle.edit_expr.proofs.EvalLemmas.{AreLive-grows, plain-grows}
-use Rattle.edit_expr.specs.Values.{plain}
-use Rattle.slp_image.specs.Image.{image}
+use Rattle.span_run.proofs.Names.{AreLive-grows, err_from_is_err_and, image, plain, plain-grows}
 use Rattle.span_run.proofs.FileLemmas.{opens_refused}
 use Rattle.span_run.proofs.files.open_image.Goals as goal
 

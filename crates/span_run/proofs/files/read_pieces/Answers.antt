@@ -1,7 +1,5 @@
 use Rattle.std.proofs.Common.{◌≡◌, ◌∙◌, ◌++◌, ◌-◌, ◌<◌, ◌≤◌, length, take, arith, sym, ap, subst, length-append, refl}
-use Rattle.std.proofs.lemmas.List.{length-take-le}
-use Rattle.span_language.specs.Step.{open_size}
-use Rattle.span_run.specs.Reading.{IsFileFront}
+use Rattle.span_run.proofs.Names.{IsFileFront, length-take-le, open_size}
 use Rattle.span_run.proofs.ReadingLemmas.{piece_at, last_piece, some_behind, one_piece, no_piece}
 use Rattle.span_run.proofs.files.read_pieces.Goals as goal
 

@@ -1,6 +1,5 @@
 use Rattle.std.proofs.Common.{◌≡◌, ◌+◌, ◌-◌, ◌^◌, ◌≤◌, length}
-use Rattle.span_language.specs.Step.{open_size}
-use Rattle.span_run.specs.Reading.{IsFileFront}
+use Rattle.span_run.proofs.Names.{IsFileFront, open_size}
 use Rattle.span_run.proofs.files.read_pieces.Given as goal
 
 abbrev pub invariant-loop-piece : goal.invariant-loop-piece

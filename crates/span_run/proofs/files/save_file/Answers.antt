@@ -1,11 +1,6 @@
 use Rattle.std.proofs.Common.{rules, ◌≡◌, ◌∙◌, ◌++◌, ap, sym, subst, length, List, ℕ}
-use Rattle.std.proofs.lemmas.List.{length-map}
-use Rattle.doc_book.specs.declared.Doc.{Doc}
-use Rattle.edge_io.specs.Files.{Holds, KeepsOthers}
-use Rattle.edit_expr.specs.Values.{plain, text_at}
-use Rattle.report_text.specs.Reply.{saved_text}
+use Rattle.span_run.proofs.Names.{Doc, Holds, IsPut, KeepsOthers, length-map, plain, saved_text, text_at}
 use Rattle.script_syntax.specs.declared.form.Command.TheVariants as form
-use Rattle.span_language.specs.Step.{IsPut}
 use Rattle.span_language.specs.declared.told.Stop.TheVariants as stop
 use Rattle.span_run.proofs.Goes.{no_shelf, no_sink, passed_on, saved_answers, saved_stays, stays}
 use Rattle.span_run.proofs.files.save_file.Goals as goal

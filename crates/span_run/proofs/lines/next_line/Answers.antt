@@ -1,5 +1,5 @@
 use Rattle.std.proofs.Common.{◌∙◌, ap}
-use Rattle.span_language.specs.Lines.{lines_of}
+use Rattle.span_run.proofs.Names.{lines_of}
 use Rattle.span_run.proofs.LinesLemmas.{no_newline, lines_cut, lines_one}
 use Rattle.span_run.proofs.lines.next_line.Goals as goal
 

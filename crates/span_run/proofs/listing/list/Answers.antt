@@ -1,19 +1,12 @@
 use Rattle.std.proofs.Common.{◌∙◌, refl, sym, ap, inl, Option}
+use Rattle.span_run.proofs.Names.{at, Files, IfOk-weaker, IsRefusedFreely, NoSuchDocument, outlet, state_of, text_at, world}
 use Rattle.doc_book.specs.Docs as book
-use Rattle.edit_expr.specs.Values.{text_at}
-use Rattle.edge_io.specs.Files.{Files}
-use Rattle.report_text.specs.declared.refusal.Refusal.TheVariants.{NoSuchDocument}
 use Rattle.script_syntax.specs.declared.form.Command.TheVariants as form
-use Rattle.span_language.specs.State.{world}
-use Rattle.span_run.specs.Carried.{outlet}
-use Rattle.span_run.specs.Held.{state_of}
-use Rattle.span_run.specs.Refusing.{IsRefusedFreely}
-use Rattle.span_run.specs.Site.{at}
 use Rattle.span_run.proofs.HeldLemmas.{live_root}
-use Rattle.span_run.proofs.CarryLemmas.{if_ok_map, none_of_err, not_begun, some_of_ok}
+use Rattle.span_run.proofs.CarryLemmas.{none_of_err, some_of_ok}
 use Rattle.span_run.proofs.PageLemmas.{list_free}
 use Rattle.span_run.proofs.QueryLemmas.{document_is, document_lacks}
-use Rattle.span_run.proofs.Goes.{if_err_four, passed_on, placed_stops, same_queries}
+use Rattle.span_run.proofs.Goes.{if_err_four, passed_on, same_queries, unplaced}
 use Rattle.span_run.proofs.Sending.{unstarted}
 use Rattle.span_run.proofs.Listings.{listed_done, listed_stopped}
 use Rattle.span_run.proofs.listing.list.Goals as goal
@@ -30,9 +23,9 @@ returns-in_err-grow_all-in-Ok-clause-stopped g c = λ files faults pairs.
     let k = g.K.Sink in
     let command = form.List c.args.query c.args.name c.args.page.after c.args.page.limit in
     let grown = c.grow_all.ensures in
-    let stops = placed_stops h c.grow_all.new.self c.args.context.number command files faults c.args.looks.now c.args.looks.now pairs c.args.places.now c.grow_all.new.places c.requires grown.serves grown.queries grown.some grown.steps (not_begun (world (state_of h) files) command c.args.looks.now pairs) in
     passed_on c.from_residual.result _ c.from_residual.ensures.1
-    (unstarted (at h files faults c.args.looks.now pairs c.args.places.now) (at (record h { book = c.grow_all.new.self }) files faults c.args.looks.now pairs c.grow_all.new.places) c.args.context.number command (outlet (k.written c.args.out.now) (k.faults c.args.out.now) (k.wants c.args.out.now)) stops.goes (same_queries h c.grow_all.new.self grown.queries))
+    (unstarted (at h files faults c.args.looks.now pairs c.args.places.now) (at (record h { book = c.grow_all.new.self }) files faults c.args.looks.now pairs c.grow_all.new.places) c.args.context.number command (outlet (k.written c.args.out.now) (k.faults c.args.out.now) (k.wants c.args.out.now))
+    (unplaced h c.grow_all.new.self c.args.context.number command files faults c.args.looks.now pairs c.args.places.now c.grow_all.new.places c.requires grown.serves grown.queries grown.some grown.steps).goes (same_queries h c.grow_all.new.self grown.queries))
 
 pub returns-in_ok-grow_all-in-Ok : goal.returns-in_ok-grow_all-in-Ok
 returns-in_ok-grow_all-in-Ok g c =
@@ -45,7 +38,7 @@ returns-in_ok-grow_all-in-Ok g c =
     let there = document_is h.store h.docs c.args.name c.in-Ok.root (ap (book.root_of h.docs) (sym c.bytes.ensures.value) ∙ some_of_ok _ _ _ c.in-Ok.ensures) in
     record {
       held = record { live = c.requires.live; kept = c.requires.kept; serves = grown.serves };
-      done = λ files faults pairs. if_ok_map l.result _ _ (λ told tells. listed_done h c.grow_all.new.self c.args.context.number c.args.query c.args.name (text_at h.store c.in-Ok.root) c.args.page.after c.args.page.limit files faults c.args.looks.now l.new.looks pairs c.args.places.now c.grow_all.new.places
+      done = λ files faults pairs. IfOk-weaker l.result _ _ (λ told tells. listed_done h c.grow_all.new.self c.args.context.number c.args.query c.args.name (text_at h.store c.in-Ok.root) c.args.page.after c.args.page.limit files faults c.args.looks.now l.new.looks pairs c.args.places.now c.grow_all.new.places
           before after c.requires grown.serves grown.queries grown.some grown.steps there l.ensures.later l.ensures.wants_later told tells) l.ensures.done;
       stopped = λ files faults pairs. if_err_four l.result _ _ _ _ _ (λ why tells fault shelf want. listed_stopped h c.grow_all.new.self c.args.context.number c.args.query c.args.name (text_at h.store c.in-Ok.root) c.args.page.after c.args.page.limit files faults c.args.looks.now l.new.looks pairs c.args.places.now c.grow_all.new.places
           before after c.requires grown.serves grown.queries grown.some grown.steps there l.ensures.later l.ensures.wants_later why tells fault shelf want) l.ensures.stopped l.ensures.fault l.ensures.shelf_fault l.ensures.want;

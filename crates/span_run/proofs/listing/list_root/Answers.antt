@@ -1,16 +1,8 @@
 use Rattle.std.proofs.Common.{◌∙◌, inl, inr, refl, sym, subst, List, ℕ}
-use Rattle.std.proofs.lemmas.Result.{err_from_is_err_and}
-use Rattle.std.specs.Io.KnownBytes.{Appends}
-use Rattle.edit_expr.specs.Values.{text_at}
-use Rattle.report_text.specs.Reply.{refusal_text}
-use Rattle.query_book.specs.Book.{queries_of}
-use Rattle.span_run.specs.Listing.{Tells}
-use Rattle.span_language.specs.Step.{AppendsFront}
-use Rattle.span_language.specs.declared.told.Told.{Told}
-use Rattle.span_language.specs.declared.told.Told.TheVariants.{Accepted, Refused}
-use Rattle.span_run.proofs.CarryLemmas.{if_err_map}
+use Rattle.span_run.proofs.Names.{Accepted, Appends, AppendsFront, err_from_is_err_and, IfErr-weaker, Keeps-refl, queries_of, refusal_text, Refused, Tells}
+use Rattle.span_run.proofs.Names.{text_at, Told}
 use Rattle.span_run.proofs.Goes.{if_ok_both, on_err_of}
-use Rattle.span_run.proofs.Written.{kept_same, nothing_front}
+use Rattle.span_run.proofs.Written.{nothing_front}
 use Rattle.span_run.proofs.PageLemmas.{has_cursor}
 use Rattle.span_run.proofs.listing.list_root.Goals as goal
 
@@ -35,7 +27,7 @@ returns-in_err-answer-in-Err-clause-stopped g c =
 pub returns-in_err-answer-in-Err-clause-want : goal.returns-in_err-answer-in-Err-clause-want
 returns-in_err-answer-in-Err-clause-want g c =
     let p = err_from_is_err_and c.from_residual-in_err-answer-in-Err.result c.from_residual-in_err-answer-in-Err.ensures.1 in
-    rw (p.1) (λ is. inr (kept_same (g.K.Sink.written c.args.out.now)))
+    rw (p.1) (λ is. inr (Keeps-refl (g.K.Sink.written c.args.out.now)))
 
 pub returns-in_ok-answer-in-Err-clause-done : goal.returns-in_ok-answer-in-Err-clause-done
 returns-in_ok-answer-in-Err-clause-done g c =
@@ -50,4 +42,4 @@ returns-in_ok-answer-in-Err-clause-stopped g c =
     on_err_of c.send.result _ _ (λ why unsent. (Refused, (c.in-Err.why, c.word_refusal.result, c.in-Err.ensures.err, c.word_refusal.ensures, subst (λ (l : List ℕ). AppendsFront (k.written c.args.out.now) (k.written c.send.new.out) l) c.in_ok-answer-in-Err.ensures.1 unsent.front, refl))) c.send.ensures.stopped
 
 pub returns-in_ok-answer-in-Err-clause-want : goal.returns-in_ok-answer-in-Err-clause-want
-returns-in_ok-answer-in-Err-clause-want g c = if_err_map c.send.result _ _ (λ why h is. inl (h is)) c.send.ensures.want
+returns-in_ok-answer-in-Err-clause-want g c = IfErr-weaker c.send.result _ _ (λ why h is. inl (h is)) c.send.ensures.want

@@ -1,7 +1,5 @@
 use Rattle.std.proofs.Common.{◌∙◌, ◌-◌, refl, sym, arith, length}
-use Rattle.std.proofs.lemmas.Result.{err_from_is_err_and}
-use Rattle.span_types.specs.Fibonacci.{looks_limit}
-use Rattle.span_run.proofs.CarryLemmas.{on_ok_map, on_err_map}
+use Rattle.span_run.proofs.Names.{err_from_is_err_and, looks_limit, on_err_weaker, on_ok_weaker}
 use Rattle.span_run.proofs.ListLemmas.{goes_starts, goes_on, goes_stops, one_more, ends_end, stops_end, ends_more, stops_more, kept_answers, kept_looks, kept_size, moved}
 use Rattle.span_run.proofs.listing.write_page.Goals as goal
 
@@ -33,11 +31,11 @@ loop-left-preserved g c =
 
 pub returns-in_default-clause-done : goal.returns-in_default-clause-done
 returns-in_default-clause-done g c =
-    on_ok_map c.offer.result _ _ (λ h all rest are after. ends_end c.loop-left.answers all (kept_answers c.args.answers.now c.loop-left.answers all (record { automaton = c.loop-left.invariant.automaton; text = c.loop-left.invariant.text }) are) (g.K.Sink.written c.args.out.now) (g.K.Sink.written c.loop-left.out) (g.K.Sink.written c.offer.new.out) c.args.vars.now c.args.limit rest c.loop-left.answers.after c.args.looks.now c.loop-left.looks (looks_limit c.args.answers.now.automaton.variables (length c.args.answers.now.text)) c.loop-left.left (c.loop-left.invariant.so_far all rest are after) c.in_default.ensures.answer h) c.offer.ensures.done
+    on_ok_weaker c.offer.result (λ h all rest are after. ends_end c.loop-left.answers all (kept_answers c.args.answers.now c.loop-left.answers all (record { automaton = c.loop-left.invariant.automaton; text = c.loop-left.invariant.text }) are) (g.K.Sink.written c.args.out.now) (g.K.Sink.written c.loop-left.out) (g.K.Sink.written c.offer.new.out) c.args.vars.now c.args.limit rest c.loop-left.answers.after c.args.looks.now c.loop-left.looks (looks_limit c.args.answers.now.automaton.variables (length c.args.answers.now.text)) c.loop-left.left (c.loop-left.invariant.so_far all rest are after) c.in_default.ensures.answer h) c.offer.ensures.done
 
 pub returns-in_default-clause-stopped : goal.returns-in_default-clause-stopped
 returns-in_default-clause-stopped g c =
-    on_err_map c.offer.result _ _ (λ h all rest are after. stops_end c.loop-left.answers all (kept_answers c.args.answers.now c.loop-left.answers all (record { automaton = c.loop-left.invariant.automaton; text = c.loop-left.invariant.text }) are) (g.K.Sink.written c.args.out.now) (g.K.Sink.written c.loop-left.out) (g.K.Sink.written c.offer.new.out) c.args.vars.now c.args.limit rest c.loop-left.answers.after c.args.looks.now c.loop-left.looks (looks_limit c.args.answers.now.automaton.variables (length c.args.answers.now.text)) c.loop-left.left (c.loop-left.invariant.so_far all rest are after) c.in_default.ensures.answer h) c.offer.ensures.stopped
+    on_err_weaker c.offer.result (λ h all rest are after. stops_end c.loop-left.answers all (kept_answers c.args.answers.now c.loop-left.answers all (record { automaton = c.loop-left.invariant.automaton; text = c.loop-left.invariant.text }) are) (g.K.Sink.written c.args.out.now) (g.K.Sink.written c.loop-left.out) (g.K.Sink.written c.offer.new.out) c.args.vars.now c.args.limit rest c.loop-left.answers.after c.args.looks.now c.loop-left.looks (looks_limit c.args.answers.now.automaton.variables (length c.args.answers.now.text)) c.loop-left.left (c.loop-left.invariant.so_far all rest are after) c.in_default.ensures.answer h) c.offer.ensures.stopped
 
 pub returns-in_default-clause-cost : goal.returns-in_default-clause-cost
 returns-in_default-clause-cost g c =
@@ -58,11 +56,11 @@ returns-in_err-write_tuple-clause-cost g c =
 
 pub returns-in-Some-next-clause-done : goal.returns-in-Some-next-clause-done
 returns-in-Some-next-clause-done g c =
-    on_ok_map c.offer-in-Some-next.result _ _ (λ h all rest are after. ends_more c.loop-left.answers all (kept_answers c.args.answers.now c.loop-left.answers all (record { automaton = c.loop-left.invariant.automaton; text = c.loop-left.invariant.text }) are) (g.K.Sink.written c.args.out.now) (g.K.Sink.written c.loop-left.out) (g.K.Sink.written c.offer-in-Some-next.new.out) c.args.vars.now c.args.limit rest c.loop-left.answers.after c.args.looks.now c.loop-left.looks (looks_limit c.args.answers.now.automaton.variables (length c.args.answers.now.text)) c.loop-left.left c.in-Some-next.field-0 (omega (arith, c.loop-left-test.false)) (c.loop-left.invariant.so_far all rest are after) c.in-Some-next.ensures.answer h) c.offer-in-Some-next.ensures.done
+    on_ok_weaker c.offer-in-Some-next.result (λ h all rest are after. ends_more c.loop-left.answers all (kept_answers c.args.answers.now c.loop-left.answers all (record { automaton = c.loop-left.invariant.automaton; text = c.loop-left.invariant.text }) are) (g.K.Sink.written c.args.out.now) (g.K.Sink.written c.loop-left.out) (g.K.Sink.written c.offer-in-Some-next.new.out) c.args.vars.now c.args.limit rest c.loop-left.answers.after c.args.looks.now c.loop-left.looks (looks_limit c.args.answers.now.automaton.variables (length c.args.answers.now.text)) c.loop-left.left c.in-Some-next.field-0 (omega (arith, c.loop-left-test.false)) (c.loop-left.invariant.so_far all rest are after) c.in-Some-next.ensures.answer h) c.offer-in-Some-next.ensures.done
 
 pub returns-in-Some-next-clause-stopped : goal.returns-in-Some-next-clause-stopped
 returns-in-Some-next-clause-stopped g c =
-    on_err_map c.offer-in-Some-next.result _ _ (λ h all rest are after. stops_more c.loop-left.answers all (kept_answers c.args.answers.now c.loop-left.answers all (record { automaton = c.loop-left.invariant.automaton; text = c.loop-left.invariant.text }) are) (g.K.Sink.written c.args.out.now) (g.K.Sink.written c.loop-left.out) (g.K.Sink.written c.offer-in-Some-next.new.out) c.args.vars.now c.args.limit rest c.loop-left.answers.after c.args.looks.now c.loop-left.looks (looks_limit c.args.answers.now.automaton.variables (length c.args.answers.now.text)) c.loop-left.left c.in-Some-next.field-0 (omega (arith, c.loop-left-test.false)) (c.loop-left.invariant.so_far all rest are after) c.in-Some-next.ensures.answer h) c.offer-in-Some-next.ensures.stopped
+    on_err_weaker c.offer-in-Some-next.result (λ h all rest are after. stops_more c.loop-left.answers all (kept_answers c.args.answers.now c.loop-left.answers all (record { automaton = c.loop-left.invariant.automaton; text = c.loop-left.invariant.text }) are) (g.K.Sink.written c.args.out.now) (g.K.Sink.written c.loop-left.out) (g.K.Sink.written c.offer-in-Some-next.new.out) c.args.vars.now c.args.limit rest c.loop-left.answers.after c.args.looks.now c.loop-left.looks (looks_limit c.args.answers.now.automaton.variables (length c.args.answers.now.text)) c.loop-left.left c.in-Some-next.field-0 (omega (arith, c.loop-left-test.false)) (c.loop-left.invariant.so_far all rest are after) c.in-Some-next.ensures.answer h) c.offer-in-Some-next.ensures.stopped
 
 pub returns-in-Some-next-clause-cost : goal.returns-in-Some-next-clause-cost
 returns-in-Some-next-clause-cost g c =
@@ -72,11 +70,11 @@ returns-in-Some-next-clause-cost g c =
 
 pub returns-in-None-clause-done : goal.returns-in-None-clause-done
 returns-in-None-clause-done g c =
-    on_ok_map c.offer-in-None.result _ _ (λ h all rest are after. ends_end c.loop-left.answers all (kept_answers c.args.answers.now c.loop-left.answers all (record { automaton = c.loop-left.invariant.automaton; text = c.loop-left.invariant.text }) are) (g.K.Sink.written c.args.out.now) (g.K.Sink.written c.loop-left.out) (g.K.Sink.written c.offer-in-None.new.out) c.args.vars.now c.args.limit rest c.loop-left.answers.after c.args.looks.now c.loop-left.looks (looks_limit c.args.answers.now.automaton.variables (length c.args.answers.now.text)) c.loop-left.left (c.loop-left.invariant.so_far all rest are after) c.in-None.ensures.answer h) c.offer-in-None.ensures.done
+    on_ok_weaker c.offer-in-None.result (λ h all rest are after. ends_end c.loop-left.answers all (kept_answers c.args.answers.now c.loop-left.answers all (record { automaton = c.loop-left.invariant.automaton; text = c.loop-left.invariant.text }) are) (g.K.Sink.written c.args.out.now) (g.K.Sink.written c.loop-left.out) (g.K.Sink.written c.offer-in-None.new.out) c.args.vars.now c.args.limit rest c.loop-left.answers.after c.args.looks.now c.loop-left.looks (looks_limit c.args.answers.now.automaton.variables (length c.args.answers.now.text)) c.loop-left.left (c.loop-left.invariant.so_far all rest are after) c.in-None.ensures.answer h) c.offer-in-None.ensures.done
 
 pub returns-in-None-clause-stopped : goal.returns-in-None-clause-stopped
 returns-in-None-clause-stopped g c =
-    on_err_map c.offer-in-None.result _ _ (λ h all rest are after. stops_end c.loop-left.answers all (kept_answers c.args.answers.now c.loop-left.answers all (record { automaton = c.loop-left.invariant.automaton; text = c.loop-left.invariant.text }) are) (g.K.Sink.written c.args.out.now) (g.K.Sink.written c.loop-left.out) (g.K.Sink.written c.offer-in-None.new.out) c.args.vars.now c.args.limit rest c.loop-left.answers.after c.args.looks.now c.loop-left.looks (looks_limit c.args.answers.now.automaton.variables (length c.args.answers.now.text)) c.loop-left.left (c.loop-left.invariant.so_far all rest are after) c.in-None.ensures.answer h) c.offer-in-None.ensures.stopped
+    on_err_weaker c.offer-in-None.result (λ h all rest are after. stops_end c.loop-left.answers all (kept_answers c.args.answers.now c.loop-left.answers all (record { automaton = c.loop-left.invariant.automaton; text = c.loop-left.invariant.text }) are) (g.K.Sink.written c.args.out.now) (g.K.Sink.written c.loop-left.out) (g.K.Sink.written c.offer-in-None.new.out) c.args.vars.now c.args.limit rest c.loop-left.answers.after c.args.looks.now c.loop-left.looks (looks_limit c.args.answers.now.automaton.variables (length c.args.answers.now.text)) c.loop-left.left (c.loop-left.invariant.so_far all rest are after) c.in-None.ensures.answer h) c.offer-in-None.ensures.stopped
 
 pub returns-in-None-clause-cost : goal.returns-in-None-clause-cost
 returns-in-None-clause-cost g c =

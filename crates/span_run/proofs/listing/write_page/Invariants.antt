@@ -1,7 +1,5 @@
 use Rattle.std.proofs.Common.{◌≡◌, ◌≤◌, List, length}
-use Rattle.span_types.specs.Answers.{IsAfter}
-use Rattle.span_types.specs.Fibonacci.{looks_limit}
-use Rattle.span_enum.specs.Members.{Tuple, AreAnswersOf}
+use Rattle.span_run.proofs.Names.{AreAnswersOf, IsAfter, looks_limit, Tuple}
 use Rattle.span_run.proofs.ListLemmas.{Goes}
 use Rattle.span_run.proofs.listing.write_page.Given as goal
 

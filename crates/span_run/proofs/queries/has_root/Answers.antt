@@ -1,6 +1,5 @@
 use Rattle.std.proofs.Common.{inl, inr, refl}
-use Rattle.query_book.specs.Book.{queries_of}
-use Rattle.edit_expr.specs.Values.{text_at}
+use Rattle.span_run.proofs.Names.{queries_of, text_at}
 use Rattle.span_run.proofs.QueryLemmas.{has_variables, judged, judged_unread}
 use Rattle.span_run.proofs.queries.has_root.Goals as goal
 

@@ -1,14 +1,7 @@
 use Rattle.std.proofs.Common.{◌≡◌, ◌∙◌, sym, ap, subst, List, ℕ, refl}
-use Rattle.report_text.specs.Reply.{query_text}
+use Rattle.span_run.proofs.Names.{Answers, at, Entry, IsQueryOf, names_of, queries_of, query_text, state_of, world}
 use Rattle.script_syntax.specs.declared.form.Command.TheVariants as form
-use Rattle.span_types.specs.Rel.{names_of}
-use Rattle.query_book.specs.declared.entry.Entry.{Entry}
-use Rattle.query_book.specs.Book.{queries_of}
-use Rattle.query_book.specs.Registering.{IsQueryOf, IsRefused}
-use Rattle.span_language.specs.State.{world}
-use Rattle.span_run.specs.Held.{state_of}
-use Rattle.span_run.specs.Site.{at}
-use Rattle.span_run.specs.Answers.{Answers}
+use Rattle.query_book.specs.Registering.{IsRefused}
 use Rattle.span_run.proofs.QueryLemmas.{query_denied}
 use Rattle.span_run.proofs.Combined.{combined_answers, combined_stops, is_there, made, registered_is, uncombined_stops}
 use Rattle.span_run.proofs.Goes.{passed_on, refused_answers, stays}

@@ -1,6 +1,4 @@
-use Rattle.query_book.specs.Book.{queries_of}
-use Rattle.query_book.specs.Answers.{HasAnswer}
-use Rattle.edit_expr.specs.Values.{text_at}
+use Rattle.span_run.proofs.Names.{HasAnswer, queries_of, text_at}
 use Rattle.span_run.proofs.QueryLemmas.{answered}
 use Rattle.span_run.proofs.queries.test_root.Goals as goal
 

@@ -1,11 +1,6 @@
-use Rattle.std.proofs.Common.{◌∙◌, ap, refl, sym, subst, length, List, ℕ}
-use Rattle.std.specs.Prelude.{IsSome}
+use Rattle.std.proofs.Common.{◌∙◌, ap, refl, sym, subst, length, List, ℕ, IsSome}
 use Rattle.script_syntax.specs.declared.form.Command.TheVariants as form
-use Rattle.query_book.specs.declared.entry.Entry.{Entry}
-use Rattle.query_book.specs.Book.{queries_of}
-use Rattle.query_book.specs.Serving.{covered_of}
-use Rattle.span_language.specs.State.{taken_out, value_of}
-use Rattle.span_run.specs.Held.{state_of}
+use Rattle.span_run.proofs.Names.{covered_of, Entry, queries_of, state_of, taken_out, value_of}
 use Rattle.span_run.proofs.BookLemmas.{take_placed, covered-within}
 use Rattle.span_run.proofs.QueryLemmas.{unquery_carries}
 use Rattle.span_run.proofs.Goes.{booked_answers, never, passed_on, stays}

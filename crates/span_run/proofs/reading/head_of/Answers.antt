@@ -1,4 +1,4 @@
-use Rattle.edit_expr.specs.Values.{text_at}
+use Rattle.span_run.proofs.Names.{text_at}
 use Rattle.span_run.proofs.HeldLemmas.{head_of-text}
 use Rattle.span_run.proofs.reading.head_of.Goals as goal
 

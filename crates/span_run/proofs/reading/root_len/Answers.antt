@@ -1,5 +1,5 @@
 use Rattle.std.proofs.Common.{sym, ap, ◌∙◌, length, Some}
-use Rattle.edit_expr.specs.Values.{text_at}
+use Rattle.span_run.proofs.Names.{text_at}
 use Rattle.span_run.proofs.HeldLemmas.{length-text_at}
 use Rattle.span_run.proofs.reading.root_len.Goals as goal
 

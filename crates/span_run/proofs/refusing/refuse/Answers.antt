@@ -1,8 +1,6 @@
 use Rattle.std.proofs.Common.{sym, subst}
 use Rattle.span_language.specs.declared.told.Stop.TheVariants as stop
-use Rattle.span_run.specs.declared.held.Held.{Held}
-use Rattle.span_run.specs.Answers.{Answers, Stays}
-use Rattle.span_run.specs.Site.{at}
+use Rattle.span_run.proofs.Names.{Answers, at, Held, Stays}
 use Rattle.span_run.proofs.Goes.{passed_on, stays}
 use Rattle.span_run.proofs.Sending.{refused_here}
 use Rattle.span_run.proofs.refusing.refuse.Goals as goal

@@ -1,9 +1,5 @@
 use Rattle.std.proofs.Common.{refl}
-use Rattle.span_language.specs.State.{world}
-use Rattle.span_run.specs.Carried.{outlet}
-use Rattle.span_run.specs.Held.{state_of}
-use Rattle.span_run.specs.Site.{at}
-use Rattle.span_run.proofs.CarryLemmas.{if_err_map}
+use Rattle.span_run.proofs.Names.{at, IfErr-weaker, outlet, state_of, world}
 use Rattle.span_run.proofs.Goes.{if_ok_both, passed_on, stays}
 use Rattle.span_run.proofs.Sending.{answer_done, answer_stopped, unstarted, refused_here, refused_replies}
 use Rattle.span_run.proofs.refusing.turn_away.Goals as goal
@@ -31,5 +27,5 @@ returns g c =
       stopped = λ command files faults looks pairs places is.
           let here = at h files faults looks pairs places in
           let answers = refused_here h c.args.number command c.args.why.now a.answer files faults looks pairs places is a.ensures.0 a.ensures.1 in
-          if_err_map c.send.result _ _ (λ why unsent. answer_stopped here here c.args.number command a.answer before after why (refused_replies (world (state_of h) files) command c.args.why.now is.refused) answers unsent) c.send.ensures.stopped;
+          IfErr-weaker c.send.result _ _ (λ why unsent. answer_stopped here here c.args.number command a.answer before after why (refused_replies (world (state_of h) files) command c.args.why.now is.refused) answers unsent) c.send.ensures.stopped;
     }

@@ -1,12 +1,6 @@
 use Rattle.std.proofs.Common.{◌≡◌, ◌≤◌, ◌+◌, ◌*◌, ◌∙◌, ap, refl, sym, subst, length, min, arith, List, ℕ}
-use Rattle.edit_expr.specs.Values.{text_at}
-use Rattle.query_book.specs.Book.{queries_of}
-use Rattle.slp_model.specs.declared.Node.{Node}
-use Rattle.span_enum.specs.Listing.{text_of}
-use Rattle.span_enum.specs.Members.{AreAnswersOf}
+use Rattle.span_run.proofs.Names.{AreAnswersOf, looks_limit, Node, queries_of, text_at, text_of, value_of}
 use Rattle.span_replace.specs.Chosen.{chosen}
-use Rattle.span_language.specs.State.{value_of}
-use Rattle.span_types.specs.Fibonacci.{looks_limit}
 use Rattle.span_run.proofs.replacing.choose.Goals as goal
 
 pub returns-clause-choice : goal.returns-clause-choice

@@ -1,12 +1,6 @@
-use Rattle.std.proofs.Common.{◌≡◌, ◌∙◌, inl, inr, refl, sym, ap, List, ℕ, Some, None}
-use Rattle.std.specs.Prelude.{option_map}
+use Rattle.std.proofs.Common.{◌≡◌, ◌∙◌, inl, inr, refl, sym, ap, List, ℕ, Some, None, option_map}
 use Rattle.doc_book.specs.Docs as book
-use Rattle.edit_expr.specs.Values.{text_at}
-use Rattle.query_book.specs.Book.{queries_of}
-use Rattle.span_language.specs.State.{value_of}
-use Rattle.span_types.specs.Rel.{names_of}
-use Rattle.span_language.specs.State.{world}
-use Rattle.span_run.specs.Held.{state_of}
+use Rattle.span_run.proofs.Names.{names_of, queries_of, state_of, text_at, value_of, world}
 use Rattle.span_run.proofs.CarryLemmas.{none_of_err, some_of_ok}
 use Rattle.span_run.proofs.QueryLemmas.{document_is, document_lacks}
 use Rattle.span_run.proofs.ReplaceLemmas.{not_one}

@@ -1,8 +1,5 @@
 use Rattle.std.proofs.Common.{◌∙◌, ap, inl}
-use Rattle.std.proofs.lemmas.Result.{err_from_is_err_and}
-use Rattle.edit_expr.specs.Values.{plain, text_at}
-use Rattle.edit_expr.proofs.EvalLemmas.{AreLive-grows, plain-grows}
-use Rattle.span_replace.specs.Replaced.{replaced}
+use Rattle.span_run.proofs.Names.{AreLive-grows, err_from_is_err_and, plain, plain-grows, replaced, text_at}
 use Rattle.span_run.proofs.CarryLemmas.{assigned_after}
 use Rattle.span_run.proofs.replacing.put_in_place.Goals as goal
 

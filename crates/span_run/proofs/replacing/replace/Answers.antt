@@ -1,20 +1,12 @@
 use Rattle.std.proofs.Common.{rules, ◌≡◌, inl, ap, refl, subst, length, arith, List, Err}
-use Rattle.edit_expr.specs.Values.{plain, text_at}
-use Rattle.query_book.specs.Book.{queries_of}
+use Rattle.span_run.proofs.Names.{counters, plain, queries_of, replaced, ReplaceRefusal, Replaces, Span, state_of, text_at, world}
 use Rattle.script_syntax.specs.declared.form.Command.TheVariants as form
-use Rattle.span_replace.specs.Replaced.{replaced}
 use Rattle.span_replace.specs.Outcomes.{IsChoice}
-use Rattle.span_replace.specs.declared.refusal.ReplaceRefusal.{ReplaceRefusal}
 use Rattle.span_replace.specs.declared.refusal.ReplaceRefusal.TheVariants.{TooManyMatches}
-use Rattle.span_types.specs.declared.tuple.Span.{Span}
-use Rattle.span_language.specs.State.{world}
-use Rattle.span_language.specs.Allowance.{counters}
-use Rattle.span_run.specs.Held.{state_of}
-use Rattle.span_run.specs.Replacing.{Replaces}
-use Rattle.span_run.proofs.CarryLemmas.{not_begun, part_of_paid}
+use Rattle.span_run.proofs.CarryLemmas.{part_of_paid}
 use Rattle.span_run.proofs.HeldLemmas.{live_root}
 use Rattle.span_run.proofs.ReplaceLemmas.{choose_stops, chosen_before, is_replacing, replace_carries, replace_many, replace_paid}
-use Rattle.span_run.proofs.Goes.{moved_answers, moved_stops, passed_on, placed_answers, placed_stops}
+use Rattle.span_run.proofs.Goes.{moved_answers, moved_stops, passed_on, placed_answers, unplaced}
 use Rattle.span_run.proofs.replacing.replace.Goals as goal
 
 pub choose-requires-clause-subject : goal.choose-requires-clause-subject
@@ -31,13 +23,9 @@ put_in_place-requires-clause-other g c = live_root c.args.held.now.store c.args.
 
 pub returns-in_err-grow_all-in-Ok-clause-stopped : goal.returns-in_err-grow_all-in-Ok-clause-stopped
 returns-in_err-grow_all-in-Ok-clause-stopped g c = λ files faults.
-    let h = c.args.held.now in
-    let asked = c.args.asked in
-    let command = form.ReplaceDoc asked.name asked.query asked.source asked.by in
     let grown = c.grow_all.ensures in
     passed_on c.from_residual.result _ c.from_residual.ensures.1
-    (placed_stops h c.grow_all.new.self c.args.context.number command files faults c.args.looks.now c.args.looks.now c.args.pairs.now c.args.places.now c.grow_all.new.places c.requires grown.serves grown.queries grown.some grown.steps
-    (not_begun (world (state_of h) files) command c.args.looks.now c.args.pairs.now))
+    (unplaced c.args.held.now c.grow_all.new.self c.args.context.number (form.ReplaceDoc c.args.asked.name c.args.asked.query c.args.asked.source c.args.asked.by) files faults c.args.looks.now c.args.pairs.now c.args.places.now c.grow_all.new.places c.requires grown.serves grown.queries grown.some grown.steps)
 
 pub returns-in-Ok-choose-clause-done : goal.returns-in-Ok-choose-clause-done
 returns-in-Ok-choose-clause-done g c = λ files faults.

@@ -1,11 +1,11 @@
 use Rattle.std.proofs.Common.{length, ◌≤◌, ◌+◌, ◌^◌, arith, ◌++◌, take, length-append, length-take}
-use Rattle.span_run.proofs.ReadingLemmas.{Consumes-more}
+use Rattle.span_run.proofs.Names.{Consumes-trans}
 use Rattle.span_run.proofs.top.read_script.Goals as goal
 
 pub returns-then-is_err-clause-taken : goal.returns-then-is_err-clause-taken
 returns-then-is_err-clause-taken g c = (
   c.loop-chunk.bytes.items ++ take c.in-Ok.count c.read.new.into,
-  Consumes-more (g.S.Source.left c.args.script.now) (g.S.Source.left c.loop-chunk.script) (g.S.Source.left c.read.new.self) c.loop-chunk.bytes.items (take c.in-Ok.count c.read.new.into) c.loop-chunk.invariant.so_far c.in-Ok.ensures.bytes.0,
+  Consumes-trans (g.S.Source.left c.args.script.now) (g.S.Source.left c.loop-chunk.script) (g.S.Source.left c.read.new.self) c.loop-chunk.bytes.items (take c.in-Ok.count c.read.new.into) c.loop-chunk.invariant.so_far c.in-Ok.ensures.bytes.0,
   by_length,
 )
   where

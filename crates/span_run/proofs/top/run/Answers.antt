@@ -1,7 +1,5 @@
 use Rattle.std.proofs.Common.{◌≤◌, ◌^◌, length, map, string_bytes, refl}
-use Rattle.span_language.specs.Lines.{lines_of}
-use Rattle.span_language.specs.Runs.{outside, Anywhere, InFileLine, UnlessList, RunsFront}
-use Rattle.span_language.specs.Scripts.{script_of}
+use Rattle.span_run.proofs.Names.{Anywhere, InFileLine, lines_of, outside, RunsFront, script_of, UnlessList}
 use Rattle.span_run.proofs.RunsLemmas.{none_ran, none_written, each_some}
 use Rattle.span_run.proofs.ScriptLemmas.{of_demo, of_script}
 use Rattle.span_run.proofs.top.run.Goals as goal

@@ -1,11 +1,6 @@
 use Rattle.std.proofs.Common.{◌≡◌, ◌+◌, ap, subst, sym, Bool, arith}
-use Rattle.std.proofs.lemmas.Result.{err_from_is_err_and}
-use Rattle.span_language.specs.Lines.{lines_of}
-use Rattle.span_language.specs.Runs.{outside}
-use Rattle.span_language.specs.declared.told.Stop.{Stop}
+use Rattle.span_run.proofs.Names.{err_from_is_err_and, IsStopped, lines_of, outlet, outside, seen, Stop}
 use Rattle.span_language.specs.declared.told.Stop.TheVariants as stop
-use Rattle.span_run.specs.Carried.{IsStopped, outlet}
-use Rattle.span_run.specs.Scene.{seen}
 use Rattle.span_run.proofs.LinesLemmas.{empty_of}
 use Rattle.span_run.proofs.RunsLemmas.{IsAt, at_start, ends, goes_on, stops_anywhere, stops_in_file, stops_wanting, rose_later, told_of}
 use Rattle.span_run.proofs.top.run_lines.Goals as goal

@@ -1,7 +1,5 @@
 use Rattle.std.proofs.Common.{◌+◌, ◌≤◌, length}
-use Rattle.span_language.specs.Lines.{lines_of}
-use Rattle.span_run.specs.Held.{IsStanding}
-use Rattle.span_language.specs.Runs.{outside}
+use Rattle.span_run.proofs.Names.{IsStanding, lines_of, outside}
 use Rattle.span_run.proofs.RunsLemmas.{IsAt}
 use Rattle.span_run.proofs.top.run_lines.Given as goal
 

@@ -1,9 +1,6 @@
-use Rattle.std.proofs.Common.{rules, ◌≡◌, ◌∙◌, ap, refl, sym, List, ℕ, Some, None}
-use Rattle.std.specs.Prelude.{option_map}
-use Rattle.edit_expr.specs.Values.{plain}
+use Rattle.std.proofs.Common.{rules, ◌≡◌, ◌∙◌, ap, refl, sym, List, ℕ, Some, None, option_map}
+use Rattle.span_run.proofs.Names.{plain, state_of, value_of}
 use Rattle.script_syntax.specs.declared.form.Command.TheVariants as form
-use Rattle.span_language.specs.State.{value_of}
-use Rattle.span_run.specs.Held.{state_of}
 use Rattle.span_run.proofs.HeldLemmas.{version_kept, version_of-plain}
 use Rattle.span_run.proofs.CarryLemmas.{back_carries}
 use Rattle.span_run.proofs.Goes.{marked_answers, passed_on, stays}

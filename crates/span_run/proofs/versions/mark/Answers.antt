@@ -1,11 +1,7 @@
 use Rattle.std.proofs.Common.{◌∙◌, ap, refl, sym, subst, List}
-use Rattle.doc_book.specs.declared.Doc.{Doc}
+use Rattle.span_run.proofs.Names.{AreKept, at, Doc, Named, plain_versions, state_of, Stays}
 use Rattle.script_syntax.specs.declared.form.Command.TheVariants as form
-use Rattle.span_language.specs.State.{Named}
 use Rattle.span_language.specs.declared.told.Stop.TheVariants as stop
-use Rattle.span_run.specs.Answers.{Stays}
-use Rattle.span_run.specs.Held.{AreKept, plain_versions, state_of}
-use Rattle.span_run.specs.Site.{at}
 use Rattle.span_run.proofs.HeldLemmas.{AreKept-put, plain_versions-put}
 use Rattle.span_run.proofs.CarryLemmas.{mark_carries}
 use Rattle.span_run.proofs.Goes.{marked_answers, passed_on, stays}

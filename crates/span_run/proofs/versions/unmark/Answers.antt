@@ -1,12 +1,8 @@
-use Rattle.std.proofs.Common.{◌≡◌, ◌∙◌, ap, refl, sym, subst, List, ℕ, Option, Ok, Err, Some, None}
-use Rattle.std.specs.Prelude.{ok_or}
+use Rattle.std.proofs.Common.{◌≡◌, ◌∙◌, ap, refl, sym, subst, List, ℕ, Option, Ok, Err, Some, None, ok_or}
 use Rattle.std.specs.Option.{option_map}
-use Rattle.doc_book.specs.declared.Doc.{Doc}
+use Rattle.span_run.proofs.Names.{AreKept, Doc, Named, plain, plain_versions, state_of, taken_out, value_of}
 use Rattle.doc_versions.specs.declared.VersionRefusal.{VersionRefusal}
-use Rattle.edit_expr.specs.Values.{plain}
 use Rattle.script_syntax.specs.declared.form.Command.TheVariants as form
-use Rattle.span_language.specs.State.{Named, taken_out, value_of}
-use Rattle.span_run.specs.Held.{AreKept, plain_versions, state_of}
 use Rattle.span_run.proofs.HeldLemmas.{AreKept-taken_out, plain_versions-taken_out, version_of-plain}
 use Rattle.span_run.proofs.CarryLemmas.{unmark_carries}
 use Rattle.span_run.proofs.Goes.{marked_answers, passed_on, stays}

@@ -1,7 +1,6 @@
 use Rattle.std.proofs.Common.{subst, ◌≡◌, Some, List, ℕ}
 use Rattle.std.specs.Option.{option_map}
-use Rattle.span_types.specs.Rel.{names_of}
-use Rattle.query_book.specs.Book.{queries_of}
+use Rattle.span_run.proofs.Names.{names_of, queries_of}
 use Rattle.query_book.specs.Named.{value_of}
 use Rattle.span_run.proofs.PageLemmas.{no_word}
 use Rattle.span_run.proofs.words.cursor_of.Goals as goal

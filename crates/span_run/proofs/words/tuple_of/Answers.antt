@@ -1,20 +1,13 @@
-use Rattle.std.proofs.Common.{◌≡◌, ℕ, List, Option, Some, None, refl, sym, subst}
-use Rattle.std.specs.Prelude.{option_map}
-use Rattle.span_types.specs.Query.{Query}
-use Rattle.span_types.specs.Rel.{names_of}
-use Rattle.span_cursor.specs.Tuples.{HasOtherNames, IsTupleText}
-use Rattle.query_book.specs.Book.{queries_of}
-use Rattle.span_language.specs.State.{Named, value_of}
+use Rattle.std.proofs.Common.{◌≡◌, ℕ, List, Some, sym, subst, ap, ◌∙◌, option_map}
+use Rattle.span_run.proofs.BookLemmas.{query_of}
+use Rattle.span_run.proofs.Names.{HasOtherNames, IsTupleText, Named, names_of, queries_of, Query, value_of}
 use Rattle.span_run.proofs.words.tuple_of.Goals as goal
 
 -- the query whose variables were told
 of_query : (queries : Named Query) (bytes name : List ℕ) (vars : List (List ℕ)) (P : List (List ℕ) → Type 0) → option_map names_of (value_of queries bytes) ≡ Some vars → bytes ≡ name → P vars
     → (q : Query) × (value_of queries name ≡ Some q) × P (names_of q)
-of_query queries bytes name vars P told same h = subst (λ (n : List ℕ). (q : Query) × (value_of queries n ≡ Some q) × P (names_of q)) same (at (value_of queries bytes) told)
-  where
-    at : (o : Option Query) → option_map names_of o ≡ Some vars → (q : Query) × (o ≡ Some q) × P (names_of q)
-    at None e = let bad : ⊥ = cc e in absurd bad
-    at (Some q) e = let names : names_of q ≡ vars = cc e in (q, refl, subst P (sym names) h)
+of_query queries bytes name vars P told same h =
+    let q = query_of (value_of queries bytes) vars told in (q.0, ap (λ (n : List ℕ). value_of queries n) (sym same) ∙ q.1, subst P (sym q.2) h)
 
 pub returns-in-Err-BadTuple-clause-err : goal.returns-in-Err-BadTuple-clause-err
 returns-in-Err-BadTuple-clause-err c =

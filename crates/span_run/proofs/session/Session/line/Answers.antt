@@ -1,8 +1,5 @@
-use Rattle.std.proofs.Common.{subst}
-use Rattle.std.specs.Prelude.{IfOk, IfErr}
-use Rattle.span_run.specs.Carried.{IsDone, IsStopped, outlet}
-use Rattle.span_run.specs.Held.{Standing, standing_of}
-use Rattle.span_run.specs.Scene.{seen}
+use Rattle.std.proofs.Common.{subst, IfOk, IfErr}
+use Rattle.span_run.proofs.Names.{IsDone, IsStopped, outlet, seen, Standing, standing_of}
 use Rattle.span_run.proofs.BookLemmas.{covered-within}
 use Rattle.span_run.proofs.session.Session.line.Goals as goal
 
