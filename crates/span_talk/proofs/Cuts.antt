@@ -29,12 +29,6 @@ kept_goes_on zero xs ys = refl
 kept_goes_on (suc n) [] ys = refl
 kept_goes_on (suc n) (x ∷ xs) ys = ap (λ l. x ∷ l) (kept_goes_on n xs ys)
 
-pub take_all : (n : ℕ) (xs : List ℕ) → length xs ≤ n → take n xs ≡ xs
-take_all zero [] h = refl
-take_all (suc n) [] h = refl
-take_all zero (x ∷ xs) h = absurd (omega (arith, h))
-take_all (suc n) (x ∷ xs) h = ap (λ l. x ∷ l) (take_all n xs (omega (arith, h)))
-
 -- what is kept is all, where it is less than may be kept
 pub short_take : (n : ℕ) (xs : List ℕ) → length (take n xs) < n → take n xs ≡ xs
 short_take zero xs h = absurd (omega (arith, h))

@@ -2,14 +2,14 @@
 use Rattle.std.proofs.Common.{◌≡◌, ℕ, ◌+◌, ◌≤◌, Bool, List, [], ◌∷◌, ◌++◌, take, refl, sym, ◌∙◌, ap, subst, arith, inl, inr}
 use Rattle.std.specs.Prelude.{◌||◌, Option, Some, None}
 use Rattle.std.specs.Io.KnownBytes.{Appends}
-use Rattle.std.proofs.lemmas.List.{append-nil}
+use Rattle.std.proofs.lemmas.List.{append-nil, take_all}
 use Rattle.edge_io.specs.Causes.{Rose}
 use Rattle.script_syntax.specs.Syntax.{LineText}
 use Rattle.script_syntax.specs.declared.form.Command.{Command}
 use Rattle.span_language.specs.State.{world}
 use Rattle.span_language.specs.Allowance.{no_steps}
 use Rattle.span_language.specs.Means.{Means}
-use Rattle.span_language.specs.Runs.{Outside, is_refused, Anywhere, InFileLine, UnlessList, RunsFront}
+use Rattle.span_language.specs.Runs.{Outside, is_refused, RunsFront}
 use Rattle.span_language.specs.declared.told.Told.{Told}
 use Rattle.span_language.specs.declared.told.Stop.{Stop}
 use Rattle.span_language.specs.declared.told.Stop.TheVariants as stop
@@ -17,8 +17,8 @@ use Rattle.span_run.specs.Held.{Standing, IsStanding}
 use Rattle.span_run.specs.Scene.{Scene}
 use Rattle.span_run.specs.Carried.{IsDone, IsStopped, Outlet}
 use Rattle.span_run.proofs.RunsLemmas.{IsAt, told_of, goes_on, stops_anywhere, stops_in_file, stops_wanting, ends}
-use Rattle.span_talk.specs.Progress.{Does, Place, StandsAt, StopsIn, place}
-use Rattle.span_talk.proofs.Cuts.{short_take, take_all}
+use Rattle.span_talk.specs.Progress.{Does, IsHalted, Place, StandsAt, StopsIn, place}
+use Rattle.span_talk.proofs.Cuts.{short_take}
 
 pub means_kept : (line : List ℕ) (meaning : Option Command) → Means (take 65537 line) meaning → Means line meaning
 means_kept line None h = λ command text. h command (subst (λ (l : List ℕ). LineText l command) (sym (take_all 65537 line (omega (arith, text.short)))) text)
@@ -73,30 +73,28 @@ module _ (kept : List ℕ) (number : ℕ) (old : Scene) (sink : Outlet) (new : S
   does refused told done = λ line lines before is at.
       goes_on (lines ++ line ∷ []) (line ∷ []) [] line number refused before old sink new after refl (further lines (line ∷ []) number refused old.standing before (told_of old sink) at) told (done_as line told is done)
 
-  -- the counts never fall
-  pub later : (why : Stop) → IsStopped kept number old sink new after why → (sink.faults ≤ after.faults) × (sink.wants ≤ after.wants) × (old.faults ≤ new.faults)
-  later why (inl (other, same, unsaid)) =
-      subst (λ (o : Outlet). (sink.faults ≤ o.faults) × (sink.wants ≤ o.wants) × (old.faults ≤ new.faults)) (sym unsaid)
-      (subst (λ (s : Scene). (sink.faults ≤ sink.faults) × (sink.wants ≤ sink.wants) × (old.faults ≤ s.faults)) (sym same) (omega arith, omega arith, omega arith))
-  later why (inr (meaning, means, s)) = (s.passes.later, s.passes.wants_later, s.passes.shelf_later)
-
-  pub out_rose : IsStopped kept number old sink new after stop.OutFault → Rose sink.faults after.faults
+  out_rose : IsStopped kept number old sink new after stop.OutFault → Rose sink.faults after.faults
   out_rose (inl (other, same, unsaid)) = let bad : ⊥ = cc other in absurd bad
   out_rose (inr (meaning, means, s)) = (s.fault refl).1
 
-  pub shelf_rose : IsStopped kept number old sink new after stop.ShelfFault → Rose old.faults new.faults
+  shelf_rose : IsStopped kept number old sink new after stop.ShelfFault → Rose old.faults new.faults
   shelf_rose (inl (other, same, unsaid)) = let bad : ⊥ = cc other in absurd bad
   shelf_rose (inr (meaning, means, s)) = (s.shelf_fault refl).1
 
-  module _ (refused : Bool) (held : IsStanding old.standing) (stands : IsStanding new.standing) where
-    pub stops_out : IsStopped kept number old sink new after stop.OutFault → StopsIn Anywhere kept (place number refused old.standing (told_of old sink)) (told_of new after)
-    stops_out stopped = λ line lines more before is at.
-        (stops_anywhere (lines ++ line ∷ more) (line ∷ more) more line number refused before old sink new after refl (further lines (line ∷ more) number refused old.standing before (told_of old sink) at) held stands (stopped_as line stop.OutFault is stopped)).1
-
-    pub stops_shelf : IsStopped kept number old sink new after stop.ShelfFault → StopsIn InFileLine kept (place number refused old.standing (told_of old sink)) (told_of new after)
-    stops_shelf stopped = λ line lines more before is at.
-        (stops_in_file (lines ++ line ∷ more) (line ∷ more) more line number refused before old sink new after refl (further lines (line ∷ more) number refused old.standing before (told_of old sink) at) held stands (stopped_as line stop.ShelfFault is stopped)).1
-
-    pub stops_want : IsStopped kept number old sink new after stop.NoMemory → (wants : ℕ) → wants ≤ sink.wants → StopsIn (UnlessList wants after.wants) kept (place number refused old.standing (told_of old sink)) (told_of new after)
-    stops_want stopped wants few = λ line lines more before is at.
-        stops_wanting (lines ++ line ∷ more) (line ∷ more) more line number refused before old sink new after refl (further lines (line ∷ more) number refused old.standing before (told_of old sink) at) wants few held stands (stopped_as line stop.NoMemory is stopped)
+  -- the run is stopped as the line was
+  pub halts : (refused : Bool) (why : Stop) → IsStanding old.standing → IsStanding new.standing → IsStopped kept number old sink new after why
+      → IsHalted (λ Ends. StopsIn Ends kept (place number refused old.standing (told_of old sink)) (told_of new after)) sink old.faults after new.faults why
+  halts refused why held stands stopped = record {
+    out_fault = λ is.
+        let s = subst (λ (w : Stop). IsStopped kept number old sink new after w) is stopped in
+        (out_rose s, λ line lines more before same at. (stops_anywhere (lines ++ line ∷ more) (line ∷ more) more line number refused before old sink new after refl (begun line lines more before at) held stands (stopped_as line stop.OutFault same s)).1);
+    shelf_fault = λ is.
+        let s = subst (λ (w : Stop). IsStopped kept number old sink new after w) is stopped in
+        (shelf_rose s, λ line lines more before same at. (stops_in_file (lines ++ line ∷ more) (line ∷ more) more line number refused before old sink new after refl (begun line lines more before at) held stands (stopped_as line stop.ShelfFault same s)).1);
+    want = λ is wants few line lines more before same at.
+        let s = subst (λ (w : Stop). IsStopped kept number old sink new after w) is stopped in
+        stops_wanting (lines ++ line ∷ more) (line ∷ more) more line number refused before old sink new after refl (begun line lines more before at) wants few held stands (stopped_as line stop.NoMemory same s);
+  }
+    where
+      begun : (line : List ℕ) (lines more : List (List ℕ)) (before : Outside) → StandsAt lines before (place number refused old.standing (told_of old sink)) → IsAt (lines ++ line ∷ more) (line ∷ more) number refused old.standing before (told_of old sink)
+      begun line lines more before at = further lines (line ∷ more) number refused old.standing before (told_of old sink) at

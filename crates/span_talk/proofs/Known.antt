@@ -2,38 +2,16 @@
 use Rattle.std.proofs.Common.{ℕ, List, [], ◌∷◌, ◌++◌, refl, sym, ◌∙◌, ap, subst, append_assoc}
 use Rattle.std.specs.Prelude.{Option, Some, None}
 use Rattle.std.specs.List.{AllByRecursion}
-use Rattle.std.specs.Io.KnownBytes.{Consumes, IsAtEnd, Keeps}
+use Rattle.std.specs.Io.KnownBytes.{Consumes, Keeps}
 use Rattle.std.proofs.lemmas.List.{append-nil}
 use Rattle.span_language.specs.Runs.{Outside}
 use Rattle.span_talk.specs.Talk.{AreServed, IsServed, Moment, Notes, OfSent}
-
-pub none_consumed : (a : Option (List ℕ)) → Consumes a a []
-none_consumed None = tt
-none_consumed (Some a) = refl
-
-pub both_consumed : (a b c : Option (List ℕ)) (xs ys : List ℕ) → Consumes a b xs → Consumes b c ys → Consumes a c (xs ++ ys)
-both_consumed None b c xs ys first second = tt
-both_consumed (Some a) None c xs ys first second = absurd first
-both_consumed (Some a) (Some b) None xs ys first second = absurd second
-both_consumed (Some a) (Some b) (Some c) xs ys first second = first ∙ ap (λ l. xs ++ l) second ∙ sym (append_assoc xs ys c)
-
-pub kept_consumed : (a b c : Option (List ℕ)) (xs : List ℕ) → Consumes a b xs → Keeps b c → Consumes a c xs
-kept_consumed None b c xs first kept = tt
-kept_consumed (Some a) None c xs first kept = absurd first
-kept_consumed (Some a) (Some b) None xs first kept = absurd kept
-kept_consumed (Some a) (Some b) (Some c) xs first kept = first ∙ ap (λ l. xs ++ l) (sym kept)
 
 -- what holds of the bytes that were heard, whatever follows, holds of all that is sent
 pub of_sent : (old new : Option (List ℕ)) (heard : List ℕ) (Holds : List ℕ → Type 0) → Consumes old new heard → ((tail : List ℕ) → Holds (heard ++ tail)) → OfSent old Holds
 of_sent None new heard Holds consumed h = (heard ++ [], h [])
 of_sent (Some a) None heard Holds consumed h = absurd consumed
 of_sent (Some a) (Some b) heard Holds consumed h = subst Holds (sym consumed) (h b)
-
--- and so does what holds of them at the end
-pub of_all : (old new : Option (List ℕ)) (heard : List ℕ) (Holds : List ℕ → Type 0) → Consumes old new heard → IsAtEnd new → Holds heard → OfSent old Holds
-of_all None new heard Holds consumed end h = (heard, h)
-of_all (Some a) None heard Holds consumed end h = absurd consumed
-of_all (Some a) (Some b) heard Holds consumed end h = subst Holds (sym (consumed ∙ ap (λ l. heard ++ l) end ∙ append-nil heard)) h
 
 pub each_sent : (old : Option (List ℕ)) (P Q : List ℕ → Type 0) → ((sent : List ℕ) → P sent → Q sent) → OfSent old P → OfSent old Q
 each_sent None P Q f (sent, h) = (sent, f sent h)

@@ -1,6 +1,7 @@
 -- A conversation goes on by a line, and by a part of one.
 use Rattle.std.proofs.Common.{◌≡◌, ◌≢◌, ℕ, ◌<◌, false, List, [], ◌∷◌, ◌++◌, length, take, refl, sym, ◌∙◌, ap, subst, arith, append_assoc}
-use Rattle.std.specs.Prelude.{All, Option, None, Result, Ok, Err, IfErr}
+use Rattle.std.proofs.KnownBytes.{Consumes-trans}
+use Rattle.std.specs.Prelude.{All, Option, None}
 use Rattle.std.specs.Io.KnownBytes.{Consumes}
 use Rattle.std.proofs.lemmas.List.{append-nil}
 use Rattle.script_syntax.specs.declared.form.Command.{Command}
@@ -14,7 +15,7 @@ use Rattle.span_talk.specs.Talk.{AreReplied, HaveRun, OfSent, whole_lines}
 use Rattle.span_talk.specs.Progress.{Does, Hears, IsTalking, Place, StopsIn, StopsWithin, place}
 use Rattle.span_talk.proofs.Cuts.{ended_with, ended_without, kept_goes_on, line_cut, none_kept, nothing_cut, part_cut, some_begun, whole_is}
 use Rattle.span_talk.proofs.Doing.{stopped_between}
-use Rattle.span_talk.proofs.Known.{both_consumed, of_sent}
+use Rattle.span_talk.proofs.Known.{of_sent}
 
 pub begins : (before : Outside) (st : Standing) (kept : List ℕ) → kept ≡ [] → st.state ≡ nothing → st.covered ≡ [] → st.store ≡ [] → IsTalking [] before kept (place 1 false st before)
 begins before st kept none state covered store = record { done = []; begun = []; cut = nothing_cut; kept_is = none; at = at_start [] before st state covered store }
@@ -81,11 +82,6 @@ module _ (bytes : List ℕ) (before : Outside) (kept : List ℕ) (p : Place) (t 
   stops_in_last Ends after some stops =
       subst (λ (l : List (List ℕ)). RunsFront Ends l before after) (sym (last_of some)) (stops t.begun t.done [] before t.kept_is t.at)
 
--- what holds for every error
-pub any_err : {T E : Type 0} (r : Result T E) (P : E → Type 0) → ((why : E) → P why) → IfErr r P
-any_err (Ok x) P f = tt
-any_err (Err why) P f = f why
-
 -- a piece of which a part has been read
 module _ (piece read rest : List ℕ) (kept : List ℕ) (p : Place) (kept_now : List ℕ) (now : Place) (is : piece ≡ read ++ rest) (hears : Hears read kept p kept_now now) where
   split : (bytes tail : List ℕ) → bytes ++ (piece ++ tail) ≡ (bytes ++ read) ++ (rest ++ tail)
@@ -121,5 +117,5 @@ module _ (piece read rest : List ℕ) (kept : List ℕ) (p : Place) (kept_now : 
 pub stops_sent : (a b c : Option (List ℕ)) (bytes piece : List ℕ) (before : Outside) (kept : List ℕ) (p : Place) (Ends : Option Command → List ℕ → Type 0) (after : Outside)
     → Consumes a b bytes → Consumes b c piece → IsTalking bytes before kept p → StopsWithin Ends piece kept p after → OfSent a (λ sent. RunsFront Ends (lines_of sent) before after)
 stops_sent a b c bytes piece before kept p Ends after first second t stops =
-    of_sent a c (bytes ++ piece) (λ sent. RunsFront Ends (lines_of sent) before after) (both_consumed a b c bytes piece first second)
+    of_sent a c (bytes ++ piece) (λ sent. RunsFront Ends (lines_of sent) before after) (Consumes-trans a b c bytes piece first second)
     (λ tail. subst (λ l. RunsFront Ends (lines_of l) before after) (sym (append_assoc bytes piece tail)) (stops bytes tail before t))

@@ -1,8 +1,12 @@
 -- Where a conversation stands, between two lines and between two pieces.
-use Rattle.std.specs.Prelude.{◌≡◌, ℕ, Bool, List, [], ◌∷◌, ◌++◌, Option, take}
+use Rattle.std.specs.Prelude.{◌≡◌, ℕ, ◌≤◌, Bool, List, [], ◌∷◌, ◌++◌, Option, take}
+use Rattle.edge_io.specs.Causes.{Rose}
 use Rattle.script_syntax.specs.declared.form.Command.{Command}
 use Rattle.span_language.specs.Lines.{lines_of}
-use Rattle.span_language.specs.Runs.{Outside, RunsAll, RunsFront}
+use Rattle.span_language.specs.Runs.{Outside, Anywhere, InFileLine, UnlessList, RunsAll, RunsFront}
+use Rattle.span_language.specs.declared.told.Stop.{Stop}
+use Rattle.span_language.specs.declared.told.Stop.TheVariants as stop
+use Rattle.span_run.specs.Carried.{Outlet}
 use Rattle.span_run.specs.Held.{Standing}
 use Rattle.span_run.proofs.LinesLemmas.{NoNewline}
 use Rattle.span_run.proofs.RunsLemmas.{IsAt}
@@ -66,3 +70,10 @@ Finishes refused kept old after = (sent : List ℕ) (before : Outside) → IsTal
 -- or a run was stopped in a last line that no newline ends
 abbrev pub StopsAtEnd : (Option Command → List ℕ → Type 0) → List ℕ → Place → Outside → Type 0
 StopsAtEnd Ends kept old after = (sent : List ℕ) (before : Outside) → IsTalking sent before kept old → RunsFront Ends (lines_of sent) before after
+
+-- a run was stopped for this reason: the count of the reason rose, from that of the sink or of the shelf before to the one after, and the run
+-- ended as it may for this reason
+pub record IsHalted (Stops : (Option Command → List ℕ → Type 0) → Type 0) (before : Outlet) (old : ℕ) (after : Outlet) (new : ℕ) (why : Stop) : Type 0 where
+  pub out_fault : why ≡ stop.OutFault → Rose before.faults after.faults × Stops Anywhere
+  pub shelf_fault : why ≡ stop.ShelfFault → Rose old new × Stops InFileLine
+  pub want : why ≡ stop.NoMemory → (wants : ℕ) → wants ≤ before.wants → Stops (UnlessList wants after.wants)

@@ -4,9 +4,10 @@ ghost use Rattle.std.specs.Io.KnownBytes.{IsAtEnd};
 ghost use Rattle.edge_io.specs.Causes.{Rose};
 ghost use Rattle.span_language.specs.Lines.{lines_of};
 ghost use Rattle.span_language.specs.Runs.{is_refused, outside, Anywhere, InFileLine, UnlessList, RunsAll, RunsFront};
+ghost use Rattle.span_run.specs.Carried.{outlet};
 ghost use Rattle.span_run.specs.Held.{IsStanding};
 ghost use Rattle.span_talk.specs.Talk.{whole_lines, AreServed, HaveRun, OfHeard, OfSent};
-ghost use Rattle.span_talk.specs.Progress.{stands, Does, Finishes, Hears, IsTalking, StopsAtEnd, StopsIn, StopsWithin};
+ghost use Rattle.span_talk.specs.Progress.{stands, Does, Finishes, Hears, IsHalted, IsTalking, StopsAtEnd, StopsIn, StopsWithin};
 
 use crate::client::Client;
 use crate::lines::{cut_line, keep};
@@ -72,18 +73,11 @@ fn end_line<R: Threads + Sync, K: Sink, F: Shelf, G: Gate, P: Ledger, T: Ledger,
     ensures done { OnOk result (Does progress.old.kept.items
         (stands progress.old (outside (K.written out.old) (F.files shelf.old) looks.old pairs.old places.old))
         (stands progress.new (outside (K.written out.new) (F.files shelf.new) looks.new pairs.new places.new))) }
-    ensures out_fault { IfErr result (λ why. why ≡ Stop.OutFault → Rose (K.faults out.old) (K.faults out.new)
-        × StopsIn Anywhere progress.old.kept.items
+    ensures stopped { IfErr result (IsHalted (λ Ends. StopsIn Ends progress.old.kept.items
         (stands progress.old (outside (K.written out.old) (F.files shelf.old) looks.old pairs.old places.old))
-        (outside (K.written out.new) (F.files shelf.new) looks.new pairs.new places.new)) }
-    ensures shelf_fault { IfErr result (λ why. why ≡ Stop.ShelfFault → Rose (F.faults shelf.old) (F.faults shelf.new)
-        × StopsIn InFileLine progress.old.kept.items
-        (stands progress.old (outside (K.written out.old) (F.files shelf.old) looks.old pairs.old places.old))
-        (outside (K.written out.new) (F.files shelf.new) looks.new pairs.new places.new)) }
-    ensures want { IfErr result (λ why. why ≡ Stop.NoMemory → (wants : ℕ) → wants ≤ K.wants out.old
-        → StopsIn (UnlessList wants (K.wants out.new)) progress.old.kept.items
-        (stands progress.old (outside (K.written out.old) (F.files shelf.old) looks.old pairs.old places.old))
-        (outside (K.written out.new) (F.files shelf.new) looks.new pairs.new places.new)) }
+        (outside (K.written out.new) (F.files shelf.new) looks.new pairs.new places.new))
+        (outlet (K.written out.old) (K.faults out.old) (K.wants out.old)) (F.faults shelf.old)
+        (outlet (K.written out.new) (K.faults out.new) (K.wants out.new)) (F.faults shelf.new)) }
 {
     let told = progress.session.line(
         rt,
@@ -130,18 +124,11 @@ fn hear_piece<R: Threads + Sync, K: Sink, F: Shelf, G: Gate, P: Ledger, T: Ledge
     ensures done { OnOk result (Hears piece.now progress.old.kept.items
         (stands progress.old (outside (K.written out.old) (F.files shelf.old) looks.old pairs.old places.old)) progress.new.kept.items
         (stands progress.new (outside (K.written out.new) (F.files shelf.new) looks.new pairs.new places.new))) }
-    ensures out_fault { IfErr result (λ why. why ≡ Stop.OutFault → Rose (K.faults out.old) (K.faults out.new)
-        × StopsWithin Anywhere piece.now progress.old.kept.items
+    ensures stopped { IfErr result (IsHalted (λ Ends. StopsWithin Ends piece.now progress.old.kept.items
         (stands progress.old (outside (K.written out.old) (F.files shelf.old) looks.old pairs.old places.old))
-        (outside (K.written out.new) (F.files shelf.new) looks.new pairs.new places.new)) }
-    ensures shelf_fault { IfErr result (λ why. why ≡ Stop.ShelfFault → Rose (F.faults shelf.old) (F.faults shelf.new)
-        × StopsWithin InFileLine piece.now progress.old.kept.items
-        (stands progress.old (outside (K.written out.old) (F.files shelf.old) looks.old pairs.old places.old))
-        (outside (K.written out.new) (F.files shelf.new) looks.new pairs.new places.new)) }
-    ensures want { IfErr result (λ why. why ≡ Stop.NoMemory → (wants : ℕ) → wants ≤ K.wants out.old → StopsWithin
-        (UnlessList wants (K.wants out.new)) piece.now progress.old.kept.items
-        (stands progress.old (outside (K.written out.old) (F.files shelf.old) looks.old pairs.old places.old))
-        (outside (K.written out.new) (F.files shelf.new) looks.new pairs.new places.new)) }
+        (outside (K.written out.new) (F.files shelf.new) looks.new pairs.new places.new))
+        (outlet (K.written out.old) (K.faults out.old) (K.wants out.old)) (F.faults shelf.old)
+        (outlet (K.written out.new) (K.faults out.new) (K.wants out.new)) (F.faults shelf.new)) }
 {
     let mut rest = piece;
     'lines: while let Some(parts) = cut_line(rest) {
@@ -270,18 +257,11 @@ fn finish<R: Threads + Sync, K: Sink, F: Shelf, G: Gate, P: Ledger, T: Ledger, L
     ensures done { IfOk result (λ refused. Finishes refused progress.old.kept.items
         (stands progress.old (outside (K.written out.old) (F.files shelf.old) looks.old pairs.old places.old))
         (outside (K.written out.new) (F.files shelf.new) looks.new pairs.new places.new)) }
-    ensures out_fault { IfErr result (λ why. why ≡ Stop.OutFault → Rose (K.faults out.old) (K.faults out.new)
-        × StopsAtEnd Anywhere progress.old.kept.items
+    ensures stopped { IfErr result (IsHalted (λ Ends. StopsAtEnd Ends progress.old.kept.items
         (stands progress.old (outside (K.written out.old) (F.files shelf.old) looks.old pairs.old places.old))
-        (outside (K.written out.new) (F.files shelf.new) looks.new pairs.new places.new)) }
-    ensures shelf_fault { IfErr result (λ why. why ≡ Stop.ShelfFault → Rose (F.faults shelf.old) (F.faults shelf.new)
-        × StopsAtEnd InFileLine progress.old.kept.items
-        (stands progress.old (outside (K.written out.old) (F.files shelf.old) looks.old pairs.old places.old))
-        (outside (K.written out.new) (F.files shelf.new) looks.new pairs.new places.new)) }
-    ensures want { IfErr result (λ why. why ≡ Stop.NoMemory → (wants : ℕ) → wants ≤ K.wants out.old → StopsAtEnd
-        (UnlessList wants (K.wants out.new)) progress.old.kept.items
-        (stands progress.old (outside (K.written out.old) (F.files shelf.old) looks.old pairs.old places.old))
-        (outside (K.written out.new) (F.files shelf.new) looks.new pairs.new places.new)) }
+        (outside (K.written out.new) (F.files shelf.new) looks.new pairs.new places.new))
+        (outlet (K.written out.old) (K.faults out.old) (K.wants out.old)) (F.faults shelf.old)
+        (outlet (K.written out.new) (K.faults out.new) (K.wants out.new)) (F.faults shelf.new)) }
 {
     if progress.kept.is_empty() {
         return Ok(progress.refused);

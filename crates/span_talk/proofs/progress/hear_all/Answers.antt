@@ -1,12 +1,16 @@
-use Rattle.std.proofs.Common.{◌≡◌, ◌++◌, [], arith, ap, length, length-append, take, refl}
-use Rattle.span_language.specs.Runs.{outside, Anywhere, InFileLine, UnlessList}
-use Rattle.span_language.specs.declared.told.Stop.TheVariants as stop
+use Rattle.std.proofs.Common.{◌++◌, [], arith, ap, length, length-append, take, refl}
+use Rattle.std.proofs.KnownBytes.{Consumes-nil, Consumes-trans, Consumes-kept}
+use Rattle.span_language.specs.Lines.{lines_of}
+use Rattle.span_language.specs.Runs.{outside, RunsFront}
+use Rattle.span_run.specs.Carried.{outlet}
 use Rattle.span_run.proofs.RunsLemmas.{rose_later}
-use Rattle.span_talk.specs.Talk.{IsServed, moment}
-use Rattle.span_talk.specs.Progress.{place}
-use Rattle.span_talk.proofs.Ends.{same_stop}
-use Rattle.span_talk.proofs.Known.{both_consumed, kept_consumed, more_served, none_consumed, none_served}
+use Rattle.span_talk.specs.Talk.{AreServed, OfSent, moment}
+use Rattle.span_talk.specs.Progress.{IsHalted, place}
+use Rattle.span_talk.proofs.Ends.{halted_later, same_stop}
+use Rattle.span_talk.proofs.Known.{more_served, none_served}
 use Rattle.span_talk.proofs.Talking.{begins, have_run, replied, stops_sent}
+use Rattle.span_talk.proofs.progress.hear_all.Given.{Over}
+use Rattle.span_talk.proofs.progress.hear_all.Goals.{After-hear, In-Err-hear_piece}
 use Rattle.span_talk.proofs.progress.hear_all.Goals as goal
 
 pub pieces-init : goal.pieces-init
@@ -16,7 +20,7 @@ pieces-init g c =
     let before = outside (g.K.Sink.written a.out.now) (g.F.Shelf.files a.shelf.now) a.looks.now a.pairs.now a.places.now in
     let s = c.new-session in
     record {
-      so_far = ([], none_consumed (t.left a.client.now), refl, begins before s.result c.new-kept.result.items c.new-kept.ensures.items s.ensures.state s.ensures.covered s.ensures.store);
+      so_far = ([], Consumes-nil (t.left a.client.now), refl, begins before s.result c.new-kept.result.items c.new-kept.ensures.items s.ensures.state s.ensures.covered s.ensures.store);
       standing = s.ensures.standing;
       next = omega arith;
       kept = omega (arith, ap length c.new-kept.ensures.items);
@@ -29,180 +33,76 @@ pieces-init g c =
 
 pub returns-in-Err-clause-fault : goal.returns-in-Err-clause-fault
 returns-in-Err-clause-fault g c =
-    let k = g.K.Sink in
-    let f = g.F.Shelf in
     let t = g.C.Client in
-    let a = c.args in
-    let before = outside (k.written a.out.now) (f.files a.shelf.now) a.looks.now a.pairs.now a.places.now in
-    let l = c.pieces in
-    let now = place l.progress.number l.progress.refused l.progress.session (outside (k.written l.out) (f.files l.shelf) l.looks l.pairs l.places) in
-    let kept = l.progress.kept.items in
-    let i = l.invariant in
-    let bytes = i.so_far.0 in
-    let consumed = i.so_far.1 in
-    let talking = i.so_far.3 in
-    let first = t.left a.client.now in
+    let i = c.pieces.invariant in
     λ _. (
-      rose_later (t.faults a.client.now) (t.faults l.client) (t.faults c.hear.new.self) i.client_later c.in-Err.ensures.cause.failed,
-      (bytes, kept_consumed first (t.left l.client) (t.left c.hear.new.self) bytes consumed c.in-Err.ensures.bytes, have_run bytes before kept now talking i.standing),
+      rose_later (t.faults c.args.client.now) (t.faults c.pieces.client) (t.faults c.hear.new.self) i.client_later c.in-Err.ensures.cause.failed,
+      (i.so_far.0, Consumes-kept (t.left c.args.client.now) (t.left c.pieces.client) (t.left c.hear.new.self) i.so_far.0 i.so_far.1 c.in-Err.ensures.bytes, have_run i.so_far.0 _ _ _ i.so_far.3 i.standing),
     )
 
-pub returns-in-Err-clause-served : goal.returns-in-Err-clause-served
-returns-in-Err-clause-served g c =
-    let k = g.K.Sink in
-    let f = g.F.Shelf in
+-- the replies to all lines that had come when the client was heard had been written
+served : (g : Over) (c : After-hear g)
+    → AreServed (g.C.Client.left c.args.client.now) (outside (g.K.Sink.written c.args.out.now) (g.F.Shelf.files c.args.shelf.now) c.args.looks.now c.args.pairs.now c.args.places.now) (g.C.Client.moments c.args.client.now) (g.C.Client.moments c.hear.new.self)
+served g c =
     let t = g.C.Client in
-    let a = c.args in
-    let before = outside (k.written a.out.now) (f.files a.shelf.now) a.looks.now a.pairs.now a.places.now in
     let l = c.pieces in
-    let now = place l.progress.number l.progress.refused l.progress.session (outside (k.written l.out) (f.files l.shelf) l.looks l.pairs l.places) in
-    let kept = l.progress.kept.items in
     let i = l.invariant in
-    let bytes = i.so_far.0 in
-    let consumed = i.so_far.1 in
-    let talking = i.so_far.3 in
-    let first = t.left a.client.now in
-    let served : IsServed first before (moment (t.left l.client) (k.written l.out)) = (bytes, consumed, replied bytes before kept now talking) in
-    let more = more_served first before (t.moments a.client.now) (t.moments l.client) (t.moments c.hear.new.self) (moment (t.left l.client) (k.written l.out)) in
-    more i.served c.hear.ensures.moment served
+    more_served (t.left c.args.client.now) _ (t.moments c.args.client.now) (t.moments l.client) (t.moments c.hear.new.self) (moment (t.left l.client) (g.K.Sink.written l.out))
+    i.served c.hear.ensures.moment (i.so_far.0, i.so_far.1, replied i.so_far.0 _ _ _ i.so_far.3)
+
+pub returns-in-Err-clause-served : goal.returns-in-Err-clause-served
+returns-in-Err-clause-served g c = served g (goal.at.returns-in-Err-clause-served g c).After-hear
 
 pub returns-then-count-eq0-clause-served : goal.returns-then-count-eq0-clause-served
-returns-then-count-eq0-clause-served g c =
-    let k = g.K.Sink in
-    let f = g.F.Shelf in
-    let t = g.C.Client in
-    let a = c.args in
-    let before = outside (k.written a.out.now) (f.files a.shelf.now) a.looks.now a.pairs.now a.places.now in
-    let l = c.pieces in
-    let now = place l.progress.number l.progress.refused l.progress.session (outside (k.written l.out) (f.files l.shelf) l.looks l.pairs l.places) in
-    let kept = l.progress.kept.items in
-    let i = l.invariant in
-    let bytes = i.so_far.0 in
-    let consumed = i.so_far.1 in
-    let talking = i.so_far.3 in
-    let first = t.left a.client.now in
-    let served : IsServed first before (moment (t.left l.client) (k.written l.out)) = (bytes, consumed, replied bytes before kept now talking) in
-    let more = more_served first before (t.moments a.client.now) (t.moments l.client) (t.moments c.hear.new.self) (moment (t.left l.client) (k.written l.out)) in
-    more i.served c.hear.ensures.moment served
+returns-then-count-eq0-clause-served g c = served g (goal.at.returns-then-count-eq0-clause-served g c).After-hear
 
 pub returns-in-Err-hear_piece-clause-served : goal.returns-in-Err-hear_piece-clause-served
-returns-in-Err-hear_piece-clause-served g c =
-    let k = g.K.Sink in
-    let f = g.F.Shelf in
+returns-in-Err-hear_piece-clause-served g c = served g (goal.at.returns-in-Err-hear_piece-clause-served g c).After-hear
+
+-- a run that was stopped in a piece
+halted : (g : Over) (c : In-Err-hear_piece g) → IsHalted
+    (λ Ends. OfSent (g.C.Client.left c.args.client.now) (λ sent. RunsFront Ends (lines_of sent)
+    (outside (g.K.Sink.written c.args.out.now) (g.F.Shelf.files c.args.shelf.now) c.args.looks.now c.args.pairs.now c.args.places.now)
+    (outside (g.K.Sink.written c.hear_piece.new.out) (g.F.Shelf.files c.hear_piece.new.shelf) c.hear_piece.new.looks c.hear_piece.new.pairs c.hear_piece.new.places)))
+    (outlet (g.K.Sink.written c.args.out.now) (g.K.Sink.faults c.args.out.now) (g.K.Sink.wants c.args.out.now)) (g.F.Shelf.faults c.args.shelf.now)
+    (outlet (g.K.Sink.written c.hear_piece.new.out) (g.K.Sink.faults c.hear_piece.new.out) (g.K.Sink.wants c.hear_piece.new.out)) (g.F.Shelf.faults c.hear_piece.new.shelf) c.in-Err-hear_piece.stop
+halted g c =
     let t = g.C.Client in
-    let a = c.args in
-    let before = outside (k.written a.out.now) (f.files a.shelf.now) a.looks.now a.pairs.now a.places.now in
+    let k = g.K.Sink in
     let l = c.pieces in
-    let now = place l.progress.number l.progress.refused l.progress.session (outside (k.written l.out) (f.files l.shelf) l.looks l.pairs l.places) in
-    let kept = l.progress.kept.items in
     let i = l.invariant in
-    let bytes = i.so_far.0 in
-    let consumed = i.so_far.1 in
-    let talking = i.so_far.3 in
-    let first = t.left a.client.now in
-    let served : IsServed first before (moment (t.left l.client) (k.written l.out)) = (bytes, consumed, replied bytes before kept now talking) in
-    let more = more_served first before (t.moments a.client.now) (t.moments l.client) (t.moments c.hear.new.self) (moment (t.left l.client) (k.written l.out)) in
-    more i.served c.hear.ensures.moment served
+    halted_later _ _ _ (outlet (k.written l.out) (k.faults l.out) (k.wants l.out)) _ _ (g.F.Shelf.faults l.shelf) _ _ i.later i.wants_later i.shelf_later c.in-Err-hear_piece.ensures.stopped
+    (λ Ends stops. stops_sent (t.left c.args.client.now) (t.left l.client) (t.left c.hear.new.self) i.so_far.0 _ _ _ _ Ends _ i.so_far.1 c.in-Ok.ensures.bytes.0 i.so_far.3 stops)
 
 pub returns-in-Err-hear_piece-clause-out_fault : goal.returns-in-Err-hear_piece-clause-out_fault
-returns-in-Err-hear_piece-clause-out_fault g c =
-    let k = g.K.Sink in
-    let f = g.F.Shelf in
-    let t = g.C.Client in
-    let a = c.args in
-    let before = outside (k.written a.out.now) (f.files a.shelf.now) a.looks.now a.pairs.now a.places.now in
-    let l = c.pieces in
-    let now = place l.progress.number l.progress.refused l.progress.session (outside (k.written l.out) (f.files l.shelf) l.looks l.pairs l.places) in
-    let kept = l.progress.kept.items in
-    let i = l.invariant in
-    let bytes = i.so_far.0 in
-    let consumed = i.so_far.1 in
-    let talking = i.so_far.3 in
-    let first = t.left a.client.now in
-    let n = c.hear_piece.new in
-    let after = outside (k.written n.out) (f.files n.shelf) n.looks n.pairs n.places in
-    let second = t.left c.hear.new.self in
-    let e = c.in-Err-hear_piece in
-    λ is.
-    let same : e.stop ≡ stop.OutFault = same_stop e.stop stop.OutFault is in
-    let h = e.ensures.out_fault same in
-    (rose_later (k.faults a.out.now) (k.faults l.out) (k.faults n.out) i.later h.0, stops_sent first (t.left l.client) second bytes _ before kept now Anywhere after consumed c.in-Ok.ensures.bytes.0 talking h.1)
+returns-in-Err-hear_piece-clause-out_fault g c = λ is. (halted g (goal.at.returns-in-Err-hear_piece-clause-out_fault g c).In-Err-hear_piece).out_fault (same_stop _ _ is)
 
 pub returns-in-Err-hear_piece-clause-shelf_fault : goal.returns-in-Err-hear_piece-clause-shelf_fault
-returns-in-Err-hear_piece-clause-shelf_fault g c =
-    let k = g.K.Sink in
-    let f = g.F.Shelf in
-    let t = g.C.Client in
-    let a = c.args in
-    let before = outside (k.written a.out.now) (f.files a.shelf.now) a.looks.now a.pairs.now a.places.now in
-    let l = c.pieces in
-    let now = place l.progress.number l.progress.refused l.progress.session (outside (k.written l.out) (f.files l.shelf) l.looks l.pairs l.places) in
-    let kept = l.progress.kept.items in
-    let i = l.invariant in
-    let bytes = i.so_far.0 in
-    let consumed = i.so_far.1 in
-    let talking = i.so_far.3 in
-    let first = t.left a.client.now in
-    let n = c.hear_piece.new in
-    let after = outside (k.written n.out) (f.files n.shelf) n.looks n.pairs n.places in
-    let second = t.left c.hear.new.self in
-    let e = c.in-Err-hear_piece in
-    λ is.
-    let same : e.stop ≡ stop.ShelfFault = same_stop e.stop stop.ShelfFault is in
-    let h = e.ensures.shelf_fault same in
-    (rose_later (f.faults a.shelf.now) (f.faults l.shelf) (f.faults n.shelf) i.shelf_later h.0, stops_sent first (t.left l.client) second bytes _ before kept now InFileLine after consumed c.in-Ok.ensures.bytes.0 talking h.1)
+returns-in-Err-hear_piece-clause-shelf_fault g c = λ is. (halted g (goal.at.returns-in-Err-hear_piece-clause-shelf_fault g c).In-Err-hear_piece).shelf_fault (same_stop _ _ is)
 
 pub returns-in-Err-hear_piece-clause-want : goal.returns-in-Err-hear_piece-clause-want
 returns-in-Err-hear_piece-clause-want g c =
-    let k = g.K.Sink in
-    let f = g.F.Shelf in
-    let t = g.C.Client in
-    let a = c.args in
-    let before = outside (k.written a.out.now) (f.files a.shelf.now) a.looks.now a.pairs.now a.places.now in
-    let l = c.pieces in
-    let now = place l.progress.number l.progress.refused l.progress.session (outside (k.written l.out) (f.files l.shelf) l.looks l.pairs l.places) in
-    let kept = l.progress.kept.items in
-    let i = l.invariant in
-    let bytes = i.so_far.0 in
-    let consumed = i.so_far.1 in
-    let talking = i.so_far.3 in
-    let first = t.left a.client.now in
-    let n = c.hear_piece.new in
-    let after = outside (k.written n.out) (f.files n.shelf) n.looks n.pairs n.places in
-    let second = t.left c.hear.new.self in
-    let e = c.in-Err-hear_piece in
-    λ is.
-    let same : e.stop ≡ stop.NoMemory = same_stop e.stop stop.NoMemory is in
-    stops_sent first (t.left l.client) second bytes _ before kept now (UnlessList (k.wants a.out.now) (k.wants n.out)) after consumed c.in-Ok.ensures.bytes.0 talking (e.ensures.want same (k.wants a.out.now) i.wants_later)
+    λ is. (halted g (goal.at.returns-in-Err-hear_piece-clause-want g c).In-Err-hear_piece).want (same_stop _ _ is) (g.K.Sink.wants c.args.out.now) (omega arith)
 
 pub pieces-preserved : goal.pieces-preserved
 pieces-preserved g c =
-    let k = g.K.Sink in
-    let f = g.F.Shelf in
     let t = g.C.Client in
-    let a = c.args in
-    let before = outside (k.written a.out.now) (f.files a.shelf.now) a.looks.now a.pairs.now a.places.now in
-    let l = c.pieces in
-    let now = place l.progress.number l.progress.refused l.progress.session (outside (k.written l.out) (f.files l.shelf) l.looks l.pairs l.places) in
-    let kept = l.progress.kept.items in
-    let i = l.invariant in
+    let i = c.pieces.invariant in
     let bytes = i.so_far.0 in
-    let consumed = i.so_far.1 in
-    let talking = i.so_far.3 in
-    let first = t.left a.client.now in
-    let served : IsServed first before (moment (t.left l.client) (k.written l.out)) = (bytes, consumed, replied bytes before kept now talking) in
-    let more = more_served first before (t.moments a.client.now) (t.moments l.client) (t.moments c.hear.new.self) (moment (t.left l.client) (k.written l.out)) in
-    let n = c.hear_piece.new in
-    let second = t.left c.hear.new.self in
     let o = c.in-Ok-hear_piece in
     let count = c.in-Ok.ensures.bound.1 in
     let piece = take c.in-Ok.count c.hear.new.into in
     record {
-      so_far = (bytes ++ piece, both_consumed first (t.left l.client) second bytes piece consumed c.in-Ok.ensures.bytes.0, omega (arith, i.so_far.2, count, length-append bytes piece), o.ensures.done bytes before talking);
+      so_far = (
+        bytes ++ piece,
+        Consumes-trans (t.left c.args.client.now) (t.left c.pieces.client) (t.left c.hear.new.self) bytes piece i.so_far.1 c.in-Ok.ensures.bytes.0,
+        omega (arith, i.so_far.2, count, length-append bytes piece),
+        o.ensures.done bytes _ i.so_far.3,
+      );
       standing = c.hear_piece.ensures.standing;
       next = omega (arith, i.next, o.ensures.next, count);
       kept = o.ensures.kept;
-      served = more i.served c.hear.ensures.moment served;
+      served = served g (goal.at.pieces-preserved g c).After-hear;
       client_later = omega (arith, i.client_later, c.hear.ensures.cause.later);
       later = omega (arith, i.later, c.hear_piece.ensures.later);
       wants_later = omega (arith, i.wants_later, c.hear_piece.ensures.wants_later);
@@ -211,17 +111,5 @@ pieces-preserved g c =
 
 pub returns-clause-too_long : goal.returns-clause-too_long
 returns-clause-too_long g c =
-    let k = g.K.Sink in
-    let f = g.F.Shelf in
-    let t = g.C.Client in
-    let a = c.args in
-    let before = outside (k.written a.out.now) (f.files a.shelf.now) a.looks.now a.pairs.now a.places.now in
-    let l = c.pieces in
-    let now = place l.progress.number l.progress.refused l.progress.session (outside (k.written l.out) (f.files l.shelf) l.looks l.pairs l.places) in
-    let kept = l.progress.kept.items in
-    let i = l.invariant in
-    let bytes = i.so_far.0 in
-    let consumed = i.so_far.1 in
-    let talking = i.so_far.3 in
-    let first = t.left a.client.now in
-    λ _. (bytes, consumed, (omega (arith, i.so_far.2), have_run bytes before kept now talking i.standing))
+    let i = c.pieces.invariant in
+    λ _. (i.so_far.0, i.so_far.1, (omega (arith, i.so_far.2), have_run i.so_far.0 _ _ _ i.so_far.3 i.standing))
