@@ -5,7 +5,7 @@ use Rattle.span_language.specs.Runs.{outside, RunsFront}
 use Rattle.span_run.specs.Carried.{outlet}
 use Rattle.span_run.proofs.RunsLemmas.{rose_later}
 use Rattle.span_talk.specs.Talk.{AreServed, OfSent, moment}
-use Rattle.span_talk.specs.Progress.{IsHalted, place}
+use Rattle.span_talk.specs.Progress.{IsHalted}
 use Rattle.span_talk.proofs.Ends.{halted_later, same_stop}
 use Rattle.span_talk.proofs.Known.{more_served, none_served}
 use Rattle.span_talk.proofs.Talking.{begins, have_run, replied, stops_sent}

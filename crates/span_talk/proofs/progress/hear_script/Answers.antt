@@ -1,9 +1,9 @@
-use Rattle.std.proofs.Common.{◌≡◌, ℕ, List, arith}
+use Rattle.std.proofs.Common.{arith}
 use Rattle.span_language.specs.Lines.{lines_of}
 use Rattle.span_language.specs.Runs.{outside, RunsAll, RunsFront}
 use Rattle.span_run.specs.Carried.{outlet}
 use Rattle.span_talk.specs.Talk.{OfSent}
-use Rattle.span_talk.specs.Progress.{IsHalted, IsTalking, place}
+use Rattle.span_talk.specs.Progress.{IsHalted}
 use Rattle.span_talk.proofs.Ends.{halted_later, same_stop}
 use Rattle.span_talk.proofs.Known.{each_sent}
 use Rattle.span_talk.proofs.progress.hear_script.Given.{Over}
