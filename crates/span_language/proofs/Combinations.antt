@@ -22,11 +22,8 @@ record Absent (queries : Named Query) (name : List ℕ) (why : Refusal) : Type 0
 
 absent : (queries : Named Query) (name : List ℕ) (r : CombineRefusal) (why : Refusal) → IsAbsent queries name r → IsCombineRefusal r why → Absent queries name why
 absent queries name (combine.NoSuchQuery wanted) why h k = record { lacks = h.1; is = k ∙ ap NoSuchQuery h.0 }
-absent queries name (combine.QueryTooLarge parts) why h k = absurd h
-absent queries name combine.OtherVariables why h k = absurd h
-absent queries name combine.TooManyVariables why h k = absurd h
-absent queries name combine.TooManyStates why h k = absurd h
 absent queries name combine.NoMemory why h k = absurd k
+absent queries name _ why h k = absurd h
 
 -- the first limit that a query passes, as a reply has it
 data Past (q : Query) (why : Refusal) : Type 0 where
@@ -35,12 +32,11 @@ data Past (q : Query) (why : Refusal) : Type 0 where
   many_states : parts_of q ≤ 128 → length (names_of q) ≤ 8 → TreeCountIsAbove 128 q → why ≡ TooManyStates → Past q why
 
 past : (q : Query) (r : CombineRefusal) (why : Refusal) → IsPast q r → IsCombineRefusal r why → Past q why
-past q (combine.NoSuchQuery wanted) why h k = absurd h
 past q (combine.QueryTooLarge parts) why h k = many_parts (subst (λ (z : ℕ). 128 < z) h.0 h.1) (k ∙ ap QueryTooLarge h.0)
-past q combine.OtherVariables why h k = absurd h
 past q combine.TooManyVariables why h k = many_names h.0 h.1 k
 past q combine.TooManyStates why h k = many_states h.0 h.1 h.2 k
 past q combine.NoMemory why h k = absurd k
+past q _ why h k = absurd h
 
 one_past : (q : Query) (why other : Refusal) → Past q why → Past q other → why ≡ other
 one_past q why other (many_parts p e) (many_parts r f) = e ∙ sym f
@@ -121,12 +117,11 @@ data Unprojected (q : Query) (keep : List ℕ) (why : Refusal) : Type 0 where
   states : HasProjection q keep (λ p. Past p why) → suc (parts_of q) ≤ 128 → Unprojected q keep why
 
 unprojected : (q : Query) (keep : List ℕ) (r : CombineRefusal) (why : Refusal) → IsProjectionPast q keep r → IsCombineRefusal r why → Unprojected q keep why
-unprojected q keep (combine.NoSuchQuery wanted) why h k = absurd h
 unprojected q keep (combine.QueryTooLarge parts) why h k = large (subst (λ (z : ℕ). 128 < z) h.0 h.1) (k ∙ ap QueryTooLarge h.0)
 unprojected q keep combine.OtherVariables why (few, (names, text, other)) k = others few names text other k
-unprojected q keep combine.TooManyVariables why h k = absurd h
 unprojected q keep combine.TooManyStates why (names, text, kept, h) k = states (names, text, kept, past (Project q names) combine.TooManyStates why h k) h.0
 unprojected q keep combine.NoMemory why h k = absurd k
+unprojected q keep _ why h k = absurd h
 
 module _ (q : Query) (keep : List ℕ) where
   -- the names of a text stand all among the variables, or not

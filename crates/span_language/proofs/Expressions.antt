@@ -13,10 +13,8 @@ use Rattle.span_language.specs.Replies.{IsEditRefusal}
 use Rattle.span_language.proofs.Values.{not_both, one_err, one_ok}
 
 same_refusal : (r : EditRefusal) (why other : Refusal) → IsEditRefusal r why → IsEditRefusal r other → why ≡ other
-same_refusal (edit.NoSuchDocument name) why other h k = h ∙ sym k
-same_refusal (edit.OutOfRange first last len) why other h k = h ∙ sym k
-same_refusal (edit.TooLong len) why other h k = h ∙ sym k
 same_refusal edit.NoMemory why other h k = absurd h
+same_refusal _ why other h k = h ∙ sym k
 
 module _ (docs : Documents) (text : List ℕ) where
   -- the value of the other expression that the text writes

@@ -1,7 +1,7 @@
 -- A command is accepted or has one first refusal.
 use Rattle.std.proofs.Common.{◌≡◌, ◌<◌, ◌≤◌, ◌^◌, ◌⊎◌, ℕ, List, Option, None, length, sym, ◌∙◌, ap, subst, inl, inr}
 use Rattle.script_syntax.specs.declared.form.Command.{Command}
-use Rattle.script_syntax.specs.declared.form.Command.TheVariants.{Nothing, Text, LoadFile, LetDoc, DropDoc, Names, Show, SaveFile, OpenFile}
+use Rattle.script_syntax.specs.declared.form.Command.TheVariants.{LoadFile, LetDoc, DropDoc, Show, OpenFile}
 use Rattle.script_syntax.specs.declared.form.Command.TheVariants as form
 use Rattle.span_types.specs.Query.{Query, Union, Join}
 use Rattle.span_types.specs.declared.tuple.Span.{Span}
@@ -83,12 +83,9 @@ module _ (old : World) where
       much t w spans why other past (as_first t u w v spans spans2 other e.1 e.2 chosen past2)
 
 pub one_refusal : (old : World) (command : Command) (why other : Refusal) → IsSettled old.files command → IsRefused old command why → IsRefused old command other → why ≡ other
-one_refusal old Nothing why other settled h k = absurd h
-one_refusal old (Text name bytes) why other settled h k = absurd h
 one_refusal old (LoadFile name file) why other settled h k = loading old name file why other settled h k
 one_refusal old (LetDoc name expr) why other settled h k = editing old name expr why other h k
 one_refusal old (DropDoc name) why other settled h k = h.1 ∙ sym k.1
-one_refusal old Names why other settled h k = absurd h
 one_refusal old (Show name i j) why other settled h k = one_err (shown old.state.documents name i j) why other h k
 one_refusal old (form.Query name text) why other settled h k = one_text_refusal text why other h k
 one_refusal old (form.Unquery name) why other settled h k = h.1 ∙ sym k.1
@@ -98,14 +95,12 @@ one_refusal old (form.ProjectQuery name source keep) why other settled h k = one
 one_refusal old (form.List query name word limit) why other settled h k = listing old query name word limit why other h k
 one_refusal old (form.Nonempty query name) why other settled h k = one_unasked old query name why other h k
 one_refusal old (form.Has query name word) why other settled h k = having old query name word why other h k
-one_refusal old (SaveFile file) why other settled h k = absurd h
 one_refusal old (OpenFile file) why other settled h k = opening old file why other settled h k
 one_refusal old (form.ListAll query limit) why other settled h k = h.1 ∙ sym k.1
 one_refusal old (form.ReplaceDoc name query source by) why other settled h k = replacing old name query source by why other h k
-one_refusal old (form.MarkDocs name) why other settled h k = absurd h
 one_refusal old (form.UnmarkDocs name) why other settled h k = h.1 ∙ sym k.1
 one_refusal old (form.BackDocs name) why other settled h k = h.1 ∙ sym k.1
-one_refusal old form.Compact why other settled h k = absurd h
+one_refusal old _ why other settled h k = absurd h
 
 module _ (old : World) (r : List ℕ) (n : World) where
   -- what is accepted isn't refused
@@ -141,12 +136,9 @@ module _ (old : World) (r : List ℕ) (n : World) where
       over_limit (inr m) = over short m.1
 
 pub refused_once : (old : World) (command : Command) (r : List ℕ) (n : World) (why : Refusal) → IsSettled old.files command → Does old command r n → IsRefused old command why → ⊥
-refused_once old Nothing r n why settled h k = h
-refused_once old (Text name bytes) r n why settled h k = k
 refused_once old (LoadFile name file) r n why settled (b, h, reply, new) k = within_read old.files file load_size b why (are_told old.files (LoadFile name file) tt settled) h k
 refused_once old (LetDoc name expr) r n why settled h k = let_once old r n name expr why h k
 refused_once old (DropDoc name) r n why settled (t, there, reply, new) k = no_value (value_of old.state.documents name) t there k.0
-refused_once old Names r n why settled h k = k
 refused_once old (Show name i j) r n why settled (b, is, reply, new) k = not_both (shown old.state.documents name i j) b why is k
 refused_once old (form.Query name text) r n why settled (q, is, h) k = text_once text q why is k
 refused_once old (form.Unquery name) r n why settled (q, there, reply, new) k = no_value (value_of old.state.queries name) q there k.0
@@ -156,11 +148,9 @@ refused_once old (form.ProjectQuery name source keep) r n why settled h k = proj
 refused_once old (form.List query name word limit) r n why settled h k = list_once old r n query name word limit why h k
 refused_once old (form.Nonempty query name) r n why settled (q, t, h, is, new) k = asked_once old query name q t why h k
 refused_once old (form.Has query name word) r n why settled h k = has_once old r n query name word why h k
-refused_once old (SaveFile file) r n why settled h k = k
 refused_once old (OpenFile file) r n why settled h k = open_once old r n file why settled h k
 refused_once old (form.ListAll query limit) r n why settled (q, there, reply, new) k = no_value (value_of old.state.queries query) q there k.0
 refused_once old (form.ReplaceDoc name query source by) r n why settled h k = replace_once old r n name query source by why h k
-refused_once old (form.MarkDocs name) r n why settled h k = k
 refused_once old (form.UnmarkDocs name) r n why settled (d, there, reply, new) k = no_value (value_of old.state.versions name) d there k.0
 refused_once old (form.BackDocs name) r n why settled (d, there, reply, new) k = no_value (value_of old.state.versions name) d there k.0
-refused_once old form.Compact r n why settled h k = k
+refused_once old _ r n why settled h k = k

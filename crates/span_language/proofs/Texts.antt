@@ -99,13 +99,8 @@ Tells (formula.NotFunctional name) r = r ≡ why.NotFunctional name
 Tells (Formula f names) r = CountIsAbove 128 f × (r ≡ why.TooManyStates)
 
 tells_one : (o : Outcome) (r s : Refusal) → Tells o r → Tells o s → r ≡ s
-tells_one (formula.TooLong len) r s h k = h ∙ sym k
-tells_one formula.BadText r s h k = h ∙ sym k
-tells_one formula.TooDeep r s h k = h ∙ sym k
-tells_one formula.TooManyPositions r s h k = h ∙ sym k
-tells_one formula.TooManyVariables r s h k = h ∙ sym k
-tells_one (formula.NotFunctional name) r s h k = h ∙ sym k
 tells_one (Formula f names) r s h k = h.1 ∙ sym k.1
+tells_one _ r s h k = h ∙ sym k
 
 record Refuses (s : List ℕ) (r : Refusal) : Type 0 where
   outcome : Outcome
@@ -120,21 +115,7 @@ refuses s why.TooManyPositions h = record { outcome = formula.TooManyPositions; 
 refuses s why.TooManyVariables h = record { outcome = formula.TooManyVariables; of = h; tells = refl }
 refuses s (why.NotFunctional name) h = record { outcome = formula.NotFunctional name; of = h; tells = refl }
 refuses s why.TooManyStates h = record { outcome = Formula h.formula h.names; of = h.outcome; tells = (h.many, refl) }
-refuses s why.Syntax h = absurd h
-refuses s (why.NoSuchDocument name) h = absurd h
-refuses s (why.NoSuchQuery name) h = absurd h
-refuses s (why.OutOfRange first last len) h = absurd h
-refuses s (why.TooLong len) h = absurd h
-refuses s (why.RangeTooWide width) h = absurd h
-refuses s why.BadTuple h = absurd h
-refuses s why.OtherVariables h = absurd h
-refuses s (why.NoSuchFile file) h = absurd h
-refuses s (why.FileTooLong file) h = absurd h
-refuses s (why.BadImage kind) h = absurd h
-refuses s (why.QueryTooLarge parts) h = absurd h
-refuses s (why.NotOneVariable count) h = absurd h
-refuses s why.TooManyMatches h = absurd h
-refuses s (why.NoSuchVersion name) h = absurd h
+refuses s _ h = absurd h
 
 pub one_text_refusal : (s : List ℕ) (r t : Refusal) → IsTextRefused s r → IsTextRefused s t → r ≡ t
 one_text_refusal s r t h k = by (refuses s r h) (refuses s t k)
