@@ -1,115 +1,188 @@
 -- The next answer and what is kept of it, from the walk that completes it.
-use Rattle.std.proofs.Common.{suc, ◌≡◌, ℕ, ◌+◌, ◌-◌, ◌*◌, ◌<◌, ◌≤◌, true, false, refl, ap, sym, subst, ◌∙◌, arith, List, [], ◌∷◌, ◌++◌, append-nil, length, length-append, drop, get_or, Option, Some, None}
-use Rattle.std.proofs.lemmas.List.{map-append}
-use Rattle.std.proofs.Math.Seq.{drop-append-add}
-use Rattle.span_types.specs.Marks.{mark_of}
-use Rattle.span_types.specs.Words.{Marked, mark_count}
-use Rattle.span_types.specs.Writes.{write_mark, cut, blanks}
-use Rattle.span_types.specs.Fibonacci.{height_limit, looks_limit}
-use Rattle.formula_law.specs.Law.{bytes_of}
-use Rattle.marker_dfa.specs.Deterministic.{ends_of, states_of}
-use Rattle.state_tables.specs.StateSet.{member}
-use Rattle.span_enum.specs.Letters.{step_of, reached}
-use Rattle.span_enum.specs.Members.{Tuple, IsMember, IsFirstMember}
-use Rattle.span_enum.specs.Tuples.{IsTupleOf, word_over, end_mark}
-use Rattle.span_enum.specs.Words.{IsFirst, IsNoMark, IsGreatestMark, FindsFirst, FindsRest}
-use Rattle.span_enum.specs.Next.{NoneAfter}
-use Rattle.span_enum.specs.Lowering.{Lowers}
-use Rattle.span_enum.specs.Trail.{IsGround, whole_text, Agree, text_ahead, Stands, CanEnd, AtMost, AreKept, Leads, last_at, NoneBehind, IsFresh, IsTrailOf, IsStateAt, NoEndAfter, IsLowered, IsTurned, Finishes}
-use Rattle.span_enum.specs.Answering.{IsFoundAfter}
-use Rattle.span_enum.specs.Quiet.{EndsIn}
-use Rattle.span_enum.specs.declared.ground.Ground.{Ground}
-use Rattle.span_enum.specs.declared.trail.Ahead.{Ahead}
-use Rattle.span_enum.specs.declared.trail.Mark.{Mark}
-use Rattle.span_enum.specs.declared.trail.Turn.{Turn}
-use Rattle.span_enum.specs.declared.walk.Lowered.{Lowered}
-use Rattle.span_enum.specs.declared.answers.Found.{Found}
-use Rattle.span_enum.proofs.Paths.{run-append, run-within, then-join, then-some}
-use Rattle.span_enum.proofs.Firsts.{mark_count-append}
-use Rattle.span_enum.proofs.Written.{over-append}
-use Rattle.span_enum.proofs.Lowerings.{length-bytes, over-length}
-use Rattle.span_enum.proofs.LastLetters.{final-end, fit-end, member-one}
-use Rattle.span_enum.proofs.Membership.{accepts-from_member}
-use Rattle.span_enum.proofs.Cuts.{append-same}
-use Rattle.span_enum.proofs.TupleLaws.{few-marks}
-use Rattle.span_enum.proofs.Gifts.{first-of, next-in_text, limit-from, first-cost}
-use Rattle.span_enum.proofs.Given.{IsText, well, first-member}
-use Rattle.span_enum.proofs.LowerEnds.{gives-at_end}
-use Rattle.span_enum.proofs.Keeps.{over-same, kept-other}
-use Rattle.span_enum.proofs.Behinds.{none-behind_plain, none-behind_earlier}
-use Rattle.span_enum.proofs.Forgets.{trail-next}
+use Rattle.span_enum.proofs.Base.{Agree, Ahead, AreKept, Begins, CanFinish, DeterministicAutomaton, EndsIn, Finds, Finishes, Found, Gives, Ground, IfSome, IsBalanced, IsDeterministic, IsFirst}
+use Rattle.span_enum.proofs.Base.{IsFirstLeft, IsFirstMember, IsFoundAfter, IsGreatestMark, IsGround, IsMember, IsNext, IsNoMark, IsStateAt, IsTrailOf, IsTupleOf, IsUnmarked, IsWord, Leads, List}
+use Rattle.span_enum.proofs.Base.{Mark, Marked, NoEndAfter, NoMemberLeft, None, NoneAfter, Option, Place, Some, Tree, Tuple, [], ap, arith, blanks, bytes_of, cases_lt, cut, ended, ends_of, get_or}
+use Rattle.span_enum.proofs.Base.{height, height-by_leaves, height_limit, inl, inr, is_final, last_at, length, length-append, length-text, looks_limit, mark_count, mark_of, member, mul-le-mul_left}
+use Rattle.span_enum.proofs.Base.{mul-le-mul_right, mul_assoc, reached, refl, subst, sym, take, text, text_ahead, true, whole_text, word-tell, word_of, word_over, write_mark, write_word, ℕ}
+use Rattle.span_enum.proofs.Base.{◌*◌, ◌++◌, ◌+◌, ◌-◌, ◌<◌, ◌∙◌, ◌∷◌, ◌≡◌, ◌≤◌}
+use Rattle.span_enum.specs.Tuples.{end_mark}
+use Rattle.span_enum.specs.Letters.{step_of}
+use Rattle.span_enum.proofs.Firsts.{IsFirst-byte, IsFirst-fork, mark_count-append}
+use Rattle.span_enum.proofs.Keeps.{kept-join, kept-other, last-append, last-inside}
+use Rattle.span_enum.proofs.LastLetters.{final-end, fit-end, member-one, reach-end}
+use Rattle.span_enum.proofs.Leads.{leads-size, none-behind_last}
+use Rattle.span_enum.proofs.Membership.{IsText, accepts-from_member, first-member, none-member, wellmarked, word-run}
+use Rattle.span_enum.proofs.Nexts.{IsNext-byte, IsNext-fork, IsNext-front, none-byte, none-fork}
+use Rattle.span_enum.proofs.Paths.{bytes-append, length-bytes, run-on, run-within, same-state}
+use Rattle.span_enum.proofs.TupleLaws.{few-marks, read-back}
+use Rattle.span_enum.proofs.Written.{append-same, over-bytes, over-length, over-same, over-split, read-cut, write_word-append}
 
--- ---- few marks
--- an accepted text has the marks of a tuple
-pub few-all : (g : Ground) → IsGround g → IsText (whole_text g) → (w : Marked) (r : ℕ) → bytes_of w ≡ whole_text g → reached g.dfa.now 0 w ≡ Some r → r < states_of g.dfa.now → member g.finals r ≡ true
-    → mark_count w ≤ 2 * g.dfa.now.variables
-few-all g is text w r e t low goal =
-    let a = g.dfa.now in
-    let s = whole_text g in
-    let m = get_or (ends_of a r) 0 0 in
-    let step : step_of a r m 256 ≡ Some 0 = final-end a r (sym (is.all r low) ∙ goal) in
-    let ends : reached a 0 (w ++ (m, 256) ∷ []) ≡ Some 0 =
-    run-append a 0 w ((m, 256) ∷ []) ∙ then-join (λ q. reached a q ((m, 256) ∷ [])) (reached a 0 w) r t ∙ then-some (step_of a r m 256) ∙ step in
-    let word = well a is.automaton s text (w ++ (m, 256) ∷ []) 0 (map-append (λ x. x.1) w ((m, 256) ∷ []) ∙ ap (λ b. b ++ 256 ∷ []) e) ends in
-    let same = append-same w ((m, 256) ∷ []) (word_over word.tuple 1 s) ((end_mark word.tuple (length s + 1), 256) ∷ [])
-    (sym (length-bytes w) ∙ ap length e ∙ sym (over-length word.tuple 1 s)) word.word_is in
-    rw same.0 (few-marks a.variables word.tuple s word.tuple_is.size)
+-- looks of one call, for k variables and a tree of height h
+abbrev pub bound : ℕ → ℕ → ℕ
+bound k h = 4 * ((2 * k + 1) * (h + 3))
 
--- what is left behind a prefix
-pub few-behind : (g : Ground) → IsGround g → IsText (whole_text g) → (front : Marked) (q n : ℕ) (c : List Ahead) → whole_text g ≡ bytes_of front ++ text_ahead g c → reached g.dfa.now 0 front ≡ Some q
-    → mark_count front ≡ n → q < states_of g.dfa.now → AtMost g q c (2 * g.dfa.now.variables - n)
-few-behind g is text front q n c parts run count low w r e t goal =
-    let a = g.dfa.now in
-    let within : r < states_of a = run-within a is.automaton q r w low t in
-    let all = few-all g is text (front ++ w) r (map-append (λ x. x.1) front w ∙ ap (λ b. bytes_of front ++ b) e ∙ sym parts)
-    (run-append a 0 front w ∙ then-join (λ k. reached a k w) (reached a 0 front) q run ∙ t) within goal in
-    less (mark_count front) (mark_count w) (mark_count (front ++ w)) (2 * a.variables) n (mark_count-append front w) all count
-  where
-    less : (x y z k n : ℕ) → z ≡ x + y → z ≤ k → x ≡ n → y ≤ k - n
-    less x y z k n e le same = omega arith
+-- ---- the last mark
+-- a final state may end with some mark
+pub some-end : (a : DeterministicAutomaton) (auto : IsDeterministic a) (q : ℕ) → is_final a q ≡ true → ((m : ℕ) → IsNoMark a q 256 1 65536 m) → ⊥
+some-end a auto q final none =
+    let step = final-end a q final in
+    none (get_or (ends_of a q) 0 0) (fit-end a auto q (get_or (ends_of a q) 0 0) 0 step) 0 step member-one
 
--- the kept marks are few
-pub few-kept : (g : Ground) → IsGround g → IsText (whole_text g) → (t : Tuple) (l : Lowered) (turn : Turn) (ms : List (Option Mark)) (hs : List (Option Ahead)) → IsTurned g t l turn ms hs
-    → length ms ≤ 2 * g.dfa.now.variables
-few-kept g is text t l turn ms hs turned =
-    let a = g.dfa.now in
-    let run = turned.can in
-    let within : run.state < states_of a = run-within a is.automaton l.state run.state run.word turned.stands.state run.ends in
-    let all = few-all g is text (turned.word ++ run.word) run.state (map-append (λ x. x.1) turned.word run.word ∙ ap (λ b. bytes_of turned.word ++ b) run.bytes ∙ sym turned.bytes)
-    (run-append a 0 turned.word run.word ∙ then-join (λ k. reached a k run.word) (reached a 0 turned.word) l.state turned.ends ∙ run.ends) within run.goal in
-    omega (arith, all, mark_count-append turned.word run.word, turned.count)
+first-end : (a : DeterministicAutomaton) (auto : IsDeterministic a) (q e : ℕ) → IsGreatestMark a q 256 1 65536 e 0 → IsFirst a q (256 ∷ []) 1 ((e, 256) ∷ []) 0
+first-end a auto q e best = IsFirst-byte a q 256 e 1 0 best.step best.goal (λ n r sn gn. best.most n r (fit-end a auto q n r sn) sn gn)
 
-pub turned-fit : (base one n k room : ℕ) → base ≤ one + 69 * n → one ≤ 1 → n ≤ k → 1 + 69 * k ≤ room → base + 69 * (k - n) ≤ room
-turned-fit base one n k room short few le fit = omega arith
+module _ (g : Ground) (is : IsGround g) (text : IsText (whole_text g)) where
+  abbrev a : DeterministicAutomaton
+  a = g.dfa.now
 
--- ---- looks
-pub cost-limit : (k n before after : ℕ) → after ≤ before + 4 * (height_limit n * k) → after ≤ before + looks_limit k n
-cost-limit k n before after le = limit-from k (height_limit n) n before after (omega arith) (first-cost k (height_limit n) before (before + 1) after refl (omega (arith, le)))
+  abbrev s : List ℕ
+  s = whole_text g
 
--- ---- behind the last mark
-none-behind_all : (g : Ground) (t : Tuple) → NoneBehind g t (length (whole_text g))
-none-behind_all g t = none-behind_plain g t (whole_text g) [] (length (whole_text g)) (sym (append-nil (whole_text g))) refl refl
+  -- ---- few marks
+  -- an accepted text has the marks of a tuple
+  accepted-word : (w : Marked) (r e : ℕ) → bytes_of w ≡ s → reached a 0 w ≡ Some r → step_of a r e 256 ≡ Some 0 → (k : IsWord a.variables s (w ++ (e, 256) ∷ [])) × (w ≡ word_over k.tuple 1 s)
+  accepted-word w r e bytes run step =
+      let k = wellmarked a is.automaton s text (w ++ (e, 256) ∷ []) 0 (bytes-append w ((e, 256) ∷ []) ∙ ap (λ b. b ++ 256 ∷ []) bytes) (word-run a 0 r w e run ∙ step) in
+      (k, (append-same w ((e, 256) ∷ []) (word_over k.tuple 1 s) ((end_mark k.tuple (length s + 1), 256) ∷ []) (sym (length-bytes w) ∙ ap length bytes ∙ sym (over-length k.tuple 1 s)) k.word_is).0)
 
-pub none-behind_last : (g : Ground) (t : Tuple) (k : ℕ) → k ≤ length (whole_text g) → ((p : ℕ) → k < p → p ≤ length (whole_text g) → mark_of t p ≡ 0) → NoneBehind g t k
-none-behind_last g t k le quiet = none-behind_earlier g t k (length (whole_text g)) le (omega arith) quiet (none-behind_all g t)
+  few-all : (w : Marked) (r : ℕ) → bytes_of w ≡ s → reached a 0 w ≡ Some r → member g.finals r ≡ true → mark_count w ≤ 2 * a.variables
+  few-all w r bytes run goal =
+      let low = run-within a is.automaton 0 r w is.automaton.has_start run in
+      let k = accepted-word w r (get_or (ends_of a r) 0 0) bytes run (final-end a r (sym (is.all r low) ∙ goal)) in
+      rw k.1 (few-marks a.variables k.0.tuple s k.0.tuple_is.size)
 
--- ---- the state at the end
-pub state-found : (g : Ground) → IsGround g → IsText (whole_text g) → (u : Tuple) (o : Option ℕ) (q : ℕ) → EndsIn g.dfa.now o q → reached g.dfa.now 0 (word_over u 1 (whole_text g)) ≡ Some q
-    → IsMember g.dfa.now (whole_text g) u → IsStateAt g (Some u) o
-state-found g is text u (Some r) q e run m = run ∙ ap (λ n. Some n) (sym e)
-state-found g is text u None q e run m = λ p k.
-    let a = g.dfa.now in
-    let s = whole_text g in
-    let x = end_mark u (length s + 1) in
-    let step : step_of a q x 256 ≡ Some 0 =
-    sym (run-append a 0 (word_over u 1 s) ((x, 256) ∷ []) ∙ then-join (λ n. reached a n ((x, 256) ∷ [])) (reached a 0 (word_over u 1 s)) q run ∙ then-some (step_of a q x 256))
-    ∙ (accepts-from_member a is.automaton s text.bytes text.short u m).ends in
-    nothing x (e.most x 0 (fit-end a is.automaton q x 0 step) step member-one)
-  where
-    nothing : (n : ℕ) → n ≤ 0 → n ≡ 0
-    nothing n le = omega arith
+  module _ (place : Place) (base : ℕ) (word : Marked) (ms : List (Option Mark)) (hs : List (Option Ahead)) (b : Begins g place base word ms hs) where
+    begins-few : (w : Marked) (r : ℕ) → bytes_of w ≡ text_ahead g b.chain → reached a place.state w ≡ Some r → member g.finals r ≡ true → length ms + mark_count w ≤ 2 * a.variables
+    begins-few w r bytes run goal =
+        let all = few-all (word ++ w) r (bytes-append word w ∙ ap (λ x. bytes_of word ++ x) bytes ∙ sym b.bytes) (run-on a 0 place.state word w b.ends ∙ run) goal in
+        omega (arith, all, mark_count-append word w, b.count)
 
--- where it isn't known, the tuple has no mark at the end that could be lowered
+    pub begins-finish : CanFinish g hs place (2 * a.variables - length ms)
+    begins-finish = record { at = length word + 1; chain = b.chain; stands = b.stands; can = b.can; few = λ w r bytes run goal. omega (arith, begins-few w r bytes run goal) }
+
+    pub begins-fit : (room : ℕ) → 1 + 69 * (2 * a.variables) ≤ room → base + 69 * (2 * a.variables - length ms) ≤ room
+    begins-fit room fit = omega (arith, begins-few b.can.word b.can.state b.can.bytes b.can.ends b.can.goal, b.short, b.one, fit)
+
+  -- ---- the answer of a word
+  answer-word : (cursor : Option Tuple) → IfSome cursor (IsTupleOf a.variables) → (v : Marked) (r e : ℕ) (u : Tuple) → bytes_of v ≡ s → reached a 0 v ≡ Some r → step_of a r e 256 ≡ Some 0
+      → IsFirstLeft a s cursor (v ++ (e, 256) ∷ []) → u ≡ write_mark e (length s + 1) (write_word 1 v (blanks a.variables)) → IsFirstMember a s cursor u × (word_over u 1 s ≡ v)
+  answer-word cursor it v r e u bytes run step left written =
+      let k = accepted-word v r e bytes run step in
+      let place : length s + 1 ≡ 1 + length v = omega (arith, length-bytes v, ap length bytes) in
+      let same : u ≡ k.0.tuple =
+      written ∙ ap (λ n. write_mark e n (write_word 1 v (blanks a.variables))) place ∙ sym (write_word-append 1 v ((e, 256) ∷ []) (blanks a.variables))
+      ∙ ap (λ w. write_word 1 w (blanks a.variables)) k.0.word_is ∙ read-back a.variables k.0.tuple s k.0.tuple_is k.0.lies in
+      let gives : Gives a s cursor k.0.tuple = record { tuple = k.0.tuple_is; lies = k.0.lies; first = subst (IsFirstLeft a s cursor) k.0.word_is left } in
+      (rw same (first-member a is.automaton s text cursor k.0.tuple it gives), ap (λ x. word_over x 1 s) same ∙ sym k.1)
+
+  -- the first text with the greatest mark at its end is the first to be accepted, and likewise the next
+  pub first-ended : (w : Marked) (r e : ℕ) → IsFirst a 0 s g.finals w r → IsGreatestMark a r 256 1 65536 e 0 → IsFirst a 0 (ended s) 1 (w ++ (e, 256) ∷ []) 0
+  first-ended w r e first best =
+      IsFirst-fork a s (256 ∷ []) 0 r 0 1 g.finals w ((e, 256) ∷ []) (reach-end a is.automaton g.finals is.all s 0 is.automaton.has_start) first (first-end a is.automaton r e best)
+
+  module _ (t : Tuple) (noend : NoEndAfter g t (length s + 1)) where
+    abbrev last : Marked
+    last = (end_mark t (length s + 1), 256) ∷ []
+
+    no-end : (q : ℕ) → reached a 0 (word_over t 1 s) ≡ Some q → NoneAfter a q (256 ∷ []) 1 last
+    no-end q run = none-byte a q 256 1 (end_mark t (length s + 1)) (noend q run)
+
+    pub next-ended : (v : Marked) (r e : ℕ) → IsNext a 0 s g.finals (word_over t 1 s) v r → IsGreatestMark a r 256 1 65536 e 0 → IsNext a 0 (ended s) 1 (word_of t s) (v ++ (e, 256) ∷ []) 0
+    next-ended v r e next best =
+        IsNext-fork a s (256 ∷ []) 0 1 (word_over t 1 s) last (over-bytes t 1 s) g.finals (reach-end a is.automaton g.finals is.all s 0 is.automaton.has_start) no-end r 0 v ((e, 256) ∷ []) next (first-end a is.automaton r e best)
+
+    pub none-ended : IsTupleOf a.variables t → NoneAfter a 0 s g.finals (word_over t 1 s) → NoMemberLeft a s (Some t)
+    none-ended it none =
+        none-member a is.automaton s text (Some t) it
+        (none-fork a s (256 ∷ []) 0 1 (word_over t 1 s) last (over-bytes t 1 s) g.finals (reach-end a is.automaton g.finals is.all s 0 is.automaton.has_start) no-end none)
+
+  -- ---- the state at the end
+  state-found : (u : Tuple) (o : Option ℕ) (q : ℕ) → EndsIn a o q → reached a 0 (word_over u 1 s) ≡ Some q → IsMember a s u → IsStateAt g (Some u) o
+  state-found u (Some r) q e run m = run ∙ ap (λ n. Some n) (sym e)
+  state-found u None q e run m = λ p k.
+      let x = end_mark u (length s + 1) in
+      let step : step_of a q x 256 ≡ Some 0 = sym (word-run a 0 q (word_over u 1 s) x run) ∙ (accepts-from_member a is.automaton s text u m).ends in
+      let none : x ≤ 0 = e.most x 0 (fit-end a is.automaton q x 0 step) step member-one in
+      omega (arith, none)
+
+  -- ---- a lower mark at the end alone
+  pub lowered-end : (t u : Tuple) → IsTupleOf a.variables t → (q m : ℕ) → reached a 0 (word_over t 1 s) ≡ Some q → IsGreatestMark a q 256 1 (end_mark t (length s + 1)) m 0
+      → u ≡ write_mark m (length s + 1) (cut (length s + 1) t)
+      → IsFirstMember a s (Some t) u × Agree t u (length s + 1) × (reached a 0 (word_over u 1 s) ≡ Some q)
+  lowered-end t u it q m run best written =
+      let x = end_mark t (length s + 1) in
+      let next = IsNext-front a s (256 ∷ []) 0 1 (word_over t 1 s) ((x, 256) ∷ []) (over-bytes t 1 s) q 0 ((m, 256) ∷ []) run (IsNext-byte a q 256 1 x m 0 best) in
+      let start : cut (length s + 1) t ≡ write_word 1 (word_over t 1 s) (blanks a.variables) = sym (read-cut t s it.valid.spans) ∙ ap (λ n. write_word 1 (word_over t 1 s) (blanks n)) it.size in
+      let k = answer-word (Some t) it (word_over t 1 s) q m u (over-bytes t 1 s) run best.step next (written ∙ ap (write_mark m (length s + 1)) start) in
+      (k.0, λ p above below. sym (word-tell (mark_of u) (mark_of t) 1 s k.1 p above (omega (arith, below))), ap (reached a 0) k.1 ∙ run)
+
+  -- ---- what is kept of the answer
+  -- no mark stands behind the last one
+  last-behind : (u : Tuple) (x y end : ℕ) (more : List (Option Mark)) → x ≤ y → last_at y more ≤ end → IsUnmarked u (x + 1) (y + 1) → IsUnmarked u (last_at y more + 1) (end + 1)
+      → (last_at x more ≤ end) × IsUnmarked u (last_at x more + 1) (end + 1)
+  last-behind u x y end [] le low first rest = (omega (arith, le, low), λ p above below. elim (cases_lt p (y + 1)) [ inl lt ↦ first p above lt | inr ge ↦ rest p ge below ])
+  last-behind u x y end (None ∷ more) le low first rest = last-behind u x y end more le low first rest
+  last-behind u x y end (Some m ∷ more) le low first rest = (low, rest)
+
+  module _ (place : Place) (base : ℕ) (word : Marked) (ms : List (Option Mark)) (hs : List (Option Ahead)) (b : Begins g place base word ms hs) (u : Tuple) (rest : Marked) (letters : word_over u 1 s ≡ word ++ rest) where
+    both : (word_over u 1 (bytes_of word) ≡ word) × (word_over u (1 + length (bytes_of word)) (text_ahead g b.chain) ≡ rest)
+    both = over-split u 1 (bytes_of word) (text_ahead g b.chain) word rest refl (ap (word_over u 1) (sym b.bytes) ∙ letters)
+
+    behind : word_over u (length word + 1) (text_ahead g b.chain) ≡ rest
+    behind = let next : length word + 1 ≡ 1 + length (bytes_of word) = omega (arith, length-bytes word) in ap (λ n. word_over u n (text_ahead g b.chain)) next ∙ both.1
+
+    lead : Leads g u (length word + 1) place.state (length ms) (text_ahead g b.chain)
+    lead = record { front = bytes_of word; parts = b.bytes; at_is = omega (arith, length-bytes word); before = ap (reached a 0) both.0 ∙ b.ends; count = ap mark_count both.0 ∙ b.count }
+
+    trail-found : (before after : ℕ) (r : Option ℕ) (old' out : Tuple) (more : List (Option Mark)) (new : List (Option Ahead)) → (f : Finds g (length word + 1) place b.chain (length ms) base more new before after r old' out) → f.word ≡ rest
+        → take base new ≡ take base hs → base ≤ length new → IsTrailOf g u (ms ++ more) new
+    trail-found before after r old' out more new f same-word same low =
+        let x = length word in
+        let there : x + 1 - 1 ≡ x = omega arith in
+        let e : word_over u (x + 1) (text_ahead g b.chain) ≡ f.word = behind ∙ sym same-word in
+        let size : x + length (text_ahead g b.chain) ≡ length s = omega (arith, leads-size g u (x + 1) place.state (length ms) (text_ahead g b.chain) lead) in
+        let count : length ms ≡ 0 + length ms = omega arith in
+        let end = last-behind u (last_at 0 ms) x (length s) more b.before (subst (λ n. last_at n more ≤ length s) there (omega (arith, f.last, size))) (b.quiet u both.0)
+        (subst (λ n. IsUnmarked u (last_at n more + 1) (length s + 1)) there (λ p above below. f.quiet u e p above (omega (arith, below, size)))) in
+        record {
+          base = b.root;
+          one = b.one;
+          kept = kept-join g u hs new 1 0 0 b.root base (x + 1) ms more refl same low (b.kept u both.0) (subst (λ n. AreKept g u new (x + 1) n base more) count (f.kept u lead e)) (omega (arith, b.before)) (b.quiet u both.0);
+          none = rw (last-append 0 ms more) (none-behind_last g u (last_at (last_at 0 ms) more) end.0 end.1);
+        }
+
+  -- ---- the answer that the walk finds
+  pub answer-found : (cursor : Option Tuple) → IfSome cursor (IsTupleOf a.variables) → (place : Place) (base : ℕ) (word : Marked) (before after end : ℕ) (ms more : List (Option Mark)) (hs new : List (Option Ahead)) (out : Tuple) (f : Found)
+      → (b : Begins g place base word ms hs) → out ≡ write_word 1 word (blanks a.variables) → end ≡ length s + 1
+      → ((w : Marked) (r e : ℕ) → IsFirst a place.state (text_ahead g b.chain) g.finals w r → IsGreatestMark a r 256 1 65536 e 0 → IsFirstLeft a s cursor ((word ++ w) ++ (e, 256) ∷ []))
+      → Finishes g place base ms more hs new before after out end f
+      → IsFoundAfter g cursor more new f × (after ≤ before + looks_limit a.variables (length s))
+  answer-found cursor it place base word before after end ms more hs new out f b start at left fin =
+      let rest = fin.completes.finds (length word + 1) b.chain b.stands b.can in
+      let best = fin.greatest rest.state rest.ends in
+      let v = word ++ rest.word in
+      let run : reached a 0 v ≡ Some rest.state = run-on a 0 place.state word rest.word b.ends ∙ rest.first.ends in
+      let bytes : bytes_of v ≡ s = bytes-append word rest.word ∙ ap (λ x. bytes_of word ++ x) rest.first.bytes ∙ sym b.bytes in
+      let next : length word + 1 ≡ 1 + length word = omega arith in
+      let written : fin.written ≡ write_word 1 v (blanks a.variables) = rest.written ∙ ap (λ n. write_word n rest.word out) next ∙ ap (write_word (1 + length word) rest.word) start ∙ sym (write_word-append 1 word rest.word (blanks a.variables)) in
+      let k = answer-word cursor it v rest.state fin.mark f.tuple bytes run best.step (left rest.word rest.state fin.mark rest.first best) (fin.tuple_is ∙ ap (λ n. write_mark fin.mark n fin.written) at ∙ ap (write_mark fin.mark (length s + 1)) written) in
+      let few = begins-few place base word ms hs b rest.word rest.state rest.first.bytes rest.first.ends rest.first.goal in
+      let inside : length (text_ahead g b.chain) ≤ length s = omega (arith, ap length b.bytes, length-append (bytes_of word) (text_ahead g b.chain)) in (
+        record {
+          first = k.0;
+          trail = rw fin.completes.marks_are (trail-found place base word ms hs b f.tuple rest.word k.1 before after f.state out fin.written fin.completes.more new rest refl fin.completes.same fin.completes.low);
+          state = state-found f.tuple f.state rest.state rest.ends (ap (reached a 0) k.1 ∙ run) k.0.member;
+        },
+        cost (height_limit (length s)) (mark_count rest.word) (omega (arith, few)) (rest.cost (length s) inside),
+      )
+    where
+      cost : (h c : ℕ) → c ≤ 2 * a.variables → after ≤ before + 2 * (h * c) → after ≤ before + 4 * (2 * a.variables + 1) * (h + 3)
+      cost h c le looks =
+          let x : h * c ≤ h * (2 * a.variables) = mul-le-mul_left h le in
+          omega (arith, x, looks, mul_assoc 4 (2 * a.variables + 1) (h + 3))
+
+-- ---- the end of the text
+-- where the state isn't known, the tuple has no mark at the end that could be lowered
 pub end-unknown : (g : Ground) (t : Tuple) (end : ℕ) → end ≡ length (whole_text g) + 1 → IsStateAt g (Some t) None → NoEndAfter g t end
 end-unknown g t end at is q run m below = absurd (none (end_mark t end) (ap (end_mark t) at ∙ is q run) below)
   where
@@ -117,131 +190,30 @@ end-unknown g t end at is q run m below = absurd (none (end_mark t end) (ap (end
     none n e lt = omega arith
 
 pub end-known : (g : Ground) (t : Tuple) (end q : ℕ) → reached g.dfa.now 0 (word_over t 1 (whole_text g)) ≡ Some q → ((m : ℕ) → IsNoMark g.dfa.now q 256 1 (end_mark t end) m) → NoEndAfter g t end
-end-known g t end q run none p k = subst (λ n. (m : ℕ) → IsNoMark g.dfa.now n 256 1 (end_mark t end) m) (one q p (sym run ∙ k)) none
-  where
-    one : (m n : ℕ) → ◌≡◌ {A = Option ℕ} (Some m) (Some n) → m ≡ n
-    one m n e = cc
-
--- ---- a lower mark at the end alone
-pub lowered-end : (g : Ground) → IsGround g → IsText (whole_text g) → (t u : Tuple) → IsTupleOf g.dfa.now.variables t → (end q m : ℕ) → end ≡ length (whole_text g) + 1
-    → reached g.dfa.now 0 (word_over t 1 (whole_text g)) ≡ Some q → IsGreatestMark g.dfa.now q 256 1 (end_mark t end) m 0 → u ≡ write_mark m end (cut end t)
-    → IsFirstMember g.dfa.now (whole_text g) (Some t) u × Agree t u end × (reached g.dfa.now 0 (word_over u 1 (whole_text g)) ≡ Some q)
-lowered-end g is text t u tuple end q m e run best written =
-    let a = g.dfa.now in
-    let s = whole_text g in
-    let both = gives-at_end a s t u q m (well a is.automaton s text) tuple run (rw e at best) (rw e at written) in
-    let same : word_over t 1 s ≡ word_over u 1 s = over-same t u 1 s (λ p above below. both.1 p above (omega (arith, below))) in
-    (first-member a is.automaton s text (Some t) u tuple both.0, rw e both.1, ap (reached a 0) (sym same) ∙ run)
-
--- ---- the first answer
-pub first-answer : (g : Ground) → IsGround g → IsText (whole_text g) → (base before after end : ℕ) (marks ms : List (Option Mark)) (old new : List (Option Ahead)) (none : Tuple) (found : Found) → (fresh : IsFresh g marks old)
-    → base ≡ length old → end ≡ length (whole_text g) + 1 → none ≡ blanks g.dfa.now.variables → CanEnd g 0 fresh.chain
-    → Finishes g (record { state = 0; next = base; quiet = false }) base marks ms old new before after none end found
-    → IsFoundAfter g None ms new found × (after ≤ before + looks_limit g.dfa.now.variables (length (whole_text g)))
-first-answer g is text base before after end marks ms old new none found fresh same at blank can f =
-    let a = g.dfa.now in
-    let s = whole_text g in
-    let c = fresh.chain in
-    let stands : Stands g old 1 (record { state = 0; next = base; quiet = false }) c = subst (λ n. Stands g old 1 (record { state = 0; next = n; quiet = false }) c) (sym same) fresh.stands in
-    let found-rest = f.completes.finds 1 c stands can in
-    let finds : FindsFirst a 0 s g.finals (height_limit (length s)) before after found-rest.state 1 (blanks a.variables) f.written = record {
-      word = found-rest.word;
-      first = subst (λ x. IsFirst a 0 x g.finals found-rest.word found-rest.state) fresh.text_is found-rest.first;
-      cost = found-rest.cost (length s) (omega (arith, ap length fresh.text_is));
-      written = rw (sym blank) found-rest.written;
-    } in
-    let u = found.tuple in
-    let both = first-of a is.automaton g.finals is.all s (well a is.automaton s text) (height_limit (length s)) before after found-rest.state f.mark f.written u finds (f.greatest found-rest.state found-rest.ends) (f.tuple_is ∙ ap (λ n. write_mark f.mark n f.written) at) in
-    let word : word_over u 1 (text_ahead g c) ≡ found-rest.word = ap (word_over u 1) fresh.text_is ∙ both.2 in
-    let leads : Leads g u 1 0 (length marks) (text_ahead g c) = record { front = []; parts = sym fresh.text_is; at_is = refl; before = refl; count = sym (ap length fresh.no_marks) } in
-    let only : ms ≡ f.completes.more = f.completes.marks_are ∙ ap (λ x. x ++ f.completes.more) fresh.no_marks in
-    let kept : AreKept g u new 1 (length marks) base f.completes.more = found-rest.kept u leads word in
-    let none-more : NoneBehind g u (last_at 0 f.completes.more) = none-behind_last g u (last_at 0 f.completes.more) (omega (arith, found-rest.last, ap length fresh.text_is))
-    (λ p above below. found-rest.quiet u word p above (omega (arith, below, ap length fresh.text_is))) in
-    let first = first-member a is.automaton s text None u tt both.0 in (
-      record {
-        first = first;
-        trail = rw only (record {
-          base = base;
-          one = omega (arith, same, fresh.one);
-          kept = subst (λ n. AreKept g u new 1 n base f.completes.more) (ap length fresh.no_marks) kept;
-          none = none-more;
-        });
-        state = state-found g is text u found.state found-rest.state found-rest.ends (ap (reached a 0) both.2 ∙ found-rest.first.ends) first.member;
-      },
-      cost-limit a.variables (length s) before after both.1,
-    )
-
--- ---- the next answer
-pub next-answer : (g : Ground) → IsGround g → IsText (whole_text g) → (t : Tuple) → IsTupleOf g.dfa.now.variables t → (l : Lowered) (turn : Turn)
-    → (before after end : ℕ) (marks ms : List (Option Mark)) (old new : List (Option Ahead)) (out : Tuple) (found : Found)
-    → NoEndAfter g t (length (whole_text g) + 1)
-    → Lowers g.dfa.now 0 (whole_text g) g.finals (word_over t 1 (whole_text g)) 1 l → IsTurned g t l turn marks old → end ≡ length (whole_text g) + 1 → out ≡ write_mark l.mark l.at (cut l.at t)
-    → Finishes g (record { state = l.state; next = turn.next; quiet = false }) turn.base marks ms old new before after out end found
-    → IsFoundAfter g (Some t) ms new found × (after ≤ before + looks_limit g.dfa.now.variables (length (whole_text g)))
-next-answer g is text t tuple l turn before after end marks ms old new out found none lowers turned at written f =
-    let a = g.dfa.now in
-    let s = whole_text g in
-    let c = turned.chain in
-    let rest = f.completes.finds (l.at + 1) c turned.stands turned.can in
-    let high = height_limit (length s) in
-    let front : length (bytes_of turned.word) ≡ l.at = length-bytes turned.word ∙ turned.place in
-    let drops : l.at - 1 + 1 ≡ l.at = omega (arith, lowers.place_is) in
-    let behind : drop (l.at - 1 + 1) s ≡ text_ahead g c =
-    ap (λ n. drop n s) (drops ∙ sym front) ∙ ap (drop (length (bytes_of turned.word))) turned.bytes ∙ ap (λ n. drop n (bytes_of turned.word ++ text_ahead g c)) (omega arith) ∙ drop-append-add (bytes_of turned.word) (text_ahead g c) 0 in
-    let finds : FindsRest a l.state (drop (l.at - 1 + 1) s) g.finals high before after rest.state (l.at + 1) out f.written = record {
-      word = rest.word;
-      first = subst (λ x. IsFirst a l.state x g.finals rest.word rest.state) (sym behind) rest.first;
-      cost = more (high * mark_count rest.word) high (rest.cost (length s) (omega (arith, ap length turned.bytes, length-append (bytes_of turned.word) (text_ahead g c))));
-      written = rest.written;
-    } in
-    let u = found.tuple in
-    let both = next-in_text a is.automaton g.finals is.all s (well a is.automaton s text) high before (before + 1) before after rest.state f.mark t out f.written u l tuple
-    none lowers turned.stands.state written finds (f.greatest rest.state rest.ends) (f.tuple_is ∙ ap (λ n. write_mark f.mark n f.written) at) refl (omega arith) in
-    let low : IsLowered t u l = record { agree = both.2; mark = both.3 } in
-    let word : word_over u (l.at + 1) (text_ahead g c) ≡ rest.word = ap (word_over u (l.at + 1)) (sym behind) ∙ both.4 in
-    let leads = turned.leads u low in
-    let kept : AreKept g u new (l.at + 1) (length marks) turn.base f.completes.more = rest.kept u leads word in
-    let last : last_at l.at f.completes.more ≡ last_at (l.at + 1 - 1) f.completes.more = ap (λ n. last_at n f.completes.more) (omega arith) in
-    let whole : length s ≡ l.at + length (text_ahead g c) = ap length turned.bytes ∙ length-append (bytes_of turned.word) (text_ahead g c) ∙ ap (λ n. n + length (text_ahead g c)) front in
-    let none-more : NoneBehind g u (last_at l.at f.completes.more) = rw last (none-behind_last g u (last_at (l.at + 1 - 1) f.completes.more) (omega (arith, rest.last, whole))
-    (λ p above below. rest.quiet u word p above (omega (arith, below, whole)))) in
-    let run : reached a 0 (word_over u 1 s) ≡ Some rest.state =
-    ap (λ x. reached a 0 (word_over u 1 x)) leads.parts ∙ ap (reached a 0) (over-append u 1 leads.front (text_ahead g c)) ∙ ap (λ n. reached a 0 (word_over u 1 leads.front ++ word_over u n (text_ahead g c))) (sym leads.at_is)
-    ∙ ap (λ w. reached a 0 (word_over u 1 leads.front ++ w)) word ∙ run-append a 0 (word_over u 1 leads.front) rest.word
-    ∙ then-join (λ q. reached a q rest.word) (reached a 0 (word_over u 1 leads.front)) l.state leads.before ∙ rest.first.ends in
-    let first = first-member a is.automaton s text (Some t) u tuple both.0 in (
-      record {
-        first = first;
-        trail = rw f.completes.marks_are (trail-next g t u l turn marks f.completes.more old new turned low f.completes.same f.completes.low kept none-more);
-        state = state-found g is text u found.state rest.state rest.ends run first.member;
-      },
-      limit-from a.variables high (length s) before after (omega arith) both.1,
-    )
-  where
-    more : (x h : ℕ) → after ≤ before + 2 * x → after ≤ before + 2 * h + 2 * x
-    more x h le = omega arith
-
--- the marks lie in the text
-last-inside : (g : Ground) (t : Tuple) (hs : List (Option Ahead)) (from before n lo : ℕ) (ms : List (Option Mark)) → before ≤ length (whole_text g) → AreKept g t hs from n lo ms → last_at before ms ≤ length (whole_text g)
-last-inside g t hs from before n lo [] le k = le
-last-inside g t hs from before n lo (None ∷ ms) le k = absurd k
-last-inside g t hs from before n lo (Some m ∷ ms) le k =
-    last-inside g t hs (m.at + 1) m.at (suc n) k.0 ms (omega (arith, k.1.at, ap length k.1.parts, length-append k.1.front (m.byte ∷ text_ahead g k.1.chain))) k.2
+end-known g t end q run none p k = subst (λ n. (m : ℕ) → IsNoMark g.dfa.now n 256 1 (end_mark t end) m) (same-state q p (reached g.dfa.now 0 (word_over t 1 (whole_text g))) run k) none
 
 -- only the mark at the end is lower
 pub trail-agree : (g : Ground) (t u : Tuple) (ms : List (Option Mark)) (hs : List (Option Ahead)) → Agree t u (length (whole_text g) + 1) → IsTrailOf g t ms hs → IsTrailOf g u ms hs
-trail-agree g t u ms hs agree is =
-    let le = last-inside g t hs 1 0 0 is.base ms (omega arith) is.kept in
-    let same : word_over t 1 (whole_text g) ≡ word_over u 1 (whole_text g) = over-same t u 1 (whole_text g) (λ p above below. agree p above (omega (arith, below))) in
-    record {
-      base = is.base;
-      one = is.one;
-      kept = kept-other g t u hs 1 0 0 is.base (length (whole_text g) + 1) ms refl (omega (arith, le)) agree is.kept;
-      none = λ front back q parts len run.
-          let inside : length front + length back ≡ length (whole_text g) = sym (ap length parts ∙ length-append front back) in
-          let before : word_over t 1 front ≡ word_over u 1 front = over-same t u 1 front (λ p above below. agree p above (omega (arith, below, inside))) in
-          let behind : word_over t (1 + last_at 0 ms) back ≡ word_over u (1 + last_at 0 ms) back =
-          over-same t u (1 + last_at 0 ms) back (λ p above below. agree p (omega (arith, above)) (omega (arith, below, inside, len))) in
-          subst (NoneAfter g.dfa.now q back g.finals) behind (is.none front back q parts len (ap (reached g.dfa.now 0) before ∙ run));
-    }
+trail-agree g t u ms hs agree is = record {
+  base = is.base;
+  one = is.one;
+  kept = kept-other g t u hs 1 0 0 is.base (length (whole_text g) + 1) ms refl (omega (arith, last-inside g t hs 1 0 0 is.base ms (omega arith) is.kept)) agree is.kept;
+  none = λ front back q parts len run.
+      let inside : length front + length back ≡ length (whole_text g) = sym (ap length parts ∙ length-append front back) in
+      let before : word_over t 1 front ≡ word_over u 1 front = over-same t u 1 front (λ p above below. agree p above (omega (arith, below, inside))) in
+      let behind : word_over t (1 + last_at 0 ms) back ≡ word_over u (1 + last_at 0 ms) back =
+      over-same t u (1 + last_at 0 ms) back (λ p above below. agree p (omega (arith, above)) (omega (arith, below, inside, len))) in
+      subst (NoneAfter g.dfa.now q back g.finals) behind (is.none front back q parts len (ap (reached g.dfa.now 0) before ∙ run));
+}
+
+-- ---- looks
+pub cost-lower : (k h before now after c : ℕ) → now ≡ before + 1 → c ≤ 2 * k → after ≤ now + 2 * (h * c) → after ≤ before + bound k h
+cost-lower k h before now after c en ec ea =
+    let x : c * h ≤ (2 * k) * h = mul-le-mul_right h ec in
+    omega (arith, en)
+
+pub within-limit : (k before after : ℕ) (t : Tree) → IsBalanced t → after ≤ before + bound k (height t) → after ≤ before + looks_limit k (length (text t))
+within-limit k before after t bal le =
+    let h : height t ≤ height_limit (length (text t)) = rw (length-text t) (height-by_leaves t bal) in
+    let x : (2 * k + 1) * (height t + 3) ≤ (2 * k + 1) * (height_limit (length (text t)) + 3) = mul-le-mul_left (2 * k + 1) (omega (arith, h)) in
+    omega (arith, le, x, mul_assoc 4 (2 * k + 1) (height_limit (length (text t)) + 3))

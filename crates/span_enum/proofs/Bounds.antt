@@ -1,13 +1,7 @@
 -- Where the spans of a tuple start and end, and its marks.
-use Rattle.std.proofs.Common.{zero, suc, ◌≡◌, ℕ, ◌^◌, ◌<◌, ◌≤◌, ◌⊎◌, true, false, nat_le, nat_lt, refl, ap, sym, subst, ◌∙◌, arith, [], ◌∷◌, length, Option, Some, None, inl, inr}
-use Rattle.std.proofs.lemmas.Bool.{cases_eq, cases_lt, eq-eqb}
-use Rattle.span_types.specs.declared.tuple.Span.{Span}
-use Rattle.span_types.specs.Marks.{Spans, spans_of, mark, mark_of, part_of, at_place, opening, closing}
-use Rattle.span_types.proofs.MarkSteps.{four_le}
-use Rattle.span_types.proofs.SearchLaws.{mark-free}
-use Rattle.state_tables.proofs.Members.{or-left, or-right}
-use Rattle.span_enum.specs.Members.{Tuple}
-use Rattle.span_enum.specs.Tuples.{IsBound, IsBoundBetween, IsMarkedBetween, EndsPast, reaches}
+use Rattle.span_enum.proofs.Base.{EndsPast, IsBound, IsBoundBetween, IsMarkedBetween, None, Option, Some, Span, Spans, Tuple, [], ap, arith, at_place, cases_eq, cases_lt, closing, eq-eqb, false}
+use Rattle.span_enum.proofs.Base.{four_le, inl, inr, length, mark, mark-free, mark_of, nat_le, nat_lt, opening, or-left, or-right, part_of, reaches, refl, spans_of, subst, suc, sym, true, zero, ℕ}
+use Rattle.span_enum.proofs.Base.{◌<◌, ◌^◌, ◌∙◌, ◌∷◌, ◌≡◌, ◌≤◌, ◌⊎◌}
 
 four-some : (v : ℕ) → 0 < 4 ^ v
 four-some v = omega (arith, four_le 0 v (omega arith))

@@ -1,179 +1,197 @@
--- The first marked text, by the parts of a text.
-use Rattle.std.proofs.Common.{◌≡◌, ℕ, ◌+◌, ◌*◌, ◌<◌, ◌≤◌, ◌==◌, ◌^◌, ◌⊎◌, Bool, true, false, ◌||◌, not, refl, ap, sym, ◌∙◌, arith, bit_and, List, [], ◌∷◌, ◌++◌, Option, Some, None, inl, inr, zero-add}
-use Rattle.std.specs.Prelude.{if◌then◌else◌, min}
-use Rattle.std.specs.Int.{bit_at, trailing_zeros, w128}
-use Rattle.span_enum.proofs.Paths.{Tells}
-use Rattle.std.proofs.lemmas.Bool.{cases_lt, cases_eq, eqb-true, eq-eqb}
-use Rattle.std.proofs.lemmas.List.{map-append}
-use Rattle.std.proofs.lemmas.Nat.{and_le_l}
-use Rattle.std.proofs.lemmas.Nat.Bits.{bit_at_and, bit_at-trailing_zeros, bit_at-lt, bit_at-zero}
-use Rattle.std.proofs.Math.Nat.{mul-le-mul_right}
-use Rattle.marker_dfa.specs.Deterministic.{DeterministicAutomaton, states_of}
-use Rattle.span_types.specs.Words.{Marked, Precedes, mark_count}
-use Rattle.formula_law.specs.Law.{bytes_of}
-use Rattle.span_enum.specs.Letters.{step_of, reached}
-use Rattle.state_tables.specs.StateSet.{member}
-use Rattle.state_tables.specs.Table.{unmarked_of, marked_of}
-use Rattle.state_tables.specs.Meaning.{plain, has_mark}
-use Rattle.state_tables.specs.Table.{Row}
-use Rattle.span_enum.proofs.Paths.{run-append, then-between, then-join, then-some, split-marked, plain-from_no_mark, bytes-plain}
-use Rattle.state_tables.proofs.Members.{bool-cases, or-cases, or-left, or-right, not-both}
-use Rattle.state_tables.proofs.StateSets.{member-bit, bit-member}
-use Rattle.span_enum.specs.Sets.{is_goal, can_reach_of}
-use Rattle.span_enum.specs.Words.{CanRun, IsFirst}
+-- The first marked text, by the parts of a text and by tables.
+use Rattle.span_enum.proofs.Base.{Bool, CanRun, DeterministicAutomaton, IsFirst, List, Marked, None, Option, Precedes, Row, Some, [], and_le_l, ap, arith, bit-member, bit_and, bit_at, bit_at-lt}
+use Rattle.span_enum.proofs.Base.{bit_at-trailing_zeros, bit_at-zero, bit_at_and, bool-cases, bytes_of, can_reach_of, cases_eq, false, has_mark, if◌then◌else◌, inl, inr, is_goal, mark_count}
+use Rattle.span_enum.proofs.Base.{marked, marked_of, member, member-bit, min, not, not-both, or-cases, or-left, or-right, plain, reached, refl, states_of, sym, trailing_zeros, true, unmarked_of, w128}
+use Rattle.span_enum.proofs.Base.{zero-add, ℕ, ◌++◌, ◌+◌, ◌<◌, ◌==◌, ◌^◌, ◌||◌, ◌∙◌, ◌∷◌, ◌≡◌, ◌≤◌, ◌⊎◌}
+use Rattle.span_enum.specs.Letters.{step_of}
+use Rattle.span_enum.proofs.Paths.{HasMarkedRun, Tells, bytes-append, bytes-plain, one-letter, plain-from_no_mark, run-behind, run-on, run-one, run-parts, same-state}
 
 -- ---- sets
-one-zero : ◌≡◌ {A = ℕ} 1 0 → ⊥
-one-zero h = omega arith
-
-pub shared-none : (a b q : ℕ) → (bit_and a b == 0) ≡ true → member a q ≡ true → member b q ≡ true → ⊥
-shared-none a b q e ha hb =
-    let none : bit_and a b ≡ 0 = eqb-true (bit_and a b) 0 e in
-    let both : min 1 1 ≡ bit_at (bit_and a b) q = rw (bit_at_and a b q, bit-member a q ha, bit-member b q hb) refl in
+pub shared-none : (a b q : ℕ) → bit_and a b ≡ 0 → member a q ≡ true → member b q ≡ true → ⊥
+shared-none a b q none ha hb =
+    let both : bit_at (bit_and a b) q ≡ 1 = rw (bit_at_and a b q, bit-member a q ha, bit-member b q hb) refl in
     let zero' : bit_at (bit_and a b) q ≡ 0 = rw (none, bit_at-zero q) refl in
-    let clash : ◌≡◌ {A = ℕ} 1 0 = both ∙ zero' in
-    absurd (one-zero clash)
+    omega (arith, both, zero')
 
-pub positive : (n : ℕ) → (n == 0) ≡ false → 0 < n
-positive n e = elim (cases_lt 0 n) [
-  | inl lt ↦ lt
-  | inr ge ↦ let none : n ≡ 0 = omega arith in not-both (n == 0) (eq-eqb n 0 none) e
-]
-
-pub shared-some : (a b : ℕ) → a < 2 ^ 128 → (bit_and a b == 0) ≡ false → (q : ℕ) × (member a q ≡ true) × (member b q ≡ true)
-shared-some a b ha e =
+pub shared-some : (a b : ℕ) → a < 2 ^ 128 → (bit_and a b ≡ 0 → ⊥) → (q : ℕ) × (member a q ≡ true) × (member b q ≡ true)
+shared-some a b ha some =
     let n = bit_and a b in
-    let pos : 0 < n = positive n e in
+    let pos : 0 < n = elim (cases_eq n 0) [ inl e ↦ absurd (some e) | inr ne ↦ omega arith ] in
     let low : n < 2 ^ 128 = omega (arith, and_le_l a b) in
     let at = bit_at-trailing_zeros w128 n pos low in
     let q = trailing_zeros w128 n in
     let both : min (bit_at a q) (bit_at b q) ≡ 1 = sym (bit_at_and a b q) ∙ at.1 in
-    let la : bit_at a q < 2 = bit_at-lt a q in
-    let lb : bit_at b q < 2 = bit_at-lt b q in
-    (q, member-bit a q (omega arith), member-bit b q (omega arith))
+    (q, member-bit a q (omega (arith, both, bit_at-lt a q)), member-bit b q (omega (arith, both, bit_at-lt b q)))
+
+pub above-zero : (n : ℕ) → 0 < n → (n == 0) ≡ false
+above-zero n h = grind arith
+
+pub positive-test : (n : ℕ) → (n ≡ 0 → ⊥) → not (n == 0) ≡ true
+positive-test n some = rw (above-zero n (elim (cases_eq n 0) [ inl e ↦ absurd (some e) | inr ne ↦ omega arith ])) refl
 
 -- ---- runs and tables
-some-goal : (goals : ℕ) (o : Option ℕ) → is_goal goals o ≡ true → (q : ℕ) × (o ≡ Some q) × (member goals q ≡ true)
-some-goal goals None h = cc
-some-goal goals (Some q) h = (q, refl, h)
+-- whether a run leads into a goal: that without marks does, or one with marks
+pub reach-cases : (t : List Row) (p goals : ℕ) → can_reach_of t p goals ≡ true
+    → ((q : ℕ) × (unmarked_of t p ≡ Some q) × (member goals q ≡ true)) ⊎ (bit_and (marked_of t p) goals ≡ 0 → ⊥)
+reach-cases t p goals can = elim (or-cases (is_goal goals (unmarked_of t p)) (not (bit_and (marked_of t p) goals == 0)) can) [
+  | inl e ↦ inl (one (unmarked_of t p) e)
+  | inr e ↦ inr (λ none. not-both (not (bit_and (marked_of t p) goals == 0)) e (ap (λ n. not (n == 0)) none))
+]
+  where
+    one : (o : Option ℕ) → is_goal goals o ≡ true → (q : ℕ) × (o ≡ Some q) × (member goals q ≡ true)
+    one None h = cc
+    one (Some q) h = (q, refl, h)
 
-not-false : (b : Bool) → not b ≡ true → b ≡ false
-not-false true h = cc
-not-false false h = refl
+-- a run with marks into a goal is a run into a goal
+pub some-can : (t : List Row) (p goals : ℕ) → (bit_and (marked_of t p) goals ≡ 0 → ⊥) → can_reach_of t p goals ≡ true
+some-can t p goals some = or-right _ _ (positive-test (bit_and (marked_of t p) goals) some)
 
-pub false-not : (b : Bool) → b ≡ false → not b ≡ true
-false-not true h = cc
-false-not false h = refl
+-- without a marked run the plain one reaches a goal
+pub goal-plain : (t : List Row) (p goals q : ℕ) → can_reach_of t p goals ≡ true → bit_and (marked_of t p) goals ≡ 0 → unmarked_of t p ≡ Some q → member goals q ≡ true
+goal-plain t p goals q can none at = elim (reach-cases t p goals can) [
+  | inl e ↦ ap (member goals) (same-state q e.0 (unmarked_of t p) at e.1) ∙ e.2
+  | inr some ↦ absurd (some none)
+]
+
+-- a run over a text whose table is known has marks, or is the plain one
+pub marks-or_plain : (a : DeterministicAutomaton) (s : List ℕ) (t : List Row) (p q : ℕ) (w : Marked) → Tells a s t → p < states_of a → bytes_of w ≡ s → reached a p w ≡ Some q
+    → (member (marked_of t p) q ≡ true) ⊎ ((w ≡ plain s) × (unmarked_of t p ≡ Some q))
+marks-or_plain a s t p q w is low bytes ends = elim (bool-cases (has_mark w)) [
+  | inl marked ↦ inl ((is.marked p q low).1 (record { word = w; bytes = bytes; mark = marked; ends = ends }))
+  | inr bare ↦
+      let same : w ≡ plain s = plain-from_no_mark w bare ∙ ap plain bytes in
+      inr (same, is.unmarked p low ∙ ap (reached a p) (sym same) ∙ ends)
+]
+
+-- some run with marks leads into a goal
+pub marked-run : (a : DeterministicAutomaton) (s : List ℕ) (t : List Row) (p goals : ℕ) → Tells a s t → p < states_of a → marked_of t p < 2 ^ 128 → (bit_and (marked_of t p) goals ≡ 0 → ⊥)
+    → (q : ℕ) × (member goals q ≡ true) × HasMarkedRun a p s q
+marked-run a s t p goals is low small some =
+    let found = shared-some (marked_of t p) goals small some in
+    (found.0, found.2, (is.marked p found.0 low).0 found.1)
 
 pub run-from_table : (a : DeterministicAutomaton) (s : List ℕ) (t : List Row) (p goals : ℕ) → Tells a s t → p < states_of a → marked_of t p < 2 ^ 128
     → can_reach_of t p goals ≡ true → CanRun a p s goals
-run-from_table a s t p goals is h low can =
-    elim (or-cases (is_goal goals (unmarked_of t p)) (not (bit_and (marked_of t p) goals == 0)) can) [
-      | inl e ↦
-          let found = some-goal goals (unmarked_of t p) e in
-          record { word = plain s; state = found.0; bytes = bytes-plain s; ends = sym (is.unmarked p h) ∙ found.1; goal = found.2 }
-      | inr e ↦
-          let found = shared-some (marked_of t p) goals low (not-false (bit_and (marked_of t p) goals == 0) e) in
-          let run = (is.marked p found.0 h).0 found.1 in
-          record { word = run.word; state = found.0; bytes = run.bytes; ends = run.ends; goal = found.2 }
-    ]
+run-from_table a s t p goals is low small can = elim (reach-cases t p goals can) [
+  | inl e ↦ record { word = plain s; state = e.0; bytes = bytes-plain s; ends = sym (is.unmarked p low) ∙ e.1; goal = e.2 }
+  | inr some ↦
+      let k = marked-run a s t p goals is low small some in
+      record { word = k.2.word; state = k.0; bytes = k.2.bytes; ends = k.2.ends; goal = k.1 }
+]
 
 pub table-from_run : (a : DeterministicAutomaton) (s : List ℕ) (t : List Row) (p goals : ℕ) → Tells a s t → p < states_of a
     → CanRun a p s goals → can_reach_of t p goals ≡ true
-table-from_run a s t p goals is h run =
-    elim (bool-cases (has_mark run.word)) [
-      | inl marked ↦
-          let in_set : member (marked_of t p) run.state ≡ true = (is.marked p run.state h).1 (record { word = run.word; bytes = run.bytes; mark = marked; ends = run.ends }) in
-          or-right _ _ (false-not _ (elim (bool-cases (bit_and (marked_of t p) goals == 0)) [
-            | inl none ↦ absurd (shared-none (marked_of t p) goals run.state none in_set run.goal)
-            | inr some ↦ some
-          ]))
-      | inr none ↦
-          let at : unmarked_of t p ≡ Some run.state = is.unmarked p h ∙ ap (reached a p) (sym (plain-from_no_mark run.word none ∙ ap plain run.bytes)) ∙ run.ends in
-          or-left _ _ (ap (is_goal goals) at ∙ run.goal)
-    ]
+table-from_run a s t p goals is low run = elim (marks-or_plain a s t p run.state run.word is low run.bytes run.ends) [
+  | inl marked ↦ some-can t p goals (λ none. shared-none (marked_of t p) goals run.state none marked run.goal)
+  | inr bare ↦ or-left _ _ (ap (is_goal goals) bare.1 ∙ run.goal)
+]
 
 -- ---- order
 pub precedes-append : (w v x y : Marked) → Precedes w v → Precedes (w ++ x) (v ++ y)
 precedes-append [] v x y h = absurd h
 precedes-append (m ∷ w) [] x y h = absurd h
-precedes-append (m ∷ w) (n ∷ v) x y h = elim h [
-  | inl lt ↦ inl lt
-  | inr e ↦ inr (e.0, precedes-append w v x y e.1)
-]
+precedes-append (m ∷ w) (n ∷ v) x y (inl lt) = inl lt
+precedes-append (m ∷ w) (n ∷ v) x y (inr e) = inr (e.0, precedes-append w v x y e.1)
 
 pub precedes-prefix : (w x y : Marked) → Precedes x y → Precedes (w ++ x) (w ++ y)
 precedes-prefix [] x y h = h
 precedes-prefix (m ∷ w) x y h = inr (refl, precedes-prefix w x y h)
 
+-- two joined texts: the first parts decide, or they are equal
+pub precedes-split : (w1 v1 w2 v2 : Marked) → bytes_of w1 ≡ bytes_of v1 → Precedes (w1 ++ w2) (v1 ++ v2) → Precedes w1 v1 ⊎ ((w1 ≡ v1) × Precedes w2 v2)
+precedes-split [] [] w2 v2 e h = inr (refl, h)
+precedes-split [] (y ∷ v1) w2 v2 e h = cc
+precedes-split (x ∷ w1) [] w2 v2 e h = cc
+precedes-split (x ∷ w1) (y ∷ v1) w2 v2 e (inl lt) = inl (inl lt)
+precedes-split (x ∷ w1) (y ∷ v1) w2 v2 e (inr k) =
+    let bytes : bytes_of w1 ≡ bytes_of v1 = cc in
+    let byte : x.1 ≡ y.1 = cc in
+    let pair : x ≡ y = ap (λ n. (n, x.1)) k.0 ∙ ap (λ c. (y.0, c)) byte in
+    elim (precedes-split w1 v1 w2 v2 bytes k.1) [
+      | inl before ↦ inl (inr (k.0, before))
+      | inr rest ↦ inr (rw (pair, rest.0) refl, rest.1)
+    ]
+
 -- ---- the first marked text
--- no marked run reaches a goal, so the plain text is the only one
+-- where no marked run reaches a goal, the plain text is the only one
+pub only-plain : (a : DeterministicAutomaton) (s : List ℕ) (t : List Row) (p goals : ℕ) → Tells a s t → p < states_of a → bit_and (marked_of t p) goals ≡ 0
+    → (w : Marked) (r : ℕ) → bytes_of w ≡ s → reached a p w ≡ Some r → member goals r ≡ true → w ≡ plain s
+only-plain a s t p goals is low none w r bytes ends goal = elim (marks-or_plain a s t p r w is low bytes ends) [
+  | inl marked ↦ absurd (shared-none (marked_of t p) goals r none marked goal)
+  | inr bare ↦ bare.0
+]
+
 pub IsFirst-plain : (a : DeterministicAutomaton) (s : List ℕ) (t : List Row) (p goals q : ℕ) → Tells a s t → p < states_of a
-    → (bit_and (marked_of t p) goals == 0) ≡ true → unmarked_of t p ≡ Some q → member goals q ≡ true → IsFirst a p s goals (plain s) q
-IsFirst-plain a s t p goals q is h none at goal = record {
+    → bit_and (marked_of t p) goals ≡ 0 → unmarked_of t p ≡ Some q → member goals q ≡ true → IsFirst a p s goals (plain s) q
+IsFirst-plain a s t p goals q is low none at goal = record {
   bytes = bytes-plain s;
-  ends = sym (is.unmarked p h) ∙ at;
+  ends = sym (is.unmarked p low) ∙ at;
   goal = goal;
-  least = λ v r bytes ends g. elim (bool-cases (has_mark v)) [
-    | inl marked ↦
-        absurd (shared-none (marked_of t p) goals r none ((is.marked p r h).1 (record { word = v; bytes = bytes; mark = marked; ends = ends })) g)
-    | inr bare ↦ inl (plain-from_no_mark v bare ∙ ap plain bytes)
-  ];
+  least = λ v r bytes ends g. inl (only-plain a s t p goals is low none v r bytes ends g);
 }
 
 pub IsFirst-byte : (a : DeterministicAutomaton) (p b m goals q : ℕ) → step_of a p m b ≡ Some q → member goals q ≡ true
     → ((n r : ℕ) → step_of a p n b ≡ Some r → member goals r ≡ true → n ≤ m) → IsFirst a p (b ∷ []) goals ((m, b) ∷ []) q
 IsFirst-byte a p b m goals q step goal most = record {
   bytes = refl;
-  ends = then-some (step_of a p m b) ∙ step;
+  ends = run-one a p m b ∙ step;
   goal = goal;
-  least = λ v r bytes ends g. one v r bytes ends g;
+  least = λ v r bytes ends g.
+      let one = one-letter a p b r v bytes ends in
+      let within : one.mark ≤ m = most one.mark r one.step g in
+      elim (cases_eq one.mark m) [
+        | inl e ↦ inl (one.word ∙ ap (λ n. (n, b) ∷ []) e)
+        | inr ne ↦ inr (rw one.word (inl (omega arith)))
+      ];
 }
-  where
-    one : (v : Marked) (r : ℕ) → bytes_of v ≡ b ∷ [] → reached a p v ≡ Some r → member goals r ≡ true → (v ≡ (m, b) ∷ []) ⊎ Precedes ((m, b) ∷ []) v
-    one [] r bytes ends g = cc
-    one (x ∷ []) r bytes ends g =
-        let same : x.1 ≡ b = cc in
-        let step' : step_of a p x.0 b ≡ Some r = ap (step_of a p x.0) (sym same) ∙ sym (then-some (step_of a p x.0 x.1)) ∙ ends in
-        let within : x.0 ≤ m = most x.0 r step' g in
-        elim (cases_eq x.0 m) [
-          | inl e ↦ inl (ap (λ n. (n, x.1) ∷ []) e ∙ ap (λ c. (m, c) ∷ []) same)
-          | inr ne ↦ inr (inl (omega arith))
-        ]
-    one (x ∷ y ∷ v) r bytes ends g = cc
-
-some-injective : (x y : ℕ) (o : Option ℕ) → o ≡ Some x → o ≡ Some y → x ≡ y
-some-injective x y o h k = cc
 
 pub IsFirst-fork : (a : DeterministicAutomaton) (s u : List ℕ) (p q r goals between : ℕ) (w v : Marked)
     → ((n : ℕ) (x : Marked) → bytes_of x ≡ s → reached a p x ≡ Some n → CanRun a n u goals → member between n ≡ true)
     → IsFirst a p s between w q → IsFirst a q u goals v r → IsFirst a p (s ++ u) goals (w ++ v) r
 IsFirst-fork a s u p q r goals between w v all l k = record {
-  bytes = map-append (λ x. x.1) w v ∙ rw (l.bytes, k.bytes) refl;
-  ends = run-append a p w v ∙ then-join (λ n. reached a n v) (reached a p w) q l.ends ∙ k.ends;
+  bytes = bytes-append w v ∙ rw (l.bytes, k.bytes) refl;
+  ends = run-on a p q w v l.ends ∙ k.ends;
   goal = k.goal;
   least = λ x n bytes ends g.
-      let cut = split-marked s u x bytes in
-      let x1 = cut.0 in
-      let x2 = cut.1.0 in
-      let is = cut.1.1.0 in
-      let mid = then-between (λ t. reached a t x2) (reached a p x1) n (sym (run-append a p x1 x2) ∙ ap (reached a p) (sym is) ∙ ends) in
-      let reach : member between mid.0 ≡ true = all mid.0 x1 cut.1.1.1 mid.1 (record { word = x2; state = n; bytes = cut.1.1.2; ends = mid.2; goal = g }) in
-      elim (l.least x1 mid.0 cut.1.1.1 mid.1 reach) [
-        | inr before ↦ inr (rw is (precedes-append w x1 v x2 before))
+      let c = run-parts a p s u x n bytes ends in
+      elim (l.least c.left c.middle c.left_bytes c.left_ends (all c.middle c.left c.left_bytes c.left_ends (run-behind a p s u x n goals c g))) [
+        | inr before ↦ inr (rw c.joined (precedes-append w c.left v c.right before))
         | inl same ↦
-            let at : mid.0 ≡ q = some-injective mid.0 q (reached a p w) (ap (reached a p) (sym same) ∙ mid.1) l.ends in
-            elim (k.least x2 n cut.1.1.2 (ap (λ t. reached a t x2) (sym at) ∙ mid.2) g) [
-              | inl same' ↦ inl (is ∙ rw (same, same') refl)
-              | inr before ↦ inr (rw (is, same) (precedes-prefix w v x2 before))
+            let at : c.middle ≡ q = same-state c.middle q (reached a p w) (ap (reached a p) (sym same) ∙ c.left_ends) l.ends in
+            elim (k.least c.right n c.right_bytes (ap (λ t. reached a t c.right) (sym at) ∙ c.right_ends) g) [
+              | inl same' ↦ inl (c.joined ∙ rw (same, same') refl)
+              | inr before ↦ inr (rw (c.joined, same) (precedes-prefix w v c.right before))
             ]
       ];
 }
 
--- ---- looks
+-- ---- nothing is left
+pub bytes-none : (w : Marked) → bytes_of w ≡ [] → w ≡ []
+bytes-none [] e = refl
+bytes-none (x ∷ w) e = cc
+
+pub run-nothing : (a : DeterministicAutomaton) (p goals : ℕ) → member goals p ≡ true → CanRun a p [] goals
+run-nothing a p goals h = record { word = []; state = p; bytes = refl; ends = refl; goal = h }
+
+pub goal-from_nothing : (a : DeterministicAutomaton) (p goals : ℕ) → CanRun a p [] goals → member goals p ≡ true
+goal-from_nothing a p goals run =
+    let ends : reached a p [] ≡ Some run.state = ap (reached a p) (sym (bytes-none run.word run.bytes)) ∙ run.ends in
+    ap (member goals) (same-state p run.state (Some p) refl ends) ∙ run.goal
+
+pub first-nothing : (a : DeterministicAutomaton) (p goals : ℕ) → member goals p ≡ true → IsFirst a p [] goals [] p
+first-nothing a p goals h = record { bytes = refl; ends = refl; goal = h; least = λ v r bytes ends goal. inl (bytes-none v bytes) }
+
+-- ---- how many marks
 pub mark_count-append : (w v : Marked) → mark_count (w ++ v) ≡ mark_count w + mark_count v
 mark_count-append [] v = sym (zero-add (mark_count v))
 mark_count-append (x ∷ w) v = omega (arith, mark_count-append w v)
+
+pub count-plain : (s : List ℕ) → mark_count (plain s) ≡ 0
+count-plain [] = refl
+count-plain (b ∷ s) = omega (arith, count-plain s)
+
+pub count-more : (m b : ℕ) (w : Marked) → 0 < m → mark_count ((m, b) ∷ w) ≡ 1 + mark_count w
+count-more m b w some = ap (λ z. (if z then 0 else 1) + mark_count w) (above-zero m some)
 
 pub has-count : (w : Marked) → has_mark w ≡ true → 0 < mark_count w
 has-count [] h = cc
@@ -182,17 +200,3 @@ has-count (x ∷ w) h = by (x.0 == 0) h (has-count w)
     by : (z : Bool) → (not z || has_mark w) ≡ true → (has_mark w ≡ true → 0 < mark_count w) → 0 < (if z then 0 else 1) + mark_count w
     by true h f = let k : 0 < mark_count w = f h in omega arith
     by false h f = omega arith
-
--- two looks at the children and the looks below them
-pub cost-fork : (h hl hr c d before a b after : ℕ) → hl + 1 ≤ h → hr + 1 ≤ h → 0 < c + d → a ≡ before + 2 → b ≤ a + 2 * (hl * c) → after ≤ b + 2 * (hr * d)
-    → after ≤ before + 2 * (h * (c + d))
-cost-fork h hl hr c d before a b after el er pos ea eb ec =
-    let x : (hl + 1) * c ≤ h * c = mul-le-mul_right c el in
-    let y : (hr + 1) * d ≤ h * d = mul-le-mul_right d er in
-    omega arith
-
-pub above-zero : (m n : ℕ) → n < m → (m == 0) ≡ false
-above-zero m n h = elim (bool-cases (m == 0)) [
-  | inl e ↦ let none : m ≡ 0 = eqb-true m 0 e in absurd (omega arith)
-  | inr e ↦ e
-]

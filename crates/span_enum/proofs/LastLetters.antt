@@ -1,27 +1,14 @@
 -- Ends of texts.
-use Rattle.std.proofs.Common.{zero, suc, ◌≡◌, ℕ, ◌<◌, ◌≤◌, ◌^◌, ◌==◌, ◌⊎◌, Bool, IsTrue, true, false, not, refl, ap, sym, ◌∙◌, arith, List, [], ◌∷◌, length, get_or, Contains, Some, inl, inr}
-use Rattle.std.specs.Prelude.{if◌then◌else◌}
-use Rattle.std.proofs.lemmas.Bool.{eqb-true, eq-eqb}
-use Rattle.std.proofs.lemmas.List.Elements.{Contains-get_or}
-use Rattle.marker_dfa.specs.Deterministic.{DeterministicAutomaton, IsDeterministic, states_of, marks_of, ends_of}
-use Rattle.span_types.specs.Words.{Marked}
-use Rattle.span_types.proofs.MarkSteps.{four_le}
-use Rattle.formula_law.specs.Law.{bytes_of}
-use Rattle.state_tables.specs.StateSet.{member}
-use Rattle.state_tables.specs.Table.{Row, marked_of}
-use Rattle.state_tables.proofs.StateSets.{member-single_same}
-use Rattle.state_tables.proofs.Members.{bool-cases}
-use Rattle.span_enum.specs.Letters.{end_in, step_of, reached}
-use Rattle.span_enum.specs.Sets.{has_item, is_final, can_reach_of}
-use Rattle.span_enum.specs.Words.{CanRun, IsNoMark}
-use Rattle.span_enum.specs.Ends.{Accepted}
-use Rattle.span_enum.proofs.Paths.{Tells, step-byte, step-end, run-within, run-append, then-between, then-some, split-marked}
-use Rattle.span_enum.proofs.Firsts.{run-from_table, table-from_run, above-zero, false-not}
-use Rattle.span_enum.proofs.Lowerings.{run-join}
+use Rattle.span_enum.proofs.Base.{Accepted, Bool, CanRun, Contains, Contains-get_or, DeterministicAutomaton, IsDeterministic, List, Marked, Row, Some, [], arith, bytes_of, can_reach_of, end_in}
+use Rattle.span_enum.proofs.Base.{ends_of, eq-eqb, eqb-true, false, four_le, get_or, has_item, if◌then◌else◌, is_final, length, marked_of, marks_of, member, member-single_same, next_of, not, not-both}
+use Rattle.span_enum.proofs.Base.{reached, refl, states_of, suc, sym, true, zero, ℕ, ◌<◌, ◌==◌, ◌^◌, ◌∙◌, ◌∷◌, ◌≡◌}
+use Rattle.span_enum.specs.Letters.{step_of}
+use Rattle.span_enum.proofs.Firsts.{positive-test, run-from_table, table-from_run}
+use Rattle.span_enum.proofs.Paths.{Tells, one-letter, run-behind, run-join, run-one, run-parts, run-within, step-byte, step-end}
 
 pub not-empty : (xs : List ℕ) → not (length xs == 0) ≡ has_item xs
 not-empty [] = refl
-not-empty (x ∷ xs) = false-not (length (x ∷ xs) == 0) (above-zero (length (x ∷ xs)) 0 (omega arith))
+not-empty (x ∷ xs) = positive-test (length (x ∷ xs)) (λ e. omega (arith, e))
 
 pub member-one : member 1 0 ≡ true
 member-one = member-single_same 0
@@ -29,30 +16,21 @@ member-one = member-single_same 0
 -- ---- marks in the list of those with which a text may end
 pub in-end : (ms : List ℕ) (m : ℕ) → Contains ms m → end_in ms m ≡ Some 0
 in-end [] m c = absurd (omega (arith, c.1))
-in-end (x ∷ ms) m c = by (λ k. in-end ms m k) (bool-cases (x == m))
+in-end (x ∷ ms) m c = by (x == m) (λ e. eq-eqb x m e) (λ k. in-end ms m k) c
   where
-    later : (k : ℕ) → k < length (x ∷ ms) → get_or (x ∷ ms) k m ≡ m → (x ≡ m → ⊥) → Contains ms m
-    later zero lt e ne = absurd (ne e)
-    later (suc k) lt e ne = (k, omega arith, e)
-
-    differ : (x == m) ≡ false → x ≡ m → ⊥
-    differ e same = let t : (x == m) ≡ true = eq-eqb x m same in let clash : true ≡ false = sym t ∙ e in cc
-
-    by : (Contains ms m → end_in ms m ≡ Some 0) → ((x == m) ≡ true) ⊎ ((x == m) ≡ false) → (if x == m then Some 0 else end_in ms m) ≡ Some 0
-    by rest (inl e) = rw e refl
-    by rest (inr e) = rw e (rest (later c.0 c.1 c.2 (differ e)))
+    by : (z : Bool) → (x ≡ m → z ≡ true) → (Contains ms m → end_in ms m ≡ Some 0) → Contains (x ∷ ms) m → (if z then Some 0 else end_in ms m) ≡ Some 0
+    by true same rest k = refl
+    by false same rest (zero, lt, e) = not-both false (same e) refl
+    by false same rest (suc k, lt, e) = rest (k, omega (arith, lt), e)
 
 pub end-among : (ms : List ℕ) (m q : ℕ) → end_in ms m ≡ Some q → (q ≡ 0) × Contains ms m
 end-among [] m q h = cc
 end-among (x ∷ ms) m q h = by (x == m) h (λ e. eqb-true x m e) (end-among ms m q)
   where
-    up : Contains ms m → Contains (x ∷ ms) m
-    up c = (suc c.0, omega (arith, c.1), c.2)
-
     by : (z : Bool) → (if z then Some 0 else end_in ms m) ≡ Some q → (z ≡ true → x ≡ m)
         → (end_in ms m ≡ Some q → (q ≡ 0) × Contains ms m) → (q ≡ 0) × Contains (x ∷ ms) m
     by true e t f = let same : q ≡ 0 = cc in (same, (0, omega arith, t refl))
-    by false e t f = ((f e).0, up (f e).1)
+    by false e t f = let k = f e in (k.0, (suc k.1.0, omega (arith, k.1.1), k.1.2))
 
 -- ---- the step over the end
 pub end-step : (a : DeterministicAutomaton) (q m : ℕ) → Contains (ends_of a q) m → step_of a q m 256 ≡ Some 0
@@ -78,33 +56,33 @@ end-run a q f = record {
   word = (get_or (ends_of a q) 0 0, 256) ∷ [];
   state = 0;
   bytes = refl;
-  ends = then-some (step_of a q (get_or (ends_of a q) 0 0) 256) ∙ final-end a q f;
+  ends = run-one a q (get_or (ends_of a q) 0 0) 256 ∙ final-end a q f;
   goal = member-one;
 }
 
 pub run-end : (a : DeterministicAutomaton) (q : ℕ) → CanRun a q (256 ∷ []) 1 → is_final a q ≡ true
-run-end a q run = one run.word run.state run.bytes run.ends
-  where
-    one : (w : Marked) (r : ℕ) → bytes_of w ≡ 256 ∷ [] → reached a q w ≡ Some r → is_final a q ≡ true
-    one [] r e t = cc
-    one (x ∷ []) r e t =
-        let same : x.1 ≡ 256 = cc in
-        let step : step_of a q x.0 256 ≡ Some r = ap (step_of a q x.0) (sym same) ∙ sym (then-some (step_of a q x.0 x.1)) ∙ t in
-        final-from (ends_of a q) x.0 (end-facts a q x.0 r step).1
-    one (x ∷ y ∷ w) r e t = cc
+run-end a q run =
+    let one = one-letter a q 256 run.state run.word run.bytes run.ends in
+    final-from (ends_of a q) one.mark (end-facts a q one.mark run.state one.step).1
 
 -- ---- marks are small
 module _ (a : DeterministicAutomaton) (auto : IsDeterministic a) where
-  low-marks : (m : ℕ) → m < 4 ^ a.variables → m < 65536
-  low-marks m h = omega (arith, four_le a.variables 8 auto.few_variables)
+  pub low-mark : (p m b q : ℕ) → step_of a p m b ≡ Some q → m < 65536
+  unfolding step_of
+  low-mark p m b q h = by (b == 256) h
+    where
+      small : m < 4 ^ a.variables → m < 65536
+      small lt = omega (arith, four_le a.variables 8 auto.few_variables)
+
+      by : (z : Bool) → (if z then end_in (ends_of a p) m else next_of a p m b) ≡ Some q → m < 65536
+      by true e = small (auto.ends_small p m (end-among (ends_of a p) m q e).1)
+      by false e = small (auto.marks_small p b m ((auto.marks p b m).1 (q, e)))
 
   pub fit-byte : (p m b q : ℕ) → b < 256 → step_of a p m b ≡ Some q → Contains (marks_of a p b) m × (m < 65536)
-  fit-byte p m b q low h =
-      let c : Contains (marks_of a p b) m = (auto.marks p b m).1 (q, sym (step-byte a p m b low) ∙ h) in
-      (c, low-marks m (auto.marks_small p b m c))
+  fit-byte p m b q low h = ((auto.marks p b m).1 (q, sym (step-byte a p m b low) ∙ h), low-mark p m b q h)
 
   pub fit-end : (p m q : ℕ) → step_of a p m 256 ≡ Some q → m < 65536
-  fit-end p m q h = low-marks m (auto.ends_small p m (end-facts a p m q h).1)
+  fit-end p m q h = low-mark p m 256 q h
 
 -- ---- the goals before the end
 module _ (a : DeterministicAutomaton) (auto : IsDeterministic a) (finals : ℕ) (all : (p : ℕ) → p < states_of a → member finals p ≡ is_final a p) where
@@ -121,17 +99,9 @@ module _ (a : DeterministicAutomaton) (auto : IsDeterministic a) (finals : ℕ) 
 
   pub run-from_accepted : (s : List ℕ) → Accepted a s → CanRun a 0 s finals
   run-from_accepted s run =
-      let cut = split-marked s (256 ∷ []) run.word run.bytes in
-      let x1 = cut.0 in
-      let x2 = cut.1.0 in
-      let mid = then-between (λ k. reached a k x2) (reached a 0 x1) run.state (sym (run-append a 0 x1 x2) ∙ ap (reached a 0) (sym cut.1.1.0) ∙ run.ends) in
-      record {
-        word = x1;
-        state = mid.0;
-        bytes = cut.1.1.1;
-        ends = mid.1;
-        goal = reach-end s 0 auto.has_start mid.0 x1 cut.1.1.1 mid.1 (record { word = x2; state = run.state; bytes = cut.1.1.2; ends = mid.2; goal = run.goal });
-      }
+      let c = run-parts a 0 s (256 ∷ []) run.word run.state run.bytes run.ends in
+      let goal = reach-end s 0 auto.has_start c.middle c.left c.left_bytes c.left_ends (run-behind a 0 s (256 ∷ []) run.word run.state 1 c run.goal) in
+      record { word = c.left; state = c.middle; bytes = c.left_bytes; ends = c.left_ends; goal = goal }
 
   module _ (s : List ℕ) (t : List Row) (is : Tells a s t) (low : marked_of t 0 < 2 ^ 128) where
     pub accepted-from_table : can_reach_of t 0 finals ≡ true → Accepted a s
@@ -143,12 +113,3 @@ module _ (a : DeterministicAutomaton) (auto : IsDeterministic a) (finals : ℕ) 
 -- the empty text is accepted where it may end at once
 pub accepted-empty : (a : DeterministicAutomaton) → (is_final a 0 ≡ true → Accepted a []) × (Accepted a [] → is_final a 0 ≡ true)
 accepted-empty a = ((λ h. end-run a 0 h), (λ r. run-end a 0 r))
-
-pub true-from_is : (b : Bool) → IsTrue b → b ≡ true
-true-from_is b h = h
-
-pub is-from_true : (b : Bool) → b ≡ true → IsTrue b
-is-from_true b h = h
-
-pub end-none : (a : DeterministicAutomaton) (q limit m : ℕ) → limit ≤ m → IsNoMark a q 256 1 limit m
-end-none a q limit m h lt = absurd (omega arith)

@@ -1,17 +1,9 @@
 -- Answers that are given one after the other are the pages of the list of answers.
-use Rattle.std.proofs.Common.{suc, ◌≡◌, ℕ, ◌<◌, ◌≤◌, ◌⊎◌, true, false, nat_lt, refl, ap, sym, subst, ◌∙◌, arith, List, [], ◌∷◌, ◌++◌, append_assoc, length, length-append, take, Option, Some, None, Contains, inl, inr}
-use Rattle.std.proofs.lemmas.List.{take_all}
-use Rattle.std.proofs.Math.Seq.{take-append_seam}
-use Rattle.std.proofs.lemmas.List.Elements.{Contains-append_left, Contains-append_right, Contains-append_cases}
-use Rattle.span_types.specs.Places.{IsTuple}
-use Rattle.span_types.specs.Marks.{Comes}
-use Rattle.span_types.specs.Answers.{IsRising, IsAfter, IsPage}
-use Rattle.span_types.proofs.AnswerLaws.{split-member, here, there}
-use Rattle.span_types.proofs.OrderLaws.{irreflexive, transitive}
-use Rattle.span_types.proofs.SearchLaws.{total}
-use Rattle.marker_dfa.specs.Deterministic.{DeterministicAutomaton, IsDeterministic}
-use Rattle.span_enum.specs.Members.{Tuple, IsMember, AreAnswersOf, IsLeft, IsFirstMember, NoMemberLeft}
-use Rattle.span_enum.specs.Pages.{IsListed}
+use Rattle.span_enum.proofs.Base.{AreAnswersOf, Comes, Contains, Contains-append_cases, Contains-append_left, Contains-append_right, DeterministicAutomaton, IsDeterministic, IsFirstMember, IsLeft}
+use Rattle.span_enum.proofs.Base.{IsListed, IsMember, IsPage, IsRising, IsTuple, List, NoMemberLeft, None, Option, Some, Tuple, [], ap, append_assoc, arith, false, here, inl, inr, irreflexive}
+use Rattle.span_enum.proofs.Base.{length, length-append, nat_lt, refl, split-member, subst, suc, sym, take, take-append_seam, take_all, there, total, transitive, true, ℕ, ◌++◌, ◌<◌, ◌∙◌, ◌∷◌, ◌≡◌}
+use Rattle.span_enum.proofs.Base.{◌≤◌, ◌⊎◌}
+use Rattle.span_types.specs.Answers.{IsAfter}
 use Rattle.span_enum.proofs.Membership.{are-spans}
 
 -- ---- rising lists

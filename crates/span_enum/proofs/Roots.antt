@@ -1,43 +1,13 @@
 -- The root of a text ahead of its first letter, and what it tells of the text.
-use Rattle.std.proofs.Common.{◌≡◌, ℕ, ◌<◌, ◌≤◌, true, refl, ap, sym, subst, ◌∙◌, arith, List, [], ◌∷◌, ◌++◌, length, slice_get, Option, Some, None, inl, inr}
-use Rattle.std.proofs.lemmas.Bool.{cases_eq}
-use Rattle.span_types.specs.Words.{Marked}
-use Rattle.formula_law.specs.Law.{bytes_of}
-use Rattle.slp_model.specs.declared.Node.{Node}
-use Rattle.slp_model.specs.declared.NodeId.{NodeId}
-use Rattle.slp_model.specs.Nodes.{IsLive}
-use Rattle.marker_dfa.specs.Deterministic.{DeterministicAutomaton, ends_of}
-use Rattle.state_tables.specs.StateSet.{member}
-use Rattle.state_tables.specs.Dictionary.{Dictionary, AreTables, IsLook, count_of}
-use Rattle.state_tables.specs.declared.view.Look.{Look}
-use Rattle.span_enum.specs.Letters.{reached}
-use Rattle.span_enum.specs.Listing.{text_of}
-use Rattle.span_enum.specs.Between.{AreBetween}
-use Rattle.span_enum.specs.Quiet.{AreQuiet}
-use Rattle.span_enum.specs.Words.{CanRun}
-use Rattle.span_enum.specs.Trail.{IsGround, IsFresh, IsAhead, AreAhead, AreGoals, whole_text, text_at, text_ahead}
-use Rattle.span_enum.specs.declared.ground.Ground.{Ground}
-use Rattle.span_enum.specs.declared.trail.Ahead.{Ahead}
-use Rattle.span_enum.specs.declared.trail.Mark.{Mark}
+use Rattle.span_enum.proofs.Base.{Ahead, AreAhead, AreBetween, AreGoals, AreQuiet, AreTables, Begins, CanRun, DeterministicAutomaton, Dictionary, Ground, IsAhead, IsFresh, IsGround, IsLive, IsLook}
+use Rattle.span_enum.proofs.Base.{List, Look, Mark, Node, NodeId, None, Option, Some, [], ap, append-nil, arith, cases_eq, count_of, ends_of, false, inl, inr, length, length-take-le, refl, slice_get}
+use Rattle.span_enum.proofs.Base.{subst, sym, take, text_ahead, text_at, text_of, whole_text, ℕ, ◌<◌, ◌∙◌, ◌∷◌, ◌≡◌, ◌≤◌}
+use Rattle.span_enum.proofs.Chains.{fits-none}
+use Rattle.span_enum.proofs.Firsts.{bytes-none, goal-from_nothing, run-nothing}
+use Rattle.span_enum.proofs.LastLetters.{end-facts, final-from}
+use Rattle.span_enum.proofs.Membership.{IsText}
 use Rattle.span_enum.proofs.Paths.{AreBytes, Tells}
-use Rattle.span_enum.proofs.Steps.{look-table}
-use Rattle.span_enum.proofs.Given.{IsText}
-use Rattle.span_enum.proofs.LastLetters.{final-from, end-facts}
-
-append-nothing : (s : List ℕ) → s ++ [] ≡ s
-append-nothing [] = refl
-append-nothing (b ∷ s) = ap (λ t. b ∷ t) (append-nothing s)
-
--- ---- runs over nothing
-pub run-nothing : (a : DeterministicAutomaton) (p goals : ℕ) → member goals p ≡ true → CanRun a p [] goals
-run-nothing a p goals h = record { word = []; state = p; bytes = refl; ends = refl; goal = h }
-
-pub goal-from_nothing : (a : DeterministicAutomaton) (p goals : ℕ) → CanRun a p [] goals → member goals p ≡ true
-goal-from_nothing a p goals run = by run.word run.state run.bytes run.ends run.goal
-  where
-    by : (w : Marked) (q : ℕ) → bytes_of w ≡ [] → reached a p w ≡ Some q → member goals q ≡ true → member goals p ≡ true
-    by [] q e t h = let same : p ≡ q = cc in ap (member goals) same ∙ h
-    by (x ∷ w) q e t h = cc
+use Rattle.span_enum.proofs.Tables.{look-table}
 
 between-end : (a : DeterministicAutomaton) (p : ℕ) (s : List ℕ) (goals : ℕ) → AreBetween a p s [] goals goals
 between-end a p s goals = record { reach = λ n x e t run. goal-from_nothing a n goals run; onward = λ n h. run-nothing a n goals h }
@@ -46,11 +16,7 @@ between-end a p s goals = record { reach = λ n x e t run. goal-from_nothing a n
 quiet-end : (g : Ground) → IsGround g → AreQuiet g.dfa.now g.quiet [] g.finals
 quiet-end g is q h =
     let k = is.quiet q h in
-    record { last = q; ends = refl; goal = is.all q k.0 ∙ final-from (ends_of g.dfa.now q) 0 (end-facts g.dfa.now q 0 0 k.1.step).1; sole = λ w r bytes ends goal. empty w bytes; unmarked = k.1 }
-  where
-    empty : (w : Marked) → bytes_of w ≡ [] → w ≡ []
-    empty [] e = refl
-    empty (x ∷ w) e = cc
+    record { last = q; ends = refl; goal = is.all q k.0 ∙ final-from (ends_of g.dfa.now q) 0 (end-facts g.dfa.now q 0 0 k.1.step).1; sole = λ w r bytes ends goal. bytes-none w bytes; unmarked = k.1 }
 
 -- ---- the text of a root
 root-bytes : (a : DeterministicAutomaton) (nodes : List Node) (d : Dictionary) (root : Option NodeId) → AreTables a nodes d → count_of d ≡ length nodes → IsLive nodes root → AreBytes (text_of nodes root)
@@ -87,7 +53,7 @@ fresh-root g id look is e l ms hs unmarked one =
         state = is.automaton.has_start;
         quiet = λ e. cc;
       };
-      text_is = append-nothing (text_at g id.index) ∙ ap (λ r. text_of g.view.store.now r) (sym e);
+      text_is = append-nil (text_at g id.index) ∙ ap (λ r. text_of g.view.store.now r) (sym e);
       one = omega (arith, len);
     }
 
@@ -109,7 +75,7 @@ pub the-root : (g : Ground) (ms : List (Option Mark)) (hs : List (Option Ahead))
 the-root g ms hs is some = by is.chain is.stands.ahead is.stands.goals is.text_is
   where
     behind : (x : Ahead) (c : List Ahead) → x.next ≡ 0 → AreAhead hs x.next c → text_ahead g (x ∷ c) ≡ text_at g x.id.index
-    behind x [] e h = append-nothing (text_at g x.id.index)
+    behind x [] e h = append-nil (text_at g x.id.index)
     behind x (y ∷ c) e h = absurd (omega (arith, e, h.0.counted))
 
     by : (c : List Ahead) → AreAhead hs (length hs) c → AreGoals g 0 [] c → text_ahead g c ≡ whole_text g → (h : Ahead) × IsRoot g hs h
@@ -129,5 +95,25 @@ text-short g ms hs is = elim (cases_eq (length hs) 0) [
   | inr some ↦ let root = the-root g ms hs is some in omega (arith, root.1.ahead.look.len_is, root.1.ahead.look.short, ap length root.1.text_is)
 ]
 
-pub same-there : (hs : List (Option Ahead)) (x y : Ahead) → slice_get hs 0 ≡ Some (Some x) → slice_get hs 0 ≡ Some (Some y) → x ≡ y
-same-there hs x y e h = cc
+-- nothing is read yet, and some text is accepted
+pub fresh-begins : (g : Ground) (ms : List (Option Mark)) (hs : List (Option Ahead)) (count : ℕ) → (is : IsFresh g ms hs) → count ≡ length hs → CanRun g.dfa.now 0 (whole_text g) g.finals
+    → Begins g (record { state = 0; next = count; quiet = false }) count [] ms hs
+fresh-begins g ms hs count is e can =
+    let size : length (take count hs) ≡ count = length-take-le count hs (omega (arith, e)) in
+    let none : length ms ≡ 0 = ap length is.no_marks in
+    rw (is.no_marks) (record {
+      chain = is.chain;
+      stands = rw e is.stands;
+      can = rw is.text_is can;
+      bytes = sym is.text_is;
+      ends = refl;
+      count = refl;
+      fits = rw e (fits-none g hs);
+      low = omega (arith, e);
+      root = count;
+      one = omega (arith, e, is.one);
+      before = omega arith;
+      kept = λ u starts. sym size;
+      quiet = λ u starts p above below. absurd (omega arith);
+      short = omega arith;
+    })

@@ -1,22 +1,12 @@
 -- The words of tuples: how many marks they have, the tuples that they come from, and their order.
-use Rattle.std.proofs.Common.{suc, ◌≡◌, ℕ, ◌+◌, ◌*◌, ◌<◌, ◌≤◌, ◌↔◌, ◌⊎◌, true, false, refl, ap, sym, ◌∙◌, arith, List, [], ◌∷◌, ◌++◌, length, Option, Some, None, inl, inr}
-use Rattle.std.proofs.lemmas.Bool.{cases_lt, cases_eq}
-use Rattle.span_types.specs.declared.tuple.Span.{Span}
-use Rattle.span_types.specs.Places.{IsSpan, AreSpans}
-use Rattle.span_types.specs.Marks.{Comes, Lies, mark_of, spans_of}
-use Rattle.span_types.specs.Writes.{blanks}
-use Rattle.span_types.specs.Words.{Marked, Precedes, mark_count, ended, marked, IsPast}
-use Rattle.span_types.proofs.SearchLaws.{spans-at, span-is}
-use Rattle.span_types.proofs.WordLaws.{seeks, tells, reads, marks-few}
-use Rattle.span_types.proofs.PieceLaws.{word-end}
-use Rattle.formula_law.specs.Law.{bytes_of}
-use Rattle.state_tables.proofs.Members.{bool-cases}
-use Rattle.span_enum.specs.Members.{Tuple}
-use Rattle.span_enum.specs.Tuples.{IsTupleOf, IsBound, reaches, end_mark, word_over, word_of, write_word}
-use Rattle.span_enum.proofs.Firsts.{precedes-append, precedes-prefix}
-use Rattle.span_enum.proofs.Nexts.{precedes-split}
+use Rattle.span_enum.proofs.Base.{AreSpans, Comes, IsBound, IsPast, IsSpan, IsTupleOf, Lies, List, Marked, None, Option, Precedes, Some, Span, Tuple, [], ap, arith, blanks, bool-cases, bytes_of}
+use Rattle.span_enum.proofs.Base.{cases_eq, cases_lt, ended, false, inl, inr, length, mark_count, mark_of, marked, marks-few, reaches, reads, refl, seeks, span-is, spans-at, spans_of, suc, sym}
+use Rattle.span_enum.proofs.Base.{true, word-end, word_of, word_over, write_word, ℕ, ◌*◌, ◌++◌, ◌+◌, ◌<◌, ◌↔◌, ◌∙◌, ◌∷◌, ◌≡◌, ◌≤◌, ◌⊎◌}
+use Rattle.span_enum.specs.Tuples.{end_mark}
+use Rattle.span_types.proofs.WordLaws.{tells}
+use Rattle.span_enum.proofs.Bounds.{mark-none, mark-some, none-reaches, reach-skip, reaches-none}
+use Rattle.span_enum.proofs.Firsts.{precedes-append, precedes-prefix, precedes-split}
 use Rattle.span_enum.proofs.Written.{over-bytes}
-use Rattle.span_enum.proofs.Bounds.{mark-some, mark-none, reaches-none, none-reaches, reach-skip}
 
 -- at most two marks for each variable
 pub few-marks : (k : ℕ) (t : Tuple) (s : List ℕ) → length t ≡ k → mark_count (word_over t 1 s) ≤ 2 * k

@@ -9,7 +9,6 @@ pub mod Words
 pub mod Next
 pub mod Between
 pub mod Quiet
-pub mod Lowering
 pub mod Ends
 pub mod OverLeft
 pub mod Trail

@@ -1,11 +1,10 @@
 -- The next marked text after a given one.
-use Rattle.std.specs.Prelude.{◌≡◌, ℕ, ◌<◌, ◌⊎◌, true, List, [], ◌∷◌, ◌++◌, length, Some}
+use Rattle.std.specs.Prelude.{◌≡◌, ℕ, ◌⊎◌, true, List, Some}
 use Rattle.marker_dfa.specs.Deterministic.{DeterministicAutomaton}
 use Rattle.span_types.specs.Words.{Marked, Precedes}
 use Rattle.formula_law.specs.Law.{bytes_of}
 use Rattle.span_enum.specs.Letters.{reached}
 use Rattle.state_tables.specs.StateSet.{member}
-use Rattle.span_enum.specs.Words.{CanRun}
 
 -- a marked text over s that leads from p into a goal and comes strictly after w
 pub record IsAfter (a : DeterministicAutomaton) (p : ℕ) (s : List ℕ) (goals : ℕ) (w v : Marked) (r : ℕ) : Type 0 where
@@ -21,18 +20,3 @@ NoneAfter a p s goals w = (v : Marked) (r : ℕ) → IsAfter a p s goals w v r �
 pub record IsNext (a : DeterministicAutomaton) (p : ℕ) (s : List ℕ) (goals : ℕ) (w v : Marked) (r : ℕ) : Type 0 where
   pub is_after : IsAfter a p s goals w v r
   pub least : (x : Marked) (n : ℕ) → IsAfter a p s goals w x n → (x ≡ v) ⊎ Precedes v x
-
--- the last place at which w can be lowered: there the mark becomes m, which leads into state q, and the rest is free
-pub record LowersAt (a : DeterministicAutomaton) (p : ℕ) (s : List ℕ) (goals : ℕ) (w : Marked) (place m q : ℕ) : Type 0 where
-  pub front : Marked
-  pub mark : ℕ
-  pub byte : ℕ
-  pub back : Marked
-  pub cut : w ≡ front ++ (mark, byte) ∷ back
-  pub at : length front ≡ place
-  pub lower : m < mark
-  pub bytes : bytes_of w ≡ s
-  pub step : reached a p (front ++ (m, byte) ∷ []) ≡ Some q
-  pub can : CanRun a q (bytes_of back) goals
-  pub most : (v : Marked) (r : ℕ) → IsAfter a p s goals w v r
-      → ((tail : Marked) × (v ≡ front ++ (m, byte) ∷ tail)) ⊎ ((tail : Marked) → Precedes (front ++ (m, byte) ∷ tail) v)

@@ -1,13 +1,14 @@
 -- What is kept of the last answer: its marks, and the nodes ahead of each.
 use Rattle.std.specs.Prelude.{suc, ◌≡◌, ℕ, ◌+◌, ◌-◌, ◌*◌, ◌^◌, ◌<◌, ◌≤◌, Bool, true, false, List, [], ◌∷◌, ◌++◌, length, take, slice_get, bit_and, Option, Some, None}
+use Rattle.span_types.specs.Places.{AreSpans}
 use Rattle.span_types.specs.Marks.{mark_of}
 use Rattle.span_types.specs.Words.{Marked, mark_count}
-use Rattle.span_types.specs.Writes.{write_mark}
+use Rattle.span_types.specs.Writes.{write_mark, cut, blanks}
 use Rattle.span_types.specs.Fibonacci.{height_limit}
 use Rattle.slp_model.specs.Tree.{text, height}
 use Rattle.slp_model.specs.Nodes.{tree}
 use Rattle.formula_law.specs.Law.{bytes_of}
-use Rattle.marker_dfa.specs.Deterministic.{IsDeterministic, states_of}
+use Rattle.marker_dfa.specs.Deterministic.{DeterministicAutomaton, IsDeterministic, states_of}
 use Rattle.state_tables.specs.StateSet.{member}
 use Rattle.state_tables.specs.Meaning.{plain}
 use Rattle.state_tables.specs.Table.{marked_of}
@@ -16,10 +17,10 @@ use Rattle.span_enum.specs.Members.{Tuple}
 use Rattle.span_enum.specs.Letters.{step_of, reached}
 use Rattle.span_enum.specs.Listing.{text_of, IsReady}
 use Rattle.span_enum.specs.Ends.{AreFinals}
-use Rattle.span_enum.specs.Tuples.{word_over, write_word, end_mark}
+use Rattle.span_enum.specs.Tuples.{word_over, write_word, end_mark, IsUnmarked}
 use Rattle.span_enum.specs.Between.{AreBetween}
 use Rattle.span_enum.specs.Quiet.{AreQuietFinals, IsQuiet, AreQuiet, EndsIn}
-use Rattle.span_enum.specs.Next.{NoneAfter}
+use Rattle.span_enum.specs.Next.{NoneAfter, IsNext}
 use Rattle.span_enum.specs.Words.{CanRun, IsFirst, IsGreatestMark, IsNoMark}
 use Rattle.span_enum.specs.declared.ground.Ground.{Ground}
 use Rattle.span_enum.specs.declared.trail.Ahead.{Ahead}
@@ -127,16 +128,27 @@ abbrev pub Turns : ℕ → List Ahead → Type 0
 Turns q [] = Unit {0}
 Turns q (h ∷ c) = (marked_of h.look.table.now q < 2 ^ 128) × (bit_and (marked_of h.look.table.now q) h.goals ≡ 0 → ⊥)
 
--- the nodes in front are passed without marks
-pub record PassesPlain (g : Ground) (hs : List (Option Ahead)) (at : ℕ) (from to : Place) (c : List Ahead) : Type 0 where
-  pub front : List Ahead
+-- the letters in front are passed without marks, from one state to another
+pub record Passed (a : DeterministicAutomaton) (q : ℕ) (s front : List ℕ) (to : ℕ) (rest : List ℕ) : Type 0 where
+  pub parts : s ≡ front ++ rest
+  pub step : reached a q (plain front) ≡ Some to
+
+-- the first marked text over these nodes is the word and then the first one over those
+abbrev pub GoesFirst : Ground → ℕ → List Ahead → Marked → ℕ → List Ahead → Type 0
+GoesFirst g q c word to back = (w : Marked) (r : ℕ) → IsFirst g.dfa.now to (text_ahead g back) g.finals w r → IsFirst g.dfa.now q (text_ahead g c) g.finals (word ++ w) r
+
+-- nodes in front are passed without marks
+pub record Passes (g : Ground) (hs : List (Option Ahead)) (at : ℕ) (from to : Place) (c : List Ahead) : Type 0 where
+  pub front : List ℕ
   pub back : List Ahead
-  pub parts : c ≡ front ++ back
-  pub stands : Stands g hs (at + length (text_ahead g front)) to back
-  pub can : CanEnd g to.state back
-  pub step : reached g.dfa.now from.state (plain (text_ahead g front)) ≡ Some to.state
-  pub first : (w : Marked) (r : ℕ) → IsFirst g.dfa.now to.state (text_ahead g back) g.finals w r
-      → IsFirst g.dfa.now from.state (text_ahead g c) g.finals (plain (text_ahead g front) ++ w) r
+  pub passed : Passed g.dfa.now from.state (text_ahead g c) front to.state (text_ahead g back)
+  pub stands : Stands g hs (at + length front) to back
+
+-- and so does the first marked text
+pub record PassesPlain (g : Ground) (hs : List (Option Ahead)) (at : ℕ) (from to : Place) (c : List Ahead) : Type 0 where
+  pub passes : Passes g hs at from to c
+  pub can : CanEnd g to.state passes.back
+  pub first : GoesFirst g from.state c (plain passes.front) to.state passes.back
 
 -- the walk stands in this state before a node, behind which are these
 pub record StandsBefore (g : Ground) (hs : List (Option Ahead)) (h : Ahead) (q : ℕ) (c : List Ahead) : Type 0 where
@@ -153,21 +165,27 @@ pub record IsMark (g : Ground) (hs : List (Option Ahead)) (m : Mark) (c : List A
   pub goals : AreGoals g m.state (m.byte ∷ []) c
   pub state : m.state < states_of g.dfa.now
 
--- m is the first mark of the first marked text over the nodes, from the state before them
-pub record Meets (g : Ground) (hs : List (Option Ahead)) (at q : ℕ) (c : List Ahead) (m : Mark) (to : Place) : Type 0 where
+-- m is a mark over a letter of the nodes, to which the letters in front lead without marks
+pub record Way (g : Ground) (hs : List (Option Ahead)) (at q : ℕ) (c : List Ahead) (m : Mark) : Type 0 where
   pub front : List ℕ
   pub back : List Ahead
-  pub parts : text_ahead g c ≡ front ++ m.byte ∷ text_ahead g back
+  pub passed : Passed g.dfa.now q (text_ahead g c) front m.state (m.byte ∷ text_ahead g back)
   pub at_is : m.at ≡ at + length front
   pub is_mark : IsMark g hs m back
+
+-- behind the mark the rest is accepted
+pub record GoesOn (g : Ground) (m : Mark) (to : Place) (back : List Ahead) : Type 0 where
   pub some : 0 < m.mark
-  pub before : reached g.dfa.now q (plain front) ≡ Some m.state
   pub step : step_of g.dfa.now m.state m.mark m.byte ≡ Some to.state
   pub next : to.next ≡ m.next
   pub can : CanEnd g to.state back
   pub quiet : IsQuietPlace g to back
-  pub first : (w : Marked) (r : ℕ) → IsFirst g.dfa.now to.state (text_ahead g back) g.finals w r
-      → IsFirst g.dfa.now q (text_ahead g c) g.finals (plain front ++ (m.mark, m.byte) ∷ w) r
+
+-- m is the first mark of the first marked text over the nodes, from the state before them
+pub record Meets (g : Ground) (hs : List (Option Ahead)) (at q : ℕ) (c : List Ahead) (m : Mark) (to : Place) : Type 0 where
+  pub way : Way g hs at q c m
+  pub on : GoesOn g m to way.back
+  pub first : GoesFirst g q c (plain way.front ++ (m.mark, m.byte) ∷ []) to.state way.back
 
 -- a node this far behind the base is as much lower than the tallest tree
 abbrev pub FitsAt : Ground → ℕ → Option Ahead → Type 0
@@ -198,41 +216,21 @@ pub record IsOver (g : Ground) (h : Ahead) (position : ℕ) : Type 0 where
 abbrev pub mark_over : Ahead → ℕ → ℕ → ℕ → ℕ → Mark
 mark_over h byte state mark base = record { at = h.at; mark = mark; byte = byte; state = state; goals = h.goals; next = h.next; base = base }
 
--- the way down to the first mark was laid: the mark is kept, and the nodes ahead of it
-pub record Descends (g : Ground) (h : Ahead) (q base : ℕ) (marks more : List (Option Mark)) (old new : List (Option Ahead)) (before after : ℕ) (out out' : Tuple) (to : Place) : Type 0 where
+-- a mark is kept, and the nodes beside the way down to it are put ahead
+pub record Keeps (g : Ground) (base : ℕ) (marks more : List (Option Mark)) (old new : List (Option Ahead)) : Type 0 where
   pub mark : Mark
   pub kept : more ≡ marks ++ Some mark ∷ []
   pub base_is : mark.base ≡ base
   pub beside : List (Option Ahead)
   pub ahead : new ≡ old ++ beside
   pub fits : Fits g base new
-  pub meets : (c : List Ahead) → StandsBefore g old h q c → CanEnd g q (h ∷ c) → Meets g new h.at q (h ∷ c) mark to
-  pub written : out' ≡ write_mark mark.mark mark.at out
+
+-- the way down to the first mark was laid
+pub record Descends (g : Ground) (h : Ahead) (q base : ℕ) (marks more : List (Option Mark)) (old new : List (Option Ahead)) (before after : ℕ) (out out' : Tuple) (to : Place) : Type 0 where
+  pub keeps : Keeps g base marks more old new
+  pub meets : (c : List Ahead) → StandsBefore g old h q c → CanEnd g q (h ∷ c) → Meets g new h.at q (h ∷ c) keeps.mark to
+  pub written : out' ≡ write_mark keeps.mark.mark keeps.mark.at out
   pub cost : after ≤ before + 2 * height_at g h.id.index
-
--- m is the mark number n of the tuple, the first one from this position on: its nodes stand in the list from lo to hi, and those behind it from hi on
-pub record IsKept (g : Ground) (t : Tuple) (hs : List (Option Ahead)) (from n lo hi : ℕ) (m : Mark) : Type 0 where
-  pub front : List ℕ
-  pub chain : List Ahead
-  pub is_mark : IsMark g hs m chain
-  pub parts : whole_text g ≡ front ++ m.byte ∷ text_ahead g chain
-  pub at : m.at ≡ 1 + length front
-  pub after : from ≤ m.at
-  pub before : reached g.dfa.now 0 (word_over t 1 front) ≡ Some m.state
-  pub mark_is : mark_of t m.at ≡ m.mark
-  pub some : 0 < m.mark
-  pub quiet : (p : ℕ) → from ≤ p → p < m.at → mark_of t p ≡ 0
-  pub count : mark_count (word_over t 1 front) ≡ n
-  pub base : m.base ≡ lo
-  pub next : m.next ≤ hi
-  pub rises : lo ≤ hi
-  pub fits : Fits g lo (take hi hs)
-
--- these are the marks of the tuple from a position on, from number n on, in turn
-abbrev pub AreKept : Ground → Tuple → List (Option Ahead) → ℕ → ℕ → ℕ → List (Option Mark) → Type 0
-AreKept g t hs from n lo [] = lo ≡ length hs
-AreKept g t hs from n lo (None ∷ ms) = ⊥
-AreKept g t hs from n lo (Some m ∷ ms) = (hi : ℕ) × IsKept g t hs from n lo hi m × AreKept g t hs (m.at + 1) (suc n) hi ms
 
 -- the tuple has these letters before a position, which lead to the state, and so many marks
 pub record Leads (g : Ground) (t : Tuple) (at q n : ℕ) (back : List ℕ) : Type 0 where
@@ -241,6 +239,34 @@ pub record Leads (g : Ground) (t : Tuple) (at q n : ℕ) (back : List ℕ) : Typ
   pub at_is : at ≡ 1 + length front
   pub before : reached g.dfa.now 0 (word_over t 1 front) ≡ Some q
   pub count : mark_count (word_over t 1 front) ≡ n
+
+-- this is the tuple's first mark from a position on
+pub record IsFirstMark (t : Tuple) (from at mark : ℕ) : Type 0 where
+  pub after : from ≤ at
+  pub mark_is : mark_of t at ≡ mark
+  pub some : 0 < mark
+  pub quiet : IsUnmarked t from at
+
+-- the nodes of the mark stand in the list from lo to hi
+pub record IsPlaced (m : Mark) (lo hi : ℕ) : Type 0 where
+  pub base : m.base ≡ lo
+  pub next : m.next ≤ hi
+  pub rises : lo ≤ hi
+
+-- m is the mark number n of the tuple, the first one from this position on: its nodes stand in the list from lo to hi, and those behind it from hi on
+pub record IsKept (g : Ground) (t : Tuple) (hs : List (Option Ahead)) (from n lo hi : ℕ) (m : Mark) : Type 0 where
+  pub chain : List Ahead
+  pub is_mark : IsMark g hs m chain
+  pub leads : Leads g t m.at m.state n (m.byte ∷ text_ahead g chain)
+  pub first : IsFirstMark t from m.at m.mark
+  pub placed : IsPlaced m lo hi
+  pub fits : Fits g lo (take hi hs)
+
+-- these are the marks of the tuple from a position on, from number n on, in turn
+abbrev pub AreKept : Ground → Tuple → List (Option Ahead) → ℕ → ℕ → ℕ → List (Option Mark) → Type 0
+AreKept g t hs from n lo [] = lo ≡ length hs
+AreKept g t hs from n lo (None ∷ ms) = ⊥
+AreKept g t hs from n lo (Some m ∷ ms) = (hi : ℕ) × IsKept g t hs from n lo hi m × AreKept g t hs (m.at + 1) (suc n) hi ms
 
 -- the position of the last mark, or else this one
 abbrev pub last_at : ℕ → List (Option Mark) → ℕ
@@ -258,7 +284,7 @@ pub record Finds (g : Ground) (at : ℕ) (from : Place) (c : List Ahead) (n base
   pub written : new ≡ write_word at word old
   pub kept : (t : Tuple) → Leads g t at from.state n (text_ahead g c) → word_over t at (text_ahead g c) ≡ word → AreKept g t hs at n base more
   pub last : last_at (at - 1) more ≤ at - 1 + length (text_ahead g c)
-  pub quiet : (t : Tuple) → word_over t at (text_ahead g c) ≡ word → (p : ℕ) → last_at (at - 1) more < p → p < at + length (text_ahead g c) → mark_of t p ≡ 0
+  pub quiet : (t : Tuple) → word_over t at (text_ahead g c) ≡ word → IsUnmarked t (last_at (at - 1) more + 1) (at + length (text_ahead g c))
 
 -- the rest was completed: the nodes up to the base stay, and marks are added
 pub record Completes (g : Ground) (from : Place) (base : ℕ) (marks ms : List (Option Mark)) (old new : List (Option Ahead)) (before after : ℕ) (r : Option ℕ) (out out' : Tuple) : Type 0 where
@@ -318,36 +344,22 @@ pub record CanFollow (g : Ground) (t : Tuple) (hs : List (Option Ahead)) (at : �
 abbrev pub Dies : Ground → ℕ → ℕ → List ℕ → ℕ → Type 0
 Dies g q at s position = reached g.dfa.now q (plain (take (position - at) s)) ≡ None
 
--- the nodes in front are passed without marks, up to the one over the position or to the end
+-- the nodes in front of the position are passed without marks
 pub record PassesTo (g : Ground) (hs : List (Option Ahead)) (at position : ℕ) (from to : Place) (c : List Ahead) : Type 0 where
-  pub front : List Ahead
-  pub back : List Ahead
-  pub parts : c ≡ front ++ back
-  pub stands : Stands g hs (at + length (text_ahead g front)) to back
-  pub step : reached g.dfa.now from.state (plain (text_ahead g front)) ≡ Some to.state
-  pub before : at + length (text_ahead g front) ≤ position
-  pub over : (h : Ahead) (b : List Ahead) → back ≡ h ∷ b → position < h.at + length (text_at g h.id.index)
+  pub passes : Passes g hs at from to c
+  pub before : at + length passes.front ≤ position
 
--- m is the tuple's mark at the position, over which the node stands
-pub record Reaches (g : Ground) (t : Tuple) (hs : List (Option Ahead)) (h : Ahead) (q position : ℕ) (c : List Ahead) (m : Mark) : Type 0 where
-  pub front : List ℕ
-  pub back : List Ahead
-  pub parts : text_ahead g (h ∷ c) ≡ front ++ m.byte ∷ text_ahead g back
-  pub at : m.at ≡ h.at + length front
-  pub position_is : m.at ≡ position
-  pub is_mark : IsMark g hs m back
-  pub before : reached g.dfa.now q (plain front) ≡ Some m.state
-  pub mark_is : m.mark ≡ mark_of t position
+-- the position lies before the end of the next node, if there is one
+abbrev pub EndsBehind : Ground → ℕ → List Ahead → Type 0
+EndsBehind g position [] = Unit {0}
+EndsBehind g position (h ∷ c) = position < h.at + length (text_at g h.id.index)
 
 -- the way down to the position was laid: the tuple's mark there is kept, and the nodes ahead of it
 pub record Lays (g : Ground) (t : Tuple) (h : Ahead) (q position base : ℕ) (marks more : List (Option Mark)) (old new : List (Option Ahead)) : Type 0 where
-  pub mark : Mark
-  pub kept : more ≡ marks ++ Some mark ∷ []
-  pub base_is : mark.base ≡ base
-  pub beside : List (Option Ahead)
-  pub ahead : new ≡ old ++ beside
-  pub fits : Fits g base new
-  pub reaches : (c : List Ahead) → StandsBefore g old h q c → Reaches g t new h q position c mark
+  pub keeps : Keeps g base marks more old new
+  pub position_is : keeps.mark.at ≡ position
+  pub mark_is : keeps.mark.mark ≡ mark_of t position
+  pub way : (c : List Ahead) → StandsBefore g old h q c → Way g new h.at q (h ∷ c) keeps.mark
 
 -- no run came to the position: no mark is kept, and the nodes up to the base are as before
 pub record Fails (g : Ground) (h : Ahead) (q position base : ℕ) (marks more : List (Option Mark)) (old new : List (Option Ahead)) : Type 0 where
@@ -378,34 +390,38 @@ pub record LowersLast (g : Ground) (ms : List (Option Mark)) (l : Lowered) : Typ
   pub mark : Mark
   pub parts : ms ≡ others ++ Some mark ∷ []
   pub at : l.at ≡ mark.at
-  pub step : step_of g.dfa.now mark.state l.mark mark.byte ≡ Some l.state
-  pub goal : member mark.goals l.state ≡ true
-  pub lower : l.mark < mark.mark
+  pub best : IsGreatestMark g.dfa.now mark.state mark.byte mark.goals mark.mark l.mark l.state
 
--- the tuples with t's marks before the place, and there the lower one
-pub record IsLowered (t u : Tuple) (l : Lowered) : Type 0 where
-  pub agree : Agree t u l.at
-  pub mark : mark_of u l.at ≡ l.mark
+-- the tuple begins with the letters and marks of the word
+abbrev pub Starts : Tuple → Marked → Type 0
+Starts t word = word_over t 1 (bytes_of word) ≡ word
 
--- the last mark is lowered: what is kept up to the base is that of each such tuple, and the walk can go on from there
-pub record IsTurned (g : Ground) (t : Tuple) (l : Lowered) (turn : Turn) (ms : List (Option Mark)) (hs : List (Option Ahead)) : Type 0 where
-  pub base : ℕ
-  pub one : base ≤ 1
+-- the walk stands behind the letters of a word. What is kept up to the base are the marks of each tuple that begins with it
+pub record Begins (g : Ground) (place : Place) (base : ℕ) (word : Marked) (ms : List (Option Mark)) (hs : List (Option Ahead)) : Type 0 where
   pub chain : List Ahead
-  pub stands : Stands g hs (l.at + 1) (record { state = l.state; next = turn.next; quiet = false }) chain
-  pub can : CanEnd g l.state chain
-  pub fits : Fits g turn.base hs
-  pub low : turn.base ≤ length hs
-  pub kept : (u : Tuple) → IsLowered t u l → AreKept g u (take turn.base hs) 1 0 base ms
-  pub quiet : (u : Tuple) → IsLowered t u l → (p : ℕ) → last_at 0 ms < p → p ≤ l.at → mark_of u p ≡ 0
-  pub before : last_at 0 ms ≤ l.at
-  pub leads : (u : Tuple) → IsLowered t u l → Leads g u (l.at + 1) l.state (length ms) (text_ahead g chain)
-  pub word : Marked
+  pub stands : Stands g hs (length word + 1) place chain
+  pub can : CanEnd g place.state chain
   pub bytes : whole_text g ≡ bytes_of word ++ text_ahead g chain
-  pub ends : reached g.dfa.now 0 word ≡ Some l.state
+  pub ends : reached g.dfa.now 0 word ≡ Some place.state
   pub count : mark_count word ≡ length ms
-  pub place : length word ≡ l.at
-  pub short : turn.base ≤ base + 69 * length ms
+  pub fits : Fits g base hs
+  pub low : base ≤ length hs
+  pub root : ℕ
+  pub one : root ≤ 1
+  pub before : last_at 0 ms ≤ length word
+  pub kept : (u : Tuple) → Starts u word → AreKept g u (take base hs) 1 0 root ms
+  pub quiet : (u : Tuple) → Starts u word → IsUnmarked u (last_at 0 ms + 1) (length word + 1)
+  pub short : base ≤ root + 69 * length ms
+
+-- the last mark is lowered: behind a word that ends with the lower one the first text over the rest makes the next one
+pub record IsTurned (g : Ground) (t : Tuple) (l : Lowered) (turn : Turn) (ms : List (Option Mark)) (hs : List (Option Ahead)) : Type 0 where
+  pub word : Marked
+  pub positive : 1 ≤ l.at
+  pub inside : l.at ≤ length (whole_text g)
+  pub begins : Begins g (record { state = l.state; next = turn.next; quiet = false }) turn.base word ms hs
+  pub written : AreSpans t → write_mark l.mark l.at (cut l.at t) ≡ write_word 1 word (blanks (length t))
+  pub next : (w : Marked) (r : ℕ) → IsFirst g.dfa.now l.state (text_ahead g begins.chain) g.finals w r
+      → IsNext g.dfa.now 0 (whole_text g) g.finals (word_over t 1 (whole_text g)) (word ++ w) r
 
 -- ---- the next answer
 -- the rest was completed, and the greatest mark was written at the end

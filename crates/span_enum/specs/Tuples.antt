@@ -57,3 +57,7 @@ pub record IsMarkedBetween (t : Tuple) (from to : ℕ) : Type 0 where
   pub after : from ≤ place
   pub before : place < to
   pub some : 0 < mark_of t place
+
+-- no position from `from` on and before `to` has one
+abbrev pub IsUnmarked : Tuple → ℕ → ℕ → Type 0
+IsUnmarked t from to = (p : ℕ) → from ≤ p → p < to → mark_of t p ≡ 0

@@ -1,14 +1,12 @@
 -- The first marked text from a state into a set of states.
-use Rattle.std.specs.Prelude.{◌≡◌, ℕ, ◌+◌, ◌*◌, ◌<◌, ◌≤◌, ◌⊎◌, true, List, ◌++◌, Some}
-use Rattle.span_types.specs.Words.{Marked, Precedes, mark_count}
+use Rattle.std.specs.Prelude.{◌≡◌, ℕ, ◌<◌, ◌≤◌, ◌⊎◌, true, List, ◌++◌, Some}
+use Rattle.span_types.specs.Words.{Marked, Precedes}
 use Rattle.formula_law.specs.Law.{bytes_of}
 use Rattle.marker_dfa.specs.Deterministic.{DeterministicAutomaton}
 use Rattle.state_tables.specs.StateSet.{member}
 use Rattle.state_tables.specs.Table.{Row}
 use Rattle.state_tables.specs.Meaning.{IsTable}
 use Rattle.span_enum.specs.Letters.{step_of, reached}
-use Rattle.span_enum.specs.Members.{Tuple}
-use Rattle.span_enum.specs.Tuples.{write_word}
 
 -- some marked text over s leads from p into a goal
 pub record CanRun (a : DeterministicAutomaton) (p : ℕ) (s : List ℕ) (goals : ℕ) : Type 0 where
@@ -24,20 +22,6 @@ pub record IsFirst (a : DeterministicAutomaton) (p : ℕ) (s : List ℕ) (goals 
   pub ends : reached a p w ≡ Some q
   pub goal : member goals q ≡ true
   pub least : (v : Marked) (r : ℕ) → bytes_of v ≡ s → reached a p v ≡ Some r → member goals r ≡ true → (v ≡ w) ⊎ Precedes w v
-
--- the first marked text was found and written, from position `at` on, with at most two looks for each of its marks and each level below
-pub record FindsFirst (a : DeterministicAutomaton) (p : ℕ) (s : List ℕ) (goals high before after q at : ℕ) (old new : Tuple) : Type 0 where
-  pub word : Marked
-  pub first : IsFirst a p s goals word q
-  pub cost : after ≤ before + 2 * (high * mark_count word)
-  pub written : new ≡ write_word at word old
-
--- the same for the rest of a text behind a place, whose way down costs two looks for each level
-pub record FindsRest (a : DeterministicAutomaton) (p : ℕ) (s : List ℕ) (goals high before after q at : ℕ) (old new : Tuple) : Type 0 where
-  pub word : Marked
-  pub first : IsFirst a p s goals word q
-  pub cost : after ≤ before + 2 * high + 2 * (high * mark_count word)
-  pub written : new ≡ write_word at word old
 
 -- m is the greatest mark below the limit that leads from p over b into a goal, and q is that goal
 pub record IsGreatestMark (a : DeterministicAutomaton) (p b goals limit m q : ℕ) : Type 0 where

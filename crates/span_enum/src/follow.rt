@@ -1,7 +1,7 @@
 //! The way along the marks of a given tuple.
 ghost use Rattle.std.specs.Prelude.{◌≡◌, ℕ, ◌<◌, ◌≤◌, ◌+◌, ◌*◌, ◌-◌, List, length, true, false, MatchOption};
 ghost use Rattle.marker_dfa.specs.Deterministic.{states_of};
-ghost use Rattle.span_enum.specs.Trail.{IsGround, Stands, PassesTo, Dies, text_ahead, text_at, whole_text, CanGoDown, IsOver, Laid, CanFollow, Followed, HasRoom, height_at};
+ghost use Rattle.span_enum.specs.Trail.{IsGround, Stands, PassesTo, EndsBehind, Dies, text_ahead, text_at, whole_text, CanGoDown, IsOver, Laid, CanFollow, Followed, HasRoom, height_at};
 ghost use Rattle.span_enum.specs.declared.trail.Ahead.{Ahead};
 
 use crate::ground::Ground;
@@ -20,7 +20,7 @@ fn pass_to<'a>(ground: &Ground<'a>, trail: &Trail<'a>, from: Place, position: u6
         × (position ≤ at + length (text_ahead ground.now c))) }
     ensures { (at : ℕ) (c : List Ahead) → Stands ground.now trail.now.ahead.items at from c → at ≤ position → position ≤ at + length (text_ahead ground.now c)
         → MatchOption result (Dies ground.now from.state at (text_ahead ground.now c) position)
-        (λ to. PassesTo ground.now trail.now.ahead.items at position from to c) }
+        (λ to. (p : PassesTo ground.now trail.now.ahead.items at position from to c) × EndsBehind ground.now position p.passes.back) }
 {
     let mut place = from;
     while place.next > 0 {

@@ -58,7 +58,7 @@ fn pass_plain<'a>(ground: &Ground<'a>, trail: &Trail<'a>, from: Place) -> Place
     requires ground { IsGround ground.now }
     requires go { CanGo ground.now trail.now.ahead.items from }
     ensures { (at : ℕ) (c : List Ahead) → Stands ground.now trail.now.ahead.items at from c → CanEnd ground.now from.state c
-        → (p : PassesPlain ground.now trail.now.ahead.items at from result c) × Turns result.state p.back }
+        → (p : PassesPlain ground.now trail.now.ahead.items at from result c) × Turns result.state p.passes.back }
 {
     let mut place = from;
     while place.next > 0 {

@@ -1,6 +1,5 @@
 //! What is kept of the last answer: its marks, and the nodes ahead of each.
-ghost use Rattle.std.specs.Prelude.{◌≡◌, ℕ, List, ◌∷◌, ◌++◌, Option, ◌<◌, ◌≤◌, [], suc, length, slice_get, Some, IfOk, IfSome, MatchOption};
-ghost use Rattle.span_enum.specs.Lowering.{Lowers};
+ghost use Rattle.std.specs.Prelude.{◌≡◌, ℕ, List, ◌∷◌, ◌++◌, Option, ◌<◌, ◌≤◌, [], suc, length, slice_get, Some, IfOk, MatchOption};
 ghost use Rattle.span_enum.specs.Next.{NoneAfter};
 ghost use Rattle.span_enum.specs.Words.{IsNoMark};
 ghost use Rattle.span_enum.specs.Tuples.{word_over};
@@ -129,8 +128,7 @@ pub(crate) fn lower_last(ground: &Ground<'_>, trail: &mut Trail<'_>, t: &Tuple) 
     requires ground { IsGround ground.now }
     requires trail { IsTrailOf ground.now t.now trail.old.marks.items trail.old.ahead.items }
     ensures lowers { MatchOption result (NoneAfter ground.now.dfa.now 0 (whole_text ground.now) ground.now.finals (word_over t.now 1 (whole_text ground.now)))
-        (Lowers ground.now.dfa.now 0 (whole_text ground.now) ground.now.finals (word_over t.now 1 (whole_text ground.now)) 1) }
-    ensures last { IfSome result (LowersLast ground.now trail.new.marks.items) }
+        (LowersLast ground.now trail.new.marks.items) }
     ensures trail { IsTrailOf ground.now t.now trail.new.marks.items trail.new.ahead.items }
     ensures marks_room { trail.new.marks.capacity ≡ trail.old.marks.capacity }
     ensures ahead_room { trail.new.ahead.capacity ≡ trail.old.ahead.capacity }

@@ -1,8 +1,4 @@
-use Rattle.std.proofs.Common.{◌≡◌, ◌<◌, true, ap, sym, subst, ◌∙◌}
-use Rattle.marker_dfa.specs.Deterministic.{states_of}
-use Rattle.span_enum.specs.Sets.{is_final}
-use Rattle.span_enum.specs.Words.{IsGreatestMark}
-use Rattle.span_types.proofs.PieceLaws.{write-nothing}
+use Rattle.span_enum.proofs.Base.{IsGreatestMark, ap, is_final, states_of, subst, sym, true, write-nothing, ◌<◌, ◌∙◌, ◌≡◌}
 use Rattle.span_enum.proofs.answers.finish.Goals as goal
 
 pub with_end-requires-clause-ends : goal.with_end-requires-clause-ends

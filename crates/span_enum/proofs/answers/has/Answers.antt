@@ -1,10 +1,7 @@
-use Rattle.std.proofs.Common.{◌<◌, refl, length, [], Some}
-use Rattle.slp_model.specs.Tree.{text, height}
-use Rattle.slp_model.specs.Nodes.{tree}
+use Rattle.span_enum.proofs.Base.{Some, [], height, length, refl, text, tree, ◌<◌}
+use Rattle.span_enum.proofs.Answerings.{cost-lower, within-limit}
+use Rattle.span_enum.proofs.Membership.{IsText, accepts-from_end, accepts-from_member, end-from_accepts, look-text, member-from_accepts, no-text}
 use Rattle.span_enum.proofs.TupleLaws.{few-marks}
-use Rattle.span_enum.proofs.Gifts.{accepts-from_end, end-from_accepts, cost-lower, within-limit}
-use Rattle.span_enum.proofs.Membership.{accepts-from_member, member-from_accepts}
-use Rattle.span_enum.proofs.Given.{IsText, no-text, look-text}
 use Rattle.span_enum.proofs.answers.has.Goals as goal
 
 pub returns-in-None-clause-answer : goal.returns-in-None-clause-answer
@@ -14,8 +11,8 @@ returns-in-None-clause-answer g c =
     let t = c.args.tuple.now in
     let both = c.accepts_end.ensures in
     rw c.in-None.is (
-      (λ h. member-from_accepts a auto [] no-text.bytes no-text.short t c.requires.tuple (accepts-from_end a [] t (Some 0) c.count-count.ensures.tuple.spans refl (both.0 h))),
-      (λ h. both.1 (end-from_accepts a [] t (Some 0) refl (accepts-from_member a auto [] no-text.bytes no-text.short t h))),
+      (λ h. member-from_accepts a auto [] no-text t c.requires.tuple (accepts-from_end a [] t (Some 0) c.count-count.ensures.tuple.spans refl (both.0 h))),
+      (λ h. both.1 (end-from_accepts a [] t (Some 0) refl (accepts-from_member a auto [] no-text t h))),
     )
 
 pub returns-in-Some-clause-answer : goal.returns-in-Some-clause-answer
@@ -30,8 +27,8 @@ returns-in-Some-clause-answer g c =
     let k : IsText s = look-text a nodes view.tables.now c.requires.ready.tables view.counted c.in-Some.id.index _ _ _ live c.look-look.ensures.look in
     let both = rw c.look-look.ensures.look.len_is at c.accepts_end-in-Some.ensures in
     rw c.in-Some.is (
-      (λ h. member-from_accepts a auto s k.bytes k.short t c.requires.tuple (accepts-from_end a s t _ c.count-count.ensures.tuple.spans c.state_over-state.ensures.value (both.0 h))),
-      (λ h. both.1 (end-from_accepts a s t _ c.state_over-state.ensures.value (accepts-from_member a auto s k.bytes k.short t h))),
+      (λ h. member-from_accepts a auto s k t c.requires.tuple (accepts-from_end a s t _ c.count-count.ensures.tuple.spans c.state_over-state.ensures.value (both.0 h))),
+      (λ h. both.1 (end-from_accepts a s t _ c.state_over-state.ensures.value (accepts-from_member a auto s k t h))),
     )
 
 pub returns-in-Some-clause-cost : goal.returns-in-Some-clause-cost

@@ -1,12 +1,7 @@
-use Rattle.std.proofs.Common.{◌≡◌, Some, ap, ◌∙◌, arith}
-use Rattle.span_types.specs.Writes.{write_mark}
-use Rattle.span_enum.specs.Members.{IsFirstMember}
-use Rattle.span_enum.specs.Letters.{reached}
-use Rattle.span_enum.specs.Tuples.{word_over}
-use Rattle.span_enum.specs.Trail.{whole_text, Agree}
+use Rattle.span_enum.proofs.Base.{Agree, IsFirstMember, Some, ap, arith, reached, whole_text, word_over, write_mark, ◌∙◌, ◌≡◌}
+use Rattle.span_enum.proofs.Answerings.{end-known, end-unknown, lowered-end}
 use Rattle.span_enum.proofs.Paths.{run-within}
 use Rattle.span_enum.proofs.Roots.{ground-text}
-use Rattle.span_enum.proofs.Answerings.{end-unknown, end-known, lowered-end}
 use Rattle.span_enum.proofs.answers.lowered_at_end.Goals.{After-with_mark}
 use Rattle.span_enum.proofs.answers.lowered_at_end.Goals as goal
 
@@ -30,8 +25,9 @@ found : (c : After-with_mark) → IsFirstMember c.args.ground.now.dfa.now (whole
     × (reached c.args.ground.now.dfa.now 0 (word_over c.with_mark.result 1 (whole_text c.args.ground.now)) ≡ Some c.in_ok-q.q)
 found c =
     let text = ground-text c.args.ground.now c.requires.ground (omega (arith, c.requires.end, c.requires.low)) in
-    lowered-end c.args.ground.now c.requires.ground text c.args.t.now c.with_mark.result (record { size = c.requires.tuple; valid = c.count-count.ensures.tuple }) c.args.end c.in_ok-q.q c.in_ok-mark.mark c.requires.end
-    (rw c.in_ok-q.was at c.requires.state) (rw c.end_limit.ensures at c.in_ok-mark.ensures) (c.with_mark.ensures.value ∙ ap (write_mark c.in_ok-mark.mark c.args.end) c.cut_at.ensures)
+    let greatest = rw c.end_limit.ensures at c.in_ok-mark.ensures in
+    rw c.requires.end (lowered-end c.args.ground.now c.requires.ground text c.args.t.now c.with_mark.result (record { size = c.requires.tuple; valid = c.count-count.ensures.tuple }) c.in_ok-q.q c.in_ok-mark.mark
+    (rw c.in_ok-q.was at c.requires.state) (rw c.requires.end at greatest) (rw c.requires.end at (c.with_mark.ensures.value ∙ ap (write_mark c.in_ok-mark.mark c.args.end) c.cut_at.ensures)))
 
 pub returns-clause-none : goal.returns-clause-none
 returns-clause-none c = (found (goal.at.returns-clause-none c).After-with_mark).0

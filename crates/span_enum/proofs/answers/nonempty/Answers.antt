@@ -1,13 +1,8 @@
-use Rattle.std.proofs.Common.{◌≡◌, ◌<◌, length, not, sym, ◌∙◌, []}
-use Rattle.slp_model.specs.Tree.{text}
-use Rattle.slp_model.specs.Nodes.{tree}
-use Rattle.marker_dfa.specs.Deterministic.{ends_of}
-use Rattle.span_enum.specs.Sets.{is_final, can_reach_of}
+use Rattle.span_enum.proofs.Base.{[], can_reach_of, ends_of, is_final, length, not, sym, text, tree, ◌<◌, ◌∙◌, ◌≡◌}
+use Rattle.span_enum.proofs.LastLetters.{accepted-empty, accepted-from_table, not-empty, table-from_accepted}
+use Rattle.span_enum.proofs.Membership.{IsText, accepted-from_some, look-text, no-text, some-from_accepted}
 use Rattle.span_enum.proofs.Paths.{Tells}
-use Rattle.span_enum.proofs.Steps.{look-table}
-use Rattle.span_enum.proofs.LastLetters.{not-empty, accepted-empty, accepted-from_table, table-from_accepted, true-from_is, is-from_true}
-use Rattle.span_enum.proofs.Membership.{some-from_accepted, accepted-from_some}
-use Rattle.span_enum.proofs.Given.{IsText, no-text, look-text}
+use Rattle.span_enum.proofs.Tables.{look-table}
 use Rattle.span_enum.proofs.answers.nonempty.Goals as goal
 
 pub returns-in-None-clause-some : goal.returns-in-None-clause-some
@@ -17,8 +12,8 @@ returns-in-None-clause-some g c =
     let tests : not c.is_empty.result ≡ is_final a 0 = rw (c.is_empty.ensures, c.ends.ensures) (not-empty (ends_of a 0)) in
     let both = accepted-empty a in
     rw c.in-None.is (
-      (λ h. some-from_accepted a auto [] no-text.bytes no-text.short (both.0 (sym tests ∙ true-from_is _ h))),
-      (λ h. is-from_true _ (tests ∙ both.1 (accepted-from_some a auto [] no-text.bytes no-text.short h))),
+      (λ h. some-from_accepted a auto [] no-text (both.0 (sym tests ∙ h))),
+      (λ h. (tests ∙ both.1 (accepted-from_some a auto [] no-text h))),
     )
 
 pub returns-in-Some-clause-some : goal.returns-in-Some-clause-some
@@ -35,6 +30,6 @@ returns-in-Some-clause-some g c =
     let k : IsText s = look-text a nodes view.tables.now c.requires.tables view.counted c.in-Some.id.index _ _ _ live c.look-look.ensures.look in
     let value : c.can_reach.result ≡ can_reach_of t 0 finals = c.can_reach.ensures.value in
     rw c.in-Some.is (
-      (λ h. some-from_accepted a auto s k.bytes k.short (accepted-from_table a auto finals c.final_states.ensures s t is c.can_reach.ensures.small (sym value ∙ true-from_is _ h))),
-      (λ h. is-from_true _ (value ∙ table-from_accepted a auto finals c.final_states.ensures s t is c.can_reach.ensures.small (accepted-from_some a auto s k.bytes k.short h))),
+      (λ h. some-from_accepted a auto s k (accepted-from_table a auto finals c.final_states.ensures s t is c.can_reach.ensures.small (sym value ∙ h))),
+      (λ h. (value ∙ table-from_accepted a auto finals c.final_states.ensures s t is c.can_reach.ensures.small (accepted-from_some a auto s k h))),
     )

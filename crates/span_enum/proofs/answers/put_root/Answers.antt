@@ -1,4 +1,4 @@
-use Rattle.std.proofs.Common.{◌++◌, ◌∷◌, [], Some, ap, ◌∙◌}
+use Rattle.span_enum.proofs.Base.{Some, [], ap, ◌++◌, ◌∙◌, ◌∷◌}
 use Rattle.span_enum.proofs.Roots.{fresh-root}
 use Rattle.span_enum.proofs.answers.put_root.Goals as goal
 

@@ -1,4 +1,4 @@
-use Rattle.span_enum.proofs.Gifts.{some-end}
+use Rattle.span_enum.proofs.Answerings.{some-end}
 use Rattle.span_enum.proofs.answers.with_end.Goals as goal
 
 pub unreachable-requires : goal.unreachable-requires

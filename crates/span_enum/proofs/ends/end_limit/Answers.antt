@@ -1,4 +1,4 @@
-use Rattle.std.proofs.Common.{◌+◌, sym, ap, ◌∙◌}
+use Rattle.span_enum.proofs.Base.{ap, sym, ◌+◌, ◌∙◌}
 use Rattle.span_enum.proofs.TupleLaws.{end_mark-more, end_mark-same}
 use Rattle.span_enum.proofs.ends.end_limit.Goals as goal
 

@@ -1,6 +1,4 @@
-use Rattle.std.proofs.Common.{subst}
-use Rattle.std.proofs.lemmas.Bool.{eqb-true}
-use Rattle.span_enum.specs.Words.{IsGreatestMark}
+use Rattle.span_enum.proofs.Base.{IsGreatestMark, eqb-true, subst}
 use Rattle.span_enum.proofs.ends.ends_quietly.Goals as goal
 
 pub returns-in-Some : goal.returns-in-Some

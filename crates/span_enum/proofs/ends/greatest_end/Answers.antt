@@ -1,9 +1,7 @@
-use Rattle.std.proofs.Common.{◌≡◌, ℕ, ◌<◌, subst, Some, get_or, Contains, AllPairs, List}
-use Rattle.std.proofs.lemmas.List.Elements.{Contains-get_or}
-use Rattle.marker_dfa.specs.Deterministic.{ends_of}
+use Rattle.span_enum.proofs.Base.{AllPairs, Contains, Contains-get_or, List, Some, ends_of, get_or, subst, ℕ, ◌<◌, ◌≡◌}
 use Rattle.span_enum.specs.Letters.{step_of}
-use Rattle.span_enum.proofs.Choices.{greatest-at, none-at}
-use Rattle.span_enum.proofs.LastLetters.{end-step, end-facts, member-one}
+use Rattle.span_enum.proofs.LastLetters.{end-facts, end-step, member-one}
+use Rattle.span_enum.proofs.Tables.{greatest-at, none-at}
 use Rattle.span_enum.proofs.ends.greatest_end.Goals as goal
 
 pub returns-then-mark-limit : goal.returns-then-mark-limit

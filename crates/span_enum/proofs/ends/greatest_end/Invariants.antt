@@ -1,5 +1,4 @@
-use Rattle.std.proofs.Common.{◌<◌, ℕ, get_or}
-use Rattle.span_enum.specs.Words.{IsNoMark}
+use Rattle.span_enum.proofs.Base.{IsNoMark, get_or, ℕ, ◌<◌}
 use Rattle.span_enum.proofs.ends.greatest_end.Given as goal
 
 abbrev pub invariant-loop-mark : goal.invariant-loop-mark

@@ -1,6 +1,4 @@
-use Rattle.std.proofs.Common.{ℕ, ◌<◌}
-use Rattle.span_types.specs.Marks.{spans_of}
-use Rattle.span_enum.specs.Tuples.{EndsPast}
+use Rattle.span_enum.proofs.Base.{EndsPast, spans_of, ℕ, ◌<◌}
 use Rattle.span_enum.proofs.ends.is_past.Given as goal
 
 abbrev pub invariant-loop-v : goal.invariant-loop-v

@@ -1,8 +1,5 @@
-use Rattle.std.proofs.Common.{◌≡◌, ◌<◌, ℕ, arith, subst, refl, ◌∙◌, get_or, IsTrue, Contains, List, false}
-use Rattle.std.proofs.lemmas.List.{get_or_default}
-use Rattle.std.proofs.lemmas.List.Elements.{Contains-get_or}
-use Rattle.marker_dfa.specs.Deterministic.{ends_of}
-use Rattle.span_enum.proofs.LastLetters.{end-step, end-facts}
+use Rattle.span_enum.proofs.Base.{Contains, Contains-get_or, IsTrue, List, arith, ends_of, false, get_or, get_or_default, refl, subst, ℕ, ◌<◌, ◌∙◌, ◌≡◌}
+use Rattle.span_enum.proofs.LastLetters.{end-facts, end-step}
 use Rattle.span_enum.proofs.ends.may_end.Goals as goal
 
 pub returns-then-end-mark : goal.returns-then-end-mark

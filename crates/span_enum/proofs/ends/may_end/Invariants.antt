@@ -1,4 +1,4 @@
-use Rattle.std.proofs.Common.{◌≢◌, ◌<◌, ℕ, get_or}
+use Rattle.span_enum.proofs.Base.{get_or, ℕ, ◌<◌, ◌≢◌}
 use Rattle.span_enum.proofs.ends.may_end.Given as goal
 
 abbrev pub invariant-loop-end : goal.invariant-loop-end

@@ -1,4 +1,4 @@
-use Rattle.span_enum.specs.Quiet.{AreQuietFinals}
+use Rattle.span_enum.proofs.Base.{AreQuietFinals}
 use Rattle.span_enum.proofs.ends.quiet_finals.Given as goal
 
 abbrev pub invariant-loop-q : goal.invariant-loop-q

@@ -1,9 +1,8 @@
-use Rattle.std.proofs.Common.{◌≡◌, ℕ, ◌<◌, ◌+◌, ap, sym, ◌∙◌, arith, refl, length, length-append, Some, None, ◌∷◌, []}
-use Rattle.span_types.specs.Marks.{mark_of}
+use Rattle.span_enum.proofs.Base.{Lays, None, Some, [], ap, arith, length, length-append, mark_of, refl, sym, text_ahead, ℕ, ◌+◌, ◌<◌, ◌∙◌, ◌∷◌, ◌≡◌}
 use Rattle.span_enum.specs.Letters.{step_of}
-use Rattle.span_enum.specs.Trail.{text_ahead, Lays}
-use Rattle.span_enum.proofs.Chains.{next-there, fits-none, fits-short}
-use Rattle.span_enum.proofs.Leads.{StandsOver, most, passes-chain, over-node, over-ahead, over-state, over-next, over-few, over-low, position-from, position-within, position-marked, position-early, lays-reaches, lays-goes, followed-dead, followed-last, followed-fails, followed-stuck, followed-on}
+use Rattle.span_enum.proofs.Chains.{fits-short, next-there}
+use Rattle.span_enum.proofs.Follows.{StandsOver, comes-there, followed-dead, followed-fails, followed-last, followed-on, followed-stuck, lays-goes, lays-way, most, over-down, over-few, over-node}
+use Rattle.span_enum.proofs.Follows.{position-early}
 use Rattle.span_enum.proofs.follow.+follow.Given.{Over}
 use Rattle.span_enum.proofs.follow.+follow.Goals.{After-ahead_at, After-last_of-last}
 use Rattle.span_enum.proofs.follow.+follow.Goals as goal
@@ -12,58 +11,50 @@ use Rattle.span_enum.proofs.follow.+follow.Goals as goal
 over : (g : Over) (t : ℕ) (c : After-ahead_at g t)
     → StandsOver c.args.ground.now c.args.t.now c.args.trail.now.ahead.items c.args.at (length c.args.trail.now.marks.items) c.first_mark-position.result c.args.from c.in_ok-place.place c.ahead_at.result.now
 over g t c =
-    over-node c.args.ground.now c.args.t.now c.args.trail.now.ahead.items c.args.at c.first_mark-position.result c.args.end _ c.args.from c.in_ok-place.place c.ahead_at.result.now
-    c.requires.can c.first_mark-position.ensures.from c.first_mark-position.ensures.end c.requires.end c.first_mark-position.ensures.none c.in_ok-place.ensures (omega (arith, c.if-place-eq0.false)) c.ahead_at.ensures
+    over-node c.args.ground.now c.args.t.now c.args.trail.now.ahead.items c.args.at c.first_mark-position.result c.args.end _ c.args.from
+    c.requires.can c.first_mark-position.ensures.from c.first_mark-position.ensures.end c.requires.end c.requires.ground c.in_ok-place.place c.ahead_at.result.now
+    c.first_mark-position.ensures.none c.in_ok-place.ensures (omega (arith, c.if-place-eq0.false)) c.ahead_at.ensures
 
--- the tuple has a mark there
+-- the end isn't reached, so the tuple has a mark there
 marked : (g : Over) (t : ℕ) (c : After-ahead_at g t) → 0 < mark_of c.args.t.now c.first_mark-position.result
-marked g t c = position-marked _ _ _ _ _ _ _ _ _ (over g t c) c.args.end c.requires.end c.first_mark-position.ensures.some
+marked g t c = c.first_mark-position.ensures.some (position-early _ _ _ _ _ _ _ _ _ _ (over g t c) c.requires.end)
 
 pub returns-in_err-place-clause-followed : goal.returns-in_err-place-clause-followed
 returns-in_err-place-clause-followed g t c =
     let can = c.requires.can in
-    let position = c.first_mark-position.result in
-    let le = most c.args.ground.now c.args.t.now c.args.trail.now.ahead.items c.args.at position c.args.end _ c.args.from can c.first_mark-position.ensures.end c.requires.end in
+    let first = c.first_mark-position.ensures in
+    let le = most c.args.ground.now c.args.t.now c.args.trail.now.ahead.items c.args.at c.first_mark-position.result c.args.end _ c.args.from can first.from first.end c.requires.end in
     rw c.from_residual.ensures
-    (followed-dead c.args.ground.now c.args.t.now c.args.at c.args.from.state _ (text_ahead c.args.ground.now can.chain) can.leads position c.first_mark-position.ensures.from le c.first_mark-position.ensures.none
-    (c.in_err-place.ensures c.args.at can.chain can.stands c.first_mark-position.ensures.from le) c.args.trail.now.marks.items c.args.trail.now.ahead.items c.args.looks.now c.args.looks.now (omega arith))
+    (followed-dead c.args.ground.now c.args.t.now c.args.trail.now.ahead.items c.args.at c.first_mark-position.result c.args.end _ c.args.from can first.from first.end c.requires.end
+    c.args.at c.args.from.state (text_ahead c.args.ground.now can.chain) c.args.trail.now.marks.items c.args.looks.now c.args.looks.now can.leads (omega arith) first.from le first.none
+    (c.in_err-place.ensures c.args.at can.chain can.stands first.from le) (omega arith))
 
 pub returns-then-place-eq0-clause-followed : goal.returns-then-place-eq0-clause-followed
 returns-then-place-eq0-clause-followed g t c =
-    followed-last c.args.ground.now c.args.t.now c.args.trail.now.ahead.items c.args.at c.first_mark-position.result c.args.end _ c.args.from c.in_ok-place.place c.args.trail.now.marks.items c.args.looks.now c.requires.can
-    c.first_mark-position.ensures.from c.first_mark-position.ensures.end c.requires.end c.first_mark-position.ensures.none c.in_ok-place.ensures c.if-place-eq0.true
+    followed-last c.args.ground.now c.args.t.now c.args.trail.now.ahead.items c.args.at c.first_mark-position.result c.args.end _ c.args.from c.requires.can
+    c.first_mark-position.ensures.from c.first_mark-position.ensures.end c.requires.end c.in_ok-place.place c.args.trail.now.marks.items c.args.looks.now c.first_mark-position.ensures.none c.in_ok-place.ensures c.if-place-eq0.true
 
 pub ahead_at-requires : goal.ahead_at-requires
 ahead_at-requires g t c =
-    let p = passes-chain c.args.ground.now c.args.t.now c.args.trail.now.ahead.items c.args.at c.first_mark-position.result c.args.end _ c.args.from c.in_ok-place.place c.requires.can
-    c.first_mark-position.ensures.from c.first_mark-position.ensures.end c.requires.end c.in_ok-place.ensures in
+    let first = c.first_mark-position.ensures in
+    let p = (comes-there c.args.ground.now c.args.t.now c.args.trail.now.ahead.items c.args.at c.first_mark-position.result c.args.end _ c.args.from c.requires.can first.from first.end c.requires.end
+    c.in_ok-place.place c.in_ok-place.ensures).0.passes in
     next-there c.args.trail.now.ahead.items c.in_ok-place.place.next p.back p.stands.ahead (omega (arith, c.if-place-eq0.false))
 
 pub reach-comes-requires-clause-down : goal.reach-comes-requires-clause-down
 reach-comes-requires-clause-down g t c =
-    let o = over g t (goal.at.reach-comes-requires-clause-down g t c).After-ahead_at in
-    let few = over-few _ _ _ _ _ _ _ _ _ o c.args.ground.now.dfa.now.variables c.requires.tuple (marked g t (goal.at.reach-comes-requires-clause-down g t c).After-ahead_at) in
-    record {
-      is_ahead = over-ahead _ _ _ _ _ _ _ _ _ o;
-      state = over-state _ _ _ _ _ _ _ _ _ o;
-      next = over-next _ _ _ _ _ _ _ _ _ o;
-      marks_fit = omega (arith, few, c.requires.marks_fit);
-      ahead_fit = omega (arith, few, c.requires.ahead_fit, c.len-base.ensures.value);
-      low = omega (arith, c.len-base.ensures.value);
-      fits = rw c.len-base.ensures.value (fits-none c.args.ground.now c.args.trail.now.ahead.items);
-      deep = omega (arith, over-low _ _ _ _ _ _ _ _ _ o, c.len-base.ensures.value);
-    }
+    let at = (goal.at.reach-comes-requires-clause-down g t c).After-ahead_at in
+    rw c.len-base.ensures.value (over-down _ _ _ _ _ _ _ _ _ _ (over g t at) c.requires.end c.args.ground.now.dfa.now.variables _ _ c.args.trail.now.marks.items c.requires.tuple (marked g t at) refl c.requires.marks_fit c.requires.ahead_fit)
 
 pub reach-comes-requires-clause-over : goal.reach-comes-requires-clause-over
-reach-comes-requires-clause-over g t c =
-    let o = over g t (goal.at.reach-comes-requires-clause-over g t c).After-ahead_at in
-    record { from = position-from _ _ _ _ _ _ _ _ _ o; before = position-within _ _ _ _ _ _ _ _ _ o }
+reach-comes-requires-clause-over g t c = (over g t (goal.at.reach-comes-requires-clause-over g t c).After-ahead_at).over
 
 pub returns-then-not-comes-clause-followed : goal.returns-then-not-comes-clause-followed
 returns-then-not-comes-clause-followed g t c =
-    rw c.truncate.ensures.items
-    (followed-fails _ _ _ _ _ _ _ _ _ (over g t (goal.at.returns-then-not-comes-clause-followed g t c).After-ahead_at) c.len-base.result c.args.looks.now c.reach-comes.new.looks
-    c.args.trail.now.marks.items c.reach-comes.new.trail.marks.items c.reach-comes.new.trail.ahead.items c.len-base.ensures.value c.if-not-comes.ensures.laid c.reach-comes.ensures.cost)
+    let fails = rw c.len-base.ensures.value at c.if-not-comes.ensures.laid in
+    rw (c.truncate.ensures.items, c.len-base.ensures.value)
+    (followed-fails _ _ _ _ _ _ _ _ _ _ (over g t (goal.at.returns-then-not-comes-clause-followed g t c).After-ahead_at) c.requires.end c.requires.can c.args.looks.now c.reach-comes.new.looks
+    c.args.trail.now.marks.items c.reach-comes.new.trail.marks.items c.reach-comes.new.trail.ahead.items fails c.reach-comes.ensures.cost)
 
 -- the way down to the position was laid
 laid : (g : Over) (t : ℕ) (c : After-last_of-last g t) → Lays c.args.ground.now c.args.t.now c.ahead_at.result.now c.in_ok-place.place.state c.first_mark-position.result (length c.args.trail.now.ahead.items)
@@ -73,31 +64,33 @@ laid g t c = rw c.len-base.ensures.value at c.if-not-comes.ensures.laid
 pub step-requires : goal.step-requires
 step-requires g t c =
     let k = laid g t (goal.at.step-requires g t c).After-last_of-last in
-    let r = lays-reaches _ _ _ _ _ _ _ _ _ (over g t (goal.at.step-requires g t c).After-ahead_at) _ _ _ k in
-    rw (c.last_of-last.ensures c.args.trail.now.marks.items k.mark k.kept) r.is_mark.state
+    let at = (goal.at.step-requires g t c).After-ahead_at in
+    let way = lays-way _ _ _ _ _ _ _ _ _ _ (over g t at) c.requires.end _ _ _ k refl (marked g t at) in
+    rw (c.last_of-last.ensures c.args.trail.now.marks.items k.keeps.mark k.keeps.kept) way.is_mark.state
 
 pub returns-in_err-state-clause-followed : goal.returns-in_err-state-clause-followed
 returns-in_err-state-clause-followed g t c =
     let k = laid g t (goal.at.returns-in_err-state-clause-followed g t c).After-last_of-last in
-    let step : step_of c.args.ground.now.dfa.now k.mark.state k.mark.mark k.mark.byte ≡ None = sym (rw (c.last_of-last.ensures c.args.trail.now.marks.items k.mark k.kept) at c.in_err-state.ensures.value) in
+    let at = (goal.at.returns-in_err-state-clause-followed g t c).After-ahead_at in
+    let m = k.keeps.mark in
+    let step : step_of c.args.ground.now.dfa.now m.state m.mark m.byte ≡ None = sym (rw (c.last_of-last.ensures c.args.trail.now.marks.items m k.keeps.kept) at c.in_err-state.ensures.value) in
     rw c.from_residual-in_err-state.ensures
-    (followed-stuck _ _ _ _ _ _ _ _ _ (over g t (goal.at.returns-in_err-state-clause-followed g t c).After-ahead_at) _ _ _ k c.args.looks.now c.reach-comes.new.looks refl
-    (marked g t (goal.at.returns-in_err-state-clause-followed g t c).After-ahead_at) step c.reach-comes.ensures.cost)
+    (followed-stuck _ _ _ _ _ _ _ _ _ _ (over g t at) c.requires.end _ _ _ k refl (marked g t at) c.args.looks.now c.reach-comes.new.looks step c.reach-comes.ensures.cost)
 
 pub overflow_add-position : goal.overflow_add-position
 overflow_add-position g t c =
-    let early = position-early _ _ _ _ _ _ _ _ _ (over g t (goal.at.overflow_add-position g t c).After-ahead_at) c.args.end c.requires.end in
-    omega (arith, early, c.ranges.end)
+    omega (arith, position-early _ _ _ _ _ _ _ _ _ _ (over g t (goal.at.overflow_add-position g t c).After-ahead_at) c.requires.end, c.ranges.end)
 
 pub follow-requires : goal.follow-requires
 follow-requires g t c κs within =
-    let o = over g t (goal.at.follow-requires g t c).After-ahead_at in
-    let some = marked g t (goal.at.follow-requires g t c).After-ahead_at in
-    let few = over-few _ _ _ _ _ _ _ _ _ o c.args.ground.now.dfa.now.variables c.requires.tuple some in
+    let at = (goal.at.follow-requires g t c).After-ahead_at in
+    let o = over g t at in
+    let few = over-few _ _ _ _ _ _ _ _ _ _ o c.requires.end c.args.ground.now.dfa.now.variables c.requires.tuple (marked g t at) in
     let k = laid g t (goal.at.follow-requires g t c).After-last_of-last in
-    let more : length c.reach-comes.new.trail.marks.items ≡ length c.args.trail.now.marks.items + 1 = ap length k.kept ∙ length-append c.args.trail.now.marks.items (Some k.mark ∷ []) in
-    let can = lays-goes _ _ _ _ _ _ _ _ _ o _ _ _ k c.requires.ground.automaton c.in_ok-state.state c.last_of-last.result.now (c.last_of-last.ensures c.args.trail.now.marks.items k.mark k.kept) refl some (sym c.in_ok-state.ensures.value) in
-    let short = fits-short c.args.ground.now (length c.args.trail.now.ahead.items) c.reach-comes.new.trail.ahead.items k.fits in (
+    let more : length c.reach-comes.new.trail.marks.items ≡ length c.args.trail.now.marks.items + 1 = ap length k.keeps.kept ∙ length-append c.args.trail.now.marks.items (Some k.keeps.mark ∷ []) in
+    let can = lays-goes _ _ _ _ _ _ _ _ _ _ o c.requires.end _ _ _ k refl (marked g t at) c.requires.ground.automaton c.in_ok-state.state c.last_of-last.result.now
+    (c.last_of-last.ensures c.args.trail.now.marks.items k.keeps.mark k.keeps.kept) (sym c.in_ok-state.ensures.value) in
+    let short = fits-short c.args.ground.now (length c.args.trail.now.ahead.items) c.reach-comes.new.trail.ahead.items k.keeps.fits in (
       omega (arith, c.decreases, more, few),
       (
         within,
@@ -105,7 +98,16 @@ follow-requires g t c κs within =
           c.requires.ground,
           (
             c.requires.tuple,
-            (c.requires.end, (can, (omega (arith, c.requires.marks_fit, c.reach-comes.ensures.marks_room), omega (arith, c.requires.ahead_fit, c.reach-comes.ensures.ahead_room, more, few, short)))),
+            (
+              c.requires.end,
+              (
+                can,
+                (
+                  omega (arith, c.requires.marks_fit, c.reach-comes.ensures.marks_room),
+                  omega (arith, c.requires.ahead_fit, c.reach-comes.ensures.ahead_room, more, few, short),
+                ),
+              ),
+            ),
           ),
         ),
       ),
@@ -113,6 +115,6 @@ follow-requires g t c κs within =
 
 pub returns-clause-followed : goal.returns-clause-followed
 returns-clause-followed g t c =
-    followed-on _ _ _ _ _ _ _ _ _ (over g t (goal.at.returns-clause-followed g t c).After-ahead_at) _ _ _ (laid g t (goal.at.returns-clause-followed g t c).After-last_of-last)
-    c.follow.new.trail.marks.items c.follow.new.trail.ahead.items c.args.looks.now c.reach-comes.new.looks c.follow.new.looks c.follow.result
-    refl (marked g t (goal.at.returns-clause-followed g t c).After-ahead_at) c.reach-comes.ensures.cost c.follow.ensures.followed
+    let at = (goal.at.returns-clause-followed g t c).After-ahead_at in
+    followed-on _ _ _ _ _ _ _ _ _ _ (over g t at) c.requires.end _ _ _ (laid g t (goal.at.returns-clause-followed g t c).After-last_of-last) refl (marked g t at)
+    c.follow.new.trail.marks.items c.follow.new.trail.ahead.items c.args.looks.now c.reach-comes.new.looks c.follow.new.looks c.follow.result c.reach-comes.ensures.cost c.follow.ensures.followed

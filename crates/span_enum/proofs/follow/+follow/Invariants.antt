@@ -1,4 +1,4 @@
-use Rattle.std.proofs.Common.{◌*◌, ◌-◌, length}
+use Rattle.span_enum.proofs.Base.{length, ◌*◌, ◌-◌}
 use Rattle.span_enum.proofs.follow.+follow.Given as goal
 
 abbrev pub decreases-follow : goal.decreases-follow

@@ -1,7 +1,4 @@
-use Rattle.std.proofs.Common.{◌≡◌, bit_and}
-use Rattle.state_tables.specs.Table.{marked_of}
-use Rattle.span_enum.specs.Trail.{CanGoDown}
-use Rattle.span_enum.specs.WayDown.{GoesOnAt}
+use Rattle.span_enum.proofs.Base.{CanGoDown, GoesOnAt, bit_and, marked_of, ◌≡◌}
 use Rattle.span_enum.proofs.onward.descend.Given as goal
 
 abbrev pub invariant-down : goal.invariant-down

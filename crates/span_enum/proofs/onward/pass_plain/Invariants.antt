@@ -1,6 +1,4 @@
-use Rattle.std.proofs.Common.{ℕ, List}
-use Rattle.span_enum.specs.Trail.{Stands, CanEnd, PassesPlain}
-use Rattle.span_enum.specs.declared.trail.Ahead.{Ahead}
+use Rattle.span_enum.proofs.Base.{Ahead, CanEnd, List, PassesPlain, Stands, ℕ}
 use Rattle.span_enum.proofs.onward.pass_plain.Given as goal
 
 abbrev pub invariant-loop-place : goal.invariant-loop-place

@@ -1,10 +1,8 @@
-use Rattle.std.proofs.Common.{◌<◌, ◌^◌, refl, sym, append-nil, arith, []}
-use Rattle.state_tables.specs.Table.{marked_of}
-use Rattle.span_enum.specs.Trail.{text_at, mark_over}
+use Rattle.span_enum.proofs.Base.{[], append-nil, arith, mark_over, marked_of, refl, sym, text_at, ◌<◌, ◌^◌}
+use Rattle.span_enum.proofs.Firsts.{some-can}
 use Rattle.span_enum.proofs.Paths.{Tells}
-use Rattle.span_enum.proofs.Steps.{look-table, byte-text, some-byte}
-use Rattle.span_enum.proofs.Turns.{some-can, mark-positive}
-use Rattle.span_enum.proofs.Meets.{meets-byte}
+use Rattle.span_enum.proofs.Tables.{byte-text, look-table, mark-positive, some-byte}
+use Rattle.span_enum.proofs.Ways.{meets-byte}
 use Rattle.span_enum.proofs.onward.place_mark.Goals as goal
 
 pub unreachable-requires : goal.unreachable-requires
@@ -28,12 +26,14 @@ returns-clause-descends c = λ looks.
     let low : c.args.byte < 256 = (rw one at is.bytes) 0 0 (omega arith) in
     let some = mark-positive ground.dfa.now c.requires.ground.automaton (text_at ground h.id.index) h.look.table.now c.args.state c.args.byte h.goals _ _ is c.requires.down.state small one low c.requires.some c.in-Some.ensures.mark in
     rw (c.keep_mark.ensures.ahead, c.holds.ensures) (record {
-      mark = mark_over h c.args.byte c.args.state c.in-Some.step.mark c.args.base;
-      kept = c.keep_mark.ensures.marks;
-      base_is = refl;
-      beside = [];
-      ahead = sym (append-nil c.args.trail.now.ahead.items);
-      fits = c.requires.down.fits;
+      keeps = record {
+        mark = mark_over h c.args.byte c.args.state c.in-Some.step.mark c.args.base;
+        kept = c.keep_mark.ensures.marks;
+        base_is = refl;
+        beside = [];
+        ahead = sym (append-nil c.args.trail.now.ahead.items);
+        fits = c.requires.down.fits;
+      };
       meets = λ k s can. meets-byte ground c.requires.ground.automaton c.args.trail.now.ahead.items h c.args.state k c.args.byte c.in-Some.step.mark c.in-Some.step.state c.args.base low c.requires.byte some c.in-Some.ensures.mark s;
       written = c.with_mark.ensures.value;
       cost = omega arith;

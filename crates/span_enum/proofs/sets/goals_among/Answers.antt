@@ -1,11 +1,5 @@
-use Rattle.std.proofs.Common.{◌≡◌, true, ap, sym, subst, ◌∙◌, arith, inl, inr}
-use Rattle.std.proofs.lemmas.Bool.{cases_eq}
-use Rattle.state_tables.specs.StateSet.{member}
-use Rattle.state_tables.proofs.StateSets.{member-or, member-zero}
-use Rattle.state_tables.proofs.Members.{or-cases, or-left, or-right, not-both}
-use Rattle.span_enum.specs.Sets.{can_reach_of}
-use Rattle.span_enum.specs.Quiet.{StaysQuiet}
-use Rattle.span_enum.proofs.Betweens.{if-is, if-in}
+use Rattle.span_enum.proofs.Base.{StaysQuiet, ap, arith, can_reach_of, cases_eq, inl, inr, member, member-zero, not-both, subst, sym, true, ◌∙◌, ◌≡◌}
+use Rattle.span_enum.proofs.Tables.{member-more_cases, member-more_new, member-more_old}
 use Rattle.span_enum.proofs.sets.goals_among.Goals as goal
 
 pub loop-rest-init : goal.loop-rest-init
@@ -27,23 +21,19 @@ loop-rest-preserved c =
         | inr other ↦ now.left q (sym (c.without-rest.ensures.others q other) ∙ h)
       ];
       all = λ q h k. elim (now.all q h k) [
-        | inr done ↦ inr (member-or c.loop-rest.set _ q ∙ or-left _ _ done)
+        | inr done ↦ inr (member-more_old c.loop-rest.set p q c.way_on-way.result.leads done)
         | inl left ↦ elim (cases_eq q p) [
           | inr other ↦ inl (c.without-rest.ensures.others q other ∙ left)
-          | inl same ↦ inr (member-or c.loop-rest.set _ q ∙ or-right _ _ (if-in c.way_on-way.result.leads p q same (c.way_on-way.ensures.leads ∙ ap (λ n. can_reach_of table n c.args.goals) (sym same) ∙ k)))
+          | inl same ↦ inr (member-more_new c.loop-rest.set p q c.way_on-way.result.leads same (c.way_on-way.ensures.leads ∙ ap (λ n. can_reach_of table n c.args.goals) (sym same) ∙ k))
         ]
       ];
-      only = λ q h. elim (or-cases _ _ (sym (member-or c.loop-rest.set _ q) ∙ h)) [
+      only = λ q h. elim (member-more_cases c.loop-rest.set p q c.way_on-way.result.leads h) [
         | inl done ↦ now.only q done
-        | inr new ↦
-            let is = if-is c.way_on-way.result.leads p q new in
-            rw is.0 (c.requires p (now.left p c.least-q.ensures.member), sym c.way_on-way.ensures.leads ∙ is.1, c.way_on-way.ensures.small)
+        | inr is ↦ rw is.0 (c.requires p (now.left p c.least-q.ensures.member), sym c.way_on-way.ensures.leads ∙ is.1, c.way_on-way.ensures.small)
       ];
-      quiet = λ q h. elim (or-cases _ _ (sym (member-or c.loop-rest.stay _ q) ∙ h)) [
+      quiet = λ q h. elim (member-more_cases c.loop-rest.stay p q c.way_on-way.result.quiet h) [
         | inl done ↦ now.quiet q done
-        | inr new ↦
-            let is = if-is c.way_on-way.result.quiet p q new in
-            subst (λ n. (member c.args.from n ≡ true) × StaysQuiet table n c.args.goals c.args.quiet) (sym is.0) (now.left p c.least-q.ensures.member, c.way_on-way.ensures.quiet is.1)
+        | inr is ↦ subst (λ n. (member c.args.from n ≡ true) × StaysQuiet table n c.args.goals c.args.quiet) (sym is.0) (now.left p c.least-q.ensures.member, c.way_on-way.ensures.quiet is.1)
       ];
     })
 

@@ -1,8 +1,4 @@
-use Rattle.std.proofs.Common.{◌≡◌, ◌<◌, ◌^◌, ◌⊎◌, ℕ, true, length}
-use Rattle.state_tables.specs.StateSet.{member}
-use Rattle.state_tables.specs.Table.{marked_of}
-use Rattle.span_enum.specs.Sets.{can_reach_of}
-use Rattle.span_enum.specs.Quiet.{StayQuiet}
+use Rattle.span_enum.proofs.Base.{StayQuiet, can_reach_of, length, marked_of, member, true, ℕ, ◌<◌, ◌^◌, ◌≡◌, ◌⊎◌}
 use Rattle.span_enum.proofs.sets.goals_among.Given as goal
 
 abbrev pub invariant-loop-rest : goal.invariant-loop-rest

@@ -1,6 +1,4 @@
-use Rattle.std.specs.Int.{w128}
-use Rattle.std.proofs.lemmas.Nat.Bits.{bit_at-trailing_zeros}
-use Rattle.state_tables.proofs.StateSets.{member-bit}
+use Rattle.span_enum.proofs.Base.{bit_at-trailing_zeros, member-bit, w128}
 use Rattle.span_enum.proofs.sets.least.Goals as goal
 
 pub returns-clause-member : goal.returns-clause-member

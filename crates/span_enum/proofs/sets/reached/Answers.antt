@@ -1,7 +1,5 @@
-use Rattle.std.proofs.Common.{sym, ◌∙◌, inl, inr}
-use Rattle.state_tables.proofs.StateSets.{member-or}
-use Rattle.state_tables.proofs.Members.{or-cases}
-use Rattle.span_enum.proofs.Betweens.{single-is}
+use Rattle.span_enum.proofs.Base.{inl, inr, member-or, or-cases, sym, ◌∙◌}
+use Rattle.span_enum.proofs.Tables.{single-is}
 use Rattle.span_enum.proofs.sets.reached.Goals as goal
 
 pub returns-clause-within : goal.returns-clause-within

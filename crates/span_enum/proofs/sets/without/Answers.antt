@@ -1,4 +1,4 @@
-use Rattle.state_tables.proofs.StateSets.{member-without_same, member-without_other, without-less}
+use Rattle.span_enum.proofs.Base.{member-without_other, member-without_same, without-less}
 use Rattle.span_enum.proofs.sets.without.Goals as goal
 
 pub returns-clause-gone : goal.returns-clause-gone

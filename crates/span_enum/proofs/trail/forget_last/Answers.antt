@@ -1,6 +1,6 @@
-use Rattle.std.proofs.Common.{◌≡◌, ◌++◌, ◌∷◌, [], ◌+◌, ◌-◌, take, length, length-append, Some, ap, ◌∙◌, arith}
+use Rattle.span_enum.proofs.Base.{Some, ap, take, ◌∙◌, ◌≡◌}
+use Rattle.span_enum.proofs.Forgets.{forgotten, trail-last}
 use Rattle.span_enum.proofs.Keeps.{take-others}
-use Rattle.span_enum.proofs.Forgets.{trail-last, forgotten}
 use Rattle.span_enum.proofs.trail.forget_last.Goals as goal
 
 pub last_of-requires : goal.last_of-requires
@@ -15,8 +15,6 @@ returns-clause-trail c =
     let hs = c.args.trail.now.ahead.items in
     let last = trail-last g c.args.t.now ms hs c.requires.trail c.requires.some in
     let base = c.last_of.ensures last.others last.mark last.parts in
-    let count : c.len-count.result - 1 + 1 ≡ length (last.others ++ Some last.mark ∷ []) = omega (arith, c.len-count.ensures.value, ap length last.parts, length-append last.others (Some last.mark ∷ [])) in
-    let others : c.truncate-2.new.self.items ≡ last.others =
-    c.truncate-2.ensures.items ∙ ap (take (c.len-count.result - 1)) last.parts ∙ take-others last.others (Some last.mark) (c.len-count.result - 1) count in
+    let others : c.truncate-2.new.self.items ≡ last.others = c.truncate-2.ensures.items ∙ take-others ms last.others (Some last.mark) c.len-count.result last.parts c.len-count.ensures.value in
     let ahead : c.truncate.new.self.items ≡ take last.mark.base hs = c.truncate.ensures.items ∙ ap (λ m. take m.base hs) base in
     rw (others, ahead) (forgotten g c.args.t.now ms last.others hs last.mark last.parts c.requires.trail (c.requires.none last.others last.mark last.parts))

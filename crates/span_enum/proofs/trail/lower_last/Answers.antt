@@ -1,6 +1,5 @@
-use Rattle.std.proofs.Common.{ap, arith}
-use Rattle.span_enum.specs.Words.{IsGreatestMark}
-use Rattle.span_enum.proofs.Forgets.{trail-last, cut-trail, lowers-last, none-at_start}
+use Rattle.span_enum.proofs.Base.{IsGreatestMark, ap, arith}
+use Rattle.span_enum.proofs.Forgets.{cut-trail, none-at_start, trail-last}
 use Rattle.span_enum.proofs.trail.lower_last.Goals as goal
 
 pub last_of-last-requires : goal.last_of-last-requires
@@ -23,16 +22,7 @@ returns-in-Some-clause-lowers c =
     let last = trail-last g c.args.t.now trail.marks.items trail.ahead.items c.loop-trail.invariant.trail (omega (arith, c.len.ensures.value, c.loop-trail-test.true)) in
     let same = c.last_of-last.ensures last.others last.mark last.parts in
     let best : IsGreatestMark g.dfa.now last.mark.state last.mark.byte last.mark.goals last.mark.mark c.in-Some.step.mark c.in-Some.step.state = rw same at c.in-Some.ensures.mark in
-    rw same (lowers-last g c.args.t.now trail.marks.items last.others trail.ahead.items last.mark last.parts c.loop-trail.invariant.trail c.requires.ground.automaton c.in-Some.step.mark c.in-Some.step.state best)
-
-pub returns-in-Some-clause-last : goal.returns-in-Some-clause-last
-returns-in-Some-clause-last c =
-    let g = c.args.ground.now in
-    let trail = c.loop-trail.trail in
-    let last = trail-last g c.args.t.now trail.marks.items trail.ahead.items c.loop-trail.invariant.trail (omega (arith, c.len.ensures.value, c.loop-trail-test.true)) in
-    let same = c.last_of-last.ensures last.others last.mark last.parts in
-    let best : IsGreatestMark g.dfa.now last.mark.state last.mark.byte last.mark.goals last.mark.mark c.in-Some.step.mark c.in-Some.step.state = rw same at c.in-Some.ensures.mark in
-    record { others = last.others; mark = last.mark; parts = last.parts; at = ap (λ m. m.at) same; step = best.step; goal = best.goal; lower = best.below }
+    record { others = last.others; mark = last.mark; parts = last.parts; at = ap (λ m. m.at) same; best = best }
 
 pub returns-clause-lowers : goal.returns-clause-lowers
 returns-clause-lowers c =

@@ -1,5 +1,4 @@
-use Rattle.std.proofs.Common.{◌≡◌, length}
-use Rattle.span_enum.specs.Trail.{IsTrailOf}
+use Rattle.span_enum.proofs.Base.{IsTrailOf, length, ◌≡◌}
 use Rattle.span_enum.proofs.trail.lower_last.Given as goal
 
 abbrev pub invariant-loop-trail : goal.invariant-loop-trail

@@ -1,6 +1,6 @@
-use Rattle.std.proofs.Common.{◌≡◌, ◌<◌, ◌+◌, ◌-◌, ◌++◌, ◌∷◌, [], Some, length, length-append, take, ap, ◌∙◌, arith}
-use Rattle.span_enum.proofs.Keeps.{take-others}
+use Rattle.span_enum.proofs.Base.{Some, [], ap, arith, ◌++◌, ◌<◌, ◌∙◌, ◌∷◌, ◌≡◌}
 use Rattle.span_enum.proofs.Forgets.{lower, turned-none, turned-some}
+use Rattle.span_enum.proofs.Keeps.{take-others}
 use Rattle.span_enum.proofs.trail.lower_to.Goals as goal
 
 pub returns-then-lowered-eq0-clause-turned : goal.returns-then-lowered-eq0-clause-turned
@@ -9,11 +9,8 @@ returns-then-lowered-eq0-clause-turned c =
     let ms = c.args.trail.now.marks.items in
     let last = c.requires.last in
     let same = c.last_of-last.ensures last.others last.mark last.parts in
-    let count : c.len-count.result - 1 + 1 ≡ length (last.others ++ Some last.mark ∷ []) = omega (arith, c.len-count.ensures.value, ap length last.parts, length-append last.others (Some last.mark ∷ [])) in
-    let others : c.truncate.new.self.items ≡ last.others =
-    c.truncate.ensures.items ∙ ap (take (c.len-count.result - 1)) last.parts ∙ take-others last.others (Some last.mark) (c.len-count.result - 1) count in
-    rw (others, same) (turned-none g c.args.t.now ms last.others c.args.trail.now.ahead.items last.mark c.args.lowered.now c.requires.ground.automaton last.parts c.requires.trail last.at last.step last.goal
-    c.if-lowered-eq0.true)
+    let others : c.truncate.new.self.items ≡ last.others = c.truncate.ensures.items ∙ take-others ms last.others (Some last.mark) c.len-count.result last.parts c.len-count.ensures.value in
+    rw (others, same) (turned-none g c.args.t.now ms last.others c.args.trail.now.ahead.items last.mark last.parts c.requires.trail c.args.lowered.now c.requires.ground.automaton last.at last.best c.if-lowered-eq0.true)
 
 pub returns-clause-turned : goal.returns-clause-turned
 returns-clause-turned c =
@@ -21,10 +18,8 @@ returns-clause-turned c =
     let ms = c.args.trail.now.marks.items in
     let last = c.requires.last in
     let same = c.last_of-last.ensures last.others last.mark last.parts in
-    let count : c.len-count.result - 1 + 1 ≡ length (last.others ++ Some last.mark ∷ []) = omega (arith, c.len-count.ensures.value, ap length last.parts, length-append last.others (Some last.mark ∷ [])) in
-    let others : c.truncate.new.self.items ≡ last.others =
-    c.truncate.ensures.items ∙ ap (take (c.len-count.result - 1)) last.parts ∙ take-others last.others (Some last.mark) (c.len-count.result - 1) count in
+    let others : c.truncate.new.self.items ≡ last.others = c.truncate.ensures.items ∙ take-others ms last.others (Some last.mark) c.len-count.result last.parts c.len-count.ensures.value in
     let some : 0 < c.args.lowered.now.mark = omega (arith, c.if-lowered-eq0.false) in
     let items : c.push_reserved.new.self.items ≡ last.others ++ Some (lower last.mark c.args.lowered.now.mark) ∷ [] =
     c.push_reserved.ensures.items ∙ ap (λ k. k ++ Some (lower c.last_of-last.result.now c.args.lowered.now.mark) ∷ []) others ∙ ap (λ k. last.others ++ Some (lower k c.args.lowered.now.mark) ∷ []) same in
-    rw (items, same, c.len.ensures.value) (turned-some g c.args.t.now ms last.others c.args.trail.now.ahead.items last.mark c.args.lowered.now c.requires.ground.automaton last.parts c.requires.trail last.at last.step last.goal some)
+    rw (items, same, c.len.ensures.value) (turned-some g c.args.t.now ms last.others c.args.trail.now.ahead.items last.mark last.parts c.requires.trail c.args.lowered.now c.requires.ground.automaton last.at last.best some)

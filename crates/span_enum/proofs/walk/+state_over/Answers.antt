@@ -1,14 +1,7 @@
-use Rattle.std.proofs.Common.{◌<◌, ◌+◌, ◌≡◌, arith, refl, sym, ap, ◌∙◌, length, length-append}
-use Rattle.slp_model.specs.Tree.{text}
-use Rattle.slp_model.specs.Nodes.{tree, IsNodeAt}
-use Rattle.slp_model.specs.declared.Node.TheVariants.{Pair}
-use Rattle.span_types.specs.Words.{mark_count}
-use Rattle.span_enum.specs.Tuples.{word_over}
+use Rattle.span_enum.proofs.Base.{IsNodeAt, Pair, ap, arith, length, length-append, mark_count, reached, refl, sym, text, tree, word_over, ◌+◌, ◌<◌, ◌∙◌, ◌≡◌}
 use Rattle.span_enum.proofs.Paths.{Tells}
-use Rattle.span_enum.proofs.Steps.{look-table, pair-text, pair-height}
-use Rattle.span_enum.proofs.Written.{over-count}
-use Rattle.span_enum.proofs.Lowerings.{lower-cost, lower-cost_left}
-use Rattle.span_enum.proofs.Runs.{over-run, over-dead, over-quiet}
+use Rattle.span_enum.proofs.Tables.{look-table, pair-height, pair-text}
+use Rattle.span_enum.proofs.Written.{lower-cost, over-count, over-dead, over-plain, over-run}
 use Rattle.span_enum.proofs.walk.+state_over.Goals as goal
 
 pub returns-then-not-is_marked_between-clause-value :
@@ -20,7 +13,7 @@ returns-then-not-is_marked_between-clause-value g t c =
     let is : Tells a s c.args.here.now.table.now =
     look-table a view.store.now view.tables.now c.requires.tables view.counted c.args.id.index _ _ _ c.requires.live c.requires.look in
     c.unmarked.ensures.value ∙ is.unmarked c.args.p c.requires.state
-    ∙ sym (over-quiet a c.args.p c.args.at c.args.t.now s (λ q from to. c.if-not-is_marked_between.ensures.none refl q from (omega (arith, c.requires.look.len_is))))
+    ∙ ap (reached a c.args.p) (sym (over-plain c.args.t.now c.args.at s (λ q from to. c.if-not-is_marked_between.ensures.none refl q from (omega (arith, c.requires.look.len_is)))))
 
 pub state_over-requires : goal.state_over-requires
 state_over-requires g t c κs within =
@@ -77,5 +70,5 @@ returns-in-None-clause-cost g t c =
     let found = c.if-not-is_marked_between.ensures.some refl in
     let pos : 0 < mark_count (word_over c.args.t.now c.args.at (text (tree nodes c.args.id.index))) =
     over-count c.args.t.now c.args.at (text (tree nodes c.args.id.index)) found.place found.after (omega (arith, found.before, c.requires.look.len_is)) found.some in
-    rw join (lower-cost_left c.args.t.now c.args.at _ _ _ c.args.looks.now _ _ (text (tree nodes c.in-Pair.l.index)) (text (tree nodes c.in-Pair.r.index))
-    (pair-height nodes c.args.id.index _ _ pair) (omega (arith, c.look-left.ensures.step, c.look-right.ensures.step)) (rw join at pos) c.state_over.ensures.cost)
+    rw join (lower-cost c.args.t.now c.args.at _ _ _ c.args.looks.now _ _ _ (text (tree nodes c.in-Pair.l.index)) (text (tree nodes c.in-Pair.r.index))
+    (pair-height nodes c.args.id.index _ _ pair) (omega (arith, c.look-left.ensures.step, c.look-right.ensures.step)) (rw join at pos) c.state_over.ensures.cost (omega arith))

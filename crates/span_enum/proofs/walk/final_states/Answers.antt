@@ -1,11 +1,6 @@
-use Rattle.std.proofs.Common.{◌≢◌, ◌<◌, arith, sym, ap, ◌∙◌, inl, inr}
-use Rattle.std.proofs.lemmas.Bool.{cases_eq}
-use Rattle.state_tables.specs.StateSet.{member}
-use Rattle.state_tables.proofs.StateSets.{member-zero}
-use Rattle.marker_dfa.specs.Deterministic.{ends_of}
-use Rattle.span_enum.specs.Sets.{is_final}
-use Rattle.span_enum.proofs.Choices.{member-more_other, member-more_same}
+use Rattle.span_enum.proofs.Base.{ap, arith, cases_eq, ends_of, inl, inr, is_final, member, member-zero, sym, ◌<◌, ◌∙◌, ◌≢◌}
 use Rattle.span_enum.proofs.LastLetters.{not-empty}
+use Rattle.span_enum.proofs.Tables.{member-more_other, member-more_same}
 use Rattle.span_enum.proofs.walk.final_states.Goals as goal
 
 pub loop-p-init : goal.loop-p-init

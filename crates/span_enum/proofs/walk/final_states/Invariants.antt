@@ -1,6 +1,4 @@
-use Rattle.std.proofs.Common.{◌≡◌, ◌≤◌, ◌<◌, ℕ, false}
-use Rattle.state_tables.specs.StateSet.{member}
-use Rattle.span_enum.specs.Sets.{is_final}
+use Rattle.span_enum.proofs.Base.{false, is_final, member, ℕ, ◌<◌, ◌≡◌, ◌≤◌}
 use Rattle.span_enum.proofs.walk.final_states.Given as goal
 
 abbrev pub invariant-loop-p : goal.invariant-loop-p

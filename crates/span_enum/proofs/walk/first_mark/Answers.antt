@@ -1,6 +1,5 @@
-use Rattle.std.proofs.Common.{◌<◌, arith, inl, inr}
-use Rattle.std.proofs.lemmas.Bool.{cases_eq}
-use Rattle.span_enum.proofs.Bounds.{mark-some, mark-none}
+use Rattle.span_enum.proofs.Base.{arith, cases_eq, inl, inr, ◌<◌}
+use Rattle.span_enum.proofs.Bounds.{mark-none, mark-some}
 use Rattle.span_enum.proofs.walk.first_mark.Goals as goal
 
 pub loop-v-init : goal.loop-v-init

@@ -1,6 +1,4 @@
-use Rattle.std.proofs.Common.{ℕ, ◌<◌, ◌≤◌}
-use Rattle.span_types.specs.Marks.{spans_of, mark_of}
-use Rattle.span_enum.specs.Tuples.{IsBound}
+use Rattle.span_enum.proofs.Base.{IsBound, mark_of, spans_of, ℕ, ◌<◌, ◌≤◌}
 use Rattle.span_enum.proofs.walk.first_mark.Given as goal
 
 abbrev pub invariant-loop-v : goal.invariant-loop-v

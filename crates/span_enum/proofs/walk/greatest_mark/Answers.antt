@@ -1,8 +1,7 @@
-use Rattle.std.proofs.Common.{◌≡◌, ℕ, ◌<◌, arith, Some, Contains, AllPairs}
-use Rattle.marker_dfa.specs.Deterministic.{marks_of}
+use Rattle.span_enum.proofs.Base.{AllPairs, Contains, Some, arith, marks_of, ℕ, ◌<◌, ◌≡◌}
 use Rattle.span_enum.specs.Letters.{step_of}
-use Rattle.span_enum.proofs.Choices.{greatest-at, none-at}
 use Rattle.span_enum.proofs.LastLetters.{fit-byte}
+use Rattle.span_enum.proofs.Tables.{greatest-at, none-at}
 use Rattle.span_enum.proofs.walk.greatest_mark.Goals as goal
 
 pub returns-in-Some-clause-mark : goal.returns-in-Some-clause-mark

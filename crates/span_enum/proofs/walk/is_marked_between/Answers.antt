@@ -1,5 +1,5 @@
-use Rattle.std.proofs.Common.{◌<◌, below_more, arith, refl}
-use Rattle.span_enum.proofs.Bounds.{marked-between, mark-none}
+use Rattle.span_enum.proofs.Base.{arith, below_more, refl, ◌<◌}
+use Rattle.span_enum.proofs.Bounds.{mark-none, marked-between}
 use Rattle.span_enum.proofs.walk.is_marked_between.Goals as goal
 
 pub loop-v-init : goal.loop-v-init

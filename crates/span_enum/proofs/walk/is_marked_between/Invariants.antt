@@ -1,6 +1,4 @@
-use Rattle.std.proofs.Common.{ℕ, ◌<◌, ◌≤◌}
-use Rattle.span_types.specs.Marks.{spans_of}
-use Rattle.span_enum.specs.Tuples.{IsBound}
+use Rattle.span_enum.proofs.Base.{IsBound, spans_of, ℕ, ◌<◌, ◌≤◌}
 use Rattle.span_enum.proofs.walk.is_marked_between.Given as goal
 
 abbrev pub invariant-loop-v : goal.invariant-loop-v

@@ -1,4 +1,4 @@
-use Rattle.std.proofs.Common.{◌<◌, arith, sym, ◌∙◌}
+use Rattle.span_enum.proofs.Base.{arith, sym, ◌<◌, ◌∙◌}
 use Rattle.span_enum.proofs.Paths.{step-byte}
 use Rattle.span_enum.proofs.walk.step.Goals as goal
 

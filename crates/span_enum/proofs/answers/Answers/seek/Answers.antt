@@ -1,7 +1,6 @@
-use Rattle.std.proofs.Common.{◌≡◌, ◌+◌, ◌*◌, ◌≤◌, arith, ap, length}
-use Rattle.span_types.specs.Fibonacci.{looks_limit}
-use Rattle.span_enum.specs.Trail.{whole_text}
-use Rattle.span_enum.proofs.Leads.{kept-few, follow-within}
+use Rattle.span_enum.proofs.Base.{ap, arith, length, looks_limit, whole_text, ◌*◌, ◌+◌, ◌≡◌, ◌≤◌}
+use Rattle.span_enum.proofs.Follows.{follow-within}
+use Rattle.span_enum.proofs.Keeps.{kept-few}
 use Rattle.span_enum.proofs.answers.Answers.seek.Goals as goal
 
 pub returns-clause-cost : goal.returns-clause-cost

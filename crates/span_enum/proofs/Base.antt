@@ -1,0 +1,73 @@
+-- The words of std, of the crates below and of specs/ that the proofs speak in.
+pub use Rattle.std.proofs.Common.{All, AllPairs, Bool, Contains, IfSome, IsTrue, List, None, Option, Some, [], ap, append-nil, append_assoc, arith, below_more, bit_and, bit_or, drop, false, get_or}
+pub use Rattle.std.proofs.Common.{inl, inr, length, length-append, length-take-le, map, max, nat_le, nat_lt, not, refl, slice_get, subst, suc, sym, take, take_at, true, true≢false, zero, zero-add, ℕ}
+pub use Rattle.std.proofs.Common.{◌&&◌, ◌*◌, ◌++◌, ◌+◌, ◌-◌, ◌<◌, ◌==◌, ◌^◌, ◌||◌, ◌↔◌, ◌∙◌, ◌∷◌, ◌≡◌, ◌≢◌, ◌≤◌, ◌⊎◌}
+pub use Rattle.std.proofs.Math.Bool.{or-false}
+pub use Rattle.std.proofs.Math.Nat.{mul-le-mul_left, mul-le-mul_right, mul_assoc}
+pub use Rattle.std.proofs.Math.Seq.{take-append-add, take-append_seam, take-length}
+pub use Rattle.std.proofs.lemmas.Bool.{cases_eq, cases_lt, eq-eqb, eqb-true}
+pub use Rattle.std.proofs.lemmas.List.{append_cancel_left, get_or_default, length-take, map-append, take-append-drop, take-append-le, take_all}
+pub use Rattle.std.proofs.lemmas.List.Elements.{Contains-append_cases, Contains-append_left, Contains-append_right, Contains-get_or}
+pub use Rattle.std.proofs.lemmas.Nat.{and_le_l}
+pub use Rattle.std.proofs.lemmas.Nat.Bits.{bit_at-lt, bit_at-trailing_zeros, bit_at-zero, bit_at_and}
+pub use Rattle.std.proofs.lemmas.Option.{same_Some, slice_get_cases, slice_get_within}
+pub use Rattle.std.specs.Int.{bit_at, trailing_zeros, w128}
+pub use Rattle.std.specs.Prelude.{if◌then◌else◌, min}
+pub use Rattle.formula_law.specs.Accepts.{MarkedText, marked_text}
+pub use Rattle.formula_law.specs.Law.{bytes_of}
+pub use Rattle.marker_dfa.specs.Deterministic.{DeterministicAutomaton, IsDeterministic, PathAccepts, and_then, ends_of, marks_of, next_of, path, states_of}
+pub use Rattle.marker_nfa.proofs.Mapped.{has_map, map_has}
+pub use Rattle.marker_nfa.specs.Automaton.{IsMarked}
+pub use Rattle.slp_model.proofs.TreeLemmas.{height-by_leaves, height-most, height-within, length-text}
+pub use Rattle.slp_model.specs.Nodes.{IsLive, IsNodeAt, tree}
+pub use Rattle.slp_model.specs.Tree.{IsBalanced, Tree, height, text}
+pub use Rattle.slp_model.specs.declared.Node.{Node}
+pub use Rattle.slp_model.specs.declared.Node.TheVariants.{Byte, Pair}
+pub use Rattle.slp_model.specs.declared.NodeId.{NodeId}
+pub use Rattle.span_types.proofs.AnswerLaws.{here, split-member, there}
+pub use Rattle.span_types.proofs.LimitLemmas.{height_limit-right}
+pub use Rattle.span_types.proofs.MarkSteps.{four_le}
+pub use Rattle.span_types.proofs.OrderLaws.{irreflexive, transitive}
+pub use Rattle.span_types.proofs.PieceLaws.{marks-append, word-append, word-end, word-plain, write-append, write-nothing, write-plain as write-zeros}
+pub use Rattle.span_types.proofs.SearchLaws.{mark-free, span-is, spans-at, total}
+pub use Rattle.span_types.proofs.WordLaws.{marks-few, reads, seeks, word-same, word-tell}
+pub use Rattle.span_types.proofs.WriteLaws.{cut-start, write-next}
+pub use Rattle.span_types.specs.Answers.{IsPage, IsRising}
+pub use Rattle.span_types.specs.Fibonacci.{height_limit, looks_limit}
+pub use Rattle.span_types.specs.Marks.{Comes, Lies, Spans, at_place, closing, mark, mark_of, opening, part_of, spans_of}
+pub use Rattle.span_types.specs.Places.{AreSpans, IsSpan, IsTuple}
+pub use Rattle.span_types.specs.Words.{IsPast, Marked, Precedes, ended, mark_count, marked, marks_in, word_from}
+pub use Rattle.span_types.specs.Writes.{blanks, cut, write_mark, write_marks}
+pub use Rattle.span_types.specs.declared.tuple.Span.{Span}
+pub use Rattle.state_tables.proofs.Members.{bool-cases, not-both, or-cases, or-left, or-right}
+pub use Rattle.state_tables.proofs.StateSets.{bit-member, member-bit, member-or, member-single_other, member-single_same, member-without_other, member-without_same, member-zero, without-less}
+pub use Rattle.state_tables.specs.Dictionary.{AreTables, Dictionary, IsLook, count_of}
+pub use Rattle.state_tables.specs.Meaning.{IsTable, has_mark, plain}
+pub use Rattle.state_tables.specs.StateSet.{member, single_of}
+pub use Rattle.state_tables.specs.Table.{IsTableOf, Row, marked_of, reached_of, row_at, unmarked_of}
+pub use Rattle.state_tables.specs.declared.view.Look.{Look}
+pub use Rattle.span_enum.specs.Answering.{IsFoundAfter}
+pub use Rattle.span_enum.specs.Between.{AreAmong, AreBetween}
+pub use Rattle.span_enum.specs.Ends.{Accepted, AcceptsEnd, AcceptsWord, Gives, IsFirstLeft, IsWord, NoneLeft, Wellmarked}
+pub use Rattle.span_enum.specs.Letters.{end_in, reached}
+pub use Rattle.span_enum.specs.Listing.{text_of}
+pub use Rattle.span_enum.specs.Members.{AreAnswersOf, HasMember, IsFirstMember, IsLeft, IsMember, NoMemberLeft, Tuple}
+pub use Rattle.span_enum.specs.Next.{IsAfter, IsNext, NoneAfter}
+pub use Rattle.span_enum.specs.OverLeft.{IsMarkedLeft, IsPlainLeft}
+pub use Rattle.span_enum.specs.Pages.{IsListed}
+pub use Rattle.span_enum.specs.Quiet.{AreQuiet, AreQuietFinals, EndsIn, EndsQuietly, LeadQuiet, LeadsQuiet, StayQuiet, StaysQuiet}
+pub use Rattle.span_enum.specs.Sets.{can_reach_of, has_item, is_final, is_goal}
+pub use Rattle.span_enum.specs.Trail.{Agree, AreAhead, AreGoals, AreKept, AtMost, Begins, CanEnd, CanFinish, CanFollow, CanGoDown, Completes, Descends, Dies, EndsBehind, Fails, Finds, Finishes, Fits}
+pub use Rattle.span_enum.specs.Trail.{FitsAt, Followed, GoesFirst, IsAhead, IsFirstMark, IsFresh, IsGround, IsKept, IsMark, IsOver, IsStateAt, IsTrailOf, IsTurned, Join, Keeps, Laid, Lays, Leads}
+pub use Rattle.span_enum.specs.Trail.{Meets, NoEndAfter, NoneBehind, Passed, Passes, PassesPlain, PassesTo, Stands, StandsBefore, Starts, Turns, Way, height_at, last_at, mark_over, text_ahead}
+pub use Rattle.span_enum.specs.Trail.{text_at, whole_text}
+pub use Rattle.span_enum.specs.Tuples.{EndsPast, IsBound, IsBoundBetween, IsMarkedBetween, IsTupleOf, IsUnmarked, reaches, word_of, word_over, write_word}
+pub use Rattle.span_enum.specs.WayDown.{GoesOnAt}
+pub use Rattle.span_enum.specs.Words.{CanRun, IsFirst, IsGreatestMark, IsNoMark}
+pub use Rattle.span_enum.specs.declared.answers.Found.{Found}
+pub use Rattle.span_enum.specs.declared.ground.Ground.{Ground}
+pub use Rattle.span_enum.specs.declared.sets.Between.{Between}
+pub use Rattle.span_enum.specs.declared.trail.Ahead.{Ahead}
+pub use Rattle.span_enum.specs.declared.trail.Mark.{Mark}
+pub use Rattle.span_enum.specs.declared.trail.Place.{Place}
+pub use Rattle.span_enum.specs.declared.walk.Lowered.{Lowered}
