@@ -1,21 +1,15 @@
 -- The next answer and what is kept of it, from the walk that completes it.
-use Rattle.span_enum.proofs.Base.{Agree, Ahead, AreKept, Begins, CanFinish, DeterministicAutomaton, EndsIn, Finds, Finishes, Found, Gives, Ground, IfSome, IsBalanced, IsDeterministic, IsFirst}
-use Rattle.span_enum.proofs.Base.{IsFirstLeft, IsFirstMember, IsFoundAfter, IsGreatestMark, IsGround, IsMember, IsNext, IsNoMark, IsStateAt, IsTrailOf, IsTupleOf, IsUnmarked, IsWord, Leads, List}
-use Rattle.span_enum.proofs.Base.{Mark, Marked, NoEndAfter, NoMemberLeft, None, NoneAfter, Option, Place, Some, Tree, Tuple, [], ap, arith, blanks, bytes_of, cases_lt, cut, ended, ends_of, get_or}
-use Rattle.span_enum.proofs.Base.{height, height-by_leaves, height_limit, inl, inr, is_final, last_at, length, length-append, length-text, looks_limit, mark_count, mark_of, member, mul-le-mul_left}
-use Rattle.span_enum.proofs.Base.{mul-le-mul_right, mul_assoc, reached, refl, subst, sym, take, text, text_ahead, true, whole_text, word-tell, word_of, word_over, write_mark, write_word, ℕ}
-use Rattle.span_enum.proofs.Base.{◌*◌, ◌++◌, ◌+◌, ◌-◌, ◌<◌, ◌∙◌, ◌∷◌, ◌≡◌, ◌≤◌}
+use Rattle.span_enum.proofs.Base.{Agree, Ahead, AreKept, Begins, CanFinish, DeterministicAutomaton, EndsIn, Finds, Finishes, Found, Gives, Ground, IfSome, IsBalanced, IsDeterministic, IsFirst, IsFirstLeft, IsFirstMember, IsFoundAfter}
+use Rattle.span_enum.proofs.Base.{IsGreatestMark, IsGround, IsMember, IsNext, IsNoMark, IsStateAt, IsTrailOf, IsTupleOf, IsUnmarked, IsWord, Leads, List, Mark, Marked, NoEndAfter, NoMemberLeft, None, NoneAfter, Option, Place, Some, Tree}
+use Rattle.span_enum.proofs.Base.{Tuple, [], ap, arith, blanks, bytes_of, cases_lt, cut, ended, ends_of, get_or, height, height-by_leaves, height_limit, inl, inr, is_final, last_at, length, length-append, length-text, looks_limit}
+use Rattle.span_enum.proofs.Base.{mark_count, mark_of, member, mul-le-mul_left, mul-le-mul_right, mul_assoc, reached, refl, subst, sym, take, text, text_ahead, true, whole_text, word-tell, word_of, word_over, write_mark, write_word}
+use Rattle.span_enum.proofs.Base.{ℕ, ◌*◌, ◌++◌, ◌+◌, ◌-◌, ◌<◌, ◌∙◌, ◌∷◌, ◌≡◌, ◌≤◌}
 use Rattle.span_enum.specs.Tuples.{end_mark}
 use Rattle.span_enum.specs.Letters.{step_of}
-use Rattle.span_enum.proofs.Firsts.{IsFirst-byte, IsFirst-fork, mark_count-append}
-use Rattle.span_enum.proofs.Keeps.{kept-join, kept-other, last-append, last-inside}
-use Rattle.span_enum.proofs.LastLetters.{final-end, fit-end, member-one, reach-end}
-use Rattle.span_enum.proofs.Leads.{leads-size, none-behind_last}
-use Rattle.span_enum.proofs.Membership.{IsText, accepts-from_member, first-member, none-member, wellmarked, word-run}
-use Rattle.span_enum.proofs.Nexts.{IsNext-byte, IsNext-fork, IsNext-front, none-byte, none-fork}
-use Rattle.span_enum.proofs.Paths.{bytes-append, length-bytes, run-on, run-within, same-state}
-use Rattle.span_enum.proofs.TupleLaws.{few-marks, read-back}
-use Rattle.span_enum.proofs.Written.{append-same, over-bytes, over-length, over-same, over-split, read-cut, write_word-append}
+use Rattle.span_enum.proofs.Kept.{kept-join, kept-other, last-append, last-inside, leads-size, none-behind_last}
+use Rattle.span_enum.proofs.Runs.{IsFirst-byte, IsFirst-fork, bytes-append, final-end, fit-end, length-bytes, mark_count-append, member-one, reach-end, run-on, run-within, same-state}
+use Rattle.span_enum.proofs.Tuples.{IsText, accepts-from_member, few-marks, first-member, none-member, read-back, wellmarked, word-run}
+use Rattle.span_enum.proofs.Words.{IsNext-byte, IsNext-fork, IsNext-front, append-same, none-byte, none-fork, over-bytes, over-length, over-same, over-split, read-cut, write_word-append}
 
 -- looks of one call, for k variables and a tree of height h
 abbrev pub bound : ℕ → ℕ → ℕ

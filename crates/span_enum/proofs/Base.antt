@@ -1,16 +1,16 @@
 -- The words of std, of the crates below and of specs/ that the proofs speak in.
-pub use Rattle.std.proofs.Common.{All, AllPairs, Bool, Contains, IfSome, IsTrue, List, None, Option, Some, [], ap, append-nil, append_assoc, arith, below_more, bit_and, bit_or, drop, false, get_or}
-pub use Rattle.std.proofs.Common.{inl, inr, length, length-append, length-take-le, map, max, nat_le, nat_lt, not, refl, slice_get, subst, suc, sym, take, take_at, true, true≢false, zero, zero-add, ℕ}
-pub use Rattle.std.proofs.Common.{◌&&◌, ◌*◌, ◌++◌, ◌+◌, ◌-◌, ◌<◌, ◌==◌, ◌^◌, ◌||◌, ◌↔◌, ◌∙◌, ◌∷◌, ◌≡◌, ◌≢◌, ◌≤◌, ◌⊎◌}
+pub use Rattle.std.proofs.Common.{All, AllPairs, Bool, Contains, IfSome, List, None, Option, Some, [], ap, append-nil, append_assoc, arith, bit_and, bit_or, drop, false, get_or, inl, inr, length, length-append, length-take-le, map, max}
+pub use Rattle.std.proofs.Common.{nat_le, nat_lt, not, refl, slice_get, subst, suc, sym, take, take_at, true, true≢false, zero, zero-add, ℕ, ◌&&◌, ◌*◌, ◌++◌, ◌+◌, ◌-◌, ◌<◌, ◌==◌, ◌^◌, ◌||◌, ◌↔◌, ◌∙◌, ◌∷◌, ◌≡◌, ◌≢◌, ◌≤◌, ◌⊎◌}
 pub use Rattle.std.proofs.Math.Bool.{or-false}
+pub use Rattle.std.proofs.Math.ListN.{get_or-append}
 pub use Rattle.std.proofs.Math.Nat.{mul-le-mul_left, mul-le-mul_right, mul_assoc}
 pub use Rattle.std.proofs.Math.Seq.{take-append-add, take-append_seam, take-length}
 pub use Rattle.std.proofs.lemmas.Bool.{cases_eq, cases_lt, eq-eqb, eqb-true}
-pub use Rattle.std.proofs.lemmas.List.{append_cancel_left, get_or_default, length-take, map-append, take-append-drop, take-append-le, take_all}
+pub use Rattle.std.proofs.lemmas.List.{append_cancel_left, get_or-append-add, get_or_default, length-take, map-append, take-append-drop, take-append-le, take_all}
 pub use Rattle.std.proofs.lemmas.List.Elements.{Contains-append_cases, Contains-append_left, Contains-append_right, Contains-get_or}
 pub use Rattle.std.proofs.lemmas.Nat.{and_le_l}
 pub use Rattle.std.proofs.lemmas.Nat.Bits.{bit_at-lt, bit_at-trailing_zeros, bit_at-zero, bit_at_and}
-pub use Rattle.std.proofs.lemmas.Option.{same_Some, slice_get_cases, slice_get_within}
+pub use Rattle.std.proofs.lemmas.Option.{none-some, same_Some, slice_get_cases, slice_get_within}
 pub use Rattle.std.specs.Int.{bit_at, trailing_zeros, w128}
 pub use Rattle.std.specs.Prelude.{if◌then◌else◌, min}
 pub use Rattle.formula_law.specs.Accepts.{MarkedText, marked_text}
@@ -57,10 +57,9 @@ pub use Rattle.span_enum.specs.OverLeft.{IsMarkedLeft, IsPlainLeft}
 pub use Rattle.span_enum.specs.Pages.{IsListed}
 pub use Rattle.span_enum.specs.Quiet.{AreQuiet, AreQuietFinals, EndsIn, EndsQuietly, LeadQuiet, LeadsQuiet, StayQuiet, StaysQuiet}
 pub use Rattle.span_enum.specs.Sets.{can_reach_of, has_item, is_final, is_goal}
-pub use Rattle.span_enum.specs.Trail.{Agree, AreAhead, AreGoals, AreKept, AtMost, Begins, CanEnd, CanFinish, CanFollow, CanGoDown, Completes, Descends, Dies, EndsBehind, Fails, Finds, Finishes, Fits}
-pub use Rattle.span_enum.specs.Trail.{FitsAt, Followed, GoesFirst, IsAhead, IsFirstMark, IsFresh, IsGround, IsKept, IsMark, IsOver, IsStateAt, IsTrailOf, IsTurned, Join, Keeps, Laid, Lays, Leads}
-pub use Rattle.span_enum.specs.Trail.{Meets, NoEndAfter, NoneBehind, Passed, Passes, PassesPlain, PassesTo, Stands, StandsBefore, Starts, Turns, Way, height_at, last_at, mark_over, text_ahead}
-pub use Rattle.span_enum.specs.Trail.{text_at, whole_text}
+pub use Rattle.span_enum.specs.Trail.{Agree, AreAhead, AreGoals, AreKept, AtMost, Begins, CanEnd, CanFinish, CanFollow, CanGoDown, Completes, Descends, Dies, EndsBehind, Fails, Finds, Finishes, Fits, FitsAt, Followed, GoesFirst, IsAhead}
+pub use Rattle.span_enum.specs.Trail.{IsFirstMark, IsFresh, IsGround, IsKept, IsMark, IsOver, IsStateAt, IsTrailOf, IsTurned, Join, Keeps, Laid, Lays, Leads, Meets, NoEndAfter, NoneBehind, Passed, Passes, PassesPlain, PassesTo, Stands}
+pub use Rattle.span_enum.specs.Trail.{StandsBefore, Starts, Turns, Way, height_at, last_at, mark_over, text_ahead, text_at, whole_text}
 pub use Rattle.span_enum.specs.Tuples.{EndsPast, IsBound, IsBoundBetween, IsMarkedBetween, IsTupleOf, IsUnmarked, reaches, word_of, word_over, write_word}
 pub use Rattle.span_enum.specs.WayDown.{GoesOnAt}
 pub use Rattle.span_enum.specs.Words.{CanRun, IsFirst, IsGreatestMark, IsNoMark}

@@ -1,10 +1,9 @@
 -- The nodes ahead: in the list, in the text, and what is known of the states there.
-use Rattle.span_enum.proofs.Base.{Ahead, AreAhead, AreBetween, AreGoals, Between, CanGoDown, DeterministicAutomaton, Fits, FitsAt, Ground, IsAhead, IsDeterministic, IsGround, IsLook, IsMark, IsNodeAt}
-use Rattle.span_enum.proofs.Base.{IsTable, Join, LeadQuiet, List, Look, Mark, Marked, NodeId, None, Option, Pair, Place, Some, Stands, StandsBefore, [], ap, append_assoc, arith, bytes_of, false}
-use Rattle.span_enum.proofs.Base.{height_at, inl, inr, length, length-append, max, plain, reached, refl, same_Some, slice_get, slice_get_cases, slice_get_within, states_of, subst, suc, sym, take}
-use Rattle.span_enum.proofs.Base.{text_ahead, text_at, zero, ℕ, ◌++◌, ◌+◌, ◌-◌, ◌<◌, ◌∙◌, ◌∷◌, ◌≡◌, ◌≤◌, ◌⊎◌}
+use Rattle.span_enum.proofs.Base.{Ahead, AreAhead, AreBetween, AreGoals, Between, CanGoDown, DeterministicAutomaton, Fits, FitsAt, Ground, IsAhead, IsDeterministic, IsGround, IsLook, IsMark, IsNodeAt, IsTable, Join, LeadQuiet, List, Look}
+use Rattle.span_enum.proofs.Base.{Mark, Marked, NodeId, None, Option, Pair, Place, Some, Stands, StandsBefore, [], ap, append_assoc, arith, bytes_of, false, height_at, inl, inr, length, length-append, max, plain, reached, refl, same_Some}
+use Rattle.span_enum.proofs.Base.{slice_get, slice_get_cases, slice_get_within, states_of, subst, suc, sym, take, text_ahead, text_at, zero, ℕ, ◌++◌, ◌+◌, ◌-◌, ◌<◌, ◌∙◌, ◌∷◌, ◌≡◌, ◌≤◌, ◌⊎◌}
 use Rattle.span_enum.specs.Letters.{step_of}
-use Rattle.span_enum.proofs.Paths.{bytes-append, bytes-plain, run-behind, run-join, run-on, run-one, run-parts, step-within}
+use Rattle.span_enum.proofs.Runs.{bytes-append, bytes-plain, run-behind, run-join, run-on, run-one, run-parts, step-within}
 use Rattle.span_enum.proofs.Tables.{look-is, pair-height, pair-text, quiet-join}
 
 -- ---- lists of options

@@ -1,13 +1,10 @@
 -- There is a list of the answers of an automaton on a text.
-use Rattle.span_enum.proofs.Base.{All, AllPairs, AreAnswersOf, Comes, Contains, Contains-append_cases, Contains-append_left, Contains-append_right, Contains-get_or, DeterministicAutomaton}
-use Rattle.span_enum.proofs.Base.{IsDeterministic, IsMember, IsWord, List, Marked, None, Option, Precedes, Some, Tuple, [], ap, arith, blanks, bytes_of, cases_eq, ended, get_or, has_map, inl, inr}
-use Rattle.span_enum.proofs.Base.{length, map, map_has, reached, refl, subst, suc, sym, word_of, write_word, zero, ℕ, ◌++◌, ◌<◌, ◌∙◌, ◌∷◌, ◌≡◌, ◌≤◌, ◌⊎◌}
+use Rattle.span_enum.proofs.Base.{All, AllPairs, AreAnswersOf, Comes, Contains, Contains-append_cases, Contains-append_left, Contains-append_right, Contains-get_or, DeterministicAutomaton, IsDeterministic, IsMember, IsWord, List, Marked}
+use Rattle.span_enum.proofs.Base.{None, Option, Precedes, Some, Tuple, [], ap, arith, blanks, bytes_of, cases_eq, ended, get_or, has_map, inl, inr, length, map, map_has, reached, refl, subst, suc, sym, word_of, write_word, zero, ℕ}
+use Rattle.span_enum.proofs.Base.{◌++◌, ◌<◌, ◌∙◌, ◌∷◌, ◌≡◌, ◌≤◌, ◌⊎◌}
 use Rattle.span_enum.specs.Letters.{step_of}
-use Rattle.span_enum.proofs.Firsts.{bytes-none}
-use Rattle.span_enum.proofs.LastLetters.{low-mark}
-use Rattle.span_enum.proofs.Membership.{IsText, accepts-from_member, member-from_accepts, tuple-of_member, wellmarked, word-bytes}
-use Rattle.span_enum.proofs.Paths.{no-state, one-letter, onto, run-parts, same-state}
-use Rattle.span_enum.proofs.TupleLaws.{order, read-back}
+use Rattle.span_enum.proofs.Runs.{bytes-none, low-mark, no-state, one-letter, onto, run-parts, same-state}
+use Rattle.span_enum.proofs.Tuples.{IsText, accepts-from_member, member-from_accepts, order, read-back, tuple-of_member, wellmarked, word-bytes}
 
 none-in : {X : Type 0} (x : X) → Contains [] x → ⊥
 none-in x c = omega (arith, c.1)

@@ -1,21 +1,13 @@
 mod Base
 mod Answerings
-mod Bounds
 mod Chains
-mod Completes
 pub mod Exists
-mod Firsts
-mod Follows
-mod Forgets
-mod Keeps
-mod LastLetters
-mod Leads
-mod Membership
-mod Nexts
+mod Kept
 pub mod Pages
-mod Paths
 mod Roots
+mod Runs
 mod Tables
-mod TupleLaws
+mod Tuples
+mod Walks
 mod Ways
-mod Written
+mod Words

@@ -1,105 +1,86 @@
 -- Answers that are given one after the other are the pages of the list of answers.
-use Rattle.span_enum.proofs.Base.{AreAnswersOf, Comes, Contains, Contains-append_cases, Contains-append_left, Contains-append_right, DeterministicAutomaton, IsDeterministic, IsFirstMember, IsLeft}
-use Rattle.span_enum.proofs.Base.{IsListed, IsMember, IsPage, IsRising, IsTuple, List, NoMemberLeft, None, Option, Some, Tuple, [], ap, append_assoc, arith, false, here, inl, inr, irreflexive}
-use Rattle.span_enum.proofs.Base.{length, length-append, nat_lt, refl, split-member, subst, suc, sym, take, take-append_seam, take_all, there, total, transitive, true, ℕ, ◌++◌, ◌<◌, ◌∙◌, ◌∷◌, ◌≡◌}
-use Rattle.span_enum.proofs.Base.{◌≤◌, ◌⊎◌}
+use Rattle.span_enum.proofs.Base.{AreAnswersOf, Comes, Contains, Contains-append_cases, Contains-append_left, Contains-append_right, DeterministicAutomaton, IsDeterministic, IsFirstMember, IsLeft, IsListed, IsMember, IsPage, IsRising}
+use Rattle.span_enum.proofs.Base.{IsTuple, List, NoMemberLeft, None, Option, Some, Tuple, [], ap, append-nil, append_assoc, arith, false, get_or, get_or-append, get_or-append-add, get_or_default, here, inl, inr, irreflexive, length}
+use Rattle.span_enum.proofs.Base.{length-append, nat_lt, none-some, not, refl, same_Some, split-member, subst, sym, take, take-append_seam, take_all, total, transitive, true, ℕ, ◌++◌, ◌+◌, ◌<◌, ◌∙◌, ◌∷◌, ◌≡◌, ◌≤◌, ◌⊎◌}
 use Rattle.span_types.specs.Answers.{IsAfter}
-use Rattle.span_enum.proofs.Membership.{are-spans}
+use Rattle.span_enum.proofs.Tuples.{are-spans}
 
 -- ---- rising lists
 no-member : (t : Tuple) → Contains [] t → ⊥
 no-member t c = omega (arith, c.1)
 
-rising-tail : (x : Tuple) (xs : List Tuple) → IsRising (x ∷ xs) → IsRising xs
-rising-tail x xs h = λ i j d lt l. h (suc i) (suc j) d (omega arith) (omega arith)
-
-rising-head : (x : Tuple) (xs : List Tuple) (t : Tuple) → IsRising (x ∷ xs) → Contains xs t → Comes x t
-rising-head x xs t h c = subst (Comes x) c.2 (h 0 (suc c.0) t (omega arith) (omega (arith, c.1)))
-
 -- what stands before another comes before it
 in-order : (xs ys : List Tuple) (t u : Tuple) → IsRising (xs ++ ys) → Contains xs t → Contains ys u → Comes t u
-in-order [] ys t u h a b = absurd (no-member t a)
-in-order (x ∷ xs) ys t u h a b = by (λ k. in-order xs ys t u (rising-tail x (xs ++ ys) h) k b) (split-member x xs t a)
-  where
-    by : (Contains xs t → Comes t u) → (x ≡ t) ⊎ Contains xs t → Comes t u
-    by rest (inl e) = subst (λ z. Comes z u) e (rising-head x (xs ++ ys) u h (Contains-append_right xs ys u b))
-    by rest (inr k) = rest k
+in-order xs ys t u h a b =
+    let size = length-append xs ys in
+    let left : get_or (xs ++ ys) a.0 t ≡ t = get_or-append xs ys t a.0 a.1 ∙ a.2 in
+    let right : get_or (xs ++ ys) (length xs + b.0) t ≡ u = get_or-append-add xs ys b.0 t ∙ get_or_default ys b.0 t u b.1 ∙ b.2 in
+    rw (left, right) at (h a.0 (length xs + b.0) t (omega (arith, a.1)) (omega (arith, b.1, size)))
 
-rising-right : (xs ys : List Tuple) → IsRising (xs ++ ys) → IsRising ys
-rising-right [] ys h = h
-rising-right (x ∷ xs) ys h = rising-right xs ys (rising-tail x (xs ++ ys) h)
+-- an item of a rising list comes before those behind it
+in-turn : (all front : List Tuple) (x : Tuple) (rest : List Tuple) (u : Tuple) → IsRising all → all ≡ front ++ x ∷ rest → Contains rest u → Comes x u
+in-turn all front x rest u h e k =
+    in-order (front ++ x ∷ []) rest x u (rw (append_assoc front (x ∷ []) rest, ← e) h) (Contains-append_right front (x ∷ []) x (here x [])) k
 
 -- two tuples can't both come first
 not-both-ways : (t u : Tuple) → length t ≡ length u → Comes t u → Comes u t → ⊥
 not-both-ways t u e a b = irreflexive t (transitive t u t e a b)
 
--- a rising list, cut at a tuple
-pub record Cut (c : Tuple) (ts : List Tuple) : Type 0 where
-  pub front : List Tuple
-  pub rest : List Tuple
-  pub whole : ts ≡ front ++ rest
-  pub passed : (t : Tuple) → Contains front t → Comes c t → ⊥
-  pub left : (t : Tuple) → Contains rest t → Comes c t
+-- a list, cut before the first tuple that comes after the cursor
+record Cut (c : Tuple) (all seen ts : List Tuple) : Type 0 where
+  front : List Tuple
+  rest : List Tuple
+  whole : ts ≡ front ++ rest
+  passed : (t : Tuple) → Contains front t → Comes c t → ⊥
+  left : (t : Tuple) → Contains rest t → Comes c t
 
-cut-at : (c : Tuple) (ts : List Tuple) → IsTuple c → IsRising ts → ((t : Tuple) → Contains ts t → IsTuple t × (length t ≡ length c)) → Cut c ts
-cut-at c [] ic h all = record { front = []; rest = []; whole = refl; passed = λ t k. absurd (no-member t k); left = λ t k. absurd (no-member t k) }
-cut-at c (x ∷ xs) ic h all =
-    let one = all x (here x xs) in
-    by (cut-at c xs ic (rising-tail x xs h) (λ t k. all t (there x xs t k))) (total c x ic one.0 (sym one.1)) one.1
-  where
-    later : Cut c xs → (Comes c x → ⊥) → Cut c (x ∷ xs)
-    later k never = record {
+cut-at : (c : Tuple) (all seen ts : List Tuple) → IsTuple c → IsRising all → all ≡ seen ++ ts → ((t : Tuple) → Contains all t → IsTuple t × (length t ≡ length c)) → Cut c all seen ts
+cut-at c all seen [] ic h e valid = record { front = []; rest = []; whole = refl; passed = λ t k. absurd (no-member t k); left = λ t k. absurd (no-member t k) }
+cut-at c all seen (x ∷ xs) ic h e valid =
+    let one = valid x (rw e (Contains-append_right seen (x ∷ xs) x (here x xs))) in
+    let k = cut-at c all (seen ++ x ∷ []) xs ic h (e ∙ sym (append_assoc seen (x ∷ []) xs)) valid in
+    let later : (Comes c x → ⊥) → Cut c all seen (x ∷ xs) = λ never. record {
       front = x ∷ k.front;
       rest = k.rest;
       whole = ap (λ l. x ∷ l) k.whole;
-      passed = λ t m b. elim (split-member x k.front t m) [
-        | inl e ↦ never (subst (Comes c) (sym e) b)
-        | inr n ↦ k.passed t n b
-      ];
+      passed = λ t m b. elim (split-member x k.front t m) [ inl i ↦ never (subst (Comes c) (sym i) b) | inr n ↦ k.passed t n b ];
       left = k.left;
-    }
-
-    by : Cut c xs → Comes c x ⊎ ((c ≡ x) ⊎ Comes x c) → length x ≡ length c → Cut c (x ∷ xs)
-    by k (inl b) e = record {
-      front = [];
-      rest = x ∷ xs;
-      whole = refl;
-      passed = λ t m. absurd (no-member t m);
-      left = λ t m. elim (split-member x xs t m) [
-        | inl i ↦ subst (Comes c) i b
-        | inr n ↦ transitive c x t (sym e) b (rising-head x xs t h n)
-      ];
-    }
-    by k (inr (inl i)) e = later k (λ b. irreflexive x (subst (λ z. Comes z x) i b))
-    by k (inr (inr b)) e = later k (λ d. not-both-ways c x (sym e) d b)
+    } in
+    elim (total c x ic one.0 (sym one.1)) [
+      | inl b ↦ record {
+        front = [];
+        rest = x ∷ xs;
+        whole = refl;
+        passed = λ t m. absurd (no-member t m);
+        left = λ t m. elim (split-member x xs t m) [ inl i ↦ subst (Comes c) i b | inr n ↦ transitive c x t (sym one.1) b (in-turn all seen x xs t h e n) ];
+      }
+      | inr not ↦ later (λ b. elim not [ inl i ↦ irreflexive x (subst (λ z. Comes z x) i b) | inr d ↦ not-both-ways c x (sym one.1) b d ])
+    ]
 
 -- ---- the list after a cursor
 -- without a cursor it is the whole list
 pub after-none : (all : List Tuple) → IsAfter all None all
-after-none all = record {
-  front = [];
-  cut = refl;
-  start = λ e. refl;
-  passed = λ c t e m b. none-is c e;
-  left = λ c t e m. absurd (none-is c e);
-}
-  where
-    none-is : (c : Tuple) → ◌≡◌ {A = Option Tuple} None (Some c) → ⊥
-    none-is c e = cc
+after-none all = record { front = []; cut = refl; start = λ e. refl; passed = λ c t e m b. none-some c e; left = λ c t e m. absurd (none-some c e) }
 
 -- a member is a tuple
 pub member-tuple : (a : DeterministicAutomaton) (s : List ℕ) → IsDeterministic a → length s ≤ 281474976710656 → (t : Tuple) → IsMember a s t → IsTuple t
 member-tuple a s auto short t m = record { few = omega (arith, m.size, auto.few_variables); spans = are-spans (length s) t short m.lies }
-
-append-nil : (xs : List Tuple) → xs ++ [] ≡ xs
-append-nil [] = refl
-append-nil (x ∷ xs) = ap (λ l. x ∷ l) (append-nil xs)
 
 lt-false : (m n : ℕ) → n ≤ m → nat_lt m n ≡ false
 lt-false m n h = grind arith
 
 lt-true : (m n : ℕ) → m < n → nat_lt m n ≡ true
 lt-true m n h = grind arith
+
+-- with a cursor it is a list behind those that don't come after it
+after-some : (all front rest : List Tuple) (c : Tuple) → all ≡ front ++ rest → ((t : Tuple) → Contains front t → Comes c t → ⊥) → ((t : Tuple) → Contains rest t → Comes c t) → IsAfter all (Some c) rest
+after-some all front rest c whole passed left = record {
+  front = front;
+  cut = whole;
+  start = λ e. absurd (none-some c (sym e));
+  passed = λ d t e m b. passed t m (subst (λ z. Comes z t) (sym (same_Some c d e)) b);
+  left = λ d t e m. subst (λ z. Comes z t) (same_Some c d e) (left t m);
+}
 
 module _ (a : DeterministicAutomaton) (s : List ℕ) (all : List Tuple) (are : AreAnswersOf a s all) where
   size-of : (t : Tuple) → Contains all t → length t ≡ a.variables
@@ -108,95 +89,55 @@ module _ (a : DeterministicAutomaton) (s : List ℕ) (all : List Tuple) (are : A
   -- and the list after any tuple of the variables is a part of it
   pub after-tuple : (c : Tuple) → IsTuple c → length c ≡ a.variables → ((t : Tuple) → IsMember a s t → IsTuple t) → (rest : List Tuple) × IsAfter all (Some c) rest
   after-tuple c ic size valid =
-      let k = cut-at c all ic are.rising (λ t m. (valid t ((are.members t).0 m), size-of t m ∙ sym size)) in (
-        k.rest,
-        record {
-          front = k.front;
-          cut = k.whole;
-          start = λ e. some e;
-          passed = λ d t e m b. k.passed t m (subst (λ z. Comes z t) (same d e) b);
-          left = λ d t e m. subst (λ z. Comes z t) (sym (same d e)) (k.left t m);
-        },
-      )
-    where
-      some : {P : Type 0} → ◌≡◌ {A = Option Tuple} (Some c) None → P
-      some e = cc
+      let k = cut-at c all [] all ic are.rising refl (λ t m. (valid t ((are.members t).0 m), size-of t m ∙ sym size)) in
+      (k.rest, after-some all k.front k.rest c k.whole k.passed k.left)
 
-      same : (d : Tuple) → ◌≡◌ {A = Option Tuple} (Some c) (Some d) → d ≡ c
-      same d e = cc
-
-  in-all : (front rest : List Tuple) (t : Tuple) → all ≡ front ++ rest → Contains rest t → Contains all t
-  in-all front rest t e k = rw e (Contains-append_right front rest t k)
+  member-in : (cursor : Option Tuple) (rest : List Tuple) (t : Tuple) → IsAfter all cursor rest → Contains rest t → IsMember a s t
+  member-in cursor rest t h k = (are.members t).0 (rw h.cut (Contains-append_right h.front rest t k))
 
   left-in : (cursor : Option Tuple) (rest : List Tuple) (t : Tuple) → IsAfter all cursor rest → Contains rest t → IsLeft cursor t
   left-in None rest t h k = tt
   left-in (Some c) rest t h k = h.left c t refl k
 
-  rest-in : (cursor : Option Tuple) (rest : List Tuple) (t : Tuple) → (h : IsAfter all cursor rest) → Contains all t → IsLeft cursor t → Contains rest t
-  rest-in cursor rest t h k left = by cursor h left (Contains-append_cases h.front rest t (subst (λ l. Contains l t) h.cut k))
-    where
-      by : (cursor : Option Tuple) → (h : IsAfter all cursor rest) → IsLeft cursor t → Contains h.front t ⊎ Contains rest t → Contains rest t
-      by cursor h left (inr m) = m
-      by None h left (inl m) = absurd (no-member t (subst (λ l. Contains l t) (h.start refl) m))
-      by (Some c) h left (inl m) = absurd (h.passed c t refl m left)
+  rest-in : (cursor : Option Tuple) (rest : List Tuple) (t : Tuple) → (h : IsAfter all cursor rest) → Contains h.front t → IsLeft cursor t → ⊥
+  rest-in None rest t h m left = no-member t (subst (λ l. Contains l t) (h.start refl) m)
+  rest-in (Some c) rest t h m left = h.passed c t refl m left
 
   -- where no member is left, neither is a part of the list
   pub none-after : (cursor : Option Tuple) (rest : List Tuple) → IsAfter all cursor rest → NoMemberLeft a s cursor → rest ≡ []
   none-after cursor [] h none = refl
-  none-after cursor (x ∷ xs) h none =
-      absurd (none x ((are.members x).0 (in-all h.front (x ∷ xs) x h.cut (here x xs))) (left-in cursor (x ∷ xs) x h (here x xs)))
+  none-after cursor (x ∷ xs) h none = absurd (none x (member-in cursor (x ∷ xs) x h (here x xs)) (left-in cursor (x ∷ xs) x h (here x xs)))
 
   -- the first member that is left is the first of the list after the cursor
   pub first-after : (cursor : Option Tuple) (rest : List Tuple) (u : Tuple) → IsAfter all cursor rest → IsFirstMember a s cursor u → (more : List Tuple) × (rest ≡ u ∷ more)
-  first-after cursor rest u h f = by rest h (rest-in cursor rest u h ((are.members u).1 f.member) f.left)
+  first-after cursor rest u h f = by rest h (Contains-append_cases h.front rest u (subst (λ l. Contains l u) h.cut ((are.members u).1 f.member)))
     where
-      by : (rest : List Tuple) → IsAfter all cursor rest → Contains rest u → (more : List Tuple) × (rest ≡ u ∷ more)
-      by [] h k = absurd (no-member u k)
-      by (x ∷ xs) h k = (xs, ap (λ z. z ∷ xs) (head (f.least x mx (left-in cursor (x ∷ xs) x h (here x xs))) (split-member x xs u k)))
+      by : (rest : List Tuple) → (h : IsAfter all cursor rest) → Contains h.front u ⊎ Contains rest u → (more : List Tuple) × (rest ≡ u ∷ more)
+      by rest h (inl m) = absurd (rest-in cursor rest u h m f.left)
+      by [] h (inr k) = absurd (no-member u k)
+      by (x ∷ xs) h (inr k) = (xs, ap (λ z. z ∷ xs) (head (split-member x xs u k)))
         where
-          mx : IsMember a s x
-          mx = (are.members x).0 (in-all h.front (x ∷ xs) x h.cut (here x xs))
+          is : IsMember a s x
+          is = member-in cursor (x ∷ xs) x h (here x xs)
 
-          rising : IsRising (x ∷ xs)
-          rising = rising-right h.front (x ∷ xs) (subst IsRising h.cut are.rising)
-
-          head : (x ≡ u) ⊎ Comes u x → (x ≡ u) ⊎ Contains xs u → x ≡ u
-          head (inl e) o = e
-          head (inr b) (inl e) = e
-          head (inr b) (inr m) = absurd (not-both-ways u x (f.member.size ∙ sym mx.size) b (rising-head x xs u rising m))
+          head : (x ≡ u) ⊎ Contains xs u → x ≡ u
+          head (inl e) = e
+          head (inr m) = elim (f.least x is (left-in cursor (x ∷ xs) x h (here x xs))) [
+            | inl e ↦ e
+            | inr b ↦ absurd (not-both-ways u x (f.member.size ∙ sym is.size) b (in-turn all h.front x xs u are.rising h.cut m))
+          ]
 
   -- and the list after it is the rest
   pub after-first : (cursor : Option Tuple) (u : Tuple) (more : List Tuple) → IsAfter all cursor (u ∷ more) → IsAfter all (Some u) more
-  after-first cursor u more h = record {
-    front = h.front ++ u ∷ [];
-    cut = h.cut ∙ sym (append_assoc h.front (u ∷ []) more);
-    start = λ e. some e;
-    passed = λ d t e m b. never t (subst (λ z. Comes z t) (same d e) b) (Contains-append_cases h.front (u ∷ []) t m);
-    left = λ d t e m. subst (λ z. Comes z t) (sym (same d e)) (rising-head u more t rising m);
-  }
-    where
-      rising : IsRising (u ∷ more)
-      rising = rising-right h.front (u ∷ more) (subst IsRising h.cut are.rising)
-
-      some : {P : Type 0} → ◌≡◌ {A = Option Tuple} (Some u) None → P
-      some e = cc
-
-      same : (d : Tuple) → ◌≡◌ {A = Option Tuple} (Some u) (Some d) → d ≡ u
-      same d e = cc
-
-      whole : (t : Tuple) → Contains h.front t → Contains all t
-      whole t m = rw h.cut (Contains-append_left h.front (u ∷ more) t m)
-
-      here-size : length u ≡ a.variables
-      here-size = size-of u (in-all h.front (u ∷ more) u h.cut (here u more))
-
-      never : (t : Tuple) → Comes u t → Contains h.front t ⊎ Contains (u ∷ []) t → ⊥
-      never t b (inl m) = not-both-ways u t (here-size ∙ sym (size-of t (whole t m))) b (in-order h.front (u ∷ more) t u (subst IsRising h.cut are.rising) m (here u more))
-      never t b (inr m) = one b (split-member u [] t m)
-        where
-          one : Comes u t → (u ≡ t) ⊎ Contains [] t → ⊥
-          one b (inl e) = irreflexive u (subst (Comes u) (sym e) b)
-          one b (inr k) = no-member t k
+  after-first cursor u more h =
+      after-some all (h.front ++ u ∷ []) more u (h.cut ∙ sym (append_assoc h.front (u ∷ []) more))
+      (λ t m b. elim (Contains-append_cases h.front (u ∷ []) t m) [
+        | inl k ↦
+            let size = size-of t (rw h.cut (Contains-append_left h.front (u ∷ more) t k)) in
+            not-both-ways u t ((member-in cursor (u ∷ more) u h (here u more)).size ∙ sym size) b (in-order h.front (u ∷ more) t u (subst IsRising h.cut are.rising) k (here u more))
+        | inr k ↦ elim (split-member u [] t k) [ inl e ↦ irreflexive u (subst (Comes u) (sym e) b) | inr n ↦ no-member t n ]
+      ])
+      (λ t m. in-turn all h.front u more t are.rising h.cut m)
 
   -- ---- a loop over `next`
   pub listed-start : (cursor : Option Tuple) (rest : List Tuple) → IsAfter all cursor rest → IsListed all cursor [] cursor

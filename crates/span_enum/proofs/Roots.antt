@@ -1,13 +1,11 @@
 -- The root of a text ahead of its first letter, and what it tells of the text.
-use Rattle.span_enum.proofs.Base.{Ahead, AreAhead, AreBetween, AreGoals, AreQuiet, AreTables, Begins, CanRun, DeterministicAutomaton, Dictionary, Ground, IsAhead, IsFresh, IsGround, IsLive, IsLook}
-use Rattle.span_enum.proofs.Base.{List, Look, Mark, Node, NodeId, None, Option, Some, [], ap, append-nil, arith, cases_eq, count_of, ends_of, false, inl, inr, length, length-take-le, refl, slice_get}
-use Rattle.span_enum.proofs.Base.{subst, sym, take, text_ahead, text_at, text_of, whole_text, ℕ, ◌<◌, ◌∙◌, ◌∷◌, ◌≡◌, ◌≤◌}
+use Rattle.span_enum.proofs.Base.{Ahead, AreAhead, AreBetween, AreGoals, AreQuiet, AreTables, Begins, CanRun, DeterministicAutomaton, Dictionary, Ground, IsAhead, IsFresh, IsGround, IsLive, IsLook, List, Look, Mark, Node, NodeId, None}
+use Rattle.span_enum.proofs.Base.{Option, Some, [], ap, append-nil, arith, cases_eq, count_of, ends_of, false, inl, inr, length, length-take-le, refl, slice_get, subst, sym, take, text_ahead, text_at, text_of, whole_text, ℕ, ◌<◌}
+use Rattle.span_enum.proofs.Base.{◌∙◌, ◌∷◌, ◌≡◌, ◌≤◌}
 use Rattle.span_enum.proofs.Chains.{fits-none}
-use Rattle.span_enum.proofs.Firsts.{bytes-none, goal-from_nothing, run-nothing}
-use Rattle.span_enum.proofs.LastLetters.{end-facts, final-from}
-use Rattle.span_enum.proofs.Membership.{IsText}
-use Rattle.span_enum.proofs.Paths.{AreBytes, Tells}
+use Rattle.span_enum.proofs.Runs.{AreBytes, Tells, bytes-none, end-facts, final-from, goal-from_nothing, run-nothing}
 use Rattle.span_enum.proofs.Tables.{look-table}
+use Rattle.span_enum.proofs.Tuples.{IsText}
 
 between-end : (a : DeterministicAutomaton) (p : ℕ) (s : List ℕ) (goals : ℕ) → AreBetween a p s [] goals goals
 between-end a p s goals = record { reach = λ n x e t run. goal-from_nothing a n goals run; onward = λ n h. run-nothing a n goals h }

@@ -1,14 +1,12 @@
 -- What the tables of a text and of its parts tell of the runs over them.
-use Rattle.span_enum.proofs.Base.{AllPairs, AreAmong, AreBetween, AreQuiet, AreTables, Bool, Byte, CanRun, Contains, DeterministicAutomaton, Dictionary, IsDeterministic, IsGreatestMark, IsLook}
-use Rattle.span_enum.proofs.Base.{IsNoMark, IsNodeAt, IsPlainLeft, IsTable, LeadQuiet, LeadsQuiet, List, Marked, Node, NodeId, None, Option, Pair, Row, Some, StayQuiet, [], ap, arith, bit_and, bit_or}
-use Rattle.span_enum.proofs.Base.{bytes_of, can_reach_of, cases_eq, cases_lt, count_of, false, get_or, get_or_default, has_mark, height, if◌then◌else◌, inl, inr, is_goal, length, mark_count}
-use Rattle.span_enum.proofs.Base.{marked, marked_of, max, member, member-or, member-single_other, member-single_same, member-zero, not-both, or-cases, or-false, or-left, or-right, plain, reached}
-use Rattle.span_enum.proofs.Base.{reached_of, refl, row_at, single_of, states_of, subst, suc, sym, text, tree, true, unmarked_of, zero, ℕ, ◌++◌, ◌+◌, ◌<◌, ◌==◌, ◌^◌, ◌||◌, ◌∙◌, ◌∷◌, ◌≡◌, ◌≢◌, ◌≤◌}
-use Rattle.span_enum.proofs.Base.{◌⊎◌}
+use Rattle.span_enum.proofs.Base.{AllPairs, AreAmong, AreBetween, AreQuiet, AreTables, Bool, Byte, CanRun, Contains, Contains-get_or, DeterministicAutomaton, Dictionary, IsDeterministic, IsGreatestMark, IsLook, IsNoMark, IsNodeAt}
+use Rattle.span_enum.proofs.Base.{IsPlainLeft, IsTable, LeadQuiet, LeadsQuiet, List, Marked, Node, NodeId, None, Option, Pair, Row, Some, StayQuiet, [], ap, arith, bit_and, bit_or, bytes_of, can_reach_of, cases_eq, cases_lt, count_of}
+use Rattle.span_enum.proofs.Base.{ends_of, false, get_or, get_or_default, has_mark, height, if◌then◌else◌, inl, inr, is_goal, length, mark_count, marked, marked_of, marks_of, max, member, member-or, member-single_other}
+use Rattle.span_enum.proofs.Base.{member-single_same, member-zero, not-both, or-cases, or-false, or-left, or-right, plain, reached, reached_of, refl, row_at, single_of, states_of, subst, suc, sym, text, tree, true, unmarked_of, zero, ℕ}
+use Rattle.span_enum.proofs.Base.{◌++◌, ◌+◌, ◌<◌, ◌==◌, ◌^◌, ◌||◌, ◌∙◌, ◌∷◌, ◌≡◌, ◌≢◌, ◌≤◌, ◌⊎◌}
 use Rattle.span_enum.specs.Letters.{step_of}
-use Rattle.span_enum.proofs.Firsts.{goal-plain, has-count, marked-run, marks-or_plain, only-plain, run-from_table, shared-none, some-can, table-from_run}
-use Rattle.span_enum.proofs.LastLetters.{fit-byte}
-use Rattle.span_enum.proofs.Paths.{Tells, bytes-append, bytes-plain, one-letter, plain-append, plain-run, run-behind, run-on, run-parts, run-within, same-state, tells}
+use Rattle.span_enum.proofs.Runs.{Tells, bytes-append, bytes-plain, end-facts, end-step, fit-byte, goal-plain, has-count, marked-run, marks-or_plain, one-letter, only-plain, plain-append, plain-run, run-behind, run-from_table, run-on}
+use Rattle.span_enum.proofs.Runs.{run-parts, run-within, same-state, shared-none, some-can, table-from_run, tells}
 
 -- ---- a node and its children
 module _ (a : DeterministicAutomaton) (nodes : List Node) (d : Dictionary) (all : AreTables a nodes d) (counted : count_of d ≡ length nodes) where
@@ -120,6 +118,16 @@ module _ (a : DeterministicAutomaton) (p b goals limit i : ℕ) (ms : List ℕ) 
 
   pub none-at : length ms ≤ i → (m : ℕ) → IsNoMark a p b goals limit m
   none-at past m lm r sm gm = let j = place-behind m r lm sm gm in omega (arith, j.1, j.2)
+
+-- the marks of a letter, and those of the end
+pub all-byte : (a : DeterministicAutomaton) (auto : IsDeterministic a) (p b : ℕ) (ms : List ℕ) → ms ≡ marks_of a p b → b < 256 → (n r : ℕ) → step_of a p n b ≡ Some r → Contains ms n
+all-byte a auto p b ms is low n r h = rw is (fit-byte a auto p n b r low h).0
+
+pub all-end : (a : DeterministicAutomaton) (q : ℕ) (ms : List ℕ) → ms ≡ ends_of a q → (n r : ℕ) → step_of a q n 256 ≡ Some r → Contains ms n
+all-end a q ms is n r h = rw is (end-facts a q n r h).1
+
+pub end-at : (a : DeterministicAutomaton) (q i : ℕ) (ms : List ℕ) → ms ≡ ends_of a q → i < length ms → step_of a q (get_or ms i 0) 256 ≡ Some 0
+end-at a q i ms is lt = end-step a q (get_or ms i 0) (subst (λ (xs : List ℕ). Contains xs (get_or ms i 0)) is (Contains-get_or ms i 0 lt))
 
 -- ---- the states between two texts
 pub are-between : (a : DeterministicAutomaton) (auto : IsDeterministic a) (s u : List ℕ) (tl tr : List Row) (p goals from set : ℕ) → p < states_of a → Tells a s tl → Tells a u tr

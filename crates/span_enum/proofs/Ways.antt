@@ -1,13 +1,11 @@
 -- The way over letters without marks: over nodes ahead, and down to a mark.
-use Rattle.span_enum.proofs.Base.{Ahead, AreAhead, AreBetween, AreGoals, AtMost, Between, Bool, Byte, CanEnd, Descends, DeterministicAutomaton, Dies, Fails, Fits, GoesFirst, Ground, IsDeterministic}
-use Rattle.span_enum.proofs.Base.{IsGreatestMark, IsGround, IsMarkedLeft, IsNodeAt, IsOver, IsPlainLeft, Join, Keeps, Laid, Lays, LeadQuiet, List, Look, Mark, Marked, Meets, NodeId, None, Option}
-use Rattle.span_enum.proofs.Base.{Passed, Passes, PassesPlain, PassesTo, Place, Some, Stands, StandsBefore, Tuple, Turns, Way, [], ap, append-nil, append_assoc, arith, bit_and, bytes_of, can_reach_of}
-use Rattle.span_enum.proofs.Base.{false, here, length, length-append, mark_of, mark_over, marked, marked_of, member, plain, reached, refl, slice_get, states_of, subst, suc, sym, take}
-use Rattle.span_enum.proofs.Base.{take-append-add, take-append-le, text_ahead, text_at, true, unmarked_of, ℕ, ◌++◌, ◌+◌, ◌-◌, ◌<◌, ◌∙◌, ◌∷◌, ◌≡◌, ◌≤◌}
+use Rattle.span_enum.proofs.Base.{Ahead, AreAhead, AreBetween, AreGoals, AtMost, Between, Bool, Byte, CanEnd, Descends, DeterministicAutomaton, Dies, Fails, Fits, GoesFirst, Ground, IsDeterministic, IsGreatestMark, IsGround, IsMarkedLeft}
+use Rattle.span_enum.proofs.Base.{IsNodeAt, IsOver, IsPlainLeft, Join, Keeps, Laid, Lays, LeadQuiet, List, Look, Mark, Marked, Meets, NodeId, None, Option, Passed, Passes, PassesPlain, PassesTo, Place, Some, Stands, StandsBefore, Tuple}
+use Rattle.span_enum.proofs.Base.{Turns, Way, [], ap, append-nil, append_assoc, arith, bit_and, bytes_of, can_reach_of, false, here, length, length-append, mark_of, mark_over, marked, marked_of, member, plain, reached, refl}
+use Rattle.span_enum.proofs.Base.{slice_get, states_of, subst, suc, sym, take, take-append-add, take-append-le, text_ahead, text_at, true, unmarked_of, ℕ, ◌++◌, ◌+◌, ◌-◌, ◌<◌, ◌∙◌, ◌∷◌, ◌≡◌, ◌≤◌}
 use Rattle.span_enum.proofs.Chains.{Fork, before-left, before-right, between-compose, child, fork-goals, fork-height, fork-text, goals-on, next-is, sibling}
-use Rattle.span_enum.proofs.Firsts.{IsFirst-byte, IsFirst-fork, IsFirst-plain, goal-plain, has-count, mark_count-append, marked-run, table-from_run}
-use Rattle.span_enum.proofs.LastLetters.{fit-byte}
-use Rattle.span_enum.proofs.Paths.{Tells, bytes-append, bytes-plain, plain-append, plain-dead, plain-run, run-behind, run-join, run-on, run-parts, run-within, tells}
+use Rattle.span_enum.proofs.Runs.{IsFirst-byte, IsFirst-fork, IsFirst-plain, Tells, bytes-append, bytes-plain, fit-byte, goal-plain, has-count, mark_count-append, marked-run, plain-append, plain-dead, plain-run, run-behind, run-join}
+use Rattle.span_enum.proofs.Runs.{run-on, run-parts, run-within, table-from_run, tells}
 use Rattle.span_enum.proofs.Tables.{byte-text, look-table, pair-text, plain-left}
 
 pub passed-on : (a : DeterministicAutomaton) (p q r : ℕ) (s u v x y : List ℕ) → Passed a p s x q u → Passed a q u y r v → Passed a p s (x ++ y) r v

@@ -20,11 +20,24 @@
 //! A tuple that comes after an answer differs from it first at a position where the answer has a mark, so no other letter is
 //! looked at. A cursor's marks are kept in the same way, as far as a run of the automaton follows them.
 //!
-//! Each node's table tells which states its text leads to, without marks and with some (M. L. Schmid and N. Schweikardt,
-//! Spanner evaluation over SLP-compressed documents, PODS 2021). With the states after a node from which the rest is
-//! accepted, no step down is made in vain (F. Florenzano, C. Riveros, M. Ugarte, S. Vansummeren and D. Vrgoc, Constant delay
-//! algorithms for regular document spanners, PODS 2018). Some of these states are known to be quiet: from them the rest is
-//! accepted without marks alone. Where the walk comes into one, the answer is complete, and the nodes ahead aren't passed.
+//! For readers of M. L. Schmid and N. Schweikardt, Spanner evaluation over SLP-compressed documents (PODS 2021) and Query
+//! evaluation over SLP-represented document databases with complex document editing (PODS 2022): a node is a nonterminal of
+//! the grammar, and its look the rule. Its table is their matrix over pairs of states, which says whether the node's text
+//! leads from one state to the other not at all, without marks, or with some. They list trees of rules and pairs of states
+//! whose leaves are the marked letters. Here the tree of one answer is kept, as the ways down to its marks:
+//!
+//! ```text
+//!          o            Over the pair o a run leads from the state p into the goals G: of the states that it may come to
+//!        /   \          behind o, those from which the rest is accepted. Between l and r it stands in one of the set B:
+//!   p   l  B  r   G     of the states behind l, those from which r leads into G. If no run with marks over l leads into
+//!                       B, l is passed, and the first mark is below r. Else it is below l, and r is ahead of it: the
+//!                       goals of l are B, and those of r are G.
+//! ```
+//!
+//! So each step down stays on a tree with a mark, and none is made in vain, as in F. Florenzano, C. Riveros, M. Ugarte,
+//! S. Vansummeren and D. Vrgoc, Constant delay algorithms for regular document spanners, PODS 2018. Some of the states are
+//! known to be quiet: from them the rest is accepted without marks alone. Where the walk comes into one, the answer is
+//! complete, and the nodes ahead aren't passed.
 #![tactic(auto)]
 
 mod answers;

@@ -23,12 +23,6 @@ returns-in_err-lowered-clause-found g c =
       trail = c.in_err-lowered.ensures.trail;
     })
 
-pub with_mark-marks-requires-clause-positive : goal.with_mark-marks-requires-clause-positive
-with_mark-marks-requires-clause-positive g c = c.lower_to-turn.ensures.turned.positive
-
-pub with_mark-marks-requires-clause-small : goal.with_mark-marks-requires-clause-small
-with_mark-marks-requires-clause-small g c = omega (arith, c.lower_to-turn.ensures.turned.inside, c.requires.end, c.requires.low)
-
 pub finish-requires-clause-finish : goal.finish-requires-clause-finish
 finish-requires-clause-finish g c =
     let ground = c.args.ground.now in

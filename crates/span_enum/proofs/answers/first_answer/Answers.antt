@@ -1,8 +1,8 @@
 use Rattle.span_enum.proofs.Base.{Begins, IsFirst, IsFoundAfter, None, [], ap, arith, blanks, false, length, looks_limit, refl, subst, sym, true≢false, whole_text, ◌+◌, ◌∙◌, ◌≤◌}
 use Rattle.span_enum.proofs.Answerings.{answer-found, begins-finish, first-ended}
-use Rattle.span_enum.proofs.LastLetters.{run-from_accepted}
-use Rattle.span_enum.proofs.Membership.{none-member}
 use Rattle.span_enum.proofs.Roots.{fresh-begins, ground-text, text-short}
+use Rattle.span_enum.proofs.Runs.{run-from_accepted}
+use Rattle.span_enum.proofs.Tuples.{none-member}
 use Rattle.span_enum.proofs.answers.first_answer.Given.{Over}
 use Rattle.span_enum.proofs.answers.first_answer.Goals.{After-finish, After-len-count}
 use Rattle.span_enum.proofs.answers.first_answer.Goals as goal

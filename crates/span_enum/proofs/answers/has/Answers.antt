@@ -1,7 +1,6 @@
 use Rattle.span_enum.proofs.Base.{Some, [], height, length, refl, text, tree, ◌<◌}
 use Rattle.span_enum.proofs.Answerings.{cost-lower, within-limit}
-use Rattle.span_enum.proofs.Membership.{IsText, accepts-from_end, accepts-from_member, end-from_accepts, look-text, member-from_accepts, no-text}
-use Rattle.span_enum.proofs.TupleLaws.{few-marks}
+use Rattle.span_enum.proofs.Tuples.{IsText, accepts-from_end, accepts-from_member, end-from_accepts, few-marks, look-text, member-from_accepts, no-text}
 use Rattle.span_enum.proofs.answers.has.Goals as goal
 
 pub returns-in-None-clause-answer : goal.returns-in-None-clause-answer

@@ -1,7 +1,6 @@
 use Rattle.span_enum.proofs.Base.{CanRun, Some, arith, same_Some, subst, suc, sym, whole_text, ◌∙◌, ◌≡◌}
-use Rattle.span_enum.proofs.Firsts.{goal-from_nothing, run-from_table, run-nothing, table-from_run}
-use Rattle.span_enum.proofs.Paths.{Tells}
 use Rattle.span_enum.proofs.Roots.{no-root, root-tells, the-root}
+use Rattle.span_enum.proofs.Runs.{Tells, goal-from_nothing, run-from_table, run-nothing, table-from_run}
 use Rattle.span_enum.proofs.answers.has_first.Goals as goal
 
 pub returns-then-count-eq0 : goal.returns-then-count-eq0

@@ -1,24 +1,15 @@
 use Rattle.span_enum.proofs.Base.{Agree, IsFirstMember, Some, ap, arith, reached, whole_text, word_over, write_mark, ◌∙◌, ◌≡◌}
-use Rattle.span_enum.proofs.Answerings.{end-known, end-unknown, lowered-end}
-use Rattle.span_enum.proofs.Paths.{run-within}
+use Rattle.span_enum.proofs.Answerings.{lowered-end}
 use Rattle.span_enum.proofs.Roots.{ground-text}
+use Rattle.span_enum.proofs.Runs.{run-within}
 use Rattle.span_enum.proofs.answers.lowered_at_end.Goals.{After-with_mark}
 use Rattle.span_enum.proofs.answers.lowered_at_end.Goals as goal
-
-pub returns-in_err-q-clause-none : goal.returns-in_err-q-clause-none
-returns-in_err-q-clause-none c = rw c.from_residual.ensures (end-unknown c.args.ground.now c.args.t.now c.args.end c.requires.end (rw c.in_err-q.was at c.requires.state))
-
-pub end_limit-requires : goal.end_limit-requires
-end_limit-requires c = omega (arith, c.requires.low)
 
 pub greatest_end-requires : goal.greatest_end-requires
 greatest_end-requires c =
     let g = c.args.ground.now in
     let run : reached g.dfa.now 0 (word_over c.args.t.now 1 (whole_text g)) ≡ Some c.in_ok-q.q = rw c.in_ok-q.was at c.requires.state in
     run-within g.dfa.now c.requires.ground.automaton 0 c.in_ok-q.q (word_over c.args.t.now 1 (whole_text g)) c.requires.ground.automaton.has_start run
-
-pub returns-in_err-mark-clause-none : goal.returns-in_err-mark-clause-none
-returns-in_err-mark-clause-none c = rw c.from_residual-in_err-mark.ensures (end-known c.args.ground.now c.args.t.now c.args.end c.in_ok-q.q (rw c.in_ok-q.was at c.requires.state) (rw c.end_limit.ensures at c.in_err-mark.ensures))
 
 -- the answer, which agrees with the tuple in the text, and the state after its marks there
 found : (c : After-with_mark) → IsFirstMember c.args.ground.now.dfa.now (whole_text c.args.ground.now) (Some c.args.t.now) c.with_mark.result × Agree c.args.t.now c.with_mark.result c.args.end

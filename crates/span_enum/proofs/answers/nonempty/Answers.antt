@@ -1,8 +1,7 @@
 use Rattle.span_enum.proofs.Base.{[], can_reach_of, ends_of, is_final, length, not, sym, text, tree, ◌<◌, ◌∙◌, ◌≡◌}
-use Rattle.span_enum.proofs.LastLetters.{accepted-empty, accepted-from_table, not-empty, table-from_accepted}
-use Rattle.span_enum.proofs.Membership.{IsText, accepted-from_some, look-text, no-text, some-from_accepted}
-use Rattle.span_enum.proofs.Paths.{Tells}
+use Rattle.span_enum.proofs.Runs.{Tells, accepted-empty, accepted-from_table, not-empty, table-from_accepted}
 use Rattle.span_enum.proofs.Tables.{look-table}
+use Rattle.span_enum.proofs.Tuples.{IsText, accepted-from_some, look-text, no-text, some-from_accepted}
 use Rattle.span_enum.proofs.answers.nonempty.Goals as goal
 
 pub returns-in-None-clause-some : goal.returns-in-None-clause-some

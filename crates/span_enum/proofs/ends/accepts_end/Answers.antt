@@ -1,5 +1,5 @@
 use Rattle.span_enum.proofs.Base.{false, true}
-use Rattle.span_enum.proofs.Membership.{end-both}
+use Rattle.span_enum.proofs.Tuples.{end-both}
 use Rattle.span_enum.proofs.ends.accepts_end.Goals as goal
 
 pub returns-then-fits : goal.returns-then-fits

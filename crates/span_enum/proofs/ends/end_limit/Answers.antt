@@ -1,5 +1,5 @@
 use Rattle.span_enum.proofs.Base.{ap, sym, ◌+◌, ◌∙◌}
-use Rattle.span_enum.proofs.TupleLaws.{end_mark-more, end_mark-same}
+use Rattle.span_enum.proofs.Tuples.{end_mark-more, end_mark-same}
 use Rattle.span_enum.proofs.ends.end_limit.Goals as goal
 
 pub returns-then-is_past : goal.returns-then-is_past

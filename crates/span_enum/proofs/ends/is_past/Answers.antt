@@ -1,5 +1,5 @@
 use Rattle.span_enum.proofs.Base.{arith, refl, sym, ◌<◌}
-use Rattle.span_enum.proofs.Bounds.{past-none, past-some}
+use Rattle.span_enum.proofs.Tuples.{past-none, past-some}
 use Rattle.span_enum.proofs.ends.is_past.Goals as goal
 
 pub returns-then-ends_past : goal.returns-then-ends_past

@@ -1,8 +1,7 @@
 use Rattle.span_enum.proofs.Base.{Lays, None, Some, [], ap, arith, length, length-append, mark_of, refl, sym, text_ahead, ℕ, ◌+◌, ◌<◌, ◌∙◌, ◌∷◌, ◌≡◌}
 use Rattle.span_enum.specs.Letters.{step_of}
 use Rattle.span_enum.proofs.Chains.{fits-short, next-there}
-use Rattle.span_enum.proofs.Follows.{StandsOver, comes-there, followed-dead, followed-fails, followed-last, followed-on, followed-stuck, lays-goes, lays-way, most, over-down, over-few, over-node}
-use Rattle.span_enum.proofs.Follows.{position-early}
+use Rattle.span_enum.proofs.Walks.{StandsOver, comes-there, followed-dead, followed-fails, followed-last, followed-on, followed-stuck, lays-goes, lays-way, most, over-down, over-few, over-node, position-early}
 use Rattle.span_enum.proofs.follow.+follow.Given.{Over}
 use Rattle.span_enum.proofs.follow.+follow.Goals.{After-ahead_at, After-last_of-last}
 use Rattle.span_enum.proofs.follow.+follow.Goals as goal
@@ -46,9 +45,6 @@ reach-comes-requires-clause-down g t c =
     let at = (goal.at.reach-comes-requires-clause-down g t c).After-ahead_at in
     rw c.len-base.ensures.value (over-down _ _ _ _ _ _ _ _ _ _ (over g t at) c.requires.end c.args.ground.now.dfa.now.variables _ _ c.args.trail.now.marks.items c.requires.tuple (marked g t at) refl c.requires.marks_fit c.requires.ahead_fit)
 
-pub reach-comes-requires-clause-over : goal.reach-comes-requires-clause-over
-reach-comes-requires-clause-over g t c = (over g t (goal.at.reach-comes-requires-clause-over g t c).After-ahead_at).over
-
 pub returns-then-not-comes-clause-followed : goal.returns-then-not-comes-clause-followed
 returns-then-not-comes-clause-followed g t c =
     let fails = rw c.len-base.ensures.value at c.if-not-comes.ensures.laid in
@@ -76,10 +72,6 @@ returns-in_err-state-clause-followed g t c =
     let step : step_of c.args.ground.now.dfa.now m.state m.mark m.byte ≡ None = sym (rw (c.last_of-last.ensures c.args.trail.now.marks.items m k.keeps.kept) at c.in_err-state.ensures.value) in
     rw c.from_residual-in_err-state.ensures
     (followed-stuck _ _ _ _ _ _ _ _ _ _ (over g t at) c.requires.end _ _ _ k refl (marked g t at) c.args.looks.now c.reach-comes.new.looks step c.reach-comes.ensures.cost)
-
-pub overflow_add-position : goal.overflow_add-position
-overflow_add-position g t c =
-    omega (arith, position-early _ _ _ _ _ _ _ _ _ _ (over g t (goal.at.overflow_add-position g t c).After-ahead_at) c.requires.end, c.ranges.end)
 
 pub follow-requires : goal.follow-requires
 follow-requires g t c κs within =

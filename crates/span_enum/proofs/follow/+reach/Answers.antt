@@ -1,6 +1,6 @@
 use Rattle.span_enum.proofs.Base.{arith, sym, ℕ, ◌∙◌}
 use Rattle.span_enum.proofs.Chains.{Fork, down-left, down-right, fork, fork-size}
-use Rattle.span_enum.proofs.Paths.{tells}
+use Rattle.span_enum.proofs.Runs.{tells}
 use Rattle.span_enum.proofs.Ways.{fails-here, laid-left, laid-right, lays-mark}
 use Rattle.span_enum.proofs.follow.+reach.Given.{Over}
 use Rattle.span_enum.proofs.follow.+reach.Goals.{After-look-right}

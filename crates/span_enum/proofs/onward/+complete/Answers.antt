@@ -1,8 +1,7 @@
-use Rattle.span_enum.proofs.Base.{Ahead, CanEnd, CanFinish, Descends, List, Some, Stands, [], ap, arith, length, length-append, length-take, mark_count, take, ℕ, ◌*◌, ◌+◌, ◌-◌, ◌∙◌}
-use Rattle.span_enum.proofs.Base.{◌∷◌, ◌≡◌}
+use Rattle.span_enum.proofs.Base.{Ahead, CanEnd, CanFinish, Descends, List, Some, Stands, [], ap, arith, length, length-append, length-take, mark_count, take, ℕ, ◌*◌, ◌+◌, ◌-◌, ◌∙◌, ◌∷◌, ◌≡◌}
 use Rattle.span_enum.proofs.Chains.{ahead-most, fits-none, fits-short, fits-take}
-use Rattle.span_enum.proofs.Completes.{Arrives, arrives, arrives-high, arrives-meets, arrives-some, completes-end, completes-more, completes-quiet, cut-deep, few-on, one-fewer, room-left, stands-on}
-use Rattle.span_enum.proofs.Keeps.{take-take}
+use Rattle.span_enum.proofs.Kept.{take-take}
+use Rattle.span_enum.proofs.Walks.{Arrives, arrives, arrives-high, arrives-meets, arrives-some, completes-end, completes-more, completes-quiet, cut-deep, few-on, one-fewer, room-left, stands-on}
 use Rattle.span_enum.proofs.onward.+complete.Given.{Over}
 use Rattle.span_enum.proofs.onward.+complete.Goals.{After-cut_before, After-descend-behind}
 use Rattle.span_enum.proofs.onward.+complete.Goals as goal

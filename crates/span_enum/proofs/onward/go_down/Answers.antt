@@ -1,6 +1,6 @@
 use Rattle.span_enum.proofs.Base.{arith, plain, refl, sym, text_at, ◌∙◌}
 use Rattle.span_enum.proofs.Chains.{Fork, down-left, down-right, fork}
-use Rattle.span_enum.proofs.Paths.{run-within, tells}
+use Rattle.span_enum.proofs.Runs.{run-within, tells}
 use Rattle.span_enum.proofs.Ways.{descends-left, descends-right}
 use Rattle.span_enum.proofs.onward.go_down.Given.{Over}
 use Rattle.span_enum.proofs.onward.go_down.Goals.{After-look-right}

@@ -1,6 +1,5 @@
 use Rattle.span_enum.proofs.Base.{arith, marked_of, ◌<◌, ◌^◌}
-use Rattle.span_enum.proofs.Firsts.{some-can}
-use Rattle.span_enum.proofs.Paths.{tells}
+use Rattle.span_enum.proofs.Runs.{some-can, tells}
 use Rattle.span_enum.proofs.Tables.{plain-left, sole-left}
 use Rattle.span_enum.proofs.onward.over_left.Goals as goal
 

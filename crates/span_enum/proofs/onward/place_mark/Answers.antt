@@ -1,6 +1,5 @@
 use Rattle.span_enum.proofs.Base.{[], append-nil, arith, mark_over, marked_of, refl, sym, text_at, ◌<◌, ◌^◌}
-use Rattle.span_enum.proofs.Firsts.{some-can}
-use Rattle.span_enum.proofs.Paths.{Tells}
+use Rattle.span_enum.proofs.Runs.{Tells, some-can}
 use Rattle.span_enum.proofs.Tables.{byte-text, look-table, mark-positive, some-byte}
 use Rattle.span_enum.proofs.Ways.{meets-byte}
 use Rattle.span_enum.proofs.onward.place_mark.Goals as goal

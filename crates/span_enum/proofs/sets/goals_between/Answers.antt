@@ -1,14 +1,11 @@
 use Rattle.span_enum.proofs.Base.{marked_of, ◌<◌, ◌^◌}
-use Rattle.span_enum.proofs.Paths.{tells}
+use Rattle.span_enum.proofs.Runs.{tells}
 use Rattle.span_enum.proofs.Tables.{are-between, between-left, lead-quiet}
 use Rattle.span_enum.proofs.sets.goals_between.Goals as goal
 
 pub returns-clause-between : goal.returns-clause-between
 returns-clause-between c = λ s u il ir.
     are-between c.args.dfa.now c.states-states.ensures.automaton s u c.args.left.now c.args.right.now c.args.p c.args.here.now.goals c.reached.result _ c.requires.state (tells c.args.dfa.now _ _ il) (tells c.args.dfa.now _ _ ir) c.reached.ensures.value c.goals_among.ensures.goals
-
-pub returns-clause-on : goal.returns-clause-on
-returns-clause-on c = λ q h. (c.goals_among.ensures.goals.only q h).1
 
 pub returns-clause-can : goal.returns-clause-can
 returns-clause-can c = λ can.

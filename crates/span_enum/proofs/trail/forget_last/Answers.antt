@@ -1,6 +1,5 @@
 use Rattle.span_enum.proofs.Base.{Some, ap, take, ◌∙◌, ◌≡◌}
-use Rattle.span_enum.proofs.Forgets.{forgotten, trail-last}
-use Rattle.span_enum.proofs.Keeps.{take-others}
+use Rattle.span_enum.proofs.Kept.{forgotten, take-others, trail-last}
 use Rattle.span_enum.proofs.trail.forget_last.Goals as goal
 
 pub last_of-requires : goal.last_of-requires

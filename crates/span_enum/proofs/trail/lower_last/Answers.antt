@@ -1,5 +1,5 @@
 use Rattle.span_enum.proofs.Base.{IsGreatestMark, ap, arith}
-use Rattle.span_enum.proofs.Forgets.{cut-trail, none-at_start, trail-last}
+use Rattle.span_enum.proofs.Kept.{cut-trail, none-at_start, trail-last}
 use Rattle.span_enum.proofs.trail.lower_last.Goals as goal
 
 pub last_of-last-requires : goal.last_of-last-requires

@@ -1,6 +1,5 @@
 use Rattle.span_enum.proofs.Base.{Some, [], ap, arith, ◌++◌, ◌<◌, ◌∙◌, ◌∷◌, ◌≡◌}
-use Rattle.span_enum.proofs.Forgets.{lower, turned-none, turned-some}
-use Rattle.span_enum.proofs.Keeps.{take-others}
+use Rattle.span_enum.proofs.Kept.{lower, take-others, turned-none, turned-some}
 use Rattle.span_enum.proofs.trail.lower_to.Goals as goal
 
 pub returns-then-lowered-eq0-clause-turned : goal.returns-then-lowered-eq0-clause-turned

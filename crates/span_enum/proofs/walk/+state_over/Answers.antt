@@ -1,7 +1,7 @@
 use Rattle.span_enum.proofs.Base.{IsNodeAt, Pair, ap, arith, length, length-append, mark_count, reached, refl, sym, text, tree, word_over, ◌+◌, ◌<◌, ◌∙◌, ◌≡◌}
-use Rattle.span_enum.proofs.Paths.{Tells}
+use Rattle.span_enum.proofs.Runs.{Tells}
 use Rattle.span_enum.proofs.Tables.{look-table, pair-height, pair-text}
-use Rattle.span_enum.proofs.Written.{lower-cost, over-count, over-dead, over-plain, over-run}
+use Rattle.span_enum.proofs.Words.{lower-cost, over-count, over-dead, over-plain, over-run}
 use Rattle.span_enum.proofs.walk.+state_over.Goals as goal
 
 pub returns-then-not-is_marked_between-clause-value :

@@ -1,5 +1,5 @@
 use Rattle.span_enum.proofs.Base.{ap, arith, cases_eq, ends_of, inl, inr, is_final, member, member-zero, sym, ◌<◌, ◌∙◌, ◌≢◌}
-use Rattle.span_enum.proofs.LastLetters.{not-empty}
+use Rattle.span_enum.proofs.Runs.{not-empty}
 use Rattle.span_enum.proofs.Tables.{member-more_other, member-more_same}
 use Rattle.span_enum.proofs.walk.final_states.Goals as goal
 

@@ -1,5 +1,5 @@
 use Rattle.span_enum.proofs.Base.{arith, cases_eq, inl, inr, ◌<◌}
-use Rattle.span_enum.proofs.Bounds.{mark-none, mark-some}
+use Rattle.span_enum.proofs.Tuples.{mark-none, mark-some}
 use Rattle.span_enum.proofs.walk.first_mark.Goals as goal
 
 pub loop-v-init : goal.loop-v-init
@@ -9,9 +9,6 @@ loop-v-init c = record {
   none = λ k lt. absurd (omega arith);
   some = λ lt. absurd (omega arith);
 }
-
-pub first_bound-first-requires : goal.first_bound-first-requires
-first_bound-first-requires c = c.loop-v.invariant.from
 
 pub loop-v-preserved : goal.loop-v-preserved
 loop-v-preserved c = record {
@@ -27,14 +24,5 @@ loop-v-preserved c = record {
   ];
 }
 
-pub returns-clause-from : goal.returns-clause-from
-returns-clause-from c = c.loop-v.invariant.from
-
-pub returns-clause-end : goal.returns-clause-end
-returns-clause-end c = c.loop-v.invariant.to
-
 pub returns-clause-none : goal.returns-clause-none
 returns-clause-none c = λ p from to. mark-none c.args.t.now p (λ v lt h. let low : v < c.loop-v.v = omega arith in c.loop-v.invariant.none v low p from to h)
-
-pub returns-clause-some : goal.returns-clause-some
-returns-clause-some c = c.loop-v.invariant.some

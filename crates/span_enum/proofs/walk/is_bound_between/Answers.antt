@@ -1,4 +1,4 @@
-use Rattle.span_enum.proofs.Bounds.{bound-end, bound-start}
+use Rattle.span_enum.proofs.Tuples.{bound-end, bound-start}
 use Rattle.span_enum.proofs.walk.is_bound_between.Goals as goal
 
 pub returns-then-span-to-clause-some : goal.returns-then-span-to-clause-some

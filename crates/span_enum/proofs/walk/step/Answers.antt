@@ -1,5 +1,5 @@
 use Rattle.span_enum.proofs.Base.{arith, sym, ◌<◌, ◌∙◌}
-use Rattle.span_enum.proofs.Paths.{step-byte}
+use Rattle.span_enum.proofs.Runs.{step-byte}
 use Rattle.span_enum.proofs.walk.step.Goals as goal
 
 pub returns-clause-value : goal.returns-clause-value

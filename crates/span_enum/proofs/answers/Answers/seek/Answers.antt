@@ -1,6 +1,6 @@
 use Rattle.span_enum.proofs.Base.{ap, arith, length, looks_limit, whole_text, ◌*◌, ◌+◌, ◌≡◌, ◌≤◌}
-use Rattle.span_enum.proofs.Follows.{follow-within}
-use Rattle.span_enum.proofs.Keeps.{kept-few}
+use Rattle.span_enum.proofs.Kept.{kept-few}
+use Rattle.span_enum.proofs.Walks.{follow-within}
 use Rattle.span_enum.proofs.answers.Answers.seek.Goals as goal
 
 pub returns-clause-cost : goal.returns-clause-cost

@@ -1,0 +1,516 @@
+-- Runs over letters, the first marked text, and the ends of texts.
+use Rattle.span_enum.proofs.Base.{Accepted, All, Bool, CanRun, Contains, Contains-get_or, DeterministicAutomaton, IsDeterministic, IsFirst, IsTable, IsTableOf, List, Marked, None, Option, Precedes, Row, Some, [], and_le_l, and_then, ap}
+use Rattle.span_enum.proofs.Base.{arith, bit-member, bit_and, bit_at, bit_at-lt, bit_at-trailing_zeros, bit_at-zero, bit_at_and, bool-cases, bytes_of, can_reach_of, cases_eq, end_in, ends_of, eq-eqb, eqb-true, false, four_le, get_or}
+use Rattle.span_enum.proofs.Base.{has_item, has_mark, if◌then◌else◌, inl, inr, is_final, is_goal, length, map-append, mark_count, marked, marked_of, marks_of, member, member-bit, member-single_same, min, next_of, not, not-both}
+use Rattle.span_enum.proofs.Base.{or-cases, or-left, or-right, path, plain, reached, refl, states_of, suc, sym, trailing_zeros, true, unmarked_of, w128, zero, zero-add, ℕ, ◌++◌, ◌+◌, ◌<◌, ◌==◌, ◌^◌, ◌||◌, ◌↔◌, ◌∙◌, ◌∷◌, ◌≡◌, ◌≤◌, ◌⊎◌}
+use Rattle.span_enum.specs.Letters.{step_of}
+
+-- ---- options
+-- the value of f at the value, if any
+abbrev pub onto : (ℕ → Option ℕ) → Option ℕ → Option ℕ
+onto f o = and_then o f
+
+pub then-some : (o : Option ℕ) → onto (λ q. Some q) o ≡ o
+then-some None = refl
+then-some (Some q) = refl
+
+-- the value between two steps
+pub then-between : (f : ℕ → Option ℕ) (o : Option ℕ) (y : ℕ) → onto f o ≡ Some y → (x : ℕ) × (o ≡ Some x) × (f x ≡ Some y)
+then-between f None y h = cc
+then-between f (Some x) y h = (x, refl, h)
+
+pub same-state : (x y : ℕ) (o : Option ℕ) → o ≡ Some x → o ≡ Some y → x ≡ y
+same-state x y o h k = cc
+
+pub no-state : (x : ℕ) (o : Option ℕ) → o ≡ None → o ≡ Some x → ⊥
+no-state x o h k = cc
+
+-- ---- steps
+pub step-byte : (a : DeterministicAutomaton) (p m b : ℕ) → b < 256 → step_of a p m b ≡ next_of a p m b
+unfolding step_of
+step-byte a p m b low = by (b == 256) (eqb-true b 256)
+  where
+    by : (z : Bool) → (z ≡ true → b ≡ 256) → (if z then end_in (ends_of a p) m else next_of a p m b) ≡ next_of a p m b
+    by true e = let same : b ≡ 256 = e refl in absurd (omega arith)
+    by false e = refl
+
+pub step-end : (a : DeterministicAutomaton) (p m : ℕ) → step_of a p m 256 ≡ end_in (ends_of a p) m
+unfolding step_of
+step-end a p m = refl
+
+end-start : (ms : List ℕ) (m q : ℕ) → end_in ms m ≡ Some q → q ≡ 0
+end-start [] m q h = cc
+end-start (x ∷ ms) m q h = by (x == m) h (end-start ms m q)
+  where
+    by : (z : Bool) → (if z then Some 0 else end_in ms m) ≡ Some q → (end_in ms m ≡ Some q → q ≡ 0) → q ≡ 0
+    by true e f = cc
+    by false e f = f e
+
+pub step-within : (a : DeterministicAutomaton) (auto : IsDeterministic a) (p m b q : ℕ) → step_of a p m b ≡ Some q → q < states_of a
+unfolding step_of
+step-within a auto p m b q h = by (b == 256) h
+  where
+    by : (z : Bool) → (if z then end_in (ends_of a p) m else next_of a p m b) ≡ Some q → q < states_of a
+    by true e = let none : q ≡ 0 = end-start (ends_of a p) m q e in omega (arith, auto.has_start)
+    by false e = auto.within p m b q e
+
+-- ---- runs
+pub run-append : (a : DeterministicAutomaton) (p : ℕ) (w v : Marked) → reached a p (w ++ v) ≡ onto (λ q. reached a q v) (reached a p w)
+run-append a p [] v = refl
+run-append a p (x ∷ w) v = by (step_of a p x.0 x.1) (λ q. run-append a q w v)
+  where
+    by : (o : Option ℕ) → ((q : ℕ) → reached a q (w ++ v) ≡ onto (λ r. reached a r v) (reached a q w))
+        → onto (λ q. reached a q (w ++ v)) o ≡ onto (λ q. reached a q v) (onto (λ q. reached a q w) o)
+    by None rest = refl
+    by (Some q) rest = rest q
+
+-- the run over a second word goes on from where the first one leads
+pub run-on : (a : DeterministicAutomaton) (p q : ℕ) (w v : Marked) → reached a p w ≡ Some q → reached a p (w ++ v) ≡ reached a q v
+run-on a p q w v e = run-append a p w v ∙ ap (onto (λ n. reached a n v)) e
+
+pub run-dead : (a : DeterministicAutomaton) (p : ℕ) (w v : Marked) → reached a p w ≡ None → reached a p (w ++ v) ≡ None
+run-dead a p w v e = run-append a p w v ∙ ap (onto (λ n. reached a n v)) e
+
+pub run-within : (a : DeterministicAutomaton) (auto : IsDeterministic a) (p q : ℕ) (w : Marked) → p < states_of a → reached a p w ≡ Some q → q < states_of a
+run-within a auto p q [] h e = let pq : p ≡ q = cc in omega arith
+run-within a auto p q (x ∷ w) h e =
+    let step = then-between (λ r. reached a r w) (step_of a p x.0 x.1) q e in
+    run-within a auto step.0 q w (step-within a auto p x.0 x.1 step.0 step.1) step.2
+
+-- the run over a single letter
+pub run-one : (a : DeterministicAutomaton) (p m b : ℕ) → reached a p ((m, b) ∷ []) ≡ step_of a p m b
+run-one a p m b = then-some (step_of a p m b)
+
+-- a word over one letter
+pub record OneLetter (a : DeterministicAutomaton) (p b : ℕ) (w : Marked) (q : ℕ) : Type 0 where
+  pub mark : ℕ
+  pub word : w ≡ (mark, b) ∷ []
+  pub step : step_of a p mark b ≡ Some q
+
+pub one-letter : (a : DeterministicAutomaton) (p b q : ℕ) (w : Marked) → bytes_of w ≡ b ∷ [] → reached a p w ≡ Some q → OneLetter a p b w q
+one-letter a p b q [] e t = cc
+one-letter a p b q (x ∷ []) e t =
+    let same : x.1 ≡ b = cc in
+    record { mark = x.0; word = ap (λ c. (x.0, c) ∷ []) same; step = ap (step_of a p x.0) (sym same) ∙ sym (run-one a p x.0 x.1) ∙ t }
+one-letter a p b q (x ∷ y ∷ w) e t = cc
+
+-- ---- marked texts
+pub bytes-append : (w v : Marked) → bytes_of (w ++ v) ≡ bytes_of w ++ bytes_of v
+bytes-append w v = map-append (λ x. x.1) w v
+
+pub length-bytes : (w : Marked) → length (bytes_of w) ≡ length w
+length-bytes [] = refl
+length-bytes (x ∷ w) = omega (arith, length-bytes w)
+
+pub bytes-plain : (s : List ℕ) → bytes_of (plain s) ≡ s
+bytes-plain [] = refl
+bytes-plain (b ∷ s) = ap (λ t. b ∷ t) (bytes-plain s)
+
+pub plain-append : (s u : List ℕ) → plain (s ++ u) ≡ plain s ++ plain u
+plain-append s u = map-append (λ b. (0, b)) s u
+
+pub plain-run : (a : DeterministicAutomaton) (p q : ℕ) (s u : List ℕ) → reached a p (plain s) ≡ Some q → reached a p (plain (s ++ u)) ≡ reached a q (plain u)
+plain-run a p q s u e = ap (reached a p) (plain-append s u) ∙ run-on a p q (plain s) (plain u) e
+
+pub plain-dead : (a : DeterministicAutomaton) (p : ℕ) (s u : List ℕ) → reached a p (plain s) ≡ None → reached a p (plain (s ++ u)) ≡ None
+plain-dead a p s u e = ap (reached a p) (plain-append s u) ∙ run-dead a p (plain s) (plain u) e
+
+-- without a mark it is the plain text
+pub plain-from_no_mark : (w : Marked) → has_mark w ≡ false → w ≡ plain (bytes_of w)
+plain-from_no_mark [] h = refl
+plain-from_no_mark (x ∷ w) h = by (x.0 == 0) (eqb-true x.0 0) h (plain-from_no_mark w)
+  where
+    by : (z : Bool) → (z ≡ true → x.0 ≡ 0) → (not z || has_mark w) ≡ false → (has_mark w ≡ false → w ≡ plain (bytes_of w)) → x ∷ w ≡ (0, x.1) ∷ plain (bytes_of w)
+    by true e k rest = ap (λ n. (n, x.1) ∷ w) (e refl) ∙ ap (λ v. (0, x.1) ∷ v) (rest k)
+    by false e k rest = cc
+
+-- a marked text over two texts is cut between them
+pub split-marked : (s u : List ℕ) (w : Marked) → bytes_of w ≡ s ++ u → (w1 : Marked) × ((w2 : Marked) × ((w ≡ w1 ++ w2) × (bytes_of w1 ≡ s) × (bytes_of w2 ≡ u)))
+split-marked [] u w h = ([], (w, (refl, refl, h)))
+split-marked (b ∷ s) u [] h = cc
+split-marked (b ∷ s) u (x ∷ w) h =
+    let tail : bytes_of w ≡ s ++ u = cc in
+    let head : x.1 ≡ b = cc in
+    let rest = split-marked s u w tail in
+    (x ∷ rest.0, (rest.1.0, (ap (λ v. x ∷ v) rest.1.1.0, rw (head, rest.1.1.1) refl, rest.1.1.2)))
+
+-- and so is a run over it
+pub record Parts (a : DeterministicAutomaton) (p : ℕ) (s u : List ℕ) (v : Marked) (r : ℕ) : Type 0 where
+  pub left : Marked
+  pub right : Marked
+  pub middle : ℕ
+  pub joined : v ≡ left ++ right
+  pub left_bytes : bytes_of left ≡ s
+  pub right_bytes : bytes_of right ≡ u
+  pub left_ends : reached a p left ≡ Some middle
+  pub right_ends : reached a middle right ≡ Some r
+
+pub run-parts : (a : DeterministicAutomaton) (p : ℕ) (s u : List ℕ) (v : Marked) (r : ℕ) → bytes_of v ≡ s ++ u → reached a p v ≡ Some r → Parts a p s u v r
+run-parts a p s u v r e t =
+    let cut = split-marked s u v e in
+    let mid = then-between (λ n. reached a n cut.1.0) (reached a p cut.0) r (sym (run-append a p cut.0 cut.1.0) ∙ ap (reached a p) (sym cut.1.1.0) ∙ t) in
+    record { left = cut.0; right = cut.1.0; middle = mid.0; joined = cut.1.1.0; left_bytes = cut.1.1.1; right_bytes = cut.1.1.2; left_ends = mid.1; right_ends = mid.2 }
+
+-- what is behind the cut leads into a goal
+pub run-behind : (a : DeterministicAutomaton) (p : ℕ) (s u : List ℕ) (v : Marked) (r goals : ℕ) → (k : Parts a p s u v r) → member goals r ≡ true → CanRun a k.middle u goals
+run-behind a p s u v r goals k goal = record { word = k.right; state = r; bytes = k.right_bytes; ends = k.right_ends; goal = goal }
+
+-- a run over two joined texts
+pub run-join : (a : DeterministicAutomaton) (q n goals : ℕ) (s u : List ℕ) (w : Marked) → bytes_of w ≡ s → reached a q w ≡ Some n → CanRun a n u goals → CanRun a q (s ++ u) goals
+run-join a q n goals s u w e t rest = record {
+  word = w ++ rest.word;
+  state = rest.state;
+  bytes = bytes-append w rest.word ∙ rw (e, rest.bytes) refl;
+  ends = run-on a q n w rest.word t ∙ rest.ends;
+  goal = rest.goal;
+}
+
+-- ---- tables
+abbrev pub AreBytes : List ℕ → Type 0
+AreBytes s = All (λ b. b < 256) s
+
+tail-bytes : (b : ℕ) (s : List ℕ) → AreBytes (b ∷ s) → AreBytes s
+tail-bytes b s h = λ k d lt. h (suc k) d (omega arith)
+
+-- over bytes a run is the automaton's own
+pub run-bytes : (a : DeterministicAutomaton) (p : ℕ) (w : Marked) → AreBytes (bytes_of w) → reached a p w ≡ path (next_of a) w p
+run-bytes a p [] h = refl
+run-bytes a p (x ∷ w) h =
+    let low : x.1 < 256 = h 0 0 (omega arith) in
+    ap (onto (λ q. reached a q w)) (step-byte a p x.0 x.1 low) ∙ by (next_of a p x.0 x.1) (λ q. run-bytes a q w (tail-bytes x.1 (bytes_of w) h))
+  where
+    by : (o : Option ℕ) → ((q : ℕ) → reached a q w ≡ path (next_of a) w q) → onto (λ q. reached a q w) o ≡ onto (path (next_of a) w) o
+    by None rest = refl
+    by (Some q) rest = rest q
+
+-- q is reached from p over s with some mark other than 0
+pub record HasMarkedRun (a : DeterministicAutomaton) (p : ℕ) (s : List ℕ) (q : ℕ) : Type 0 where
+  pub word : Marked
+  pub bytes : bytes_of word ≡ s
+  pub mark : has_mark word ≡ true
+  pub ends : reached a p word ≡ Some q
+
+-- what a table says of runs
+pub record Tells (a : DeterministicAutomaton) (s : List ℕ) (t : List Row) : Type 0 where
+  pub shape : IsTableOf (states_of a) t
+  pub bytes : AreBytes s
+  pub unmarked : (p : ℕ) → p < states_of a → unmarked_of t p ≡ reached a p (plain s)
+  pub marked : (p q : ℕ) → p < states_of a → (member (marked_of t p) q ≡ true) ↔ HasMarkedRun a p s q
+
+pub tells : (a : DeterministicAutomaton) (s : List ℕ) (t : List Row) → IsTable a s t → Tells a s t
+tells a s t is = record {
+  shape = is.shape;
+  bytes = is.bytes;
+  unmarked = λ p h. is.unmarked p h ∙ sym (same p (plain s) (bytes-plain s));
+  marked = λ p q h. (
+    (λ m. let k = (is.marked p q h).0 m in record { word = k.word; bytes = k.bytes; mark = k.mark; ends = same p k.word k.bytes ∙ k.ends }),
+    (λ k. (is.marked p q h).1 (record { word = k.word; bytes = k.bytes; mark = k.mark; ends = sym (same p k.word k.bytes) ∙ k.ends })),
+  );
+}
+  where
+    same : (p : ℕ) (w : Marked) → bytes_of w ≡ s → reached a p w ≡ path (next_of a) w p
+    same p w e = run-bytes a p w (rw e is.bytes)
+
+-- ---- sets
+pub shared-none : (a b q : ℕ) → bit_and a b ≡ 0 → member a q ≡ true → member b q ≡ true → ⊥
+shared-none a b q none ha hb =
+    let both : bit_at (bit_and a b) q ≡ 1 = rw (bit_at_and a b q, bit-member a q ha, bit-member b q hb) refl in
+    let zero' : bit_at (bit_and a b) q ≡ 0 = rw (none, bit_at-zero q) refl in
+    omega (arith, both, zero')
+
+pub shared-some : (a b : ℕ) → a < 2 ^ 128 → (bit_and a b ≡ 0 → ⊥) → (q : ℕ) × (member a q ≡ true) × (member b q ≡ true)
+shared-some a b ha some =
+    let n = bit_and a b in
+    let pos : 0 < n = elim (cases_eq n 0) [ inl e ↦ absurd (some e) | inr ne ↦ omega arith ] in
+    let low : n < 2 ^ 128 = omega (arith, and_le_l a b) in
+    let at = bit_at-trailing_zeros w128 n pos low in
+    let q = trailing_zeros w128 n in
+    let both : min (bit_at a q) (bit_at b q) ≡ 1 = sym (bit_at_and a b q) ∙ at.1 in
+    (q, member-bit a q (omega (arith, both, bit_at-lt a q)), member-bit b q (omega (arith, both, bit_at-lt b q)))
+
+pub above-zero : (n : ℕ) → 0 < n → (n == 0) ≡ false
+above-zero n h = grind arith
+
+pub positive-test : (n : ℕ) → (n ≡ 0 → ⊥) → not (n == 0) ≡ true
+positive-test n some = rw (above-zero n (elim (cases_eq n 0) [ inl e ↦ absurd (some e) | inr ne ↦ omega arith ])) refl
+
+-- ---- runs and tables
+-- whether a run leads into a goal: that without marks does, or one with marks
+pub reach-cases : (t : List Row) (p goals : ℕ) → can_reach_of t p goals ≡ true
+    → ((q : ℕ) × (unmarked_of t p ≡ Some q) × (member goals q ≡ true)) ⊎ (bit_and (marked_of t p) goals ≡ 0 → ⊥)
+reach-cases t p goals can = elim (or-cases (is_goal goals (unmarked_of t p)) (not (bit_and (marked_of t p) goals == 0)) can) [
+  | inl e ↦ inl (one (unmarked_of t p) e)
+  | inr e ↦ inr (λ none. not-both (not (bit_and (marked_of t p) goals == 0)) e (ap (λ n. not (n == 0)) none))
+]
+  where
+    one : (o : Option ℕ) → is_goal goals o ≡ true → (q : ℕ) × (o ≡ Some q) × (member goals q ≡ true)
+    one None h = cc
+    one (Some q) h = (q, refl, h)
+
+-- a run with marks into a goal is a run into a goal
+pub some-can : (t : List Row) (p goals : ℕ) → (bit_and (marked_of t p) goals ≡ 0 → ⊥) → can_reach_of t p goals ≡ true
+some-can t p goals some = or-right _ _ (positive-test (bit_and (marked_of t p) goals) some)
+
+-- without a marked run the plain one reaches a goal
+pub goal-plain : (t : List Row) (p goals q : ℕ) → can_reach_of t p goals ≡ true → bit_and (marked_of t p) goals ≡ 0 → unmarked_of t p ≡ Some q → member goals q ≡ true
+goal-plain t p goals q can none at = elim (reach-cases t p goals can) [
+  | inl e ↦ ap (member goals) (same-state q e.0 (unmarked_of t p) at e.1) ∙ e.2
+  | inr some ↦ absurd (some none)
+]
+
+-- a run over a text whose table is known has marks, or is the plain one
+pub marks-or_plain : (a : DeterministicAutomaton) (s : List ℕ) (t : List Row) (p q : ℕ) (w : Marked) → Tells a s t → p < states_of a → bytes_of w ≡ s → reached a p w ≡ Some q
+    → (member (marked_of t p) q ≡ true) ⊎ ((w ≡ plain s) × (unmarked_of t p ≡ Some q))
+marks-or_plain a s t p q w is low bytes ends = elim (bool-cases (has_mark w)) [
+  | inl marked ↦ inl ((is.marked p q low).1 (record { word = w; bytes = bytes; mark = marked; ends = ends }))
+  | inr bare ↦
+      let same : w ≡ plain s = plain-from_no_mark w bare ∙ ap plain bytes in
+      inr (same, is.unmarked p low ∙ ap (reached a p) (sym same) ∙ ends)
+]
+
+-- some run with marks leads into a goal
+pub marked-run : (a : DeterministicAutomaton) (s : List ℕ) (t : List Row) (p goals : ℕ) → Tells a s t → p < states_of a → marked_of t p < 2 ^ 128 → (bit_and (marked_of t p) goals ≡ 0 → ⊥)
+    → (q : ℕ) × (member goals q ≡ true) × HasMarkedRun a p s q
+marked-run a s t p goals is low small some =
+    let found = shared-some (marked_of t p) goals small some in
+    (found.0, found.2, (is.marked p found.0 low).0 found.1)
+
+pub run-from_table : (a : DeterministicAutomaton) (s : List ℕ) (t : List Row) (p goals : ℕ) → Tells a s t → p < states_of a → marked_of t p < 2 ^ 128
+    → can_reach_of t p goals ≡ true → CanRun a p s goals
+run-from_table a s t p goals is low small can = elim (reach-cases t p goals can) [
+  | inl e ↦ record { word = plain s; state = e.0; bytes = bytes-plain s; ends = sym (is.unmarked p low) ∙ e.1; goal = e.2 }
+  | inr some ↦
+      let k = marked-run a s t p goals is low small some in
+      record { word = k.2.word; state = k.0; bytes = k.2.bytes; ends = k.2.ends; goal = k.1 }
+]
+
+pub table-from_run : (a : DeterministicAutomaton) (s : List ℕ) (t : List Row) (p goals : ℕ) → Tells a s t → p < states_of a
+    → CanRun a p s goals → can_reach_of t p goals ≡ true
+table-from_run a s t p goals is low run = elim (marks-or_plain a s t p run.state run.word is low run.bytes run.ends) [
+  | inl marked ↦ some-can t p goals (λ none. shared-none (marked_of t p) goals run.state none marked run.goal)
+  | inr bare ↦ or-left _ _ (ap (is_goal goals) bare.1 ∙ run.goal)
+]
+
+-- ---- order
+pub precedes-append : (w v x y : Marked) → Precedes w v → Precedes (w ++ x) (v ++ y)
+precedes-append [] v x y h = absurd h
+precedes-append (m ∷ w) [] x y h = absurd h
+precedes-append (m ∷ w) (n ∷ v) x y (inl lt) = inl lt
+precedes-append (m ∷ w) (n ∷ v) x y (inr e) = inr (e.0, precedes-append w v x y e.1)
+
+pub precedes-prefix : (w x y : Marked) → Precedes x y → Precedes (w ++ x) (w ++ y)
+precedes-prefix [] x y h = h
+precedes-prefix (m ∷ w) x y h = inr (refl, precedes-prefix w x y h)
+
+-- two joined texts: the first parts decide, or they are equal
+pub precedes-split : (w1 v1 w2 v2 : Marked) → bytes_of w1 ≡ bytes_of v1 → Precedes (w1 ++ w2) (v1 ++ v2) → Precedes w1 v1 ⊎ ((w1 ≡ v1) × Precedes w2 v2)
+precedes-split [] [] w2 v2 e h = inr (refl, h)
+precedes-split [] (y ∷ v1) w2 v2 e h = cc
+precedes-split (x ∷ w1) [] w2 v2 e h = cc
+precedes-split (x ∷ w1) (y ∷ v1) w2 v2 e (inl lt) = inl (inl lt)
+precedes-split (x ∷ w1) (y ∷ v1) w2 v2 e (inr k) =
+    let bytes : bytes_of w1 ≡ bytes_of v1 = cc in
+    let byte : x.1 ≡ y.1 = cc in
+    let pair : x ≡ y = ap (λ n. (n, x.1)) k.0 ∙ ap (λ c. (y.0, c)) byte in
+    elim (precedes-split w1 v1 w2 v2 bytes k.1) [
+      | inl before ↦ inl (inr (k.0, before))
+      | inr rest ↦ inr (rw (pair, rest.0) refl, rest.1)
+    ]
+
+-- ---- the first marked text
+-- where no marked run reaches a goal, the plain text is the only one
+pub only-plain : (a : DeterministicAutomaton) (s : List ℕ) (t : List Row) (p goals : ℕ) → Tells a s t → p < states_of a → bit_and (marked_of t p) goals ≡ 0
+    → (w : Marked) (r : ℕ) → bytes_of w ≡ s → reached a p w ≡ Some r → member goals r ≡ true → w ≡ plain s
+only-plain a s t p goals is low none w r bytes ends goal = elim (marks-or_plain a s t p r w is low bytes ends) [
+  | inl marked ↦ absurd (shared-none (marked_of t p) goals r none marked goal)
+  | inr bare ↦ bare.0
+]
+
+pub IsFirst-plain : (a : DeterministicAutomaton) (s : List ℕ) (t : List Row) (p goals q : ℕ) → Tells a s t → p < states_of a
+    → bit_and (marked_of t p) goals ≡ 0 → unmarked_of t p ≡ Some q → member goals q ≡ true → IsFirst a p s goals (plain s) q
+IsFirst-plain a s t p goals q is low none at goal = record {
+  bytes = bytes-plain s;
+  ends = sym (is.unmarked p low) ∙ at;
+  goal = goal;
+  least = λ v r bytes ends g. inl (only-plain a s t p goals is low none v r bytes ends g);
+}
+
+pub IsFirst-byte : (a : DeterministicAutomaton) (p b m goals q : ℕ) → step_of a p m b ≡ Some q → member goals q ≡ true
+    → ((n r : ℕ) → step_of a p n b ≡ Some r → member goals r ≡ true → n ≤ m) → IsFirst a p (b ∷ []) goals ((m, b) ∷ []) q
+IsFirst-byte a p b m goals q step goal most = record {
+  bytes = refl;
+  ends = run-one a p m b ∙ step;
+  goal = goal;
+  least = λ v r bytes ends g.
+      let one = one-letter a p b r v bytes ends in
+      let within : one.mark ≤ m = most one.mark r one.step g in
+      elim (cases_eq one.mark m) [
+        | inl e ↦ inl (one.word ∙ ap (λ n. (n, b) ∷ []) e)
+        | inr ne ↦ inr (rw one.word (inl (omega arith)))
+      ];
+}
+
+pub IsFirst-fork : (a : DeterministicAutomaton) (s u : List ℕ) (p q r goals between : ℕ) (w v : Marked)
+    → ((n : ℕ) (x : Marked) → bytes_of x ≡ s → reached a p x ≡ Some n → CanRun a n u goals → member between n ≡ true)
+    → IsFirst a p s between w q → IsFirst a q u goals v r → IsFirst a p (s ++ u) goals (w ++ v) r
+IsFirst-fork a s u p q r goals between w v all l k = record {
+  bytes = bytes-append w v ∙ rw (l.bytes, k.bytes) refl;
+  ends = run-on a p q w v l.ends ∙ k.ends;
+  goal = k.goal;
+  least = λ x n bytes ends g.
+      let c = run-parts a p s u x n bytes ends in
+      elim (l.least c.left c.middle c.left_bytes c.left_ends (all c.middle c.left c.left_bytes c.left_ends (run-behind a p s u x n goals c g))) [
+        | inr before ↦ inr (rw c.joined (precedes-append w c.left v c.right before))
+        | inl same ↦
+            let at : c.middle ≡ q = same-state c.middle q (reached a p w) (ap (reached a p) (sym same) ∙ c.left_ends) l.ends in
+            elim (k.least c.right n c.right_bytes (ap (λ t. reached a t c.right) (sym at) ∙ c.right_ends) g) [
+              | inl same' ↦ inl (c.joined ∙ rw (same, same') refl)
+              | inr before ↦ inr (rw (c.joined, same) (precedes-prefix w v c.right before))
+            ]
+      ];
+}
+
+-- ---- nothing is left
+pub bytes-none : (w : Marked) → bytes_of w ≡ [] → w ≡ []
+bytes-none [] e = refl
+bytes-none (x ∷ w) e = cc
+
+pub run-nothing : (a : DeterministicAutomaton) (p goals : ℕ) → member goals p ≡ true → CanRun a p [] goals
+run-nothing a p goals h = record { word = []; state = p; bytes = refl; ends = refl; goal = h }
+
+pub goal-from_nothing : (a : DeterministicAutomaton) (p goals : ℕ) → CanRun a p [] goals → member goals p ≡ true
+goal-from_nothing a p goals run =
+    let ends : reached a p [] ≡ Some run.state = ap (reached a p) (sym (bytes-none run.word run.bytes)) ∙ run.ends in
+    ap (member goals) (same-state p run.state (Some p) refl ends) ∙ run.goal
+
+pub first-nothing : (a : DeterministicAutomaton) (p goals : ℕ) → member goals p ≡ true → IsFirst a p [] goals [] p
+first-nothing a p goals h = record { bytes = refl; ends = refl; goal = h; least = λ v r bytes ends goal. inl (bytes-none v bytes) }
+
+-- ---- how many marks
+pub mark_count-append : (w v : Marked) → mark_count (w ++ v) ≡ mark_count w + mark_count v
+mark_count-append [] v = sym (zero-add (mark_count v))
+mark_count-append (x ∷ w) v = omega (arith, mark_count-append w v)
+
+pub count-plain : (s : List ℕ) → mark_count (plain s) ≡ 0
+count-plain [] = refl
+count-plain (b ∷ s) = omega (arith, count-plain s)
+
+pub count-more : (m b : ℕ) (w : Marked) → 0 < m → mark_count ((m, b) ∷ w) ≡ 1 + mark_count w
+count-more m b w some = ap (λ z. (if z then 0 else 1) + mark_count w) (above-zero m some)
+
+pub has-count : (w : Marked) → has_mark w ≡ true → 0 < mark_count w
+has-count [] h = cc
+has-count (x ∷ w) h = by (x.0 == 0) h (has-count w)
+  where
+    by : (z : Bool) → (not z || has_mark w) ≡ true → (has_mark w ≡ true → 0 < mark_count w) → 0 < (if z then 0 else 1) + mark_count w
+    by true h f = let k : 0 < mark_count w = f h in omega arith
+    by false h f = omega arith
+
+-- ---- ends of texts
+pub not-empty : (xs : List ℕ) → not (length xs == 0) ≡ has_item xs
+not-empty [] = refl
+not-empty (x ∷ xs) = positive-test (length (x ∷ xs)) (λ e. omega (arith, e))
+
+pub member-one : member 1 0 ≡ true
+member-one = member-single_same 0
+
+-- ---- marks in the list of those with which a text may end
+pub in-end : (ms : List ℕ) (m : ℕ) → Contains ms m → end_in ms m ≡ Some 0
+in-end [] m c = absurd (omega (arith, c.1))
+in-end (x ∷ ms) m c = by (x == m) (λ e. eq-eqb x m e) (λ k. in-end ms m k) c
+  where
+    by : (z : Bool) → (x ≡ m → z ≡ true) → (Contains ms m → end_in ms m ≡ Some 0) → Contains (x ∷ ms) m → (if z then Some 0 else end_in ms m) ≡ Some 0
+    by true same rest k = refl
+    by false same rest (zero, lt, e) = not-both false (same e) refl
+    by false same rest (suc k, lt, e) = rest (k, omega (arith, lt), e)
+
+pub end-among : (ms : List ℕ) (m q : ℕ) → end_in ms m ≡ Some q → (q ≡ 0) × Contains ms m
+end-among [] m q h = cc
+end-among (x ∷ ms) m q h = by (x == m) h (λ e. eqb-true x m e) (end-among ms m q)
+  where
+    by : (z : Bool) → (if z then Some 0 else end_in ms m) ≡ Some q → (z ≡ true → x ≡ m)
+        → (end_in ms m ≡ Some q → (q ≡ 0) × Contains ms m) → (q ≡ 0) × Contains (x ∷ ms) m
+    by true e t f = let same : q ≡ 0 = cc in (same, (0, omega arith, t refl))
+    by false e t f = let k = f e in (k.0, (suc k.1.0, omega (arith, k.1.1), k.1.2))
+
+-- ---- the step over the end
+pub end-step : (a : DeterministicAutomaton) (q m : ℕ) → Contains (ends_of a q) m → step_of a q m 256 ≡ Some 0
+end-step a q m c = step-end a q m ∙ in-end (ends_of a q) m c
+
+pub end-facts : (a : DeterministicAutomaton) (q m r : ℕ) → step_of a q m 256 ≡ Some r → (r ≡ 0) × Contains (ends_of a q) m
+end-facts a q m r h = end-among (ends_of a q) m r (sym (step-end a q m) ∙ h)
+
+pub final-from : (xs : List ℕ) (m : ℕ) → Contains xs m → has_item xs ≡ true
+final-from [] m c = absurd (omega (arith, c.1))
+final-from (x ∷ xs) m c = refl
+
+-- some mark of a final state
+pub final-end : (a : DeterministicAutomaton) (q : ℕ) → is_final a q ≡ true → step_of a q (get_or (ends_of a q) 0 0) 256 ≡ Some 0
+final-end a q f = end-step a q (get_or (ends_of a q) 0 0) (Contains-get_or (ends_of a q) 0 0 (some (ends_of a q) f))
+  where
+    some : (xs : List ℕ) → has_item xs ≡ true → 0 < length xs
+    some [] e = cc
+    some (x ∷ xs) e = omega arith
+
+pub end-run : (a : DeterministicAutomaton) (q : ℕ) → is_final a q ≡ true → CanRun a q (256 ∷ []) 1
+end-run a q f = record {
+  word = (get_or (ends_of a q) 0 0, 256) ∷ [];
+  state = 0;
+  bytes = refl;
+  ends = run-one a q (get_or (ends_of a q) 0 0) 256 ∙ final-end a q f;
+  goal = member-one;
+}
+
+pub run-end : (a : DeterministicAutomaton) (q : ℕ) → CanRun a q (256 ∷ []) 1 → is_final a q ≡ true
+run-end a q run =
+    let one = one-letter a q 256 run.state run.word run.bytes run.ends in
+    final-from (ends_of a q) one.mark (end-facts a q one.mark run.state one.step).1
+
+-- ---- marks are small
+module _ (a : DeterministicAutomaton) (auto : IsDeterministic a) where
+  pub low-mark : (p m b q : ℕ) → step_of a p m b ≡ Some q → m < 65536
+  unfolding step_of
+  low-mark p m b q h = by (b == 256) h
+    where
+      small : m < 4 ^ a.variables → m < 65536
+      small lt = omega (arith, four_le a.variables 8 auto.few_variables)
+
+      by : (z : Bool) → (if z then end_in (ends_of a p) m else next_of a p m b) ≡ Some q → m < 65536
+      by true e = small (auto.ends_small p m (end-among (ends_of a p) m q e).1)
+      by false e = small (auto.marks_small p b m ((auto.marks p b m).1 (q, e)))
+
+  pub fit-byte : (p m b q : ℕ) → b < 256 → step_of a p m b ≡ Some q → Contains (marks_of a p b) m × (m < 65536)
+  fit-byte p m b q low h = ((auto.marks p b m).1 (q, sym (step-byte a p m b low) ∙ h), low-mark p m b q h)
+
+  pub fit-end : (p m q : ℕ) → step_of a p m 256 ≡ Some q → m < 65536
+  fit-end p m q h = low-mark p m 256 q h
+
+-- ---- the goals before the end
+module _ (a : DeterministicAutomaton) (auto : IsDeterministic a) (finals : ℕ) (all : (p : ℕ) → p < states_of a → member finals p ≡ is_final a p) where
+  pub reach-end : (s : List ℕ) (p : ℕ) → p < states_of a → (n : ℕ) (x : Marked) → bytes_of x ≡ s → reached a p x ≡ Some n → CanRun a n (256 ∷ []) 1 → member finals n ≡ true
+  reach-end s p low n x e t run = all n (run-within a auto p n x low t) ∙ run-end a n run
+
+  pub onward-end : (n : ℕ) → n < states_of a → member finals n ≡ true → CanRun a n (256 ∷ []) 1
+  onward-end n low h = end-run a n (sym (all n low) ∙ h)
+
+  pub accepted-from_run : (s : List ℕ) → CanRun a 0 s finals → Accepted a s
+  accepted-from_run s run =
+      let below : run.state < states_of a = run-within a auto 0 run.state run.word auto.has_start run.ends in
+      run-join a 0 run.state 1 s (256 ∷ []) run.word run.bytes run.ends (onward-end run.state below run.goal)
+
+  pub run-from_accepted : (s : List ℕ) → Accepted a s → CanRun a 0 s finals
+  run-from_accepted s run =
+      let c = run-parts a 0 s (256 ∷ []) run.word run.state run.bytes run.ends in
+      let goal = reach-end s 0 auto.has_start c.middle c.left c.left_bytes c.left_ends (run-behind a 0 s (256 ∷ []) run.word run.state 1 c run.goal) in
+      record { word = c.left; state = c.middle; bytes = c.left_bytes; ends = c.left_ends; goal = goal }
+
+  module _ (s : List ℕ) (t : List Row) (is : Tells a s t) (low : marked_of t 0 < 2 ^ 128) where
+    pub accepted-from_table : can_reach_of t 0 finals ≡ true → Accepted a s
+    accepted-from_table can = accepted-from_run s (run-from_table a s t 0 finals is auto.has_start low can)
+
+    pub table-from_accepted : Accepted a s → can_reach_of t 0 finals ≡ true
+    table-from_accepted run = table-from_run a s t 0 finals is auto.has_start (run-from_accepted s run)
+
+-- the empty text is accepted where it may end at once
+pub accepted-empty : (a : DeterministicAutomaton) → (is_final a 0 ≡ true → Accepted a []) × (Accepted a [] → is_final a 0 ≡ true)
+accepted-empty a = ((λ h. end-run a 0 h), (λ r. run-end a 0 r))
