@@ -3,11 +3,11 @@ use Rattle.span_enum.proofs.Base.{Agree, Ahead, AreKept, Begins, CanFinish, Dete
 use Rattle.span_enum.proofs.Base.{IsGreatestMark, IsGround, IsMember, IsNext, IsNoMark, IsStateAt, IsTrailOf, IsTupleOf, IsUnmarked, IsWord, Leads, List, Mark, Marked, NoEndAfter, NoMemberLeft, None, NoneAfter, Option, Place, Some, Tree}
 use Rattle.span_enum.proofs.Base.{Tuple, [], ap, arith, blanks, bytes_of, cases_lt, cut, ended, ends_of, get_or, height, height-by_leaves, height_limit, inl, inr, is_final, last_at, length, length-append, length-text, looks_limit}
 use Rattle.span_enum.proofs.Base.{mark_count, mark_of, member, mul-le-mul_left, mul-le-mul_right, mul_assoc, reached, refl, subst, sym, take, text, text_ahead, true, whole_text, word-tell, word_of, word_over, write_mark, write_word}
-use Rattle.span_enum.proofs.Base.{ℕ, ◌*◌, ◌++◌, ◌+◌, ◌-◌, ◌<◌, ◌∙◌, ◌∷◌, ◌≡◌, ◌≤◌}
+use Rattle.span_enum.proofs.Base.{ℕ, ◌*◌, ◌++◌, ◌+◌, ◌-◌, ◌∙◌, ◌∷◌, ◌≡◌, ◌≤◌}
 use Rattle.span_enum.specs.Tuples.{end_mark}
 use Rattle.span_enum.specs.Letters.{step_of}
 use Rattle.span_enum.proofs.Kept.{kept-join, kept-other, last-append, last-inside, leads-size, none-behind_last}
-use Rattle.span_enum.proofs.Runs.{IsFirst-byte, IsFirst-fork, bytes-append, final-end, fit-end, length-bytes, mark_count-append, member-one, reach-end, run-on, run-within, same-state}
+use Rattle.span_enum.proofs.Runs.{IsFirst-byte, IsFirst-fork, bytes-append, final-end, fit-end, length-bytes, mark_count-append, member-one, reach-end, run-on, run-within}
 use Rattle.span_enum.proofs.Tuples.{IsText, accepts-from_member, few-marks, first-member, none-member, read-back, wellmarked, word-run}
 use Rattle.span_enum.proofs.Words.{IsNext-byte, IsNext-fork, IsNext-front, append-same, none-byte, none-fork, over-bytes, over-length, over-same, over-split, read-cut, write_word-append}
 
@@ -174,17 +174,6 @@ module _ (g : Ground) (is : IsGround g) (text : IsText (whole_text g)) where
       cost h c le looks =
           let x : h * c ≤ h * (2 * a.variables) = mul-le-mul_left h le in
           omega (arith, x, looks, mul_assoc 4 (2 * a.variables + 1) (h + 3))
-
--- ---- the end of the text
--- where the state isn't known, the tuple has no mark at the end that could be lowered
-pub end-unknown : (g : Ground) (t : Tuple) (end : ℕ) → end ≡ length (whole_text g) + 1 → IsStateAt g (Some t) None → NoEndAfter g t end
-end-unknown g t end at is q run m below = absurd (none (end_mark t end) (ap (end_mark t) at ∙ is q run) below)
-  where
-    none : (n : ℕ) → n ≡ 0 → m < n → ⊥
-    none n e lt = omega arith
-
-pub end-known : (g : Ground) (t : Tuple) (end q : ℕ) → reached g.dfa.now 0 (word_over t 1 (whole_text g)) ≡ Some q → ((m : ℕ) → IsNoMark g.dfa.now q 256 1 (end_mark t end) m) → NoEndAfter g t end
-end-known g t end q run none p k = subst (λ n. (m : ℕ) → IsNoMark g.dfa.now n 256 1 (end_mark t end) m) (same-state q p (reached g.dfa.now 0 (word_over t 1 (whole_text g))) run k) none
 
 -- only the mark at the end is lower
 pub trail-agree : (g : Ground) (t u : Tuple) (ms : List (Option Mark)) (hs : List (Option Ahead)) → Agree t u (length (whole_text g) + 1) → IsTrailOf g t ms hs → IsTrailOf g u ms hs

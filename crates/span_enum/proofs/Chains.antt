@@ -141,10 +141,7 @@ fits-none g hs k o le e = absurd (omega (arith, slice_get_within hs k o e))
 
 -- the list is short
 pub fits-short : (g : Ground) (base : ℕ) (hs : List (Option Ahead)) → Fits g base hs → length hs ≤ base + 69
-fits-short g base hs f = elim ((slice_get_cases hs (base + 69)).1) [
-  | inr past ↦ past.0
-  | inl k ↦ absurd (most k.0 (f (base + 69) k.0 (omega arith) k.2))
-]
+fits-short g base hs f = elim ((slice_get_cases hs (base + 69)).1) [ inr past ↦ past.0 | inl k ↦ absurd (most k.0 (f (base + 69) k.0 (omega arith) k.2)) ]
   where
     most : (o : Option Ahead) → FitsAt g (base + 69 - base) o → ⊥
     most None h = h

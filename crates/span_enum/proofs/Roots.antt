@@ -1,11 +1,11 @@
 -- The root of a text ahead of its first letter, and what it tells of the text.
-use Rattle.span_enum.proofs.Base.{Ahead, AreAhead, AreBetween, AreGoals, AreQuiet, AreTables, Begins, CanRun, DeterministicAutomaton, Dictionary, Ground, IsAhead, IsFresh, IsGround, IsLive, IsLook, List, Look, Mark, Node, NodeId, None}
-use Rattle.span_enum.proofs.Base.{Option, Some, [], ap, append-nil, arith, cases_eq, count_of, ends_of, false, inl, inr, length, length-take-le, refl, slice_get, subst, sym, take, text_ahead, text_at, text_of, whole_text, ℕ, ◌<◌}
-use Rattle.span_enum.proofs.Base.{◌∙◌, ◌∷◌, ◌≡◌, ◌≤◌}
+use Rattle.span_enum.proofs.Base.{Ahead, AreAhead, AreBetween, AreQuiet, AreTables, Begins, CanRun, DeterministicAutomaton, Dictionary, Ground, IsAhead, IsFresh, IsGround, IsLive, IsLook, List, Look, Mark, Node, NodeId, None, Option, Some}
+use Rattle.span_enum.proofs.Base.{Stands, [], ap, append-nil, arith, count_of, ends_of, false, length, length-take-le, refl, slice_get, subst, suc, sym, take, text_ahead, text_at, text_of, whole_text, ℕ, ◌++◌, ◌<◌, ◌∙◌, ◌∷◌, ◌≡◌}
+use Rattle.span_enum.proofs.Base.{◌≤◌}
 use Rattle.span_enum.proofs.Chains.{fits-none}
 use Rattle.span_enum.proofs.Runs.{AreBytes, Tells, bytes-none, end-facts, final-from, goal-from_nothing, run-nothing}
-use Rattle.span_enum.proofs.Tables.{look-table}
 use Rattle.span_enum.proofs.Tuples.{IsText}
+use Rattle.span_enum.proofs.Ways.{back-none, next-node, passes-none}
 
 between-end : (a : DeterministicAutomaton) (p : ℕ) (s : List ℕ) (goals : ℕ) → AreBetween a p s [] goals goals
 between-end a p s goals = record { reach = λ n x e t run. goal-from_nothing a n goals run; onward = λ n h. run-nothing a n goals h }
@@ -25,15 +25,6 @@ pub ground-text : (g : Ground) → IsGround g → length (whole_text g) ≤ 2814
 ground-text g is short = record { bytes = root-bytes g.dfa.now g.view.store.now g.view.tables.now g.root is.ready.tables g.view.counted is.ready.live; short = short }
 
 -- ---- nothing is read
-pub fresh-none : (g : Ground) → IsGround g → g.root ≡ None → (ms : List (Option Mark)) (hs : List (Option Ahead)) → ms ≡ [] → hs ≡ [] → IsFresh g ms hs
-fresh-none g is e ms hs unmarked empty = record {
-  no_marks = unmarked;
-  chain = [];
-  stands = record { ahead = ap length empty; join = tt; goals = tt; state = is.automaton.has_start; quiet = λ e. cc };
-  text_is = ap (λ r. text_of g.view.store.now r) (sym e);
-  one = omega (arith, ap length empty);
-}
-
 pub fresh-root : (g : Ground) (id : NodeId) (look : Look) → IsGround g → g.root ≡ Some id → IsLook g.view.store.now g.view.tables.now id.index look.node look.len look.table.now
     → (ms : List (Option Mark)) (hs : List (Option Ahead)) → ms ≡ [] → hs ≡ Some (record { id = id; look = look; at = 1; goals = g.finals; quiet = g.quiet; next = 0 }) ∷ [] → IsFresh g ms hs
 fresh-root g id look is e l ms hs unmarked one =
@@ -56,42 +47,26 @@ fresh-root g id look is e l ms hs unmarked one =
     }
 
 -- ---- the root in the list
--- the node that stands alone ahead, whose text is the whole one
-pub record IsRoot (g : Ground) (hs : List (Option Ahead)) (h : Ahead) : Type 0 where
-  pub there : slice_get hs 0 ≡ Some (Some h)
-  pub ahead : IsAhead g h
-  pub text_is : text_at g h.id.index ≡ whole_text g
-
+-- it stands there alone, if there is one
 pub no-root : (g : Ground) (ms : List (Option Mark)) (hs : List (Option Ahead)) → IsFresh g ms hs → length hs ≡ 0 → whole_text g ≡ []
-no-root g ms hs is none = by is.chain is.stands.ahead is.text_is
-  where
-    by : (c : List Ahead) → AreAhead hs (length hs) c → text_ahead g c ≡ whole_text g → whole_text g ≡ []
-    by [] h e = sym e
-    by (x ∷ c) h e = absurd (omega (arith, h.0.counted))
+no-root g ms hs is none = sym is.text_is ∙ ap (text_ahead g) (back-none hs (length hs) is.chain is.stands.ahead (omega (arith, none)))
 
-pub the-root : (g : Ground) (ms : List (Option Mark)) (hs : List (Option Ahead)) → IsFresh g ms hs → (length hs ≡ 0 → ⊥) → (h : Ahead) × IsRoot g hs h
-the-root g ms hs is some = by is.chain is.stands.ahead is.stands.goals is.text_is
-  where
-    behind : (x : Ahead) (c : List Ahead) → x.next ≡ 0 → AreAhead hs x.next c → text_ahead g (x ∷ c) ≡ text_at g x.id.index
-    behind x [] e h = append-nil (text_at g x.id.index)
-    behind x (y ∷ c) e h = absurd (omega (arith, e, h.0.counted))
+root-alone : (g : Ground) (hs : List (Option Ahead)) (x : Ahead) (c : List Ahead) → AreAhead hs (length hs) (x ∷ c) → length hs ≤ 1 → text_ahead g (x ∷ c) ≡ text_at g x.id.index
+root-alone g hs x c h one = ap (λ b. text_at g x.id.index ++ text_ahead g b) (back-none hs x.next c h.1 (omega (arith, h.0.counted, h.0.earlier, one))) ∙ append-nil (text_at g x.id.index)
 
-    by : (c : List Ahead) → AreAhead hs (length hs) c → AreGoals g 0 [] c → text_ahead g c ≡ whole_text g → (h : Ahead) × IsRoot g hs h
-    by [] h goals e = absurd (some h)
-    by (x ∷ c) h goals e =
-        let first : h.0.before ≡ 0 = omega (arith, h.0.counted, is.one) in
-        let next : x.next ≡ 0 = omega (arith, first, h.0.earlier) in
-        (x, record { there = ap (slice_get hs) (sym first) ∙ h.0.there; ahead = goals.0; text_is = sym (behind x c next h.1) ∙ e })
-
-pub root-tells : (g : Ground) (hs : List (Option Ahead)) (h : Ahead) → IsGround g → IsRoot g hs h → Tells g.dfa.now (whole_text g) h.look.table.now
-root-tells g hs h is root = subst (λ s. Tells g.dfa.now s h.look.table.now) root.text_is
-    (look-table g.dfa.now g.view.store.now g.view.tables.now is.ready.tables g.view.counted h.id.index _ _ _ root.ahead.live root.ahead.look)
+pub root-tells : (g : Ground) → IsGround g → (ms : List (Option Mark)) (hs : List (Option Ahead)) (h : Ahead) → IsFresh g ms hs → 0 < length hs
+    → ((before : ℕ) → length hs ≡ suc before → slice_get hs before ≡ Some (Some h)) → Tells g.dfa.now (whole_text g) h.look.table.now
+root-tells g ground ms hs h is some found =
+    let n = next-node g ground hs 1 _ _ is.chain (passes-none g hs 1 (record { state = 0; next = length hs; quiet = false }) is.chain is.stands) h some found in
+    let whole : text_at g h.id.index ≡ whole_text g = sym (root-alone g hs h n.rest n.stands.ahead is.one) ∙ ap (text_ahead g) (sym n.back) ∙ is.text_is in
+    subst (λ s. Tells g.dfa.now s h.look.table.now) whole n.tells
 
 pub text-short : (g : Ground) (ms : List (Option Mark)) (hs : List (Option Ahead)) → IsFresh g ms hs → length (whole_text g) ≤ 281474976710656
-text-short g ms hs is = elim (cases_eq (length hs) 0) [
-  | inl none ↦ omega (arith, ap length (no-root g ms hs is none))
-  | inr some ↦ let root = the-root g ms hs is some in omega (arith, root.1.ahead.look.len_is, root.1.ahead.look.short, ap length root.1.text_is)
-]
+text-short g ms hs is = by is.chain is.stands is.text_is
+  where
+    by : (c : List Ahead) → Stands g hs 1 (record { state = 0; next = length hs; quiet = false }) c → text_ahead g c ≡ whole_text g → length (whole_text g) ≤ 281474976710656
+    by [] s e = omega (arith, ap length e)
+    by (x ∷ c) s e = omega (arith, ap length (sym (root-alone g hs x c s.ahead is.one) ∙ e), s.goals.0.look.len_is, s.goals.0.look.short)
 
 -- nothing is read yet, and some text is accepted
 pub fresh-begins : (g : Ground) (ms : List (Option Mark)) (hs : List (Option Ahead)) (count : ℕ) → (is : IsFresh g ms hs) → count ≡ length hs → CanRun g.dfa.now 0 (whole_text g) g.finals

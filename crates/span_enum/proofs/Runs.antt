@@ -312,10 +312,7 @@ precedes-split (x ∷ w1) (y ∷ v1) w2 v2 e (inr k) =
     let bytes : bytes_of w1 ≡ bytes_of v1 = cc in
     let byte : x.1 ≡ y.1 = cc in
     let pair : x ≡ y = ap (λ n. (n, x.1)) k.0 ∙ ap (λ c. (y.0, c)) byte in
-    elim (precedes-split w1 v1 w2 v2 bytes k.1) [
-      | inl before ↦ inl (inr (k.0, before))
-      | inr rest ↦ inr (rw (pair, rest.0) refl, rest.1)
-    ]
+    elim (precedes-split w1 v1 w2 v2 bytes k.1) [ inl before ↦ inl (inr (k.0, before)) | inr rest ↦ inr (rw (pair, rest.0) refl, rest.1) ]
 
 -- ---- the first marked text
 -- where no marked run reaches a goal, the plain text is the only one
@@ -344,10 +341,7 @@ IsFirst-byte a p b m goals q step goal most = record {
   least = λ v r bytes ends g.
       let one = one-letter a p b r v bytes ends in
       let within : one.mark ≤ m = most one.mark r one.step g in
-      elim (cases_eq one.mark m) [
-        | inl e ↦ inl (one.word ∙ ap (λ n. (n, b) ∷ []) e)
-        | inr ne ↦ inr (rw one.word (inl (omega arith)))
-      ];
+      elim (cases_eq one.mark m) [ inl e ↦ inl (one.word ∙ ap (λ n. (n, b) ∷ []) e) | inr ne ↦ inr (rw one.word (inl (omega arith))) ];
 }
 
 pub IsFirst-fork : (a : DeterministicAutomaton) (s u : List ℕ) (p q r goals between : ℕ) (w v : Marked)

@@ -59,12 +59,10 @@ if-other p k true ne = member-single_other p k ne
 if-other p k false ne = member-zero k
 
 pub member-more_other : (set p k : ℕ) (t : Bool) → k ≢ p → member (bit_or set (if t then 2 ^ p else 0)) k ≡ member set k
-member-more_other set p k t ne =
-    member-or set (if t then 2 ^ p else 0) k ∙ ap (λ z. member set k || z) (if-other p k t ne) ∙ or-false (member set k)
+member-more_other set p k t ne = member-or set (if t then 2 ^ p else 0) k ∙ ap (λ z. member set k || z) (if-other p k t ne) ∙ or-false (member set k)
 
 pub member-more_same : (set p : ℕ) (t : Bool) → member set p ≡ false → member (bit_or set (if t then 2 ^ p else 0)) p ≡ t
-member-more_same set p t none =
-    member-or set (if t then 2 ^ p else 0) p ∙ ap (λ z. z || member (if t then 2 ^ p else 0) p) none ∙ if-same p t
+member-more_same set p t none = member-or set (if t then 2 ^ p else 0) p ∙ ap (λ z. z || member (if t then 2 ^ p else 0) p) none ∙ if-same p t
 
 pub member-more_old : (set p k : ℕ) (t : Bool) → member set k ≡ true → member (bit_or set (if t then 2 ^ p else 0)) k ≡ true
 member-more_old set p k t h = member-or set (if t then 2 ^ p else 0) k ∙ or-left _ _ h
@@ -83,10 +81,7 @@ member-more_cases set p k t h = elim (or-cases _ _ (sym (member-or set (if t the
 
 pub single-is : (o : Option ℕ) (q : ℕ) → member (single_of o) q ≡ true → o ≡ Some q
 single-is None q h = not-both (member 0 q) h (member-zero q)
-single-is (Some r) q h = elim (cases_eq q r) [
-  | inl same ↦ ap (λ n. Some n) (sym same)
-  | inr other ↦ not-both (member (2 ^ r) q) h (member-single_other r q other)
-]
+single-is (Some r) q h = elim (cases_eq q r) [ inl same ↦ ap (λ n. Some n) (sym same) | inr other ↦ not-both (member (2 ^ r) q) h (member-single_other r q other) ]
 
 -- ---- a falling list that has each mark with a step over the letter
 module _ (a : DeterministicAutomaton) (p b goals limit i : ℕ) (ms : List ℕ) (all : (n r : ℕ) → step_of a p n b ≡ Some r → Contains ms n)
@@ -96,13 +91,9 @@ module _ (a : DeterministicAutomaton) (p b goals limit i : ℕ) (ms : List ℕ) 
   place-behind n r low step goal =
       let c = all n r step in
       let at : get_or ms c.0 0 ≡ n = get_or_default ms c.0 0 n c.1 ∙ c.2 in
-      elim (cases_lt c.0 i) [
-        | inl before ↦ absurd (none c.0 before (rw at low) r (ap (λ x. step_of a p x b) at ∙ step) goal)
-        | inr from ↦ (c.0, from, c.1, at)
-      ]
+      elim (cases_lt c.0 i) [ inl before ↦ absurd (none c.0 before (rw at low) r (ap (λ x. step_of a p x b) at ∙ step) goal) | inr from ↦ (c.0, from, c.1, at) ]
 
-  pub greatest-at : (q : ℕ) → AllPairs (λ x y. y < x) ms → i < length ms
-      → step_of a p (get_or ms i 0) b ≡ Some q → member goals q ≡ true → get_or ms i 0 < limit
+  pub greatest-at : (q : ℕ) → AllPairs (λ x y. y < x) ms → i < length ms → step_of a p (get_or ms i 0) b ≡ Some q → member goals q ≡ true → get_or ms i 0 < limit
       → IsGreatestMark a p b goals limit (get_or ms i 0) q
   greatest-at q falls lt step goal below = record {
     step = step;

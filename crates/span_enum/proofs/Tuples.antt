@@ -159,9 +159,6 @@ word-same s t h = ap (λ m. word_over t 1 s ++ (m, 256) ∷ []) (end_mark-same t
 pub word-lies : (s : List ℕ) (t : Tuple) → Lies (length s) t → word_of t s ≡ marked s t
 word-lies s t lies = word-same s t (lies-reaches (length s) t lies)
 
-pub few-marks_of : (k : ℕ) (t : Tuple) (s : List ℕ) → length t ≡ k → Lies (length s) t → mark_count (word_of t s) ≤ 2 * k
-few-marks_of k t s e lies = rw (word-lies s t lies) (omega (arith, marks-few (length t) (spans_of t) 1 (ended s)))
-
 -- a tuple is read back from its marks
 pub read-back : (k : ℕ) (t : Tuple) (s : List ℕ) → IsTupleOf k t → Lies (length s) t → write_word 1 (word_of t s) (blanks k) ≡ t
 read-back k t s is lies =
@@ -172,8 +169,7 @@ same-tuple k t u s it iu lt lu e = tells s t u it.valid iu.valid (it.size ∙ sy
 
 -- ---- the order
 -- a last mark that counts 1 more
-raised : (w v : Marked) (m x : ℕ) → bytes_of w ≡ bytes_of v
-    → Precedes (w ++ (m + 1, 256) ∷ []) (v ++ (x, 256) ∷ [])
+raised : (w v : Marked) (m x : ℕ) → bytes_of w ≡ bytes_of v → Precedes (w ++ (m + 1, 256) ∷ []) (v ++ (x, 256) ∷ [])
     → Precedes (w ++ (m, 256) ∷ []) (v ++ (x, 256) ∷ []) ⊎ (w ++ (m, 256) ∷ [] ≡ v ++ (x, 256) ∷ [])
 raised w v m x e h = elim (precedes-split w v ((m + 1, 256) ∷ []) ((x, 256) ∷ []) e h) [
   | inl before ↦ inl (precedes-append w v ((m, 256) ∷ []) ((x, 256) ∷ []) before)
@@ -186,15 +182,11 @@ raised w v m x e h = elim (precedes-split w v ((m + 1, 256) ∷ []) ((x, 256) �
   ]
 ]
 
-lowered : (w v : Marked) (m x : ℕ) → bytes_of w ≡ bytes_of v
-    → Precedes (w ++ (m, 256) ∷ []) (v ++ (x, 256) ∷ []) ⊎ (w ++ (m, 256) ∷ [] ≡ v ++ (x, 256) ∷ [])
+lowered : (w v : Marked) (m x : ℕ) → bytes_of w ≡ bytes_of v → Precedes (w ++ (m, 256) ∷ []) (v ++ (x, 256) ∷ []) ⊎ (w ++ (m, 256) ∷ [] ≡ v ++ (x, 256) ∷ [])
     → Precedes (w ++ (m + 1, 256) ∷ []) (v ++ (x, 256) ∷ [])
 lowered w v m x e (inl h) = elim (precedes-split w v ((m, 256) ∷ []) ((x, 256) ∷ []) e h) [
   | inl before ↦ precedes-append w v ((m + 1, 256) ∷ []) ((x, 256) ∷ []) before
-  | inr k ↦ elim k.1 [
-    | inl lt ↦ rw k.0 (precedes-prefix v ((m + 1, 256) ∷ []) ((x, 256) ∷ []) (inl (omega arith)))
-    | inr z ↦ absurd z.1
-  ]
+  | inr k ↦ elim k.1 [ inl lt ↦ rw k.0 (precedes-prefix v ((m + 1, 256) ∷ []) ((x, 256) ∷ []) (inl (omega arith))) | inr z ↦ absurd z.1 ]
 ]
 lowered w v m x e (inr same) = rw (← same) (precedes-prefix w ((m + 1, 256) ∷ []) ((m, 256) ∷ []) (inl (omega arith)))
 

@@ -84,8 +84,7 @@ letter-same m n b w v e =
 
 -- ---- looks
 -- two looks at the children, and the looks below them
-pub lower-cost : (t : Tuple) (at h hl hr before now mid after : ℕ) (s u : List ℕ) → h ≡ max hl hr + 1 → now ≡ before + 2
-    → 0 < mark_count (word_over t at (s ++ u))
+pub lower-cost : (t : Tuple) (at h hl hr before now mid after : ℕ) (s u : List ℕ) → h ≡ max hl hr + 1 → now ≡ before + 2 → 0 < mark_count (word_over t at (s ++ u))
     → mid ≤ now + 2 * (hl * mark_count (word_over t at s)) → after ≤ mid + 2 * (hr * mark_count (word_over t (at + length s) u))
     → after ≤ before + 2 * (h * mark_count (word_over t at (s ++ u)))
 lower-cost t at h hl hr before now mid after s u eh en pos l r =
@@ -127,10 +126,7 @@ IsNext-byte a p b goals old m q best = record {
   least = λ v r h.
       let one = byte-after a p b goals old v r h in
       let within : one.0.mark ≤ m = best.most one.0.mark r one.1 one.0.step h.goal in
-      elim (cases_eq one.0.mark m) [
-        | inl e ↦ inl (one.0.word ∙ ap (λ n. (n, b) ∷ []) e)
-        | inr ne ↦ inr (rw one.0.word (inl (omega arith)))
-      ];
+      elim (cases_eq one.0.mark m) [ inl e ↦ inl (one.0.word ∙ ap (λ n. (n, b) ∷ []) e) | inr ne ↦ inr (rw one.0.word (inl (omega arith))) ];
 }
 
 -- ---- two joined texts

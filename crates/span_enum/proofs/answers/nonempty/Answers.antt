@@ -10,10 +10,7 @@ returns-in-None-clause-some g c =
     let auto = c.states-states.ensures.automaton in
     let tests : not c.is_empty.result ≡ is_final a 0 = rw (c.is_empty.ensures, c.ends.ensures) (not-empty (ends_of a 0)) in
     let both = accepted-empty a in
-    rw c.in-None.is (
-      (λ h. some-from_accepted a auto [] no-text (both.0 (sym tests ∙ h))),
-      (λ h. (tests ∙ both.1 (accepted-from_some a auto [] no-text h))),
-    )
+    rw c.in-None.is ((λ h. some-from_accepted a auto [] no-text (both.0 (sym tests ∙ h))), (λ h. (tests ∙ both.1 (accepted-from_some a auto [] no-text h))))
 
 pub returns-in-Some-clause-some : goal.returns-in-Some-clause-some
 returns-in-Some-clause-some g c =

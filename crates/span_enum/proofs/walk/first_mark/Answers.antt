@@ -3,12 +3,7 @@ use Rattle.span_enum.proofs.Tuples.{mark-none, mark-some}
 use Rattle.span_enum.proofs.walk.first_mark.Goals as goal
 
 pub loop-v-init : goal.loop-v-init
-loop-v-init c = record {
-  from = omega arith;
-  to = omega arith;
-  none = λ k lt. absurd (omega arith);
-  some = λ lt. absurd (omega arith);
-}
+loop-v-init c = record { from = omega arith; to = omega arith; none = λ k lt. absurd (omega arith); some = λ lt. absurd (omega arith) }
 
 pub loop-v-preserved : goal.loop-v-preserved
 loop-v-preserved c = record {
