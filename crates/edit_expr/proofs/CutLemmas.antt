@@ -3,7 +3,8 @@ use Rattle.std.proofs.Common.{◌≡◌, ℕ, ◌+◌, ◌-◌, ◌≤◌, ◌&&
 use Rattle.std.proofs.lemmas.Bool.{leb-true}
 use Rattle.std.proofs.lemmas.List.{length-take}
 use Rattle.std.proofs.lemmas.Grind.{common_steps}
-use Rattle.edit_expr.specs.Eval.{extracted, is_range, Outcome, ranged, size}
+use Rattle.span_types.specs.Ranges.{is_range}
+use Rattle.edit_expr.specs.Eval.{extracted, Outcome, ranged, size}
 use Rattle.edit_expr.specs.declared.refusal.EditRefusal.TheVariants.{OutOfRange}
 
 and-left : (x y : Bool) → (x && y) ≡ true → x ≡ true

@@ -1,5 +1,6 @@
 -- What an editing expression means on plain texts.
-use Rattle.std.specs.Prelude.{ℕ, ◌+◌, ◌-◌, ◌^◌, ◌&&◌, max, Bool, cond, nat_le, List, [], ◌∷◌, ◌++◌, length, take, drop, slice_range, Result, Ok, Err}
+use Rattle.std.specs.Prelude.{ℕ, ◌+◌, ◌-◌, ◌^◌, max, cond, nat_le, List, [], ◌∷◌, ◌++◌, length, take, drop, slice_range, Result, Ok, Err}
+use Rattle.span_types.specs.Ranges.{is_range}
 use Rattle.doc_book.specs.Docs.{is_same}
 use Rattle.edit_expr.specs.declared.expr.Expr.{Expr}
 use Rattle.edit_expr.specs.declared.expr.Expr.TheVariants.{Doc, Concat', Extract', Delete', Insert', Copy'}
@@ -27,10 +28,6 @@ named (d ∷ ds) name = cond (is_same name d.0) (Ok d.1) (named ds name)
 -- the text, which is to have at most 2^48 bytes
 abbrev pub fitting : List ℕ → Outcome
 fitting text = cond (nat_le (length text) (2 ^ 48)) (Ok text) (Err (TooLong (length text)))
-
--- whether 1 ≤ i ≤ j ≤ n+1
-abbrev pub is_range : ℕ → ℕ → ℕ → Bool
-is_range i j n = nat_le 1 i && (nat_le i j && nat_le j (n + 1))
 
 -- the outcome where this is a range of n bytes, and else the refusal
 abbrev pub ranged : ℕ → ℕ → ℕ → Outcome → Outcome

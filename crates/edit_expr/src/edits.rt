@@ -3,7 +3,8 @@ ghost use Rattle.std.specs.Prelude.{◌≡◌, ◌≤◌, ◌+◌, ◌*◌, ◌^
 ghost use Rattle.slp_model.specs.Tree.{root_height};
 ghost use Rattle.slp_model.specs.Nodes.{root_tree, Grows, IsLive};
 ghost use Rattle.span_types.specs.Fibonacci.{height_limit};
-ghost use Rattle.edit_expr.specs.Eval.{copied, deleted, extracted, inserted, is_range, joined};
+ghost use Rattle.span_types.specs.Ranges.{is_range};
+ghost use Rattle.edit_expr.specs.Eval.{copied, deleted, extracted, inserted, joined};
 ghost use Rattle.edit_expr.specs.Values.{IsValue, text_at};
 
 use crate::EditRefusal;

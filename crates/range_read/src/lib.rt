@@ -13,7 +13,8 @@
 //! stack of what is still to come (D. Knuth, *The Art of Computer Programming*, volume 1, section 2.3.1).
 #![tactic(auto)]
 
-ghost use Rattle.std.specs.Prelude.{◌≡◌, ◌+◌, ◌-◌, ◌<◌, ◌≤◌, ◌∷◌, ◌++◌, length, take, drop, IfOk, vec_len, vec_capacity};
+ghost use Rattle.std.specs.Prelude.{◌≡◌, ◌+◌, ◌<◌, ◌≤◌, ◌∷◌, ◌++◌, length, drop, IfOk, vec_len, vec_capacity};
+ghost use Rattle.span_types.specs.Ranges.{content};
 ghost use Rattle.slp_model.specs.Tree.{text, height, leaves, root_text, root_leaves};
 ghost use Rattle.slp_model.specs.Nodes.{tree, root_tree, IsLive};
 ghost use Rattle.range_read.specs.Waiting.{IsTrail, trail_text};
@@ -108,7 +109,7 @@ impl<'a> RangeBytes<'a> {
         requires from { 1 ≤ i }
         requires order { i ≤ j }
         requires within { j ≤ root_leaves (root_tree store.now root) + 1 }
-        ensures { IfOk result (λ bytes. bytes ≡ take (j - i) (drop (i - 1) (root_text (root_tree store.now root)))) }
+        ensures { IfOk result (λ bytes. bytes ≡ content (root_text (root_tree store.now root)) i j) }
     {
         let id = match root {
             Some(id) if i < j => id,

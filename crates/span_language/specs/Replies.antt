@@ -1,7 +1,8 @@
 -- The replies of commands, and what they show of plain texts.
-use Rattle.std.specs.Prelude.{◌≡◌, ℕ, ◌+◌, ◌-◌, ◌&&◌, Bool, cond, nat_le, List, [], ◌∷◌, ◌++◌, length, take, drop, codes, Result, Ok, Err}
+use Rattle.std.specs.Prelude.{◌≡◌, ℕ, ◌-◌, cond, nat_le, List, [], ◌∷◌, ◌++◌, length, take, codes, Result, Ok, Err}
 use Rattle.std.specs.List.{flat_map}
 use Rattle.std.specs.Option.{option_map_or}
+use Rattle.span_types.specs.Ranges.{content, is_range}
 use Rattle.report_text.specs.Reply.{doc_text, name_text}
 use Rattle.report_text.specs.declared.refusal.Refusal.{Refusal}
 use Rattle.report_text.specs.declared.refusal.Refusal.TheVariants.{NoSuchDocument, OutOfRange, TooLong, RangeTooWide}
@@ -32,14 +33,10 @@ entry_text doc = name_text doc.0 (length doc.1)
 abbrev pub names_text : Documents → List ℕ
 names_text docs = flat_map entry_text docs ++ (codes "end" ++ 10 ∷ [])
 
--- whether 1 ≤ i ≤ j ≤ n+1
-abbrev pub is_range : ℕ → ℕ → ℕ → Bool
-is_range i j n = nat_le 1 i && (nat_le i j && nat_le j (n + 1))
-
 -- bytes i to j-1 of a text, or the first of the two refusals
 abbrev pub shown_range : List ℕ → ℕ → ℕ → Result (List ℕ) Refusal
 shown_range text i j = cond (is_range i j (length text))
-    (cond (nat_le (j - i) 4096) (Ok (take (j - i) (drop (i - 1) text))) (Err (RangeTooWide (j - i))))
+    (cond (nat_le (j - i) 4096) (Ok (content text i j)) (Err (RangeTooWide (j - i))))
     (Err (OutOfRange i j (length text)))
 
 -- bytes i to j-1 of the document of this name, or the first refusal

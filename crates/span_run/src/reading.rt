@@ -1,10 +1,10 @@
 //! Lengths and bytes of the texts in a store, and of files.
-ghost use Rattle.std.specs.Prelude.{◌≡◌, ◌≤◌, ◌+◌, ◌-◌, ◌^◌, [], length, take, drop, IfOk, IfErr, OnOk};
+ghost use Rattle.std.specs.Prelude.{◌≡◌, ◌≤◌, ◌+◌, ◌^◌, [], length, take, IfOk, IfErr, OnOk};
 ghost use Rattle.edge_io.specs.Causes.{Rose};
 ghost use Rattle.span_run.specs.Reading.{IsFileFront, IsTurnedAway};
 ghost use Rattle.slp_model.specs.Nodes.{IsLive};
 ghost use Rattle.edit_expr.specs.Values.{text_at};
-ghost use Rattle.span_language.specs.Replies.{is_range};
+ghost use Rattle.span_types.specs.Ranges.{content, is_range};
 
 use edge_io::{Shelf, ShelfRefusal};
 use node_store::Store;
@@ -48,7 +48,7 @@ pub fn bytes_between(
     requires first { 1 ≤ i }
     requires order { i ≤ j }
     requires last { j ≤ length (text_at store.now root) + 1 }
-    ensures { IfOk result (λ bytes. bytes.items ≡ take (j - i) (drop (i - 1) (text_at store.now root))) }
+    ensures { IfOk result (λ bytes. bytes.items ≡ content (text_at store.now root) i j) }
 {
     let range = RangeBytes::new(alloc, store, root, i, j)?;
     let bytes = range.collect(alloc)?;

@@ -3,6 +3,7 @@ pub mod VarList
 pub mod Fibonacci
 pub mod Places
 pub mod Marks
+pub mod Ranges
 pub mod Writes
 pub mod PlaceLaws
 pub mod Search

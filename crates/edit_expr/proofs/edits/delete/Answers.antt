@@ -4,7 +4,7 @@ use Rattle.slp_model.specs.Tree.{root_height}
 use Rattle.slp_model.specs.Nodes.{root_tree}
 use Rattle.slp_model.proofs.NodesLemmas.{Grows-none, Grows-trans}
 use Rattle.slp_model.proofs.TreeLemmas.{length-root_text}
-use Rattle.edit_expr.specs.Eval.{is_range}
+use Rattle.span_types.specs.Ranges.{is_range}
 use Rattle.edit_expr.specs.Values.{text_at}
 use Rattle.edit_expr.proofs.CutLemmas.{range-end, range-start, range-order, ranged-in, cut-lengths, take-most, take-shorter}
 use Rattle.edit_expr.proofs.EvalLemmas.{height-grows, leaves-grows, root_cost-most, text_at-grows}

@@ -3,7 +3,7 @@ use Rattle.slp_model.specs.Nodes.{root_tree}
 use Rattle.slp_model.proofs.NodesLemmas.{Grows-none, Grows-trans}
 use Rattle.slp_model.proofs.TreeLemmas.{length-root_text}
 use Rattle.span_types.specs.Fibonacci.{height_limit}
-use Rattle.edit_expr.specs.Eval.{is_range}
+use Rattle.span_types.specs.Ranges.{is_range}
 use Rattle.edit_expr.specs.Values.{text_at}
 use Rattle.edit_expr.proofs.CutLemmas.{range-end, cut-lengths, ranged-in}
 use Rattle.edit_expr.proofs.EvalLemmas.{fitting-fits, height-grows, leaves-grows, root_cost-most, text_at-grows}
