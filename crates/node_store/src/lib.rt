@@ -11,10 +11,9 @@
 //! Nodes are only added and never change, so an id means the same text ever after.
 //!
 //! `byte` and `pair` take expected constant time, amortized where the store grows, the other calls on a node constant
-//! time, and `thin` linear time. The first node takes a table of guesses where nodes stand, 2 MiB. A node takes 25
-//! bytes where the vectors are full: 12 itself, 9 its length and height, and 4 for the first pair that has it on the left. Most
-//! nodes are such a first pair, and are found through their left child; each other one takes 31 bytes more. Full vectors
-//! double, and a full index grows fourfold.
+//! time, and `thin` linear time. A node takes 25 bytes where the vectors are full: 12 itself, 9 its length and height, and 4 for
+//! the first pair that has it on the left. Most nodes are such a first pair, and are found through their left child; each other
+//! one takes 31 bytes more. Full vectors double, and a full index grows fourfold, or twofold where it is large.
 //!
 //! Nodes that are made once each are hash consing (A. Ershov, *On programming of arithmetic operations*, 1958). That
 //! the trees are balanced is from M. L. Schmid and N. Schweikardt, *Query evaluation over SLP-represented document
@@ -33,7 +32,6 @@ ghost use Rattle.node_store.specs.Stored.{IsNext, IsKept};
 ghost use Rattle.node_store.specs.Blocks.{IsBlockOf};
 
 mod crowd;
-mod hints;
 mod moves;
 mod narrow;
 mod nodes;
@@ -41,7 +39,6 @@ mod others;
 mod search_tree;
 mod thin;
 
-use hints::Hints;
 pub use moves::Moves;
 use nodes::Nodes;
 pub use slp_model::{Node, NodeId};
@@ -61,17 +58,17 @@ pub(crate) struct Facts {
 /// The nodes of a straight-line program in the order in which they came, each once. A child comes before its parent,
 /// and nodes never change.
 ///
-/// Without a node it takes no memory. The first node that `byte` or `pair` adds takes a table of 2^18 guesses of 8
-/// bytes each, 2 MiB; where there is no memory for it, calls go on without. Beside that a node takes 25 bytes where
-/// the vectors are full, and 31 more where it isn't the first pair with its left child. Full vectors are doubled and a full index
-/// grows fourfold, and the old one stands until the new one is filled. There are fewer than 2^32 nodes, and at most 9·2^28 that
-/// are no such first pair.
+/// Without a node it takes no memory. A node takes 25 bytes where the vectors are full, and 31 more where it isn't the first
+/// pair with its left child. Full vectors are doubled and a full index grows fourfold, or twofold where it is large, and the old
+/// one stands until the new one is filled. There are fewer than 2^32 nodes, and at most 9·2^28 that are no such first pair.
 #[derive(Drop)]
 pub struct Store {
     nodes: Nodes,
     lens: Vec<u64>,
     heights: Vec<u8>,
-    hints: Hints,
+    // Where the node behind the one that was found last stands: a text that comes again, in a load or in an image, asks for its
+    // nodes in the order in which it made them.
+    next: usize,
 }
 
 impl Model for Store {
@@ -96,7 +93,7 @@ impl Store {
             nodes: Nodes::new(alloc),
             lens: Vec::new(alloc),
             heights: Vec::new(alloc),
-            hints: Hints::new(alloc),
+            next: 0,
         }
     }
 
@@ -174,11 +171,11 @@ impl Store {
         ensures err { OnErr result (self.new ≡ self.old) }
     {
         let node = Node::Byte(b);
-        if let Some(id) = self.found(node) {
+        if let Some(id) = self.found_next(node) {
             return Ok(id);
         }
         let facts = Facts { len: 1, height: 0 };
-        self.intern(node, facts)
+        self.insert(node, facts)
     }
 
     /// The id of the pair, which is added last where it isn't there. It is one step, and takes expected constant time,
@@ -209,19 +206,18 @@ impl Store {
     {
         pairs.tick();
         let node = Node::Pair(left, right);
-        if let Some(id) = self.found(node) {
+        if let Some(id) = self.found_next(node) {
             return Ok(id);
         }
         let facts = Facts {
             len: self.len(left) + self.len(right),
             height: self.height(left).max(self.height(right)) + 1,
         };
-        self.intern(node, facts)
+        self.insert(node, facts)
     }
 
     /// The id of the pair of two blocks of 2^height bytes each, whose trees are both so high: what `pair` answers. It
-    /// looks up neither their lengths and heights nor a guess in the table, which a pair that isn't there yet would ask in
-    /// vain. It is one step.
+    /// looks up neither their lengths nor their heights. It is one step.
     ///
     /// # Errors
     ///
@@ -276,29 +272,11 @@ impl Store {
         ensures node { IfSome result (λ id. slice_get self.old id.index ≡ Some node) }
         ensures tree { IfSome result (λ id. tree self.old id.index ≡ node_tree (trees self.old) node) }
     {
-        let index = self.hints.next();
+        let index = self.next;
         if !self.is_at(index, node) {
             return None;
         }
-        self.hints.pass(index);
-        Some(NodeId { index })
-    }
-
-    // The id of the node, where it stands behind the one that was found last or is noted.
-    fn found(&mut self, node: Node) -> Option<NodeId>
-        ensures same { self.new ≡ self.old }
-        ensures live { IfSome result (λ id. id.index < length self.old) }
-        ensures node { IfSome result (λ id. slice_get self.old id.index ≡ Some node) }
-        ensures tree { IfSome result (λ id. tree self.old id.index ≡ node_tree (trees self.old) node) }
-    {
-        if let Some(id) = self.found_next(node) {
-            return Some(id);
-        }
-        let index = self.hints.guess(node)?;
-        if !self.is_at(index, node) {
-            return None;
-        }
-        self.hints.pass(index);
+        self.next = index.wrapping_add(1);
         Some(NodeId { index })
     }
 
@@ -337,22 +315,8 @@ impl Store {
             nodes: Nodes::with_capacity(alloc, count)?,
             lens: Vec::with_capacity(alloc, count)?,
             heights: Vec::with_capacity(alloc, count)?,
-            hints: Hints::new(alloc),
+            next: 0,
         })
-    }
-
-    // The id of the node, whose facts are these. Its place is noted.
-    fn intern(&mut self, node: Node, facts: Facts) -> Result<NodeId, NoMemory>
-        requires { IsNext self.old node facts }
-        ensures kept { IsKept self.old self.new node }
-        ensures node { IfOk result (λ id. slice_get self.new id.index ≡ Some node) }
-        ensures live { IfOk result (λ id. id.index < length self.new) }
-        ensures tree { IfOk result (λ id. tree self.new id.index ≡ node_tree (trees self.old) node) }
-        ensures err { OnErr result (self.new ≡ self.old) }
-    {
-        let id = self.insert(node, facts)?;
-        self.hints.note(node, id.index);
-        Ok(id)
     }
 
     // The id of the node, whose facts are these.
@@ -367,7 +331,7 @@ impl Store {
         self.lens.reserve(1).map_err(|_| NoMemory)?;
         self.heights.reserve(1).map_err(|_| NoMemory)?;
         let (index, added) = self.nodes.insert(node)?;
-        self.hints.pass(index);
+        self.next = index.wrapping_add(1);
         if added {
             self.lens.push_reserved(facts.len);
             self.heights.push_reserved(facts.height);

@@ -102,14 +102,23 @@ fn insert_late(
     }
 }
 
+// From so many nodes on an index is large.
+const LARGE: usize = 1 << 20;
+
 // A full index grows fourfold where there is memory for it. As it grows each node is put in anew, at a place of its own in
-// memory, and by doubling that would come to one more time for each node, by four to a third.
+// memory, and by doubling that would come to one more time for each node, by four to a third. A large index is doubled, since
+// its empty places take memory too.
 fn make_room(narrow: &mut IndexSet<Narrow>)
     ensures { narrow.new.keys ≡ narrow.old.keys }
 {
     let len = narrow.len();
     if len == narrow.capacity() {
-        let _grown = narrow.reserve(len.saturating_mul(3));
+        let more = if len < LARGE {
+            len.saturating_mul(3)
+        } else {
+            len
+        };
+        let _grown = narrow.reserve(more);
     }
 }
 
