@@ -9,7 +9,7 @@ use Rattle.marker_nfa.specs.Automaton.{Automaton, Moves}
 use Rattle.marker_nfa.specs.declared.nfa.Edge.{Edge}
 use Rattle.marker_dfa.specs.declared.bundles.Bundle.{Bundle}
 use Rattle.marker_dfa.specs.declared.bundles.Readers.{Readers}
-use Rattle.marker_dfa.specs.Subsets.{Subset, IsIn}
+use Rattle.marker_dfa.specs.Reached.{Subset, IsIn}
 use Rattle.marker_dfa.specs.Making.{AreBundles, AreInOrder, AreReaders, AreWellmade, BundleAt, bytes_of, Carries, EdgeMoves, GainsEdge, GainsStates, IsLike, MarksFall, SomeCarries}
 use Rattle.marker_dfa.proofs.Lists.{at_contains, contains_at, contains_push, length_map, get_push, get_within, one_value, push_get, push_last, set_cases, set_here, set_there}
 use Rattle.marker_dfa.proofs.Leaving.{four_small, insert_gains}

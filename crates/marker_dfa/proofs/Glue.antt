@@ -8,12 +8,11 @@ use Rattle.marker_nfa.specs.Automaton.{Automaton, IsAutomaton, Moves, MayEnd}
 use Rattle.marker_dfa.specs.declared.classes.ByteClasses.{ByteClasses}
 use Rattle.marker_dfa.specs.declared.dfa.Cell.{Cell}
 use Rattle.marker_dfa.specs.declared.dfa.Row.{Row}
-use Rattle.marker_dfa.specs.Subsets.{Subset, IsIn, IsMove, IsSubsets, AreTooMany}
-use Rattle.marker_dfa.specs.Deterministic.{DeterministicAutomaton, AcceptsSame, IsDeterministic, IsWide, StandsFor, and_then, cell_of, ends_in, ends_of, find_target, marks_in, marks_of, next_of}
+use Rattle.marker_dfa.specs.Reached.{Subset, IsIn, IsMove, IsReached, start, next}
+use Rattle.marker_dfa.specs.Deterministic.{DeterministicAutomaton, AcceptsSame, AreTooMany, IsDeterministic, IsWide, StandsFor, and_then, cell_of, ends_in, ends_of, find_target, marks_in, marks_of, next_of}
 use Rattle.marker_dfa.specs.Making.{AreAllRows, AreClasses, IsCell, IsFalling, IsFit, IsRow, IsTarget}
 use Rattle.marker_dfa.proofs.Lists.{contains_at, at_contains, get_within, one_value}
-use Rattle.marker_dfa.proofs.Tracks.{reached_here, to_machine, to_path}
-use Rattle.marker_dfa.proofs.Pigeons.{no_fit}
+use Rattle.marker_dfa.proofs.Tracks.{same_move, states_above, to_machine, to_path}
 
 -- where a mark is found
 record FoundAt (ms ts : List ℕ) (m r : ℕ) : Type 0 where
@@ -83,7 +82,7 @@ module _ (a : Automaton) (classes : ByteClasses) (rows : List Row) (au : IsAutom
   from_first : (o m b c f p : ℕ) → slice_get classes.of.items b ≡ Some c → slice_get classes.firsts.items c ≡ Some f → Moves a o m f p → Moves a o m b p
   from_first o m b c f p at_b at_c mv = record { edge = mv.edge; among = mv.among; from = mv.from; mark = mv.mark; letter = same_letter mv.edge b c f mv.among at_b at_c ∙ mv.letter; to = mv.to }
 
-  move_of_byte : (x : Subset) (m b c f : ℕ) (y : Subset) → slice_get classes.of.items b ≡ Some c → slice_get classes.firsts.items c ≡ Some f → IsMove a x m f y → IsMove a x m b y
+  move_of_byte : (x : Subset) (m b c f : ℕ) (y : Subset) → slice_get classes.of.items b ≡ Some c → slice_get classes.firsts.items c ≡ Some f → IsMove a.states (Moves a) x m f y → IsMove a.states (Moves a) x m b y
   move_of_byte x m b c f y at_b at_c mv = record {
     size = mv.size;
     members = λ p. ((λ i. (let s = (mv.members p).0 i in (s.0, s.1, from_first s.0 m b c f p at_b at_c s.2))), λ s. (mv.members p).1 (s.0, s.1, to_first s.0 m b c f p at_b at_c s.2));
@@ -221,27 +220,29 @@ module _ (a : Automaton) (classes : ByteClasses) (rows : List Row) (au : IsAutom
       let same : ends_of dfa q ≡ w.row.ends.items = ap ends_in w.there in
       subst (λ (l : List ℕ). Contains l m ↔ (o : ℕ) × IsIn x o × MayEnd a o m) (sym same) (w.is_row.ends.members m)
 
-  pub subsets_are : IsSubsets a (next_of dfa) (ends_of dfa) h.subsets
-  subsets_are = record {
+  reached_here : (x : Subset) → IsReached a.states (Moves a) x → (q : ℕ) × (slice_get h.subsets q ≡ Some x)
+  reached_here _ start = (0, h.each.found.start)
+  reached_here y (next x _ m b p r mv i) = by (reached_here x r)
+    where
+      by : (q : ℕ) × (slice_get h.subsets q ≡ Some x) → (q : ℕ) × (slice_get h.subsets q ≡ Some y)
+      by k = both_ways (next_of dfa k.0 m b)
+          (λ none. (let w = (mv.members p).0 i in absurd (stays k.0 m b x k.1 none w.0 p w.1 w.2)))
+          (λ q g. (let t = goes k.0 m b q x k.1 g in (q, t.there ∙ ap Some (same_move a.states (Moves a) x t.members y m b t.move mv))))
+
+  pub stands_for : StandsFor a dfa
+  stands_for = record {
+    subsets = h.subsets;
+    states = sym h.all;
     start = h.each.found.start;
-    apart = h.each.found.apart;
-    reached = h.each.found.reached;
+    sets = h.each.found.sets;
+    all = reached_here;
     goes = λ q m b r x e g. (let t = goes q m b r x e g in (t.members, t.state, t.there, t.move, t.is_in));
     stays = stays;
     ends_are = ends_are;
   }
 
-  pub stands_for : StandsFor a dfa
-  stands_for = record { subsets = h.subsets; states = sym h.all; sets = subsets_are; all = reached_here a (next_of dfa) (ends_of dfa) h.subsets subsets_are }
-
   pub accepts_same : AcceptsSame a dfa
-  accepts_same = record {
-    variables = refl;
-    texts = λ w. (
-      (λ p. to_machine a (next_of dfa) (ends_of dfa) h.subsets subsets_are w (record { state = p.state; leads = p.leads; may_end = p.may_end })),
-      λ t. (let p = to_path a (next_of dfa) (ends_of dfa) h.subsets subsets_are w au.has_start t in record { state = p.state; leads = p.leads; may_end = p.may_end }),
-    );
-  }
+  accepts_same = record { variables = refl; texts = λ w. (to_machine a dfa stands_for w, to_path a dfa stands_for w au.has_start) }
 
   marks_to : (q b m : ℕ) → Contains (marks_of dfa q b) m → (r : ℕ) × (next_of dfa q m b ≡ Some r)
   marks_to q b m c = both_ways (cell_of dfa q b) (λ n. absurd (none_in m (subst (λ (o : Option Cell). Contains (marks_in o) m) n c))) (λ cell i. in_cell cell i)
@@ -297,33 +298,4 @@ module _ (a : Automaton) (classes : ByteClasses) (rows : List Row) (au : IsAutom
   }
 
   pub not_too_many : AreTooMany a → ⊥
-  not_too_many t = no_fit (length h.subsets) place small one
-    where
-      many : length h.subsets < length t.subsets
-      many = omega (arith, t.many, h.each.found.few)
-
-      at : (i : ℕ) → i < length t.subsets → slice_get t.subsets i ≡ Some (get_or t.subsets i [])
-      at i l = slice_get-get_or t.subsets i [] l
-
-      cases : (i n : ℕ) → (i < n) ⊎ (n ≤ i)
-      cases i n = grind arith
-
-      found : (i : ℕ) → (i < length t.subsets) ⊎ (length t.subsets ≤ i) → (q : ℕ) × (i < length t.subsets → slice_get h.subsets q ≡ Some (get_or t.subsets i []))
-      found i (inl l) = let r = reached_here a (next_of dfa) (ends_of dfa) h.subsets subsets_are (get_or t.subsets i []) (t.reached i (get_or t.subsets i []) (at i l)) in (r.0, λ k. r.1)
-      found i (inr l) = (0, λ k. absurd (omega (arith, k, l)))
-
-      place : ℕ → ℕ
-      place i = (found i (cases i (length t.subsets))).0
-
-      is_there : (i : ℕ) → i < length t.subsets → slice_get h.subsets (place i) ≡ Some (get_or t.subsets i [])
-      is_there i l = (found i (cases i (length t.subsets))).1 l
-
-      small : (i : ℕ) → i ≤ length h.subsets → place i < length h.subsets
-      small i le = get_within h.subsets (place i) _ (is_there i (omega (arith, le, many)))
-
-      one : (i j : ℕ) → i ≤ length h.subsets → j ≤ length h.subsets → place i ≡ place j → i ≡ j
-      one i j li lj e =
-          let ki : i < length t.subsets = omega (arith, li, many) in
-          let kj : j < length t.subsets = omega (arith, lj, many) in
-          let same : Some (get_or t.subsets i []) ≡ Some (get_or t.subsets j []) = sym (is_there i ki) ∙ ap (slice_get h.subsets) e ∙ is_there j kj in
-          t.apart i j (get_or t.subsets i []) (at i ki) (at j kj ∙ sym same)
+  not_too_many t = omega (arith, states_above a.states (Moves a) (MayEnd a) dfa stands_for 128 t, is_deterministic.few_states)

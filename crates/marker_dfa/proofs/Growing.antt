@@ -1,11 +1,12 @@
 -- What holds of the sets and of a cell while they grow.
-use Rattle.std.proofs.Common.{◌≡◌, ℕ, zero, suc, ◌+◌, ◌<◌, ◌≤◌, true, false, ◌⊎◌, inl, inr, refl, sym, ap, subst, ◌∙◌, arith, List, [], ◌∷◌, ◌++◌, length, Some, slice_get, get_or, Contains, length-append, length-set, replicate, lit≤}
-use Rattle.std.proofs.lemmas.List.{length-replicate}
+use Rattle.std.proofs.Common.{◌≡◌, ℕ, zero, suc, ◌+◌, ◌<◌, ◌≤◌, ◌⊎◌, inl, inr, refl, sym, ap, subst, ◌∙◌, arith, List, [], ◌∷◌, ◌++◌, length, Some, slice_get, get_or, Contains, length-append, lit≤}
 use Rattle.std.proofs.lemmas.Option.{slice_get-get_or}
 use Rattle.marker_nfa.specs.Automaton.{Automaton, Moves}
-use Rattle.marker_dfa.specs.Subsets.{Subset, IsIn, IsMove, IsReached, start, next, start_set, AreTooMany}
+use Rattle.marker_dfa.specs.Reached.{AreReached, Subset, IsIn, IsMove, IsReached, start, next, start_set}
+use Rattle.marker_dfa.specs.Deterministic.{AreTooMany}
 use Rattle.marker_dfa.specs.Making.{AreFound, Extends, HasNoRoom, IsPlaced, IsCell, IsFalling, IsTarget}
 use Rattle.marker_dfa.proofs.Lists.{get_push, push_get, push_last, get_within, at_contains}
+use Rattle.marker_dfa.proofs.Tracks.{single_size}
 
 -- the marks that lead on with a byte, and where to, of the first k marks of an alphabet
 pub record IsCellUpTo (a : Automaton) (subsets : List Subset) (x : Subset) (b : ℕ) (alphabet : List ℕ) (k : ℕ) (ms ts : List ℕ) : Type 0 where
@@ -43,57 +44,43 @@ cells_end a alphabet x b k new ms ts le all c = record {
 }
 
 -- one more set, which is reached
-pub too_many : (a : Automaton) (old : List Subset) (x : Subset) → AreFound a old → HasNoRoom old x → IsReached a x → AreTooMany a
-too_many a old x f n r = record {
-  subsets = old ++ x ∷ [];
-  many = omega (arith, length-append old (x ∷ []), n.full);
+push_reached : (a : Automaton) (old : List Subset) (x : Subset) → AreReached a.states (Moves a) old → ((q : ℕ) → slice_get old q ≡ Some x → ⊥) → IsReached a.states (Moves a) x → AreReached a.states (Moves a) (old ++ x ∷ [])
+push_reached a old x f fresh r = record {
   apart = λ q s y h k. apart' q s y (get_push old x y q h) (get_push old x y s k);
   reached = λ q y h. reached' q y (get_push old x y q h);
 }
   where
     apart' : (q s : ℕ) (y : Subset) → (slice_get old q ≡ Some y) ⊎ ((q ≡ length old) × (x ≡ y)) → (slice_get old s ≡ Some y) ⊎ ((s ≡ length old) × (x ≡ y)) → q ≡ s
     apart' q s y (inl h) (inl k) = f.apart q s y h k
-    apart' q s y (inl h) (inr k) = absurd (n.fresh q (h ∙ ap Some (sym k.1)))
-    apart' q s y (inr h) (inl k) = absurd (n.fresh s (k ∙ ap Some (sym h.1)))
+    apart' q s y (inl h) (inr k) = absurd (fresh q (h ∙ ap Some (sym k.1)))
+    apart' q s y (inr h) (inl k) = absurd (fresh s (k ∙ ap Some (sym h.1)))
     apart' q s y (inr h) (inr k) = h.0 ∙ sym k.0
 
-    reached' : (q : ℕ) (y : Subset) → (slice_get old q ≡ Some y) ⊎ ((q ≡ length old) × (x ≡ y)) → IsReached a y
+    reached' : (q : ℕ) (y : Subset) → (slice_get old q ≡ Some y) ⊎ ((q ≡ length old) × (x ≡ y)) → IsReached a.states (Moves a) y
     reached' q y (inl h) = f.reached q y h
-    reached' q y (inr h) = subst (IsReached a) h.1 r
+    reached' q y (inr h) = subst (IsReached a.states (Moves a)) h.1 r
+
+pub too_many : (a : Automaton) (old : List Subset) (x : Subset) → AreFound a old → HasNoRoom old x → IsReached a.states (Moves a) x → AreTooMany a
+too_many a old x f n r = record { subsets = old ++ x ∷ []; many = omega (arith, length-append old (x ∷ []), n.full); sets = push_reached a old x f.sets n.fresh r }
 
 -- the sets with one more at its place
-pub placed_found : (a : Automaton) (old new : List Subset) (x : Subset) (q : ℕ) → AreFound a old → IsPlaced old new x q → IsReached a x → length x ≡ a.states → length new ≤ 128 → AreFound a new
+pub placed_found : (a : Automaton) (old new : List Subset) (x : Subset) (q : ℕ) → AreFound a old → IsPlaced old new x q → IsReached a.states (Moves a) x → length x ≡ a.states → length new ≤ 128 → AreFound a new
 placed_found a old new x q f p r size few = go p.list
   where
+    sizes' : (g : ℕ) (y : Subset) → (slice_get old g ≡ Some y) ⊎ ((g ≡ length old) × (x ≡ y)) → length y ≡ a.states
+    sizes' g y (inl h) = f.sizes g y h
+    sizes' g y (inr h) = ap length (sym h.1) ∙ size
+
     go : (new ≡ old) ⊎ ((new ≡ old ++ x ∷ []) × (q ≡ length old)) → AreFound a new
     go (inl e) = subst (AreFound a) (sym e) f
     go (inr e) =
-        let fresh = p.fresh (omega (arith, e.1)) in
-        let few' : length (old ++ x ∷ []) ≤ 128 = subst (λ (l : List Subset). length l ≤ 128) e.0 few in
-        subst (AreFound a) (sym e.0) (pushed fresh few')
-      where
-        pushed : ((s : ℕ) → slice_get old s ≡ Some x → ⊥) → length (old ++ x ∷ []) ≤ 128 → AreFound a (old ++ x ∷ [])
-        pushed fresh few' = record {
+        let pushed : AreFound a (old ++ x ∷ []) = record {
           start = push_get old x _ 0 f.start;
-          apart = λ g s y h k. apart' g s y (get_push old x y g h) (get_push old x y s k);
-          reached = λ g y h. reached' g y (get_push old x y g h);
+          sets = push_reached a old x f.sets (p.fresh (omega (arith, e.1))) r;
           sizes = λ g y h. sizes' g y (get_push old x y g h);
-          few = few';
-        }
-          where
-            apart' : (g s : ℕ) (y : Subset) → (slice_get old g ≡ Some y) ⊎ ((g ≡ length old) × (x ≡ y)) → (slice_get old s ≡ Some y) ⊎ ((s ≡ length old) × (x ≡ y)) → g ≡ s
-            apart' g s y (inl h) (inl k) = f.apart g s y h k
-            apart' g s y (inl h) (inr k) = absurd (fresh g (h ∙ ap Some (sym k.1)))
-            apart' g s y (inr h) (inl k) = absurd (fresh s (k ∙ ap Some (sym h.1)))
-            apart' g s y (inr h) (inr k) = h.0 ∙ sym k.0
-
-            reached' : (g : ℕ) (y : Subset) → (slice_get old g ≡ Some y) ⊎ ((g ≡ length old) × (x ≡ y)) → IsReached a y
-            reached' g y (inl h) = f.reached g y h
-            reached' g y (inr h) = subst (IsReached a) h.1 r
-
-            sizes' : (g : ℕ) (y : Subset) → (slice_get old g ≡ Some y) ⊎ ((g ≡ length old) × (x ≡ y)) → length y ≡ a.states
-            sizes' g y (inl h) = f.sizes g y h
-            sizes' g y (inr h) = ap length (sym h.1) ∙ size
+          few = subst (λ (l : List Subset). length l ≤ 128) e.0 few;
+        } in
+        subst (AreFound a) (sym e.0) pushed
 
 pub placed_extends : (old new : List Subset) (x : Subset) (q : ℕ) → IsPlaced old new x q → Extends old new
 placed_extends old new x q p = record { stays = λ s y h. go s y h p.list }
@@ -156,13 +143,13 @@ pub some_same : (x y : Subset) → Some x ≡ Some y → x ≡ y
 some_same x y e = cc
 
 module _ (a : Automaton) (alphabet : List ℕ) (b k : ℕ) (old mid : List Subset) (ms ts : List ℕ) (x y : Subset) where
-  reached_move : IsReached a x → IsMove a x (get_or alphabet k 0) b y → ((p : ℕ) × IsIn y p) → IsReached a y
+  reached_move : IsReached a.states (Moves a) x → IsMove a.states (Moves a) x (get_or alphabet k 0) b y → ((p : ℕ) × IsIn y p) → IsReached a.states (Moves a) y
   reached_move r mv w = next x y (get_or alphabet k 0) b w.0 r mv w.1
 
-  pub step_refused : Cells a alphabet x b k old mid ms ts → IsReached a x → IsMove a x (get_or alphabet k 0) b y → ((p : ℕ) × IsIn y p) → HasNoRoom mid y → AreTooMany a
+  pub step_refused : Cells a alphabet x b k old mid ms ts → IsReached a.states (Moves a) x → IsMove a.states (Moves a) x (get_or alphabet k 0) b y → ((p : ℕ) × IsIn y p) → HasNoRoom mid y → AreTooMany a
   step_refused c r mv w full = too_many a mid y c.found full (reached_move r mv w)
 
-  pub step_more : (new : List Subset) (q : ℕ) → Cells a alphabet x b k old mid ms ts → IsFalling alphabet → k < length alphabet → IsReached a x → IsMove a x (get_or alphabet k 0) b y → ((p : ℕ) × IsIn y p) → IsPlaced mid new y q → length new ≤ 128 → Cells a alphabet x b (k + 1) old new (ms ++ get_or alphabet k 0 ∷ []) (ts ++ q ∷ [])
+  pub step_more : (new : List Subset) (q : ℕ) → Cells a alphabet x b k old mid ms ts → IsFalling alphabet → k < length alphabet → IsReached a.states (Moves a) x → IsMove a.states (Moves a) x (get_or alphabet k 0) b y → ((p : ℕ) × IsIn y p) → IsPlaced mid new y q → length new ≤ 128 → Cells a alphabet x b (k + 1) old new (ms ++ get_or alphabet k 0 ∷ []) (ts ++ q ∷ [])
   step_more new q c falls up r mv w placed few =
       let ext = placed_extends mid new y q placed in
       let target : IsTarget a new x (get_or alphabet k 0) b q = record { members = y; state = w.0; there = placed.there; move = mv; is_in = w.1 } in
@@ -184,16 +171,18 @@ cell_stays a old new x b ms ts e c = record {
 pub start_found : (a : Automaton) → 0 < a.states → AreFound a (start_set a.states ∷ [])
 start_found a lt = record {
   start = refl;
-  apart = λ q r x h k. (let l : q < 1 = get_within (start_set a.states ∷ []) q x h in let m : r < 1 = get_within (start_set a.states ∷ []) r x k in omega arith);
-  reached = λ q x h. reached' q x h;
+  sets = record {
+    apart = λ q r x h k. (let l : q < 1 = get_within (start_set a.states ∷ []) q x h in let m : r < 1 = get_within (start_set a.states ∷ []) r x k in omega arith);
+    reached = λ q x h. reached' q x h;
+  };
   sizes = λ q x h. sizes' q x h;
   few = lit≤ tt;
 }
   where
-    reached' : (q : ℕ) (x : Subset) → slice_get (start_set a.states ∷ []) q ≡ Some x → IsReached a x
-    reached' zero x h = subst (IsReached a) (some_same _ x h) start
+    reached' : (q : ℕ) (x : Subset) → slice_get (start_set a.states ∷ []) q ≡ Some x → IsReached a.states (Moves a) x
+    reached' zero x h = subst (IsReached a.states (Moves a)) (some_same _ x h) start
     reached' (suc q) x h = absurd (cc)
 
     sizes' : (q : ℕ) (x : Subset) → slice_get (start_set a.states ∷ []) q ≡ Some x → length x ≡ a.states
-    sizes' zero x h = ap length (sym (some_same _ x h)) ∙ length-set (replicate a.states false) 0 true ∙ length-replicate a.states false
+    sizes' zero x h = ap length (sym (some_same _ x h)) ∙ single_size a.states 0
     sizes' (suc q) x h = absurd (cc)

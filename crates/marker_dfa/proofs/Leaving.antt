@@ -11,7 +11,7 @@ use Rattle.marker_dfa.specs.declared.bundles.Bundle.{Bundle}
 use Rattle.marker_dfa.specs.declared.bundles.Readers.{Readers}
 use Rattle.marker_dfa.specs.declared.exits.Exits.{Exits}
 use Rattle.marker_dfa.specs.declared.exits.Step.{Step}
-use Rattle.marker_dfa.specs.Subsets.{Subset, IsIn}
+use Rattle.marker_dfa.specs.Reached.{Subset, IsIn}
 use Rattle.marker_dfa.specs.Making.{AreBundles, AreEnds, AreExits, AreReaders, AreSteps, Carries, GainsMark, GainsStates, GainsTarget, IsFalling, JoinsLast, Leaves, MarksFall, OpensStep}
 use Rattle.marker_dfa.proofs.Lists.{contains_at, at_contains, contains_push, get_push, get_within, one_value, push_get, push_last, set_cases, set_here, set_there}
 use Rattle.marker_dfa.proofs.Tracks.{blank_out}

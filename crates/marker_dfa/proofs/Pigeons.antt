@@ -1,8 +1,9 @@
 -- More numbers than places don't fit.
-use Rattle.std.proofs.Common.{◌≡◌, ℕ, zero, suc, ◌<◌, ◌≤◌, ◌==◌, true, false, ◌⊎◌, inl, inr, sym, ap, ◌∙◌, arith, if◌then◌else◌}
+use Rattle.std.proofs.Common.{◌≡◌, ℕ, zero, suc, ◌<◌, ◌≤◌, ◌==◌, true, false, ◌⊎◌, inl, inr, sym, ap, subst, ◌∙◌, arith, if◌then◌else◌}
+use Rattle.std.proofs.lemmas.Bool.{cases_lt}
 use Rattle.std.proofs.lemmas.Bool.Decides.{eqb_tells}
 
-pub no_fit : (n : ℕ) (f : ℕ → ℕ) → ((i : ℕ) → i ≤ n → f i < n) → ((i j : ℕ) → i ≤ n → j ≤ n → f i ≡ f j → i ≡ j) → ⊥
+no_fit : (n : ℕ) (f : ℕ → ℕ) → ((i : ℕ) → i ≤ n → f i < n) → ((i j : ℕ) → i ≤ n → j ≤ n → f i ≡ f j → i ≡ j) → ⊥
 no_fit zero f small one = let l : f 0 < 0 = small 0 (omega arith) in omega (arith, l)
 no_fit (suc n) f small one = no_fit n (λ i. if f i == n then f (suc n) else f i) small' one'
   where
@@ -40,3 +41,25 @@ no_fit (suc n) f small one = no_fit n (λ i. if f i == n then f (suc n) else f i
 
     one' : (i j : ℕ) → i ≤ n → j ≤ n → (if f i == n then f (suc n) else f i) ≡ (if f j == n then f (suc n) else f j) → i ≡ j
     one' i j li lj e = one_by i j li lj e (eqb_tells (f i) n) (eqb_tells (f j) n)
+
+-- a partner of each number below n, as a function
+pub function_of : (n : ℕ) (R : ℕ → ℕ → Type 0) → ((o : ℕ) → o < n → (u : ℕ) × R o u) → (f : ℕ → ℕ) × ((o : ℕ) → o < n → R o (f o))
+function_of n R right = ((λ o. pick o (cases_lt o n)), λ o lt. is o (cases_lt o n) lt)
+  where
+    pick : (o : ℕ) → (o < n) ⊎ (n ≤ o) → ℕ
+    pick o (inl lt) = (right o lt).0
+    pick o (inr le) = 0
+
+    is : (o : ℕ) (c : (o < n) ⊎ (n ≤ o)) → o < n → R o (pick o c)
+    is o (inl lt) own = (right o lt).1
+    is o (inr le) lt = absurd (omega (arith, le, lt))
+
+-- numbers below n whose partners are below k, each with another, are no more than k
+pub fits : (n k : ℕ) (R : ℕ → ℕ → Type 0) → ((o : ℕ) → o < n → (u : ℕ) × R o u) → ((o u : ℕ) → R o u → u < k) → ((o p u : ℕ) → R o u → R p u → o ≡ p) → n ≤ k
+fits n k R right below one = by (cases_lt k n) (function_of n R right)
+  where
+    by : (k < n) ⊎ (n ≤ k) → (f : ℕ → ℕ) × ((o : ℕ) → o < n → R o (f o)) → n ≤ k
+    by (inr le) f = le
+    by (inl lt) f =
+        absurd (no_fit k f.0 (λ i le. below i (f.0 i) (f.1 i (omega (arith, le, lt))))
+        (λ i j li lj same. one i j (f.0 j) (subst (λ (u : ℕ). R i u) same (f.1 i (omega (arith, li, lt)))) (f.1 j (omega (arith, lj, lt)))))

@@ -4,7 +4,7 @@ use Rattle.std.proofs.lemmas.Option.{slice_get-get_or}
 use Rattle.marker_nfa.specs.Automaton.{Automaton}
 use Rattle.marker_dfa.specs.declared.dfa.Cell.{Cell}
 use Rattle.marker_dfa.specs.declared.dfa.Row.{Row}
-use Rattle.marker_dfa.specs.Subsets.{Subset, start_set}
+use Rattle.marker_dfa.specs.Reached.{Subset, start_set}
 use Rattle.marker_dfa.specs.Making.{AreCells, AreFound, AreRows, Extends, IsCell, IsRow}
 use Rattle.marker_dfa.proofs.Lists.{get_push, get_within, one_value}
 use Rattle.marker_dfa.proofs.Growing.{cell_stays, both_extend, start_found}

@@ -7,7 +7,7 @@ use Rattle.std.proofs.lemmas.Nat.Bits.{bit_at-lt, bit_at-trailing_zeros, bit_at-
 use Rattle.std.proofs.lemmas.List.{ext_get_or, get_or-replicate, get_or-set_other, get_or-set_same, get_or_past, length-replicate}
 use Rattle.std.proofs.lemmas.List.FromFn.{get_or-map-range_with_len, length-map-range_with_len}
 use Rattle.marker_dfa.specs.StateWords.{AreWords, has_state, members}
-use Rattle.marker_dfa.specs.Subsets.{IsIn, Subset}
+use Rattle.marker_dfa.specs.Reached.{IsIn, Subset}
 
 pub length-members : (n : ℕ) (ws : List ℕ) → length (members n ws) ≡ n
 unfolding members

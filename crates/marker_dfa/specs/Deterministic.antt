@@ -1,10 +1,10 @@
 -- Deterministic automata as their users see them.
 use Rattle.std.specs.Prelude.{◌≡◌, ℕ, ◌<◌, ◌≤◌, ◌^◌, ◌==◌, ◌↔◌, List, [], ◌∷◌, length, Option, Some, None, slice_get, Contains, AllPairs, if◌then◌else◌}
 use Rattle.formula_law.specs.Accepts.{MarkedText}
-use Rattle.marker_nfa.specs.Automaton.{Automaton, AcceptsText, IsMarked}
+use Rattle.marker_nfa.specs.Automaton.{Automaton, AcceptsText, IsMarked, MayEnd, Moves}
 use Rattle.marker_dfa.specs.declared.dfa.Cell.{Cell}
 use Rattle.marker_dfa.specs.declared.dfa.Row.{Row}
-use Rattle.marker_dfa.specs.Subsets.{Subset, IsReached, IsSubsets}
+use Rattle.marker_dfa.specs.Reached.{AreReached, CountIsAbove, IsIn, IsMove, IsReached, Subset, start_set}
 
 -- the number of variables, the class of each byte, and a row for each state, with a cell for each class
 pub record DeterministicAutomaton : Type 0 where
@@ -82,12 +82,24 @@ pub record IsWide (d : DeterministicAutomaton) : Type 0 where
   pub bytes : length d.classes ≡ 256
   pub cells : (q b c : ℕ) (r : Row) → slice_get d.rows q ≡ Some r → slice_get d.classes b ≡ Some c → c < length r.cells.items
 
--- the states stand for the reached sets, exactly one for each
-pub record StandsFor (a : Automaton) (d : DeterministicAutomaton) : Type 0 where
+-- the states are the reached sets, exactly one for each, the first for the start, with their moves and ends
+pub record IsAutomatonOf (n : ℕ) (Step : ℕ → ℕ → ℕ → ℕ → Type 0) (End : ℕ → ℕ → Type 0) (d : DeterministicAutomaton) : Type 0 where
   pub subsets : List Subset
   pub states : length subsets ≡ states_of d
-  pub sets : IsSubsets a (next_of d) (ends_of d) subsets
-  pub all : (x : Subset) → IsReached a x → (q : ℕ) × (slice_get subsets q ≡ Some x)
+  pub start : slice_get subsets 0 ≡ Some (start_set n)
+  pub sets : AreReached n Step subsets
+  pub all : (x : Subset) → IsReached n Step x → (q : ℕ) × (slice_get subsets q ≡ Some x)
+  pub goes : (q m b r : ℕ) (x : Subset) → slice_get subsets q ≡ Some x → next_of d q m b ≡ Some r → (y : Subset) × (p : ℕ) × (slice_get subsets r ≡ Some y) × IsMove n Step x m b y × IsIn y p
+  pub stays : (q m b : ℕ) (x : Subset) → slice_get subsets q ≡ Some x → next_of d q m b ≡ None → (o p : ℕ) → IsIn x o → Step o m b p → ⊥
+  pub ends_are : (q m : ℕ) (x : Subset) → slice_get subsets q ≡ Some x → Contains (ends_of d q) m ↔ (o : ℕ) × IsIn x o × End o m
+
+-- the states are the sets that an automaton reaches
+abbrev pub StandsFor : Automaton → DeterministicAutomaton → Type 0
+StandsFor a d = IsAutomatonOf a.states (Moves a) (MayEnd a) d
+
+-- an automaton reaches more than 128 sets
+abbrev pub AreTooMany : Automaton → Type 0
+AreTooMany a = CountIsAbove 128 a.states (Moves a)
 
 -- the two automata have the same variables and accept the same marked texts
 pub record AcceptsSame (a : Automaton) (d : DeterministicAutomaton) : Type 0 where

@@ -1,4 +1,4 @@
-pub mod Subsets
+pub mod Reached
 pub mod Deterministic
 pub mod Refusals
 pub mod Making

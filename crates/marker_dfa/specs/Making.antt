@@ -2,7 +2,7 @@
 use Rattle.std.specs.Prelude.{◌≡◌, ℕ, ◌+◌, ◌<◌, ◌≤◌, ◌^◌, ◌↔◌, ◌⊎◌, Bool, true, false, List, [], ◌∷◌, ◌++◌, length, map, replicate, Some, slice_get, slice_index_or, slice_set, Contains}
 use Rattle.marker_nfa.specs.Automaton.{Automaton, Moves, MayEnd}
 use Rattle.marker_nfa.specs.declared.nfa.Edge.{Edge}
-use Rattle.marker_dfa.specs.Subsets.{Subset, IsIn, IsMove, IsReached, start_set}
+use Rattle.marker_dfa.specs.Reached.{AreReached, IsIn, IsMove, Subset, start_set}
 use Rattle.marker_dfa.specs.declared.classes.ByteClasses.{ByteClasses}
 use Rattle.marker_dfa.specs.declared.bundles.Bundle.{Bundle}
 use Rattle.marker_dfa.specs.declared.bundles.Readers.{Readers}
@@ -121,7 +121,7 @@ GainsTarget n old new m t = JoinsLast old new m t ⊎ OpensStep n old new m t
 -- the marks that lead on from a set with a byte, falling, and where to
 pub record AreSteps (a : Automaton) (x : Subset) (b : ℕ) (steps : List Step) : Type 0 where
   pub falling : (i j : ℕ) (e f : Step) → i < j → slice_get steps i ≡ Some e → slice_get steps j ≡ Some f → f.mark < e.mark
-  pub moves : (k : ℕ) (e : Step) → slice_get steps k ≡ Some e → IsMove a x e.mark b e.to
+  pub moves : (k : ℕ) (e : Step) → slice_get steps k ≡ Some e → IsMove a.states (Moves a) x e.mark b e.to
   pub filled : (k : ℕ) (e : Step) → slice_get steps k ≡ Some e → (p : ℕ) × IsIn e.to p
   pub all : (m o p : ℕ) → IsIn x o → Moves a o m b p → (k : ℕ) × (e : Step) × (slice_get steps k ≡ Some e) × (e.mark ≡ m)
 
@@ -157,8 +157,7 @@ pub record IsSplitUpTo (classes : ByteClasses) (letters : List Bool) (n : ℕ) (
 -- the sets found so far: the start first, all reached, none twice, and at most 128
 pub record AreFound (a : Automaton) (subsets : List Subset) : Type 0 where
   pub start : slice_get subsets 0 ≡ Some (start_set a.states)
-  pub apart : (q r : ℕ) (x : Subset) → slice_get subsets q ≡ Some x → slice_get subsets r ≡ Some x → q ≡ r
-  pub reached : (q : ℕ) (x : Subset) → slice_get subsets q ≡ Some x → IsReached a x
+  pub sets : AreReached a.states (Moves a) subsets
   pub sizes : (q : ℕ) (x : Subset) → slice_get subsets q ≡ Some x → length x ≡ a.states
   pub few : length subsets ≤ 128
 
@@ -182,7 +181,7 @@ pub record IsTarget (a : Automaton) (subsets : List Subset) (x : Subset) (m b r 
   pub members : Subset
   pub state : ℕ
   pub there : slice_get subsets r ≡ Some members
-  pub move : IsMove a x m b members
+  pub move : IsMove a.states (Moves a) x m b members
   pub is_in : IsIn members state
 
 -- the marks that lead on with a byte, falling, and where to

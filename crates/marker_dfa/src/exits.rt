@@ -2,7 +2,7 @@
 
 ghost use Rattle.std.specs.Prelude.{◌≡◌, ◌<◌, ◌↔◌, ℕ, slice_get, Some, Contains, length, IfOk, OnOk};
 ghost use Rattle.marker_nfa.specs.Automaton.{IsAutomaton};
-ghost use Rattle.marker_dfa.specs.Subsets.{IsIn};
+ghost use Rattle.marker_dfa.specs.Reached.{IsIn};
 ghost use Rattle.marker_dfa.specs.declared.exits.Step.{Step};
 ghost use Rattle.marker_dfa.specs.Making.{AreEnds, AreExits, AreInOrder, AreReaders, AreSteps, AreWellmade, GainsMark, GainsTarget, IsFalling};
 

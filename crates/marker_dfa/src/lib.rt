@@ -18,9 +18,8 @@
 
 ghost use Rattle.std.specs.Prelude.{IfOk};
 ghost use Rattle.marker_nfa.specs.Automaton.{AreLettersOf};
-ghost use Rattle.marker_dfa.specs.Deterministic.{AcceptsSame, StandsFor};
+ghost use Rattle.marker_dfa.specs.Deterministic.{AcceptsSame, AreTooMany, StandsFor};
 ghost use Rattle.marker_dfa.specs.Refusals.{IfTooMany};
-ghost use Rattle.marker_dfa.specs.Subsets.{AreTooMany};
 
 pub mod bundles;
 pub mod classes;

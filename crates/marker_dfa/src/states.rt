@@ -1,7 +1,7 @@
 //! Sets of states.
 
 ghost use Rattle.std.specs.Prelude.{◌≡◌, ◌<◌, ◌↔◌, ℕ, Bool, false, true, List, IsFalse, replicate, slice_set, slice_index_or, length, IfOk, IsTrue, Contains};
-ghost use Rattle.marker_dfa.specs.Subsets.{IsIn};
+ghost use Rattle.marker_dfa.specs.Reached.{IsIn};
 
 use span_types::NoMemory;
 use std::alloc::Global;

@@ -1,8 +1,9 @@
 //! The reached sets of states, found from the start on.
 
 ghost use Rattle.std.specs.Prelude.{◌≡◌, ◌<◌, ◌≤◌, ◌++◌, ◌∷◌, [], List, Bool, length, Some, slice_get, vec_len, IfOk, IsTrue};
-ghost use Rattle.marker_nfa.specs.Automaton.{IsAutomaton};
-ghost use Rattle.marker_dfa.specs.Subsets.{AreTooMany, IsReached, start_set};
+ghost use Rattle.marker_nfa.specs.Automaton.{IsAutomaton, Moves};
+ghost use Rattle.marker_dfa.specs.Reached.{IsReached, start_set};
+ghost use Rattle.marker_dfa.specs.Deterministic.{AreTooMany};
 ghost use Rattle.marker_dfa.specs.Making.{AreAllReaders, AreAllRows, AreCells, AreExits, AreFound, AreInOrder, AreReaders, Extends, HasNoRoom, IsCell, IsPlaced, IsRow, bytes_of};
 ghost use Rattle.marker_dfa.specs.Refusals.{IfTooMany};
 
@@ -80,7 +81,7 @@ fn cell_of(
     requires bundles { AreInOrder nfa.now bundles.now }
     requires exits { AreExits nfa.now bundles.now exits.now }
     requires readers { AreReaders bundles.now readers.now }
-    requires reached { IsReached nfa.now exits.now.from }
+    requires reached { IsReached nfa.now.states (Moves nfa.now) exits.now.from }
     requires found { AreFound nfa.now sets.old.items }
     ensures found { IfOk result (λ _. AreFound nfa.now sets.new.items) }
     ensures extends { IfOk result (λ _. Extends sets.old.items sets.new.items) }
@@ -113,7 +114,7 @@ fn cells_of(
     requires bundles { AreInOrder nfa.now bundles.now }
     requires exits { AreExits nfa.now bundles.now exits.now }
     requires readers { AreAllReaders bundles.now by_byte.now }
-    requires reached { IsReached nfa.now exits.now.from }
+    requires reached { IsReached nfa.now.states (Moves nfa.now) exits.now.from }
     requires found { AreFound nfa.now sets.old.items }
     ensures found { IfOk result (λ _. AreFound nfa.now sets.new.items) }
     ensures extends { IfOk result (λ _. Extends sets.old.items sets.new.items) }

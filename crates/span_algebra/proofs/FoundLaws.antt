@@ -1,13 +1,11 @@
 -- The pairs that are found are those that the join reaches.
-use Rattle.std.proofs.Common.{◌≡◌, ℕ, ◌+◌, ◌/◌, ◌%◌, ◌^◌, ◌<◌, ◌≤◌, ◌↔◌, ◌⊎◌, inl, inr, true, false, List, [], ◌∷◌, ◌++◌, length, map, replicate, Some, Contains, slice_get, refl, sym, ap, subst, ◌∙◌, arith}
-use Rattle.std.proofs.lemmas.List.{length-replicate}
+use Rattle.std.proofs.Common.{◌≡◌, ℕ, zero, suc, ◌+◌, ◌/◌, ◌%◌, ◌^◌, ◌<◌, ◌≤◌, ◌↔◌, ◌⊎◌, inl, inr, List, [], ◌∷◌, ◌++◌, length, map, Some, Contains, slice_get, refl, sym, ap, subst, ◌∙◌, arith}
 use Rattle.std.proofs.lemmas.List.Elements.{Contains-append_left, Contains-append_right, Contains-append_cases}
-use Rattle.std.proofs.Math.ListN.{length-set}
 use Rattle.marker_nfa.specs.declared.nfa.Edge.{Edge}
 use Rattle.marker_dfa.specs.Deterministic.{DeterministicAutomaton, IsDeterministic, states_of, next_of, marks_of}
-use Rattle.marker_dfa.specs.Subsets.{Subset, IsIn}
+use Rattle.marker_dfa.specs.Reached.{CountIsAbove, IsIn, IsMove, IsReached, Subset, next, single, start}
 use Rattle.marker_dfa.proofs.Lists.{at_contains, contains_at, get_within, length_map, one_value}
-use Rattle.marker_dfa.proofs.Tracks.{blank_out}
+use Rattle.marker_dfa.proofs.Tracks.{single_in, single_only, single_size}
 use Rattle.span_algebra.specs.declared.classes.Class.{Class}
 use Rattle.span_algebra.specs.declared.joints.Joint.{Joint}
 use Rattle.span_algebra.specs.declared.joints.Meeting.{Meeting}
@@ -18,37 +16,32 @@ use Rattle.span_algebra.specs.Renaming.{both_names, mark_for}
 use Rattle.span_algebra.specs.Joints.{IsJointAmong, IsMeeting}
 use Rattle.span_algebra.specs.Making.{AreClasses}
 use Rattle.span_algebra.specs.Pairs.{Gains, NoRoom, IsTargetAmong}
-use Rattle.span_algebra.specs.Products.{AreFound, AreShortSteps, IsAmongFirst, IsPair, IsPairStepAmong, IsStepEdge, single}
-use Rattle.span_algebra.specs.Reached.{CountIsAbove, IsMove, IsReached, start, next}
+use Rattle.span_algebra.specs.Products.{AreFound, AreShortSteps, IsAmongFirst, IsPair, IsPairStepAmong, IsStepEdge}
 use Rattle.span_algebra.specs.TreeAutomaton.{JoinStep, join_size, pair_of}
 use Rattle.span_algebra.proofs.CopyLaws.{step-within}
 use Rattle.span_algebra.proofs.JoinLaws.{AreApart, same-pair}
 use Rattle.span_algebra.proofs.JointLaws.{joint-forth, joint-back, short-with}
-use Rattle.span_algebra.proofs.NumberLaws.{at-place, get-map, put-in, put-new}
-
-single-only : (n o p : ℕ) → IsIn (single n o) p → p ≡ o
-single-only n o p h = by (put-new (replicate n false) o p h)
-  where
-    by : (p ≡ o) ⊎ IsIn (replicate n false) p → p ≡ o
-    by (inl e) = e
-    by (inr k) = let bad : true ≡ false = sym k ∙ blank_out n p in absurd (cc)
-
-single-in : (n o : ℕ) → o < n → IsIn (single n o) o
-single-in n o lt = put-in (replicate n false) o (omega (arith, lt, length-replicate n false))
+use Rattle.span_algebra.proofs.SetLaws.{at-place}
 
 -- a step of which there is one at most leads from a set of one to a set of one
 module _ (n : ℕ) (Step : ℕ → ℕ → ℕ → ℕ → Type 0) (one : (o m c p q : ℕ) → Step o m c p → Step o m c q → p ≡ q) where
   single-move : (o m c p : ℕ) → o < n → p < n → Step o m c p → IsMove n Step (single n o) m c (single n p)
   single-move o m c p lo lp s = record {
-    size = length-set (replicate n false) p true ∙ length-replicate n false;
+    size = single_size n p;
     members = λ q. (
-      (λ i. (o, single-in n o lo, subst (λ (x : ℕ). Step o m c x) (sym (single-only n p q i)) s)),
-      (λ g. subst (λ (x : ℕ). IsIn (single n p) x) (one o m c p q s (subst (λ (x : ℕ). Step x m c q) (single-only n o g.0 g.1) g.2)) (single-in n p lp)),
+      (λ i. (o, single_in n o lo, subst (λ (x : ℕ). Step o m c x) (sym (single_only n p q i)) s)),
+      (λ g. subst (λ (x : ℕ). IsIn (single n p) x) (one o m c p q s (subst (λ (x : ℕ). Step x m c q) (single_only n o g.0 g.1) g.2)) (single_in n p lp)),
     );
   }
 
   pub single-next : (o m c p : ℕ) → o < n → p < n → Step o m c p → IsReached n Step (single n o) → IsReached n Step (single n p)
-  single-next o m c p lo lp s r = next (single n o) (single n p) m c p r (single-move o m c p lo lp s) (single-in n p lp)
+  single-next o m c p lo lp s r = next (single n o) (single n p) m c p r (single-move o m c p lo lp s) (single_in n p lp)
+
+-- the element that an element of a list of values comes from
+get-map : {X Y : Type 0} (f : X → Y) (xs : List X) (q : ℕ) (y : Y) → slice_get (map f xs) q ≡ Some y → (x : X) × (slice_get xs q ≡ Some x) × (f x ≡ y)
+get-map f [] q y e = absurd (cc)
+get-map f (x ∷ xs) zero y e = let s : f x ≡ y = cc in (x, refl, s)
+get-map f (x ∷ xs) (suc q) y e = get-map f xs q y e
 
 -- more than 128 reached sets of one
 pub too-many : (n : ℕ) (Step : ℕ → ℕ → ℕ → ℕ → Type 0) (numbers : List ℕ) → 128 < length numbers → ((i j o : ℕ) → slice_get numbers i ≡ Some o → slice_get numbers j ≡ Some o → i ≡ j)
@@ -56,16 +49,18 @@ pub too-many : (n : ℕ) (Step : ℕ → ℕ → ℕ → ℕ → Type 0) (number
 too-many n Step numbers many apart reached = record {
   subsets = map (single n) numbers;
   many = omega (arith, many, length_map (single n) numbers);
-  apart = once;
-  reached = λ q x e. (let k = get-map (single n) numbers q x e in subst (λ (y : Subset). IsReached n Step y) k.2 ((reached k.0 (contains_at numbers q k.0 k.1)).1));
+  sets = record {
+    apart = once;
+    reached = λ q x e. (let k = get-map (single n) numbers q x e in subst (λ (y : Subset). IsReached n Step y) k.2 ((reached k.0 (contains_at numbers q k.0 k.1)).1));
+  };
 }
   where
     once : (q r : ℕ) (x : Subset) → slice_get (map (single n) numbers) q ≡ Some x → slice_get (map (single n) numbers) r ≡ Some x → q ≡ r
     once q r x e g =
         let k = get-map (single n) numbers q x e in
         let l = get-map (single n) numbers r x g in
-        let i : IsIn (single n l.0) k.0 = subst (λ (y : Subset). IsIn y k.0) (k.2 ∙ sym l.2) (single-in n k.0 ((reached k.0 (contains_at numbers q k.0 k.1)).0)) in
-        apart q r l.0 (k.1 ∙ ap Some (single-only n l.0 k.0 i)) l.1
+        let i : IsIn (single n l.0) k.0 = subst (λ (y : Subset). IsIn y k.0) (k.2 ∙ sym l.2) (single_in n k.0 ((reached k.0 (contains_at numbers q k.0 k.1)).0)) in
+        apart q r l.0 (k.1 ∙ ap Some (single_only n l.0 k.0 i)) l.1
 
 module _ (a : DeterministicAutomaton) (va : List (List ℕ)) (b : DeterministicAutomaton) (vb : List (List ℕ)) (da : IsDeterministic a) (db : IsDeterministic b) (size_a : length va ≡ a.variables) (size_b : length vb ≡ b.variables)
     (apart_a : AreApart va) (apart_b : AreApart vb) (apart : AreApart (both_names va vb)) (few : length (both_names va vb) ≤ 8)

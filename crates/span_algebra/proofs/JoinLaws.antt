@@ -15,7 +15,7 @@ use Rattle.span_algebra.specs.Answers.{AreBytes, IsText, IsAnswerOf, AnswersBy, 
 use Rattle.span_algebra.specs.Products.{HasNumbered}
 use Rattle.span_algebra.proofs.NameLaws.{length-for, named-for, named-none, left-names, right-names, same-self, same-is}
 use Rattle.span_algebra.proofs.TextLaws.{remarked, remarked_text, bytes-word, lies-for, named-span, renamed-text}
-use Rattle.span_algebra.proofs.NumberLaws.{numbered-to, numbered-from}
+use Rattle.span_algebra.proofs.SetLaws.{numbered-matched, reaches-moved, turned}
 use Rattle.marker_dfa.proofs.Lists.{one_value}
 use Rattle.span_algebra.proofs.CopyLaws.{step-within, end-within}
 
@@ -100,7 +100,7 @@ module _ (a : DeterministicAutomaton) (va : List (List ℕ)) (b : DeterministicA
     pub both-accept : (w : MarkedText) → AcceptsText n w → Both w
     both-accept w h =
         let z : 0 ≡ pair_of 0 0 = refl in
-        let r = numbered-to (join_size a) Step (JoinEnd a va b vb) pairs n is w.pairs 0 0 h.state is.start h.reaches in
+        let r = reaches-moved (numbered-matched is) w.pairs 0 0 h.state is.start h.reaches in
         let k = apart-to w.pairs 0 0 0 r.0 z db.has_start r.2 in
         let f = is.end_to h.state w.last h.ends in
         let e = f.2 in
@@ -116,7 +116,7 @@ module _ (a : DeterministicAutomaton) (va : List (List ℕ)) (b : DeterministicA
 
     pub accept-both : (w : MarkedText) → AreBytes (bytes_of w.pairs) → AreSmall (length names) w.pairs → Both w → AcceptsText n w
     accept-both w bytes small h =
-        let r = numbered-from (join_size a) Step (JoinEnd a va b vb) pairs n is w.pairs 0 0 (pair_of h.left.state h.right.state) is.start (joined w.pairs 0 0 h.left.state h.right.state bytes small h.left.leads h.right.leads) in
+        let r = reaches-moved (turned (numbered-matched is)) w.pairs 0 0 (pair_of h.left.state h.right.state) is.start (joined w.pairs 0 0 h.left.state h.right.state bytes small h.left.leads h.right.leads) in
         record {
           state = r.0;
           reaches = r.2;

@@ -15,7 +15,7 @@ use Rattle.span_algebra.specs.Products.{HasNumbered}
 use Rattle.span_algebra.proofs.NameLaws.{same-self, same-is}
 use Rattle.span_algebra.proofs.MarkLaws.{markers-named, markers-small, last-digit, other-digits}
 use Rattle.span_algebra.proofs.TextLaws.{remarked, remarked_text, bytes-remarked, length-remarked, are-spans}
-use Rattle.span_algebra.proofs.NumberLaws.{numbered-to}
+use Rattle.span_algebra.proofs.SetLaws.{numbered-matched, reaches-moved}
 use Rattle.span_algebra.proofs.JoinLaws.{AreApart, AreSmall, both-accept, joined_tuple, lies-joined, length-joined, neither}
 
 -- what a list of names keeps of a mark is the same of each of its names
@@ -139,7 +139,7 @@ join-marked a va b vb da db size_a size_b apart few pairs n is w short h =
     let t = joined_tuple va vb u v in
     let size_u : length u ≡ length va = x.size ∙ sym size_a in
     let size_v : length v ≡ length vb = y.size ∙ sym size_b in
-    let r = numbered-to (join_size a) (JoinStep a va b vb) (JoinEnd a va b vb) pairs n is w.pairs 0 0 h.state is.start h.reaches in
+    let r = reaches-moved (numbered-matched is) w.pairs 0 0 h.state is.start h.reaches in
     let small = small-path a va b vb w.pairs 0 r.0 r.2 in
     let pairs = word-told va vb u v size_u size_v apart w.pairs 1 s small (ap (λ (z : MarkedText). z.pairs) left) (ap (λ (z : MarkedText). z.pairs) right) in
     let last = told va vb u v size_u size_v apart w.last (suc (length s)) k.small (ap (λ (z : MarkedText). z.last) left) (ap (λ (z : MarkedText). z.last) right) in

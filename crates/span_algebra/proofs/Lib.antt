@@ -18,10 +18,8 @@ pub mod JointRanges
 pub mod PairLaws
 pub mod ProductLaws
 pub mod JointLaws
-pub mod NumberLaws
 pub mod FoundLaws
 pub mod JoinParts
-pub mod TreeSets
 pub mod TreeMatches
 pub mod TreeCopies
 pub mod TreePairs

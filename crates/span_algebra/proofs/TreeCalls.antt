@@ -2,10 +2,10 @@
 use Rattle.std.proofs.Common.{◌≡◌, ℕ, ◌≤◌, List, length, ap, sym, subst, ◌∙◌}
 use Rattle.span_types.specs.Query.{Query, Union, Join, Project}
 use Rattle.span_types.specs.Rel.{names_of}
-use Rattle.marker_dfa.specs.Deterministic.{DeterministicAutomaton, states_of}
+use Rattle.marker_dfa.specs.Reached.{CountIsAbove}
+use Rattle.marker_dfa.specs.Deterministic.{DeterministicAutomaton, IsAutomatonOf, states_of}
 use Rattle.span_algebra.specs.Renaming.{both_names}
 use Rattle.span_algebra.specs.TreeAutomaton.{JoinEnd, JoinStep, ProjectEnd, ProjectStep, UnionEnd, UnionStep, join_size, union_size}
-use Rattle.span_algebra.specs.Reached.{CountIsAbove, IsAutomatonOf}
 use Rattle.span_algebra.specs.Trees.{IsTreeAutomaton, TreeCountIsAbove}
 use Rattle.span_algebra.proofs.TreeAutomata.{counts-by-any}
 

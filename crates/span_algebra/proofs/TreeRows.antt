@@ -1,19 +1,15 @@
 -- The automata of small trees.
-use Rattle.std.proofs.Common.{◌≡◌, ℕ, zero, suc, ◌+◌, ◌/◌, ◌%◌, ◌<◌, ◌==◌, ◌⊎◌, inl, inr, Bool, true, false, List, [], ◌∷◌, length, replicate, Some, None, slice_get, slice_set, slice_index_or, Contains, refl, sym, ap, subst, ◌∙◌, arith}
-use Rattle.std.proofs.lemmas.List.{get_or-set_other, get_or-set_same, length-replicate, length-set}
-use Rattle.std.proofs.lemmas.Bool.Decides.{eqb_tells}
+use Rattle.std.proofs.Common.{◌≡◌, ℕ, zero, suc, ◌+◌, ◌/◌, ◌%◌, ◌<◌, ◌⊎◌, inl, inr, Bool, true, false, List, [], ◌∷◌, length, Some, None, slice_get, slice_index_or, Contains, refl, sym, ap, subst, ◌∙◌, arith}
 use Rattle.span_types.specs.FormulaTree.{FormulaTree, Set, Capture, sets}
 use Rattle.formula_law.specs.Accepts.{Steps}
 use Rattle.formula_law.specs.Positions.{IsEdge, IsEnd}
-use Rattle.marker_dfa.specs.Subsets.{Subset, IsIn, start_set}
-use Rattle.marker_dfa.specs.Deterministic.{DeterministicAutomaton, states_of, next_of, ends_of}
-use Rattle.marker_dfa.proofs.Tracks.{blank_out, start_in, start_only}
+use Rattle.marker_dfa.specs.Reached.{IsIn, IsMove, IsReached, Subset, next, single, start, start_set}
+use Rattle.marker_dfa.specs.Deterministic.{DeterministicAutomaton, IsAutomatonOf, states_of, next_of, ends_of}
+use Rattle.marker_dfa.proofs.Tracks.{same_move, single_in, single_only, single_size}
 use Rattle.span_algebra.specs.Renaming.{mark_for}
 use Rattle.span_algebra.specs.TreeAutomaton.{CopiedEnd, CopiedStep, IsAt, JoinEnd, JoinStep, ProjectEnd, ProjectStep, UnionEnd, UnionStep, join_size, union_size}
-use Rattle.span_algebra.specs.Reached.{IsAutomatonOf, IsMove, IsReached, start, next}
 use Rattle.span_algebra.specs.Trees.{IsTreeAutomaton}
 use Rattle.span_algebra.specs.TreeLaws.{HasOneStep, TreeRows, one_byte}
-use Rattle.span_algebra.proofs.TreeMatches.{same-move}
 
 -- occurrences of which those of y are reached by one step from the start
 pub record LeadsTo (n : ℕ) (S : ℕ → ℕ → ℕ → ℕ → Type 0) (E : ℕ → ℕ → Type 0) (by last : ℕ) (y : Subset) : Type 0 where
@@ -37,12 +33,12 @@ module _ (n : ℕ) (S : ℕ → ℕ → ℕ → ℕ → Type 0) (E : ℕ → ℕ
   which (suc (suc q)) x e = let bad : None ≡ Some x = e in absurd (cc)
 
   not-start : start_set n ≡ y → ⊥
-  not-start e = h.no_start (subst (λ (z : Subset). IsIn z 0) e (start_in n h.positive))
+  not-start e = h.no_start (subst (λ (z : Subset). IsIn z 0) e (single_in n 0 h.positive))
 
   to-y : IsMove n S (start_set n) by 0 y
   to-y = record {
     size = h.size;
-    members = λ p. ((λ i. (0, start_in n h.positive, h.all p i)), (λ g. (h.only by 0 p (subst (λ (o : ℕ). S o by 0 p) (start_only n g.0 g.1) g.2)).2));
+    members = λ p. ((λ i. (0, single_in n 0 h.positive, h.all p i)), (λ g. (h.only by 0 p (subst (λ (o : ℕ). S o by 0 p) (single_only n 0 g.0 g.1) g.2)).2));
   }
 
   y-reached : IsReached n S y
@@ -56,11 +52,11 @@ module _ (n : ℕ) (S : ℕ → ℕ → ℕ → ℕ → Type 0) (E : ℕ → ℕ
       go (inr e) = let o = (mv.members p).0 i in absurd (h.stops o.0 m b p (subst (λ (w : Subset). IsIn w o.0) e o.1) o.2)
       go (inl e) =
           let o = (mv.members p).0 i in
-          let k = h.only m b p (subst (λ (w : ℕ). S w m b p) (start_only n o.0 (subst (λ (w : Subset). IsIn w o.0) e o.1)) o.2) in
+          let k = h.only m b p (subst (λ (w : ℕ). S w m b p) (single_only n 0 o.0 (subst (λ (w : Subset). IsIn w o.0) e o.1)) o.2) in
           let mv1 = subst (λ (w : Subset). IsMove n S w m b z) e mv in
           let mv2 = subst (λ (w : ℕ). IsMove n S (start_set n) w b z) k.0 mv1 in
           let mv3 = subst (λ (w : ℕ). IsMove n S (start_set n) by w z) k.1 mv2 in
-          inr (same-move n S (start_set n) z y by 0 mv3 to-y)
+          inr (same_move n S (start_set n) z y by 0 mv3 to-y)
 
   apart : (q r : ℕ) (x : Subset) → slice_get both q ≡ Some x → slice_get both r ≡ Some x → q ≡ r
   apart q r x e f = go (which q x e) (which r x f)
@@ -76,8 +72,7 @@ module _ (n : ℕ) (S : ℕ → ℕ → ℕ → ℕ → Type 0) (E : ℕ → ℕ
     subsets = both;
     states = sym is.states;
     start = refl;
-    apart = apart;
-    reached = reached;
+    sets = record { apart = apart; reached = reached };
     all = λ x r. place x (found x r);
     goes = goes;
     stays = stays;
@@ -113,7 +108,7 @@ module _ (n : ℕ) (S : ℕ → ℕ → ℕ → ℕ → Type 0) (E : ℕ → ℕ
           go : ((q ≡ 0) × (x ≡ start_set n)) ⊎ ((q ≡ 1) × (x ≡ y)) → ⊥
           go (inr f) = h.stops o m b p (subst (λ (z : Subset). IsIn z o) f.1 i) s
           go (inl f) =
-              let k = h.only m b p (subst (λ (w : ℕ). S w m b p) (start_only n o (subst (λ (z : Subset). IsIn z o) f.1 i)) s) in
+              let k = h.only m b p (subst (λ (w : ℕ). S w m b p) (single_only n 0 o (subst (λ (z : Subset). IsIn z o) f.1 i)) s) in
               let some : next_of d q m b ≡ Some 1 = (is.steps q m b 1).1 (f.0, k.0, k.1, refl) in
               cc
 
@@ -128,28 +123,8 @@ module _ (n : ℕ) (S : ℕ → ℕ → ℕ → ℕ → Type 0) (E : ℕ → ℕ
       ends-from q m x e c = go (which q x e)
         where
           go : ((q ≡ 0) × (x ≡ start_set n)) ⊎ ((q ≡ 1) × (x ≡ y)) → Contains (ends_of d q) m
-          go (inl f) = absurd (h.start_end m (subst (λ (w : ℕ). E w m) (start_only n c.0 (subst (λ (z : Subset). IsIn z c.0) f.1 c.1)) c.2))
+          go (inl f) = absurd (h.start_end m (subst (λ (w : ℕ). E w m) (single_only n 0 c.0 (subst (λ (z : Subset). IsIn z c.0) f.1 c.1)) c.2))
           go (inr f) = (is.ends q m).1 (f.0, h.one_end c.0 m (subst (λ (z : Subset). IsIn z c.0) f.1 c.1) c.2)
-
--- the set of one of some numbers
-single : ℕ → ℕ → Subset
-single n p = slice_set (replicate n false) p true
-
-single-size : (n p : ℕ) → length (single n p) ≡ n
-unfolding single
-single-size n p = length-set (replicate n false) p true ∙ length-replicate n false
-
-single-in : (n p : ℕ) → p < n → IsIn (single n p) p
-unfolding single
-single-in n p lt = get_or-set_same (replicate n false) p true false (omega (arith, lt, length-replicate n false))
-
-single-only : (n p o : ℕ) → IsIn (single n p) o → o ≡ p
-unfolding single
-single-only n p o h = go (eqb_tells o p)
-  where
-    go : ((o == p ≡ true) × (o ≡ p)) ⊎ ((o == p ≡ false) × (o ≡ p → ⊥)) → o ≡ p
-    go (inl e) = e.1
-    go (inr e) = let bad : true ≡ false = sym h ∙ get_or-set_other (replicate n false) p o true false e.1 ∙ blank_out n o in absurd (cc)
 
 -- the second of two
 abbrev second : Subset
@@ -361,15 +336,15 @@ module _ (a : DeterministicAutomaton) (is : HasOneStep 1 1 2 a) where
 
   join-leads : LeadsTo (join_size a) (JoinStep a x_name a y_name) (JoinEnd a x_name a y_name) 5 10 (single 256 129)
   join-leads = record {
-    size = omega (arith, single-size 256 129, is.states);
+    size = omega (arith, single_size 256 129, is.states);
     positive = omega (arith, is.states);
-    only = λ m b p s. (let k = join-only m b p s in (k.0, k.1, subst (λ (z : ℕ). IsIn (single 256 129) z) (sym k.2) (single-in 256 129 (omega arith))));
-    all = λ p i. join-all p (single-only 256 129 p i);
-    no_start = λ i. (let e = single-only 256 129 0 i in omega (arith, e));
-    stops = λ o m b p i s. join-stops o m b p (single-only 256 129 o i) s;
+    only = λ m b p s. (let k = join-only m b p s in (k.0, k.1, subst (λ (z : ℕ). IsIn (single 256 129) z) (sym k.2) (single_in 256 129 (omega arith))));
+    all = λ p i. join-all p (single_only 256 129 p i);
+    no_start = λ i. (let e = single_only 256 129 0 i in omega (arith, e));
+    stops = λ o m b p i s. join-stops o m b p (single_only 256 129 o i) s;
     start_end = join-start_end;
     one_end = λ o m i s. join-one_end o m s;
-    end = (129, single-in 256 129 (omega arith), join-end);
+    end = (129, single_in 256 129 (omega arith), join-end);
   }
 
 leaf-row : (name : List ℕ) (d : DeterministicAutomaton) → HasOneStep 1 1 2 d → IsTreeAutomaton (one_byte name) d

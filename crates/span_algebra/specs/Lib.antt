@@ -1,5 +1,4 @@
 pub mod Renaming
-pub mod Reached
 pub mod TreeAutomaton
 pub mod Answers
 pub mod Refusals

@@ -1,9 +1,9 @@
 -- The steps and ends of a pair of states, as edges and ends of a join's automaton.
-use Rattle.std.specs.Prelude.{◌≡◌, ℕ, ◌/◌, ◌%◌, ◌<◌, ◌≤◌, ◌↔◌, true, false, List, length, Some, slice_get, slice_set, replicate, Contains}
+use Rattle.std.specs.Prelude.{◌≡◌, ℕ, ◌/◌, ◌%◌, ◌<◌, ◌≤◌, ◌↔◌, List, length, Some, slice_get, Contains}
 use Rattle.marker_nfa.specs.declared.nfa.Edge.{Edge}
 use Rattle.marker_nfa.specs.declared.nfa.End.{End}
+use Rattle.marker_dfa.specs.Reached.{IsReached, single}
 use Rattle.marker_dfa.specs.Deterministic.{DeterministicAutomaton, ends_of, marks_of, next_of, states_of}
-use Rattle.marker_dfa.specs.Subsets.{Subset}
 use Rattle.span_algebra.specs.declared.classes.Class.{Class}
 use Rattle.span_algebra.specs.declared.exploring.Explored.{Explored}
 use Rattle.span_algebra.specs.declared.joints.Joint.{Joint}
@@ -11,7 +11,6 @@ use Rattle.span_algebra.specs.declared.joints.Meeting.{Meeting}
 use Rattle.marker_nfa.specs.Automaton.{Automaton, Moves, MayEnd}
 use Rattle.span_algebra.specs.Joints.{AreShortWith, IsJointAmong}
 use Rattle.span_algebra.specs.Pairs.{AreFew}
-use Rattle.span_algebra.specs.Reached.{IsReached}
 use Rattle.span_algebra.specs.Renaming.{both_names}
 use Rattle.span_algebra.specs.TreeAutomaton.{JoinEnd, JoinStep, join_size, pair_of}
 
@@ -48,10 +47,6 @@ pub record AreShortSteps (a : DeterministicAutomaton) (t : Meeting) : Type 0 whe
 -- both states of a pair are there
 abbrev pub IsPair : DeterministicAutomaton → DeterministicAutomaton → ℕ → Type 0
 IsPair a b o = (o / 128 < states_of a) × (o % 128 < states_of b)
-
--- the set of one occurrence
-abbrev pub single : ℕ → ℕ → Subset
-single n o = slice_set (replicate n false) o true
 
 -- a step by the first byte of a class, with all of its bytes
 pub record IsStepEdge (Step : ℕ → ℕ → ℕ → ℕ → Type 0) (classes : List Class) (e : Edge) : Type 0 where

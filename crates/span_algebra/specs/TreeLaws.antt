@@ -5,10 +5,9 @@ use Rattle.span_types.specs.Query.{Query, Leaf, Union, Join, Project}
 use Rattle.span_types.specs.Rel.{names_of}
 use Rattle.marker_nfa.specs.Automaton.{Automaton}
 use Rattle.marker_nfa.specs.Occurrences.{IsPositionAutomaton}
-use Rattle.marker_dfa.specs.Subsets.{AreTooMany}
-use Rattle.marker_dfa.specs.Deterministic.{AcceptsSame, DeterministicAutomaton, StandsFor, ends_of, next_of, states_of}
+use Rattle.marker_dfa.specs.Reached.{CountIsAbove}
+use Rattle.marker_dfa.specs.Deterministic.{AcceptsSame, AreTooMany, DeterministicAutomaton, StandsFor, ends_of, next_of, states_of}
 use Rattle.span_algebra.specs.TreeAutomaton.{JoinStep, ProjectStep, UnionStep, join_size, union_size}
-use Rattle.span_algebra.specs.Reached.{CountIsAbove}
 use Rattle.span_algebra.specs.Trees.{IsTreeAutomaton, TreeCountIsAbove}
 
 -- two automata differ in the numbers of their states alone: the start is the same, and steps and ends go with the states

@@ -5,9 +5,9 @@ use Rattle.span_types.specs.Query.{Query, Leaf, Union, Join, Project}
 use Rattle.span_types.specs.Rel.{names_of}
 use Rattle.formula_law.specs.Accepts.{Steps}
 use Rattle.formula_law.specs.Positions.{IsEnd}
-use Rattle.marker_dfa.specs.Deterministic.{DeterministicAutomaton, states_of}
+use Rattle.marker_dfa.specs.Reached.{CountIsAbove}
+use Rattle.marker_dfa.specs.Deterministic.{DeterministicAutomaton, IsAutomatonOf, states_of}
 use Rattle.span_algebra.specs.TreeAutomaton.{JoinEnd, JoinStep, ProjectEnd, ProjectStep, UnionEnd, UnionStep, join_size, union_size}
-use Rattle.span_algebra.specs.Reached.{CountIsAbove, IsAutomatonOf}
 
 -- an automaton of n occurrences, with a variable for each name
 pub record IsNamedAutomaton (names : List (List ℕ)) (n : ℕ) (Step : ℕ → ℕ → ℕ → ℕ → Type 0) (End : ℕ → ℕ → Type 0) (d : DeterministicAutomaton) : Type 0 where

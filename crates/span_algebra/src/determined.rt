@@ -2,8 +2,7 @@
 
 ghost use Rattle.std.specs.Prelude.{◌≡◌, IfErr, IfOk};
 ghost use Rattle.marker_nfa.specs.Automaton.{AreLettersOf};
-ghost use Rattle.marker_dfa.specs.Deterministic.{AcceptsSame, StandsFor};
-ghost use Rattle.marker_dfa.specs.Subsets.{AreTooMany};
+ghost use Rattle.marker_dfa.specs.Deterministic.{AcceptsSame, AreTooMany, StandsFor};
 ghost use Rattle.span_algebra.specs.Making.{letters_of};
 ghost use Rattle.span_algebra.specs.Refusals.{IsRefused};
 

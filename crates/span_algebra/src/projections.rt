@@ -2,10 +2,10 @@
 
 ghost use Rattle.std.specs.Prelude.{◌≡◌, ◌≤◌, IfErr, IfOk, length};
 ghost use Rattle.marker_nfa.specs.Automaton.{AreLettersOf};
-ghost use Rattle.marker_dfa.specs.Deterministic.{states_of};
+ghost use Rattle.marker_dfa.specs.Reached.{CountIsAbove};
+ghost use Rattle.marker_dfa.specs.Deterministic.{IsAutomatonOf, states_of};
 ghost use Rattle.span_algebra.specs.Answers.{GivesProjection};
 ghost use Rattle.span_algebra.specs.Making.{AreClasses, IsProjectNfa, letters_of};
-ghost use Rattle.span_algebra.specs.Reached.{CountIsAbove, IsAutomatonOf};
 ghost use Rattle.span_algebra.specs.Refusals.{IsRefused};
 ghost use Rattle.span_algebra.specs.TreeAutomaton.{ProjectEnd, ProjectStep};
 

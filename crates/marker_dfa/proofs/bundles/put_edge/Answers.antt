@@ -1,7 +1,7 @@
 use Rattle.std.proofs.Common.{◌≡◌, ◌<◌, Some, true, ap, sym, subst, refl, ◌∙◌, arith, length, slice_get, set}
 use Rattle.std.proofs.lemmas.Option.{slice_get-get_or}
 use Rattle.marker_dfa.specs.declared.bundles.Bundle.{Bundle}
-use Rattle.marker_dfa.specs.Subsets.{Subset}
+use Rattle.marker_dfa.specs.Reached.{Subset}
 use Rattle.marker_dfa.specs.Making.{GainsStates, IsLike}
 use Rattle.marker_dfa.proofs.Lists.{one_value}
 use Rattle.marker_dfa.proofs.Leaving.{insert_gains}

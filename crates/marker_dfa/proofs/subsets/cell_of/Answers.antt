@@ -1,7 +1,8 @@
 use Rattle.std.proofs.Common.{◌≡◌, ◌<◌, ◌≤◌, ℕ, List, Some, ap, sym, ◌∙◌, subst, arith, length, slice_get, get_or}
 use Rattle.std.proofs.lemmas.Option.{slice_get-get_or, get_or_from_slice_get}
+use Rattle.marker_nfa.specs.Automaton.{Moves}
 use Rattle.marker_dfa.specs.declared.exits.Step.{Step}
-use Rattle.marker_dfa.specs.Subsets.{IsMove}
+use Rattle.marker_dfa.specs.Reached.{IsMove}
 use Rattle.marker_dfa.specs.Making.{AreSteps}
 use Rattle.marker_dfa.proofs.Leaving.{mark_among, mark_of, marks_fall, marks_of}
 use Rattle.marker_dfa.proofs.Growing.{step_refused, step_more, cells_end}
@@ -19,7 +20,7 @@ returns-in_err-target-clause-refused c =
     let lt : k < length steps = c.loop-step-test.true in
     let at : slice_get steps k ≡ Some e = slice_get-get_or steps k e lt ∙ ap Some (sym c.step-item.is) in
     let same : e.mark ≡ get_or (marks_of steps) k 0 = sym (get_or_from_slice_get (marks_of steps) k e.mark 0 (mark_of steps k e at)) in
-    let move = subst (λ (m : ℕ). IsMove c.args.nfa.now c.args.exits.now.from m c.args.readers.now.byte e.to) same (are.moves k e at) in
+    let move = subst (λ (m : ℕ). IsMove c.args.nfa.now.states (Moves c.args.nfa.now) c.args.exits.now.from m c.args.readers.now.byte e.to) same (are.moves k e at) in
     let up : k < length (marks_of steps) = omega (arith, lt, length_map (λ (z : Step). z.mark) steps) in
     carried ℕ _ _ _ _ c.from_residual-in_err-target.ensures.1 (λ full. step_refused c.args.nfa.now (marks_of steps) c.args.readers.now.byte k _ _ _ _ c.args.exits.now.from e.to c.loop-step.invariant c.requires.reached move (are.filled k e at) full) c.in_err-target.ensures.refused
 
@@ -33,7 +34,7 @@ loop-step-preserved c =
     let lt : k < length steps = c.loop-step-test.true in
     let at : slice_get steps k ≡ Some e = slice_get-get_or steps k e lt ∙ ap Some (sym c.step-item.is) in
     let same : e.mark ≡ get_or (marks_of steps) k 0 = sym (get_or_from_slice_get (marks_of steps) k e.mark 0 (mark_of steps k e at)) in
-    let move = subst (λ (m : ℕ). IsMove c.args.nfa.now c.args.exits.now.from m c.args.readers.now.byte e.to) same (are.moves k e at) in
+    let move = subst (λ (m : ℕ). IsMove c.args.nfa.now.states (Moves c.args.nfa.now) c.args.exits.now.from m c.args.readers.now.byte e.to) same (are.moves k e at) in
     let up : k < length (marks_of steps) = omega (arith, lt, length_map (λ (z : Step). z.mark) steps) in
     let few : length c.place_of.new.sets.items ≤ 128 = omega (arith, c.place_of.new.sets.ok.0, c.in_ok-target.ensures.few) in
     rw (c.in_ok-push.ensures.marks, c.in_ok-push.ensures.targets, same) (step_more c.args.nfa.now (marks_of steps) c.args.readers.now.byte k _ _ _ _ c.args.exits.now.from e.to _ _ c.loop-step.invariant (marks_fall c.args.nfa.now c.args.exits.now.from c.args.readers.now.byte steps are) up c.requires.reached move (are.filled k e at) c.in_ok-target.ensures.placed few)

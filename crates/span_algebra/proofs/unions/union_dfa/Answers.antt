@@ -1,16 +1,15 @@
 use Rattle.std.proofs.Common.{◌≤◌, ◌∙◌, length, ap, arith}
 use Rattle.span_algebra.specs.Renaming.{both_names}
-use Rattle.span_algebra.specs.TreeAutomaton.{UnionEnd, UnionStep, union_size}
 use Rattle.span_algebra.proofs.EdgeLaws.{ok-map}
 use Rattle.span_algebra.proofs.LetterLaws.{same-letters}
 use Rattle.span_algebra.proofs.RefusalLaws.{refused-by}
-use Rattle.span_algebra.proofs.SetLaws.{above_from, automaton_of, many_from}
+use Rattle.span_algebra.proofs.SetLaws.{automaton-moved, count-moved, parts-matched, turned}
 use Rattle.span_algebra.proofs.UnionLaws.{gives-union}
 use Rattle.span_algebra.proofs.unions.union_dfa.Goals as goal
 
 pub returns-clause-automaton : goal.returns-clause-automaton
-returns-clause-automaton c = let a = c.args.left.now in let va = c.args.left_names.now in let b = c.args.right.now in let vb = c.args.right_names.now in
-    ok-map c.determined.result _ _ (λ d h. automaton_of (union_size a b) (UnionStep a va b vb) (UnionEnd a va b vb) c.in_ok-nfa.nfa c.in_ok-nfa.ensures.made.parts d h) c.determined.ensures.states
+returns-clause-automaton c =
+    ok-map c.determined.result _ _ (automaton-moved (parts-matched c.in_ok-nfa.ensures.made.parts)) c.determined.ensures.states
 
 pub returns-clause-answers : goal.returns-clause-answers
 returns-clause-answers c = let a = c.args.left.now in let va = c.args.left_names.now in let b = c.args.right.now in let vb = c.args.right_names.now in
@@ -18,13 +17,13 @@ returns-clause-answers c = let a = c.args.left.now in let va = c.args.left_names
     ok-map c.determined.result _ _ (λ d h. gives-union a va b vb c.states-left_states.ensures.automaton c.states-right_states.ensures.automaton c.requires.left c.requires.right c.in_ok-nfa.nfa c.in_ok-nfa.ensures.made.parts d few (h.variables ∙ c.in_ok-nfa.ensures.made.variables) h) c.determined.ensures.accepts
 
 pub returns-clause-few : goal.returns-clause-few
-returns-clause-few c = let a = c.args.left.now in let va = c.args.left_names.now in let b = c.args.right.now in let vb = c.args.right_names.now in
-    ok-map c.determined.result _ _ (λ d h k. h (many_from (union_size a b) (UnionStep a va b vb) (UnionEnd a va b vb) c.in_ok-nfa.nfa c.in_ok-nfa.ensures.made.parts k)) c.determined.ensures.few
+returns-clause-few c =
+    ok-map c.determined.result _ _ (λ d h k. h (count-moved (turned (parts-matched c.in_ok-nfa.ensures.made.parts)) 128 k)) c.determined.ensures.few
 
 pub returns-clause-refused : goal.returns-clause-refused
-returns-clause-refused c = let a = c.args.left.now in let va = c.args.left_names.now in let b = c.args.right.now in let vb = c.args.right_names.now in
+returns-clause-refused c = let va = c.args.left_names.now in let vb = c.args.right_names.now in
     let few : length (both_names va vb) ≤ 8 = omega (arith, c.count-variables.ensures.vars.few, ap length c.requires.names) in
-    refused-by c.determined.result _ _ _ few (above_from (union_size a b) (UnionStep a va b vb) (UnionEnd a va b vb) c.in_ok-nfa.nfa c.in_ok-nfa.ensures.made.parts) c.determined.ensures.refused
+    refused-by c.determined.result _ _ _ few (count-moved (parts-matched c.in_ok-nfa.ensures.made.parts) 128) c.determined.ensures.refused
 
 pub determined-requires : goal.determined-requires
 determined-requires c = same-letters c.in_ok-nfa.nfa.edges c.deref.result.now c.deref-2.result.now c.in_ok-classes.classes.items c.deref.ensures.value c.deref-2.ensures.value c.in_ok-nfa.ensures.letters
