@@ -1,13 +1,14 @@
 -- What the two lists of a table give.
-use Rattle.std.proofs.Common.{zero, suc, ◌≡◌, ℕ, ◌-◌, ◌≤◌, Bool, true, false, ◌&&◌, nat_eq, refl, ap, sym, ◌∙◌, arith, inl, inr, ◌⊎◌, ◌≢◌, List, [], ◌∷◌, ◌++◌, length, map, get_or, Option, Some, None}
+use Rattle.std.proofs.Common.{zero, suc, ◌≡◌, ℕ, ◌-◌, ◌≤◌, Bool, true, false, ◌&&◌, nat_eq, refl, ap, sym, ◌∙◌, arith, inl, inr, ◌⊎◌, ◌≢◌, List, [], ◌∷◌, ◌++◌, length, length-append, get_or, Option, Some, None}
 use Rattle.std.specs.Option.{option_eq}
 use Rattle.std.specs.Cmp.Lexicographic.{pointwise}
 use Rattle.std.proofs.lemmas.Bool.{eq-eqb, eqb-true, cases_eq}
 use Rattle.std.specs.Option.{SomeIff}
 use Rattle.state_tables.specs.Table.{Row, unmarked_of, marked_of}
 use Rattle.state_tables.specs.Coded.{code_of, step_of, rows_of}
-use Rattle.std.specs.Hash.{u8, u128, slice}
-use Rattle.state_tables.specs.Same.{table_eq, table_writes}
+use Rattle.std.proofs.lemmas.List.Sums.{fold_push}
+use Rattle.state_tables.specs.Digest.{digest_of, digest_with, AreCoded}
+use Rattle.state_tables.specs.Same.{table_eq, table_same}
 
 pub length-rows_of : (us ms : List ℕ) → length us ≡ length ms → length (rows_of us ms) ≡ length ms
 length-rows_of [] [] h = refl
@@ -34,25 +35,6 @@ rows_of-push [] [] u m h = refl
 rows_of-push [] (n ∷ ms) u m h = absurd (omega arith)
 rows_of-push (v ∷ us) [] u m h = absurd (omega arith)
 rows_of-push (v ∷ us) (n ∷ ms) u m h = let make : Row = record { unmarked = step_of v; marked = n } in ap (λ t. make ∷ t) (rows_of-push us ms u m (omega arith))
-
-code_of-step_of : (u : ℕ) → code_of (step_of u) ≡ u
-code_of-step_of zero = refl
-code_of-step_of (suc q) = refl
-
-pub codes-rows_of : (us ms : List ℕ) → length us ≡ length ms → map (λ r. code_of r.unmarked) (rows_of us ms) ≡ us
-codes-rows_of [] [] h = refl
-codes-rows_of [] (m ∷ ms) h = absurd (omega arith)
-codes-rows_of (u ∷ us) [] h = absurd (omega arith)
-codes-rows_of (u ∷ us) (m ∷ ms) h =
-    let head : code_of (step_of u) ≡ u = code_of-step_of u in
-    let tail : map (λ r. code_of r.unmarked) (rows_of us ms) ≡ us = codes-rows_of us ms (omega arith) in
-    cc
-
-pub sets-rows_of : (us ms : List ℕ) → length us ≡ length ms → map (λ r. r.marked) (rows_of us ms) ≡ ms
-sets-rows_of [] [] h = refl
-sets-rows_of [] (m ∷ ms) h = absurd (omega arith)
-sets-rows_of (u ∷ us) [] h = absurd (omega arith)
-sets-rows_of (u ∷ us) (m ∷ ms) h = ap (λ t. m ∷ t) (sets-rows_of us ms (omega arith))
 
 apart-at : (u v : ℕ) (b : Bool) → nat_eq u v ≡ b → u ≢ v → b ≡ false
 apart-at u v true e ne = absurd (ne (eqb-true u v e))
@@ -96,10 +78,6 @@ table_eq-rows_of (u ∷ us) (m ∷ ms) (v ∷ vs) (n ∷ ns) h k =
     ∙ ap (λ b. (b && nat_eq m n) && (pointwise nat_eq us vs && pointwise nat_eq ms ns)) (sym (steps-eq u v))
     ∙ ap (λ b. (option_eq nat_eq (step_of u) (step_of v) && nat_eq m n) && b) (table_eq-rows_of us ms vs ns (omega arith) (omega arith))
 
--- what is fed to a hasher
-pub writes-rows_of : (us ms : List ℕ) → length us ≡ length ms → slice u8 us ++ slice u128 ms ≡ table_writes (rows_of us ms)
-writes-rows_of us ms h = ap (λ x. slice u8 x ++ slice u128 ms) (sym (codes-rows_of us ms h)) ∙ ap (λ x. slice u8 (map (λ r. code_of r.unmarked) (rows_of us ms)) ++ slice u128 x) (sym (sets-rows_of us ms h))
-
 -- one less than the code, where it isn't 0
 pub step-checked : (u : ℕ) (r : Option ℕ) → SomeIff r (1 ≤ u) (u - 1) → r ≡ step_of u
 step-checked zero None h = refl
@@ -117,3 +95,35 @@ pub rows_of-added : (us ms : List ℕ) (o : Option ℕ) (m : ℕ) (t : List Row)
 rows_of-added us ms o m t h e =
     let make : Option ℕ → Row = λ u. record { unmarked = u; marked = m } in
     rows_of-push us ms (code_of o) m h ∙ ap (λ x. x ++ make (step_of (code_of o)) ∷ []) e ∙ ap (λ u. t ++ make u ∷ []) (step_of-code_of o)
+
+-- ---- digests
+pub coded-none : (us ms : List ℕ) → us ≡ [] → ms ≡ [] → AreCoded us ms 0x243f_6a88_85a3_08d3
+unfolding digest_of
+coded-none us ms u m = rw (u, m) (record { as_long = refl; digest_is = refl })
+
+code_of-step_of : (u : ℕ) → code_of (step_of u) ≡ u
+code_of-step_of zero = refl
+code_of-step_of (suc q) = refl
+
+pub coded-push : (us ms : List ℕ) (digest u m : ℕ) → AreCoded us ms digest → AreCoded (us ++ u ∷ []) (ms ++ m ∷ []) (digest_with digest u m)
+unfolding digest_of
+coded-push us ms digest u m is =
+    let row : Row = record { unmarked = step_of u; marked = m } in
+    let add : ℕ → Row → ℕ = λ d r. digest_with d (code_of r.unmarked) r.marked in
+    let long = is.as_long in
+    record {
+      as_long = omega (arith, length-append us (u ∷ []), length-append ms (m ∷ []), long);
+      digest_is =
+          ap (λ d. digest_with d u m) is.digest_is
+          ∙ ap (λ k. digest_with (digest_of (rows_of us ms)) k m) (sym (code_of-step_of u))
+          ∙ sym (fold_push add 0x243f_6a88_85a3_08d3 (rows_of us ms) row)
+          ∙ ap digest_of (sym (rows_of-push us ms u m is.as_long));
+    }
+
+-- tables whose digests differ are different
+apart-by : (xs ys : List Row) (b : Bool) → table_eq xs ys ≡ b → nat_eq (digest_of xs) (digest_of ys) ≡ false → b ≡ false
+apart-by xs ys true same apart = sym (eq-eqb (digest_of xs) (digest_of ys) (ap digest_of (table_same xs ys same))) ∙ apart
+apart-by xs ys false same apart = refl
+
+pub digests-apart : (xs ys : List Row) → nat_eq (digest_of xs) (digest_of ys) ≡ false → table_eq xs ys ≡ false
+digests-apart xs ys apart = apart-by xs ys (table_eq xs ys) refl apart

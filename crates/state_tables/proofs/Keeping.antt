@@ -59,7 +59,7 @@ shapes states kept t false n old new h = elim (cases_lt n (length kept)) [
 
 -- a table is kept
 pub IsDictionary-keep : (d : Dictionary) (kept : List (List Row)) (t : List Row) (b : Bool) → IsDictionary d → IsTableOf d.states t
-    → kept ≡ (if b then d.kept else d.kept ++ t ∷ []) → IsDistinct table_eq kept → length d.kept < 2 ^ 32 → IsDictionary (record d { kept = kept })
+    → kept ≡ (if b then d.kept else d.kept ++ t ∷ []) → IsDistinct table_eq kept → length d.kept + 1 < 2 ^ 32 → IsDictionary (record d { kept = kept })
 IsDictionary-keep d kept t b is shape e apart room = record {
   few = is.few;
   narrow = omega (arith, ap length e, no-longer d.kept t b, room);

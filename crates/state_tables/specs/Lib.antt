@@ -1,6 +1,7 @@
 pub mod StateSet
 pub mod Table
 pub mod Coded
+pub mod Digest
 pub mod Same
 pub mod Meaning
 pub mod Dictionary

@@ -1,12 +1,12 @@
 -- How tables are compared and hashed.
-use Rattle.std.proofs.Common.{◌≡◌, ℕ, Bool, true, false, ◌&&◌, nat_eq, refl, ap, ◌∙◌, List, [], ◌∷◌, ◌++◌, map, Option, Some, None}
+use Rattle.std.proofs.Common.{◌≡◌, ℕ, Bool, true, false, ◌&&◌, nat_eq, refl, ap, ◌∙◌, List, [], ◌∷◌, Option, Some, None}
 use Rattle.std.specs.Option.{option_eq}
 use Rattle.std.specs.Ordering.{on, eq_of_both}
 use Rattle.std.specs.Cmp.Lexicographic.{pointwise}
-use Rattle.std.specs.Hash.{HashWrites, u8, u128, slice}
+use Rattle.std.specs.Hash.{HashWrites, u64}
 use Rattle.std.proofs.lemmas.Bool.{eqb-true}
 use Rattle.state_tables.specs.Table.{Row}
-use Rattle.state_tables.specs.Coded.{code_of}
+use Rattle.state_tables.specs.Digest.{digest_of}
 
 abbrev pub row_eq : Row → Row → Bool
 row_eq = eq_of_both (on (λ r. r.unmarked) (option_eq nat_eq)) (on (λ r. r.marked) nat_eq)
@@ -15,7 +15,7 @@ abbrev pub table_eq : List Row → List Row → Bool
 table_eq = pointwise row_eq
 
 abbrev pub table_writes : List Row → HashWrites
-table_writes t = slice u8 (map (λ r. code_of r.unmarked) t) ++ slice u128 (map (λ r. r.marked) t)
+table_writes t = u64 (digest_of t)
 
 and-both : (x y : Bool) → (x && y) ≡ true → (x ≡ true) × (y ≡ true)
 and-both true y h = (refl, h)

@@ -19,8 +19,8 @@ use std::alloc::Global;
 use std::marker::Model;
 use std::sync::ledger::Ledger;
 
-// The most tables that are kept, so that a number takes 32 bits.
-const MAX_TABLES: usize = 1 << 32;
+// The most tables that are kept, so that one more than a number takes 32 bits.
+const MAX_TABLES: usize = (1 << 32) - 1;
 
 /// Each distinct table once, under a number from 0, and for each node the number of its table.
 #[derive(Drop)]

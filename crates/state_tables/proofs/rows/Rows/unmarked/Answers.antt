@@ -8,14 +8,14 @@ use Rattle.state_tables.proofs.rows.Rows.unmarked.Goals as goal
 pub index-requires : goal.index-requires
 index-requires c =
     let as_long : length c.self.inside.marked.items ≡ length c.args.self.now =
-    sym (length-rows_of c.self.inside.unmarked.items c.self.inside.marked.items c.self.invariant) ∙ ap length c.self.view_is in
-    omega (arith, c.self.invariant)
+    sym (length-rows_of c.self.inside.unmarked.items c.self.inside.marked.items c.self.invariant.as_long) ∙ ap length c.self.view_is in
+    omega (arith, c.self.invariant.as_long)
 
 pub returns : goal.returns
 returns c =
     let as_long : length c.self.inside.marked.items ≡ length c.args.self.now =
-    sym (length-rows_of c.self.inside.unmarked.items c.self.inside.marked.items c.self.invariant) ∙ ap length c.self.view_is in
+    sym (length-rows_of c.self.inside.unmarked.items c.self.inside.marked.items c.self.invariant.as_long) ∙ ap length c.self.view_is in
     step-checked c.index.result.now c.checked_sub.result c.checked_sub.ensures
-    ∙ ap step_of (c.index.ensures ∙ get_or_default c.self.inside.unmarked.items c.args.p c.index.result.now 0 (omega (arith, c.self.invariant)))
-    ∙ sym (unmarked_of-rows_of c.self.inside.unmarked.items c.self.inside.marked.items c.args.p c.self.invariant)
+    ∙ ap step_of (c.index.ensures ∙ get_or_default c.self.inside.unmarked.items c.args.p c.index.result.now 0 (omega (arith, c.self.invariant.as_long)))
+    ∙ sym (unmarked_of-rows_of c.self.inside.unmarked.items c.self.inside.marked.items c.args.p c.self.invariant.as_long)
     ∙ ap (λ t. unmarked_of t c.args.p) c.self.view_is

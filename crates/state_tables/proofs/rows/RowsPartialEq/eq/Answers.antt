@@ -1,30 +1,12 @@
-use Rattle.std.proofs.Common.{ap, ◌∙◌, ◌&&◌, nat_eq}
-use Rattle.std.specs.Cmp.Lexicographic.{pointwise}
-use Rattle.state_tables.specs.Coded.{rows_of}
-use Rattle.state_tables.specs.Same.{table_eq}
-use Rattle.state_tables.proofs.CodedRows.{table_eq-rows_of}
+use Rattle.std.proofs.Common.{◌≡◌, ap, sym, ◌∙◌}
+use Rattle.std.proofs.lemmas.Bool.{ne_eqb}
+use Rattle.state_tables.specs.Digest.{digest_of}
+use Rattle.state_tables.proofs.CodedRows.{digests-apart}
 use Rattle.state_tables.proofs.rows.RowsPartialEq.eq.Goals as goal
 
-pub returns-then-eq : goal.returns-then-eq
-returns-then-eq c =
-    let us = c.self.inside.unmarked.items in
-    let ms = c.self.inside.marked.items in
-    let vs = c.other.inside.unmarked.items in
-    let ns = c.other.inside.marked.items in
-    c.eq-then-eq.ensures
-    ∙ ap (λ b. b && pointwise nat_eq ms ns) c.if-eq.ensures
-    ∙ table_eq-rows_of us ms vs ns c.self.invariant c.other.invariant
-    ∙ ap (λ t. table_eq t (rows_of vs ns)) c.self.view_is
-    ∙ ap (table_eq c.args.self.now) c.other.view_is
-
-pub returns-else-eq : goal.returns-else-eq
-returns-else-eq c =
-    let us = c.self.inside.unmarked.items in
-    let ms = c.self.inside.marked.items in
-    let vs = c.other.inside.unmarked.items in
-    let ns = c.other.inside.marked.items in
-    c.if-eq.false
-    ∙ ap (λ b. b && pointwise nat_eq ms ns) c.if-eq.ensures
-    ∙ table_eq-rows_of us ms vs ns c.self.invariant c.other.invariant
-    ∙ ap (λ t. table_eq t (rows_of vs ns)) c.self.view_is
-    ∙ ap (table_eq c.args.self.now) c.other.view_is
+pub returns-else-self-other : goal.returns-else-self-other
+returns-else-self-other c =
+    let one : c.self.inside.digest ≡ digest_of c.args.self.now = c.self.invariant.digest_is ∙ ap digest_of c.self.view_is in
+    let two : c.other.inside.digest ≡ digest_of c.args.other.now = c.other.invariant.digest_is ∙ ap digest_of c.other.view_is in
+    let apart = ne_eqb c.self.inside.digest c.other.inside.digest c.if-self-other.false in
+    apart ∙ sym (digests-apart c.args.self.now c.args.other.now (rw (← one, ← two) apart))
