@@ -13,9 +13,8 @@ use Rattle.slp_model.specs.Tree.{height}
 use Rattle.slp_model.specs.Nodes.{tree}
 use Rattle.state_tables.specs.Dictionary.{Dictionary}
 use Rattle.table_grow.specs.Filling.{Filling, number_in}
-use Rattle.table_grow.specs.Growing.{IsDue, StillPlaced, OnlyPlaced, PlacedUnder, PlacedBelow, FreeAbove, FreeFrom}
+use Rattle.table_grow.specs.Growing.{IsDue, IsPlacedUnder, StillPlaced, OnlyPlaced, PlacedBelow, FreeFrom}
 use Rattle.table_grow.specs.Layers.{IsLayer, IsOfHeight, AreLayers}
-use Rattle.table_grow.proofs.Growing.{old-some}
 
 -- ---- one more node
 below : (i k : ℕ) → i < k + 1 → i ≢ k → i < k
@@ -101,71 +100,75 @@ put-list f L b v w id now view lt at e =
 
 -- ---- one height
 -- the nodes of a layer are due once each lower node is placed
-pub due-layer : (nodes : List Node) (d : Dictionary) (f : Filling) (high : ℕ) (id : NodeId) → PlacedUnder nodes d f high
-    → IsOfHeight nodes f.known (length nodes) high id → IsDue nodes d f id
-due-layer nodes d f high id under is = record {
-  new = is.new;
-  live = is.live;
+due-layer : (nodes : List Node) (d : Dictionary) (f : Filling) (from to high : ℕ) (id : NodeId) → to ≤ length nodes → IsPlacedUnder nodes d f from to high
+    → IsOfHeight nodes from to high id → IsDue nodes d f id
+due-layer nodes d f from to high id end at is = record {
+  new = let a = at.new in let b = is.new in omega (arith, a, b);
+  live = let live = is.live in omega (arith, live, end);
   children = λ l r pair.
       let live = is.live in
       let lb = pair.1 in
       let rb = pair.2 in
       let tall : height (tree nodes id.index) ≡ max (height (tree nodes l.index)) (height (tree nodes r.index)) + 1 = ap height pair.0 in
       let h = is.high_is in (
-        under l.index (omega (arith, lb, live)) (omega (arith, tall, h, le-max_left (height (tree nodes l.index)) (height (tree nodes r.index)))),
-        under r.index (omega (arith, rb, live)) (omega (arith, tall, h, le-max_right (height (tree nodes l.index)) (height (tree nodes r.index)))),
+        at.under l.index (omega (arith, lb, live)) (omega (arith, tall, h, le-max_left (height (tree nodes l.index)) (height (tree nodes r.index)))),
+        at.under r.index (omega (arith, rb, live)) (omega (arith, tall, h, le-max_right (height (tree nodes l.index)) (height (tree nodes r.index)))),
       );
 }
 
-pub due-all : (nodes : List Node) (d : Dictionary) (f : Filling) (high : ℕ) (ids : List NodeId) → PlacedUnder nodes d f high
-    → IsLayer nodes f.known (length nodes) high ids → All (IsDue nodes d f) ids
-due-all nodes d f high ids under layer = λ k x h. due-layer nodes d f high (get_or ids k x) under (layer.each k x h)
+pub due-all : (nodes : List Node) (d : Dictionary) (f : Filling) (from to high : ℕ) (ids : List NodeId) → to ≤ length nodes → IsPlacedUnder nodes d f from to high
+    → IsLayer nodes from to high ids → All (IsDue nodes d f) ids
+due-all nodes d f from to high ids end at layer = λ k x h. due-layer nodes d f from to high (get_or ids k x) end at (layer.each k x h)
 
 -- none of them is placed yet
-pub free-all : (nodes : List Node) (d : Dictionary) (f : Filling) (high : ℕ) (ids : List NodeId) → FreeAbove nodes d f high
-    → IsLayer nodes f.known (length nodes) high ids → All (λ (id : NodeId). number_in d f id.index ≡ None) ids
-free-all nodes d f high ids free layer = λ k x h. let is = layer.each k x h in let at = is.high_is in free (get_or ids k x).index is.new is.live (omega (arith, at))
+pub free-all : (nodes : List Node) (d : Dictionary) (f : Filling) (from to high : ℕ) (ids : List NodeId) → IsPlacedUnder nodes d f from to high
+    → IsLayer nodes from to high ids → All (λ (id : NodeId). number_in d f id.index ≡ None) ids
+free-all nodes d f from to high ids at layer = λ k x h. let is = layer.each k x h in let high_is = is.high_is in at.above (get_or ids k x).index is.new is.live (omega (arith, high_is))
 
 -- each stands once
 pub once-all : (nodes : List Node) (known bound high : ℕ) (ids : List NodeId) → IsLayer nodes known bound high ids → AllPairs (λ (x y : NodeId). x.index ≢ y.index) ids
 once-all nodes known bound high ids layer = λ i j d lt h. let up = layer.rising i j d lt h in λ e. absurd (omega (arith, up, e))
 
+-- before the first height
+pub placed-first : (nodes : List Node) (d : Dictionary) (f : Filling) (from to : ℕ) → f.known ≤ from → from ≤ to → PlacedBelow d f from → FreeFrom d f from → IsPlacedUnder nodes d f from to 0
+placed-first nodes d f from to new range before free = record {
+  new = new;
+  before = before;
+  under = λ id live low. absurd (omega (arith, low));
+  above = λ id late live low. free id (omega (arith, new, late)) late;
+  behind = λ id known far. free id known (omega (arith, range, far));
+}
+
 -- after the layer is placed, the next height may be worked
-pub under-next : (nodes : List Node) (d e : Dictionary) (f g : Filling) (high : ℕ) (ids : List NodeId)
-    → PlacedUnder nodes d f high → IsLayer nodes f.known (length nodes) high ids
-    → StillPlaced d f e g → All (λ (id : NodeId). IsSome (number_in e g id.index)) ids → PlacedUnder nodes e g (high + 1)
-under-next nodes d e f g high ids under layer still placed = λ id live low.
-    elim (cases_lt (height (tree nodes id)) high) [
-      | inl lower ↦ still.still id (under id live lower)
-      | inr ge ↦ elim (cases_lt id f.known) [
-        | inl old ↦ still.still id (old-some d f id old)
-        | inr new ↦
-            let name : NodeId = record { index = id } in
-            let here : IsOfHeight nodes f.known (length nodes) high name = record { new = new; live = live; high_is = omega (arith, low, ge) } in
-            let in_ids : Contains ids name = layer.all name here in
-            subst (λ (x : NodeId). IsSome (number_in e g x.index)) in_ids.2 (placed in_ids.0 name in_ids.1)
-      ]
+pub placed-next : (nodes : List Node) (d e : Dictionary) (f g : Filling) (from to high : ℕ) (ids : List NodeId)
+    → IsPlacedUnder nodes d f from to high → IsLayer nodes from to high ids
+    → StillPlaced d f e g → All (λ (id : NodeId). IsSome (number_in e g id.index)) ids → OnlyPlaced d f e g ids → IsPlacedUnder nodes e g from to (high + 1)
+placed-next nodes d e f g from to high ids at layer still placed only = record {
+  new = rw still.known at.new;
+  before = λ id lt. still.still id (at.before id lt);
+  under = λ id live low. elim (cases_lt (height (tree nodes id)) high) [
+    | inl lower ↦ still.still id (at.under id live lower)
+    | inr ge ↦ elim (cases_lt id from) [
+      | inl early ↦ still.still id (at.before id early)
+      | inr late ↦
+          let name : NodeId = record { index = id } in
+          let here : IsOfHeight nodes from to high name = record { new = late; live = live; high_is = omega (arith, low, ge) } in
+          let in_ids : Contains ids name = layer.all name here in
+          subst (λ (x : NodeId). IsSome (number_in e g x.index)) in_ids.2 (placed in_ids.0 name in_ids.1)
     ]
-
-pub above-next : (nodes : List Node) (d e : Dictionary) (f g : Filling) (high : ℕ) (ids : List NodeId)
-    → FreeAbove nodes d f high → IsLayer nodes f.known (length nodes) high ids → g.known ≡ f.known
-    → OnlyPlaced d f e g ids → FreeAbove nodes e g (high + 1)
-above-next nodes d e f g high ids free layer known only = λ id new live low.
-    let was : f.known ≤ id = subst (λ n. n ≤ id) known new in
-    only id (λ k x h. let is = layer.each k x h in let at = is.high_is in
-    λ same. let seen : height (tree nodes id) ≡ high = ap (λ n. height (tree nodes n)) (sym same) ∙ at in absurd (omega (arith, seen, low)))
-    ∙ free id was live (omega (arith, low))
-
-pub under-none : (nodes : List Node) (d : Dictionary) (f : Filling) → PlacedUnder nodes d f 0
-under-none nodes d f = λ id live low. absurd (omega (arith, low))
-
-pub above-none : (nodes : List Node) (d : Dictionary) (f : Filling) → FreeFrom d f 0 → FreeAbove nodes d f 0
-above-none nodes d f free = λ id new live low. free id new (omega arith)
+  ];
+  above = λ id late live low.
+      only id (λ k x h. let is = layer.each k x h in let high_is = is.high_is in
+      λ same. let seen : height (tree nodes id) ≡ high = ap (λ n. height (tree nodes n)) (sym same) ∙ high_is in absurd (omega (arith, seen, low)))
+      ∙ at.above id late live (omega (arith, low));
+  behind = λ id new far.
+      only id (λ k x h. let is = layer.each k x h in let live = is.live in λ same. absurd (omega (arith, same, live, far)))
+      ∙ at.behind id (subst (λ n. n ≤ id) still.known new) far;
+}
 
 -- after the last height each node is placed
-pub below-from_under : (nodes : List Node) (d : Dictionary) (f : Filling) (layers : List (List NodeId)) (known : ℕ) → f.known ≡ known → AreLayers nodes known (length nodes) layers
-    → PlacedUnder nodes d f 69 → PlacedBelow d f (length nodes)
-below-from_under nodes d f layers known same are under = λ id live. elim (cases_lt id f.known) [
-  | inl old ↦ old-some d f id old
-  | inr new ↦ under id live (are.low id (omega (arith, same, new)) live)
+pub placed-all : (nodes : List Node) (d : Dictionary) (f : Filling) (layers : List (List NodeId)) (from to : ℕ) → AreLayers nodes from to layers → IsPlacedUnder nodes d f from to 69 → PlacedBelow d f to
+placed-all nodes d f layers from to are at = λ id live. elim (cases_lt id from) [
+  | inl early ↦ at.before id early
+  | inr late ↦ at.under id live (are.low id late live)
 ]

@@ -4,4 +4,3 @@ pub mod Growing
 pub mod Layering
 pub mod Scheduling
 pub mod Spots
-pub mod Chunks

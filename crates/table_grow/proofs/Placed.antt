@@ -1,6 +1,7 @@
 -- The table of a pair from its children's tables.
-use Rattle.std.proofs.Common.{zero, suc, ◌≡◌, ℕ, ◌<◌, refl, ap, sym, ◌∙◌, List, [], ◌∷◌, ◌++◌, get_or, Option, Some, None, IsSome}
+use Rattle.std.proofs.Common.{zero, suc, ◌≡◌, ℕ, ◌<◌, map, refl, ap, sym, ◌∙◌, List, [], ◌∷◌, ◌++◌, get_or, Option, Some, None, IsSome}
 use Rattle.std.specs.Prelude.{slice_get}
+use Rattle.state_tables.specs.Coded.{step_of}
 use Rattle.slp_model.specs.declared.NodeId.{NodeId}
 use Rattle.slp_model.specs.declared.Node.{Node}
 use Rattle.slp_model.specs.declared.Node.TheVariants.{Byte, Pair}
@@ -19,11 +20,11 @@ pub some-of : (o : Option ℕ) → IsSome o → (n : ℕ) × (o ≡ Some n)
 some-of None h = cc
 some-of (Some n) h = (n, refl)
 
-pub nones-push : (xs : List (Option ℕ)) (k : ℕ) → ((i : ℕ) → get_or xs i None ≡ None) → get_or (xs ++ None ∷ []) k None ≡ None
-nones-push [] zero h = refl
-nones-push [] (suc k) h = refl
-nones-push (x ∷ xs) zero h = h 0
-nones-push (x ∷ xs) (suc k) h = nones-push xs k (λ i. h (suc i))
+-- what a place is kept as
+pub place-read : (codes : List ℕ) (i : ℕ) → get_or (map step_of codes) i None ≡ step_of (get_or codes i 0)
+place-read [] i = refl
+place-read (n ∷ codes) zero = refl
+place-read (n ∷ codes) (suc i) = place-read codes i
 
 pub composed-by : (nodes : List Node) (d : Dictionary) (f : Filling) (id : ℕ) (l r : NodeId) (m n : ℕ) (left right t : List Row)
     → slice_get nodes id ≡ Some (Pair l r) → number_in d f l.index ≡ Some m → number_in d f r.index ≡ Some n

@@ -1,7 +1,7 @@
 -- Pieces: one more table that was made, one more node, and two pieces joined.
 use Rattle.std.proofs.Common.{zero, suc, ◌≡◌, ◌≢◌, ℕ, ◌⊎◌, inl, inr, ◌+◌, ◌<◌, ◌≤◌, refl, ap, sym, subst, ◌∙◌, arith, List, [], ◌∷◌, ◌++◌, length, map, take, get_or, Option, Some, IsSome, IfSome, All, AllPairs, Contains}
 use Rattle.std.proofs.lemmas.List.{get_or-take, length-take-le}
-use Rattle.std.proofs.lemmas.List.Elements.{All-push}
+use Rattle.std.proofs.lemmas.List.Elements.{All-push, Contains-append_left, Contains-push, Contains-push_cases}
 use Rattle.std.specs.Prelude.{slice_get}
 use Rattle.std.proofs.lemmas.Option.{slice_get_within, IfSome_then}
 use Rattle.slp_model.specs.declared.NodeId.{NodeId}
@@ -17,8 +17,10 @@ use Rattle.state_tables.proofs.Meanings.{IsTable-compose}
 use Rattle.table_grow.specs.Filling.{AreKept, Filling, Fits, number_in, with_place}
 use Rattle.table_grow.specs.Growing.{AllTrue, IsReady, OnlyPlaced, StillPlaced}
 use Rattle.table_grow.specs.Remembering.{Entry}
-use Rattle.table_grow.specs.Pieces.{AreMade, AreNumbers, AreOwn, AreSpots, Extends, HasNumber, HasTable, IsMade, IsPiece, IsSpot, IsWithin, number_at, shifted}
+use Rattle.table_grow.specs.Front.{AreAmong}
+use Rattle.table_grow.specs.Pieces.{AreMade, AreNumbers, AreOwn, AreSpots, Extends, HasNumber, HasTable, IsMade, IsPiece, IsSpot, IsWithin, StandAmong, number_at, shifted}
 use Rattle.table_grow.proofs.Growing.{all-front, all-last, children-kept, entries-none, kept-refl, others-set, placed-set, ready-set, still-others}
+use Rattle.table_grow.proofs.Remembered.{among-more}
 use Rattle.table_grow.specs.declared.pieces.Made.{Made}
 use Rattle.table_grow.specs.declared.pieces.Piece.{Piece}
 use Rattle.table_grow.specs.declared.pieces.Spot.{Spot}
@@ -59,20 +61,30 @@ made-push a d made x all one = either-part (IsMade a d) made (x ∷ []) all (one
 pub made-both : (a : DeterministicAutomaton) (d : Dictionary) (made more : List Made) → AreMade a d made → AreMade a d more → AreMade a d (made ++ more)
 made-both a d made more all others = either-part (IsMade a d) made more all others
 
-pub own-kept : (es : List Entry) (made more : List Made) → Extends made more → AreOwn es made → AreOwn es more
-own-kept es made more kept own = λ e c. let at = own e c in (at.0, kept e.1 at.0 at.1, at.2)
+stand-kept : (es : List Entry) (made more : List Made) → Extends made more → StandAmong es made → StandAmong es more
+stand-kept es made more kept stand = λ e c. let at = stand e c in (at.0, kept e.1 at.0 at.1, at.2)
 
-pub own-more : (es fs : List Entry) (made : List Made) (x : Made) (k : ℕ × ℕ) → x.parts ≡ Some k → AreOwn es made
-    → ((e : Entry) → Contains fs e → Contains es e ⊎ (e ≡ (k, length made))) → AreOwn fs (made ++ x ∷ [])
-own-more es fs made x k parts own from = λ e c. elim (from e c) [
-  | inl old ↦ own-kept es made (made ++ x ∷ []) (λ i y h. in-front made (x ∷ []) i y h) own e old
-  | inr new ↦ subst (λ (f : Entry). (y : Made) × (slice_get (made ++ x ∷ []) f.1 ≡ Some y) × (y.parts ≡ Some f.0)) (sym new) (x, at-end made x, parts)
+pub own-kept : (front : List (Option Entry)) (made more : List Made) → Extends made more → AreOwn front made → AreOwn front more
+own-kept front made more kept own = (own.0, own.1, stand-kept own.0 made more kept own.2)
+
+stand-more : (es : List Entry) (made : List Made) (x : Made) (k : ℕ × ℕ) → x.parts ≡ Some k → StandAmong es made → StandAmong (es ++ (k, length made) ∷ []) (made ++ x ∷ [])
+stand-more es made x k parts stand = λ e c. elim (Contains-push_cases es (k, length made) e c) [
+  | inl old ↦ stand-kept es made (made ++ x ∷ []) (λ i y h. in-front made (x ∷ []) i y h) stand e old
+  | inr new ↦ subst (λ (f : Entry). (y : Made) × (slice_get (made ++ x ∷ []) f.1 ≡ Some y) × (y.parts ≡ Some f.0)) new (x, at-end made x, parts)
 ]
+
+pub own-more : (front noted : List (Option Entry)) (made : List Made) (x : Made) (k : ℕ × ℕ) → x.parts ≡ Some k → AreOwn front made
+    → ((es : List Entry) → Contains es (k, length made) → AreAmong front es → AreAmong noted es) → AreOwn noted (made ++ x ∷ [])
+own-more front noted made x k parts own note =
+    let new : Entry = (k, length made) in
+    let all : List Entry = own.0 ++ new ∷ [] in
+    let among : AreAmong front all = among-more front own.0 all (λ e h. Contains-append_left own.0 (new ∷ []) e h) own.1 in
+    (all, note all (Contains-push own.0 new) among, stand-more own.0 made x k parts own.2)
 
 -- a composition that the piece remembers is the node's table
 pub own-table : (a : DeterministicAutomaton) (nodes : List Node) (d : Dictionary) (f : Filling) (made : List Made) (es : List Entry) (id : ℕ) (l r : NodeId) (m n k : ℕ)
     → IsDeterministic a → AllTrue a nodes d f → IsNodeAt nodes id (Pair l r) → number_in d f l.index ≡ Some m → number_in d f r.index ≡ Some n
-    → AreMade a d made → AreOwn es made → Contains es ((m, n), k) → HasTable a nodes d made id (spot.Made k)
+    → AreMade a d made → StandAmong es made → Contains es ((m, n), k) → HasTable a nodes d made id (spot.Made k)
 own-table a nodes d f made es id l r m n k auto all pair lm rn are own c =
     let at = own ((m, n), k) c in
     let is : IfSome (Some (m, n)) (λ (p : ℕ × ℕ). (p.0 < distinct_of d) × (p.1 < distinct_of d) × (at.0.table ≡ compose_of (kept_of d p.0) (kept_of d p.1))) =

@@ -65,14 +65,14 @@ OnlyPlaced d f e g ids = (j : ℕ) → All (λ id. id.index ≢ j) ids → numbe
 abbrev pub PlacedBelow : Dictionary → Filling → ℕ → Type 0
 PlacedBelow d f bound = (id : ℕ) → id < bound → IsSome (number_in d f id)
 
--- every node with a lower tree is old or placed
-abbrev pub PlacedUnder : List Node → Dictionary → Filling → ℕ → Type 0
-PlacedUnder nodes d f top = (id : ℕ) → id < length nodes → height (tree nodes id) < top → IsSome (number_in d f id)
-
 -- no new node from the bound on is placed
 abbrev pub FreeFrom : Dictionary → Filling → ℕ → Type 0
 FreeFrom d f bound = (id : ℕ) → f.known ≤ id → bound ≤ id → number_in d f id ≡ None
 
--- no new node whose tree is as high or higher is placed
-abbrev pub FreeAbove : List Node → Dictionary → Filling → ℕ → Type 0
-FreeAbove nodes d f low = (id : ℕ) → f.known ≤ id → id < length nodes → low ≤ height (tree nodes id) → number_in d f id ≡ None
+-- the nodes from `from` on and before `to` are placed by rising height: those before them and the lower ones are old or placed, and no further new one
+pub record IsPlacedUnder (nodes : List Node) (d : Dictionary) (f : Filling) (from to top : ℕ) : Type 0 where
+  pub new : f.known ≤ from
+  pub before : PlacedBelow d f from
+  pub under : (id : ℕ) → id < to → height (tree nodes id) < top → IsSome (number_in d f id)
+  pub above : (id : ℕ) → from ≤ id → id < to → top ≤ height (tree nodes id) → number_in d f id ≡ None
+  pub behind : FreeFrom d f to

@@ -9,6 +9,7 @@ use Rattle.state_tables.specs.Table.{compose_of}
 use Rattle.state_tables.specs.Meaning.{IsTable}
 use Rattle.state_tables.specs.Dictionary.{Dictionary, distinct_of, kept_of}
 use Rattle.table_grow.specs.Filling.{Filling, ChildrenPlaced}
+use Rattle.table_grow.specs.Front.{AreAmong}
 use Rattle.table_grow.specs.Remembering.{Entry}
 use Rattle.table_grow.specs.declared.pieces.Made.{Made}
 use Rattle.table_grow.specs.declared.pieces.Piece.{Piece}
@@ -28,9 +29,13 @@ AreMade a d made = (k : ℕ) (x : Made) → slice_get made k ≡ Some x → IsMa
 abbrev pub Extends : List Made → List Made → Type 0
 Extends old new = (k : ℕ) (x : Made) → slice_get old k ≡ Some x → slice_get new k ≡ Some x
 
--- a composition that the piece remembers stands in its place
-abbrev pub AreOwn : List Entry → List Made → Type 0
-AreOwn es made = (e : Entry) → Contains es e → (x : Made) × (slice_get made e.1 ≡ Some x) × (x.parts ≡ Some e.0)
+-- of these compositions each stands among those that were made, in the place that it tells
+abbrev pub StandAmong : List Entry → List Made → Type 0
+StandAmong es made = (e : Entry) → Contains es e → (x : Made) × (slice_get made e.1 ≡ Some x) × (x.parts ≡ Some e.0)
+
+-- so do those that a piece remembers
+abbrev pub AreOwn : List (Option Entry) → List Made → Type 0
+AreOwn front made = (es : List Entry) × AreAmong front es × StandAmong es made
 
 -- the table of the node stands there
 abbrev pub HasTable : DeterministicAutomaton → List Node → Dictionary → List Made → ℕ → Spot → Type 0

@@ -20,7 +20,8 @@ use std::sync::ledger::Ledger;
 #[derive(Drop)]
 pub struct Filler {
     known: usize,
-    places: Vec<Option<u32>>,
+    // One more than the number of the table, or 0 for an empty place.
+    places: Vec<u32>,
 }
 
 impl Model for Filler {
@@ -50,7 +51,7 @@ impl Filler {
         tables.reserve(more)?;
         let mut places = Vec::with_capacity(alloc, more)?;
         for _i in 0..more {
-            places.push(None)?;
+            places.push(0)?;
         }
         Ok(Filler { known, places })
     }
@@ -73,7 +74,7 @@ impl Filler {
         if id.index < self.known {
             return tables.number(id);
         }
-        match self.places[id.index - self.known] {
+        match self.places[id.index - self.known].checked_sub(1) {
             Some(number) => number as usize,
             None => unreachable!(),
         }
@@ -121,7 +122,7 @@ impl Filler {
     {
         let _ = tables.count();
         let place = id.index - self.known;
-        self.places[place] = Some(number as u32);
+        self.places[place] = number as u32 + 1;
     }
 
     /// Gives a new node, which isn't placed yet and whose children are old or placed, the kept table of this number. It
@@ -201,8 +202,8 @@ impl Filler {
         ensures steps { places.new ≡ places.old + length self.places }
     {
         for place in &self.places {
-            match place {
-                Some(number) => tables.push(*number as usize, places),
+            match place.checked_sub(1) {
+                Some(number) => tables.push(number as usize, places),
                 None => unreachable!(),
             }
         }

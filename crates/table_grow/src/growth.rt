@@ -5,8 +5,7 @@ ghost use Rattle.marker_dfa.specs.Deterministic.{states_of};
 ghost use Rattle.state_tables.specs.Dictionary.{AreTables, count_of, table_of};
 ghost use Rattle.table_grow.specs.Filling.{AreKept, number_in};
 ghost use Rattle.table_grow.specs.Remembering.{AreTrueEntries};
-ghost use Rattle.table_grow.specs.Growing.{FreeAbove, FreeFrom, IsDue, IsReady, OnlyPlaced, PlacedBelow, PlacedUnder, StillPlaced};
-ghost use Rattle.table_grow.specs.Layers.{IsLayer};
+ghost use Rattle.table_grow.specs.Growing.{FreeFrom, IsDue, IsReady, OnlyPlaced, PlacedBelow, StillPlaced};
 
 use crate::filler::Filler;
 use crate::found::work_on;
@@ -23,7 +22,7 @@ use std::sync::ledger::Ledger;
 use std::thread::Threads;
 use work_gate::Gate;
 
-// The new nodes in the order of their ids, on this thread.
+// The nodes from `from` on and before `to` in the order of their ids, on this thread. It answers how many were composed.
 fn in_order<G: Gate>(
     alloc: Global,
     filler: &mut Filler,
@@ -32,32 +31,36 @@ fn in_order<G: Gate>(
     dfa: &Dfa,
     memory: &mut Memory,
     gate: &G,
-) -> Result<(), NoMemory>
+    from: usize,
+    to: usize,
+) -> Result<usize, NoMemory>
     requires ready { IsReady dfa.now store.now tables.old filler.old memory.old }
-    requires free { FreeFrom tables.old filler.old 0 }
+    requires new { filler.old.known ≤ from }
+    requires range { from ≤ to }
+    requires live { to ≤ length store.now }
+    requires placed { PlacedBelow tables.old filler.old from }
+    requires free { FreeFrom tables.old filler.old from }
     ensures entries { AreTrueEntries tables.new memory.new }
     ensures kept { AreKept tables.old tables.new }
     ensures ready { OnOk result (IsReady dfa.now store.now tables.new filler.new memory.new) }
     ensures known { OnOk result (filler.new.known ≡ filler.old.known) }
-    ensures placed { OnOk result (PlacedBelow tables.new filler.new (length store.now)) }
+    ensures placed { OnOk result (PlacedBelow tables.new filler.new to) }
+    ensures free { OnOk result (FreeFrom tables.new filler.new to) }
 {
-    for index in filler.known()..store.count() {
+    let mut composed = 0usize;
+    for index in from..to {
         let id = NodeId { index };
         let done = work_on(alloc, filler, tables, store, dfa, memory, gate, id)?;
+        composed = composed.saturating_add(done.found.is_composed() as usize);
         place_one(filler, tables, store, dfa, memory, done)?;
     }
-    Ok(())
+    Ok(composed)
 }
 
-/// How many nodes are worth a thread where compositions are remembered.
+/// How many nodes of a height are worth a thread, where each has its share of rows to compose.
 const WORTH: usize = 512;
 
-// Whether so many nodes are worth a thread. Where nothing is remembered yet, each may need a table of its own.
-fn is_worth(memory: &Memory, count: usize) -> bool {
-    memory.len() == 0 || count >= WORTH
-}
-
-// In how many pieces at most so many nodes are worked on.
+// In how many pieces at most so many nodes are worked on. Where nothing is remembered yet, each may need a table of its own.
 fn pieces_of(memory: &Memory, workers: u8, count: usize) -> u8 {
     if memory.len() == 0 {
         return workers;
@@ -65,10 +68,7 @@ fn pieces_of(memory: &Memory, workers: u8, count: usize) -> u8 {
     workers.min((count / WORTH).min(64) as u8)
 }
 
-/// How many nodes are placed before the next ones are worked on, so that what is found for them takes little memory.
-const PLACED_AT_ONCE: usize = 1 << 15;
-
-// Some new nodes, none of which is placed yet and all of whose children are, in pieces.
+// Some new nodes, none of which is placed yet and all of whose children are, in pieces. It answers how many tables were made.
 fn place_some<R: Threads + Sync, G: Gate>(
     rt: &R,
     alloc: Global,
@@ -80,7 +80,7 @@ fn place_some<R: Threads + Sync, G: Gate>(
     workers: u8,
     gate: &G,
     ids: &[NodeId],
-) -> Result<(), NoMemory>
+) -> Result<usize, NoMemory>
     requires ready { IsReady dfa.now store.now tables.old filler.old memory.old }
     requires due { All (IsDue store.now tables.old filler.old) ids.now }
     requires free { All (λ id. number_in tables.old filler.old id.index ≡ None) ids.now }
@@ -95,48 +95,12 @@ fn place_some<R: Threads + Sync, G: Gate>(
     let piece = in_pieces(
         rt, alloc, filler, tables, store, dfa, memory, gate, ids, workers,
     )?;
-    place_piece(alloc, filler, tables, store, dfa, memory, ids, piece)
+    let made = piece.made.len();
+    place_piece(alloc, filler, tables, store, dfa, memory, ids, piece)?;
+    Ok(made)
 }
 
-// The new nodes of one height, some at a time.
-fn one_height<R: Threads + Sync, G: Gate>(
-    rt: &R,
-    alloc: Global,
-    filler: &mut Filler,
-    tables: &mut Tables,
-    store: &Store,
-    dfa: &Dfa,
-    memory: &mut Memory,
-    workers: u8,
-    gate: &G,
-    height: u8,
-    ids: &[NodeId],
-) -> Result<(), NoMemory>
-    requires ready { IsReady dfa.now store.now tables.old filler.old memory.old }
-    requires under { PlacedUnder store.now tables.old filler.old height }
-    requires above { FreeAbove store.now tables.old filler.old height }
-    requires layer { IsLayer store.now filler.old.known (length store.now) height ids.now }
-    ensures entries { AreTrueEntries tables.new memory.new }
-    ensures kept { AreKept tables.old tables.new }
-    ensures ready { OnOk result (IsReady dfa.now store.now tables.new filler.new memory.new) }
-    ensures known { OnOk result (filler.new.known ≡ filler.old.known) }
-    ensures under { OnOk result (PlacedUnder store.now tables.new filler.new (height + 1)) }
-    ensures above { OnOk result (FreeAbove store.now tables.new filler.new (height + 1)) }
-{
-    let mut done = 0;
-    while done < ids.len() {
-        let count = (ids.len() - done).min(PLACED_AT_ONCE);
-        let workers = pieces_of(memory, workers, count);
-        let some = &ids[done..done + count];
-        place_some(
-            rt, alloc, filler, tables, store, dfa, memory, workers, gate, some,
-        )?;
-        done += count;
-    }
-    Ok(())
-}
-
-// The new nodes by rising height, each height in pieces.
+// The nodes from `from` on and before `to` by rising height, each height in pieces. It answers how many tables were made.
 fn by_height<R: Threads + Sync, G: Gate>(
     rt: &R,
     alloc: Global,
@@ -147,26 +111,93 @@ fn by_height<R: Threads + Sync, G: Gate>(
     memory: &mut Memory,
     workers: u8,
     gate: &G,
-) -> Result<(), NoMemory>
+    from: usize,
+    to: usize,
+) -> Result<usize, NoMemory>
     requires ready { IsReady dfa.now store.now tables.old filler.old memory.old }
-    requires free { FreeFrom tables.old filler.old 0 }
+    requires new { filler.old.known ≤ from }
+    requires range { from ≤ to }
+    requires live { to ≤ length store.now }
+    requires placed { PlacedBelow tables.old filler.old from }
+    requires free { FreeFrom tables.old filler.old from }
     ensures entries { AreTrueEntries tables.new memory.new }
     ensures kept { AreKept tables.old tables.new }
     ensures ready { OnOk result (IsReady dfa.now store.now tables.new filler.new memory.new) }
     ensures known { OnOk result (filler.new.known ≡ filler.old.known) }
-    ensures placed { OnOk result (PlacedBelow tables.new filler.new (length store.now)) }
+    ensures placed { OnOk result (PlacedBelow tables.new filler.new to) }
+    ensures free { OnOk result (FreeFrom tables.new filler.new to) }
 {
-    let layers = Layers::new(alloc, store, filler.known())?;
+    let layers = Layers::new(alloc, store, from, to)?;
+    let mut made = 0usize;
     for height in 0..HEIGHTS {
         let ids = layers.of_height(height);
-        one_height(
-            rt, alloc, filler, tables, store, dfa, memory, workers, gate, height, ids,
+        let pieces = pieces_of(memory, workers, ids.len());
+        let more = place_some(
+            rt, alloc, filler, tables, store, dfa, memory, pieces, gate, ids,
         )?;
+        made = made.saturating_add(more);
     }
-    Ok(())
+    Ok(made)
 }
 
-// All new nodes. With one worker, and where they are few, no thread is started and no height is asked for.
+// The nodes from `from` on and before `to`. With one worker no thread is started and no height is asked for.
+fn place_part<R: Threads + Sync, G: Gate>(
+    rt: &R,
+    alloc: Global,
+    filler: &mut Filler,
+    tables: &mut Tables,
+    store: &Store,
+    dfa: &Dfa,
+    memory: &mut Memory,
+    workers: u8,
+    gate: &G,
+    from: usize,
+    to: usize,
+) -> Result<usize, NoMemory>
+    requires ready { IsReady dfa.now store.now tables.old filler.old memory.old }
+    requires new { filler.old.known ≤ from }
+    requires range { from ≤ to }
+    requires live { to ≤ length store.now }
+    requires placed { PlacedBelow tables.old filler.old from }
+    requires free { FreeFrom tables.old filler.old from }
+    ensures entries { AreTrueEntries tables.new memory.new }
+    ensures kept { AreKept tables.old tables.new }
+    ensures ready { OnOk result (IsReady dfa.now store.now tables.new filler.new memory.new) }
+    ensures known { OnOk result (filler.new.known ≡ filler.old.known) }
+    ensures placed { OnOk result (PlacedBelow tables.new filler.new to) }
+    ensures free { OnOk result (FreeFrom tables.new filler.new to) }
+{
+    if workers == 1 {
+        in_order(alloc, filler, tables, store, dfa, memory, gate, from, to)
+    } else {
+        by_height(
+            rt, alloc, filler, tables, store, dfa, memory, workers, gate, from, to,
+        )
+    }
+}
+
+/// How many rows have to be composed for each node, so that pieces pay.
+const ROWS: usize = 16;
+
+// Whether so many compositions for so many nodes are worth pieces.
+fn pays(dfa: &Dfa, composed: usize, nodes: usize) -> bool {
+    composed.saturating_mul(dfa.states() as usize) >= nodes.saturating_mul(ROWS)
+}
+
+/// How many nodes are placed on one thread before it is asked whether pieces pay.
+const ASKED: usize = 1 << 12;
+
+/// How many nodes are placed in pieces before it is asked again, so that what is found for them takes little memory.
+const PLACED_AT_ONCE: usize = 1 << 15;
+
+// How many nodes are placed before it is asked again.
+fn part_len(in_pieces: bool) -> usize
+    ensures { 0 < result }
+{
+    if in_pieces { PLACED_AT_ONCE } else { ASKED }
+}
+
+// All new nodes, some at a time. The next ones are placed in pieces where nothing is remembered yet, or enough was composed.
 fn place_new<R: Threads + Sync, G: Gate>(
     rt: &R,
     alloc: Global,
@@ -186,21 +217,29 @@ fn place_new<R: Threads + Sync, G: Gate>(
     ensures known { OnOk result (filler.new.known ≡ filler.old.known) }
     ensures placed { OnOk result (PlacedBelow tables.new filler.new (length store.now)) }
 {
-    let count = store.count() - filler.known();
-    if workers == 1 || !is_worth(memory, count) {
-        in_order(alloc, filler, tables, store, dfa, memory, gate)
-    } else {
-        by_height(rt, alloc, filler, tables, store, dfa, memory, workers, gate)
+    let mut from = filler.known();
+    let mut most = ASKED;
+    let mut in_pieces = memory.len() == 0;
+    while from < store.count() {
+        let to = from + (store.count() - from).min(most);
+        let at_once = if in_pieces { workers } else { 1 };
+        let composed = place_part(
+            rt, alloc, filler, tables, store, dfa, memory, at_once, gate, from, to,
+        )?;
+        in_pieces = pays(dfa, composed, to - from);
+        most = part_len(in_pieces);
+        from = to;
     }
+    Ok(())
 }
 
 /// Gives every node of the store its table. The tables are those of this automaton and of the first nodes of this store,
 /// and every remembered composition is true of them.
 ///
-/// The nodes without a table are taken by rising height, those of one height in at most `workers` pieces at once, 1 to
-/// 64; with one worker, and where they are few and some composition is remembered, in the order of their ids.
-/// `gate.pass` is called for each of them before its table is looked up in the memory or computed. It is one step for
-/// each, and takes expected constant time where the composition is remembered.
+/// The nodes without a table are taken some at a time: where nothing is remembered yet, or many of those before had to be
+/// composed, by rising height, those of one height in at most `workers` pieces at once, 1 to 64; with one worker, and
+/// elsewhere, in the order of their ids. `gate.pass` is called for each of them before its table is looked up in the memory
+/// or computed. It is one step for each, and takes expected constant time where the composition is remembered.
 ///
 /// # Errors
 ///

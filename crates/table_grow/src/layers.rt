@@ -1,4 +1,4 @@
-//! The new nodes by height.
+//! Some of the new nodes by height.
 
 ghost use Rattle.std.specs.Prelude.{◌≡◌, ◌≤◌, ◌<◌, ◌++◌, [], ◌∷◌, length, replicate, slice_index_or, slice_set, IfOk, OnOk};
 ghost use Rattle.table_grow.specs.Layers.{AreLayers};
@@ -26,12 +26,12 @@ impl Model for Layers {
     ghost view = { λ l. map (λ v. v.items) l.lists.items };
 }
 
-// How many of the nodes from `known` on have each height. Room is made by it, and no result depends on it.
-fn counts_of(store: &Store, known: usize) -> [usize; 69]
-    requires { known ≤ length store.now }
+// How many of the nodes from `from` on and before `to` have each height. Room is made by it, and no result depends on it.
+fn counts_of(store: &Store, from: usize, to: usize) -> [usize; 69]
+    requires { to ≤ length store.now }
 {
     let mut counts = [0usize; HEIGHTS as usize];
-    for index in known..store.count() {
+    for index in from..to {
         let height = store.height(NodeId { index });
         if let Some(count) = counts.get_mut(height as usize) {
             *count = count.saturating_add(1);
@@ -61,13 +61,19 @@ impl Layers {
         Ok(())
     }
 
-    /// The nodes from `known` on by height, in one pass.
-    pub(crate) fn new(alloc: Global, store: &Store, known: usize) -> Result<Layers, NoMemory>
-        requires { known ≤ length store.now }
-        ensures { IfOk result (AreLayers store.now known (length store.now)) }
+    /// The nodes from `from` on and before `to` by height.
+    pub(crate) fn new(
+        alloc: Global,
+        store: &Store,
+        from: usize,
+        to: usize,
+    ) -> Result<Layers, NoMemory>
+        requires range { from ≤ to }
+        requires live { to ≤ length store.now }
+        ensures { IfOk result (AreLayers store.now from to) }
     {
-        let mut layers = Layers::empty(alloc, &counts_of(store, known))?;
-        for index in known..store.count() {
+        let mut layers = Layers::empty(alloc, &counts_of(store, from, to))?;
+        for index in from..to {
             let id = NodeId { index };
             layers.put(store.height(id), id)?;
         }

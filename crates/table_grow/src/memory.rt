@@ -10,18 +10,21 @@ use std::alloc::Global;
 use std::marker::Model;
 use std::num::NonZeroUsize;
 
+/// Some compositions, each in the place of its two tables. It holds 4,096 of them once it holds any.
+pub(crate) type Front = Vec<Option<((usize, usize), usize)>>;
+
 /// Of two kept tables, by their numbers, the number of their composition, for the compositions noted last.
 #[derive(Drop)]
 pub struct Memory {
     cache: LruCache<(usize, usize), usize>,
     // Some of these compositions, each in the place of its two tables, which is looked at first.
-    front: Vec<Option<((usize, usize), usize)>>,
+    front: Front,
 }
 
 // The places take 128 KB.
 const PLACES: usize = 4096;
 
-// A memory of fewer compositions has no places: a piece of few nodes has a memory of its own.
+// Fewer compositions have no places.
 const FEW: usize = 64;
 
 impl Model for Memory {
@@ -90,8 +93,8 @@ fn place(left: usize, right: usize) -> usize {
     mixed.wrapping_mul(0x9E37_79B9_7F4A_7C15) >> 52
 }
 
-// The number of the composition, if it is in its place.
-fn found(front: &Vec<Option<((usize, usize), usize)>>, left: usize, right: usize) -> Option<usize>
+/// The number of the composition, if it is in its place.
+pub(crate) fn found(front: &Front, left: usize, right: usize) -> Option<usize>
     ensures { IfSome result (λ number. (es : List Entry) → AreAmong front.now.items es → Contains es ((left, right), number)) }
 {
     let ((first, second), number) = (*front.get(place(left, right))?)?;
@@ -102,14 +105,8 @@ fn found(front: &Vec<Option<((usize, usize), usize)>>, left: usize, right: usize
     }
 }
 
-// Puts a composition into its place, if there is memory for the places and so many are remembered that they pay.
-fn note(
-    front: &mut Vec<Option<((usize, usize), usize)>>,
-    remembered: usize,
-    left: usize,
-    right: usize,
-    number: usize,
-)
+/// Puts a composition into its place, if there is memory for the places and so many are remembered that they pay.
+pub(crate) fn note(front: &mut Front, remembered: usize, left: usize, right: usize, number: usize)
     ensures { (es : List Entry) → Contains es ((left, right), number) → AreAmong front.old.items es → AreAmong front.new.items es }
 {
     if front.is_empty() && (remembered < FEW || front.resize(PLACES, None).is_err()) {
@@ -121,10 +118,7 @@ fn note(
 }
 
 // Empties a full memory.
-fn leave_room(
-    cache: &mut LruCache<(usize, usize), usize>,
-    front: &mut Vec<Option<((usize, usize), usize)>>,
-)
+fn leave_room(cache: &mut LruCache<(usize, usize), usize>, front: &mut Front)
     ensures room { length cache.new.entries < cache.new.cap }
     ensures fewer { (e : Entry) → Contains cache.new.entries e → Contains cache.old.entries e }
     ensures among { AreAmong front.old.items cache.old.entries → AreAmong front.new.items cache.new.entries }
@@ -138,7 +132,7 @@ fn leave_room(
 // Remembers a composition, for which there is room.
 fn put(
     cache: &mut LruCache<(usize, usize), usize>,
-    front: &mut Vec<Option<((usize, usize), usize)>>,
+    front: &mut Front,
     left: usize,
     right: usize,
     number: usize,

@@ -6,7 +6,7 @@ ghost use Rattle.table_grow.specs.Growing.{IsDue, IsReady};
 ghost use Rattle.table_grow.specs.Pieces.{AreMade, AreOwn, Extends, IsPiece, IsSpot, IsWithin, shifted};
 
 use crate::filler::Filler;
-use crate::memory::Memory;
+use crate::memory::{Front, Memory, found, note};
 use marker_dfa::Dfa;
 use node_store::{Node, NodeId, Store};
 use span_types::NoMemory;
@@ -36,9 +36,6 @@ pub struct Piece {
     pub made: Vec<Made>,
 }
 
-/// How many compositions of its own a piece remembers.
-const REMEMBERED: usize = 4096;
-
 // Puts a table last among those that were made, and answers its place.
 fn push_made(made: &mut Vec<Made>, one: Made) -> Result<usize, NoMemory>
     ensures place { IfOk result (λ place. place ≡ length made.old.items) }
@@ -57,16 +54,16 @@ fn spot_of(
     store: &Store,
     dfa: &Dfa,
     memory: &Memory,
-    own: &mut Memory,
+    own: &mut Front,
     made: &mut Vec<Made>,
     id: NodeId,
 ) -> Result<Spot, NoMemory>
     requires ready { IsReady dfa.now store.now tables.now filler.now memory.now }
     requires due { IsDue store.now tables.now filler.now id }
     requires made { AreMade dfa.now tables.now made.old.items }
-    requires own { AreOwn own.old made.old.items }
+    requires own { AreOwn own.old.items made.old.items }
     ensures made { IfOk result (λ _. AreMade dfa.now tables.now made.new.items) }
-    ensures own { IfOk result (λ _. AreOwn own.new made.new.items) }
+    ensures own { IfOk result (λ _. AreOwn own.new.items made.new.items) }
     ensures kept { IfOk result (λ _. Extends made.old.items made.new.items) }
     ensures spot { IfOk result (IsSpot dfa.now store.now tables.now filler.now made.new.items id) }
 {
@@ -83,13 +80,13 @@ fn spot_of(
             if let Some(number) = memory.recall(left, right) {
                 return Ok(Spot::Kept(number));
             }
-            if let Some(place) = own.recall(left, right) {
+            if let Some(place) = found(own, left, right) {
                 return Ok(Spot::Made(place));
             }
             let table = filler.compute(alloc, tables, store, dfa, id)?;
             let parts = Some((left, right));
             let place = push_made(made, Made { parts, table })?;
-            own.remember(left, right, place);
+            note(own, place, left, right, place);
             Ok(Spot::Made(place))
         }
     }
@@ -110,7 +107,7 @@ fn one_piece<G: Gate>(
     requires due { All (IsDue store.now tables.now filler.now) ids.now }
     ensures { IfOk result (IsPiece dfa.now store.now tables.now filler.now ids.now) }
 {
-    let mut own = Memory::new(alloc, REMEMBERED)?;
+    let mut own = Vec::new(alloc);
     let mut made = Vec::new(alloc);
     let mut spots = Vec::with_capacity(alloc, ids.len())?;
     for id in ids {

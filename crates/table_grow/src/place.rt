@@ -76,12 +76,13 @@ pub(crate) fn place_one(
     Ok(())
 }
 
-// Keeps a table that was made, remembers the composition, and answers the table's number.
+// Keeps a table that was made, remembers the composition if it is among the last, and answers the table's number.
 fn keep_one(
     tables: &mut Tables,
     dfa: &Dfa,
     memory: &mut Memory,
     one: Made,
+    is_last: bool,
 ) -> Result<usize, NoMemory>
     requires states { tables.old.states ≡ states_of dfa.now }
     requires entries { AreTrueEntries tables.old memory.old }
@@ -92,13 +93,17 @@ fn keep_one(
 {
     let Made { parts, table } = one;
     let number = tables.keep(table)?;
-    if let Some((left, right)) = parts {
-        memory.remember(left, right, number);
+    match parts {
+        Some((left, right)) if is_last => memory.remember(left, right, number),
+        _ => {}
     }
     Ok(number)
 }
 
-// Keeps the tables that were made, remembers the compositions, and answers the tables' numbers.
+/// How many are remembered of the compositions that were made at once: a memory of 4,096 that is full is emptied.
+const LAST: usize = 2048;
+
+// Keeps the tables that were made, remembers the last compositions, and answers the tables' numbers.
 fn keep_made(
     alloc: Global,
     tables: &mut Tables,
@@ -113,9 +118,11 @@ fn keep_made(
     ensures entries { AreTrueEntries tables.new memory.new }
     ensures kept { AreKept tables.old tables.new }
 {
-    let mut numbers = Vec::with_capacity(alloc, made.len())?;
+    let count = made.len();
+    let mut numbers = Vec::with_capacity(alloc, count)?;
     for one in made {
-        let number = keep_one(tables, dfa, memory, one)?;
+        let is_last = numbers.len().saturating_add(LAST) >= count;
+        let number = keep_one(tables, dfa, memory, one, is_last)?;
         numbers.push(number)?;
     }
     Ok(numbers)

@@ -5,7 +5,7 @@ use Rattle.table_grow.proofs.growth.in_order.Given as goal
 
 abbrev pub invariant-loop-index : goal.invariant-loop-index
 invariant-loop-index g l = record {
-  from : l.initial.filler.known ≤ l.index;
+  new : l.initial.filler.known ≤ l.index;
   ready : IsReady l.dfa l.store l.tables l.filler l.memory;
   kept : AreKept l.initial.tables l.tables;
   known : l.filler.known ≡ l.initial.filler.known;

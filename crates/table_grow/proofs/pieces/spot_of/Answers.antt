@@ -23,13 +23,13 @@ returns-in-Some-clause-spot c = record {
       (c.requires.ready.entries ((c.number-left.result, c.number-right.result), c.in-Some.number) c.in-Some.ensures);
 }
 
-pub returns-in-Some-recall-clause-spot : goal.returns-in-Some-recall-clause-spot
-returns-in-Some-recall-clause-spot c = record {
+pub returns-in-Some-found-clause-spot : goal.returns-in-Some-found-clause-spot
+returns-in-Some-found-clause-spot c = record {
   children = children-placed c.args.store.now c.args.tables.now c.args.filler.now c.args.id.index c.in-Pair.left c.in-Pair.right c.in-Pair.ensures.node
       (c.requires.due.children c.in-Pair.left c.in-Pair.right c.in-Pair.ensures.tree);
-  table = own-table c.args.dfa.now c.args.store.now c.args.tables.now c.args.filler.now c.args.made.now.items c.args.own.now c.args.id.index c.in-Pair.left c.in-Pair.right
-      c.number-left.result c.number-right.result c.in-Some-recall.place c.states.ensures.automaton c.requires.ready.all c.in-Pair.ensures.tree
-      c.number-left.ensures.number c.number-right.ensures.number c.requires.made c.requires.own c.in-Some-recall.ensures;
+  table = own-table c.args.dfa.now c.args.store.now c.args.tables.now c.args.filler.now c.args.made.now.items c.requires.own.0 c.args.id.index c.in-Pair.left c.in-Pair.right
+      c.number-left.result c.number-right.result c.in-Some-found.place c.states.ensures.automaton c.requires.ready.all c.in-Pair.ensures.tree
+      c.number-left.ensures.number c.number-right.ensures.number c.requires.made c.requires.own.2 (c.in-Some-found.ensures c.requires.own.0 c.requires.own.1);
 }
 
 pub compute-requires-in-Pair-clause-true_children : goal.compute-requires-in-Pair-clause-true_children
@@ -50,7 +50,7 @@ returns-in_ok-place-in-Byte-clause-kept c =
 
 pub returns-in_ok-place-in-Byte-clause-own : goal.returns-in_ok-place-in-Byte-clause-own
 returns-in_ok-place-in-Byte-clause-own c =
-    own-kept c.args.own.now c.args.made.now.items c.push_made.new.made.items (returns-in_ok-place-in-Byte-clause-kept c) c.requires.own
+    own-kept c.args.own.now.items c.args.made.now.items c.push_made.new.made.items (returns-in_ok-place-in-Byte-clause-kept c) c.requires.own
 
 pub returns-in_ok-place-in-Byte-clause-spot : goal.returns-in_ok-place-in-Byte-clause-spot
 returns-in_ok-place-in-Byte-clause-spot c =
@@ -83,9 +83,9 @@ returns-in_ok-place-in-Pair-clause-kept c =
 pub returns-in_ok-place-in-Pair-clause-own : goal.returns-in_ok-place-in-Pair-clause-own
 returns-in_ok-place-in-Pair-clause-own c =
     let one : Made = record { parts = Some (c.number-left.result, c.number-right.result); table = c.in_ok-table-in-Pair.table } in
-    subst (AreOwn c.remember.new.self) (sym c.in_ok-place-in-Pair.ensures.made)
-    (own-more c.args.own.now c.remember.new.self c.args.made.now.items one (c.number-left.result, c.number-right.result) refl c.requires.own
-    (λ e h. rw (← c.in_ok-place-in-Pair.ensures.place) (c.remember.ensures e h)))
+    subst (AreOwn c.note.new.front.items) (sym c.in_ok-place-in-Pair.ensures.made)
+    (own-more c.args.own.now.items c.note.new.front.items c.args.made.now.items one (c.number-left.result, c.number-right.result) refl c.requires.own
+    (λ es h. c.note.ensures es (rw c.in_ok-place-in-Pair.ensures.place h)))
 
 pub returns-in_ok-place-in-Pair-clause-spot : goal.returns-in_ok-place-in-Pair-clause-spot
 returns-in_ok-place-in-Pair-clause-spot c =

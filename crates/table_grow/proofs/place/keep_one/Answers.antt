@@ -10,11 +10,6 @@ returns-in_err-number-clause-entries c =
     let kept : AreKept c.args.tables.now c.keep.new.self = record { kept = c.keep.ensures.kept; more = c.keep.ensures.more; same = c.keep.ensures.same } in
     entries-kept c.args.tables.now c.keep.new.self c.args.memory.now kept c.requires.entries
 
-pub returns-in_default-clause-entries : goal.returns-in_default-clause-entries
-returns-in_default-clause-entries c =
-    let kept : AreKept c.args.tables.now c.keep.new.self = record { kept = c.keep.ensures.kept; more = c.keep.ensures.more; same = c.keep.ensures.same } in
-    entries-kept c.args.tables.now c.keep.new.self c.args.memory.now kept c.requires.entries
-
 pub returns-in-Some-clause-entries : goal.returns-in-Some-clause-entries
 returns-in-Some-clause-entries c =
     let kept : AreKept c.args.tables.now c.keep.new.self = record { kept = c.keep.ensures.kept; more = c.keep.ensures.more; same = c.keep.ensures.same } in
@@ -23,3 +18,13 @@ returns-in-Some-clause-entries c =
     let number = c.in_ok-number.ensures.number in
     entries-more c.args.tables.now c.keep.new.self c.args.memory.now c.remember.new.self c.in-Some.left c.in-Some.right c.in_ok-number.number c.args.one.table
     kept c.requires.entries of.0 of.1 number.0 number.1 of.2 c.remember.ensures
+
+pub returns-else-is_last-clause-entries : goal.returns-else-is_last-clause-entries
+returns-else-is_last-clause-entries c =
+    let kept : AreKept c.args.tables.now c.keep.new.self = record { kept = c.keep.ensures.kept; more = c.keep.ensures.more; same = c.keep.ensures.same } in
+    entries-kept c.args.tables.now c.keep.new.self c.args.memory.now kept c.requires.entries
+
+pub returns-in_ok-number-clause-entries : goal.returns-in_ok-number-clause-entries
+returns-in_ok-number-clause-entries c =
+    let kept : AreKept c.args.tables.now c.keep.new.self = record { kept = c.keep.ensures.kept; more = c.keep.ensures.more; same = c.keep.ensures.same } in
+    entries-kept c.args.tables.now c.keep.new.self c.args.memory.now kept c.requires.entries
