@@ -1,26 +1,14 @@
 -- The next answer and what is kept of it, from the walk that completes it.
-use Rattle.span_enum.proofs.Base.{Agree, Ahead, AreKept, Begins, CanFinish, DeterministicAutomaton, EndsIn, Finds, Finishes, Found, Gives, Ground, IfSome, IsBalanced, IsDeterministic, IsFirst, IsFirstLeft, IsFirstMember, IsFoundAfter}
-use Rattle.span_enum.proofs.Base.{IsGreatestMark, IsGround, IsMember, IsNext, IsNoMark, IsStateAt, IsTrailOf, IsTupleOf, IsUnmarked, IsWord, Leads, List, Mark, Marked, NoEndAfter, NoMemberLeft, None, NoneAfter, Option, Place, Some, Tree}
-use Rattle.span_enum.proofs.Base.{Tuple, [], ap, arith, blanks, bytes_of, cases_lt, cut, ended, ends_of, get_or, height, height-by_leaves, height_limit, inl, inr, is_final, last_at, length, length-append, length-text, looks_limit}
-use Rattle.span_enum.proofs.Base.{mark_count, mark_of, member, mul-le-mul_left, mul-le-mul_right, mul_assoc, reached, refl, subst, sym, take, text, text_ahead, true, whole_text, word-tell, word_of, word_over, write_mark, write_word}
-use Rattle.span_enum.proofs.Base.{ℕ, ◌*◌, ◌++◌, ◌+◌, ◌-◌, ◌∙◌, ◌∷◌, ◌≡◌, ◌≤◌}
+use Rattle.span_enum.proofs.Base.{Agree, Ahead, AreKept, Begins, CanFinish, DeterministicAutomaton, EndsIn, Finds, Finishes, Found, Gives, Ground, IfSome, IsDeterministic, IsFirst, IsFirstLeft, IsFirstMember, IsFoundAfter, IsGreatestMark}
+use Rattle.span_enum.proofs.Base.{IsGround, IsMember, IsNext, IsStateAt, IsTrailOf, IsTupleOf, IsUnmarked, IsWord, Leads, List, Mark, Marked, NoEndAfter, NoMemberLeft, None, NoneAfter, Option, Place, Some, Tuple, [], ap, arith, blanks}
+use Rattle.span_enum.proofs.Base.{bytes_of, cases_lt, cut, ended, ends_of, get_or, height_limit, inl, inr, last_at, length, length-append, looks_limit, mark_count, mark_of, member, reached, refl, subst, sym, take, text_ahead}
+use Rattle.span_enum.proofs.Base.{true, whole_text, word-tell, word_of, word_over, write_mark, write_word, ℕ, ◌*◌, ◌++◌, ◌+◌, ◌-◌, ◌∙◌, ◌∷◌, ◌≡◌, ◌≤◌}
 use Rattle.span_enum.specs.Tuples.{end_mark}
 use Rattle.span_enum.specs.Letters.{step_of}
-use Rattle.span_enum.proofs.Kept.{kept-join, kept-other, last-append, last-inside, leads-size, none-behind_last}
+use Rattle.span_enum.proofs.Kept.{kept-join, kept-other, last-append, last-inside, leads-size, none-behind_all, none-behind_earlier}
 use Rattle.span_enum.proofs.Runs.{IsFirst-byte, IsFirst-fork, bytes-append, final-end, fit-end, length-bytes, mark_count-append, member-one, reach-end, run-on, run-within}
 use Rattle.span_enum.proofs.Tuples.{IsText, accepts-from_member, few-marks, first-member, none-member, read-back, wellmarked, word-run}
-use Rattle.span_enum.proofs.Words.{IsNext-byte, IsNext-fork, IsNext-front, append-same, none-byte, none-fork, over-bytes, over-length, over-same, over-split, read-cut, write_word-append}
-
--- looks of one call, for k variables and a tree of height h
-abbrev pub bound : ℕ → ℕ → ℕ
-bound k h = 4 * ((2 * k + 1) * (h + 3))
-
--- ---- the last mark
--- a final state may end with some mark
-pub some-end : (a : DeterministicAutomaton) (auto : IsDeterministic a) (q : ℕ) → is_final a q ≡ true → ((m : ℕ) → IsNoMark a q 256 1 65536 m) → ⊥
-some-end a auto q final none =
-    let step = final-end a q final in
-    none (get_or (ends_of a q) 0 0) (fit-end a auto q (get_or (ends_of a q) 0 0) 0 step) 0 step member-one
+use Rattle.span_enum.proofs.Words.{IsNext-byte, IsNext-fork, IsNext-front, append-same, looks-within, none-byte, none-fork, over-bytes, over-length, over-same, over-split, read-cut, write_word-append}
 
 first-end : (a : DeterministicAutomaton) (auto : IsDeterministic a) (q e : ℕ) → IsGreatestMark a q 256 1 65536 e 0 → IsFirst a q (256 ∷ []) 1 ((e, 256) ∷ []) 0
 first-end a auto q e best = IsFirst-byte a q 256 e 1 0 best.step best.goal (λ n r sn gn. best.most n r (fit-end a auto q n r sn) sn gn)
@@ -39,16 +27,15 @@ module _ (g : Ground) (is : IsGround g) (text : IsText (whole_text g)) where
       let k = wellmarked a is.automaton s text (w ++ (e, 256) ∷ []) 0 (bytes-append w ((e, 256) ∷ []) ∙ ap (λ b. b ++ 256 ∷ []) bytes) (word-run a 0 r w e run ∙ step) in
       (k, (append-same w ((e, 256) ∷ []) (word_over k.tuple 1 s) ((end_mark k.tuple (length s + 1), 256) ∷ []) (sym (length-bytes w) ∙ ap length bytes ∙ sym (over-length k.tuple 1 s)) k.word_is).0)
 
-  few-all : (w : Marked) (r : ℕ) → bytes_of w ≡ s → reached a 0 w ≡ Some r → member g.finals r ≡ true → mark_count w ≤ 2 * a.variables
-  few-all w r bytes run goal =
-      let low = run-within a is.automaton 0 r w is.automaton.has_start run in
-      let k = accepted-word w r (get_or (ends_of a r) 0 0) bytes run (final-end a r (sym (is.all r low) ∙ goal)) in
-      rw k.1 (few-marks a.variables k.0.tuple s k.0.tuple_is.size)
-
-  module _ (place : Place) (base : ℕ) (word : Marked) (ms : List (Option Mark)) (hs : List (Option Ahead)) (b : Begins g place base word ms hs) where
+  module _ (place : Place) (base : ℕ) (word : Marked) (ms : List Mark) (hs : List (Option Ahead)) (b : Begins g place base word ms hs) where
     begins-few : (w : Marked) (r : ℕ) → bytes_of w ≡ text_ahead g b.chain → reached a place.state w ≡ Some r → member g.finals r ≡ true → length ms + mark_count w ≤ 2 * a.variables
     begins-few w r bytes run goal =
-        let all = few-all (word ++ w) r (bytes-append word w ∙ ap (λ x. bytes_of word ++ x) bytes ∙ sym b.bytes) (run-on a 0 place.state word w b.ends ∙ run) goal in
+        let v = word ++ w in
+        let ends = run-on a 0 place.state word w b.ends ∙ run in
+        let final = sym (is.all r (run-within a is.automaton 0 r v is.automaton.has_start ends)) ∙ goal in
+        let letters = bytes-append word w ∙ ap (λ x. bytes_of word ++ x) bytes ∙ sym b.bytes in
+        let k = accepted-word v r (get_or (ends_of a r) 0 0) letters ends (final-end a r final) in
+        let all : mark_count v ≤ 2 * a.variables = rw k.1 (few-marks a.variables k.0.tuple s k.0.tuple_is.size) in
         omega (arith, all, mark_count-append word w, b.count)
 
     pub begins-finish : CanFinish g hs place (2 * a.variables - length ms)
@@ -112,13 +99,12 @@ module _ (g : Ground) (is : IsGround g) (text : IsText (whole_text g)) where
 
   -- ---- what is kept of the answer
   -- no mark stands behind the last one
-  last-behind : (u : Tuple) (x y end : ℕ) (more : List (Option Mark)) → x ≤ y → last_at y more ≤ end → IsUnmarked u (x + 1) (y + 1) → IsUnmarked u (last_at y more + 1) (end + 1)
+  last-behind : (u : Tuple) (x y end : ℕ) (more : List Mark) → x ≤ y → last_at y more ≤ end → IsUnmarked u (x + 1) (y + 1) → IsUnmarked u (last_at y more + 1) (end + 1)
       → (last_at x more ≤ end) × IsUnmarked u (last_at x more + 1) (end + 1)
   last-behind u x y end [] le low first rest = (omega (arith, le, low), λ p above below. elim (cases_lt p (y + 1)) [ inl lt ↦ first p above lt | inr ge ↦ rest p ge below ])
-  last-behind u x y end (None ∷ more) le low first rest = last-behind u x y end more le low first rest
-  last-behind u x y end (Some m ∷ more) le low first rest = (low, rest)
+  last-behind u x y end (m ∷ more) le low first rest = (low, rest)
 
-  module _ (place : Place) (base : ℕ) (word : Marked) (ms : List (Option Mark)) (hs : List (Option Ahead)) (b : Begins g place base word ms hs) (u : Tuple) (rest : Marked) (letters : word_over u 1 s ≡ word ++ rest) where
+  module _ (place : Place) (base : ℕ) (word : Marked) (ms : List Mark) (hs : List (Option Ahead)) (b : Begins g place base word ms hs) (u : Tuple) (rest : Marked) (letters : word_over u 1 s ≡ word ++ rest) where
     both : (word_over u 1 (bytes_of word) ≡ word) × (word_over u (1 + length (bytes_of word)) (text_ahead g b.chain) ≡ rest)
     both = over-split u 1 (bytes_of word) (text_ahead g b.chain) word rest refl (ap (word_over u 1) (sym b.bytes) ∙ letters)
 
@@ -128,7 +114,7 @@ module _ (g : Ground) (is : IsGround g) (text : IsText (whole_text g)) where
     lead : Leads g u (length word + 1) place.state (length ms) (text_ahead g b.chain)
     lead = record { front = bytes_of word; parts = b.bytes; at_is = omega (arith, length-bytes word); before = ap (reached a 0) both.0 ∙ b.ends; count = ap mark_count both.0 ∙ b.count }
 
-    trail-found : (before after : ℕ) (r : Option ℕ) (old' out : Tuple) (more : List (Option Mark)) (new : List (Option Ahead)) → (f : Finds g (length word + 1) place b.chain (length ms) base more new before after r old' out) → f.word ≡ rest
+    trail-found : (before after : ℕ) (r : Option ℕ) (old' out : Tuple) (more : List Mark) (new : List (Option Ahead)) → (f : Finds g (length word + 1) place b.chain (length ms) base more new before after r old' out) → f.word ≡ rest
         → take base new ≡ take base hs → base ≤ length new → IsTrailOf g u (ms ++ more) new
     trail-found before after r old' out more new f same-word same low =
         let x = length word in
@@ -142,11 +128,11 @@ module _ (g : Ground) (is : IsGround g) (text : IsText (whole_text g)) where
           base = b.root;
           one = b.one;
           kept = kept-join g u hs new 1 0 0 b.root base (x + 1) ms more refl same low (b.kept u both.0) (subst (λ n. AreKept g u new (x + 1) n base more) count (f.kept u lead e)) (omega (arith, b.before)) (b.quiet u both.0);
-          none = rw (last-append 0 ms more) (none-behind_last g u (last_at (last_at 0 ms) more) end.0 end.1);
+          none = rw (last-append 0 ms more) (none-behind_earlier g u (last_at (last_at 0 ms) more) (length s) end.0 (omega arith) end.1 (none-behind_all g u));
         }
 
   -- ---- the answer that the walk finds
-  pub answer-found : (cursor : Option Tuple) → IfSome cursor (IsTupleOf a.variables) → (place : Place) (base : ℕ) (word : Marked) (before after end : ℕ) (ms more : List (Option Mark)) (hs new : List (Option Ahead)) (out : Tuple) (f : Found)
+  pub answer-found : (cursor : Option Tuple) → IfSome cursor (IsTupleOf a.variables) → (place : Place) (base : ℕ) (word : Marked) (before after end : ℕ) (ms more : List Mark) (hs new : List (Option Ahead)) (out : Tuple) (f : Found)
       → (b : Begins g place base word ms hs) → out ≡ write_word 1 word (blanks a.variables) → end ≡ length s + 1
       → ((w : Marked) (r e : ℕ) → IsFirst a place.state (text_ahead g b.chain) g.finals w r → IsGreatestMark a r 256 1 65536 e 0 → IsFirstLeft a s cursor ((word ++ w) ++ (e, 256) ∷ []))
       → Finishes g place base ms more hs new before after out end f
@@ -167,16 +153,11 @@ module _ (g : Ground) (is : IsGround g) (text : IsText (whole_text g)) where
           trail = rw fin.completes.marks_are (trail-found place base word ms hs b f.tuple rest.word k.1 before after f.state out fin.written fin.completes.more new rest refl fin.completes.same fin.completes.low);
           state = state-found f.tuple f.state rest.state rest.ends (ap (reached a 0) k.1 ∙ run) k.0.member;
         },
-        cost (height_limit (length s)) (mark_count rest.word) (omega (arith, few)) (rest.cost (length s) inside),
+        looks-within a.variables (length s) (height_limit (length s)) (mark_count rest.word) before after (omega arith) (omega (arith, few)) (omega (arith, rest.cost (length s) inside)),
       )
-    where
-      cost : (h c : ℕ) → c ≤ 2 * a.variables → after ≤ before + 2 * (h * c) → after ≤ before + 4 * (2 * a.variables + 1) * (h + 3)
-      cost h c le looks =
-          let x : h * c ≤ h * (2 * a.variables) = mul-le-mul_left h le in
-          omega (arith, x, looks, mul_assoc 4 (2 * a.variables + 1) (h + 3))
 
 -- only the mark at the end is lower
-pub trail-agree : (g : Ground) (t u : Tuple) (ms : List (Option Mark)) (hs : List (Option Ahead)) → Agree t u (length (whole_text g) + 1) → IsTrailOf g t ms hs → IsTrailOf g u ms hs
+pub trail-agree : (g : Ground) (t u : Tuple) (ms : List Mark) (hs : List (Option Ahead)) → Agree t u (length (whole_text g) + 1) → IsTrailOf g t ms hs → IsTrailOf g u ms hs
 trail-agree g t u ms hs agree is = record {
   base = is.base;
   one = is.one;
@@ -188,15 +169,3 @@ trail-agree g t u ms hs agree is = record {
       over-same t u (1 + last_at 0 ms) back (λ p above below. agree p (omega (arith, above)) (omega (arith, below, inside, len))) in
       subst (NoneAfter g.dfa.now q back g.finals) behind (is.none front back q parts len (ap (reached g.dfa.now 0) before ∙ run));
 }
-
--- ---- looks
-pub cost-lower : (k h before now after c : ℕ) → now ≡ before + 1 → c ≤ 2 * k → after ≤ now + 2 * (h * c) → after ≤ before + bound k h
-cost-lower k h before now after c en ec ea =
-    let x : c * h ≤ (2 * k) * h = mul-le-mul_right h ec in
-    omega (arith, en)
-
-pub within-limit : (k before after : ℕ) (t : Tree) → IsBalanced t → after ≤ before + bound k (height t) → after ≤ before + looks_limit k (length (text t))
-within-limit k before after t bal le =
-    let h : height t ≤ height_limit (length (text t)) = rw (length-text t) (height-by_leaves t bal) in
-    let x : (2 * k + 1) * (height t + 3) ≤ (2 * k + 1) * (height_limit (length (text t)) + 3) = mul-le-mul_left (2 * k + 1) (omega (arith, h)) in
-    omega (arith, le, x, mul_assoc 4 (2 * k + 1) (height_limit (length (text t)) + 3))

@@ -1,55 +1,28 @@
 -- The nodes ahead: in the list, in the text, and what is known of the states there.
 use Rattle.span_enum.proofs.Base.{Ahead, AreAhead, AreBetween, AreGoals, Between, CanGoDown, DeterministicAutomaton, Fits, FitsAt, Ground, IsAhead, IsDeterministic, IsGround, IsLook, IsMark, IsNodeAt, IsTable, Join, LeadQuiet, List, Look}
-use Rattle.span_enum.proofs.Base.{Mark, Marked, NodeId, None, Option, Pair, Place, Some, Stands, StandsBefore, [], ap, append_assoc, arith, bytes_of, false, height_at, inl, inr, length, length-append, max, plain, reached, refl, same_Some}
-use Rattle.span_enum.proofs.Base.{slice_get, slice_get_cases, slice_get_within, states_of, subst, suc, sym, take, text_ahead, text_at, zero, ℕ, ◌++◌, ◌+◌, ◌-◌, ◌<◌, ◌∙◌, ◌∷◌, ◌≡◌, ◌≤◌, ◌⊎◌}
+use Rattle.span_enum.proofs.Base.{Mark, Marked, NodeId, None, Option, Pair, Place, Some, Stands, StandsBefore, [], ap, append_assoc, arith, bytes-plain, bytes_of, child, false, get_push, height_at, inl, inr, length, length-append}
+use Rattle.span_enum.proofs.Base.{length-take, max, plain, push_get, push_last, reached, refl, same_Some, sibling, slice_get, slice_get_cases, slice_get_within, states_of, subst, suc, sym, take, text_ahead, text_at, zero, ℕ, ◌++◌}
+use Rattle.span_enum.proofs.Base.{◌+◌, ◌-◌, ◌<◌, ◌∙◌, ◌∷◌, ◌≡◌, ◌≤◌}
 use Rattle.span_enum.specs.Letters.{step_of}
-use Rattle.span_enum.proofs.Runs.{bytes-append, bytes-plain, run-behind, run-join, run-on, run-one, run-parts, step-within}
+use Rattle.span_enum.proofs.Runs.{bytes-append, run-behind, run-join, run-on, run-one, run-parts, step-within}
 use Rattle.span_enum.proofs.Tables.{look-is, pair-height, pair-text, quiet-join}
 
 -- ---- lists of options
-slice-append : (hs more : List (Option Ahead)) (n : ℕ) (x : Option Ahead) → slice_get hs n ≡ Some x → slice_get (hs ++ more) n ≡ Some x
-slice-append [] more n x e = cc
-slice-append (h ∷ hs) more zero x e = e
-slice-append (h ∷ hs) more (suc n) x e = slice-append hs more n x e
-
-slice-take : (n m : ℕ) (hs : List (Option Ahead)) → m < n → slice_get (take n hs) m ≡ slice_get hs m
+pub slice-take : (n m : ℕ) (hs : List (Option Ahead)) → m < n → slice_get (take n hs) m ≡ slice_get hs m
 slice-take zero m hs lt = absurd (omega arith)
 slice-take (suc n) m [] lt = refl
 slice-take (suc n) zero (h ∷ hs) lt = refl
 slice-take (suc n) (suc m) (h ∷ hs) lt = slice-take n m hs (omega arith)
 
-slice-taken : (n m : ℕ) (hs : List (Option Ahead)) (x : Option Ahead) → slice_get (take n hs) m ≡ Some x → slice_get hs m ≡ Some x
-slice-taken zero m hs x e = cc
-slice-taken (suc n) m [] x e = cc
-slice-taken (suc n) zero (h ∷ hs) x e = e
-slice-taken (suc n) (suc m) (h ∷ hs) x e = slice-taken n m hs x e
-
--- the items of a list with one more
-slice-push : (n : ℕ) (hs : List (Option Ahead)) (y x : Option Ahead) → slice_get (hs ++ y ∷ []) n ≡ Some x → (slice_get hs n ≡ Some x) ⊎ ((n ≡ length hs) × (y ≡ x))
-slice-push zero [] y x e = inr (refl, same_Some y x e)
-slice-push (suc n) [] y x e = cc
-slice-push zero (h ∷ hs) y x e = inl e
-slice-push (suc n) (h ∷ hs) y x e = elim (slice-push n hs y x e) [ inl k ↦ inl k | inr k ↦ inr (omega (arith, k.0), k.1) ]
-
-slice-last : (hs : List (Option Ahead)) (x : Option Ahead) → slice_get (hs ++ x ∷ []) (length hs) ≡ Some x
-slice-last [] x = refl
-slice-last (h ∷ hs) x = slice-last hs x
-
 -- ---- the nodes in the list
 -- they are in any list with the same items there
-ahead-move : (hs new : List (Option Ahead)) (n i : ℕ) (c : List Ahead) → ((k : ℕ) (x : Option Ahead) → k < n → slice_get hs k ≡ Some x → slice_get new k ≡ Some x)
+pub ahead-move : (hs new : List (Option Ahead)) (n i : ℕ) (c : List Ahead) → ((k : ℕ) (x : Option Ahead) → k < n → slice_get hs k ≡ Some x → slice_get new k ≡ Some x)
     → i ≤ n → AreAhead hs i c → AreAhead new i c
 ahead-move hs new n i [] same le h = h
 ahead-move hs new n i (x ∷ c) same le h = (
   record { before = h.0.before; counted = h.0.counted; there = same h.0.before (Some x) (omega (arith, h.0.counted)) h.0.there; earlier = h.0.earlier },
   ahead-move hs new n x.next c same (omega (arith, h.0.counted, h.0.earlier)) h.1,
 )
-
-pub ahead-append : (hs more : List (Option Ahead)) (i : ℕ) (c : List Ahead) → AreAhead hs i c → AreAhead (hs ++ more) i c
-ahead-append hs more i c h = ahead-move hs (hs ++ more) i i c (λ k x lt e. slice-append hs more k x e) (omega arith) h
-
-pub ahead-take : (hs : List (Option Ahead)) (n i : ℕ) (c : List Ahead) → i ≤ n → AreAhead hs i c → AreAhead (take n hs) i c
-ahead-take hs n i c le h = ahead-move hs (take n hs) n i c (λ k x lt e. slice-take n k hs lt ∙ e) le h
 
 pub ahead-same : (hs new : List (Option Ahead)) (n i : ℕ) (c : List Ahead) → take n hs ≡ take n new → i ≤ n → AreAhead hs i c → AreAhead new i c
 ahead-same hs new n i c same le h =
@@ -63,10 +36,7 @@ ahead-most hs i (x ∷ c) h = omega (arith, h.0.counted, slice_get_within hs h.0
 pub next-is : (hs : List (Option Ahead)) (place : ℕ) (c : List Ahead) (n : Ahead) → AreAhead hs place c → 0 < place → ((before : ℕ) → place ≡ suc before → slice_get hs before ≡ Some (Some n))
     → (b : List Ahead) × (c ≡ n ∷ b)
 next-is hs place [] n h some at = absurd (omega (arith, h))
-next-is hs place (x ∷ c) n h some at = (c, ap (λ y. y ∷ c) (one x n (sym h.0.there ∙ at h.0.before h.0.counted)))
-  where
-    one : (x y : Ahead) → ◌≡◌ {A = Option (Option Ahead)} (Some (Some x)) (Some (Some y)) → x ≡ y
-    one x y e = cc
+next-is hs place (x ∷ c) n h some at = (c, ap (λ y. y ∷ c) (same_Some x n (same_Some (Some x) (Some n) (sym h.0.there ∙ at h.0.before h.0.counted))))
 
 -- and is there
 pub next-there : (hs : List (Option Ahead)) (place : ℕ) (c : List Ahead) → AreAhead hs place c → 0 < place
@@ -127,10 +97,10 @@ stands-mark g hs m c n q auto is step = record {
 
 -- ---- room
 pub fits-take : (g : Ground) (base n : ℕ) (hs : List (Option Ahead)) → Fits g base hs → Fits g base (take n hs)
-fits-take g base n hs f k o le e = f k o le (slice-taken n k hs o e)
+fits-take g base n hs f k o le e = f k o le (sym (slice-take n k hs (omega (arith, slice_get_within (take n hs) k o e, length-take n hs))) ∙ e)
 
 fits-push : (g : Ground) (base : ℕ) (hs : List (Option Ahead)) (h : Ahead) → Fits g base hs → height_at g h.id.index + (length hs - base) ≤ 68 → Fits g base (hs ++ Some h ∷ [])
-fits-push g base hs h f le k o from e = elim (slice-push k hs (Some h) o e) [
+fits-push g base hs h f le k o from e = elim (get_push hs (Some h) o k e) [
   | inl old ↦ f k o from old
   | inr new ↦ subst (λ z. FitsAt g (k - base) z) new.1 (rw new.0 le)
 ]
@@ -148,12 +118,6 @@ fits-short g base hs f = elim ((slice_get_cases hs (base + 69)).1) [ inr past �
     most (Some h) le = omega arith
 
 -- ---- a pair
-abbrev pub sibling : Ahead → NodeId → Look → Look → Ahead
-sibling h r left right = record { id = r; look = right; at = h.at + left.len; goals = h.goals; quiet = h.quiet; next = h.next }
-
-abbrev pub child : Ahead → NodeId → Look → Between → ℕ → Ahead
-child h l left between next = record { id = l; look = left; at = h.at; goals = between.goals; quiet = between.quiet; next = next }
-
 -- a pair ahead and its two children, with their tables
 pub record Fork (g : Ground) (h : Ahead) (l r : NodeId) (left right : Look) : Type 0 where
   pub is_ahead : IsAhead g h
@@ -235,8 +199,8 @@ module _ (g : Ground) (h : Ahead) (l r : NodeId) (left right : Look) (f : Fork g
         let u = text_at g r.index in
         record {
           ahead = (
-            record { before = length hs; counted = omega arith; there = slice-last hs (Some (sibling h r left right)); earlier = ahead-most hs h.next c s.ahead },
-            ahead-append hs (Some (sibling h r left right) ∷ []) h.next c s.ahead,
+            record { before = length hs; counted = omega arith; there = push_last hs (Some (sibling h r left right)); earlier = ahead-most hs h.next c s.ahead },
+            ahead-move hs (hs ++ Some (sibling h r left right) ∷ []) h.next h.next c (λ k x lt e. push_get hs (Some (sibling h r left right)) x k e) (omega arith) s.ahead,
           );
           join = (refl, (ap (λ n. h.at + n) f.left_look.len_is, subst (λ n. Join g (h.at + n + length u) c) f.left_look.len_is behind));
           goals = (
@@ -249,7 +213,7 @@ module _ (g : Ground) (h : Ahead) (l r : NodeId) (left right : Look) (f : Fork g
         }
 
   -- ---- the way down
-  module _ (q base : ℕ) (ms : List (Option Mark)) (marks_room : ℕ) (hs : List (Option Ahead)) (ahead_room : ℕ) (d : CanGoDown g h q base ms marks_room hs ahead_room) where
+  module _ (q base : ℕ) (ms : List Mark) (marks_room : ℕ) (hs : List (Option Ahead)) (ahead_room : ℕ) (d : CanGoDown g h q base ms marks_room hs ahead_room) where
     pub down-right : (p : ℕ) → p < states_of g.dfa.now → CanGoDown g (sibling h r left right) p base ms marks_room hs ahead_room
     down-right p low = record {
       is_ahead = ahead-right;

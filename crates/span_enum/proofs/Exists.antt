@@ -1,7 +1,7 @@
 -- There is a list of the answers of an automaton on a text.
-use Rattle.span_enum.proofs.Base.{All, AllPairs, AreAnswersOf, Comes, Contains, Contains-append_cases, Contains-append_left, Contains-append_right, Contains-get_or, DeterministicAutomaton, IsDeterministic, IsMember, IsWord, List, Marked}
-use Rattle.span_enum.proofs.Base.{None, Option, Precedes, Some, Tuple, [], ap, arith, blanks, bytes_of, cases_eq, ended, get_or, has_map, inl, inr, length, map, map_has, reached, refl, subst, suc, sym, word_of, write_word, zero, ℕ}
-use Rattle.span_enum.proofs.Base.{◌++◌, ◌<◌, ◌∙◌, ◌∷◌, ◌≡◌, ◌≤◌, ◌⊎◌}
+use Rattle.span_enum.proofs.Base.{All, AllPairs, AllPairs-cons, AreAnswersOf, Comes, Contains, Contains-append_cases, Contains-append_left, Contains-append_right, Contains-get_or, DeterministicAutomaton, IsDeterministic, IsMember, IsWord}
+use Rattle.span_enum.proofs.Base.{List, Marked, None, Option, Precedes, Some, Tuple, [], ap, arith, blanks, bytes_of, cases_eq, ended, get_or, has_map, inl, inr, length, map, map_has, one_only, reached, refl, subst, suc, sym, word_of}
+use Rattle.span_enum.proofs.Base.{write_word, zero, ℕ, ◌++◌, ◌<◌, ◌∙◌, ◌∷◌, ◌≡◌, ◌≤◌, ◌⊎◌}
 use Rattle.span_enum.specs.Letters.{step_of}
 use Rattle.span_enum.proofs.Runs.{bytes-none, low-mark, no-state, one-letter, onto, run-parts, same-state}
 use Rattle.span_enum.proofs.Tuples.{IsText, accepts-from_member, member-from_accepts, order, read-back, tuple-of_member, wellmarked, word-bytes}
@@ -21,10 +21,8 @@ Sorted R [] = Unit {0}
 Sorted {X} R (x ∷ xs) = ((y : X) → Contains xs y → R x y) × Sorted R xs
 
 sorted-pairs : {X : Type 0} (R : X → X → Type 0) (xs : List X) → Sorted R xs → AllPairs R xs
-sorted-pairs R [] h i j d lt l = absurd (omega arith)
-sorted-pairs R (x ∷ xs) h i zero d lt l = absurd (omega arith)
-sorted-pairs R (x ∷ xs) h zero (suc j) d lt l = h.0 (get_or xs j d) (Contains-get_or xs j d (omega arith))
-sorted-pairs R (x ∷ xs) h (suc i) (suc j) d lt l = sorted-pairs R xs h.1 i j d (omega arith) (omega arith)
+sorted-pairs R [] h = λ i j d lt l. absurd (omega arith)
+sorted-pairs R (x ∷ xs) h = AllPairs-cons R x xs (λ k d lt. h.0 (get_or xs k d) (Contains-get_or xs k d lt)) (sorted-pairs R xs h.1)
 
 sorted-append : {X : Type 0} (R : X → X → Type 0) (xs ys : List X) → Sorted R xs → Sorted R ys → ((x y : X) → Contains xs x → Contains ys y → R x y) → Sorted R (xs ++ ys)
 sorted-append R [] ys h k all = k
@@ -114,14 +112,10 @@ words a limit low [] p = elim (cases_eq p 0) [
     list = [] ∷ [];
     sorted = (λ y c. absurd (none-in y c), tt);
     all = λ w h. subst (λ (z : Marked). Contains ([] ∷ []) z) (sym (bytes-none w h.0)) (in-first [] []);
-    only = λ w c. elim (Contains-append_cases ([] ∷ []) [] w c) [ inl k ↦ only-one w k e | inr k ↦ absurd (none-in w k) ];
+    only = λ w c. rw (one_only [] w c, e) (refl, refl);
   }
   | inr ne ↦ made-none Precedes (Ends a p []) (λ w h. ne (same-state p 0 (Some p) refl (ap (reached a p) (sym (bytes-none w h.0)) ∙ h.1)))
 ]
-  where
-    only-one : (w : Marked) → Contains ([] ∷ []) w → p ≡ 0 → Ends a p [] w
-    only-one w (zero, lt, same) e = rw (← same) (refl, ap (λ n. Some n) e)
-    only-one w (suc k, lt, same) e = absurd (omega (arith, lt))
 words a limit low (b ∷ s) p =
     let k = falling a p b s (λ q. words a limit low s q) limit in
     record { list = k.list; sorted = k.sorted; all = λ w h. k.all w (to w h); only = λ w c. from w (k.only w c) }

@@ -1,8 +1,8 @@
 -- The marks that are kept of a tuple, and what comes after the tuple behind them.
-use Rattle.span_enum.proofs.Base.{Agree, Ahead, AreKept, AreSpans, Fits, Ground, IsDeterministic, IsFirst, IsFirstMark, IsGreatestMark, IsKept, IsMark, IsNext, IsNoMark, IsTrailOf, IsTurned, IsUnmarked, Leads, List, Lowered, Mark, Marked}
-use Rattle.span_enum.proofs.Base.{None, NoneAfter, NoneBehind, Option, Passed, Some, Starts, Tuple, Way, [], ap, append_assoc, arith, blanks, bytes_of, cases_eq, cases_lt, cut, drop, inl, inr, last_at, length, length-append}
-use Rattle.span_enum.proofs.Base.{length-take, length-take-le, mark_count, mark_of, plain, reached, refl, subst, suc, sym, take, take-append-drop, take-length, take_at, text_ahead, whole_text, word-tell, word_over, write_mark}
-use Rattle.span_enum.proofs.Base.{write_word, zero, ℕ, ◌*◌, ◌++◌, ◌+◌, ◌-◌, ◌<◌, ◌∙◌, ◌∷◌, ◌≡◌, ◌≤◌}
+use Rattle.span_enum.proofs.Base.{Agree, Ahead, AreKept, Fits, Ground, IsDeterministic, IsFirstMark, IsGreatestMark, IsKept, IsLast, IsMark, IsNext, IsNoMark, IsTrailOf, IsTurned, IsUnmarked, Leads, List, Lowered, Mark, Marked, None}
+use Rattle.span_enum.proofs.Base.{NoneAfter, NoneBehind, Option, Passed, Some, Starts, Tuple, Way, [], ap, append_assoc, arith, blanks, bytes_of, cases_eq, cases_lt, cut, drop, inl, inr, last_at, length, length-append, length-take}
+use Rattle.span_enum.proofs.Base.{length-take-le, mark_count, mark_of, plain, reached, refl, subst, suc, sym, take, take-append-drop, take-length, take-take, text_ahead, whole_text, word-tell, word_over, write_mark, write_word}
+use Rattle.span_enum.proofs.Base.{ℕ, ◌*◌, ◌++◌, ◌+◌, ◌-◌, ◌<◌, ◌∙◌, ◌∷◌, ◌≡◌, ◌≤◌}
 use Rattle.span_enum.specs.Letters.{step_of}
 use Rattle.span_enum.proofs.Chains.{ahead-most, ahead-same, fits-none, fits-short, stands-mark}
 use Rattle.span_enum.proofs.Runs.{bytes-append, count-more, count-plain, mark_count-append, no-state, onto, run-on, run-one, same-state}
@@ -91,7 +91,7 @@ module _ (g : Ground) (t : Tuple) (at q n b : ℕ) (u : List ℕ) (leads : Leads
 
 -- ---- places before a place
 -- nothing is read behind the end
-none-behind_all : (g : Ground) (t : Tuple) → NoneBehind g t (length (whole_text g))
+pub none-behind_all : (g : Ground) (t : Tuple) → NoneBehind g t (length (whole_text g))
 none-behind_all g t front [] q parts len run = none-plain g.dfa.now q [] g.finals
 none-behind_all g t front (b ∷ back) q parts len run = absurd (omega (arith, len, ap length parts, length-append front (b ∷ back)))
 
@@ -114,16 +114,6 @@ none-behind_earlier g t from at le inside quiet behind front back q parts len ru
     none-passed a q mid rest g.finals (word_over t (1 + at) rest) (λ x e. behind (front ++ mid) rest x (parts ∙ ap (λ s. front ++ s) cut ∙ sym (append_assoc front mid rest))
     (omega (arith, length-append front mid, many, len, le)) (on ∙ e)) in
     subst (λ s. NoneAfter a q s g.finals (word_over t (1 + from) s)) (sym cut) (subst (λ w. NoneAfter a q (mid ++ rest) g.finals w) (sym words) all)
-
-pub none-behind_last : (g : Ground) (t : Tuple) (k : ℕ) → k ≤ length (whole_text g) → IsUnmarked t (k + 1) (length (whole_text g) + 1) → NoneBehind g t k
-none-behind_last g t k le quiet = none-behind_earlier g t k (length (whole_text g)) le (omega arith) quiet (none-behind_all g t)
-
--- ---- lists of kept marks: cut, joined, and for another tuple
-pub take-take : (n m : ℕ) (hs : List (Option Ahead)) → n ≤ m → take n (take m hs) ≡ take n hs
-take-take zero m hs le = refl
-take-take (suc n) zero hs le = absurd (omega arith)
-take-take (suc n) (suc m) [] le = refl
-take-take (suc n) (suc m) (h ∷ hs) le = ap (λ k. h ∷ k) (take-take n m hs (omega arith))
 
 -- ---- one mark
 pub mark-same : (g : Ground) (old new : List (Option Ahead)) (n : ℕ) (m : Mark) (c : List Ahead) → take n old ≡ take n new → m.next ≤ n → IsMark g old m c → IsMark g new m c
@@ -154,25 +144,22 @@ kept-way g t hs new from n base at q c m k leads first base_is low fits same =
     }
 
 -- ---- lists of marks
-kept-most : (g : Ground) (t : Tuple) (hs : List (Option Ahead)) (from n lo : ℕ) (ms : List (Option Mark)) → AreKept g t hs from n lo ms → lo ≤ length hs
+kept-most : (g : Ground) (t : Tuple) (hs : List (Option Ahead)) (from n lo : ℕ) (ms : List Mark) → AreKept g t hs from n lo ms → lo ≤ length hs
 kept-most g t hs from n lo [] h = omega (arith, h)
-kept-most g t hs from n lo (None ∷ ms) h = absurd h
-kept-most g t hs from n lo (Some m ∷ ms) h = omega (arith, kept-most g t hs (m.at + 1) (suc n) h.0 ms h.2, h.1.placed.rises)
+kept-most g t hs from n lo (m ∷ ms) h = omega (arith, kept-most g t hs (m.at + 1) (suc n) h.0 ms h.2, h.1.placed.rises)
 
 -- few nodes are kept for each mark
-pub kept-short : (g : Ground) (t : Tuple) (hs : List (Option Ahead)) (from n lo : ℕ) (ms : List (Option Mark)) → AreKept g t hs from n lo ms → length hs ≤ lo + 69 * length ms
+pub kept-short : (g : Ground) (t : Tuple) (hs : List (Option Ahead)) (from n lo : ℕ) (ms : List Mark) → AreKept g t hs from n lo ms → length hs ≤ lo + 69 * length ms
 kept-short g t hs from n lo [] h = omega (arith, h)
-kept-short g t hs from n lo (None ∷ ms) h = absurd h
-kept-short g t hs from n lo (Some m ∷ ms) h =
+kept-short g t hs from n lo (m ∷ ms) h =
     let len : length (take h.0 hs) ≡ h.0 = length-take-le h.0 hs (kept-most g t hs (m.at + 1) (suc n) h.0 ms h.2) in
     let rest = kept-short g t hs (m.at + 1) (suc n) h.0 ms h.2 in
     omega (arith, len, fits-short g lo (take h.0 hs) h.1.fits, rest)
 
 -- the marks may be counted from an earlier position
-pub kept-from : (g : Ground) (t : Tuple) (hs : List (Option Ahead)) (from at n lo : ℕ) (ms : List (Option Mark)) → from ≤ at → IsUnmarked t from at → AreKept g t hs at n lo ms → AreKept g t hs from n lo ms
+pub kept-from : (g : Ground) (t : Tuple) (hs : List (Option Ahead)) (from at n lo : ℕ) (ms : List Mark) → from ≤ at → IsUnmarked t from at → AreKept g t hs at n lo ms → AreKept g t hs from n lo ms
 kept-from g t hs from at n lo [] le none h = h
-kept-from g t hs from at n lo (None ∷ ms) le none h = h
-kept-from g t hs from at n lo (Some m ∷ ms) le none h =
+kept-from g t hs from at n lo (m ∷ ms) le none h =
     let k = h.1 in
     let first : IsFirstMark t from m.at m.mark = record {
       after = omega (arith, k.first.after, le);
@@ -183,128 +170,111 @@ kept-from g t hs from at n lo (Some m ∷ ms) le none h =
     (h.0, record { chain = k.chain; is_mark = k.is_mark; leads = k.leads; first = first; placed = k.placed; fits = k.fits }, h.2)
 
 -- marks in turn stand at rising positions
-last-most : (g : Ground) (t : Tuple) (hs : List (Option Ahead)) (from before n lo : ℕ) (ms : List (Option Mark)) → from ≡ before + 1 → AreKept g t hs from n lo ms → before ≤ last_at before ms
+last-most : (g : Ground) (t : Tuple) (hs : List (Option Ahead)) (from before n lo : ℕ) (ms : List Mark) → from ≡ before + 1 → AreKept g t hs from n lo ms → before ≤ last_at before ms
 last-most g t hs from before n lo [] e h = omega arith
-last-most g t hs from before n lo (None ∷ ms) e h = absurd h
-last-most g t hs from before n lo (Some m ∷ ms) e h = omega (arith, last-most g t hs (m.at + 1) m.at (suc n) h.0 ms refl h.2, h.1.first.after, e)
+last-most g t hs from before n lo (m ∷ ms) e h = omega (arith, last-most g t hs (m.at + 1) m.at (suc n) h.0 ms refl h.2, h.1.first.after, e)
 
 -- marks up to a base, and then those from the base on
-pub kept-join : (g : Ground) (t : Tuple) (old new : List (Option Ahead)) (from before n lo base at : ℕ) (ms more : List (Option Mark)) → from ≡ before + 1
+pub kept-join : (g : Ground) (t : Tuple) (old new : List (Option Ahead)) (from before n lo base at : ℕ) (ms more : List Mark) → from ≡ before + 1
     → take base new ≡ take base old → base ≤ length new
     → AreKept g t (take base old) from n lo ms → AreKept g t new at (n + length ms) base more
     → last_at before ms < at → IsUnmarked t (last_at before ms + 1) at
     → AreKept g t new from n lo (ms ++ more)
 kept-join g t old new from before n lo base at [] more e same low h rest late quiet =
     let is : base ≡ lo = sym (length-take-le base new low) ∙ ap length same ∙ sym h in
-    let count : n + length {A = Option Mark} [] ≡ n = omega arith in
+    let count : n + length {A = Mark} [] ≡ n = omega arith in
     kept-from g t new from at n lo more (omega (arith, e, late)) (λ p above below. quiet p (omega (arith, e, above)) below) (subst (λ k. AreKept g t new at n k more) is (subst (λ k. AreKept g t new at k base more) count rest))
-kept-join g t old new from before n lo base at (None ∷ ms) more e same low h rest late quiet = absurd h
-kept-join g t old new from before n lo base at (Some m ∷ ms) more e same low h rest late quiet =
+kept-join g t old new from before n lo base at (m ∷ ms) more e same low h rest late quiet =
     let within : h.0 ≤ base = omega (arith, kept-most g t (take base old) (m.at + 1) (suc n) h.0 ms h.2, length-take base old) in
     let parts : take h.0 (take base old) ≡ take h.0 new = ap (take h.0) (sym same) ∙ take-take h.0 base new within in
-    let count : n + length (Some m ∷ ms) ≡ suc n + length ms = omega arith in (
+    let count : n + length (m ∷ ms) ≡ suc n + length ms = omega arith in (
       h.0,
       kept-same g t (take base old) new from n lo h.0 m parts h.1,
       kept-join g t old new (m.at + 1) m.at (suc n) h.0 base at ms more refl same low h.2 (subst (λ k. AreKept g t new at k base more) count rest) late quiet,
     )
 
 -- ---- the last mark
-pub record CutOff (g : Ground) (t : Tuple) (hs : List (Option Ahead)) (from before n lo : ℕ) (ms : List (Option Mark)) (m : Mark) : Type 0 where
+pub record CutOff (g : Ground) (t : Tuple) (hs : List (Option Ahead)) (from before n lo : ℕ) (ms : List Mark) (m : Mark) : Type 0 where
   pub others : AreKept g t (take m.base hs) from n lo ms
   pub last : IsKept g t hs (last_at before ms + 1) (n + length ms) m.base (length hs) m
 
 -- the marks before the last one need only the nodes up to its base
-pub cut-off : (g : Ground) (t : Tuple) (hs : List (Option Ahead)) (from before n lo : ℕ) (ms : List (Option Mark)) (m : Mark) → from ≡ before + 1
-    → AreKept g t hs from n lo (ms ++ Some m ∷ []) → CutOff g t hs from before n lo ms m
+pub cut-off : (g : Ground) (t : Tuple) (hs : List (Option Ahead)) (from before n lo : ℕ) (ms : List Mark) (m : Mark) → from ≡ before + 1
+    → AreKept g t hs from n lo (ms ++ m ∷ []) → CutOff g t hs from before n lo ms m
 cut-off g t hs from before n lo [] m e h =
     let base : lo ≡ m.base = sym h.1.placed.base in
-    let count : n ≡ n + length {A = Option Mark} [] = omega arith in
+    let count : n ≡ n + length {A = Mark} [] = omega arith in
     let low : m.base ≤ length hs = omega (arith, h.1.placed.rises, h.2, base) in
     record {
       others = base ∙ sym (length-take-le m.base hs low);
-      last = subst (λ k. IsKept g t hs k (n + length {A = Option Mark} []) m.base (length hs) m) e (subst (λ k. IsKept g t hs from k m.base (length hs) m) count
+      last = subst (λ k. IsKept g t hs k (n + length {A = Mark} []) m.base (length hs) m) e (subst (λ k. IsKept g t hs from k m.base (length hs) m) count
           (subst (λ k. IsKept g t hs from n k (length hs) m) base (subst (λ k. IsKept g t hs from n lo k m) h.2 h.1)));
     }
-cut-off g t hs from before n lo (None ∷ ms) m e h = absurd h
-cut-off g t hs from before n lo (Some x ∷ ms) m e h =
+cut-off g t hs from before n lo (x ∷ ms) m e h =
     let rest = cut-off g t hs (x.at + 1) x.at (suc n) h.0 ms m refl h.2 in
     let within : h.0 ≤ m.base = omega (arith, kept-most g t (take m.base hs) (x.at + 1) (suc n) h.0 ms rest.others, length-take m.base hs) in
-    let count : suc n + length ms ≡ n + length (Some x ∷ ms) = omega arith in
+    let count : suc n + length ms ≡ n + length (x ∷ ms) = omega arith in
     record {
       others = (h.0, kept-same g t hs (take m.base hs) from n lo h.0 x (sym (take-take h.0 m.base hs within)) h.1, rest.others);
       last = subst (λ k. IsKept g t hs (last_at x.at ms + 1) k m.base (length hs) m) count rest.last;
     }
 
--- there is a last one
-pub record HasLast (ms : List (Option Mark)) : Type 0 where
-  pub others : List (Option Mark)
-  pub mark : Mark
-  pub parts : ms ≡ others ++ Some mark ∷ []
+-- the last mark is the one behind the others
+pub last-same : (ms others : List Mark) (m last : Mark) → ms ≡ others ++ m ∷ [] → IsLast ms last → last ≡ m
+last-same ms others m last e is =
+    let size : length ms ≡ length others + 1 = ap length e ∙ length-append others (m ∷ []) in
+    let same : last ∷ [] ≡ m ∷ [] = (append-same (take (length ms - 1) ms) (last ∷ []) others (m ∷ []) (omega (arith, length-take-le (length ms - 1) ms (omega arith), size)) (sym is ∙ e)).1 in
+    cc
 
-pub has-last : (g : Ground) (t : Tuple) (hs : List (Option Ahead)) (from n lo : ℕ) (ms : List (Option Mark)) → AreKept g t hs from n lo ms → 0 < length ms → HasLast ms
-has-last g t hs from n lo [] h some = absurd (omega arith)
-has-last g t hs from n lo (None ∷ ms) h some = absurd h
-has-last g t hs from n lo (Some m ∷ []) h some = record { others = []; mark = m; parts = refl }
-has-last g t hs from n lo (Some m ∷ x ∷ ms) h some =
-    let rest = has-last g t hs (m.at + 1) (suc n) h.0 (x ∷ ms) h.2 (omega arith) in
-    record { others = Some m ∷ rest.others; mark = rest.mark; parts = ap (λ k. Some m ∷ k) rest.parts }
-
-pub take-others : (all ms : List (Option Mark)) (x : Option Mark) (n : ℕ) → all ≡ ms ++ x ∷ [] → n ≡ length all → take (n - 1) all ≡ ms
-take-others all ms x n e len = ap (take (n - 1)) e ∙ take_at ms (x ∷ []) (n - 1) (omega (arith, len, ap length e, length-append ms (x ∷ [])))
-
-pub last-push : (at : ℕ) (ms : List (Option Mark)) (m : Mark) → last_at at (ms ++ Some m ∷ []) ≡ m.at
+pub last-push : (at : ℕ) (ms : List Mark) (m : Mark) → last_at at (ms ++ m ∷ []) ≡ m.at
 last-push at [] m = refl
-last-push at (None ∷ ms) m = last-push at ms m
-last-push at (Some x ∷ ms) m = last-push x.at ms m
+last-push at (x ∷ ms) m = last-push x.at ms m
 
-pub last-append : (at : ℕ) (ms more : List (Option Mark)) → last_at at (ms ++ more) ≡ last_at (last_at at ms) more
+pub last-append : (at : ℕ) (ms more : List Mark) → last_at at (ms ++ more) ≡ last_at (last_at at ms) more
 last-append at [] more = refl
-last-append at (None ∷ ms) more = last-append at ms more
-last-append at (Some m ∷ ms) more = last-append m.at ms more
+last-append at (m ∷ ms) more = last-append m.at ms more
 
 -- ---- another tuple
 -- the marks of one tuple are those of another that has the same marks before a position behind them
-pub kept-other : (g : Ground) (t u : Tuple) (hs : List (Option Ahead)) (from before n lo at : ℕ) (ms : List (Option Mark)) → from ≡ before + 1 → last_at before ms < at → Agree t u at
+pub kept-other : (g : Ground) (t u : Tuple) (hs : List (Option Ahead)) (from before n lo at : ℕ) (ms : List Mark) → from ≡ before + 1 → last_at before ms < at → Agree t u at
     → AreKept g t hs from n lo ms → AreKept g u hs from n lo ms
 kept-other g t u hs from before n lo at [] e late same h = h
-kept-other g t u hs from before n lo at (None ∷ ms) e late same h = h
-kept-other g t u hs from before n lo at (Some m ∷ ms) e late same h =
+kept-other g t u hs from before n lo at (m ∷ ms) e late same h =
     let here : m.at < at = omega (arith, last-most g t hs (m.at + 1) m.at (suc n) h.0 ms refl h.2, late) in
-    (h.0, kept-agree g t u hs from n lo h.0 m (omega (arith, e)) (λ p above below. same p above (omega (arith, below, here))) (same m.at (omega (arith, h.1.leads.at_is)) here) h.1, kept-other g t u hs (m.at + 1) m.at (suc n) h.0 at ms refl late same h.2)
-  where
-    kept-agree : (g : Ground) (t u : Tuple) (hs : List (Option Ahead)) (from n lo hi : ℕ) (m : Mark) → 1 ≤ from → Agree t u m.at → mark_of t m.at ≡ mark_of u m.at
-        → IsKept g t hs from n lo hi m → IsKept g u hs from n lo hi m
-    kept-agree g t u hs from n lo hi m one same last k = record {
+    let k = h.1 in
+    let agree : Agree t u m.at = λ p above below. same p above (omega (arith, below, here)) in
+    let kept : IsKept g u hs from n lo h.0 m = record {
       chain = k.chain;
       is_mark = k.is_mark;
-      leads = leads-agree g t m.at m.state n (m.byte ∷ text_ahead g k.chain) k.leads u same;
-      first = record { after = k.first.after; mark_is = sym last ∙ k.first.mark_is; some = k.first.some; quiet = λ p above below. sym (same p (omega (arith, one, above)) below) ∙ k.first.quiet p above below };
+      leads = leads-agree g t m.at m.state n (m.byte ∷ text_ahead g k.chain) k.leads u agree;
+      first = record {
+        after = k.first.after;
+        mark_is = sym (same m.at (omega (arith, k.leads.at_is)) here) ∙ k.first.mark_is;
+        some = k.first.some;
+        quiet = λ p above below. sym (agree p (omega (arith, e, above)) below) ∙ k.first.quiet p above below;
+      };
       placed = k.placed;
       fits = k.fits;
-    }
+    } in
+    (h.0, kept, kept-other g t u hs (m.at + 1) m.at (suc n) h.0 at ms refl late same h.2)
 
 -- the marks lie in the text
-pub last-inside : (g : Ground) (t : Tuple) (hs : List (Option Ahead)) (from before n lo : ℕ) (ms : List (Option Mark)) → before ≤ length (whole_text g) → AreKept g t hs from n lo ms → last_at before ms ≤ length (whole_text g)
+pub last-inside : (g : Ground) (t : Tuple) (hs : List (Option Ahead)) (from before n lo : ℕ) (ms : List Mark) → before ≤ length (whole_text g) → AreKept g t hs from n lo ms → last_at before ms ≤ length (whole_text g)
 last-inside g t hs from before n lo [] le k = le
-last-inside g t hs from before n lo (None ∷ ms) le k = absurd k
-last-inside g t hs from before n lo (Some m ∷ ms) le k =
+last-inside g t hs from before n lo (m ∷ ms) le k =
     last-inside g t hs (m.at + 1) m.at (suc n) k.0 ms (omega (arith, leads-size g t m.at m.state n (m.byte ∷ text_ahead g k.1.chain) k.1.leads)) k.2
 
 -- no more marks are kept than a tuple of so many variables has
-pub kept-few : (g : Ground) (t : Tuple) (hs : List (Option Ahead)) (k from n lo : ℕ) (ms : List (Option Mark)) → length t ≡ k → n ≤ 2 * k → AreKept g t hs from n lo ms → n + length ms ≤ 2 * k
+pub kept-few : (g : Ground) (t : Tuple) (hs : List (Option Ahead)) (k from n lo : ℕ) (ms : List Mark) → length t ≡ k → n ≤ 2 * k → AreKept g t hs from n lo ms → n + length ms ≤ 2 * k
 kept-few g t hs k from n lo [] size le kept = omega (arith, le)
-kept-few g t hs k from n lo (None ∷ ms) size le kept = absurd kept
-kept-few g t hs k from n lo (Some m ∷ ms) size le kept =
+kept-few g t hs k from n lo (m ∷ ms) size le kept =
     let is = kept.1 in
     let few : n < 2 * k = leads-few g t m.at m.state n (m.byte ∷ text_ahead g is.chain) is.leads k m.at size (omega arith) (omega arith) (rw is.first.mark_is is.first.some) in
     omega (arith, kept-few g t hs k (m.at + 1) (suc n) kept.0 ms size (omega (arith, few)) kept.2)
 
 -- ---- the kept marks without the last one, and with a lower one in its place
-pub trail-last : (g : Ground) (t : Tuple) (ms : List (Option Mark)) (hs : List (Option Ahead)) → IsTrailOf g t ms hs → 0 < length ms → HasLast ms
-trail-last g t ms hs is some = has-last g t hs 1 0 is.base ms is.kept some
-
 -- no mark is left
-pub none-at_start : (g : Ground) (t : Tuple) (ms : List (Option Mark)) (hs : List (Option Ahead)) → IsTrailOf g t ms hs → length ms ≡ 0
+pub none-at_start : (g : Ground) (t : Tuple) (ms : List Mark) (hs : List (Option Ahead)) → IsTrailOf g t ms hs → length ms ≡ 0
     → NoneAfter g.dfa.now 0 (whole_text g) g.finals (word_over t 1 (whole_text g))
 none-at_start g t [] hs is e = is.none [] (whole_text g) 0 refl refl refl
 none-at_start g t (m ∷ ms) hs is e = absurd (omega arith)
@@ -312,7 +282,7 @@ none-at_start g t (m ∷ ms) hs is e = absurd (omega arith)
 abbrev pub lower : Mark → ℕ → Mark
 lower m x = record { at = m.at; mark = x; byte = m.byte; state = m.state; goals = m.goals; next = m.next; base = m.base }
 
-module _ (g : Ground) (t : Tuple) (ms others : List (Option Mark)) (hs : List (Option Ahead)) (m : Mark) (e : ms ≡ others ++ Some m ∷ []) (is : IsTrailOf g t ms hs) where
+module _ (g : Ground) (t : Tuple) (ms others : List Mark) (hs : List (Option Ahead)) (m : Mark) (e : ms ≡ others ++ m ∷ []) (is : IsTrailOf g t ms hs) where
   pub cut-trail : CutOff g t hs 1 0 0 is.base others m
   cut-trail = cut-off g t hs 1 0 0 is.base others m refl (subst (λ k. AreKept g t hs 1 0 is.base k) e is.kept)
 
@@ -367,26 +337,6 @@ module _ (g : Ground) (t : Tuple) (ms others : List (Option Mark)) (hs : List (O
     word-count : mark_count lower-word ≡ length others + mark_count ((l.mark, m.byte) ∷ [])
     word-count = mark_count-append (word_over t 1 front) ((l.mark, m.byte) ∷ []) ∙ omega (arith, last.leads.count)
 
-    word-written : AreSpans t → write_mark l.mark l.at (cut l.at t) ≡ write_word 1 lower-word (blanks (length t))
-    word-written spans =
-        let place : 1 + length (word_over t 1 front) ≡ l.at = omega (arith, over-length t 1 front, last.leads.at_is, at) in
-        let there : length front + 1 ≡ l.at = omega (arith, last.leads.at_is, at) in
-        sym (write_word-append 1 (word_over t 1 front) ((l.mark, m.byte) ∷ []) (blanks (length t)) ∙ ap (λ k. write_mark l.mark k (write_word 1 (word_over t 1 front) (blanks (length t)))) place
-        ∙ ap (write_mark l.mark l.at) (read-cut t front spans ∙ ap (λ k. cut k t) there))
-
-    -- the first text over the rest makes the next text
-    next-lowered : (w : Marked) (r : ℕ) → IsFirst g.dfa.now l.state rest g.finals w r → IsNext g.dfa.now 0 (whole_text g) g.finals (word_over t 1 (whole_text g)) (lower-word ++ w) r
-    next-lowered w r first =
-        let a = g.dfa.now in
-        let behind = word_over t (suc m.at) rest in
-        let letter : IsNext a m.state (m.byte ∷ rest) g.finals ((m.mark, m.byte) ∷ behind) ((l.mark, m.byte) ∷ w) r =
-        IsNext-fork a (m.byte ∷ []) rest m.state g.finals ((m.mark, m.byte) ∷ []) behind refl m.goals last.is_mark.letter.reach none-rest l.state r ((l.mark, m.byte) ∷ []) w
-        (IsNext-byte a m.state m.byte m.goals m.mark l.mark l.state best) first in
-        let whole = IsNext-front a front (m.byte ∷ rest) 0 g.finals (word_over t 1 front) ((m.mark, m.byte) ∷ behind) (over-bytes t 1 front) m.state r ((l.mark, m.byte) ∷ w) last.leads.before letter in
-        let words : word_over t 1 (whole_text g) ≡ word_over t 1 front ++ (m.mark, m.byte) ∷ behind =
-        ap (word_over t 1) last.leads.parts ∙ over-append t 1 front (m.byte ∷ rest) ∙ ap (λ k. word_over t 1 front ++ word_over t k (m.byte ∷ rest)) (sym last.leads.at_is) ∙ ap (λ v. word_over t 1 front ++ v) over-letter in
-        rw (words, append_assoc (word_over t 1 front) ((l.mark, m.byte) ∷ []) w) (subst (λ s. IsNext a 0 s g.finals (word_over t 1 front ++ (m.mark, m.byte) ∷ behind) (word_over t 1 front ++ (l.mark, m.byte) ∷ w) r) (sym last.leads.parts) whole)
-
     -- a tuple that begins with these letters has the same marks before, and the lower one
     agrees : (u : Tuple) → Starts u lower-word → Agree t u m.at × (mark_of u m.at ≡ l.mark)
     agrees u starts =
@@ -401,7 +351,7 @@ module _ (g : Ground) (t : Tuple) (ms others : List (Option Mark)) (hs : List (O
     quiet-before : (u : Tuple) → Starts u lower-word → IsUnmarked u (last_at 0 others + 1) m.at
     quiet-before u starts p above below = sym ((agrees u starts).0 p (omega (arith, above)) below) ∙ last.first.quiet p above below
 
-    turned : (base : ℕ) (more : List (Option Mark)) → mark_count lower-word ≡ length more → Fits g base hs → base ≤ length hs → last_at 0 more ≤ m.at
+    turned : (base : ℕ) (more : List Mark) → mark_count lower-word ≡ length more → Fits g base hs → base ≤ length hs → last_at 0 more ≤ m.at
         → ((u : Tuple) → Starts u lower-word → AreKept g u (take base hs) 1 0 is.base more) → ((u : Tuple) → Starts u lower-word → IsUnmarked u (last_at 0 more + 1) (m.at + 1))
         → base ≤ is.base + 69 * length more → IsTurned g t l (record { next = m.next; base = base }) more hs
     turned base more count fits low before kept quiet short = record {
@@ -424,8 +374,21 @@ module _ (g : Ground) (t : Tuple) (ms others : List (Option Mark)) (hs : List (O
         quiet = λ u starts. rw word-length (quiet u starts);
         short = short;
       };
-      written = word-written;
-      next = next-lowered;
+      written = λ spans.
+          let place : 1 + length (word_over t 1 front) ≡ l.at = omega (arith, over-length t 1 front, last.leads.at_is, at) in
+          let there : length front + 1 ≡ l.at = omega (arith, last.leads.at_is, at) in
+          sym (write_word-append 1 (word_over t 1 front) ((l.mark, m.byte) ∷ []) (blanks (length t)) ∙ ap (λ k. write_mark l.mark k (write_word 1 (word_over t 1 front) (blanks (length t)))) place
+          ∙ ap (write_mark l.mark l.at) (read-cut t front spans ∙ ap (λ k. cut k t) there));
+      next = λ w r first.
+          let a = g.dfa.now in
+          let behind = word_over t (suc m.at) rest in
+          let letter : IsNext a m.state (m.byte ∷ rest) g.finals ((m.mark, m.byte) ∷ behind) ((l.mark, m.byte) ∷ w) r =
+          IsNext-fork a (m.byte ∷ []) rest m.state g.finals ((m.mark, m.byte) ∷ []) behind refl m.goals last.is_mark.letter.reach none-rest l.state r ((l.mark, m.byte) ∷ []) w
+          (IsNext-byte a m.state m.byte m.goals m.mark l.mark l.state best) first in
+          let whole = IsNext-front a front (m.byte ∷ rest) 0 g.finals (word_over t 1 front) ((m.mark, m.byte) ∷ behind) (over-bytes t 1 front) m.state r ((l.mark, m.byte) ∷ w) last.leads.before letter in
+          let words : word_over t 1 (whole_text g) ≡ word_over t 1 front ++ (m.mark, m.byte) ∷ behind =
+          ap (word_over t 1) last.leads.parts ∙ over-append t 1 front (m.byte ∷ rest) ∙ ap (λ k. word_over t 1 front ++ word_over t k (m.byte ∷ rest)) (sym last.leads.at_is) ∙ ap (λ v. word_over t 1 front ++ v) over-letter in
+          rw (words, append_assoc (word_over t 1 front) ((l.mark, m.byte) ∷ []) w) (subst (λ s. IsNext a 0 s g.finals (word_over t 1 front ++ (m.mark, m.byte) ∷ behind) (word_over t 1 front ++ (l.mark, m.byte) ∷ w) r) (sym last.leads.parts) whole);
     }
 
     -- the lower mark is none
@@ -440,16 +403,16 @@ module _ (g : Ground) (t : Tuple) (ms others : List (Option Mark)) (hs : List (O
         (omega (arith, kept-short g t (take m.base hs) 1 0 is.base others cut-trail.others, size))
 
     -- it is there
-    pub turned-some : 0 < l.mark → IsTurned g t l (record { next = m.next; base = length hs }) (others ++ Some (lower m l.mark) ∷ []) hs
+    pub turned-some : 0 < l.mark → IsTurned g t l (record { next = m.next; base = length hs }) (others ++ lower m l.mark ∷ []) hs
     turned-some some =
-        let more = others ++ Some (lower m l.mark) ∷ [] in
+        let more = others ++ lower m l.mark ∷ [] in
         let there : last_at 0 more ≡ m.at = last-push 0 others (lower m l.mark) in
-        let size : length more ≡ length others + 1 = length-append others (Some (lower m l.mark) ∷ []) in
+        let size : length more ≡ length others + 1 = length-append others (lower m l.mark ∷ []) in
         turned (length hs) more (omega (arith, word-count, count-more l.mark m.byte [] some, size)) (fits-none g hs) (omega arith) (omega (arith, there))
-        (λ u starts. subst (λ x. AreKept g u x 1 0 is.base more) (sym (take-length hs)) (kept-join g u hs hs 1 0 0 is.base m.base (last_at 0 others + 1) others (Some (lower m l.mark) ∷ []) refl refl last.placed.rises
+        (λ u starts. subst (λ x. AreKept g u x 1 0 is.base more) (sym (take-length hs)) (kept-join g u hs hs 1 0 0 is.base m.base (last_at 0 others + 1) others (lower m l.mark ∷ []) refl refl last.placed.rises
         (others-kept u starts) (length hs, one-lower u starts, refl) (omega arith) (λ p above below. absurd (omega (arith, above, below)))))
         (λ u starts p above below. absurd (omega (arith, above, below, there)))
-        (omega (arith, kept-short g t hs 1 0 is.base ms is.kept, ap length e, length-append others (Some m ∷ []), size))
+        (omega (arith, kept-short g t hs 1 0 is.base ms is.kept, ap length e, length-append others (m ∷ []), size))
       where
         one-lower : (u : Tuple) → Starts u lower-word → IsKept g u hs (last_at 0 others + 1) n m.base (length hs) (lower m l.mark)
         one-lower u starts = record {

@@ -1,7 +1,7 @@
 -- Answers that are given one after the other are the pages of the list of answers.
 use Rattle.span_enum.proofs.Base.{AreAnswersOf, Comes, Contains, Contains-append_cases, Contains-append_left, Contains-append_right, DeterministicAutomaton, IsDeterministic, IsFirstMember, IsLeft, IsListed, IsMember, IsPage, IsRising}
-use Rattle.span_enum.proofs.Base.{IsTuple, List, NoMemberLeft, None, Option, Some, Tuple, [], ap, append-nil, append_assoc, arith, false, get_or, get_or-append, get_or-append-add, get_or_default, here, inl, inr, irreflexive, length}
-use Rattle.span_enum.proofs.Base.{length-append, nat_lt, none-some, not, refl, same_Some, split-member, subst, sym, take, take-append_seam, take_all, total, transitive, true, ℕ, ◌++◌, ◌+◌, ◌<◌, ◌∙◌, ◌∷◌, ◌≡◌, ◌≤◌, ◌⊎◌}
+use Rattle.span_enum.proofs.Base.{IsTuple, List, NoMemberLeft, None, Option, Some, Tuple, [], ap, append-nil, append_assoc, arith, false, get_or, get_or-append, get_or-append-add, get_or_default, here, inl, inr, irreflexive, le-ltb}
+use Rattle.span_enum.proofs.Base.{length, length-append, lt-ltb, nat_lt, none-some, not, refl, same_Some, split-member, subst, sym, take, take-append_seam, take_all, total, transitive, true, ℕ, ◌++◌, ◌+◌, ◌∙◌, ◌∷◌, ◌≡◌, ◌≤◌, ◌⊎◌}
 use Rattle.span_types.specs.Answers.{IsAfter}
 use Rattle.span_enum.proofs.Tuples.{are-spans}
 
@@ -65,12 +65,6 @@ after-none all = record { front = []; cut = refl; start = λ e. refl; passed = �
 -- a member is a tuple
 pub member-tuple : (a : DeterministicAutomaton) (s : List ℕ) → IsDeterministic a → length s ≤ 281474976710656 → (t : Tuple) → IsMember a s t → IsTuple t
 member-tuple a s auto short t m = record { few = omega (arith, m.size, auto.few_variables); spans = are-spans (length s) t short m.lies }
-
-lt-false : (m n : ℕ) → n ≤ m → nat_lt m n ≡ false
-lt-false m n h = grind arith
-
-lt-true : (m n : ℕ) → m < n → nat_lt m n ≡ true
-lt-true m n h = grind arith
 
 -- with a cursor it is a list behind those that don't come after it
 after-some : (all front rest : List Tuple) (c : Tuple) → all ≡ front ++ rest → ((t : Tuple) → Contains front t → Comes c t → ⊥) → ((t : Tuple) → Contains rest t → Comes c t) → IsAfter all (Some c) rest
@@ -160,7 +154,7 @@ module _ (a : DeterministicAutomaton) (s : List ℕ) (all : List Tuple) (are : A
         rest = given ++ h.rest;
         after = h.whole;
         first = sym (ap (λ l. take n (given ++ l)) e ∙ ap (take n) (append-nil given) ∙ take_all n given le);
-        more_left = sym (ap (λ l. nat_lt n (length (given ++ l))) e ∙ ap (λ l. nat_lt n (length l)) (append-nil given) ∙ lt-false n (length given) le);
+        more_left = sym (ap (λ l. nat_lt n (length (given ++ l))) e ∙ ap (λ l. nat_lt n (length l)) (append-nil given) ∙ le-ltb n (length given) le);
       }
 
   -- a full page with more left
@@ -171,5 +165,5 @@ module _ (a : DeterministicAutomaton) (s : List ℕ) (all : List Tuple) (are : A
         rest = given ++ h.rest;
         after = h.whole;
         first = sym (take-append_seam given h.rest);
-        more_left = sym (lt-true (length given) (length (given ++ h.rest)) (omega (arith, length-append given h.rest, ap length k.1)));
+        more_left = sym (lt-ltb (length given) (length (given ++ h.rest)) (omega (arith, length-append given h.rest, ap length k.1)));
       }

@@ -1,14 +1,10 @@
 -- The root of a text ahead of its first letter, and what it tells of the text.
-use Rattle.span_enum.proofs.Base.{Ahead, AreAhead, AreBetween, AreQuiet, AreTables, Begins, CanRun, DeterministicAutomaton, Dictionary, Ground, IsAhead, IsFresh, IsGround, IsLive, IsLook, List, Look, Mark, Node, NodeId, None, Option, Some}
-use Rattle.span_enum.proofs.Base.{Stands, [], ap, append-nil, arith, count_of, ends_of, false, length, length-take-le, refl, slice_get, subst, suc, sym, take, text_ahead, text_at, text_of, whole_text, ℕ, ◌++◌, ◌<◌, ◌∙◌, ◌∷◌, ◌≡◌}
-use Rattle.span_enum.proofs.Base.{◌≤◌}
+use Rattle.span_enum.proofs.Base.{Ahead, AreAhead, AreQuiet, AreTables, Begins, CanRun, DeterministicAutomaton, Dictionary, Ground, IsAhead, IsFresh, IsGround, IsLive, IsLook, List, Look, Mark, Node, NodeId, None, Option, Some, Stands, []}
+use Rattle.span_enum.proofs.Base.{ap, append-nil, arith, count_of, ends_of, false, length, length-take-le, refl, slice_get, subst, suc, sym, take, text_ahead, text_at, text_of, whole_text, ℕ, ◌++◌, ◌<◌, ◌∙◌, ◌∷◌, ◌≡◌, ◌≤◌}
 use Rattle.span_enum.proofs.Chains.{fits-none}
 use Rattle.span_enum.proofs.Runs.{AreBytes, Tells, bytes-none, end-facts, final-from, goal-from_nothing, run-nothing}
 use Rattle.span_enum.proofs.Tuples.{IsText}
 use Rattle.span_enum.proofs.Ways.{back-none, next-node, passes-none}
-
-between-end : (a : DeterministicAutomaton) (p : ℕ) (s : List ℕ) (goals : ℕ) → AreBetween a p s [] goals goals
-between-end a p s goals = record { reach = λ n x e t run. goal-from_nothing a n goals run; onward = λ n h. run-nothing a n goals h }
 
 -- nothing is left behind the quiet final states
 quiet-end : (g : Ground) → IsGround g → AreQuiet g.dfa.now g.quiet [] g.finals
@@ -26,7 +22,7 @@ ground-text g is short = record { bytes = root-bytes g.dfa.now g.view.store.now 
 
 -- ---- nothing is read
 pub fresh-root : (g : Ground) (id : NodeId) (look : Look) → IsGround g → g.root ≡ Some id → IsLook g.view.store.now g.view.tables.now id.index look.node look.len look.table.now
-    → (ms : List (Option Mark)) (hs : List (Option Ahead)) → ms ≡ [] → hs ≡ Some (record { id = id; look = look; at = 1; goals = g.finals; quiet = g.quiet; next = 0 }) ∷ [] → IsFresh g ms hs
+    → (ms : List Mark) (hs : List (Option Ahead)) → ms ≡ [] → hs ≡ Some (record { id = id; look = look; at = 1; goals = g.finals; quiet = g.quiet; next = 0 }) ∷ [] → IsFresh g ms hs
 fresh-root g id look is e l ms hs unmarked one =
     let root : Ahead = record { id = id; look = look; at = 1; goals = g.finals; quiet = g.quiet; next = 0 } in
     let live : id.index < length g.view.store.now = subst (λ r. IsLive g.view.store.now r) e is.ready.live in
@@ -38,7 +34,7 @@ fresh-root g id look is e l ms hs unmarked one =
       stands = record {
         ahead = (record { before = 0; counted = len; there = ap (λ k. slice_get k 0) one; earlier = omega arith }, refl);
         join = (refl, tt);
-        goals = (there, between-end g.dfa.now 0 (text_at g id.index) g.finals, tt, quiet-end g is);
+        goals = (there, record { reach = λ n x s t run. goal-from_nothing g.dfa.now n g.finals run; onward = λ n h. run-nothing g.dfa.now n g.finals h }, tt, quiet-end g is);
         state = is.automaton.has_start;
         quiet = λ e. cc;
       };
@@ -47,21 +43,18 @@ fresh-root g id look is e l ms hs unmarked one =
     }
 
 -- ---- the root in the list
--- it stands there alone, if there is one
-pub no-root : (g : Ground) (ms : List (Option Mark)) (hs : List (Option Ahead)) → IsFresh g ms hs → length hs ≡ 0 → whole_text g ≡ []
-no-root g ms hs is none = sym is.text_is ∙ ap (text_ahead g) (back-none hs (length hs) is.chain is.stands.ahead (omega (arith, none)))
-
+-- it stands there alone
 root-alone : (g : Ground) (hs : List (Option Ahead)) (x : Ahead) (c : List Ahead) → AreAhead hs (length hs) (x ∷ c) → length hs ≤ 1 → text_ahead g (x ∷ c) ≡ text_at g x.id.index
 root-alone g hs x c h one = ap (λ b. text_at g x.id.index ++ text_ahead g b) (back-none hs x.next c h.1 (omega (arith, h.0.counted, h.0.earlier, one))) ∙ append-nil (text_at g x.id.index)
 
-pub root-tells : (g : Ground) → IsGround g → (ms : List (Option Mark)) (hs : List (Option Ahead)) (h : Ahead) → IsFresh g ms hs → 0 < length hs
+pub root-tells : (g : Ground) → IsGround g → (ms : List Mark) (hs : List (Option Ahead)) (h : Ahead) → IsFresh g ms hs → 0 < length hs
     → ((before : ℕ) → length hs ≡ suc before → slice_get hs before ≡ Some (Some h)) → Tells g.dfa.now (whole_text g) h.look.table.now
 root-tells g ground ms hs h is some found =
     let n = next-node g ground hs 1 _ _ is.chain (passes-none g hs 1 (record { state = 0; next = length hs; quiet = false }) is.chain is.stands) h some found in
     let whole : text_at g h.id.index ≡ whole_text g = sym (root-alone g hs h n.rest n.stands.ahead is.one) ∙ ap (text_ahead g) (sym n.back) ∙ is.text_is in
     subst (λ s. Tells g.dfa.now s h.look.table.now) whole n.tells
 
-pub text-short : (g : Ground) (ms : List (Option Mark)) (hs : List (Option Ahead)) → IsFresh g ms hs → length (whole_text g) ≤ 281474976710656
+pub text-short : (g : Ground) (ms : List Mark) (hs : List (Option Ahead)) → IsFresh g ms hs → length (whole_text g) ≤ 281474976710656
 text-short g ms hs is = by is.chain is.stands is.text_is
   where
     by : (c : List Ahead) → Stands g hs 1 (record { state = 0; next = length hs; quiet = false }) c → text_ahead g c ≡ whole_text g → length (whole_text g) ≤ 281474976710656
@@ -69,7 +62,7 @@ text-short g ms hs is = by is.chain is.stands is.text_is
     by (x ∷ c) s e = omega (arith, ap length (sym (root-alone g hs x c s.ahead is.one) ∙ e), s.goals.0.look.len_is, s.goals.0.look.short)
 
 -- nothing is read yet, and some text is accepted
-pub fresh-begins : (g : Ground) (ms : List (Option Mark)) (hs : List (Option Ahead)) (count : ℕ) → (is : IsFresh g ms hs) → count ≡ length hs → CanRun g.dfa.now 0 (whole_text g) g.finals
+pub fresh-begins : (g : Ground) (ms : List Mark) (hs : List (Option Ahead)) (count : ℕ) → (is : IsFresh g ms hs) → count ≡ length hs → CanRun g.dfa.now 0 (whole_text g) g.finals
     → Begins g (record { state = 0; next = count; quiet = false }) count [] ms hs
 fresh-begins g ms hs count is e can =
     let size : length (take count hs) ≡ count = length-take-le count hs (omega (arith, e)) in

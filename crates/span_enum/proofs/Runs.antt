@@ -1,8 +1,9 @@
 -- Runs over letters, the first marked text, and the ends of texts.
 use Rattle.span_enum.proofs.Base.{Accepted, All, Bool, CanRun, Contains, Contains-get_or, DeterministicAutomaton, IsDeterministic, IsFirst, IsTable, IsTableOf, List, Marked, None, Option, Precedes, Row, Some, [], and_le_l, and_then, ap}
-use Rattle.span_enum.proofs.Base.{arith, bit-member, bit_and, bit_at, bit_at-lt, bit_at-trailing_zeros, bit_at-zero, bit_at_and, bool-cases, bytes_of, can_reach_of, cases_eq, end_in, ends_of, eq-eqb, eqb-true, false, four_le, get_or}
-use Rattle.span_enum.proofs.Base.{has_item, has_mark, if◌then◌else◌, inl, inr, is_final, is_goal, length, map-append, mark_count, marked, marked_of, marks_of, member, member-bit, member-single_same, min, next_of, not, not-both}
-use Rattle.span_enum.proofs.Base.{or-cases, or-left, or-right, path, plain, reached, refl, states_of, suc, sym, trailing_zeros, true, unmarked_of, w128, zero, zero-add, ℕ, ◌++◌, ◌+◌, ◌<◌, ◌==◌, ◌^◌, ◌||◌, ◌↔◌, ◌∙◌, ◌∷◌, ◌≡◌, ◌≤◌, ◌⊎◌}
+use Rattle.span_enum.proofs.Base.{arith, bit-member, bit_and, bit_at, bit_at-lt, bit_at-trailing_zeros, bit_at-zero, bit_at_and, bool-cases, bytes-plain, bytes_of, can_reach_of, cases_eq, end_in, ends_of, eq-eqb, eqb-true, false}
+use Rattle.span_enum.proofs.Base.{four_le, get_or, has_item, has_mark, if◌then◌else◌, inl, inr, is_final, is_goal, length, length-map, map-append, mark_count, marked, marked_of, marks_of, member, member-bit, member-single_same, min}
+use Rattle.span_enum.proofs.Base.{ne_eqb, next_of, not, not-both, or-cases, or-left, or-right, path, path-append, plain, plain-from_no_mark, reached, refl, split-marked, states_of, suc, sym, then-between, trailing_zeros, true, unmarked_of}
+use Rattle.span_enum.proofs.Base.{w128, zero, zero-add, ℕ, ◌++◌, ◌+◌, ◌<◌, ◌==◌, ◌^◌, ◌||◌, ◌↔◌, ◌∙◌, ◌∷◌, ◌≡◌, ◌≤◌, ◌⊎◌}
 use Rattle.span_enum.specs.Letters.{step_of}
 
 -- ---- options
@@ -14,16 +15,30 @@ pub then-some : (o : Option ℕ) → onto (λ q. Some q) o ≡ o
 then-some None = refl
 then-some (Some q) = refl
 
--- the value between two steps
-pub then-between : (f : ℕ → Option ℕ) (o : Option ℕ) (y : ℕ) → onto f o ≡ Some y → (x : ℕ) × (o ≡ Some x) × (f x ≡ Some y)
-then-between f None y h = cc
-then-between f (Some x) y h = (x, refl, h)
-
 pub same-state : (x y : ℕ) (o : Option ℕ) → o ≡ Some x → o ≡ Some y → x ≡ y
 same-state x y o h k = cc
 
 pub no-state : (x : ℕ) (o : Option ℕ) → o ≡ None → o ≡ Some x → ⊥
 no-state x o h k = cc
+
+-- ---- marks in the list of those with which a text may end
+pub in-end : (ms : List ℕ) (m : ℕ) → Contains ms m → end_in ms m ≡ Some 0
+in-end [] m c = absurd (omega (arith, c.1))
+in-end (x ∷ ms) m c = by (x == m) (λ e. eq-eqb x m e) (λ k. in-end ms m k) c
+  where
+    by : (z : Bool) → (x ≡ m → z ≡ true) → (Contains ms m → end_in ms m ≡ Some 0) → Contains (x ∷ ms) m → (if z then Some 0 else end_in ms m) ≡ Some 0
+    by true same rest k = refl
+    by false same rest (zero, lt, e) = not-both false (same e) refl
+    by false same rest (suc k, lt, e) = rest (k, omega (arith, lt), e)
+
+pub end-among : (ms : List ℕ) (m q : ℕ) → end_in ms m ≡ Some q → (q ≡ 0) × Contains ms m
+end-among [] m q h = cc
+end-among (x ∷ ms) m q h = by (x == m) h (λ e. eqb-true x m e) (end-among ms m q)
+  where
+    by : (z : Bool) → (if z then Some 0 else end_in ms m) ≡ Some q → (z ≡ true → x ≡ m)
+        → (end_in ms m ≡ Some q → (q ≡ 0) × Contains ms m) → (q ≡ 0) × Contains (x ∷ ms) m
+    by true e t f = let same : q ≡ 0 = cc in (same, (0, omega arith, t refl))
+    by false e t f = let k = f e in (k.0, (suc k.1.0, omega (arith, k.1.1), k.1.2))
 
 -- ---- steps
 pub step-byte : (a : DeterministicAutomaton) (p m b : ℕ) → b < 256 → step_of a p m b ≡ next_of a p m b
@@ -38,38 +53,21 @@ pub step-end : (a : DeterministicAutomaton) (p m : ℕ) → step_of a p m 256 �
 unfolding step_of
 step-end a p m = refl
 
-end-start : (ms : List ℕ) (m q : ℕ) → end_in ms m ≡ Some q → q ≡ 0
-end-start [] m q h = cc
-end-start (x ∷ ms) m q h = by (x == m) h (end-start ms m q)
-  where
-    by : (z : Bool) → (if z then Some 0 else end_in ms m) ≡ Some q → (end_in ms m ≡ Some q → q ≡ 0) → q ≡ 0
-    by true e f = cc
-    by false e f = f e
-
 pub step-within : (a : DeterministicAutomaton) (auto : IsDeterministic a) (p m b q : ℕ) → step_of a p m b ≡ Some q → q < states_of a
 unfolding step_of
 step-within a auto p m b q h = by (b == 256) h
   where
     by : (z : Bool) → (if z then end_in (ends_of a p) m else next_of a p m b) ≡ Some q → q < states_of a
-    by true e = let none : q ≡ 0 = end-start (ends_of a p) m q e in omega (arith, auto.has_start)
+    by true e = omega (arith, (end-among (ends_of a p) m q e).0, auto.has_start)
     by false e = auto.within p m b q e
 
 -- ---- runs
-pub run-append : (a : DeterministicAutomaton) (p : ℕ) (w v : Marked) → reached a p (w ++ v) ≡ onto (λ q. reached a q v) (reached a p w)
-run-append a p [] v = refl
-run-append a p (x ∷ w) v = by (step_of a p x.0 x.1) (λ q. run-append a q w v)
-  where
-    by : (o : Option ℕ) → ((q : ℕ) → reached a q (w ++ v) ≡ onto (λ r. reached a r v) (reached a q w))
-        → onto (λ q. reached a q (w ++ v)) o ≡ onto (λ q. reached a q v) (onto (λ q. reached a q w) o)
-    by None rest = refl
-    by (Some q) rest = rest q
-
 -- the run over a second word goes on from where the first one leads
 pub run-on : (a : DeterministicAutomaton) (p q : ℕ) (w v : Marked) → reached a p w ≡ Some q → reached a p (w ++ v) ≡ reached a q v
-run-on a p q w v e = run-append a p w v ∙ ap (onto (λ n. reached a n v)) e
+run-on a p q w v e = path-append (step_of a) p w v ∙ ap (onto (λ n. reached a n v)) e
 
 pub run-dead : (a : DeterministicAutomaton) (p : ℕ) (w v : Marked) → reached a p w ≡ None → reached a p (w ++ v) ≡ None
-run-dead a p w v e = run-append a p w v ∙ ap (onto (λ n. reached a n v)) e
+run-dead a p w v e = path-append (step_of a) p w v ∙ ap (onto (λ n. reached a n v)) e
 
 pub run-within : (a : DeterministicAutomaton) (auto : IsDeterministic a) (p q : ℕ) (w : Marked) → p < states_of a → reached a p w ≡ Some q → q < states_of a
 run-within a auto p q [] h e = let pq : p ≡ q = cc in omega arith
@@ -99,12 +97,7 @@ pub bytes-append : (w v : Marked) → bytes_of (w ++ v) ≡ bytes_of w ++ bytes_
 bytes-append w v = map-append (λ x. x.1) w v
 
 pub length-bytes : (w : Marked) → length (bytes_of w) ≡ length w
-length-bytes [] = refl
-length-bytes (x ∷ w) = omega (arith, length-bytes w)
-
-pub bytes-plain : (s : List ℕ) → bytes_of (plain s) ≡ s
-bytes-plain [] = refl
-bytes-plain (b ∷ s) = ap (λ t. b ∷ t) (bytes-plain s)
+length-bytes w = length-map w (λ x. x.1)
 
 pub plain-append : (s u : List ℕ) → plain (s ++ u) ≡ plain s ++ plain u
 plain-append s u = map-append (λ b. (0, b)) s u
@@ -115,26 +108,7 @@ plain-run a p q s u e = ap (reached a p) (plain-append s u) ∙ run-on a p q (pl
 pub plain-dead : (a : DeterministicAutomaton) (p : ℕ) (s u : List ℕ) → reached a p (plain s) ≡ None → reached a p (plain (s ++ u)) ≡ None
 plain-dead a p s u e = ap (reached a p) (plain-append s u) ∙ run-dead a p (plain s) (plain u) e
 
--- without a mark it is the plain text
-pub plain-from_no_mark : (w : Marked) → has_mark w ≡ false → w ≡ plain (bytes_of w)
-plain-from_no_mark [] h = refl
-plain-from_no_mark (x ∷ w) h = by (x.0 == 0) (eqb-true x.0 0) h (plain-from_no_mark w)
-  where
-    by : (z : Bool) → (z ≡ true → x.0 ≡ 0) → (not z || has_mark w) ≡ false → (has_mark w ≡ false → w ≡ plain (bytes_of w)) → x ∷ w ≡ (0, x.1) ∷ plain (bytes_of w)
-    by true e k rest = ap (λ n. (n, x.1) ∷ w) (e refl) ∙ ap (λ v. (0, x.1) ∷ v) (rest k)
-    by false e k rest = cc
-
--- a marked text over two texts is cut between them
-pub split-marked : (s u : List ℕ) (w : Marked) → bytes_of w ≡ s ++ u → (w1 : Marked) × ((w2 : Marked) × ((w ≡ w1 ++ w2) × (bytes_of w1 ≡ s) × (bytes_of w2 ≡ u)))
-split-marked [] u w h = ([], (w, (refl, refl, h)))
-split-marked (b ∷ s) u [] h = cc
-split-marked (b ∷ s) u (x ∷ w) h =
-    let tail : bytes_of w ≡ s ++ u = cc in
-    let head : x.1 ≡ b = cc in
-    let rest = split-marked s u w tail in
-    (x ∷ rest.0, (rest.1.0, (ap (λ v. x ∷ v) rest.1.1.0, rw (head, rest.1.1.1) refl, rest.1.1.2)))
-
--- and so is a run over it
+-- a run over two texts is cut between them
 pub record Parts (a : DeterministicAutomaton) (p : ℕ) (s u : List ℕ) (v : Marked) (r : ℕ) : Type 0 where
   pub left : Marked
   pub right : Marked
@@ -148,7 +122,7 @@ pub record Parts (a : DeterministicAutomaton) (p : ℕ) (s u : List ℕ) (v : Ma
 pub run-parts : (a : DeterministicAutomaton) (p : ℕ) (s u : List ℕ) (v : Marked) (r : ℕ) → bytes_of v ≡ s ++ u → reached a p v ≡ Some r → Parts a p s u v r
 run-parts a p s u v r e t =
     let cut = split-marked s u v e in
-    let mid = then-between (λ n. reached a n cut.1.0) (reached a p cut.0) r (sym (run-append a p cut.0 cut.1.0) ∙ ap (reached a p) (sym cut.1.1.0) ∙ t) in
+    let mid = then-between (λ n. reached a n cut.1.0) (reached a p cut.0) r (sym (path-append (step_of a) p cut.0 cut.1.0) ∙ ap (reached a p) (sym cut.1.1.0) ∙ t) in
     record { left = cut.0; right = cut.1.0; middle = mid.0; joined = cut.1.1.0; left_bytes = cut.1.1.1; right_bytes = cut.1.1.2; left_ends = mid.1; right_ends = mid.2 }
 
 -- what is behind the cut leads into a goal
@@ -169,15 +143,12 @@ run-join a q n goals s u w e t rest = record {
 abbrev pub AreBytes : List ℕ → Type 0
 AreBytes s = All (λ b. b < 256) s
 
-tail-bytes : (b : ℕ) (s : List ℕ) → AreBytes (b ∷ s) → AreBytes s
-tail-bytes b s h = λ k d lt. h (suc k) d (omega arith)
-
 -- over bytes a run is the automaton's own
 pub run-bytes : (a : DeterministicAutomaton) (p : ℕ) (w : Marked) → AreBytes (bytes_of w) → reached a p w ≡ path (next_of a) w p
 run-bytes a p [] h = refl
 run-bytes a p (x ∷ w) h =
     let low : x.1 < 256 = h 0 0 (omega arith) in
-    ap (onto (λ q. reached a q w)) (step-byte a p x.0 x.1 low) ∙ by (next_of a p x.0 x.1) (λ q. run-bytes a q w (tail-bytes x.1 (bytes_of w) h))
+    ap (onto (λ q. reached a q w)) (step-byte a p x.0 x.1 low) ∙ by (next_of a p x.0 x.1) (λ q. run-bytes a q w (λ k d lt. h (suc k) d (omega arith)))
   where
     by : (o : Option ℕ) → ((q : ℕ) → reached a q w ≡ path (next_of a) w q) → onto (λ q. reached a q w) o ≡ onto (path (next_of a) w) o
     by None rest = refl
@@ -228,11 +199,8 @@ shared-some a b ha some =
     let both : min (bit_at a q) (bit_at b q) ≡ 1 = sym (bit_at_and a b q) ∙ at.1 in
     (q, member-bit a q (omega (arith, both, bit_at-lt a q)), member-bit b q (omega (arith, both, bit_at-lt b q)))
 
-pub above-zero : (n : ℕ) → 0 < n → (n == 0) ≡ false
-above-zero n h = grind arith
-
 pub positive-test : (n : ℕ) → (n ≡ 0 → ⊥) → not (n == 0) ≡ true
-positive-test n some = rw (above-zero n (elim (cases_eq n 0) [ inl e ↦ absurd (some e) | inr ne ↦ omega arith ])) refl
+positive-test n some = ap not (ne_eqb n 0 some)
 
 -- ---- runs and tables
 -- whether a run leads into a goal: that without marks does, or one with marks
@@ -377,9 +345,6 @@ goal-from_nothing a p goals run =
     let ends : reached a p [] ≡ Some run.state = ap (reached a p) (sym (bytes-none run.word run.bytes)) ∙ run.ends in
     ap (member goals) (same-state p run.state (Some p) refl ends) ∙ run.goal
 
-pub first-nothing : (a : DeterministicAutomaton) (p goals : ℕ) → member goals p ≡ true → IsFirst a p [] goals [] p
-first-nothing a p goals h = record { bytes = refl; ends = refl; goal = h; least = λ v r bytes ends goal. inl (bytes-none v bytes) }
-
 -- ---- how many marks
 pub mark_count-append : (w v : Marked) → mark_count (w ++ v) ≡ mark_count w + mark_count v
 mark_count-append [] v = sym (zero-add (mark_count v))
@@ -390,7 +355,7 @@ count-plain [] = refl
 count-plain (b ∷ s) = omega (arith, count-plain s)
 
 pub count-more : (m b : ℕ) (w : Marked) → 0 < m → mark_count ((m, b) ∷ w) ≡ 1 + mark_count w
-count-more m b w some = ap (λ z. (if z then 0 else 1) + mark_count w) (above-zero m some)
+count-more m b w some = ap (λ z. (if z then 0 else 1) + mark_count w) (ne_eqb m 0 (λ e. omega (arith, e, some)))
 
 pub has-count : (w : Marked) → has_mark w ≡ true → 0 < mark_count w
 has-count [] h = cc
@@ -407,25 +372,6 @@ not-empty (x ∷ xs) = positive-test (length (x ∷ xs)) (λ e. omega (arith, e)
 
 pub member-one : member 1 0 ≡ true
 member-one = member-single_same 0
-
--- ---- marks in the list of those with which a text may end
-pub in-end : (ms : List ℕ) (m : ℕ) → Contains ms m → end_in ms m ≡ Some 0
-in-end [] m c = absurd (omega (arith, c.1))
-in-end (x ∷ ms) m c = by (x == m) (λ e. eq-eqb x m e) (λ k. in-end ms m k) c
-  where
-    by : (z : Bool) → (x ≡ m → z ≡ true) → (Contains ms m → end_in ms m ≡ Some 0) → Contains (x ∷ ms) m → (if z then Some 0 else end_in ms m) ≡ Some 0
-    by true same rest k = refl
-    by false same rest (zero, lt, e) = not-both false (same e) refl
-    by false same rest (suc k, lt, e) = rest (k, omega (arith, lt), e)
-
-pub end-among : (ms : List ℕ) (m q : ℕ) → end_in ms m ≡ Some q → (q ≡ 0) × Contains ms m
-end-among [] m q h = cc
-end-among (x ∷ ms) m q h = by (x == m) h (λ e. eqb-true x m e) (end-among ms m q)
-  where
-    by : (z : Bool) → (if z then Some 0 else end_in ms m) ≡ Some q → (z ≡ true → x ≡ m)
-        → (end_in ms m ≡ Some q → (q ≡ 0) × Contains ms m) → (q ≡ 0) × Contains (x ∷ ms) m
-    by true e t f = let same : q ≡ 0 = cc in (same, (0, omega arith, t refl))
-    by false e t f = let k = f e in (k.0, (suc k.1.0, omega (arith, k.1.1), k.1.2))
 
 -- ---- the step over the end
 pub end-step : (a : DeterministicAutomaton) (q m : ℕ) → Contains (ends_of a q) m → step_of a q m 256 ≡ Some 0
@@ -484,27 +430,13 @@ module _ (a : DeterministicAutomaton) (auto : IsDeterministic a) (finals : ℕ) 
   pub reach-end : (s : List ℕ) (p : ℕ) → p < states_of a → (n : ℕ) (x : Marked) → bytes_of x ≡ s → reached a p x ≡ Some n → CanRun a n (256 ∷ []) 1 → member finals n ≡ true
   reach-end s p low n x e t run = all n (run-within a auto p n x low t) ∙ run-end a n run
 
-  pub onward-end : (n : ℕ) → n < states_of a → member finals n ≡ true → CanRun a n (256 ∷ []) 1
-  onward-end n low h = end-run a n (sym (all n low) ∙ h)
-
   pub accepted-from_run : (s : List ℕ) → CanRun a 0 s finals → Accepted a s
   accepted-from_run s run =
-      let below : run.state < states_of a = run-within a auto 0 run.state run.word auto.has_start run.ends in
-      run-join a 0 run.state 1 s (256 ∷ []) run.word run.bytes run.ends (onward-end run.state below run.goal)
+      let final = sym (all run.state (run-within a auto 0 run.state run.word auto.has_start run.ends)) ∙ run.goal in
+      run-join a 0 run.state 1 s (256 ∷ []) run.word run.bytes run.ends (end-run a run.state final)
 
   pub run-from_accepted : (s : List ℕ) → Accepted a s → CanRun a 0 s finals
   run-from_accepted s run =
       let c = run-parts a 0 s (256 ∷ []) run.word run.state run.bytes run.ends in
       let goal = reach-end s 0 auto.has_start c.middle c.left c.left_bytes c.left_ends (run-behind a 0 s (256 ∷ []) run.word run.state 1 c run.goal) in
       record { word = c.left; state = c.middle; bytes = c.left_bytes; ends = c.left_ends; goal = goal }
-
-  module _ (s : List ℕ) (t : List Row) (is : Tells a s t) (low : marked_of t 0 < 2 ^ 128) where
-    pub accepted-from_table : can_reach_of t 0 finals ≡ true → Accepted a s
-    accepted-from_table can = accepted-from_run s (run-from_table a s t 0 finals is auto.has_start low can)
-
-    pub table-from_accepted : Accepted a s → can_reach_of t 0 finals ≡ true
-    table-from_accepted run = table-from_run a s t 0 finals is auto.has_start (run-from_accepted s run)
-
--- the empty text is accepted where it may end at once
-pub accepted-empty : (a : DeterministicAutomaton) → (is_final a 0 ≡ true → Accepted a []) × (Accepted a [] → is_final a 0 ≡ true)
-accepted-empty a = ((λ h. end-run a 0 h), (λ r. run-end a 0 r))

@@ -1,11 +1,11 @@
 -- What the tables of a text and of its parts tell of the runs over them.
 use Rattle.span_enum.proofs.Base.{AllPairs, AreAmong, AreBetween, AreQuiet, AreTables, Bool, Byte, CanRun, Contains, Contains-get_or, DeterministicAutomaton, Dictionary, IsDeterministic, IsGreatestMark, IsLook, IsNoMark, IsNodeAt}
-use Rattle.span_enum.proofs.Base.{IsPlainLeft, IsTable, LeadQuiet, LeadsQuiet, List, Marked, Node, NodeId, None, Option, Pair, Row, Some, StayQuiet, [], ap, arith, bit_and, bit_or, bytes_of, can_reach_of, cases_eq, cases_lt, count_of}
-use Rattle.span_enum.proofs.Base.{ends_of, false, get_or, get_or_default, has_mark, height, if◌then◌else◌, inl, inr, is_goal, length, mark_count, marked, marked_of, marks_of, max, member, member-or, member-single_other}
+use Rattle.span_enum.proofs.Base.{IsPlainLeft, IsTable, LeadQuiet, LeadsQuiet, List, Marked, Node, NodeId, None, Option, Pair, Row, Some, StayQuiet, [], ap, arith, bit_and, bit_or, bytes-plain, bytes_of, can_reach_of, cases_eq, cases_lt}
+use Rattle.span_enum.proofs.Base.{count_of, ends_of, false, get_or, get_or_default, has_mark, height, if◌then◌else◌, inl, inr, is_goal, length, mark_count, marked, marked_of, marks_of, max, member, member-or, member-single_other}
 use Rattle.span_enum.proofs.Base.{member-single_same, member-zero, not-both, or-cases, or-false, or-left, or-right, plain, reached, reached_of, refl, row_at, single_of, states_of, subst, suc, sym, text, tree, true, unmarked_of, zero, ℕ}
 use Rattle.span_enum.proofs.Base.{◌++◌, ◌+◌, ◌<◌, ◌==◌, ◌^◌, ◌||◌, ◌∙◌, ◌∷◌, ◌≡◌, ◌≢◌, ◌≤◌, ◌⊎◌}
 use Rattle.span_enum.specs.Letters.{step_of}
-use Rattle.span_enum.proofs.Runs.{Tells, bytes-append, bytes-plain, end-facts, end-step, fit-byte, goal-plain, has-count, marked-run, marks-or_plain, one-letter, only-plain, plain-append, plain-run, run-behind, run-from_table, run-on}
+use Rattle.span_enum.proofs.Runs.{Tells, bytes-append, end-facts, end-step, fit-byte, goal-plain, has-count, low-mark, marked-run, marks-or_plain, one-letter, only-plain, plain-append, plain-run, run-behind, run-from_table, run-on}
 use Rattle.span_enum.proofs.Runs.{run-parts, run-within, same-state, shared-none, some-can, table-from_run, tells}
 
 -- ---- a node and its children
@@ -27,27 +27,25 @@ pub pair-height : (nodes : List Node) (id : ℕ) (l r : NodeId) → IsNodeAt nod
 pair-height nodes id l r h = ap height h.0
 
 -- ---- a letter
-pub some-byte : (a : DeterministicAutomaton) (s : List ℕ) (t : List Row) (p b goals : ℕ) → IsDeterministic a → Tells a s t → p < states_of a → marked_of t p < 2 ^ 128 → s ≡ b ∷ []
-    → can_reach_of t p goals ≡ true → ((m : ℕ) → IsNoMark a p b goals 65536 m) → ⊥
-some-byte a s t p b goals auto is h low at can none =
-    let byte : b < 256 = (rw at at is.bytes) 0 0 (omega arith) in
-    let run = run-from_table a s t p goals is h low can in
-    let one = one-letter a p b run.state run.word (run.bytes ∙ at) run.ends in
-    none one.mark (fit-byte a auto p one.mark b run.state byte one.step).1 run.state one.step run.goal
+-- a mark over a letter that leads into a goal
+pub record IsMarkInto (a : DeterministicAutomaton) (p b goals mark state : ℕ) : Type 0 where
+  pub some : 0 < mark
+  pub small : mark < 65536
+  pub step : step_of a p mark b ≡ Some state
+  pub goal : member goals state ≡ true
 
--- the greatest mark of a run with marks over one letter is one
-pub mark-positive : (a : DeterministicAutomaton) (auto : IsDeterministic a) (s : List ℕ) (t : List Row) (p b goals m q : ℕ) → Tells a s t → p < states_of a → marked_of t p < 2 ^ 128 → s ≡ b ∷ [] → b < 256
-    → (bit_and (marked_of t p) goals ≡ 0 → ⊥) → IsGreatestMark a p b goals 65536 m q → 0 < m
-mark-positive a auto s t p b goals m q is low small at byte some best =
-    let run = marked-run a s t p goals is low small some in
+-- a run with marks over one letter has one
+pub mark-into : (a : DeterministicAutomaton) (auto : IsDeterministic a) (s : List ℕ) (t : List Row) (p b goals : ℕ) → Tells a s t → p < states_of a → marked_of t p < 2 ^ 128 → s ≡ b ∷ []
+    → (bit_and (marked_of t p) goals ≡ 0 → ⊥) → (m : ℕ) × ((q : ℕ) × IsMarkInto a p b goals m q)
+mark-into a auto s t p b goals is low few at some =
+    let run = marked-run a s t p goals is low few some in
     let one = one-letter a p b run.0 run.2.word (run.2.bytes ∙ at) run.2.ends in
-    let most : one.mark ≤ m = best.most one.mark run.0 (fit-byte a auto p one.mark b run.0 byte one.step).1 one.step run.1 in
     let count : 0 < mark_count ((one.mark, b) ∷ []) = rw one.word at (has-count run.2.word run.2.mark) in
-    by one.mark most count
+    (one.mark, (run.0, record { some = by one.mark count; small = low-mark a auto p one.mark b run.0 one.step; step = one.step; goal = run.1 }))
   where
-    by : (n : ℕ) → n ≤ m → 0 < (if n == 0 then 0 else 1) + 0 → 0 < m
-    by zero le h = omega arith
-    by (suc n) le h = omega arith
+    by : (n : ℕ) → 0 < (if n == 0 then 0 else 1) + 0 → 0 < n
+    by zero h = omega (arith, h)
+    by (suc n) h = omega arith
 
 -- ---- sets made one state at a time
 if-same : (p : ℕ) (t : Bool) → member (if t then 2 ^ p else 0) p ≡ t

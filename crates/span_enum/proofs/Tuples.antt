@@ -1,14 +1,13 @@
 -- Where the spans of a tuple start and end, the order of words, and the members of the list of answers.
-use Rattle.span_enum.proofs.Base.{Accepted, AcceptsEnd, AcceptsWord, AreSpans, AreTables, Bool, CanRun, Comes, Contains, DeterministicAutomaton, Dictionary, EndsPast, Gives, HasMember, IfSome, IsAfter, IsBound, IsBoundBetween}
-use Rattle.span_enum.proofs.Base.{IsDeterministic, IsFirstLeft, IsFirstMember, IsLook, IsMarked, IsMarkedBetween, IsMember, IsPast, IsSpan, IsTupleOf, Lies, List, Marked, MarkedText, NoMemberLeft, Node, None, NoneLeft, Option, PathAccepts}
-use Rattle.span_enum.proofs.Base.{Precedes, Row, Some, Span, Spans, Tuple, Wellmarked, [], ap, arith, at_place, blanks, bool-cases, bytes_of, cases_eq, cases_lt, closing, count_of, ended, ends_of, eq-eqb, false, four_le, inl, inr, length}
-use Rattle.span_enum.proofs.Base.{mark, mark-free, mark_count, mark_of, marked, marked_text, marks-few, nat_le, nat_lt, next_of, not, not-both, opening, or-cases, or-left, or-right, part_of, path, reached, reaches, reads, refl}
-use Rattle.span_enum.proofs.Base.{same_Some, seeks, span-is, spans-at, spans_of, subst, suc, sym, text, tree, true, word-end, word_of, word_over, write_word, zero, ℕ, ◌&&◌, ◌*◌, ◌++◌, ◌+◌, ◌<◌, ◌^◌, ◌↔◌, ◌∙◌, ◌∷◌, ◌≡◌, ◌≤◌, ◌⊎◌}
+use Rattle.span_enum.proofs.Base.{Accepted, AcceptsEnd, AcceptsWord, AreSpans, AreTables, Bool, CanRun, Comes, Contains, DeterministicAutomaton, Dictionary, EndsPast, Gives, HasMember, IfSome, IsAfter, IsBound, IsDeterministic, IsFirstLeft}
+use Rattle.span_enum.proofs.Base.{IsFirstMember, IsLook, IsMarked, IsMember, IsPast, IsSpan, IsTupleOf, Lies, List, Marked, MarkedText, NoMemberLeft, Node, None, NoneLeft, Option, PathAccepts, Precedes, Row, Some, Span, Spans, Tuple}
+use Rattle.span_enum.proofs.Base.{Wellmarked, [], and-true, and_right, ap, arith, at_place, blanks, bool-cases, bytes_of, cases_eq, cases_lt, closing, count_of, ended, ends_of, eq-eqb, false, four_le, inl, inr, le-leb, leb-true, length}
+use Rattle.span_enum.proofs.Base.{mark, mark-free, mark_count, mark_of, marked, marked_text, marks-few, nat_le, next_of, not, not-both, opening, or-cases, or-left, or-right, part_of, path, path-append, reached, reaches, reads, refl}
+use Rattle.span_enum.proofs.Base.{seeks, span-is, spans-at, spans_of, subst, suc, sym, text, then-between, tree, true, word-end, word_of, word_over, write_word, zero, ℕ, ◌&&◌, ◌*◌, ◌++◌, ◌+◌, ◌<◌, ◌^◌, ◌↔◌, ◌∙◌, ◌∷◌, ◌≡◌, ◌≤◌, ◌⊎◌}
 use Rattle.span_enum.specs.Tuples.{end_mark}
 use Rattle.span_enum.specs.Letters.{step_of}
 use Rattle.span_types.proofs.WordLaws.{tells}
-use Rattle.span_enum.proofs.Runs.{AreBytes, OneLetter, Parts, bytes-append, end-facts, end-step, length-bytes, member-one, one-letter, onto, precedes-append, precedes-prefix, precedes-split, run-append, run-bytes, run-dead, run-on, run-one}
-use Rattle.span_enum.proofs.Runs.{run-parts, then-between}
+use Rattle.span_enum.proofs.Runs.{AreBytes, OneLetter, Parts, bytes-append, end-facts, end-step, length-bytes, member-one, one-letter, onto, precedes-append, precedes-prefix, precedes-split, run-bytes, run-dead, run-on, run-one, run-parts}
 use Rattle.span_enum.proofs.Tables.{look-table}
 use Rattle.span_enum.proofs.Words.{over-bytes}
 
@@ -46,65 +45,39 @@ mark-none t p none = mark-free (length t) (spans_of t) p (λ v lt. record {
     bound v q e h = rw e h
 
 -- ---- spans that end past a position
-le-true : (m n : ℕ) → m ≤ n → nat_le m n ≡ true
-le-true m n h = grind arith
-
-le-from : (m n : ℕ) → nat_le m n ≡ true → m ≤ n
-le-from m n h = grind arith
-
-pub reaches-some : (p : ℕ) (t : Tuple) (v : ℕ) (q : Span) → spans_of t v ≡ Some q → p ≤ q.end → reaches p t ≡ true
-reaches-some p [] v q e h = cc
-reaches-some p (None ∷ t) zero q e h = cc
-reaches-some p (None ∷ t) (suc v) q e h = reaches-some p t v q e h
-reaches-some p (Some x ∷ t) zero q e h = or-left _ _ (ap (λ y. nat_le p y.end) (same_Some x q e) ∙ le-true p q.end h)
-reaches-some p (Some x ∷ t) (suc v) q e h = or-right _ _ (reaches-some p t v q e h)
+pub reaches-some : (p : ℕ) (t : Tuple) (v : ℕ) → EndsPast (spans_of t v) p → reaches p t ≡ true
+reaches-some p [] v h = absurd h
+reaches-some p (None ∷ t) zero h = absurd h
+reaches-some p (None ∷ t) (suc v) h = reaches-some p t v h
+reaches-some p (Some x ∷ t) zero h = or-left _ _ (le-leb p x.end h)
+reaches-some p (Some x ∷ t) (suc v) h = or-right _ _ (reaches-some p t v h)
 
 -- some span reaches there
 record Reaching (p : ℕ) (t : Tuple) : Type 0 where
   place : ℕ
-  span : Span
   there : place < length t
-  is : spans_of t place ≡ Some span
-  far : p ≤ span.end
+  far : EndsPast (spans_of t place) p
 
 reaching : (p : ℕ) (t : Tuple) → reaches p t ≡ true → Reaching p t
 reaching p [] e = cc
-reaching p (None ∷ t) e = let r = reaching p t e in record { place = suc r.place; span = r.span; there = omega (arith, r.there); is = r.is; far = r.far }
+reaching p (None ∷ t) e = let r = reaching p t e in record { place = suc r.place; there = omega (arith, r.there); far = r.far }
 reaching p (Some q ∷ t) e = by (or-cases (nat_le p q.end) (reaches p t) e) (λ h. reaching p t h)
   where
     by : (nat_le p q.end ≡ true) ⊎ (reaches p t ≡ true) → (reaches p t ≡ true → Reaching p t) → Reaching p (Some q ∷ t)
-    by (inl le) rest = record { place = 0; span = q; there = omega arith; is = refl; far = le-from p q.end le }
-    by (inr h) rest = let r = rest h in record { place = suc r.place; span = r.span; there = omega (arith, r.there); is = r.is; far = r.far }
+    by (inl le) rest = record { place = 0; there = omega arith; far = leb-true p q.end le }
+    by (inr h) rest = let r = rest h in record { place = suc r.place; there = omega (arith, r.there); far = r.far }
 
-reaches-none : (p : ℕ) (t : Tuple) → ((v : ℕ) (q : Span) → v < length t → spans_of t v ≡ Some q → p ≤ q.end → ⊥) → reaches p t ≡ false
-reaches-none p t none = elim (bool-cases (reaches p t)) [ inl e ↦ let r = reaching p t e in absurd (none r.place r.span r.there r.is r.far) | inr e ↦ e ]
+pub reaches-none : (p : ℕ) (t : Tuple) → ((v : ℕ) → v < length t → EndsPast (spans_of t v) p → ⊥) → reaches p t ≡ false
+reaches-none p t none = elim (bool-cases (reaches p t)) [ inl e ↦ let r = reaching p t e in absurd (none r.place r.there r.far) | inr e ↦ e ]
+
+-- the span that ends there or past it
+past-span : (o : Option Span) (p : ℕ) → EndsPast o p → (q : Span) × (o ≡ Some q) × (p ≤ q.end) × IsBound o q.end
+past-span None p h = absurd h
+past-span (Some q) p h = (q, refl, h, inr refl)
 
 -- and the other way
 none-reaches : (p : ℕ) (t : Tuple) (v : ℕ) (q : Span) → reaches p t ≡ false → spans_of t v ≡ Some q → q.end < p
-none-reaches p t v q h e = elim (cases_lt q.end p) [ inl lt ↦ lt | inr ge ↦ not-both (reaches p t) (reaches-some p t v q e ge) h ]
-
-pub past-some : (p : ℕ) (t : Tuple) (v : ℕ) (o : Option Span) → o ≡ spans_of t v → EndsPast o p → reaches p t ≡ true
-past-some p t v None e h = absurd h
-past-some p t v (Some q) e h = reaches-some p t v q (sym e) h
-
-pub past-none : (p : ℕ) (t : Tuple) → ((v : ℕ) → v < length t → EndsPast (spans_of t v) p → ⊥) → reaches p t ≡ false
-past-none p t none = reaches-none p t (λ v q lt e far. none v lt (past (spans_of t v) q e far))
-  where
-    past : (o : Option Span) (q : Span) → o ≡ Some q → p ≤ q.end → EndsPast o p
-    past o q e h = rw e h
-
--- ---- a span with a bound in a range
-pub bound-start : (o : Option Span) (q : Span) (from to : ℕ) → o ≡ Some q → from ≤ q.start → q.start < to → IsBoundBetween o from to
-bound-start o q from to e a b = record { place = q.start; after = a; before = b; bound = rw e (inl refl) }
-
-pub bound-end : (o : Option Span) (q : Span) (from to : ℕ) → o ≡ Some q → from ≤ q.end → nat_lt q.end to ≡ true → IsBoundBetween o from to
-bound-end o q from to e a b = record { place = q.end; after = a; before = lt-from q.end to b; bound = rw e (inr refl) }
-  where
-    lt-from : (m n : ℕ) → nat_lt m n ≡ true → m < n
-    lt-from m n h = grind arith
-
-pub marked-between : (t : Tuple) (v from to : ℕ) (o : Option Span) → v < length t → o ≡ spans_of t v → IsBoundBetween o from to → IsMarkedBetween t from to
-marked-between t v from to o lt e h = record { place = h.place; after = h.after; before = h.before; some = mark-some t v h.place lt (rw (← e) h.bound) }
+none-reaches p t v q h e = elim (cases_lt q.end p) [ inl lt ↦ lt | inr ge ↦ not-both (reaches p t) (reaches-some p t v (rw e ge)) h ]
 
 -- ---- how many marks
 -- at most two marks for each variable
@@ -122,20 +95,13 @@ end_mark-same t p h = rw h (omega arith)
 
 -- a tuple in the text reaches no further
 pub lies-reaches : (n : ℕ) (t : Tuple) → Lies n t → reaches (n + 1 + 1) t ≡ false
-lies-reaches n t lies = reaches-none (n + 1 + 1) t (λ v q lt e far. omega (arith, (lies v q e).2, far))
-
-pub reaches-lies : (n : ℕ) (t : Tuple) → AreSpans t → reaches (n + 1 + 1) t ≡ false → Lies n t
-reaches-lies n t spans h v q e =
-    let is : IsSpan q = span-is (spans_of t v) q (spans-at t v spans) e in
-    (is.positive, is.ordered, omega (arith, none-reaches (n + 1 + 1) t v q h e))
+lies-reaches n t lies = reaches-none (n + 1 + 1) t (λ v lt far. let k = past-span (spans_of t v) (n + 1 + 1) far in omega (arith, (lies v k.0 k.1).2, k.2))
 
 reaches-past : (n : ℕ) (t : Tuple) → reaches (n + 1 + 1) t ≡ true → IsPast n t
 reaches-past n t h =
     let r = reaching (n + 1 + 1) t h in
-    record { place = r.span.end; past = omega (arith, r.far); there = mark-some t r.place r.span.end r.there (bound (spans_of t r.place) r.span r.is) }
-  where
-    bound : (o : Option Span) (q : Span) → o ≡ Some q → IsBound o q.end
-    bound o q e = rw e (inr refl)
+    let k = past-span (spans_of t r.place) (n + 1 + 1) r.far in
+    record { place = k.0.end; past = omega (arith, k.2); there = mark-some t r.place k.0.end r.there k.3 }
 
 past-reaches : (n : ℕ) (t : Tuple) → AreSpans t → reaches (n + 1 + 1) t ≡ false → IsPast n t → ⊥
 past-reaches n t spans h past = omega (arith, past.there, mark-none t past.place (λ v lt b. no v (spans_of t v) refl b))
@@ -163,9 +129,6 @@ word-lies s t lies = word-same s t (lies-reaches (length s) t lies)
 pub read-back : (k : ℕ) (t : Tuple) (s : List ℕ) → IsTupleOf k t → Lies (length s) t → write_word 1 (word_of t s) (blanks k) ≡ t
 read-back k t s is lies =
     ap (λ w. write_word 1 w (blanks k)) (word-lies s t lies) ∙ ap (λ n. write_word 1 (marked s t) (blanks n)) (sym is.size) ∙ reads s t is.valid lies
-
-pub same-tuple : (k : ℕ) (t u : Tuple) (s : List ℕ) → IsTupleOf k t → IsTupleOf k u → Lies (length s) t → Lies (length s) u → word_of t s ≡ word_of u s → t ≡ u
-same-tuple k t u s it iu lt lu e = tells s t u it.valid iu.valid (it.size ∙ sym iu.size) lt lu (sym (word-lies s t lt) ∙ e ∙ word-lies s u lu)
 
 -- ---- the order
 -- a last mark that counts 1 more
@@ -296,7 +259,7 @@ module _ (a : DeterministicAutomaton) (auto : IsDeterministic a) (s : List ℕ) 
   pub member-from_accepts : (t : Tuple) → length t ≡ a.variables → AcceptsWord a s t → IsMember a s t
   member-from_accepts t size h =
       let x = end_mark t (length s + 1) in
-      let mid = then-between (λ q. reached a q ((x, 256) ∷ [])) (reached a 0 (word_over t 1 s)) 0 (sym (run-append a 0 (word_over t 1 s) ((x, 256) ∷ [])) ∙ h.ends) in
+      let mid = then-between (λ q. reached a q ((x, 256) ∷ [])) (reached a 0 (word_over t 1 s)) 0 (sym (path-append (step_of a) 0 (word_over t 1 s) ((x, 256) ∷ [])) ∙ h.ends) in
       let among : Contains (ends_of a mid.0) x = (end-facts a mid.0 x 0 (sym (run-one a mid.0 x 256) ∙ mid.2)).1 in
       record {
         size = size;
@@ -332,7 +295,7 @@ module _ (a : DeterministicAutomaton) (auto : IsDeterministic a) (s : List ℕ) 
   first-member cursor u it g = by cursor it g.first
     where
       least : (v : Tuple) → IsMember a s v → (word_of v s ≡ word_of u s) ⊎ Precedes (word_of u s) (word_of v s) → (v ≡ u) ⊎ Comes u v
-      least v m (inl same) = inl (same-tuple a.variables v u s (tuple-of_member v m) g.tuple m.lies g.lies same)
+      least v m (inl same) = inl (tells s v u (tuple-of_member v m).valid g.tuple.valid (m.size ∙ sym g.tuple.size) m.lies g.lies (sym (word-lies s v m.lies) ∙ same ∙ word-lies s u g.lies))
       least v m (inr before) = inr ((order a.variables u v s g.tuple (tuple-of_member v m) m.lies).0 before)
 
       member : reached a 0 (word_of u s) ≡ Some 0 → IsMember a s u
@@ -356,7 +319,10 @@ end-of_word a s t None e = run-dead a 0 (word_over t 1 s) ((end_mark t (length s
 end-of_word a s t (Some q) e = word-run a 0 q (word_over t 1 s) (end_mark t (length s + 1)) (sym e)
 
 pub accepts-from_end : (a : DeterministicAutomaton) (s : List ℕ) (t : Tuple) (o : Option ℕ) → AreSpans t → o ≡ reached a 0 (word_over t 1 s) → AcceptsEnd a o t (length s + 1) → AcceptsWord a s t
-accepts-from_end a s t o spans e h = record { lies = reaches-lies (length s) t spans h.lies; ends = end-of_word a s t o e ∙ h.ends }
+accepts-from_end a s t o spans e h = record {
+  lies = λ v q k. let is = span-is (spans_of t v) q (spans-at t v spans) k in (is.positive, is.ordered, omega (arith, none-reaches (length s + 1 + 1) t v q h.lies k));
+  ends = end-of_word a s t o e ∙ h.ends;
+}
 
 pub end-from_accepts : (a : DeterministicAutomaton) (s : List ℕ) (t : Tuple) (o : Option ℕ) → o ≡ reached a 0 (word_over t 1 s) → AcceptsWord a s t → AcceptsEnd a o t (length s + 1)
 end-from_accepts a s t o e h = record { lies = lies-reaches (length s) t h.lies; ends = sym (end-of_word a s t o e) ∙ h.ends }
@@ -364,17 +330,9 @@ end-from_accepts a s t o e h = record { lies = lies-reaches (length s) t h.lies;
 pub end-both : (a : DeterministicAutomaton) (q m : ℕ) (t : Tuple) (end : ℕ) (fits past : Bool) → m ≡ mark_of t end → past ≡ reaches (end + 1) t
     → (fits ≡ true → step_of a q m 256 ≡ Some 0) → (step_of a q m 256 ≡ Some 0 → fits ≡ true)
     → ((fits && not past) ≡ true → AcceptsEnd a (Some q) t end) × (AcceptsEnd a (Some q) t end → (fits && not past) ≡ true)
-end-both a q m t end fits true em ep to from = ((λ h. not-both false (sym (and-false fits) ∙ h) refl), (λ h. not-both (reaches (end + 1) t) (sym ep) h.lies))
-  where
-    and-false : (x : Bool) → (x && false) ≡ false
-    and-false true = refl
-    and-false false = refl
+end-both a q m t end fits true em ep to from = ((λ h. not-both false (sym (and_right fits false refl) ∙ h) refl), (λ h. not-both (reaches (end + 1) t) (sym ep) h.lies))
 end-both a q m t end fits false em ep to from =
     let same : end_mark t end ≡ m = end_mark-same t end (sym ep) ∙ sym em in (
       (λ h. record { lies = sym ep; ends = ap (λ n. step_of a q n 256) same ∙ to (sym (and-true fits) ∙ h) }),
       (λ h. and-true fits ∙ from (ap (λ n. step_of a q n 256) (sym same) ∙ h.ends)),
     )
-  where
-    and-true : (x : Bool) → (x && true) ≡ x
-    and-true true = refl
-    and-true false = refl

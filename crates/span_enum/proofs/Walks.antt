@@ -1,13 +1,13 @@
 -- The walk to the first marked text, and that along the marks of a given tuple.
 use Rattle.span_enum.proofs.Base.{Ahead, AreAhead, AreKept, AtMost, CanEnd, CanFollow, CanGoDown, Completes, Descends, Dies, EndsBehind, EndsIn, Fails, Fits, Followed, GoesFirst, Ground, IsAhead, IsDeterministic, IsFirst, IsFirstMark}
 use Rattle.span_enum.proofs.Base.{IsGround, IsOver, IsUnmarked, Lays, Leads, List, Mark, Marked, Meets, None, NoneAfter, NoneBehind, Option, Passed, PassesPlain, PassesTo, Place, Some, Stands, StandsBefore, Tuple, Turns, Way, [], ap}
-use Rattle.span_enum.proofs.Base.{append-nil, append_assoc, arith, bytes_of, cases_lt, cut, drop, false, height-most, height-within, height_at, height_limit, height_limit-right, here, inl, inr, last_at, length, length-append, length-take}
-use Rattle.span_enum.proofs.Base.{length-take-le, length-text, looks_limit, mark_count, mark_of, max, member, mul-le-mul_left, mul_assoc, plain, reached, refl, slice_get, slice_get_within, subst, suc, sym, take, take-append-drop}
-use Rattle.span_enum.proofs.Base.{take-append-le, take-length, take_at, text_ahead, text_at, tree, true, whole_text, word_over, write_mark, write_word, ℕ, ◌*◌, ◌++◌, ◌+◌, ◌-◌, ◌<◌, ◌∙◌, ◌∷◌, ◌≡◌, ◌≤◌}
+use Rattle.span_enum.proofs.Base.{append-nil, append_assoc, arith, bytes-plain, bytes_of, cases_lt, cut, drop, false, height-most, height-within, height_at, height_limit, height_limit-right, here, inl, inr, last_at, length, length-append}
+use Rattle.span_enum.proofs.Base.{length-take, length-take-le, length-text, mark_count, mark_of, max, member, mul-suc, plain, reached, refl, slice_get, slice_get_within, subst, suc, sym, take, take-append-drop, take-append-le, take-length}
+use Rattle.span_enum.proofs.Base.{take-take, take_at, text_ahead, text_at, tree, true, whole_text, word_over, write_mark, write_word, ℕ, ◌*◌, ◌++◌, ◌+◌, ◌-◌, ◌<◌, ◌∙◌, ◌∷◌, ◌≡◌, ◌≤◌}
 use Rattle.span_enum.specs.Letters.{step_of}
-use Rattle.span_enum.proofs.Chains.{ahead-most, ahead-take, fits-none, stands-before, stands-mark}
-use Rattle.span_enum.proofs.Kept.{kept-way, leads-few, leads-letter, leads-pass, leads-run, leads-size, none-behind_earlier, none-from, stuck-none, stuck-run, take-take}
-use Rattle.span_enum.proofs.Runs.{bytes-append, bytes-plain, count-more, count-plain, first-nothing, goal-from_nothing, length-bytes, mark_count-append, no-state, onto, run-dead, run-on}
+use Rattle.span_enum.proofs.Chains.{ahead-most, ahead-move, fits-none, slice-take, stands-before, stands-mark}
+use Rattle.span_enum.proofs.Kept.{kept-way, leads-few, leads-letter, leads-pass, leads-run, leads-size, none-behind_earlier, none-from, stuck-none, stuck-run}
+use Rattle.span_enum.proofs.Runs.{bytes-append, bytes-none, count-more, count-plain, goal-from_nothing, length-bytes, mark_count-append, no-state, onto, run-dead, run-on}
 use Rattle.span_enum.proofs.Ways.{Next, back-none, meets-on, next-node, some-mark}
 use Rattle.span_enum.proofs.Words.{letter-same, none-passed, none-plain, over-append, over-plain, over-split, quiet-plain, write-plain, write_word-append}
 
@@ -26,7 +26,7 @@ pub height-lowest : (g : Ground) (h : Ahead) → IsAhead g h → height_at g h.i
 height-lowest g h is = height-most (tree g.view.store.now h.id.index) is.look.balanced (omega (arith, length-text (tree g.view.store.now h.id.index), is.look.len_is, is.look.short))
 
 -- ---- where no mark is left
-completes-plain : (g : Ground) (hs : List (Option Ahead)) (marks : List (Option Mark)) (from : Place) (base looks : ℕ) (r : Option ℕ) (out : Tuple) → base ≤ length hs
+completes-plain : (g : Ground) (hs : List (Option Ahead)) (marks : List Mark) (from : Place) (base looks : ℕ) (r : Option ℕ) (out : Tuple) → base ≤ length hs
     → ((at : ℕ) (c : List Ahead) → Stands g hs at from c → CanEnd g from.state c → (last : ℕ) × EndsIn g.dfa.now r last × IsFirst g.dfa.now from.state (text_ahead g c) g.finals (plain (text_ahead g c)) last)
     → Completes g from base marks marks hs (take base hs) looks looks r out out
 completes-plain g hs marks from base looks r out low first = record {
@@ -50,14 +50,14 @@ completes-plain g hs marks from base looks r out low first = record {
 }
 
 -- a quiet state is reached
-pub completes-quiet : (g : Ground) (hs : List (Option Ahead)) (marks : List (Option Mark)) (from : Place) (base looks : ℕ) (out : Tuple) → base ≤ length hs → from.quiet ≡ true
+pub completes-quiet : (g : Ground) (hs : List (Option Ahead)) (marks : List Mark) (from : Place) (base looks : ℕ) (out : Tuple) → base ≤ length hs → from.quiet ≡ true
     → Completes g from base marks marks hs (take base hs) looks looks None out out
 completes-quiet g hs marks from base looks out low known = completes-plain g hs marks from base looks None out low (λ at c s can.
     let k = s.quiet known in
     (k.last, k.unmarked, record { bytes = bytes-plain (text_ahead g c); ends = k.ends; goal = k.goal; least = λ v r bytes ends goal. inl (k.sole v r bytes ends goal) }))
 
 -- all nodes are passed
-pub completes-end : (g : Ground) (hs : List (Option Ahead)) (marks : List (Option Mark)) (from place : Place) (base looks : ℕ) (out : Tuple) → base ≤ length hs → place.next ≡ 0
+pub completes-end : (g : Ground) (hs : List (Option Ahead)) (marks : List Mark) (from place : Place) (base looks : ℕ) (out : Tuple) → base ≤ length hs → place.next ≡ 0
     → ((at : ℕ) (c : List Ahead) → Stands g hs at from c → CanEnd g from.state c → PassesPlain g hs at from place c)
     → Completes g from base marks marks hs (take base hs) looks looks (Some place.state) out out
 completes-end g hs marks from place base looks out low last passes = completes-plain g hs marks from base looks (Some place.state) out low (λ at c s can.
@@ -66,7 +66,7 @@ completes-end g hs marks from place base looks out low last passes = completes-p
     let none : p.passes.back ≡ [] = back-none hs place.next p.passes.back p.passes.stands.ahead (omega (arith, last)) in
     let goal = goal-from_nothing g.dfa.now place.state g.finals (rw none at p.can) in
     let texts : text_ahead g c ≡ x = p.passes.passed.parts ∙ ap (λ d. x ++ text_ahead g d) none ∙ append-nil x in
-    let first = p.first [] place.state (rw none (first-nothing g.dfa.now place.state g.finals goal)) in
+    let first = p.first [] place.state (rw none (record { bytes = refl; ends = refl; goal = goal; least = λ v r bytes ends final. inl (bytes-none v bytes) })) in
     (place.state, refl, subst (λ w. IsFirst g.dfa.now from.state (text_ahead g c) g.finals w place.state) (append-nil (plain x) ∙ ap plain (sym texts)) first))
 
 -- ---- one mark more
@@ -100,16 +100,13 @@ module _ (g : Ground) (auto : IsDeterministic g.dfa.now) (hs : List (Option Ahea
       let next : m.at + 1 ≡ suc (at + length front) = omega (arith, k.way.at_is) in
       (λ p above below. quiet-plain t at front both.0 p above (omega (arith, below, k.way.at_is)), ap (mark_of t) k.way.at_is ∙ one.0, ap (λ n. word_over t n back) next ∙ one.1)
 
-  leads-meets : (t : Tuple) (n : ℕ) → Leads g t at from.state n (text_ahead g c) → IsUnmarked t at m.at → Leads g t m.at m.state n (m.byte ∷ back)
-  leads-meets t n leads quiet = rw k.way.at_is (leads-pass g t at from.state n (text_ahead g c) leads m.state front (m.byte ∷ back) k.way.passed (λ p above below. quiet p above (omega (arith, below, k.way.at_is))))
-
   -- the marks of such a tuple are kept: this one and those behind it
-  kept-on : (t : Tuple) (n base : ℕ) (new : List (Option Ahead)) (more : List (Option Mark)) (w : Marked) → Leads g t at from.state n (text_ahead g c) → word_over t at (text_ahead g c) ≡ (plain front ++ (m.mark, m.byte) ∷ []) ++ w
+  kept-on : (t : Tuple) (n base : ℕ) (new : List (Option Ahead)) (more : List Mark) (w : Marked) → Leads g t at from.state n (text_ahead g c) → word_over t at (text_ahead g c) ≡ (plain front ++ (m.mark, m.byte) ∷ []) ++ w
       → m.base ≡ base → base ≤ length hs → Fits g base hs → take (length hs) new ≡ hs
-      → (Leads g t (m.at + 1) to.state (n + 1) back → AreKept g t new (m.at + 1) (n + 1) (length hs) more) → AreKept g t new at n base (Some m ∷ more)
+      → (Leads g t (m.at + 1) to.state (n + 1) back → AreKept g t new (m.at + 1) (n + 1) (length hs) more) → AreKept g t new at n base (m ∷ more)
   kept-on t n base new more w leads e b low fits same rest =
       let l = meets-letters t w e in
-      let lead = leads-meets t n leads l.0 in
+      let lead : Leads g t m.at m.state n (m.byte ∷ back) = rw k.way.at_is (leads-pass g t at from.state n (text_ahead g c) leads m.state front (m.byte ∷ back) k.way.passed (λ p above below. l.0 p above (omega (arith, below, k.way.at_is)))) in
       let step : step_of g.dfa.now m.state (mark_of t m.at) m.byte ≡ Some to.state = ap (λ x. step_of g.dfa.now m.state x m.byte) l.1 ∙ k.on.step in
       let number : n + 1 ≡ suc n = omega arith in (
         length hs,
@@ -117,7 +114,7 @@ module _ (g : Ground) (auto : IsDeterministic g.dfa.now) (hs : List (Option Ahea
         subst (λ x. AreKept g t new (m.at + 1) x (length hs) more) number (rest (leads-letter g t m.at m.state n m.byte back lead to.state step (rw l.1 k.on.some))),
       )
 
-pub completes-more : (g : Ground) (auto : IsDeterministic g.dfa.now) (hs hs0 hs1 hs2 : List (Option Ahead)) (marks ms1 ms2 : List (Option Mark)) (from place to : Place) (h : Ahead) (base before mid after : ℕ) (r : Option ℕ)
+pub completes-more : (g : Ground) (auto : IsDeterministic g.dfa.now) (hs hs0 hs1 hs2 : List (Option Ahead)) (marks ms1 ms2 : List Mark) (from place to : Place) (h : Ahead) (base before mid after : ℕ) (r : Option ℕ)
     (out out1 out2 : Tuple) → take base hs0 ≡ take base hs → base ≤ length hs0
     → (d : Descends g h place.state base marks ms1 hs0 hs1 before mid out out1 to)
     → ((at : ℕ) (c : List Ahead) → Stands g hs at from c → CanEnd g from.state c → Meets g hs1 at from.state c d.keeps.mark to × ((len : ℕ) → length (text_ahead g c) ≤ len → height_at g h.id.index ≤ height_limit len))
@@ -127,10 +124,10 @@ completes-more g auto hs hs0 hs1 hs2 marks ms1 ms2 from place to h base before m
     let m = d.keeps.mark in
     let longer : base ≤ length hs1 = omega (arith, ap length d.keeps.ahead, length-append hs0 d.keeps.beside) in
     let whole : take (length hs1) hs2 ≡ hs1 = on.same ∙ take-length hs1 in
-    let number : length ms1 ≡ length marks + 1 = ap length d.keeps.kept ∙ length-append marks (Some m ∷ []) in
+    let number : length ms1 ≡ length marks + 1 = ap length d.keeps.kept ∙ length-append marks (m ∷ []) in
     record {
-      more = Some m ∷ on.more;
-      marks_are = on.marks_are ∙ ap (λ x. x ++ on.more) d.keeps.kept ∙ append_assoc marks (Some m ∷ []) on.more;
+      more = m ∷ on.more;
+      marks_are = on.marks_are ∙ ap (λ x. x ++ on.more) d.keeps.kept ∙ append_assoc marks (m ∷ []) on.more;
       same = sym (take-take base (length hs1) hs2 longer) ∙ ap (take base) (whole ∙ d.keeps.ahead) ∙ take-append-le base hs0 d.keeps.beside low ∙ same;
       low = omega (arith, on.low);
       finds = λ at c s can.
@@ -177,7 +174,7 @@ arrives g is hs base cut at from place c h pass some found e =
     let n = next-node g is hs at from place c pass.0.passes h some found in
     let k = stands-before g hs (at + length pass.0.passes.front) place h n.rest n.stands in
     let low : h.next ≤ cut = omega (arith, e, n.stands.ahead.0.counted, n.stands.ahead.0.earlier) in
-    record { passes = pass.0; turns = pass.1; node = n; before = record { ahead = ahead-take hs cut h.next n.rest low k.ahead; join = k.join; goals = k.goals; state = k.state } }
+    record { passes = pass.0; turns = pass.1; node = n; before = record { ahead = ahead-move hs (take cut hs) cut h.next n.rest (λ i x lt there. slice-take cut i hs lt ∙ there) low k.ahead; join = k.join; goals = k.goals; state = k.state } }
 
 module _ (g : Ground) (hs : List (Option Ahead)) (cut at : ℕ) (from place : Place) (c : List Ahead) (h : Ahead) (a : Arrives g hs cut at from place c h) where
   abbrev x : List ℕ
@@ -194,7 +191,7 @@ module _ (g : Ground) (hs : List (Option Ahead)) (cut at : ℕ) (from place : Pl
       height-short g h len a.node.stands.goals.0
       (omega (arith, le, ap length to-node.parts, length-append x (text_ahead g (h ∷ a.node.rest)), length-append (text_at g h.id.index) (text_ahead g a.node.rest)))
 
-  pub arrives-meets : (base before after : ℕ) (marks more : List (Option Mark)) (new : List (Option Ahead)) (out out' : Tuple) (to : Place)
+  pub arrives-meets : (base before after : ℕ) (marks more : List Mark) (new : List (Option Ahead)) (out out' : Tuple) (to : Place)
       → (d : Descends g h place.state base marks more (take cut hs) new before after out out' to) → Meets g new at from.state c d.keeps.mark to
   arrives-meets base before after marks more new out out' to d =
       meets-on g new at h.at from.state place.state x c (h ∷ a.node.rest) d.keeps.mark to to-node a.node.stands.join.0
@@ -262,7 +259,7 @@ module _ (g : Ground) (t : Tuple) (hs : List (Option Ahead)) (at position end n 
       }
 
   -- no more marks are kept
-  followed-none : (k : ℕ) (r : Option ℕ) (marks : List (Option Mark)) (before after : ℕ) → NoneBehind g t k → at ≤ k + 1 → k ≤ length (whole_text g) → IsUnmarked t at (k + 1)
+  followed-none : (k : ℕ) (r : Option ℕ) (marks : List Mark) (before after : ℕ) → NoneBehind g t k → at ≤ k + 1 → k ≤ length (whole_text g) → IsUnmarked t at (k + 1)
       → reached g.dfa.now 0 (word_over t 1 (whole_text g)) ≡ r → after ≤ before + 2 * height_limit (length (whole_text g)) → Followed g t at marks marks hs hs before after r
   followed-none k r marks before after none early inside quiet run cost = record {
     more = [];
@@ -276,7 +273,7 @@ module _ (g : Ground) (t : Tuple) (hs : List (Option Ahead)) (at position end n 
   }
 
   -- all nodes are passed
-  pub followed-last : (to : Place) (marks : List (Option Mark)) (looks : ℕ) → IsUnmarked t at position → Comes to → to.next ≡ 0 → Followed g t at marks marks hs hs looks looks (Some to.state)
+  pub followed-last : (to : Place) (marks : List Mark) (looks : ℕ) → IsUnmarked t at position → Comes to → to.next ≡ 0 → Followed g t at marks marks hs hs looks looks (Some to.state)
   followed-last to marks looks quiet all none =
       let p = (comes-there to all).0 in
       let empty : p.passes.back ≡ [] = back-none hs to.next p.passes.back p.passes.stands.ahead (omega (arith, none)) in
@@ -287,7 +284,7 @@ module _ (g : Ground) (t : Tuple) (hs : List (Option Ahead)) (at position end n 
       (leads-run g t (at + length p.passes.front) to.state n [] leads) (omega arith)
 
   -- no run comes to the position
-  pub followed-dead : (here q : ℕ) (back : List ℕ) (marks : List (Option Mark)) (before after : ℕ) → Leads g t here q n back → at ≤ here → here ≤ position → position ≤ here + length back → IsUnmarked t at position
+  pub followed-dead : (here q : ℕ) (back : List ℕ) (marks : List Mark) (before after : ℕ) → Leads g t here q n back → at ≤ here → here ≤ position → position ≤ here + length back → IsUnmarked t at position
       → Dies g q here back position → after ≤ before + 2 * height_limit (length (whole_text g)) → Followed g t at marks marks hs hs before after None
   followed-dead here q back marks before after leads late' from to quiet dies cost =
       let a = g.dfa.now in
@@ -322,7 +319,7 @@ module _ (g : Ground) (t : Tuple) (old : List (Option Ahead)) (at n position end
   over-high = height-short g h (length (whole_text g)) o.stands.goals.0 (omega (arith, size, e, o.leads.at_is))
 
   -- what the way down needs
-  pub over-down : (k marks_room ahead_room : ℕ) (marks : List (Option Mark)) → length t ≡ k → 0 < mark_of t position → n ≡ length marks → 2 * k ≤ marks_room → length old + 69 * (2 * k - n) ≤ ahead_room
+  pub over-down : (k marks_room ahead_room : ℕ) (marks : List Mark) → length t ≡ k → 0 < mark_of t position → n ≡ length marks → 2 * k ≤ marks_room → length old + 69 * (2 * k - n) ≤ ahead_room
       → CanGoDown g h to.state (length old) marks marks_room old ahead_room
   over-down k marks_room ahead_room marks tuple some count room fit =
       let few = over-few k tuple some in
@@ -338,7 +335,7 @@ module _ (g : Ground) (t : Tuple) (old : List (Option Ahead)) (at n position end
       }
 
   -- no run comes to the position
-  pub followed-fails : (can : CanFollow g t old at from n) (before after : ℕ) (marks ms : List (Option Mark)) (new : List (Option Ahead)) → Fails g h to.state position (length old) marks ms old new
+  pub followed-fails : (can : CanFollow g t old at from n) (before after : ℕ) (marks ms : List Mark) (new : List (Option Ahead)) → Fails g h to.state position (length old) marks ms old new
       → after ≤ before + 2 * height_at g h.id.index → Followed g t at marks ms old (take (length old) new) before after None
   followed-fails can before after marks ms new k cost =
       let same : take (length old) new ≡ old = k.ahead ∙ take-length old in
@@ -346,7 +343,7 @@ module _ (g : Ground) (t : Tuple) (old : List (Option Ahead)) (at n position end
       rw (k.kept, same) (followed-dead g t old at position end n from can (omega (arith, o.late, o.over.from)) (omega (arith, position-early)) e h.at to.state all marks before after o.leads o.late o.over.from
       (omega (arith, o.over.before, length-append (text_at g h.id.index) (text_ahead g o.rest))) o.quiet dies (omega (arith, cost, over-high)))
 
-  module _ (marks ms : List (Option Mark)) (mid : List (Option Ahead)) (k : Lays g t h to.state position (length old) marks ms old mid) (count : n ≡ length marks) (some : 0 < mark_of t position) where
+  module _ (marks ms : List Mark) (mid : List (Option Ahead)) (k : Lays g t h to.state position (length old) marks ms old mid) (count : n ≡ length marks) (some : 0 < mark_of t position) where
     abbrev m : Mark
     m = k.keeps.mark
 
@@ -364,7 +361,7 @@ module _ (g : Ground) (t : Tuple) (old : List (Option Ahead)) (at n position end
         (λ x above below. o.quiet x (omega (arith, above, o.late)) (omega (arith, below, lays-way.at_is, k.position_is))))
 
     -- the mark and those behind it are kept
-    lays-kept : (beside : List (Option Ahead)) (more : List (Option Mark)) → AreKept g t (mid ++ beside) (m.at + 1) (suc (length marks)) (length mid) more → AreKept g t (mid ++ beside) at (length marks) (length old) (Some m ∷ more)
+    lays-kept : (beside : List (Option Ahead)) (more : List Mark) → AreKept g t (mid ++ beside) (m.at + 1) (suc (length marks)) (length mid) more → AreKept g t (mid ++ beside) at (length marks) (length old) (m ∷ more)
     lays-kept beside more behind =
         let first : IsFirstMark t at m.at m.mark = record { after = omega (arith, o.late, o.over.from, k.position_is); mark_is = mark-there; some = rw k.mark_is some; quiet = λ x above below. o.quiet x above (omega (arith, below, k.position_is)) } in
         let low : length old ≤ length mid = omega (arith, ap length k.keeps.ahead, length-append old k.keeps.beside) in
@@ -376,7 +373,7 @@ module _ (g : Ground) (t : Tuple) (old : List (Option Ahead)) (at n position end
         → CanFollow g t mid (position + 1) (record { state = q; next = last.next; quiet = false }) (length ms)
     lays-goes auto q last same step =
         let here : step_of g.dfa.now m.state m.mark m.byte ≡ Some q = rw same at step in
-        let number : length ms ≡ n + 1 = ap length k.keeps.kept ∙ length-append marks (Some m ∷ []) ∙ omega (arith, count) in
+        let number : length ms ≡ n + 1 = ap length k.keeps.kept ∙ length-append marks (m ∷ []) ∙ omega (arith, count) in
         let place : Place = record { state = q; next = m.next; quiet = false } in
         let on : CanFollow g t mid (m.at + 1) place (n + 1) = record {
           chain = lays-way.back;
@@ -391,41 +388,32 @@ module _ (g : Ground) (t : Tuple) (old : List (Option Ahead)) (at n position end
     followed-stuck before after step cost =
         let dead : step_of g.dfa.now m.state (mark_of t m.at) m.byte ≡ None = ap (λ x. step_of g.dfa.now m.state x m.byte) mark-there ∙ step in
         record {
-          more = Some m ∷ [];
+          more = m ∷ [];
           marks_are = k.keeps.kept;
           beside = k.keeps.beside;
           ahead = k.keeps.ahead;
-          kept = subst (λ x. AreKept g t x at (length marks) (length old) (Some m ∷ [])) (append-nil mid) (lays-kept [] [] (ap length (sym (append-nil mid))));
+          kept = subst (λ x. AreKept g t x at (length marks) (length old) (m ∷ [])) (append-nil mid) (lays-kept [] [] (ap length (sym (append-nil mid))));
           none = stuck-none g t m.at m.state n m.byte rest lays-leads dead;
           end_is = sym (stuck-run g t m.at m.state n m.byte rest lays-leads dead);
           cost = omega (arith, cost, over-high);
         }
 
     -- the marks behind it were kept too
-    pub followed-on : (marks' : List (Option Mark)) (new : List (Option Ahead)) (before between after : ℕ) (r : Option ℕ)
+    pub followed-on : (marks' : List Mark) (new : List (Option Ahead)) (before between after : ℕ) (r : Option ℕ)
         → between ≤ before + 2 * height_at g h.id.index → Followed g t (position + 1) ms marks' mid new between after r → Followed g t at marks marks' old new before after r
     followed-on marks' new before between after r cost f =
-        let number : length ms ≡ suc (length marks) = ap length k.keeps.kept ∙ length-append marks (Some m ∷ []) ∙ omega arith in
+        let number : length ms ≡ suc (length marks) = ap length k.keeps.kept ∙ length-append marks (m ∷ []) ∙ omega arith in
         let back : position + 1 - 1 ≡ m.at = omega (arith, k.position_is) in
         let high = height_limit (length (whole_text g)) in
-        let sum : high * suc (length f.more) ≡ high * length f.more + high = times high (length f.more) in
+        let sum : high * suc (length f.more) ≡ high * length f.more + high = mul-suc high (length f.more) in
         record {
-          more = Some m ∷ f.more;
-          marks_are = f.marks_are ∙ ap (λ x. x ++ f.more) k.keeps.kept ∙ append_assoc marks (Some m ∷ []) f.more;
+          more = m ∷ f.more;
+          marks_are = f.marks_are ∙ ap (λ x. x ++ f.more) k.keeps.kept ∙ append_assoc marks (m ∷ []) f.more;
           beside = k.keeps.beside ++ f.beside;
           ahead = f.ahead ∙ ap (λ x. x ++ f.beside) k.keeps.ahead ∙ append_assoc old k.keeps.beside f.beside;
-          kept = subst (λ x. AreKept g t x at (length marks) (length old) (Some m ∷ f.more)) (sym f.ahead) (lays-kept f.beside f.more (subst (λ x. AreKept g t x (m.at + 1) (suc (length marks)) (length mid) f.more) f.ahead
+          kept = subst (λ x. AreKept g t x at (length marks) (length old) (m ∷ f.more)) (sym f.ahead) (lays-kept f.beside f.more (subst (λ x. AreKept g t x (m.at + 1) (suc (length marks)) (length mid) f.more) f.ahead
               (subst (λ x. AreKept g t new (x + 1) (suc (length marks)) (length mid) f.more) (sym k.position_is) (subst (λ x. AreKept g t new (position + 1) x (length mid) f.more) number f.kept))));
           none = subst (λ x. NoneBehind g t (last_at x f.more)) back f.none;
           end_is = f.end_is;
           cost = omega (arith, cost, over-high, f.cost, sum);
         }
-      where
-        times : (x y : ℕ) → x * suc y ≡ x * y + x
-        times x y = grind arith
-
--- the looks at the way along the marks
-pub follow-within : (k n c before after : ℕ) → c ≤ 2 * k → after ≤ before + 1 + 2 * (height_limit n * c) + 2 * height_limit n → after ≤ before + 2 * looks_limit k n
-follow-within k n c before after few le =
-    let x : height_limit n * c ≤ height_limit n * (2 * k) = mul-le-mul_left (height_limit n) few in
-    omega (arith, le, x, mul_assoc 4 (2 * k + 1) (height_limit n + 3))

@@ -1,11 +1,11 @@
 -- The way over letters without marks: over nodes ahead, and down to a mark.
 use Rattle.span_enum.proofs.Base.{Ahead, AreAhead, AreBetween, AreGoals, AtMost, Between, Bool, Byte, CanEnd, Descends, DeterministicAutomaton, Dies, Fails, Fits, GoesFirst, Ground, IsDeterministic, IsGreatestMark, IsGround, IsMarkedLeft}
 use Rattle.span_enum.proofs.Base.{IsNodeAt, IsOver, IsPlainLeft, Join, Keeps, Laid, Lays, LeadQuiet, List, Look, Mark, Marked, Meets, NodeId, None, Option, Passed, Passes, PassesPlain, PassesTo, Place, Some, Stands, StandsBefore, Tuple}
-use Rattle.span_enum.proofs.Base.{Turns, Way, [], ap, append-nil, append_assoc, arith, bit_and, bytes_of, can_reach_of, false, here, length, length-append, mark_of, mark_over, marked, marked_of, member, plain, reached, refl}
-use Rattle.span_enum.proofs.Base.{slice_get, states_of, subst, suc, sym, take, take-append-add, take-append-le, text_ahead, text_at, true, unmarked_of, ℕ, ◌++◌, ◌+◌, ◌-◌, ◌<◌, ◌∙◌, ◌∷◌, ◌≡◌, ◌≤◌}
-use Rattle.span_enum.proofs.Chains.{Fork, before-left, before-right, between-compose, child, fork-goals, fork-height, fork-text, goals-on, next-is, sibling}
-use Rattle.span_enum.proofs.Runs.{IsFirst-byte, IsFirst-fork, IsFirst-plain, Tells, bytes-append, bytes-plain, fit-byte, goal-plain, has-count, mark_count-append, marked-run, plain-append, plain-dead, plain-run, run-behind, run-join}
-use Rattle.span_enum.proofs.Runs.{run-on, run-parts, run-within, table-from_run, tells}
+use Rattle.span_enum.proofs.Base.{Turns, Way, [], ap, append-nil, append_assoc, arith, bit_and, bytes-plain, bytes_of, can_reach_of, child, false, here, length, length-append, mark_of, mark_over, marked, marked_of, member, plain}
+use Rattle.span_enum.proofs.Base.{reached, refl, sibling, slice_get, states_of, subst, suc, sym, take, take-append-add, take-append-le, text_ahead, text_at, true, true≢false, unmarked_of, ℕ, ◌++◌, ◌+◌, ◌-◌, ◌<◌, ◌∙◌, ◌∷◌, ◌≡◌, ◌≤◌}
+use Rattle.span_enum.proofs.Chains.{Fork, before-left, before-right, between-compose, fork-goals, fork-height, fork-text, goals-on, next-is}
+use Rattle.span_enum.proofs.Runs.{IsFirst-byte, IsFirst-fork, IsFirst-plain, Tells, bytes-append, fit-byte, goal-plain, has-count, mark_count-append, marked-run, plain-append, plain-dead, plain-run, run-behind, run-join, run-on, run-parts}
+use Rattle.span_enum.proofs.Runs.{run-within, table-from_run, tells}
 use Rattle.span_enum.proofs.Tables.{byte-text, look-table, pair-text, plain-left}
 
 pub passed-on : (a : DeterministicAutomaton) (p q r : ℕ) (s u v x y : List ℕ) → Passed a p s x q u → Passed a q u y r v → Passed a p s (x ++ y) r v
@@ -74,23 +74,20 @@ module _ (g : Ground) (auto : IsDeterministic g.dfa.now) (hs : List (Option Ahea
     pub node-passed : Passed g.dfa.now place.state (text_ahead g p.back) node-text q (text_ahead g n.rest)
     node-passed = record { parts = ap (text_ahead g) n.back; step = sym (n.tells.unmarked place.state n.stands.state) ∙ step }
 
-    pub stands-next : Stands g hs (at + length (p.front ++ node-text)) (record { state = q; next = h.next; quiet = false }) n.rest
-    stands-next =
-        let len : at + length p.front + length node-text ≡ at + length (p.front ++ node-text) = omega (arith, length-append p.front node-text) in
-        record {
-          ahead = n.stands.ahead.1;
-          join = subst (λ k. Join g k n.rest) len n.stands.join.1;
-          goals = goals-on g place.state q node-text [] n.rest (plain node-text) (bytes-plain node-text) node-passed.step (rw (append-nil node-text) n.stands.goals.2);
-          state = run-within g.dfa.now auto place.state q (plain node-text) n.stands.state node-passed.step;
-          quiet = λ e. cc;
-        }
-
     abbrev pub passes-on : Passes g hs at from (record { state = q; next = h.next; quiet = false }) c
     passes-on = record {
       front = p.front ++ node-text;
       back = n.rest;
       passed = passed-on g.dfa.now from.state place.state q (text_ahead g c) (text_ahead g p.back) (text_ahead g n.rest) p.front node-text p.passed node-passed;
-      stands = stands-next;
+      stands =
+          let len : at + length p.front + length node-text ≡ at + length (p.front ++ node-text) = omega (arith, length-append p.front node-text) in
+          record {
+            ahead = n.stands.ahead.1;
+            join = subst (λ k. Join g k n.rest) len n.stands.join.1;
+            goals = goals-on g place.state q node-text [] n.rest (plain node-text) (bytes-plain node-text) node-passed.step (rw (append-nil node-text) n.stands.goals.2);
+            state = run-within g.dfa.now auto place.state q (plain node-text) n.stands.state node-passed.step;
+            quiet = λ e. absurd (true≢false (sym e));
+          };
     }
 
 -- no run without marks comes over the next node, which ends before the position
@@ -191,10 +188,10 @@ meets-byte g auto hs h q c b m r base byte node some best s =
     }
 
 -- ---- a pair
-abbrev pub keeps-left : (g : Ground) (base : ℕ) (marks more : List (Option Mark)) (hs new : List (Option Ahead)) (x : Option Ahead) → Keeps g base marks more (hs ++ x ∷ []) new → Keeps g base marks more hs new
+abbrev pub keeps-left : (g : Ground) (base : ℕ) (marks more : List Mark) (hs new : List (Option Ahead)) (x : Option Ahead) → Keeps g base marks more (hs ++ x ∷ []) new → Keeps g base marks more hs new
 keeps-left g base marks more hs new x k = record { mark = k.mark; kept = k.kept; base_is = k.base_is; beside = x ∷ k.beside; ahead = k.ahead ∙ append_assoc hs (x ∷ []) k.beside; fits = k.fits }
 
-module _ (g : Ground) (h : Ahead) (l r : NodeId) (left right : Look) (f : Fork g h l r left right) (hs : List (Option Ahead)) (q base : ℕ) (marks more : List (Option Mark)) (new : List (Option Ahead)) where
+module _ (g : Ground) (h : Ahead) (l r : NodeId) (left right : Look) (f : Fork g h l r left right) (hs : List (Option Ahead)) (q base : ℕ) (marks more : List Mark) (new : List (Option Ahead)) where
   abbrev left-text : List ℕ
   left-text = text_at g l.index
 
@@ -293,8 +290,8 @@ module _ (g : Ground) (h : Ahead) (l r : NodeId) (left right : Look) (f : Fork g
     }
 
 -- the letter at the position
-pub lays-mark : (g : Ground) (t : Tuple) (h : Ahead) (b q position base : ℕ) (marks : List (Option Mark)) (hs : List (Option Ahead)) → IsNodeAt g.view.store.now h.id.index (Byte b) → IsOver g h position → Fits g base hs
-    → Lays g t h q position base marks (marks ++ Some (mark_over h b q (mark_of t h.at) base) ∷ []) hs hs
+pub lays-mark : (g : Ground) (t : Tuple) (h : Ahead) (b q position base : ℕ) (marks : List Mark) (hs : List (Option Ahead)) → IsNodeAt g.view.store.now h.id.index (Byte b) → IsOver g h position → Fits g base hs
+    → Lays g t h q position base marks (marks ++ mark_over h b q (mark_of t h.at) base ∷ []) hs hs
 lays-mark g t h b q position base marks hs byte over fits =
     let here : h.at ≡ position = omega (arith, over.from, over.before, ap length (byte-text g.view.store.now h.id.index b byte)) in
     record {

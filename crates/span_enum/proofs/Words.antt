@@ -1,9 +1,9 @@
 -- The words of tuples, and the next marked text after a given one.
 use Rattle.span_enum.proofs.Base.{AreSpans, CanRun, DeterministicAutomaton, IsAfter, IsFirst, IsGreatestMark, IsNext, IsNoMark, IsUnmarked, List, Marked, None, NoneAfter, Precedes, Some, Tuple, [], ap, append_cancel_left, arith, blanks}
-use Rattle.span_enum.proofs.Base.{bytes_of, cases_eq, cut, cut-start, inl, inr, length, mark_count, mark_of, marks-append, marks_in, max, member, mul-le-mul_right, plain, reached, refl, subst, suc, sym, take, take_at, true, word-append}
-use Rattle.span_enum.proofs.Base.{word-plain, word-same, word-tell, word_from, word_over, write-append, write-next, write-zeros, write_marks, write_word, ℕ, ◌*◌, ◌++◌, ◌+◌, ◌<◌, ◌∙◌, ◌∷◌, ◌≡◌, ◌≤◌, ◌⊎◌}
-use Rattle.span_enum.proofs.Runs.{OneLetter, Parts, bytes-append, bytes-plain, count-more, length-bytes, mark_count-append, one-letter, precedes-append, precedes-prefix, precedes-split, run-behind, run-dead, run-on, run-one, run-parts}
-use Rattle.span_enum.proofs.Runs.{same-state}
+use Rattle.span_enum.proofs.Base.{bytes-plain, bytes_of, cases_eq, cut, cut-start, height_limit, inl, inr, length, looks_limit, mark_count, mark_of, marks-append, marks_in, max, member, mul-add, mul-le-mul_left, mul-le-mul_right, mul_assoc}
+use Rattle.span_enum.proofs.Base.{plain, reached, refl, subst, suc, sym, take, take_at, true, word-append, word-plain, word-same, word-tell, word_from, word_over, write-append, write-next, write-zeros, write_marks, write_word, ℕ, ◌*◌, ◌++◌}
+use Rattle.span_enum.proofs.Base.{◌+◌, ◌<◌, ◌∙◌, ◌∷◌, ◌≡◌, ◌≤◌, ◌⊎◌}
+use Rattle.span_enum.proofs.Runs.{OneLetter, Parts, bytes-append, count-more, length-bytes, mark_count-append, one-letter, precedes-append, precedes-prefix, precedes-split, run-behind, run-dead, run-on, run-one, run-parts, same-state}
 
 -- ---- tuples written mark by mark, and the words of tuples
 length-marks : (w : Marked) → length (marks_in w) ≡ length w
@@ -93,11 +93,15 @@ lower-cost t at h hl hr before now mid after s u eh en pos l r =
     let e : mark_count (word_over t at (s ++ u)) ≡ c + d = ap mark_count (over-append t at s u) ∙ mark_count-append (word_over t at s) (word_over t (at + length s) u) in
     let x : (hl + 1) * c ≤ h * c = mul-le-mul_right c (omega (arith, eh)) in
     let y : (hr + 1) * d ≤ h * d = mul-le-mul_right d (omega (arith, eh)) in
-    let z : h * mark_count (word_over t at (s ++ u)) ≡ h * c + h * d = ap (λ n. h * n) e ∙ times h c d in
+    let z : h * mark_count (word_over t at (s ++ u)) ≡ h * c + h * d = ap (λ n. h * n) e ∙ mul-add h c d in
     omega (arith, e, pos, x, y, z, l, r, en)
-  where
-    times : (h c d : ℕ) → h * (c + d) ≡ h * c + h * d
-    times h c d = grind arith
+
+-- two looks at each level of a tree for each of so many marks, and at those of one way more
+pub looks-within : (k n h c before after : ℕ) → h ≤ height_limit n → c ≤ 2 * k → after ≤ before + 1 + 2 * (h * c) + 2 * h → after ≤ before + looks_limit k n
+looks-within k n h c before after high few le =
+    let x : h * c ≤ height_limit n * c = mul-le-mul_right c high in
+    let y : height_limit n * c ≤ height_limit n * (2 * k) = mul-le-mul_left (height_limit n) few in
+    omega (arith, le, x, y, high, mul_assoc 4 (2 * k + 1) (height_limit n + 3))
 
 -- ---- the next marked text, by the parts of a text
 -- nothing comes after a text without marks

@@ -1,19 +1,25 @@
 -- What the walk to the next answer finds.
-use Rattle.std.specs.Prelude.{List, Option, Some}
+use Rattle.std.specs.Prelude.{ℕ, List, Option, Some}
 use Rattle.span_enum.specs.Members.{Tuple, IsFirstMember, NoMemberLeft}
-use Rattle.span_enum.specs.Trail.{whole_text, IsTrail, IsTrailOf, IsStateAt}
+use Rattle.span_enum.specs.Trail.{Agree, whole_text, IsTrail, IsTrailOf, IsStateAt}
 use Rattle.span_enum.specs.declared.ground.Ground.{Ground}
 use Rattle.span_enum.specs.declared.trail.Ahead.{Ahead}
 use Rattle.span_enum.specs.declared.trail.Mark.{Mark}
 use Rattle.span_enum.specs.declared.answers.Found.{Found}
 
 -- f is the first answer after the cursor, and its marks are kept
-pub record IsFoundAfter (g : Ground) (cursor : Option Tuple) (ms : List (Option Mark)) (hs : List (Option Ahead)) (f : Found) : Type 0 where
+pub record IsFoundAfter (g : Ground) (cursor : Option Tuple) (ms : List Mark) (hs : List (Option Ahead)) (f : Found) : Type 0 where
   pub first : IsFirstMember g.dfa.now (whole_text g) cursor f.tuple
   pub trail : IsTrailOf g f.tuple ms hs
   pub state : IsStateAt g (Some f.tuple) f.state
 
 -- no answer is left after the cursor, and its marks are kept
-pub record IsNoneAfter (g : Ground) (cursor : Option Tuple) (ms : List (Option Mark)) (hs : List (Option Ahead)) : Type 0 where
+pub record IsNoneAfter (g : Ground) (cursor : Option Tuple) (ms : List Mark) (hs : List (Option Ahead)) : Type 0 where
   pub none : NoMemberLeft g.dfa.now (whole_text g) cursor
   pub trail : IsTrail g cursor ms hs
+
+-- f is the first answer after the tuple, and agrees with it before the end
+pub record IsLoweredAtEnd (g : Ground) (t : Tuple) (end : ℕ) (f : Found) : Type 0 where
+  pub first : IsFirstMember g.dfa.now (whole_text g) (Some t) f.tuple
+  pub agree : Agree t f.tuple end
+  pub state : IsStateAt g (Some f.tuple) f.state

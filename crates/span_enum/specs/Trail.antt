@@ -197,7 +197,7 @@ abbrev pub Fits : Ground → ℕ → List (Option Ahead) → Type 0
 Fits g base hs = (k : ℕ) (o : Option Ahead) → base ≤ k → slice_get hs k ≡ Some o → FitsAt g (k - base) o
 
 -- the walk may go down into the node: there is room for a mark and for what stands beside the way to it
-pub record CanGoDown (g : Ground) (h : Ahead) (q base : ℕ) (marks : List (Option Mark)) (marks_room : ℕ) (hs : List (Option Ahead)) (ahead_room : ℕ) : Type 0 where
+pub record CanGoDown (g : Ground) (h : Ahead) (q base : ℕ) (marks : List Mark) (marks_room : ℕ) (hs : List (Option Ahead)) (ahead_room : ℕ) : Type 0 where
   pub is_ahead : IsAhead g h
   pub state : q < states_of g.dfa.now
   pub next : h.next ≤ length hs
@@ -217,16 +217,16 @@ abbrev pub mark_over : Ahead → ℕ → ℕ → ℕ → ℕ → Mark
 mark_over h byte state mark base = record { at = h.at; mark = mark; byte = byte; state = state; goals = h.goals; next = h.next; base = base }
 
 -- a mark is kept, and the nodes beside the way down to it are put ahead
-pub record Keeps (g : Ground) (base : ℕ) (marks more : List (Option Mark)) (old new : List (Option Ahead)) : Type 0 where
+pub record Keeps (g : Ground) (base : ℕ) (marks more : List Mark) (old new : List (Option Ahead)) : Type 0 where
   pub mark : Mark
-  pub kept : more ≡ marks ++ Some mark ∷ []
+  pub kept : more ≡ marks ++ mark ∷ []
   pub base_is : mark.base ≡ base
   pub beside : List (Option Ahead)
   pub ahead : new ≡ old ++ beside
   pub fits : Fits g base new
 
 -- the way down to the first mark was laid
-pub record Descends (g : Ground) (h : Ahead) (q base : ℕ) (marks more : List (Option Mark)) (old new : List (Option Ahead)) (before after : ℕ) (out out' : Tuple) (to : Place) : Type 0 where
+pub record Descends (g : Ground) (h : Ahead) (q base : ℕ) (marks more : List Mark) (old new : List (Option Ahead)) (before after : ℕ) (out out' : Tuple) (to : Place) : Type 0 where
   pub keeps : Keeps g base marks more old new
   pub meets : (c : List Ahead) → StandsBefore g old h q c → CanEnd g q (h ∷ c) → Meets g new h.at q (h ∷ c) keeps.mark to
   pub written : out' ≡ write_mark keeps.mark.mark keeps.mark.at out
@@ -263,19 +263,17 @@ pub record IsKept (g : Ground) (t : Tuple) (hs : List (Option Ahead)) (from n lo
   pub fits : Fits g lo (take hi hs)
 
 -- these are the marks of the tuple from a position on, from number n on, in turn
-abbrev pub AreKept : Ground → Tuple → List (Option Ahead) → ℕ → ℕ → ℕ → List (Option Mark) → Type 0
+abbrev pub AreKept : Ground → Tuple → List (Option Ahead) → ℕ → ℕ → ℕ → List Mark → Type 0
 AreKept g t hs from n lo [] = lo ≡ length hs
-AreKept g t hs from n lo (None ∷ ms) = ⊥
-AreKept g t hs from n lo (Some m ∷ ms) = (hi : ℕ) × IsKept g t hs from n lo hi m × AreKept g t hs (m.at + 1) (suc n) hi ms
+AreKept g t hs from n lo (m ∷ ms) = (hi : ℕ) × IsKept g t hs from n lo hi m × AreKept g t hs (m.at + 1) (suc n) hi ms
 
 -- the position of the last mark, or else this one
-abbrev pub last_at : ℕ → List (Option Mark) → ℕ
+abbrev pub last_at : ℕ → List Mark → ℕ
 last_at at [] = at
-last_at at (None ∷ ms) = last_at at ms
-last_at at (Some m ∷ ms) = last_at m.at ms
+last_at at (m ∷ ms) = last_at m.at ms
 
 -- the first marked text from the place on was found and written, and its marks are kept for each tuple that has them there
-pub record Finds (g : Ground) (at : ℕ) (from : Place) (c : List Ahead) (n base : ℕ) (more : List (Option Mark)) (hs : List (Option Ahead)) (before after : ℕ) (r : Option ℕ) (old new : Tuple) : Type 0 where
+pub record Finds (g : Ground) (at : ℕ) (from : Place) (c : List Ahead) (n base : ℕ) (more : List Mark) (hs : List (Option Ahead)) (before after : ℕ) (r : Option ℕ) (old new : Tuple) : Type 0 where
   pub word : Marked
   pub state : ℕ
   pub ends : EndsIn g.dfa.now r state
@@ -287,8 +285,8 @@ pub record Finds (g : Ground) (at : ℕ) (from : Place) (c : List Ahead) (n base
   pub quiet : (t : Tuple) → word_over t at (text_ahead g c) ≡ word → IsUnmarked t (last_at (at - 1) more + 1) (at + length (text_ahead g c))
 
 -- the rest was completed: the nodes up to the base stay, and marks are added
-pub record Completes (g : Ground) (from : Place) (base : ℕ) (marks ms : List (Option Mark)) (old new : List (Option Ahead)) (before after : ℕ) (r : Option ℕ) (out out' : Tuple) : Type 0 where
-  pub more : List (Option Mark)
+pub record Completes (g : Ground) (from : Place) (base : ℕ) (marks ms : List Mark) (old new : List (Option Ahead)) (before after : ℕ) (r : Option ℕ) (out out' : Tuple) : Type 0 where
+  pub more : List Mark
   pub marks_are : ms ≡ marks ++ more
   pub same : take base new ≡ take base old
   pub low : base ≤ length new
@@ -300,7 +298,7 @@ NoneBehind g t k = (front back : List ℕ) (q : ℕ) → whole_text g ≡ front 
     → NoneAfter g.dfa.now q back g.finals (word_over t (1 + k) back)
 
 -- nothing is read yet
-pub record IsFresh (g : Ground) (ms : List (Option Mark)) (hs : List (Option Ahead)) : Type 0 where
+pub record IsFresh (g : Ground) (ms : List Mark) (hs : List (Option Ahead)) : Type 0 where
   pub no_marks : ms ≡ []
   pub chain : List Ahead
   pub stands : Stands g hs 1 (record { state = 0; next = length hs; quiet = false }) chain
@@ -308,13 +306,13 @@ pub record IsFresh (g : Ground) (ms : List (Option Mark)) (hs : List (Option Ahe
   pub one : length hs ≤ 1
 
 -- the marks of the tuple are kept, behind the last of which nothing that comes after the tuple is accepted
-pub record IsTrailOf (g : Ground) (t : Tuple) (ms : List (Option Mark)) (hs : List (Option Ahead)) : Type 0 where
+pub record IsTrailOf (g : Ground) (t : Tuple) (ms : List Mark) (hs : List (Option Ahead)) : Type 0 where
   pub base : ℕ
   pub one : base ≤ 1
   pub kept : AreKept g t hs 1 0 base ms
   pub none : NoneBehind g t (last_at 0 ms)
 
-abbrev pub IsTrail : Ground → Option Tuple → List (Option Mark) → List (Option Ahead) → Type 0
+abbrev pub IsTrail : Ground → Option Tuple → List Mark → List (Option Ahead) → Type 0
 IsTrail g None ms hs = IsFresh g ms hs
 IsTrail g (Some t) ms hs = IsTrailOf g t ms hs
 
@@ -355,26 +353,26 @@ EndsBehind g position [] = Unit {0}
 EndsBehind g position (h ∷ c) = position < h.at + length (text_at g h.id.index)
 
 -- the way down to the position was laid: the tuple's mark there is kept, and the nodes ahead of it
-pub record Lays (g : Ground) (t : Tuple) (h : Ahead) (q position base : ℕ) (marks more : List (Option Mark)) (old new : List (Option Ahead)) : Type 0 where
+pub record Lays (g : Ground) (t : Tuple) (h : Ahead) (q position base : ℕ) (marks more : List Mark) (old new : List (Option Ahead)) : Type 0 where
   pub keeps : Keeps g base marks more old new
   pub position_is : keeps.mark.at ≡ position
   pub mark_is : keeps.mark.mark ≡ mark_of t position
   pub way : (c : List Ahead) → StandsBefore g old h q c → Way g new h.at q (h ∷ c) keeps.mark
 
 -- no run came to the position: no mark is kept, and the nodes up to the base are as before
-pub record Fails (g : Ground) (h : Ahead) (q position base : ℕ) (marks more : List (Option Mark)) (old new : List (Option Ahead)) : Type 0 where
+pub record Fails (g : Ground) (h : Ahead) (q position base : ℕ) (marks more : List Mark) (old new : List (Option Ahead)) : Type 0 where
   pub dies : Dies g q h.at (text_at g h.id.index) position
   pub kept : more ≡ marks
   pub ahead : take base new ≡ take base old
 
 -- one of both
-abbrev pub Laid : Ground → Tuple → Ahead → ℕ → ℕ → ℕ → List (Option Mark) → List (Option Mark) → List (Option Ahead) → List (Option Ahead) → Bool → Type 0
+abbrev pub Laid : Ground → Tuple → Ahead → ℕ → ℕ → ℕ → List Mark → List Mark → List (Option Ahead) → List (Option Ahead) → Bool → Type 0
 Laid g t h q position base marks more old new true = Lays g t h q position base marks more old new
 Laid g t h q position base marks more old new false = Fails g h q position base marks more old new
 
 -- the tuple's marks were kept from the position on, as far as a run follows them
-pub record Followed (g : Ground) (t : Tuple) (at : ℕ) (marks ms : List (Option Mark)) (old new : List (Option Ahead)) (before after : ℕ) (end : Option ℕ) : Type 0 where
-  pub more : List (Option Mark)
+pub record Followed (g : Ground) (t : Tuple) (at : ℕ) (marks ms : List Mark) (old new : List (Option Ahead)) (before after : ℕ) (end : Option ℕ) : Type 0 where
+  pub more : List Mark
   pub marks_are : ms ≡ marks ++ more
   pub beside : List (Option Ahead)
   pub ahead : new ≡ old ++ beside
@@ -384,11 +382,14 @@ pub record Followed (g : Ground) (t : Tuple) (at : ℕ) (marks ms : List (Option
   pub cost : after ≤ before + 2 * (height_limit (length (whole_text g)) * length more) + 2 * height_limit (length (whole_text g))
 
 -- ---- the last mark that can be lowered
+-- m is the last of the marks
+abbrev pub IsLast : List Mark → Mark → Type 0
+IsLast ms m = ms ≡ take (length ms - 1) ms ++ m ∷ []
+
 -- the last mark is the one that l lowers
-pub record LowersLast (g : Ground) (ms : List (Option Mark)) (l : Lowered) : Type 0 where
-  pub others : List (Option Mark)
+pub record LowersLast (g : Ground) (ms : List Mark) (l : Lowered) : Type 0 where
   pub mark : Mark
-  pub parts : ms ≡ others ++ Some mark ∷ []
+  pub is_last : IsLast ms mark
   pub at : l.at ≡ mark.at
   pub best : IsGreatestMark g.dfa.now mark.state mark.byte mark.goals mark.mark l.mark l.state
 
@@ -397,7 +398,7 @@ abbrev pub Starts : Tuple → Marked → Type 0
 Starts t word = word_over t 1 (bytes_of word) ≡ word
 
 -- the walk stands behind the letters of a word. What is kept up to the base are the marks of each tuple that begins with it
-pub record Begins (g : Ground) (place : Place) (base : ℕ) (word : Marked) (ms : List (Option Mark)) (hs : List (Option Ahead)) : Type 0 where
+pub record Begins (g : Ground) (place : Place) (base : ℕ) (word : Marked) (ms : List Mark) (hs : List (Option Ahead)) : Type 0 where
   pub chain : List Ahead
   pub stands : Stands g hs (length word + 1) place chain
   pub can : CanEnd g place.state chain
@@ -414,7 +415,7 @@ pub record Begins (g : Ground) (place : Place) (base : ℕ) (word : Marked) (ms 
   pub short : base ≤ root + 69 * length ms
 
 -- the last mark is lowered: behind a word that ends with the lower one the first text over the rest makes the next one
-pub record IsTurned (g : Ground) (t : Tuple) (l : Lowered) (turn : Turn) (ms : List (Option Mark)) (hs : List (Option Ahead)) : Type 0 where
+pub record IsTurned (g : Ground) (t : Tuple) (l : Lowered) (turn : Turn) (ms : List Mark) (hs : List (Option Ahead)) : Type 0 where
   pub word : Marked
   pub positive : 1 ≤ l.at
   pub inside : l.at ≤ length (whole_text g)
@@ -425,7 +426,7 @@ pub record IsTurned (g : Ground) (t : Tuple) (l : Lowered) (turn : Turn) (ms : L
 
 -- ---- the next answer
 -- the rest was completed, and the greatest mark was written at the end
-pub record Finishes (g : Ground) (from : Place) (base : ℕ) (marks ms : List (Option Mark)) (old new : List (Option Ahead)) (before after : ℕ) (out : Tuple) (end : ℕ) (found : Found) : Type 0 where
+pub record Finishes (g : Ground) (from : Place) (base : ℕ) (marks ms : List Mark) (old new : List (Option Ahead)) (before after : ℕ) (out : Tuple) (end : ℕ) (found : Found) : Type 0 where
   pub written : Tuple
   pub mark : ℕ
   pub completes : Completes g from base marks ms old new before after found.state out written

@@ -6,8 +6,8 @@ ghost use Rattle.marker_dfa.specs.Deterministic.{states_of};
 ghost use Rattle.span_enum.specs.Listing.{text_of, IsReady, IsCursor};
 ghost use Rattle.span_enum.specs.Members.{IsMember, IsFirstMember, NoMemberLeft, HasMember};
 ghost use Rattle.span_enum.specs.Sets.{is_final};
-ghost use Rattle.span_enum.specs.Trail.{IsGround, whole_text, Agree, CanFinish, Finishes, Fits, HasRoom, IsFresh, IsStateAt, IsTrailOf, NoEndAfter};
-ghost use Rattle.span_enum.specs.Answering.{IsFoundAfter, IsNoneAfter};
+ghost use Rattle.span_enum.specs.Trail.{IsGround, whole_text, CanFinish, Finishes, Fits, HasRoom, IsFresh, IsStateAt, IsTrailOf, NoEndAfter};
+ghost use Rattle.span_enum.specs.Answering.{IsFoundAfter, IsLoweredAtEnd, IsNoneAfter};
 ghost use Rattle.span_enum.specs.Words.{CanRun, IsGreatestMark};
 
 use crate::ends::{accepts_end, end_limit, greatest_end};
@@ -270,9 +270,9 @@ fn first_answer<'a, L: Ledger>(
     requires end { end ≡ length (whole_text ground.now) + 1 }
     requires fresh { IsFresh ground.now trail.old.marks.items trail.old.ahead.items }
     requires room { HasRoom ground.now.dfa.now.variables trail.old.marks.capacity trail.old.ahead.capacity }
-    ensures found { MatchOption result (IsNoneAfter ground.now None trail.new.marks.items trail.new.ahead.items)
-        (IsFoundAfter ground.now None trail.new.marks.items trail.new.ahead.items) }
-    ensures cost { looks.new ≤ looks.old + looks_limit ground.now.dfa.now.variables (length (whole_text ground.now)) }
+    ensures answer { MatchOption result (IsNoneAfter ground.now None trail.new.marks.items trail.new.ahead.items)
+        (IsFoundAfter ground.now None trail.new.marks.items trail.new.ahead.items)
+        × (looks.new ≤ looks.old + looks_limit ground.now.dfa.now.variables (length (whole_text ground.now))) }
     ensures marks_room { trail.new.marks.capacity ≡ trail.old.marks.capacity }
     ensures ahead_room { trail.new.ahead.capacity ≡ trail.old.ahead.capacity }
 {
@@ -305,9 +305,9 @@ fn answer_after<'a, L: Ledger>(
     requires state { IsStateAt ground.now (Some t.now) state }
     requires trail { IsTrailOf ground.now t.now trail.old.marks.items trail.old.ahead.items }
     requires room { HasRoom ground.now.dfa.now.variables trail.old.marks.capacity trail.old.ahead.capacity }
-    ensures found { MatchOption result (IsNoneAfter ground.now (Some t.now) trail.new.marks.items trail.new.ahead.items)
-        (IsFoundAfter ground.now (Some t.now) trail.new.marks.items trail.new.ahead.items) }
-    ensures cost { looks.new ≤ looks.old + looks_limit ground.now.dfa.now.variables (length (whole_text ground.now)) }
+    ensures answer { MatchOption result (IsNoneAfter ground.now (Some t.now) trail.new.marks.items trail.new.ahead.items)
+        (IsFoundAfter ground.now (Some t.now) trail.new.marks.items trail.new.ahead.items)
+        × (looks.new ≤ looks.old + looks_limit ground.now.dfa.now.variables (length (whole_text ground.now))) }
     ensures marks_room { trail.new.marks.capacity ≡ trail.old.marks.capacity }
     ensures ahead_room { trail.new.ahead.capacity ≡ trail.old.ahead.capacity }
 {
@@ -333,10 +333,7 @@ fn lowered_at_end(ground: &Ground<'_>, end: u64, state: Option<u8>, t: &Tuple) -
     requires low { end ≤ 281474976710657 }
     requires tuple { length t.now ≡ ground.now.dfa.now.variables }
     requires state { IsStateAt ground.now (Some t.now) state }
-    ensures none { MatchOption result (NoEndAfter ground.now t.now end)
-        (λ f. IsFirstMember ground.now.dfa.now (whole_text ground.now) (Some t.now) f.tuple) }
-    ensures agree { IfSome result (λ f. Agree t.now f.tuple end) }
-    ensures state { IfSome result (λ f. IsStateAt ground.now (Some f.tuple) f.state) }
+    ensures { MatchOption result (NoEndAfter ground.now t.now end) (IsLoweredAtEnd ground.now t.now end) }
 {
     let _count = t.count();
     let q = state?;

@@ -46,18 +46,16 @@ fn reach<'a, L: Ledger>(
     here: &mut Ahead<'a>,
     state: u8,
     t: &Tuple,
-    position: u64,
+    to: u64,
     base: usize,
     looks: &mut Steps<L>,
 ) -> bool
     requires ground { IsGround ground.now }
     requires down { CanGoDown ground.now here.old state base trail.old.marks.items trail.old.marks.capacity trail.old.ahead.items trail.old.ahead.capacity }
-    requires over { IsOver ground.now here.old position }
-    ensures laid { Laid ground.now t.now here.old state position base trail.old.marks.items trail.new.marks.items
-        trail.old.ahead.items trail.new.ahead.items result }
+    requires over { IsOver ground.now here.old to }
+    ensures laid { Laid ground.now t.now here.old state to base trail.old.marks.items trail.new.marks.items trail.old.ahead.items trail.new.ahead.items result }
     ensures cost { looks.new ≤ looks.old + 2 * height_at ground.now here.old.id.index }
-    ensures marks_room { trail.new.marks.capacity ≡ trail.old.marks.capacity }
-    ensures ahead_room { trail.new.ahead.capacity ≡ trail.old.ahead.capacity }
+    ensures room { (trail.new.marks.capacity ≡ trail.old.marks.capacity) × (trail.new.ahead.capacity ≡ trail.old.ahead.capacity) }
 {
     match here.look.node {
         Node::Byte(byte) => {
@@ -67,16 +65,15 @@ fn reach<'a, L: Ledger>(
         Node::Pair(l, r) => {
             let left = ground.view.look(l, looks);
             let right = ground.view.look(r, looks);
-            let middle = here.at + left.len;
-            if position < middle {
+            if to < here.at + left.len {
                 let between = goals_between(ground.dfa, &*here, left.table, right.table, state);
                 go_left(trail, here, l, &left, r, &right, between);
-                return reach(ground, trail, here, state, t, position, base, looks);
+                return reach(ground, trail, here, state, t, to, base, looks);
             }
             match left.table.unmarked(state) {
                 Some(q) => {
                     go_right(here, left.len, r, &right);
-                    reach(ground, trail, here, q, t, position, base, looks)
+                    reach(ground, trail, here, q, t, to, base, looks)
                 }
                 None => false,
             }
@@ -103,26 +100,16 @@ pub(crate) fn follow<'a, L: Ledger>(
     requires ahead_fit { length trail.old.ahead.items + 69 * (2 * ground.now.dfa.now.variables - length trail.old.marks.items) ≤ trail.old.ahead.capacity }
     ensures followed { Followed ground.now t.now at trail.old.marks.items trail.new.marks.items trail.old.ahead.items trail.new.ahead.items
         looks.old looks.new result }
-    ensures marks_room { trail.new.marks.capacity ≡ trail.old.marks.capacity }
-    ensures ahead_room { trail.new.ahead.capacity ≡ trail.old.ahead.capacity }
+    ensures room { (trail.new.marks.capacity ≡ trail.old.marks.capacity) × (trail.new.ahead.capacity ≡ trail.old.ahead.capacity) }
 {
-    let position = first_mark(t, at, end);
-    let place = pass_to(ground, &*trail, from, position)?;
+    let to = first_mark(t, at, end);
+    let place = pass_to(ground, &*trail, from, to)?;
     if place.next == 0 {
         return Some(place.state);
     }
     let mut here = *ahead_at(&*trail, place.next);
     let base = trail.ahead.len();
-    let comes = reach(
-        ground,
-        trail,
-        &mut here,
-        place.state,
-        t,
-        position,
-        base,
-        looks,
-    );
+    let comes = reach(ground, trail, &mut here, place.state, t, to, base, looks);
     if !comes {
         trail.ahead.truncate(base);
         return None;
@@ -134,5 +121,5 @@ pub(crate) fn follow<'a, L: Ledger>(
         next: last.next,
         quiet: false,
     };
-    follow(ground, trail, behind, t, position + 1, end, looks)
+    follow(ground, trail, behind, t, to + 1, end, looks)
 }

@@ -9,7 +9,7 @@ ghost use Rattle.span_enum.specs.Sets.{can_reach_of};
 ghost use Rattle.span_enum.specs.Words.{IsFork};
 ghost use Rattle.span_enum.specs.OverLeft.{IsOverLeft};
 ghost use Rattle.span_enum.specs.Trail.{IsGround, IsAhead, Stands, CanEnd, CanGo, CanFinish, PassesPlain, Turns, CanGoDown, mark_over, Descends, Completes, Fits, height_at};
-ghost use Rattle.span_enum.specs.WayDown.{GoesOnAt};
+ghost use Rattle.span_enum.specs.WayDown.{GoesOnAt, child, sibling};
 ghost use Rattle.span_enum.specs.declared.trail.Ahead.{Ahead};
 
 use crate::ground::Ground;
@@ -104,22 +104,8 @@ pub(crate) fn go_left<'a>(
 )
     requires room { length trail.old.ahead.items < trail.old.ahead.capacity }
     requires low { here.old.at + left.now.len < 2 ^ 64 }
-    ensures child { here.new ≡ record {
-      id = l;
-      look = left.now;
-      at = here.old.at;
-      goals = between.goals;
-      quiet = between.quiet;
-      next = length trail.old.ahead.items + 1;
-    } }
-    ensures items { trail.new.ahead.items ≡ trail.old.ahead.items ++ Some (record {
-      id = r;
-      look = right.now;
-      at = here.old.at + left.now.len;
-      goals = here.old.goals;
-      quiet = here.old.quiet;
-      next = here.old.next;
-    }) ∷ [] }
+    ensures child { here.new ≡ child here.old l left.now between (length trail.old.ahead.items + 1) }
+    ensures items { trail.new.ahead.items ≡ trail.old.ahead.items ++ Some (sibling here.old r left.now right.now) ∷ [] }
     ensures room { trail.new.ahead.capacity ≡ trail.old.ahead.capacity }
     ensures marks { trail.new.marks ≡ trail.old.marks }
 {
@@ -176,11 +162,11 @@ pub(crate) fn keep_mark<'a>(
     base: usize,
 )
     requires { length trail.old.marks.items < trail.old.marks.capacity }
-    ensures marks { trail.new.marks.items ≡ trail.old.marks.items ++ Some (mark_over here.now byte state mark base) ∷ [] }
+    ensures marks { trail.new.marks.items ≡ trail.old.marks.items ++ mark_over here.now byte state mark base ∷ [] }
     ensures room { trail.new.marks.capacity ≡ trail.old.marks.capacity }
     ensures ahead { trail.new.ahead ≡ trail.old.ahead }
 {
-    trail.marks.push_reserved(Some(Mark {
+    trail.marks.push_reserved(Mark {
         at: here.at,
         mark,
         byte,
@@ -188,7 +174,7 @@ pub(crate) fn keep_mark<'a>(
         goals: here.goals,
         next: here.next,
         base,
-    }));
+    });
 }
 
 /// Keeps the greatest mark at a letter, and writes it. The place behind the letter is the answer.

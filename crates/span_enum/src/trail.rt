@@ -3,7 +3,7 @@ ghost use Rattle.std.specs.Prelude.{◌≡◌, ℕ, List, ◌∷◌, ◌++◌, O
 ghost use Rattle.span_enum.specs.Next.{NoneAfter};
 ghost use Rattle.span_enum.specs.Words.{IsNoMark};
 ghost use Rattle.span_enum.specs.Tuples.{word_over};
-ghost use Rattle.span_enum.specs.Trail.{IsGround, HasRoom, IsTrailOf, IsTurned, LowersLast, whole_text};
+ghost use Rattle.span_enum.specs.Trail.{IsGround, HasRoom, IsLast, IsTrailOf, IsTurned, LowersLast, whole_text};
 ghost use Rattle.span_enum.specs.declared.trail.Ahead.{Ahead};
 ghost use Rattle.span_enum.specs.declared.trail.Mark.{Mark};
 
@@ -31,7 +31,7 @@ pub(crate) struct Ahead<'a> {
 
 /// A mark of the last answer: its letter, the state before the letter, the states after it from which the rest is accepted,
 /// the node that comes next, and how many nodes were kept before the way down to it was laid.
-#[derive(Clone, Copy)]
+#[derive(Clone, Copy, Default)]
 pub(crate) struct Mark {
     pub(crate) at: u64,
     pub(crate) mark: u16,
@@ -57,11 +57,11 @@ pub(crate) struct Turn {
     pub(crate) base: usize,
 }
 
-/// The marks of the last answer, and the nodes ahead of them. Every item is there: it is an option since a `SmallVec` puts a
+/// The marks of the last answer, and the nodes ahead of them. Every node is there: it is an option since a `SmallVec` puts a
 /// default value in place of what it removes.
 #[derive(Drop)]
 pub(crate) struct Trail<'a> {
-    pub(crate) marks: SmallVec<Option<Mark>, 0>,
+    pub(crate) marks: SmallVec<Mark, 0>,
     pub(crate) ahead: SmallVec<Option<Ahead<'a>>, 0>,
 }
 
@@ -96,29 +96,24 @@ pub(crate) fn ahead_at<'t, 'a>(trail: &'t Trail<'a>, place: usize) -> &'t Ahead<
 
 /// The last mark.
 pub(crate) fn last_of<'t>(trail: &'t Trail<'_>) -> &'t Mark
-    requires { (others : List (Option Mark)) × ((m : Mark) × (trail.now.marks.items ≡ others ++ Some m ∷ [])) }
-    ensures { (others : List (Option Mark)) (m : Mark) → trail.now.marks.items ≡ others ++ Some m ∷ [] → result.now ≡ m }
+    requires { 0 < length trail.now.marks.items }
+    ensures { IsLast trail.now.marks.items result.now }
 {
-    match &trail.marks.as_slice()[trail.marks.len() - 1] {
-        Some(mark) => mark,
-        None => unreachable!(),
-    }
+    &trail.marks.as_slice()[trail.marks.len() - 1]
 }
 
 /// Forgets the last mark and the way down to it.
-fn forget_last(ground: &Ground<'_>, trail: &mut Trail<'_>, t: &Tuple)
+fn forget_last(ground: &Ground<'_>, trail: &mut Trail<'_>, last: Mark, t: &Tuple)
     requires ground { IsGround ground.now }
     requires trail { IsTrailOf ground.now t.now trail.old.marks.items trail.old.ahead.items }
-    requires some { 0 < length trail.old.marks.items }
-    requires none { (others : List (Option Mark)) (m : Mark) → trail.old.marks.items ≡ others ++ Some m ∷ [] → (n : ℕ)
-        → IsNoMark ground.now.dfa.now m.state m.byte m.goals m.mark n }
+    requires last { IsLast trail.old.marks.items last }
+    requires none { (n : ℕ) → IsNoMark ground.now.dfa.now last.state last.byte last.goals last.mark n }
     ensures trail { IsTrailOf ground.now t.now trail.new.marks.items trail.new.ahead.items }
     ensures less { length trail.new.marks.items < length trail.old.marks.items }
     ensures marks_room { trail.new.marks.capacity ≡ trail.old.marks.capacity }
     ensures ahead_room { trail.new.ahead.capacity ≡ trail.old.ahead.capacity }
 {
-    let base = last_of(&*trail).base;
-    trail.ahead.truncate(base);
+    trail.ahead.truncate(last.base);
     let count = trail.marks.len();
     trail.marks.truncate(count - 1);
 }
@@ -149,7 +144,7 @@ pub(crate) fn lower_last(ground: &Ground<'_>, trail: &mut Trail<'_>, t: &Tuple) 
                     state: step.state,
                 });
             }
-            None => forget_last(ground, trail, t),
+            None => forget_last(ground, trail, last, t),
         }
     }
     None
@@ -178,10 +173,10 @@ pub(crate) fn lower_to(
             base: last.base,
         };
     }
-    trail.marks.push_reserved(Some(Mark {
+    trail.marks.push_reserved(Mark {
         mark: lowered.mark,
         ..last
-    }));
+    });
     Turn {
         next: last.next,
         base: trail.ahead.len(),

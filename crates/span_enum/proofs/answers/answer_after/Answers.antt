@@ -1,27 +1,30 @@
-use Rattle.span_enum.proofs.Base.{Agree, IsFoundAfter, NoEndAfter, Some, ap, arith, blanks, length, looks_limit, whole_text, write_mark, write_word, ◌++◌, ◌+◌, ◌∙◌, ◌≤◌}
+use Rattle.span_enum.proofs.Base.{Agree, NoEndAfter, Some, ap, arith, blanks, length, whole_text, write_mark, write_word, ◌++◌, ◌+◌, ◌∙◌}
 use Rattle.span_enum.proofs.Answerings.{answer-found, begins-finish, begins-fit, next-ended, none-ended, trail-agree}
 use Rattle.span_enum.proofs.Roots.{ground-text}
-use Rattle.span_enum.proofs.answers.answer_after.Given.{Over}
-use Rattle.span_enum.proofs.answers.answer_after.Goals.{After-finish}
 use Rattle.span_enum.proofs.answers.answer_after.Goals as goal
 
-pub returns-in-Some-clause-found : goal.returns-in-Some-clause-found
-returns-in-Some-clause-found g c =
-    let agree : Agree c.args.t.now c.in-Some.found.tuple (length (whole_text c.args.ground.now) + 1) = rw c.requires.end at c.in-Some.ensures.agree in
-    record {
-      first = c.in-Some.ensures.none;
-      trail = trail-agree c.args.ground.now c.args.t.now c.in-Some.found.tuple c.args.trail.now.marks.items c.args.trail.now.ahead.items agree c.requires.trail;
-      state = c.in-Some.ensures.state;
-    }
+pub returns-in-Some-clause-answer : goal.returns-in-Some-clause-answer
+returns-in-Some-clause-answer g c =
+    let agree : Agree c.args.t.now c.in-Some.found.tuple (length (whole_text c.args.ground.now) + 1) = rw c.requires.end at c.in-Some.ensures.agree in (
+      record {
+        first = c.in-Some.ensures.first;
+        trail = trail-agree c.args.ground.now c.args.t.now c.in-Some.found.tuple c.args.trail.now.marks.items c.args.trail.now.ahead.items agree c.requires.trail;
+        state = c.in-Some.ensures.state;
+      },
+      omega arith,
+    )
 
-pub returns-in_err-lowered-clause-found : goal.returns-in_err-lowered-clause-found
-returns-in_err-lowered-clause-found g c =
+pub returns-in_err-lowered-clause-answer : goal.returns-in_err-lowered-clause-answer
+returns-in_err-lowered-clause-answer g c =
     let ground = c.args.ground.now in
     let text = ground-text ground c.requires.ground (omega (arith, c.requires.end, c.requires.low)) in
-    rw c.from_residual.ensures (record {
-      none = none-ended ground c.requires.ground text c.args.t.now (rw c.requires.end at c.in_default.ensures.none) (record { size = c.requires.tuple; valid = c.count-count.ensures.tuple }) c.in_err-lowered.ensures.lowers;
-      trail = c.in_err-lowered.ensures.trail;
-    })
+    rw c.from_residual.ensures (
+      record {
+        none = none-ended ground c.requires.ground text c.args.t.now (rw c.requires.end at c.in_default.ensures) (record { size = c.requires.tuple; valid = c.count-count.ensures.tuple }) c.in_err-lowered.ensures.lowers;
+        trail = c.in_err-lowered.ensures.trail;
+      },
+      omega arith,
+    )
 
 pub finish-requires-clause-finish : goal.finish-requires-clause-finish
 finish-requires-clause-finish g c =
@@ -36,22 +39,14 @@ finish-requires-clause-ahead_fit g c =
     rw (c.lower_to-turn.ensures.ahead_room, c.in_ok-lowered.ensures.ahead_room)
     (begins-fit ground c.requires.ground text _ _ _ _ _ c.lower_to-turn.ensures.turned.begins c.args.trail.now.ahead.capacity c.requires.room.ahead_fits)
 
--- the answer with its trail, and the looks
-both : (g : Over) (c : After-finish g) → IsFoundAfter c.args.ground.now (Some c.args.t.now) c.finish.new.trail.marks.items c.finish.new.trail.ahead.items c.finish.result
-    × (c.finish.new.looks ≤ c.args.looks.now + looks_limit c.args.ground.now.dfa.now.variables (length (whole_text c.args.ground.now)))
-both g c =
+pub returns-clause-answer : goal.returns-clause-answer
+returns-clause-answer g c =
     let ground = c.args.ground.now in
     let text = ground-text ground c.requires.ground (omega (arith, c.requires.end, c.requires.low)) in
     let l = c.in_ok-lowered.lowered in
     let turned = c.lower_to-turn.ensures.turned in
     let tuple = c.count-count.ensures.tuple in
-    let noend : NoEndAfter ground c.args.t.now (length (whole_text ground) + 1) = rw c.requires.end at c.in_default.ensures.none in
+    let noend : NoEndAfter ground c.args.t.now (length (whole_text ground) + 1) = rw c.requires.end at c.in_default.ensures in
     answer-found ground c.requires.ground text (Some c.args.t.now) (record { size = c.requires.tuple; valid = tuple }) _ _ turned.word _ _ c.args.end _ _ _ _ c.with_mark-marks.result c.finish.result turned.begins
     (c.with_mark-marks.ensures.value ∙ ap (write_mark l.mark l.at) c.cut_at.ensures ∙ turned.written tuple.spans ∙ ap (λ k. write_word 1 turned.word (blanks k)) c.requires.tuple) c.requires.end
     (λ w r e first best. next-ended ground c.requires.ground text c.args.t.now noend (turned.word ++ w) r e (turned.next w r first) best) c.finish.ensures.finishes
-
-pub returns-clause-found : goal.returns-clause-found
-returns-clause-found g c = (both g (goal.at.returns-clause-found g c).After-finish).0
-
-pub returns-clause-cost : goal.returns-clause-cost
-returns-clause-cost g c = (both g (goal.at.returns-clause-cost g c).After-finish).1

@@ -1,20 +1,22 @@
-use Rattle.span_enum.proofs.Base.{Begins, IsFirst, IsFoundAfter, None, [], ap, arith, blanks, false, length, looks_limit, refl, subst, sym, true≢false, whole_text, ◌+◌, ◌∙◌, ◌≤◌}
+use Rattle.span_enum.proofs.Base.{Begins, IsFirst, None, [], ap, arith, blanks, false, refl, subst, sym, true≢false, ◌∙◌}
 use Rattle.span_enum.proofs.Answerings.{answer-found, begins-finish, first-ended}
 use Rattle.span_enum.proofs.Roots.{fresh-begins, ground-text, text-short}
 use Rattle.span_enum.proofs.Runs.{run-from_accepted}
 use Rattle.span_enum.proofs.Tuples.{none-member}
 use Rattle.span_enum.proofs.answers.first_answer.Given.{Over}
-use Rattle.span_enum.proofs.answers.first_answer.Goals.{After-finish, After-len-count}
+use Rattle.span_enum.proofs.answers.first_answer.Goals.{After-len-count}
 use Rattle.span_enum.proofs.answers.first_answer.Goals as goal
 
-pub returns-then-not-has_first-clause-found : goal.returns-then-not-has_first-clause-found
-returns-then-not-has_first-clause-found g c =
+pub returns-then-not-has_first-clause-answer : goal.returns-then-not-has_first-clause-answer
+returns-then-not-has_first-clause-answer g c =
     let ground = c.args.ground.now in
-    let text = ground-text ground c.requires.ground (text-short ground _ _ c.requires.fresh) in
-    record {
-      none = none-member ground.dfa.now c.requires.ground.automaton _ text None tt (λ run. true≢false (sym (c.if-not-has_first.ensures.1 (run-from_accepted ground.dfa.now c.requires.ground.automaton ground.finals c.requires.ground.all _ run))));
-      trail = c.requires.fresh;
-    }
+    let text = ground-text ground c.requires.ground (text-short ground _ _ c.requires.fresh) in (
+      record {
+        none = none-member ground.dfa.now c.requires.ground.automaton _ text None tt (λ run. true≢false (sym (c.if-not-has_first.ensures.1 (run-from_accepted ground.dfa.now c.requires.ground.automaton ground.finals c.requires.ground.all _ run))));
+        trail = c.requires.fresh;
+      },
+      omega arith,
+    )
 
 -- the walk stands before the first letter
 begins : (g : Over) (c : After-len-count g) → Begins c.args.ground.now (record { state = 0; next = c.len-count.result; quiet = false }) c.len-count.result [] c.args.trail.now.marks.items c.args.trail.now.ahead.items
@@ -32,19 +34,11 @@ finish-requires-clause-fits g c = (begins g (goal.at.finish-requires-clause-fits
 pub finish-requires-clause-short : goal.finish-requires-clause-short
 finish-requires-clause-short g c = omega (arith, text-short c.args.ground.now _ _ c.requires.fresh, c.requires.end)
 
--- the answer with its trail, and the looks
-both : (g : Over) (c : After-finish g) → IsFoundAfter c.args.ground.now None c.finish.new.trail.marks.items c.finish.new.trail.ahead.items c.finish.result
-    × (c.finish.new.looks ≤ c.args.looks.now + looks_limit c.args.ground.now.dfa.now.variables (length (whole_text c.args.ground.now)))
-both g c =
+pub returns-clause-answer : goal.returns-clause-answer
+returns-clause-answer g c =
     let ground = c.args.ground.now in
     let fresh = c.requires.fresh in
     let text = ground-text ground c.requires.ground (text-short ground _ _ fresh) in
     let b = fresh-begins ground c.args.trail.now.marks.items c.args.trail.now.ahead.items c.len-count.result fresh c.len-count.ensures.value (c.if-not-has_first.ensures.0 refl) in
     answer-found ground c.requires.ground text None tt _ _ [] _ _ c.args.end _ _ _ _ c.none-none.result c.finish.result b (c.none-none.ensures ∙ ap blanks c.variables.ensures.value) c.requires.end
     (λ w r e first best. first-ended ground c.requires.ground text w r e (subst (λ x. IsFirst ground.dfa.now 0 x ground.finals w r) (sym b.bytes) first) best) c.finish.ensures.finishes
-
-pub returns-clause-found : goal.returns-clause-found
-returns-clause-found g c = (both g (goal.at.returns-clause-found g c).After-finish).0
-
-pub returns-clause-cost : goal.returns-clause-cost
-returns-clause-cost g c = (both g (goal.at.returns-clause-cost g c).After-finish).1

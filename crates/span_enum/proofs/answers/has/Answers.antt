@@ -1,6 +1,6 @@
-use Rattle.span_enum.proofs.Base.{Some, [], height, length, refl, text, tree, ◌<◌}
-use Rattle.span_enum.proofs.Answerings.{cost-lower, within-limit}
+use Rattle.span_enum.proofs.Base.{Some, [], arith, height, height-by_leaves, length, length-text, refl, text, tree, ◌<◌}
 use Rattle.span_enum.proofs.Tuples.{IsText, accepts-from_end, accepts-from_member, end-from_accepts, few-marks, look-text, member-from_accepts, no-text}
+use Rattle.span_enum.proofs.Words.{looks-within}
 use Rattle.span_enum.proofs.answers.has.Goals as goal
 
 pub returns-in-None-clause-answer : goal.returns-in-None-clause-answer
@@ -32,9 +32,6 @@ returns-in-Some-clause-answer g c =
 
 pub returns-in-Some-clause-cost : goal.returns-in-Some-clause-cost
 returns-in-Some-clause-cost g c =
-    let nodes = c.args.view.store.now in
-    let s = text (tree nodes c.in-Some.id.index) in
-    let k = c.args.dfa.now.variables in
-    rw c.in-Some.is (within-limit k c.args.looks.now _ (tree nodes c.in-Some.id.index) c.look-look.ensures.look.balanced
-    (cost-lower k (height (tree nodes c.in-Some.id.index)) c.args.looks.now _ _ _
-    c.look-look.ensures.step (few-marks k c.args.tuple.now s c.requires.tuple) c.state_over-state.ensures.cost))
+    let t = tree c.args.view.store.now c.in-Some.id.index in
+    rw c.in-Some.is (looks-within c.args.dfa.now.variables (length (text t)) (height t) _ c.args.looks.now _ (rw (length-text t) (height-by_leaves t c.look-look.ensures.look.balanced))
+    (few-marks c.args.dfa.now.variables c.args.tuple.now (text t) c.requires.tuple) (omega (arith, c.look-look.ensures.step, c.state_over-state.ensures.cost)))

@@ -1,14 +1,16 @@
-use Rattle.span_enum.proofs.Base.{arith, sym, whole_text, ◌∙◌}
+use Rattle.span_enum.proofs.Base.{[], ap, arith, sym, text_ahead, whole_text, ◌∙◌, ◌≡◌}
 use Rattle.span_enum.proofs.Chains.{next-there}
-use Rattle.span_enum.proofs.Roots.{no-root, root-tells}
+use Rattle.span_enum.proofs.Roots.{root-tells}
 use Rattle.span_enum.proofs.Runs.{Tells, goal-from_nothing, run-from_table, run-nothing, table-from_run}
+use Rattle.span_enum.proofs.Ways.{back-none}
 use Rattle.span_enum.proofs.answers.has_first.Goals.{After-ahead_at}
 use Rattle.span_enum.proofs.answers.has_first.Goals as goal
 
 pub returns-then-count-eq0 : goal.returns-then-count-eq0
 returns-then-count-eq0 c =
     let g = c.args.ground.now in
-    let none = no-root g c.args.trail.now.marks.items c.args.trail.now.ahead.items c.requires.fresh (sym c.len-count.ensures.value ∙ c.if-count-eq0.true) in
+    let fresh = c.requires.fresh in
+    let none : whole_text g ≡ [] = sym fresh.text_is ∙ ap (text_ahead g) (back-none c.args.trail.now.ahead.items _ fresh.chain fresh.stands.ahead (omega (arith, c.len-count.ensures.value, c.if-count-eq0.true))) in
     rw none ((λ h. run-nothing g.dfa.now 0 g.finals (sym c.holds.ensures ∙ h)), (λ run. c.holds.ensures ∙ goal-from_nothing g.dfa.now 0 g.finals run))
 
 pub ahead_at-requires : goal.ahead_at-requires

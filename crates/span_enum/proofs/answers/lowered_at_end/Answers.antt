@@ -1,8 +1,7 @@
-use Rattle.span_enum.proofs.Base.{Agree, IsFirstMember, Some, ap, arith, reached, whole_text, word_over, write_mark, ◌∙◌, ◌≡◌}
+use Rattle.span_enum.proofs.Base.{Some, ap, arith, reached, whole_text, word_over, write_mark, ◌∙◌, ◌≡◌}
 use Rattle.span_enum.proofs.Answerings.{lowered-end}
 use Rattle.span_enum.proofs.Roots.{ground-text}
 use Rattle.span_enum.proofs.Runs.{run-within}
-use Rattle.span_enum.proofs.answers.lowered_at_end.Goals.{After-with_mark}
 use Rattle.span_enum.proofs.answers.lowered_at_end.Goals as goal
 
 pub greatest_end-requires : goal.greatest_end-requires
@@ -11,20 +10,10 @@ greatest_end-requires c =
     let run : reached g.dfa.now 0 (word_over c.args.t.now 1 (whole_text g)) ≡ Some c.in_ok-q.q = rw c.in_ok-q.was at c.requires.state in
     run-within g.dfa.now c.requires.ground.automaton 0 c.in_ok-q.q (word_over c.args.t.now 1 (whole_text g)) c.requires.ground.automaton.has_start run
 
--- the answer, which agrees with the tuple in the text, and the state after its marks there
-found : (c : After-with_mark) → IsFirstMember c.args.ground.now.dfa.now (whole_text c.args.ground.now) (Some c.args.t.now) c.with_mark.result × Agree c.args.t.now c.with_mark.result c.args.end
-    × (reached c.args.ground.now.dfa.now 0 (word_over c.with_mark.result 1 (whole_text c.args.ground.now)) ≡ Some c.in_ok-q.q)
-found c =
+pub returns : goal.returns
+returns c =
     let text = ground-text c.args.ground.now c.requires.ground (omega (arith, c.requires.end, c.requires.low)) in
     let greatest = rw c.end_limit.ensures at c.in_ok-mark.ensures in
-    rw c.requires.end (lowered-end c.args.ground.now c.requires.ground text c.args.t.now c.with_mark.result (record { size = c.requires.tuple; valid = c.count-count.ensures.tuple }) c.in_ok-q.q c.in_ok-mark.mark
-    (rw c.in_ok-q.was at c.requires.state) (rw c.requires.end at greatest) (rw c.requires.end at (c.with_mark.ensures.value ∙ ap (write_mark c.in_ok-mark.mark c.args.end) c.cut_at.ensures)))
-
-pub returns-clause-none : goal.returns-clause-none
-returns-clause-none c = (found (goal.at.returns-clause-none c).After-with_mark).0
-
-pub returns-clause-agree : goal.returns-clause-agree
-returns-clause-agree c = (found (goal.at.returns-clause-agree c).After-with_mark).1
-
-pub returns-clause-state : goal.returns-clause-state
-returns-clause-state c = rw c.in_ok-q.was (found (goal.at.returns-clause-state c).After-with_mark).2
+    let found = lowered-end c.args.ground.now c.requires.ground text c.args.t.now c.with_mark.result (record { size = c.requires.tuple; valid = c.count-count.ensures.tuple }) c.in_ok-q.q c.in_ok-mark.mark
+    (rw c.in_ok-q.was at c.requires.state) (rw c.requires.end at greatest) (rw c.requires.end at (c.with_mark.ensures.value ∙ ap (write_mark c.in_ok-mark.mark c.args.end) c.cut_at.ensures)) in
+    rw (c.requires.end, c.in_ok-q.was) (record { first = found.0; agree = found.1; state = found.2 })

@@ -1,5 +1,5 @@
 use Rattle.span_enum.proofs.Base.{[], can_reach_of, ends_of, is_final, length, not, sym, text, tree, ◌<◌, ◌∙◌, ◌≡◌}
-use Rattle.span_enum.proofs.Runs.{Tells, accepted-empty, accepted-from_table, not-empty, table-from_accepted}
+use Rattle.span_enum.proofs.Runs.{Tells, accepted-from_run, end-run, not-empty, run-end, run-from_accepted, run-from_table, table-from_run}
 use Rattle.span_enum.proofs.Tables.{look-table}
 use Rattle.span_enum.proofs.Tuples.{IsText, accepted-from_some, look-text, no-text, some-from_accepted}
 use Rattle.span_enum.proofs.answers.nonempty.Goals as goal
@@ -9,8 +9,7 @@ returns-in-None-clause-some g c =
     let a = c.args.dfa.now in
     let auto = c.states-states.ensures.automaton in
     let tests : not c.is_empty.result ≡ is_final a 0 = rw (c.is_empty.ensures, c.ends.ensures) (not-empty (ends_of a 0)) in
-    let both = accepted-empty a in
-    rw c.in-None.is ((λ h. some-from_accepted a auto [] no-text (both.0 (sym tests ∙ h))), (λ h. (tests ∙ both.1 (accepted-from_some a auto [] no-text h))))
+    rw c.in-None.is ((λ h. some-from_accepted a auto [] no-text (end-run a 0 (sym tests ∙ h))), (λ h. tests ∙ run-end a 0 (accepted-from_some a auto [] no-text h)))
 
 pub returns-in-Some-clause-some : goal.returns-in-Some-clause-some
 returns-in-Some-clause-some g c =
@@ -25,7 +24,8 @@ returns-in-Some-clause-some g c =
     let is : Tells a s t = look-table a nodes view.tables.now c.requires.tables view.counted c.in-Some.id.index _ _ _ live c.look-look.ensures.look in
     let k : IsText s = look-text a nodes view.tables.now c.requires.tables view.counted c.in-Some.id.index _ _ _ live c.look-look.ensures.look in
     let value : c.can_reach.result ≡ can_reach_of t 0 finals = c.can_reach.ensures.value in
+    let final = c.final_states.ensures in
     rw c.in-Some.is (
-      (λ h. some-from_accepted a auto s k (accepted-from_table a auto finals c.final_states.ensures s t is c.can_reach.ensures.small (sym value ∙ h))),
-      (λ h. (value ∙ table-from_accepted a auto finals c.final_states.ensures s t is c.can_reach.ensures.small (accepted-from_some a auto s k h))),
+      (λ h. some-from_accepted a auto s k (accepted-from_run a auto finals final s (run-from_table a s t 0 finals is auto.has_start c.can_reach.ensures.small (sym value ∙ h)))),
+      (λ h. value ∙ table-from_run a s t 0 finals is auto.has_start (run-from_accepted a auto finals final s (accepted-from_some a auto s k h))),
     )

@@ -1,6 +1,5 @@
-use Rattle.span_enum.proofs.Base.{Ahead, CanEnd, CanFinish, Descends, List, Some, Stands, [], ap, arith, length, length-append, length-take, mark_count, take, ℕ, ◌*◌, ◌+◌, ◌-◌, ◌∙◌, ◌∷◌, ◌≡◌}
+use Rattle.span_enum.proofs.Base.{Ahead, CanEnd, CanFinish, Descends, List, Stands, [], ap, arith, length, length-append, length-take, mark_count, take, take-take, ℕ, ◌*◌, ◌+◌, ◌-◌, ◌∙◌, ◌∷◌, ◌≡◌}
 use Rattle.span_enum.proofs.Chains.{ahead-most, fits-none, fits-short, fits-take}
-use Rattle.span_enum.proofs.Kept.{take-take}
 use Rattle.span_enum.proofs.Walks.{Arrives, arrives, arrives-high, arrives-meets, arrives-some, completes-end, completes-more, completes-quiet, cut-deep, few-on, one-fewer, room-left, stands-on}
 use Rattle.span_enum.proofs.onward.+complete.Given.{Over}
 use Rattle.span_enum.proofs.onward.+complete.Goals.{After-cut_before, After-descend-behind}
@@ -61,7 +60,7 @@ complete-requires g t c κs within =
     let d = laid g t (goal.at.complete-requires g t c).After-descend-behind in
     let k = arrives-meets ground hs c.cut_before.result f.at c.args.from c.pass_plain-place.result f.chain c.ahead_at.result.now n c.args.base _ _ _ _ hs1 _ _ to d in
     let one = arrives-some ground hs c.cut_before.result f.at c.args.from c.pass_plain-place.result f.chain c.ahead_at.result.now n (most - count) f.few in
-    let number : length ms1 ≡ count + 1 = ap length d.keeps.kept ∙ length-append c.args.trail.now.marks.items (Some d.keeps.mark ∷ []) in
+    let number : length ms1 ≡ count + 1 = ap length d.keeps.kept ∙ length-append c.args.trail.now.marks.items (d.keeps.mark ∷ []) in
     let finish : CanFinish ground hs1 to (most - length ms1) = record {
       at = d.keeps.mark.at + 1;
       chain = k.way.back;

@@ -1,6 +1,6 @@
-use Rattle.span_enum.proofs.Base.{ap, arith, length, looks_limit, whole_text, ◌*◌, ◌+◌, ◌≡◌, ◌≤◌}
+use Rattle.span_enum.proofs.Base.{ap, arith, height_limit, length, looks_limit, whole_text, ◌*◌, ◌+◌, ◌≡◌, ◌≤◌}
 use Rattle.span_enum.proofs.Kept.{kept-few}
-use Rattle.span_enum.proofs.Walks.{follow-within}
+use Rattle.span_enum.proofs.Words.{looks-within}
 use Rattle.span_enum.proofs.answers.Answers.seek.Goals as goal
 
 pub returns-clause-cost : goal.returns-clause-cost
@@ -11,6 +11,7 @@ returns-clause-cost g c =
     let f = c.follow-state.ensures.followed in
     let none : length c.put_root-end.new.trail.marks.items ≡ 0 = ap length c.put_root-end.ensures.fresh.no_marks in
     let few : length c.put_root-end.new.trail.marks.items + length f.more ≤ 2 * k = kept-few ground t c.follow-state.new.trail.ahead.items k 1 _ _ f.more c.requires.tuple (omega (arith, none)) f.kept in
-    let within : c.follow-state.new.looks ≤ c.args.looks.now + 2 * looks_limit k (length (whole_text ground)) =
-    follow-within k (length (whole_text ground)) (length f.more) c.args.looks.now c.follow-state.new.looks (omega (arith, few)) (omega (arith, f.cost, c.put_root-end.ensures.cost)) in
-    rw (c.new-ground.ensures.view, c.new-ground.ensures.root) at within
+    let n = length (whole_text ground) in
+    let within : c.follow-state.new.looks ≤ c.args.looks.now + looks_limit k n =
+    looks-within k n (height_limit n) (length f.more) c.args.looks.now c.follow-state.new.looks (omega arith) (omega (arith, few)) (omega (arith, f.cost, c.put_root-end.ensures.cost)) in
+    omega (arith, (rw (c.new-ground.ensures.view, c.new-ground.ensures.root) at within))
