@@ -4,5 +4,6 @@ pub mod Members
 pub mod Reach
 pub mod Shapes
 pub mod Meanings
+pub mod Paths
 pub mod Keeping
 pub mod Moving
