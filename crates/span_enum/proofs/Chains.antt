@@ -1,10 +1,9 @@
 -- The nodes ahead: in the list, in the text, and what is known of the states there.
-use Rattle.span_enum.proofs.Base.{Ahead, AreAhead, AreBetween, AreGoals, Between, CanGoDown, DeterministicAutomaton, Fits, FitsAt, Ground, IsAhead, IsDeterministic, IsGround, IsLook, IsMark, IsNodeAt, IsTable, Join, LeadQuiet, List, Look}
-use Rattle.span_enum.proofs.Base.{Mark, Marked, NodeId, None, Option, Pair, Place, Some, Stands, StandsBefore, [], ap, append_assoc, arith, bytes-plain, bytes_of, child, false, get_push, height_at, inl, inr, length, length-append}
-use Rattle.span_enum.proofs.Base.{length-take, max, plain, push_get, push_last, reached, refl, same_Some, sibling, slice_get, slice_get_cases, slice_get_within, states_of, subst, suc, sym, take, text_ahead, text_at, zero, ℕ, ◌++◌}
-use Rattle.span_enum.proofs.Base.{◌+◌, ◌-◌, ◌<◌, ◌∙◌, ◌∷◌, ◌≡◌, ◌≤◌}
-use Rattle.span_enum.specs.Letters.{step_of}
-use Rattle.span_enum.proofs.Runs.{bytes-append, run-behind, run-join, run-on, run-one, run-parts, step-within}
+use Rattle.span_enum.proofs.Base.{Ahead, AreAhead, AreBetween, AreGoals, Between, CanGoDown, DeterministicAutomaton, Fits, FitsAt, Ground, IsAhead, IsDeterministic, IsGround, IsLook, IsMark, IsNodeAt, IsQuietPlace, IsTable, Join, LeadQuiet}
+use Rattle.span_enum.proofs.Base.{List, Look, Mark, Marked, NodeId, None, Option, Pair, Place, Some, Stands, StandsBefore, [], ap, append_assoc, arith, bytes-append, bytes-plain, bytes_of, child, get_push, height_at, inl, inr, length}
+use Rattle.span_enum.proofs.Base.{length-append, length-take, max, path-on, path-one, path-parts, plain, push_get, push_last, reached, refl, same_Some, sibling, slice_get, slice_get_cases, slice_get_within, states_of, step_of, subst, suc}
+use Rattle.span_enum.proofs.Base.{sym, take, text_ahead, text_at, there, zero, ℕ, ◌++◌, ◌+◌, ◌-◌, ◌<◌, ◌∙◌, ◌∷◌, ◌≡◌, ◌≤◌}
+use Rattle.span_enum.proofs.Runs.{run-behind, run-join, step-within}
 use Rattle.span_enum.proofs.Tables.{look-is, pair-height, pair-text, quiet-join}
 
 -- ---- lists of options
@@ -23,10 +22,6 @@ ahead-move hs new n i (x ∷ c) same le h = (
   record { before = h.0.before; counted = h.0.counted; there = same h.0.before (Some x) (omega (arith, h.0.counted)) h.0.there; earlier = h.0.earlier },
   ahead-move hs new n x.next c same (omega (arith, h.0.counted, h.0.earlier)) h.1,
 )
-
-pub ahead-same : (hs new : List (Option Ahead)) (n i : ℕ) (c : List Ahead) → take n hs ≡ take n new → i ≤ n → AreAhead hs i c → AreAhead new i c
-ahead-same hs new n i c same le h =
-    ahead-move hs new n i c (λ k x lt e. sym (slice-take n k new lt) ∙ ap (λ z. slice_get z k) (sym same) ∙ slice-take n k hs lt ∙ e) le h
 
 pub ahead-most : (hs : List (Option Ahead)) (i : ℕ) (c : List Ahead) → AreAhead hs i c → i ≤ length hs
 ahead-most hs i [] h = omega (arith, h)
@@ -49,7 +44,7 @@ next-there hs place (x ∷ c) h some = (h.0.before, (x, h.0.counted, h.0.there))
 between-on : (a : DeterministicAutomaton) (p q : ℕ) (s x u : List ℕ) (goals between : ℕ) (v : Marked) → bytes_of v ≡ s → reached a p v ≡ Some q
     → AreBetween a p (s ++ x) u goals between → AreBetween a q x u goals between
 between-on a p q s x u goals between v e t is = record {
-  reach = λ n w k r run. is.reach n (v ++ w) (bytes-append v w ∙ rw (e, k) refl) (run-on a p q v w t ∙ r) run;
+  reach = λ n w k r run. is.reach n (v ++ w) (bytes-append v w ∙ rw (e, k) refl) (path-on (step_of a) p q v w t ∙ r) run;
   onward = is.onward;
 }
 
@@ -68,8 +63,8 @@ pub between-compose : (a : DeterministicAutomaton) (p : ℕ) (s u rest : List �
     → AreBetween a p s (u ++ rest) goals between
 between-compose a p s u rest goals mid between one two = record {
   reach = λ n x e t run.
-      let c = run-parts a n u rest run.word run.state run.bytes run.ends in
-      let goal = two.reach c.middle (x ++ c.left) (bytes-append x c.left ∙ rw (e, c.left_bytes) refl) (run-on a p n x c.left t ∙ c.left_ends) (run-behind a n u rest run.word run.state goals c run.goal) in
+      let c = path-parts (step_of a) n u rest run.word run.state run.bytes run.ends in
+      let goal = two.reach c.middle (x ++ c.left) (bytes-append x c.left ∙ rw (e, c.left_bytes) refl) (path-on (step_of a) p n x c.left t ∙ c.left_ends) (run-behind a n u rest run.word run.state goals c run.goal) in
       one.reach n x e t (record { word = c.left; state = c.middle; bytes = c.left_bytes; ends = c.left_ends; goal = goal });
   onward = λ n h.
       let first = one.onward n h in
@@ -85,14 +80,14 @@ stands-before g hs at place h c s = record {
   state = s.state;
 }
 
-pub stands-mark : (g : Ground) (hs : List (Option Ahead)) (m : Mark) (c : List Ahead) (n q : ℕ) → IsDeterministic g.dfa.now → IsMark g hs m c → step_of g.dfa.now m.state n m.byte ≡ Some q
-    → Stands g hs (m.at + 1) (record { state = q; next = m.next; quiet = false }) c
-stands-mark g hs m c n q auto is step = record {
-  ahead = is.ahead;
+pub stands-mark : (g : Ground) (hs : List (Option Ahead)) (m : Mark) (c : List Ahead) (n : ℕ) (to : Place) → IsDeterministic g.dfa.now → IsMark g hs m c → step_of g.dfa.now m.state n m.byte ≡ Some to.state
+    → to.next ≡ m.next → IsQuietPlace g to c → Stands g hs (m.at + 1) to c
+stands-mark g hs m c n to auto is step next quiet = record {
+  ahead = subst (λ i. AreAhead hs i c) (sym next) is.ahead;
   join = is.join;
-  goals = goals-on g m.state q (m.byte ∷ []) [] c ((n, m.byte) ∷ []) refl (run-one g.dfa.now m.state n m.byte ∙ step) is.goals;
-  state = step-within g.dfa.now auto m.state n m.byte q step;
-  quiet = λ e. cc;
+  goals = goals-on g m.state to.state (m.byte ∷ []) [] c ((n, m.byte) ∷ []) refl (path-one (step_of g.dfa.now) m.state n m.byte ∙ step) is.goals;
+  state = step-within g.dfa.now auto m.state n m.byte to.state step;
+  quiet = quiet;
 }
 
 -- ---- room

@@ -1,9 +1,8 @@
 -- There is a list of the answers of an automaton on a text.
 use Rattle.span_enum.proofs.Base.{All, AllPairs, AllPairs-cons, AreAnswersOf, Comes, Contains, Contains-append_cases, Contains-append_left, Contains-append_right, Contains-get_or, DeterministicAutomaton, IsDeterministic, IsMember, IsWord}
-use Rattle.span_enum.proofs.Base.{List, Marked, None, Option, Precedes, Some, Tuple, [], ap, arith, blanks, bytes_of, cases_eq, ended, get_or, has_map, inl, inr, length, map, map_has, one_only, reached, refl, subst, suc, sym, word_of}
-use Rattle.span_enum.proofs.Base.{write_word, zero, ℕ, ◌++◌, ◌<◌, ◌∙◌, ◌∷◌, ◌≡◌, ◌≤◌, ◌⊎◌}
-use Rattle.span_enum.specs.Letters.{step_of}
-use Rattle.span_enum.proofs.Runs.{bytes-none, low-mark, no-state, one-letter, onto, run-parts, same-state}
+use Rattle.span_enum.proofs.Base.{List, Marked, None, Option, Precedes, Some, Tuple, [], ap, arith, blanks, bytes-none, bytes_of, cases_eq, ended, get_or, has_map, inl, inr, length, map, map_has, no-state, one-letter, one_only, onto}
+use Rattle.span_enum.proofs.Base.{path-parts, reached, refl, same-state, step_of, subst, suc, sym, word_of, write_word, zero, ℕ, ◌++◌, ◌<◌, ◌∙◌, ◌∷◌, ◌≡◌, ◌≤◌, ◌⊎◌}
+use Rattle.span_enum.proofs.Runs.{low-mark}
 use Rattle.span_enum.proofs.Tuples.{IsText, accepts-from_member, member-from_accepts, order, read-back, tuple-of_member, wellmarked, word-bytes}
 
 none-in : {X : Type 0} (x : X) → Contains [] x → ⊥
@@ -122,8 +121,8 @@ words a limit low (b ∷ s) p =
   where
     to : (w : Marked) → Ends a p (b ∷ s) w → Falls a p b s limit w
     to w h =
-        let k = run-parts a p (b ∷ []) s w 0 h.0 h.1 in
-        let one = one-letter a p b k.middle k.left k.left_bytes k.left_ends in
+        let k = path-parts (step_of a) p (b ∷ []) s w 0 h.0 h.1 in
+        let one = one-letter (step_of a) p b k.middle k.left k.left_bytes k.left_ends in
         record { mark = one.mark; state = k.middle; tail = k.right; below = low p one.mark b k.middle one.step; word = k.joined ∙ ap (λ v. v ++ k.right) one.word; step = one.step; ends = (k.right_bytes, k.right_ends) }
 
     from : (w : Marked) → Falls a p b s limit w → Ends a p (b ∷ s) w

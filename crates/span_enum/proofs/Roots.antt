@@ -1,8 +1,9 @@
 -- The root of a text ahead of its first letter, and what it tells of the text.
-use Rattle.span_enum.proofs.Base.{Ahead, AreAhead, AreQuiet, AreTables, Begins, CanRun, DeterministicAutomaton, Dictionary, Ground, IsAhead, IsFresh, IsGround, IsLive, IsLook, List, Look, Mark, Node, NodeId, None, Option, Some, Stands, []}
-use Rattle.span_enum.proofs.Base.{ap, append-nil, arith, count_of, ends_of, false, length, length-take-le, refl, slice_get, subst, suc, sym, take, text_ahead, text_at, text_of, whole_text, ℕ, ◌++◌, ◌<◌, ◌∙◌, ◌∷◌, ◌≡◌, ◌≤◌}
+use Rattle.span_enum.proofs.Base.{Ahead, AreAhead, AreQuiet, AreTables, Begins, Behind, CanRun, DeterministicAutomaton, Dictionary, Ground, IsAhead, IsFresh, IsGround, IsLive, IsLook, List, Look, Mark, Node, NodeId, None, Option, Some}
+use Rattle.span_enum.proofs.Base.{Stands, [], ap, append-nil, arith, bytes-none, count_of, ends_of, false, length, length-take-le, refl, slice_get, subst, suc, sym, text_ahead, text_at, text_of, there, whole_text, ℕ, ◌++◌, ◌<◌, ◌∙◌, ◌∷◌}
+use Rattle.span_enum.proofs.Base.{◌≡◌, ◌≤◌}
 use Rattle.span_enum.proofs.Chains.{fits-none}
-use Rattle.span_enum.proofs.Runs.{AreBytes, Tells, bytes-none, end-facts, final-from, goal-from_nothing, run-nothing}
+use Rattle.span_enum.proofs.Runs.{AreBytes, Tells, end-facts, final-from, goal-from_nothing, run-nothing}
 use Rattle.span_enum.proofs.Tuples.{IsText}
 use Rattle.span_enum.proofs.Ways.{back-none, next-node, passes-none}
 
@@ -61,25 +62,17 @@ text-short g ms hs is = by is.chain is.stands is.text_is
     by [] s e = omega (arith, ap length e)
     by (x ∷ c) s e = omega (arith, ap length (sym (root-alone g hs x c s.ahead is.one) ∙ e), s.goals.0.look.len_is, s.goals.0.look.short)
 
--- nothing is read yet, and some text is accepted
+-- the walk stands before the first letter
+pub fresh-behind : (g : Ground) (ms : List Mark) (hs : List (Option Ahead)) (count : ℕ) → (is : IsFresh g ms hs) → count ≡ length hs → Behind g 1 (record { state = 0; next = count; quiet = false }) count [] ms hs is.chain
+fresh-behind g ms hs count is e = record {
+  at_is = omega arith;
+  stands = rw e is.stands;
+  leads = record { parts = sym is.text_is; ends = refl };
+  low = omega (arith, e);
+  count = 0;
+  kept = ([], refl, is.no_marks, omega (arith, length-take-le count hs (omega (arith, e)), e, is.one));
+}
+
 pub fresh-begins : (g : Ground) (ms : List Mark) (hs : List (Option Ahead)) (count : ℕ) → (is : IsFresh g ms hs) → count ≡ length hs → CanRun g.dfa.now 0 (whole_text g) g.finals
     → Begins g (record { state = 0; next = count; quiet = false }) count [] ms hs
-fresh-begins g ms hs count is e can =
-    let size : length (take count hs) ≡ count = length-take-le count hs (omega (arith, e)) in
-    let none : length ms ≡ 0 = ap length is.no_marks in
-    rw (is.no_marks) (record {
-      chain = is.chain;
-      stands = rw e is.stands;
-      can = rw is.text_is can;
-      bytes = sym is.text_is;
-      ends = refl;
-      count = refl;
-      fits = rw e (fits-none g hs);
-      low = omega (arith, e);
-      root = count;
-      one = omega (arith, e, is.one);
-      before = omega arith;
-      kept = λ u starts. sym size;
-      quiet = λ u starts p above below. absurd (omega arith);
-      short = omega arith;
-    })
+fresh-begins g ms hs count is e can = record { at = 1; chain = is.chain; behind = fresh-behind g ms hs count is e; can = rw is.text_is can; fits = rw e (fits-none g hs) }

@@ -1,53 +1,26 @@
 -- Runs over letters, the first marked text, and the ends of texts.
-use Rattle.span_enum.proofs.Base.{Accepted, All, Bool, CanRun, Contains, Contains-get_or, DeterministicAutomaton, IsDeterministic, IsFirst, IsTable, IsTableOf, List, Marked, None, Option, Precedes, Row, Some, [], and_le_l, and_then, ap}
-use Rattle.span_enum.proofs.Base.{arith, bit-member, bit_and, bit_at, bit_at-lt, bit_at-trailing_zeros, bit_at-zero, bit_at_and, bool-cases, bytes-plain, bytes_of, can_reach_of, cases_eq, end_in, ends_of, eq-eqb, eqb-true, false}
-use Rattle.span_enum.proofs.Base.{four_le, get_or, has_item, has_mark, if◌then◌else◌, inl, inr, is_final, is_goal, length, length-map, map-append, mark_count, marked, marked_of, marks_of, member, member-bit, member-single_same, min}
-use Rattle.span_enum.proofs.Base.{ne_eqb, next_of, not, not-both, or-cases, or-left, or-right, path, path-append, plain, plain-from_no_mark, reached, refl, split-marked, states_of, suc, sym, then-between, trailing_zeros, true, unmarked_of}
-use Rattle.span_enum.proofs.Base.{w128, zero, zero-add, ℕ, ◌++◌, ◌+◌, ◌<◌, ◌==◌, ◌^◌, ◌||◌, ◌↔◌, ◌∙◌, ◌∷◌, ◌≡◌, ◌≤◌, ◌⊎◌}
+use Rattle.span_enum.proofs.Base.{Accepted, All, Any, Any-from_list_any, Bool, CanRun, Contains, Contains-get_or, DeterministicAutomaton, IsDeterministic, IsFirst, IsTable, IsTableOf, List, Marked, None, Option, Parts, Row, Some, []}
+use Rattle.span_enum.proofs.Base.{and_le_l, ap, arith, bit-member, bit_and, bit_at, bit_at-lt, bit_at-trailing_zeros, bit_at-zero, bit_at_and, bool-cases, bytes-append, bytes-none, bytes-plain, bytes_of, can_reach_of, cases_eq, end_in}
+use Rattle.span_enum.proofs.Base.{ends_of, eq-eqb, eqb-true, false, four_le, get_or, has_mark, if◌then◌else◌, inl, inr, is_final, is_goal, length, list_any, list_any_at, marked_of, marks_of, member, member-bit, member-single_same, min}
+use Rattle.span_enum.proofs.Base.{ne_eqb, next_of, not, not-both, one-letter, onto, or-cases, or-left, or-right, path, path-on, path-one, path-parts, plain, plain-from_no_mark, precedes-append, precedes-prefix, reached, refl, same-state}
+use Rattle.span_enum.proofs.Base.{states_of, subst, suc, sym, then-between, trailing_zeros, true, unmarked_of, w128, zero, ℕ, ◌++◌, ◌<◌, ◌==◌, ◌^◌, ◌↔◌, ◌∙◌, ◌∷◌, ◌≡◌, ◌≤◌, ◌⊎◌}
 use Rattle.span_enum.specs.Letters.{step_of}
-
--- ---- options
--- the value of f at the value, if any
-abbrev pub onto : (ℕ → Option ℕ) → Option ℕ → Option ℕ
-onto f o = and_then o f
-
-pub then-some : (o : Option ℕ) → onto (λ q. Some q) o ≡ o
-then-some None = refl
-then-some (Some q) = refl
-
-pub same-state : (x y : ℕ) (o : Option ℕ) → o ≡ Some x → o ≡ Some y → x ≡ y
-same-state x y o h k = cc
-
-pub no-state : (x : ℕ) (o : Option ℕ) → o ≡ None → o ≡ Some x → ⊥
-no-state x o h k = cc
 
 -- ---- marks in the list of those with which a text may end
 pub in-end : (ms : List ℕ) (m : ℕ) → Contains ms m → end_in ms m ≡ Some 0
-in-end [] m c = absurd (omega (arith, c.1))
-in-end (x ∷ ms) m c = by (x == m) (λ e. eq-eqb x m e) (λ k. in-end ms m k) c
-  where
-    by : (z : Bool) → (x ≡ m → z ≡ true) → (Contains ms m → end_in ms m ≡ Some 0) → Contains (x ∷ ms) m → (if z then Some 0 else end_in ms m) ≡ Some 0
-    by true same rest k = refl
-    by false same rest (zero, lt, e) = not-both false (same e) refl
-    by false same rest (suc k, lt, e) = rest (k, omega (arith, lt), e)
+in-end ms m c = ap (λ (z : Bool). if z then Some 0 else None) (list_any_at (λ x. x == m) ms c.0 m c.1 (eq-eqb (get_or ms c.0 m) m c.2))
 
 pub end-among : (ms : List ℕ) (m q : ℕ) → end_in ms m ≡ Some q → (q ≡ 0) × Contains ms m
-end-among [] m q h = cc
-end-among (x ∷ ms) m q h = by (x == m) h (λ e. eqb-true x m e) (end-among ms m q)
+end-among ms m q h = by (list_any (λ x. x == m) ms) h (Any-from_list_any (λ x. x == m) ms)
   where
-    by : (z : Bool) → (if z then Some 0 else end_in ms m) ≡ Some q → (z ≡ true → x ≡ m)
-        → (end_in ms m ≡ Some q → (q ≡ 0) × Contains ms m) → (q ≡ 0) × Contains (x ∷ ms) m
-    by true e t f = let same : q ≡ 0 = cc in (same, (0, omega arith, t refl))
-    by false e t f = let k = f e in (k.0, (suc k.1.0, omega (arith, k.1.1), k.1.2))
+    by : (z : Bool) → (if z then Some 0 else None) ≡ Some q → (z ≡ true → Any (λ x. (x == m) ≡ true) ms) → (q ≡ 0) × Contains ms m
+    by true e any = let k = any refl in let same : q ≡ 0 = cc in (same, subst (Contains ms) (eqb-true k.1 m k.4) (k.0, k.2, k.3))
+    by false e any = cc
 
 -- ---- steps
 pub step-byte : (a : DeterministicAutomaton) (p m b : ℕ) → b < 256 → step_of a p m b ≡ next_of a p m b
 unfolding step_of
-step-byte a p m b low = by (b == 256) (eqb-true b 256)
-  where
-    by : (z : Bool) → (z ≡ true → b ≡ 256) → (if z then end_in (ends_of a p) m else next_of a p m b) ≡ next_of a p m b
-    by true e = let same : b ≡ 256 = e refl in absurd (omega arith)
-    by false e = refl
+step-byte a p m b low = ap (λ (z : Bool). if z then end_in (ends_of a p) m else next_of a p m b) (ne_eqb b 256 (λ e. omega (arith, e, low)))
 
 pub step-end : (a : DeterministicAutomaton) (p m : ℕ) → step_of a p m 256 ≡ end_in (ends_of a p) m
 unfolding step_of
@@ -62,71 +35,14 @@ step-within a auto p m b q h = by (b == 256) h
     by false e = auto.within p m b q e
 
 -- ---- runs
--- the run over a second word goes on from where the first one leads
-pub run-on : (a : DeterministicAutomaton) (p q : ℕ) (w v : Marked) → reached a p w ≡ Some q → reached a p (w ++ v) ≡ reached a q v
-run-on a p q w v e = path-append (step_of a) p w v ∙ ap (onto (λ n. reached a n v)) e
-
-pub run-dead : (a : DeterministicAutomaton) (p : ℕ) (w v : Marked) → reached a p w ≡ None → reached a p (w ++ v) ≡ None
-run-dead a p w v e = path-append (step_of a) p w v ∙ ap (onto (λ n. reached a n v)) e
-
 pub run-within : (a : DeterministicAutomaton) (auto : IsDeterministic a) (p q : ℕ) (w : Marked) → p < states_of a → reached a p w ≡ Some q → q < states_of a
 run-within a auto p q [] h e = let pq : p ≡ q = cc in omega arith
 run-within a auto p q (x ∷ w) h e =
     let step = then-between (λ r. reached a r w) (step_of a p x.0 x.1) q e in
     run-within a auto step.0 q w (step-within a auto p x.0 x.1 step.0 step.1) step.2
 
--- the run over a single letter
-pub run-one : (a : DeterministicAutomaton) (p m b : ℕ) → reached a p ((m, b) ∷ []) ≡ step_of a p m b
-run-one a p m b = then-some (step_of a p m b)
-
--- a word over one letter
-pub record OneLetter (a : DeterministicAutomaton) (p b : ℕ) (w : Marked) (q : ℕ) : Type 0 where
-  pub mark : ℕ
-  pub word : w ≡ (mark, b) ∷ []
-  pub step : step_of a p mark b ≡ Some q
-
-pub one-letter : (a : DeterministicAutomaton) (p b q : ℕ) (w : Marked) → bytes_of w ≡ b ∷ [] → reached a p w ≡ Some q → OneLetter a p b w q
-one-letter a p b q [] e t = cc
-one-letter a p b q (x ∷ []) e t =
-    let same : x.1 ≡ b = cc in
-    record { mark = x.0; word = ap (λ c. (x.0, c) ∷ []) same; step = ap (step_of a p x.0) (sym same) ∙ sym (run-one a p x.0 x.1) ∙ t }
-one-letter a p b q (x ∷ y ∷ w) e t = cc
-
--- ---- marked texts
-pub bytes-append : (w v : Marked) → bytes_of (w ++ v) ≡ bytes_of w ++ bytes_of v
-bytes-append w v = map-append (λ x. x.1) w v
-
-pub length-bytes : (w : Marked) → length (bytes_of w) ≡ length w
-length-bytes w = length-map w (λ x. x.1)
-
-pub plain-append : (s u : List ℕ) → plain (s ++ u) ≡ plain s ++ plain u
-plain-append s u = map-append (λ b. (0, b)) s u
-
-pub plain-run : (a : DeterministicAutomaton) (p q : ℕ) (s u : List ℕ) → reached a p (plain s) ≡ Some q → reached a p (plain (s ++ u)) ≡ reached a q (plain u)
-plain-run a p q s u e = ap (reached a p) (plain-append s u) ∙ run-on a p q (plain s) (plain u) e
-
-pub plain-dead : (a : DeterministicAutomaton) (p : ℕ) (s u : List ℕ) → reached a p (plain s) ≡ None → reached a p (plain (s ++ u)) ≡ None
-plain-dead a p s u e = ap (reached a p) (plain-append s u) ∙ run-dead a p (plain s) (plain u) e
-
--- a run over two texts is cut between them
-pub record Parts (a : DeterministicAutomaton) (p : ℕ) (s u : List ℕ) (v : Marked) (r : ℕ) : Type 0 where
-  pub left : Marked
-  pub right : Marked
-  pub middle : ℕ
-  pub joined : v ≡ left ++ right
-  pub left_bytes : bytes_of left ≡ s
-  pub right_bytes : bytes_of right ≡ u
-  pub left_ends : reached a p left ≡ Some middle
-  pub right_ends : reached a middle right ≡ Some r
-
-pub run-parts : (a : DeterministicAutomaton) (p : ℕ) (s u : List ℕ) (v : Marked) (r : ℕ) → bytes_of v ≡ s ++ u → reached a p v ≡ Some r → Parts a p s u v r
-run-parts a p s u v r e t =
-    let cut = split-marked s u v e in
-    let mid = then-between (λ n. reached a n cut.1.0) (reached a p cut.0) r (sym (path-append (step_of a) p cut.0 cut.1.0) ∙ ap (reached a p) (sym cut.1.1.0) ∙ t) in
-    record { left = cut.0; right = cut.1.0; middle = mid.0; joined = cut.1.1.0; left_bytes = cut.1.1.1; right_bytes = cut.1.1.2; left_ends = mid.1; right_ends = mid.2 }
-
 -- what is behind the cut leads into a goal
-pub run-behind : (a : DeterministicAutomaton) (p : ℕ) (s u : List ℕ) (v : Marked) (r goals : ℕ) → (k : Parts a p s u v r) → member goals r ≡ true → CanRun a k.middle u goals
+pub run-behind : (a : DeterministicAutomaton) (p : ℕ) (s u : List ℕ) (v : Marked) (r goals : ℕ) → (k : Parts (step_of a) p s u v r) → member goals r ≡ true → CanRun a k.middle u goals
 run-behind a p s u v r goals k goal = record { word = k.right; state = r; bytes = k.right_bytes; ends = k.right_ends; goal = goal }
 
 -- a run over two joined texts
@@ -135,7 +51,7 @@ run-join a q n goals s u w e t rest = record {
   word = w ++ rest.word;
   state = rest.state;
   bytes = bytes-append w rest.word ∙ rw (e, rest.bytes) refl;
-  ends = run-on a q n w rest.word t ∙ rest.ends;
+  ends = path-on (step_of a) q n w rest.word t ∙ rest.ends;
   goal = rest.goal;
 }
 
@@ -259,29 +175,6 @@ table-from_run a s t p goals is low run = elim (marks-or_plain a s t p run.state
   | inr bare ↦ or-left _ _ (ap (is_goal goals) bare.1 ∙ run.goal)
 ]
 
--- ---- order
-pub precedes-append : (w v x y : Marked) → Precedes w v → Precedes (w ++ x) (v ++ y)
-precedes-append [] v x y h = absurd h
-precedes-append (m ∷ w) [] x y h = absurd h
-precedes-append (m ∷ w) (n ∷ v) x y (inl lt) = inl lt
-precedes-append (m ∷ w) (n ∷ v) x y (inr e) = inr (e.0, precedes-append w v x y e.1)
-
-pub precedes-prefix : (w x y : Marked) → Precedes x y → Precedes (w ++ x) (w ++ y)
-precedes-prefix [] x y h = h
-precedes-prefix (m ∷ w) x y h = inr (refl, precedes-prefix w x y h)
-
--- two joined texts: the first parts decide, or they are equal
-pub precedes-split : (w1 v1 w2 v2 : Marked) → bytes_of w1 ≡ bytes_of v1 → Precedes (w1 ++ w2) (v1 ++ v2) → Precedes w1 v1 ⊎ ((w1 ≡ v1) × Precedes w2 v2)
-precedes-split [] [] w2 v2 e h = inr (refl, h)
-precedes-split [] (y ∷ v1) w2 v2 e h = cc
-precedes-split (x ∷ w1) [] w2 v2 e h = cc
-precedes-split (x ∷ w1) (y ∷ v1) w2 v2 e (inl lt) = inl (inl lt)
-precedes-split (x ∷ w1) (y ∷ v1) w2 v2 e (inr k) =
-    let bytes : bytes_of w1 ≡ bytes_of v1 = cc in
-    let byte : x.1 ≡ y.1 = cc in
-    let pair : x ≡ y = ap (λ n. (n, x.1)) k.0 ∙ ap (λ c. (y.0, c)) byte in
-    elim (precedes-split w1 v1 w2 v2 bytes k.1) [ inl before ↦ inl (inr (k.0, before)) | inr rest ↦ inr (rw (pair, rest.0) refl, rest.1) ]
-
 -- ---- the first marked text
 -- where no marked run reaches a goal, the plain text is the only one
 pub only-plain : (a : DeterministicAutomaton) (s : List ℕ) (t : List Row) (p goals : ℕ) → Tells a s t → p < states_of a → bit_and (marked_of t p) goals ≡ 0
@@ -304,10 +197,10 @@ pub IsFirst-byte : (a : DeterministicAutomaton) (p b m goals q : ℕ) → step_o
     → ((n r : ℕ) → step_of a p n b ≡ Some r → member goals r ≡ true → n ≤ m) → IsFirst a p (b ∷ []) goals ((m, b) ∷ []) q
 IsFirst-byte a p b m goals q step goal most = record {
   bytes = refl;
-  ends = run-one a p m b ∙ step;
+  ends = path-one (step_of a) p m b ∙ step;
   goal = goal;
   least = λ v r bytes ends g.
-      let one = one-letter a p b r v bytes ends in
+      let one = one-letter (step_of a) p b r v bytes ends in
       let within : one.mark ≤ m = most one.mark r one.step g in
       elim (cases_eq one.mark m) [ inl e ↦ inl (one.word ∙ ap (λ n. (n, b) ∷ []) e) | inr ne ↦ inr (rw one.word (inl (omega arith))) ];
 }
@@ -317,10 +210,10 @@ pub IsFirst-fork : (a : DeterministicAutomaton) (s u : List ℕ) (p q r goals be
     → IsFirst a p s between w q → IsFirst a q u goals v r → IsFirst a p (s ++ u) goals (w ++ v) r
 IsFirst-fork a s u p q r goals between w v all l k = record {
   bytes = bytes-append w v ∙ rw (l.bytes, k.bytes) refl;
-  ends = run-on a p q w v l.ends ∙ k.ends;
+  ends = path-on (step_of a) p q w v l.ends ∙ k.ends;
   goal = k.goal;
   least = λ x n bytes ends g.
-      let c = run-parts a p s u x n bytes ends in
+      let c = path-parts (step_of a) p s u x n bytes ends in
       elim (l.least c.left c.middle c.left_bytes c.left_ends (all c.middle c.left c.left_bytes c.left_ends (run-behind a p s u x n goals c g))) [
         | inr before ↦ inr (rw c.joined (precedes-append w c.left v c.right before))
         | inl same ↦
@@ -333,10 +226,6 @@ IsFirst-fork a s u p q r goals between w v all l k = record {
 }
 
 -- ---- nothing is left
-pub bytes-none : (w : Marked) → bytes_of w ≡ [] → w ≡ []
-bytes-none [] e = refl
-bytes-none (x ∷ w) e = cc
-
 pub run-nothing : (a : DeterministicAutomaton) (p goals : ℕ) → member goals p ≡ true → CanRun a p [] goals
 run-nothing a p goals h = record { word = []; state = p; bytes = refl; ends = refl; goal = h }
 
@@ -345,31 +234,7 @@ goal-from_nothing a p goals run =
     let ends : reached a p [] ≡ Some run.state = ap (reached a p) (sym (bytes-none run.word run.bytes)) ∙ run.ends in
     ap (member goals) (same-state p run.state (Some p) refl ends) ∙ run.goal
 
--- ---- how many marks
-pub mark_count-append : (w v : Marked) → mark_count (w ++ v) ≡ mark_count w + mark_count v
-mark_count-append [] v = sym (zero-add (mark_count v))
-mark_count-append (x ∷ w) v = omega (arith, mark_count-append w v)
-
-pub count-plain : (s : List ℕ) → mark_count (plain s) ≡ 0
-count-plain [] = refl
-count-plain (b ∷ s) = omega (arith, count-plain s)
-
-pub count-more : (m b : ℕ) (w : Marked) → 0 < m → mark_count ((m, b) ∷ w) ≡ 1 + mark_count w
-count-more m b w some = ap (λ z. (if z then 0 else 1) + mark_count w) (ne_eqb m 0 (λ e. omega (arith, e, some)))
-
-pub has-count : (w : Marked) → has_mark w ≡ true → 0 < mark_count w
-has-count [] h = cc
-has-count (x ∷ w) h = by (x.0 == 0) h (has-count w)
-  where
-    by : (z : Bool) → (not z || has_mark w) ≡ true → (has_mark w ≡ true → 0 < mark_count w) → 0 < (if z then 0 else 1) + mark_count w
-    by true h f = let k : 0 < mark_count w = f h in omega arith
-    by false h f = omega arith
-
 -- ---- ends of texts
-pub not-empty : (xs : List ℕ) → not (length xs == 0) ≡ has_item xs
-not-empty [] = refl
-not-empty (x ∷ xs) = positive-test (length (x ∷ xs)) (λ e. omega (arith, e))
-
 pub member-one : member 1 0 ≡ true
 member-one = member-single_same 0
 
@@ -380,30 +245,29 @@ end-step a q m c = step-end a q m ∙ in-end (ends_of a q) m c
 pub end-facts : (a : DeterministicAutomaton) (q m r : ℕ) → step_of a q m 256 ≡ Some r → (r ≡ 0) × Contains (ends_of a q) m
 end-facts a q m r h = end-among (ends_of a q) m r (sym (step-end a q m) ∙ h)
 
-pub final-from : (xs : List ℕ) (m : ℕ) → Contains xs m → has_item xs ≡ true
-final-from [] m c = absurd (omega (arith, c.1))
-final-from (x ∷ xs) m c = refl
+pub final-from : (xs : List ℕ) (m : ℕ) → Contains xs m → not (length xs == 0) ≡ true
+final-from xs m c = positive-test (length xs) (λ e. omega (arith, e, c.1))
 
 -- some mark of a final state
 pub final-end : (a : DeterministicAutomaton) (q : ℕ) → is_final a q ≡ true → step_of a q (get_or (ends_of a q) 0 0) 256 ≡ Some 0
-final-end a q f = end-step a q (get_or (ends_of a q) 0 0) (Contains-get_or (ends_of a q) 0 0 (some (ends_of a q) f))
+final-end a q f = end-step a q (get_or (ends_of a q) 0 0) (Contains-get_or (ends_of a q) 0 0 (some (length (ends_of a q)) f))
   where
-    some : (xs : List ℕ) → has_item xs ≡ true → 0 < length xs
-    some [] e = cc
-    some (x ∷ xs) e = omega arith
+    some : (n : ℕ) → not (n == 0) ≡ true → 0 < n
+    some zero e = cc
+    some (suc n) e = omega arith
 
 pub end-run : (a : DeterministicAutomaton) (q : ℕ) → is_final a q ≡ true → CanRun a q (256 ∷ []) 1
 end-run a q f = record {
   word = (get_or (ends_of a q) 0 0, 256) ∷ [];
   state = 0;
   bytes = refl;
-  ends = run-one a q (get_or (ends_of a q) 0 0) 256 ∙ final-end a q f;
+  ends = path-one (step_of a) q (get_or (ends_of a q) 0 0) 256 ∙ final-end a q f;
   goal = member-one;
 }
 
 pub run-end : (a : DeterministicAutomaton) (q : ℕ) → CanRun a q (256 ∷ []) 1 → is_final a q ≡ true
 run-end a q run =
-    let one = one-letter a q 256 run.state run.word run.bytes run.ends in
+    let one = one-letter (step_of a) q 256 run.state run.word run.bytes run.ends in
     final-from (ends_of a q) one.mark (end-facts a q one.mark run.state one.step).1
 
 -- ---- marks are small
@@ -437,6 +301,6 @@ module _ (a : DeterministicAutomaton) (auto : IsDeterministic a) (finals : ℕ) 
 
   pub run-from_accepted : (s : List ℕ) → Accepted a s → CanRun a 0 s finals
   run-from_accepted s run =
-      let c = run-parts a 0 s (256 ∷ []) run.word run.state run.bytes run.ends in
+      let c = path-parts (step_of a) 0 s (256 ∷ []) run.word run.state run.bytes run.ends in
       let goal = reach-end s 0 auto.has_start c.middle c.left c.left_bytes c.left_ends (run-behind a 0 s (256 ∷ []) run.word run.state 1 c run.goal) in
       record { word = c.left; state = c.middle; bytes = c.left_bytes; ends = c.left_ends; goal = goal }

@@ -1,12 +1,10 @@
 -- What the tables of a text and of its parts tell of the runs over them.
 use Rattle.span_enum.proofs.Base.{AllPairs, AreAmong, AreBetween, AreQuiet, AreTables, Bool, Byte, CanRun, Contains, Contains-get_or, DeterministicAutomaton, Dictionary, IsDeterministic, IsGreatestMark, IsLook, IsNoMark, IsNodeAt}
-use Rattle.span_enum.proofs.Base.{IsPlainLeft, IsTable, LeadQuiet, LeadsQuiet, List, Marked, Node, NodeId, None, Option, Pair, Row, Some, StayQuiet, [], ap, arith, bit_and, bit_or, bytes-plain, bytes_of, can_reach_of, cases_eq, cases_lt}
-use Rattle.span_enum.proofs.Base.{count_of, ends_of, false, get_or, get_or_default, has_mark, height, if◌then◌else◌, inl, inr, is_goal, length, mark_count, marked, marked_of, marks_of, max, member, member-or, member-single_other}
-use Rattle.span_enum.proofs.Base.{member-single_same, member-zero, not-both, or-cases, or-false, or-left, or-right, plain, reached, reached_of, refl, row_at, single_of, states_of, subst, suc, sym, text, tree, true, unmarked_of, zero, ℕ}
-use Rattle.span_enum.proofs.Base.{◌++◌, ◌+◌, ◌<◌, ◌==◌, ◌^◌, ◌||◌, ◌∙◌, ◌∷◌, ◌≡◌, ◌≢◌, ◌≤◌, ◌⊎◌}
-use Rattle.span_enum.specs.Letters.{step_of}
-use Rattle.span_enum.proofs.Runs.{Tells, bytes-append, end-facts, end-step, fit-byte, goal-plain, has-count, low-mark, marked-run, marks-or_plain, one-letter, only-plain, plain-append, plain-run, run-behind, run-from_table, run-on}
-use Rattle.span_enum.proofs.Runs.{run-parts, run-within, same-state, shared-none, some-can, table-from_run, tells}
+use Rattle.span_enum.proofs.Base.{IsPlainLeft, IsTable, LeadQuiet, LeadsQuiet, List, Marked, Node, NodeId, None, Option, Pair, Row, Some, StayQuiet, [], ap, arith, bit_and, bit_or, bytes-append, bytes-plain, bytes_of, can_reach_of}
+use Rattle.span_enum.proofs.Base.{cases_eq, cases_lt, count_of, ends_of, false, get_or, get_or_default, has-count, has_mark, height, if◌then◌else◌, inl, inr, is_goal, length, mark, mark_count, marked, marked_of, marks_of, max, member}
+use Rattle.span_enum.proofs.Base.{member-or, member-single_other, member-single_same, member-zero, not-both, one-letter, or-cases, or-false, or-left, or-right, path-on, path-parts, plain, plain-append, plain-on, reached, reached_of, refl}
+use Rattle.span_enum.proofs.Base.{row_at, same-state, single_of, states_of, step_of, subst, suc, sym, text, tree, true, unmarked_of, zero, ℕ, ◌++◌, ◌+◌, ◌<◌, ◌==◌, ◌^◌, ◌||◌, ◌∙◌, ◌∷◌, ◌≡◌, ◌≢◌, ◌≤◌, ◌⊎◌}
+use Rattle.span_enum.proofs.Runs.{Tells, end-facts, end-step, fit-byte, goal-plain, low-mark, marked-run, marks-or_plain, only-plain, run-behind, run-from_table, run-within, shared-none, some-can, table-from_run, tells}
 
 -- ---- a node and its children
 module _ (a : DeterministicAutomaton) (nodes : List Node) (d : Dictionary) (all : AreTables a nodes d) (counted : count_of d ≡ length nodes) where
@@ -39,7 +37,7 @@ pub mark-into : (a : DeterministicAutomaton) (auto : IsDeterministic a) (s : Lis
     → (bit_and (marked_of t p) goals ≡ 0 → ⊥) → (m : ℕ) × ((q : ℕ) × IsMarkInto a p b goals m q)
 mark-into a auto s t p b goals is low few at some =
     let run = marked-run a s t p goals is low few some in
-    let one = one-letter a p b run.0 run.2.word (run.2.bytes ∙ at) run.2.ends in
+    let one = one-letter (step_of a) p b run.0 run.2.word (run.2.bytes ∙ at) run.2.ends in
     let count : 0 < mark_count ((one.mark, b) ∷ []) = rw one.word at (has-count run.2.word run.2.mark) in
     (one.mark, (run.0, record { some = by one.mark count; small = low-mark a auto p one.mark b run.0 one.step; step = one.step; goal = run.1 }))
   where
@@ -136,7 +134,7 @@ pub between-left : (a : DeterministicAutomaton) (s u : List ℕ) (t tl : List Ro
     → AreBetween a p s u goals between → can_reach_of t p goals ≡ true → can_reach_of tl p between ≡ true
 between-left a s u t tl p goals between it il low small is can =
     let run = run-from_table a (s ++ u) t p goals it low small can in
-    let c = run-parts a p s u run.word run.state run.bytes run.ends in
+    let c = path-parts (step_of a) p s u run.word run.state run.bytes run.ends in
     let goal = is.reach c.middle c.left c.left_bytes c.left_ends (run-behind a p s u run.word run.state goals c run.goal) in
     table-from_run a s tl p between il low (record { word = c.left; state = c.middle; bytes = c.left_bytes; ends = c.left_ends; goal = goal })
 
@@ -163,11 +161,11 @@ quiet-join a p s u rest finals goals quiet set are still lead q h =
     let r = still k.next k.goal in
     record {
       last = r.last;
-      ends = plain-run a q k.next u rest k.step ∙ r.ends;
+      ends = plain-on (step_of a) q k.next u rest k.step ∙ r.ends;
       goal = r.goal;
       sole = λ w n bytes ends goal.
-          let c = run-parts a q u rest w n bytes ends in
-          let inside = are.reach c.middle (k.word ++ c.left) (bytes-append k.word c.left ∙ rw (k.bytes, c.left_bytes) refl) (run-on a p q k.word c.left k.before ∙ c.left_ends) (run-behind a q u rest w n finals c goal) in
+          let c = path-parts (step_of a) q u rest w n bytes ends in
+          let inside = are.reach c.middle (k.word ++ c.left) (bytes-append k.word c.left ∙ rw (k.bytes, c.left_bytes) refl) (path-on (step_of a) p q k.word c.left k.before ∙ c.left_ends) (run-behind a q u rest w n finals c goal) in
           let first : c.left ≡ plain u = k.sole c.left c.middle c.left_bytes c.left_ends inside in
           let same : c.middle ≡ k.next = same-state c.middle k.next (reached a q c.left) c.left_ends (ap (reached a q) first ∙ k.step) in
           let second : c.right ≡ plain rest = r.sole c.right n c.right_bytes (subst (λ m. reached a m c.right ≡ Some n) same c.right_ends) goal in
@@ -186,7 +184,7 @@ module _ (a : DeterministicAutomaton) (s u : List ℕ) (t tl tr : List Row) (p q
   some-right : (between : ℕ) → AreBetween a p s u goals between → bit_and (marked_of tl p) between ≡ 0 → bit_and (marked_of tr q) goals ≡ 0 → ⊥
   some-right between are none zero' =
       let run = marked-run a (s ++ u) t p goals it low small some in
-      let c = run-parts a p s u run.2.word run.0 run.2.bytes run.2.ends in
+      let c = path-parts (step_of a) p s u run.2.word run.0 run.2.bytes run.2.ends in
       elim (marks-or_plain a s tl p c.middle c.left il low c.left_bytes c.left_ends) [
         | inl marked ↦ shared-none (marked_of tl p) between c.middle none marked (are.reach c.middle c.left c.left_bytes c.left_ends (run-behind a p s u run.2.word run.0 goals c run.1))
         | inr bare ↦
@@ -219,7 +217,7 @@ module _ (a : DeterministicAutomaton) (s u : List ℕ) (t tl tr : List Row) (p q
       are : AreBetween a p s u goals (2 ^ q)
       are =
           let run = run-from_table a (s ++ u) t p goals it low small (some-can t p goals some) in
-          let c = run-parts a p s u run.word run.state run.bytes run.ends in
+          let c = path-parts (step_of a) p s u run.word run.state run.bytes run.ends in
           let on = subst (λ k. CanRun a k u goals) (one c.middle c.left c.left_bytes c.left_ends) (run-behind a p s u run.word run.state goals c run.goal) in
           record {
             reach = λ n x e ends h. ap (member (2 ^ q)) (one n x e ends) ∙ member-single_same q;

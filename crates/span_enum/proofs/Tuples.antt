@@ -1,15 +1,15 @@
 -- Where the spans of a tuple start and end, the order of words, and the members of the list of answers.
-use Rattle.span_enum.proofs.Base.{Accepted, AcceptsEnd, AcceptsWord, AreSpans, AreTables, Bool, CanRun, Comes, Contains, DeterministicAutomaton, Dictionary, EndsPast, Gives, HasMember, IfSome, IsAfter, IsBound, IsDeterministic, IsFirstLeft}
-use Rattle.span_enum.proofs.Base.{IsFirstMember, IsLook, IsMarked, IsMember, IsPast, IsSpan, IsTupleOf, Lies, List, Marked, MarkedText, NoMemberLeft, Node, None, NoneLeft, Option, PathAccepts, Precedes, Row, Some, Span, Spans, Tuple}
-use Rattle.span_enum.proofs.Base.{Wellmarked, [], and-true, and_right, ap, arith, at_place, blanks, bool-cases, bytes_of, cases_eq, cases_lt, closing, count_of, ended, ends_of, eq-eqb, false, four_le, inl, inr, le-leb, leb-true, length}
-use Rattle.span_enum.proofs.Base.{mark, mark-free, mark_count, mark_of, marked, marked_text, marks-few, nat_le, next_of, not, not-both, opening, or-cases, or-left, or-right, part_of, path, path-append, reached, reaches, reads, refl}
-use Rattle.span_enum.proofs.Base.{seeks, span-is, spans-at, spans_of, subst, suc, sym, text, then-between, tree, true, word-end, word_of, word_over, write_word, zero, ℕ, ◌&&◌, ◌*◌, ◌++◌, ◌+◌, ◌<◌, ◌^◌, ◌↔◌, ◌∙◌, ◌∷◌, ◌≡◌, ◌≤◌, ◌⊎◌}
+use Rattle.span_enum.proofs.Base.{Accepted, AcceptsEnd, AcceptsWord, AreFinals, AreSpans, AreTables, Bool, CanRun, Comes, Contains, DeterministicAutomaton, Dictionary, EndsPast, Gives, HasMember, IfSome, IsAfter, IsBound, IsDeterministic}
+use Rattle.span_enum.proofs.Base.{IsFirstLeft, IsFirstMember, IsLook, IsMarked, IsMember, IsPast, IsSpan, IsTupleOf, IsWord, Lies, List, Marked, MarkedText, NoMemberLeft, Node, None, NoneLeft, OneLetter, Option, Parts, PathAccepts}
+use Rattle.span_enum.proofs.Base.{Precedes, Row, Some, Span, Spans, Tuple, Wellmarked, [], and-true, and_right, ap, arith, at_place, blanks, bool-cases, bytes-append, bytes_of, cases_eq, cases_lt, closing, count_of, ended, ends_of, eq-eqb}
+use Rattle.span_enum.proofs.Base.{false, four_le, get_or, inl, inr, le-leb, leb-true, length, length-bytes, mark, mark-free, mark_count, mark_of, marked, marked_text, marks-few, member, nat_le, next_of, not, not-both, one-letter, onto}
+use Rattle.span_enum.proofs.Base.{opening, or-cases, or-left, or-right, part_of, path, path-append, path-dead, path-on, path-one, path-parts, precedes-append, precedes-prefix, precedes-split, reached, reaches, reads, refl, seeks, span-is}
+use Rattle.span_enum.proofs.Base.{spans-at, spans_of, step_of, subst, suc, sym, text, then-between, tree, true, word-end, word_of, word_over, write_word, zero, ℕ, ◌&&◌, ◌*◌, ◌++◌, ◌+◌, ◌<◌, ◌^◌, ◌↔◌, ◌∙◌, ◌∷◌, ◌≡◌, ◌≤◌, ◌⊎◌}
 use Rattle.span_enum.specs.Tuples.{end_mark}
-use Rattle.span_enum.specs.Letters.{step_of}
-use Rattle.span_types.proofs.WordLaws.{tells}
-use Rattle.span_enum.proofs.Runs.{AreBytes, OneLetter, Parts, bytes-append, end-facts, end-step, length-bytes, member-one, one-letter, onto, precedes-append, precedes-prefix, precedes-split, run-bytes, run-dead, run-on, run-one, run-parts}
+use Rattle.span_enum.proofs.Runs.{AreBytes, end-facts, end-step, final-end, member-one, run-bytes, run-within}
 use Rattle.span_enum.proofs.Tables.{look-table}
-use Rattle.span_enum.proofs.Words.{over-bytes}
+use Rattle.span_enum.proofs.Words.{append-same, over-bytes, over-length}
+use Rattle.span_types.proofs.WordLaws.{tells}
 
 -- ---- marks
 four-some : (v : ℕ) → 0 < 4 ^ v
@@ -212,17 +212,17 @@ last-mark s t lies =
 
 -- ---- the run over a word and its end
 pub word-run : (a : DeterministicAutomaton) (p q : ℕ) (w : Marked) (m : ℕ) → reached a p w ≡ Some q → reached a p (w ++ (m, 256) ∷ []) ≡ step_of a q m 256
-word-run a p q w m e = run-on a p q w ((m, 256) ∷ []) e ∙ run-one a q m 256
+word-run a p q w m e = path-on (step_of a) p q w ((m, 256) ∷ []) e ∙ path-one (step_of a) q m 256
 
 -- a run to the end, cut before it
 record Ended (a : DeterministicAutomaton) (s : List ℕ) (w : Marked) (q : ℕ) : Type 0 where
-  parts : Parts a 0 s (256 ∷ []) w q
-  last : OneLetter a parts.middle 256 parts.right q
+  parts : Parts (step_of a) 0 s (256 ∷ []) w q
+  last : OneLetter (step_of a) parts.middle 256 parts.right q
 
 ended-run : (a : DeterministicAutomaton) (s : List ℕ) (w : Marked) (q : ℕ) → bytes_of w ≡ ended s → reached a 0 w ≡ Some q → Ended a s w q
 ended-run a s w q e t =
-    let k = run-parts a 0 s (256 ∷ []) w q e t in
-    record { parts = k; last = one-letter a k.middle 256 q k.right k.right_bytes k.right_ends }
+    let k = path-parts (step_of a) 0 s (256 ∷ []) w q e t in
+    record { parts = k; last = one-letter (step_of a) k.middle 256 q k.right k.right_bytes k.right_ends }
 
 module _ (a : DeterministicAutomaton) (auto : IsDeterministic a) (s : List ℕ) (is : IsText s) where
   on-bytes : (w : Marked) → bytes_of w ≡ s → reached a 0 w ≡ path (next_of a) w 0
@@ -247,6 +247,18 @@ module _ (a : DeterministicAutomaton) (auto : IsDeterministic a) (s : List ℕ) 
         word_is = k.parts.joined ∙ ap (λ x. front ++ x) k.last.word ∙ ap (λ x. x ++ (k.last.mark, 256) ∷ []) (ap (λ x. x.pairs) marks) ∙ ap (λ n. word_over m.tuple 1 s ++ (n, 256) ∷ []) end;
       }
 
+  pub accepted-word : (w : Marked) (r e : ℕ) → bytes_of w ≡ s → reached a 0 w ≡ Some r → step_of a r e 256 ≡ Some 0 → (k : IsWord a.variables s (w ++ (e, 256) ∷ [])) × (w ≡ word_over k.tuple 1 s)
+  accepted-word w r e bytes run step =
+      let k = wellmarked (w ++ (e, 256) ∷ []) 0 (bytes-append w ((e, 256) ∷ []) ∙ ap (λ b. b ++ 256 ∷ []) bytes) (word-run a 0 r w e run ∙ step) in
+      (k, (append-same w ((e, 256) ∷ []) (word_over k.tuple 1 s) ((end_mark k.tuple (length s + 1), 256) ∷ []) (sym (length-bytes w) ∙ ap length bytes ∙ sym (over-length k.tuple 1 s)) k.word_is).0)
+
+  -- so it has few marks
+  pub accepted-few : (finals : ℕ) → AreFinals a finals → (w : Marked) (r : ℕ) → bytes_of w ≡ s → reached a 0 w ≡ Some r → member finals r ≡ true → mark_count w ≤ 2 * a.variables
+  accepted-few finals all w r bytes run goal =
+      let final = sym (all r (run-within a auto 0 r w auto.has_start run)) ∙ goal in
+      let k = accepted-word w r (get_or (ends_of a r) 0 0) bytes run (final-end a r final) in
+      rw k.1 (few-marks a.variables k.0.tuple s k.0.tuple_is.size)
+
   pub tuple-of_member : (t : Tuple) → IsMember a s t → IsTupleOf a.variables t
   tuple-of_member t m = record { size = m.size; valid = record { few = omega (arith, m.size, auto.few_variables); spans = are-spans (length s) t is.short m.lies } }
 
@@ -260,7 +272,7 @@ module _ (a : DeterministicAutomaton) (auto : IsDeterministic a) (s : List ℕ) 
   member-from_accepts t size h =
       let x = end_mark t (length s + 1) in
       let mid = then-between (λ q. reached a q ((x, 256) ∷ [])) (reached a 0 (word_over t 1 s)) 0 (sym (path-append (step_of a) 0 (word_over t 1 s) ((x, 256) ∷ [])) ∙ h.ends) in
-      let among : Contains (ends_of a mid.0) x = (end-facts a mid.0 x 0 (sym (run-one a mid.0 x 256) ∙ mid.2)).1 in
+      let among : Contains (ends_of a mid.0) x = (end-facts a mid.0 x 0 (sym (path-one (step_of a) mid.0 x 256) ∙ mid.2)).1 in
       record {
         size = size;
         lies = h.lies;
@@ -298,13 +310,13 @@ module _ (a : DeterministicAutomaton) (auto : IsDeterministic a) (s : List ℕ) 
       least v m (inl same) = inl (tells s v u (tuple-of_member v m).valid g.tuple.valid (m.size ∙ sym g.tuple.size) m.lies g.lies (sym (word-lies s v m.lies) ∙ same ∙ word-lies s u g.lies))
       least v m (inr before) = inr ((order a.variables u v s g.tuple (tuple-of_member v m) m.lies).0 before)
 
-      member : reached a 0 (word_of u s) ≡ Some 0 → IsMember a s u
-      member e = member-from_accepts u g.tuple.size (record { lies = g.lies; ends = e })
+      accepted : reached a 0 (word_of u s) ≡ Some 0 → IsMember a s u
+      accepted e = member-from_accepts u g.tuple.size (record { lies = g.lies; ends = e })
 
       by : (cursor : Option Tuple) → IfSome cursor (IsTupleOf a.variables) → IsFirstLeft a s cursor (word_of u s) → IsFirstMember a s cursor u
-      by None it f = record { member = member f.ends; left = tt; least = λ v m left. least v m (f.least (word_of v s) 0 (word-bytes v s) (accepts-from_member v m).ends member-one) }
+      by None it f = record { member = accepted f.ends; left = tt; least = λ v m left. least v m (f.least (word_of v s) 0 (word-bytes v s) (accepts-from_member v m).ends member-one) }
       by (Some t) it f = record {
-        member = member f.is_after.ends;
+        member = accepted f.is_after.ends;
         left = (order a.variables t u s it g.tuple g.lies).0 f.is_after.after;
         least = λ v m left. least v m (f.least (word_of v s) 0 (member-after t v it m left));
       }
@@ -315,7 +327,7 @@ module _ (a : DeterministicAutomaton) (auto : IsDeterministic a) (s : List ℕ) 
 
 -- ---- one tuple
 end-of_word : (a : DeterministicAutomaton) (s : List ℕ) (t : Tuple) (o : Option ℕ) → o ≡ reached a 0 (word_over t 1 s) → reached a 0 (word_of t s) ≡ onto (λ q. step_of a q (end_mark t (length s + 1)) 256) o
-end-of_word a s t None e = run-dead a 0 (word_over t 1 s) ((end_mark t (length s + 1), 256) ∷ []) (sym e)
+end-of_word a s t None e = path-dead (step_of a) 0 (word_over t 1 s) ((end_mark t (length s + 1), 256) ∷ []) (sym e)
 end-of_word a s t (Some q) e = word-run a 0 q (word_over t 1 s) (end_mark t (length s + 1)) (sym e)
 
 pub accepts-from_end : (a : DeterministicAutomaton) (s : List ℕ) (t : Tuple) (o : Option ℕ) → AreSpans t → o ≡ reached a 0 (word_over t 1 s) → AcceptsEnd a o t (length s + 1) → AcceptsWord a s t

@@ -1,22 +1,17 @@
 -- The walk to the first marked text, and that along the marks of a given tuple.
-use Rattle.span_enum.proofs.Base.{Ahead, AreAhead, AreKept, AtMost, CanEnd, CanFollow, CanGoDown, Completes, Descends, Dies, EndsBehind, EndsIn, Fails, Fits, Followed, GoesFirst, Ground, IsAhead, IsDeterministic, IsFirst, IsFirstMark}
-use Rattle.span_enum.proofs.Base.{IsGround, IsOver, IsUnmarked, Lays, Leads, List, Mark, Marked, Meets, None, NoneAfter, NoneBehind, Option, Passed, PassesPlain, PassesTo, Place, Some, Stands, StandsBefore, Tuple, Turns, Way, [], ap}
-use Rattle.span_enum.proofs.Base.{append-nil, append_assoc, arith, bytes-plain, bytes_of, cases_lt, cut, drop, false, height-most, height-within, height_at, height_limit, height_limit-right, here, inl, inr, last_at, length, length-append}
-use Rattle.span_enum.proofs.Base.{length-take, length-take-le, length-text, mark_count, mark_of, max, member, mul-suc, plain, reached, refl, slice_get, slice_get_within, subst, suc, sym, take, take-append-drop, take-append-le, take-length}
-use Rattle.span_enum.proofs.Base.{take-take, take_at, text_ahead, text_at, tree, true, whole_text, word_over, write_mark, write_word, ℕ, ◌*◌, ◌++◌, ◌+◌, ◌-◌, ◌<◌, ◌∙◌, ◌∷◌, ◌≡◌, ◌≤◌}
-use Rattle.span_enum.specs.Letters.{step_of}
-use Rattle.span_enum.proofs.Chains.{ahead-most, ahead-move, fits-none, slice-take, stands-before, stands-mark}
-use Rattle.span_enum.proofs.Kept.{kept-way, leads-few, leads-letter, leads-pass, leads-run, leads-size, none-behind_earlier, none-from, stuck-none, stuck-run}
-use Rattle.span_enum.proofs.Runs.{bytes-append, bytes-none, count-more, count-plain, goal-from_nothing, length-bytes, mark_count-append, no-state, onto, run-dead, run-on}
+use Rattle.span_enum.proofs.Base.{Ahead, AreAhead, AreKept, AtMost, Begins, Behind, CanFinish, CanFollow, CanGoDown, Completes, Descends, Dies, EndsBehind, EndsIn, Fails, Finds, Fits, Followed, Follows, GoesFirst, Ground, HasRoom, IsAhead}
+use Rattle.span_enum.proofs.Base.{IsDeterministic, IsFirst, IsGround, IsOver, IsUnmarked, Lays, Leads, List, Mark, Marked, Meets, None, NoneAfter, Option, Passed, PassesPlain, PassesTo, Place, Some, Stands, StandsBefore, Tuple, Turns, Way}
+use Rattle.span_enum.proofs.Base.{[], ap, append-nil, append_assoc, arith, bytes-append, bytes-none, bytes-plain, bytes_of, cases_lt, count-more, count-plain, cut, drop, false, height-most, height-within, height_at, height_limit}
+use Rattle.span_enum.proofs.Base.{height_limit-right, here, inl, inr, length, length-append, length-plain, length-take, length-take-le, length-text, mark_count, mark_count-append, mark_of, max, mul-suc, no-state, path-dead, path-on}
+use Rattle.span_enum.proofs.Base.{path-one, plain, reached, refl, same-state, slice_get, slice_get_within, step_of, subst, suc, sym, take, take-append-drop, take-append-le, take-length, take-take, text_ahead, text_at, there, tree, true}
+use Rattle.span_enum.proofs.Base.{whole_text, word_over, write_mark, write_word, ℕ, ◌*◌, ◌++◌, ◌+◌, ◌-◌, ◌<◌, ◌∙◌, ◌∷◌, ◌≡◌, ◌≤◌}
+use Rattle.span_enum.proofs.Chains.{ahead-most, ahead-move, fits-none, fits-take, slice-take, stands-before}
+use Rattle.span_enum.proofs.Kept.{behind-mark, is-kept, kept-count, kept-few, kept-more, kept-plain, kept-short, leads-on, leads-pass, leads-size, over-on, word-more}
+use Rattle.span_enum.proofs.Roots.{ground-text}
+use Rattle.span_enum.proofs.Runs.{goal-from_nothing}
+use Rattle.span_enum.proofs.Tuples.{accepted-few}
 use Rattle.span_enum.proofs.Ways.{Next, back-none, meets-on, next-node, some-mark}
-use Rattle.span_enum.proofs.Words.{letter-same, none-passed, none-plain, over-append, over-plain, over-split, quiet-plain, write-plain, write_word-append}
-
--- ---- the rest of the first marked text, mark by mark
-pub write-join : (at : ℕ) (s : List ℕ) (w v : Marked) (old out new : Tuple) → bytes_of w ≡ s → out ≡ write_word at w old → new ≡ write_word (at + length s) v out
-    → new ≡ write_word at (w ++ v) old
-write-join at s w v old out new e h k =
-    let len : length s ≡ length w = sym (ap length e) ∙ length-bytes w in
-    k ∙ ap (λ n. write_word (at + n) v out) len ∙ ap (write_word (at + length w) v) h ∙ sym (write_word-append at w v old)
+use Rattle.span_enum.proofs.Words.{none-passed, none-plain, over-append, over-count, over-plain, write-bare, write_word-append}
 
 -- ---- heights
 pub height-short : (g : Ground) (h : Ahead) (len : ℕ) → IsAhead g h → length (text_at g h.id.index) ≤ len → height_at g h.id.index ≤ height_limit len
@@ -24,141 +19,6 @@ height-short g h len is le = height-within (tree g.view.store.now h.id.index) le
 
 pub height-lowest : (g : Ground) (h : Ahead) → IsAhead g h → height_at g h.id.index ≤ 68
 height-lowest g h is = height-most (tree g.view.store.now h.id.index) is.look.balanced (omega (arith, length-text (tree g.view.store.now h.id.index), is.look.len_is, is.look.short))
-
--- ---- where no mark is left
-completes-plain : (g : Ground) (hs : List (Option Ahead)) (marks : List Mark) (from : Place) (base looks : ℕ) (r : Option ℕ) (out : Tuple) → base ≤ length hs
-    → ((at : ℕ) (c : List Ahead) → Stands g hs at from c → CanEnd g from.state c → (last : ℕ) × EndsIn g.dfa.now r last × IsFirst g.dfa.now from.state (text_ahead g c) g.finals (plain (text_ahead g c)) last)
-    → Completes g from base marks marks hs (take base hs) looks looks r out out
-completes-plain g hs marks from base looks r out low first = record {
-  more = [];
-  marks_are = sym (append-nil marks);
-  same = take-take base base hs (omega arith);
-  low = omega (arith, length-take-le base hs low);
-  finds = λ at c s can.
-      let k = first at c s can in
-      record {
-        word = plain (text_ahead g c);
-        state = k.0;
-        ends = k.1;
-        first = k.2;
-        cost = λ len le. omega arith;
-        written = sym (write-plain at (text_ahead g c) out);
-        kept = λ t leads e. sym (length-take-le base hs low);
-        last = omega arith;
-        quiet = λ t e q above below. quiet-plain t at (text_ahead g c) e q (omega (arith, above)) below;
-      };
-}
-
--- a quiet state is reached
-pub completes-quiet : (g : Ground) (hs : List (Option Ahead)) (marks : List Mark) (from : Place) (base looks : ℕ) (out : Tuple) → base ≤ length hs → from.quiet ≡ true
-    → Completes g from base marks marks hs (take base hs) looks looks None out out
-completes-quiet g hs marks from base looks out low known = completes-plain g hs marks from base looks None out low (λ at c s can.
-    let k = s.quiet known in
-    (k.last, k.unmarked, record { bytes = bytes-plain (text_ahead g c); ends = k.ends; goal = k.goal; least = λ v r bytes ends goal. inl (k.sole v r bytes ends goal) }))
-
--- all nodes are passed
-pub completes-end : (g : Ground) (hs : List (Option Ahead)) (marks : List Mark) (from place : Place) (base looks : ℕ) (out : Tuple) → base ≤ length hs → place.next ≡ 0
-    → ((at : ℕ) (c : List Ahead) → Stands g hs at from c → CanEnd g from.state c → PassesPlain g hs at from place c)
-    → Completes g from base marks marks hs (take base hs) looks looks (Some place.state) out out
-completes-end g hs marks from place base looks out low last passes = completes-plain g hs marks from base looks (Some place.state) out low (λ at c s can.
-    let p = passes at c s can in
-    let x = p.passes.front in
-    let none : p.passes.back ≡ [] = back-none hs place.next p.passes.back p.passes.stands.ahead (omega (arith, last)) in
-    let goal = goal-from_nothing g.dfa.now place.state g.finals (rw none at p.can) in
-    let texts : text_ahead g c ≡ x = p.passes.passed.parts ∙ ap (λ d. x ++ text_ahead g d) none ∙ append-nil x in
-    let first = p.first [] place.state (rw none (record { bytes = refl; ends = refl; goal = goal; least = λ v r bytes ends final. inl (bytes-none v bytes) })) in
-    (place.state, refl, subst (λ w. IsFirst g.dfa.now from.state (text_ahead g c) g.finals w place.state) (append-nil (plain x) ∙ ap plain (sym texts)) first))
-
--- ---- one mark more
-module _ (g : Ground) (auto : IsDeterministic g.dfa.now) (hs : List (Option Ahead)) (at : ℕ) (from to : Place) (c : List Ahead) (m : Mark) (k : Meets g hs at from.state c m to) where
-  abbrev back : List ℕ
-  back = text_ahead g k.way.back
-
-  abbrev front : List ℕ
-  front = k.way.front
-
-  -- the walk stands behind the mark
-  pub stands-on : Stands g hs (m.at + 1) to k.way.back
-  stands-on =
-      let s = stands-mark g hs m k.way.back m.mark to.state auto k.way.is_mark k.on.step in
-      record { ahead = subst (λ n. AreAhead hs n k.way.back) (sym k.on.next) s.ahead; join = s.join; goals = s.goals; state = s.state; quiet = k.on.quiet }
-
-  -- the mark counts
-  pub few-on : (most : ℕ) → AtMost g from.state c most → (w : Marked) (r : ℕ) → bytes_of w ≡ back → reached g.dfa.now to.state w ≡ Some r → member g.finals r ≡ true → mark_count w + 1 ≤ most
-  few-on most few w r e t goal =
-      let v : Marked = (m.mark, m.byte) ∷ w in
-      let bytes : bytes_of (plain front ++ v) ≡ text_ahead g c = bytes-append (plain front) v ∙ rw (bytes-plain front, e) (sym k.way.passed.parts) in
-      let ends : reached g.dfa.now from.state (plain front ++ v) ≡ Some r =
-      run-on g.dfa.now from.state m.state (plain front) v k.way.passed.step ∙ ap (onto (λ n. reached g.dfa.now n w)) k.on.step ∙ t in
-      omega (arith, few (plain front ++ v) r bytes ends goal, mark_count-append (plain front) v, count-more m.mark m.byte w k.on.some)
-
-  -- a tuple with these marks has none before the letter, this one there, and the others behind it
-  meets-letters : (t : Tuple) (w : Marked) → word_over t at (text_ahead g c) ≡ (plain front ++ (m.mark, m.byte) ∷ []) ++ w → IsUnmarked t at m.at × (mark_of t m.at ≡ m.mark) × (word_over t (m.at + 1) back ≡ w)
-  meets-letters t w e =
-      let both = over-split t at front (m.byte ∷ back) (plain front) ((m.mark, m.byte) ∷ w) (bytes-plain front) (ap (word_over t at) (sym k.way.passed.parts) ∙ e ∙ append_assoc (plain front) ((m.mark, m.byte) ∷ []) w) in
-      let one = letter-same (mark_of t (at + length front)) m.mark m.byte (word_over t (suc (at + length front)) back) w both.1 in
-      let next : m.at + 1 ≡ suc (at + length front) = omega (arith, k.way.at_is) in
-      (λ p above below. quiet-plain t at front both.0 p above (omega (arith, below, k.way.at_is)), ap (mark_of t) k.way.at_is ∙ one.0, ap (λ n. word_over t n back) next ∙ one.1)
-
-  -- the marks of such a tuple are kept: this one and those behind it
-  kept-on : (t : Tuple) (n base : ℕ) (new : List (Option Ahead)) (more : List Mark) (w : Marked) → Leads g t at from.state n (text_ahead g c) → word_over t at (text_ahead g c) ≡ (plain front ++ (m.mark, m.byte) ∷ []) ++ w
-      → m.base ≡ base → base ≤ length hs → Fits g base hs → take (length hs) new ≡ hs
-      → (Leads g t (m.at + 1) to.state (n + 1) back → AreKept g t new (m.at + 1) (n + 1) (length hs) more) → AreKept g t new at n base (m ∷ more)
-  kept-on t n base new more w leads e b low fits same rest =
-      let l = meets-letters t w e in
-      let lead : Leads g t m.at m.state n (m.byte ∷ back) = rw k.way.at_is (leads-pass g t at from.state n (text_ahead g c) leads m.state front (m.byte ∷ back) k.way.passed (λ p above below. l.0 p above (omega (arith, below, k.way.at_is)))) in
-      let step : step_of g.dfa.now m.state (mark_of t m.at) m.byte ≡ Some to.state = ap (λ x. step_of g.dfa.now m.state x m.byte) l.1 ∙ k.on.step in
-      let number : n + 1 ≡ suc n = omega arith in (
-        length hs,
-        kept-way g t hs new at n base at from.state c m k.way lead (record { after = omega (arith, k.way.at_is); mark_is = l.1; some = k.on.some; quiet = l.0 }) b low fits same,
-        subst (λ x. AreKept g t new (m.at + 1) x (length hs) more) number (rest (leads-letter g t m.at m.state n m.byte back lead to.state step (rw l.1 k.on.some))),
-      )
-
-pub completes-more : (g : Ground) (auto : IsDeterministic g.dfa.now) (hs hs0 hs1 hs2 : List (Option Ahead)) (marks ms1 ms2 : List Mark) (from place to : Place) (h : Ahead) (base before mid after : ℕ) (r : Option ℕ)
-    (out out1 out2 : Tuple) → take base hs0 ≡ take base hs → base ≤ length hs0
-    → (d : Descends g h place.state base marks ms1 hs0 hs1 before mid out out1 to)
-    → ((at : ℕ) (c : List Ahead) → Stands g hs at from c → CanEnd g from.state c → Meets g hs1 at from.state c d.keeps.mark to × ((len : ℕ) → length (text_ahead g c) ≤ len → height_at g h.id.index ≤ height_limit len))
-    → Completes g to (length hs1) ms1 ms2 hs1 hs2 mid after r out1 out2
-    → Completes g from base marks ms2 hs hs2 before after r out out2
-completes-more g auto hs hs0 hs1 hs2 marks ms1 ms2 from place to h base before mid after r out out1 out2 same low d meets on =
-    let m = d.keeps.mark in
-    let longer : base ≤ length hs1 = omega (arith, ap length d.keeps.ahead, length-append hs0 d.keeps.beside) in
-    let whole : take (length hs1) hs2 ≡ hs1 = on.same ∙ take-length hs1 in
-    let number : length ms1 ≡ length marks + 1 = ap length d.keeps.kept ∙ length-append marks (m ∷ []) in
-    record {
-      more = m ∷ on.more;
-      marks_are = on.marks_are ∙ ap (λ x. x ++ on.more) d.keeps.kept ∙ append_assoc marks (m ∷ []) on.more;
-      same = sym (take-take base (length hs1) hs2 longer) ∙ ap (take base) (whole ∙ d.keeps.ahead) ∙ take-append-le base hs0 d.keeps.beside low ∙ same;
-      low = omega (arith, on.low);
-      finds = λ at c s can.
-          let k = (meets at c s can).0 in
-          let x = k.way.front in
-          let rest = on.finds (m.at + 1) k.way.back (stands-on g auto hs1 at from to c m k) k.on.can in
-          let size : length (text_ahead g c) ≡ length x + 1 + length (text_ahead g k.way.back) = omega (arith, ap length k.way.passed.parts, length-append x (m.byte ∷ text_ahead g k.way.back)) in
-          let last-next : m.at + 1 - 1 ≡ m.at = omega arith in
-          let word : Marked = plain x ++ (m.mark, m.byte) ∷ [] in
-          let count : mark_count (word ++ rest.word) ≡ 1 + mark_count rest.word =
-          omega (arith, mark_count-append word rest.word, mark_count-append (plain x) ((m.mark, m.byte) ∷ []), count-plain x, count-more m.mark m.byte [] k.on.some) in
-          let letters : bytes_of word ≡ x ++ m.byte ∷ [] = bytes-append (plain x) ((m.mark, m.byte) ∷ []) ∙ ap (λ b. b ++ m.byte ∷ []) (bytes-plain x) in
-          let next : m.at + 1 ≡ at + length (x ++ m.byte ∷ []) = omega (arith, k.way.at_is, length-append x (m.byte ∷ [])) in
-          record {
-            word = word ++ rest.word;
-            state = rest.state;
-            ends = rest.ends;
-            first = k.first rest.word rest.state rest.first;
-            cost = λ len le. rw count (cost (height_limit len) (height_at g h.id.index) (mark_count rest.word) ((meets at c s can).1 len le) d.cost (rest.cost len (omega (arith, size, le))));
-            written = write-join at (x ++ m.byte ∷ []) word rest.word out out1 out2 letters
-                (write-join at x (plain x) ((m.mark, m.byte) ∷ []) out out out1 (bytes-plain x) (sym (write-plain at x out)) (d.written ∙ ap (λ n. write_mark m.mark n out) k.way.at_is)) (rest.written ∙ ap (λ n. write_word n rest.word out1) next);
-            last = let r : last_at m.at on.more ≤ m.at + length (text_ahead g k.way.back) = subst (λ n. last_at n on.more ≤ n + length (text_ahead g k.way.back)) last-next rest.last in omega (arith, r, k.way.at_is, size);
-            quiet = λ t e. let l = meets-letters g auto hs1 at from to c m k t rest.word e in λ q above below. rest.quiet t l.2 q (subst (λ n. last_at n on.more + 1 ≤ q) (sym last-next) above) (omega (arith, below, k.way.at_is, size));
-            kept = λ t leads e. kept-on g auto hs1 at from to c m k t (length marks) base hs2 on.more rest.word leads e d.keeps.base_is longer d.keeps.fits whole
-                (λ lead. subst (λ n. AreKept g t hs2 (m.at + 1) n (length hs1) on.more) number
-                (rest.kept t (subst (λ n. Leads g t (m.at + 1) to.state n (text_ahead g k.way.back)) (sym number) lead) (meets-letters g auto hs1 at from to c m k t rest.word e).2));
-          };
-    }
-  where
-    cost : (high h n : ℕ) → h ≤ high → mid ≤ before + 2 * h → after ≤ mid + 2 * (high * n) → after ≤ before + 2 * (high * (1 + n))
-    cost high h n le one two = omega arith
 
 -- ---- the node at which the walk turns
 -- the walk comes to the node, and the list is cut before it
@@ -210,210 +70,367 @@ cut-deep g hs at base h b ahead is low fits =
       | inr ge ↦ omega (arith, len, height-lowest g h is)
     ]
 
-pub room-left : (base len n n' k room : ℕ) → len ≤ base + 69 → n' ≡ n + 1 → 1 ≤ k - n → base + 69 * (k - n) ≤ room → (len + 69 * (k - n') ≤ room) × (k - n' < k - n)
-room-left base len n n' k room short next some fit = (omega arith, omega arith)
+-- ---- the rest of the first marked text
+module _ (g : Ground) (from : Place) (base : ℕ) (word : Marked) (marks : List Mark) (hs : List (Option Ahead)) (b : Begins g from base word marks hs) where
+  abbrev c : List Ahead
+  c = b.chain
 
-pub one-fewer : (c k n n' : ℕ) → c + 1 ≤ k - n → n' ≡ n + 1 → c ≤ k - n'
-one-fewer c k n n' le next = omega arith
+  abbrev back : List ℕ
+  back = text_ahead g c
 
--- ---- to the node over the position
-pub record StandsOver (g : Ground) (t : Tuple) (hs : List (Option Ahead)) (at n position : ℕ) (from to : Place) (h : Ahead) : Type 0 where
+  -- an accepted text has the marks of a tuple
+  pub begins-few : IsGround g → length (whole_text g) ≤ 281474976710656 → AtMost g from.state c (2 * g.dfa.now.variables - length marks)
+  begins-few is short w r bytes run goal =
+      let on = leads-on g word from.state back b.behind.leads w r [] (sym bytes ∙ sym (append-nil (bytes_of w))) run in
+      let few = accepted-few g.dfa.now is.automaton (whole_text g) (ground-text g is short) g.finals is.all (word ++ w) r (sym (on.parts ∙ append-nil (bytes_of (word ++ w)))) on.ends goal in
+      omega (arith, few, mark_count-append word w, kept-count g b.behind.count word marks (take base hs) b.behind.kept)
+
+  pub begins-short : base ≤ 1 + 69 * length marks
+  begins-short = omega (arith, kept-short g b.behind.count word marks (take base hs) b.behind.kept, length-take-le base hs b.behind.low)
+
+  -- no mark is left
+  finds-plain : (r : Option ℕ) (looks last : ℕ) (out : Tuple) → EndsIn g.dfa.now r last → IsFirst g.dfa.now from.state back g.finals (plain back) last → Finds g from word back marks (take base hs) looks looks r out out
+  finds-plain r looks last out ends first = record {
+    rest = plain back;
+    state = last;
+    ends = ends;
+    first = first;
+    cost = omega arith;
+    written = λ t e. e ∙ sym (write-bare word back t);
+    count = b.behind.count;
+    kept = kept-plain g b.behind.count word marks (take base hs) back b.behind.kept;
+  }
+
+  -- a quiet state is reached
+  pub finds-quiet : (looks : ℕ) (out : Tuple) → from.quiet ≡ true → Finds g from word back marks (take base hs) looks looks None out out
+  finds-quiet looks out known =
+      let k = b.behind.stands.quiet known in
+      finds-plain None looks k.last out k.unmarked (record { bytes = bytes-plain back; ends = k.ends; goal = k.goal; least = λ v r bytes ends goal. inl (k.sole v r bytes ends goal) })
+
+  -- all nodes are passed
+  pub finds-end : (place : Place) (looks : ℕ) (out : Tuple) → place.next ≡ 0 → PassesPlain g hs b.at from place c → Finds g from word back marks (take base hs) looks looks (Some place.state) out out
+  finds-end place looks out last p =
+      let x = p.passes.front in
+      let none : p.passes.back ≡ [] = back-none hs place.next p.passes.back p.passes.stands.ahead (omega (arith, last)) in
+      let goal = goal-from_nothing g.dfa.now place.state g.finals (rw none at p.can) in
+      let texts : back ≡ x = p.passes.passed.parts ∙ ap (λ d. x ++ text_ahead g d) none ∙ append-nil x in
+      let first = p.first [] place.state (rw none (record { bytes = refl; ends = refl; goal = goal; least = λ v r bytes ends final. inl (bytes-none v bytes) })) in
+      finds-plain (Some place.state) looks place.state out refl (subst (λ w. IsFirst g.dfa.now from.state back g.finals w place.state) (append-nil (plain x) ∙ ap plain (sym texts)) first)
+
+  -- a mark is found at a node, and then the rest behind it
+  module _ (place : Place) (h : Ahead) (cut : ℕ) (n : Arrives g hs cut b.at from place c h) (fit : base ≤ cut) where
+    abbrev low : base ≤ length (take cut hs)
+    low = omega (arith, length-take cut hs, fit, b.behind.low)
+
+    pub one-more : IsGround g → length (whole_text g) ≤ 281474976710656 → 1 ≤ 2 * g.dfa.now.variables - length marks
+    one-more is short = arrives-some g hs cut b.at from place c h n (2 * g.dfa.now.variables - length marks) (begins-few is short)
+
+    pub turn-down : (marks_room ahead_room : ℕ) → IsGround g → length (whole_text g) ≤ 281474976710656 → HasRoom g.dfa.now.variables marks_room ahead_room → cut ≡ max base (place.next - 1)
+        → CanGoDown g h place.state base marks marks_room (take cut hs) ahead_room
+    turn-down marks_room ahead_room is short room e =
+        let one = one-more is short in
+        record {
+          is_ahead = n.node.stands.goals.0;
+          state = n.node.stands.state;
+          next = ahead-most (take cut hs) h.next n.node.rest n.before.ahead;
+          marks_fit = omega (arith, one, room.marks_fit);
+          ahead_fit = omega (arith, one, room.ahead_fits, begins-short);
+          low = low;
+          fits = fits-take g base cut hs b.fits;
+          deep = rw e (cut-deep g hs place.next base h n.node.rest n.node.stands.ahead n.node.stands.goals.0 b.behind.low b.fits);
+        }
+
+    module _ (auto : IsDeterministic g.dfa.now) (to : Place) (ms1 : List Mark) (hs1 : List (Option Ahead)) (before mid : ℕ) (out out1 : Tuple) (d : Descends g h place.state base marks ms1 (take cut hs) hs1 before mid out out1 to) where
+      abbrev k : Meets g hs1 b.at from.state c d.keeps.mark to
+      k = arrives-meets g hs cut b.at from place c h n base before mid marks ms1 hs1 out out1 to d
+
+      abbrev same : take base (take cut hs) ≡ take base hs
+      same = take-take base cut hs fit
+
+      abbrev m : Mark
+      m = d.keeps.mark
+
+      abbrev letters : Marked
+      letters = plain k.way.front ++ (m.mark, m.byte) ∷ []
+
+      abbrev pub word-on : Marked
+      word-on = word-more g b.at from base word marks ms1 hs (take cut hs) hs1 c b.behind d.keeps same low k.way k.on.some
+
+      abbrev pub begins-on : CanFinish g to (length hs1) ms1 hs1
+      begins-on = (word-on, record {
+        at = m.at + 1;
+        chain = k.way.back;
+        behind = behind-mark g b.at from base word marks ms1 hs (take cut hs) hs1 c b.behind d.keeps same low k.way k.on.some to auto k.on.step k.on.next k.on.quiet;
+        can = k.on.can;
+        fits = fits-none g hs1;
+      })
+
+      pub finds-more : (hs2 : List (Option Ahead)) (ms2 : List Mark) (after : ℕ) (r : Option ℕ) (out2 : Tuple) → Completes g to (length hs1) ms1 ms2 hs1 hs2 mid after r out1 out2 → Finds g from word back ms2 hs2 before after r out out2
+      finds-more hs2 ms2 after r out2 on =
+          let f = on word-on begins-on.1 in
+          let high = arrives-high g hs cut b.at from place c h n (length (whole_text g)) (omega (arith, leads-size g word from.state back b.behind.leads)) in
+          let x = plain k.way.front in
+          let one = (m.mark, m.byte) ∷ [] in
+          let join : word-on ++ f.rest ≡ word ++ (letters ++ f.rest) = ap (λ w. w ++ f.rest) (append_assoc word x one) ∙ append_assoc word letters f.rest in
+          let count : mark_count (letters ++ f.rest) ≡ 1 + mark_count f.rest =
+          omega (arith, mark_count-append letters f.rest, mark_count-append x one, count-plain k.way.front, count-more m.mark m.byte [] k.on.some) in
+          let place : m.at ≡ 1 + length (word ++ x) = omega (arith, (is-kept g b.at from base word marks ms1 hs (take cut hs) hs1 c b.behind d.keeps same low k.way k.on.some).at_is) in
+          record {
+            rest = letters ++ f.rest;
+            state = f.state;
+            ends = f.ends;
+            first = k.first f.rest f.state f.first;
+            cost = rw count (cost (height_limit (length (whole_text g))) (height_at g h.id.index) (mark_count f.rest) high d.cost f.cost);
+            written = λ t e. f.written t (d.written ∙ ap (λ n. write_mark m.mark n out) place ∙ ap (write_mark m.mark (1 + length (word ++ x))) (e ∙ sym (write-bare word k.way.front t))
+                ∙ sym (write_word-append 1 (word ++ x) one t)) ∙ ap (λ w. write_word 1 w t) join;
+            count = f.count;
+            kept = subst (λ w. AreKept g f.count w ms2 hs2) join f.kept;
+          }
+        where
+          cost : (high h n : ℕ) → h ≤ high → mid ≤ before + 2 * h → after ≤ mid + 2 * (high * n) → after ≤ before + 2 * (high * (1 + n))
+          cost high h n le one two = omega arith
+
+-- ---- along the marks of a tuple
+-- the walk stands before the node over the position
+pub record StandsOver (g : Ground) (t : Tuple) (hs : List (Option Ahead)) (position : ℕ) (to : Place) (ms : List Mark) (h : Ahead) : Type 0 where
   pub rest : List Ahead
-  pub stands : StandsBefore g hs h to.state rest
-  pub leads : Leads g t h.at to.state n (text_ahead g (h ∷ rest))
-  pub late : at ≤ h.at
+  pub follows : Follows g t hs h.at to ms (h ∷ rest)
   pub over : IsOver g h position
-  pub quiet : IsUnmarked t at position
+  pub quiet : IsUnmarked t h.at position
 
--- what holds of each place where the walk may stand holds of this one
-module _ (g : Ground) (t : Tuple) (hs : List (Option Ahead)) (at position end n : ℕ) (from : Place) (can : CanFollow g t hs at from n) (late : at ≤ position) (le : position ≤ end) (e : end ≡ length (whole_text g) + 1) where
-  pub most : position ≤ at + length (text_ahead g can.chain)
-  most = omega (arith, le, e, leads-size g t at from.state n (text_ahead g can.chain) can.leads)
+module _ (g : Ground) (t : Tuple) (hs : List (Option Ahead)) (at : ℕ) (place : Place) (ms : List Mark) (c : List Ahead) (f : Follows g t hs at place ms c) where
+  abbrev ahead : List ℕ
+  ahead = text_ahead g c
 
-  abbrev Comes : Place → Type 0
-  Comes to = (x : ℕ) (c : List Ahead) → Stands g hs x from c → x ≤ position → position ≤ x + length (text_ahead g c) → (p : PassesTo g hs x position from to c) × EndsBehind g position p.passes.back
+  pub follows-size : at + length ahead ≡ 1 + length (whole_text g)
+  follows-size = omega (arith, f.behind.at_is, leads-size g f.word place.state ahead f.behind.leads)
 
-  pub comes-there : (to : Place) → Comes to → (p : PassesTo g hs at position from to can.chain) × EndsBehind g position p.passes.back
-  comes-there to all = all at can.chain can.stands late most
+  pub follows-short : length hs ≤ 1 + 69 * length ms
+  follows-short = omega (arith, kept-short g f.behind.count f.word ms (take (length hs) hs) f.behind.kept, ap length (take-length hs))
 
-  -- the letters up to there have no marks
-  leads-there : (to : Place) (p : PassesTo g hs at position from to can.chain) → IsUnmarked t at position → Leads g t (at + length p.passes.front) to.state n (text_ahead g p.passes.back)
-  leads-there to p quiet =
-      leads-pass g t at from.state n (text_ahead g can.chain) can.leads to.state p.passes.front (text_ahead g p.passes.back) p.passes.passed (λ q above below. quiet q above (omega (arith, below, p.before)))
+  -- a mark behind the place is one more
+  pub follows-few : (k position : ℕ) → length t ≡ k → at ≤ position → position < at + length ahead → 0 < mark_of t position → length ms < 2 * k
+  follows-few k position size from to some =
+      omega (arith, kept-few g t k f.behind.count f.word (word_over t at ahead) ms (take (length hs) hs) size f.word_is f.behind.kept, over-count t at ahead position from to some)
 
-  pub over-node : (ground : IsGround g) (to : Place) (h : Ahead) → IsUnmarked t at position → Comes to
-      → 0 < to.next → ((before : ℕ) → to.next ≡ suc before → slice_get hs before ≡ Some (Some h)) → StandsOver g t hs at n position from to h
-  over-node ground to h quiet all pos found =
-      let there = comes-there to all in
-      let p = there.0.passes in
-      let k = next-node g ground hs at from to can.chain p h pos found in
-      let place : at + length p.front ≡ h.at = sym k.stands.join.0 in
-      let behind : EndsBehind g position (h ∷ k.rest) = subst (EndsBehind g position) k.back there.1 in
+  -- nodes in front of a position are passed without marks
+  pub follows-pass : (position : ℕ) (to : Place) → IsUnmarked t at position → (p : PassesTo g hs at position place to c) → Follows g t hs (at + length p.passes.front) to ms p.passes.back
+  follows-pass position to quiet p =
+      let k = p.passes in
+      let x = k.front in
+      let rest = word_over t (at + length x) (text_ahead g k.back) in
+      let bare = over-plain t at x (λ q above below. quiet q above (omega (arith, below, p.before))) in
+      let letters : word_over t at ahead ≡ plain x ++ rest = ap (word_over t at) k.passed.parts ∙ over-append t at x (text_ahead g k.back) ∙ ap (λ w. w ++ rest) bare in
       record {
-        rest = k.rest;
-        stands = stands-before g hs (at + length p.front) to h k.rest k.stands;
-        leads = subst (λ x. Leads g t x to.state n (text_ahead g (h ∷ k.rest))) place (subst (λ b. Leads g t (at + length p.front) to.state n (text_ahead g b)) k.back (leads-there to there.0 quiet));
-        late = omega (arith, place);
-        over = record { from = omega (arith, place, there.0.before); before = behind };
-        quiet = quiet;
+        word = f.word ++ plain x;
+        behind = record {
+          at_is = omega (arith, f.behind.at_is, length-append f.word (plain x), length-plain x);
+          stands = k.stands;
+          leads = leads-pass g f.word place.state ahead f.behind.leads x to.state (text_ahead g k.back) k.passed;
+          low = f.behind.low;
+          count = f.behind.count;
+          kept = kept-plain g f.behind.count f.word ms (take (length hs) hs) x f.behind.kept;
+        };
+        word_is = f.word_is ∙ ap (λ w. f.word ++ w) letters ∙ sym (append_assoc f.word (plain x) rest);
       }
 
   -- no more marks are kept
-  followed-none : (k : ℕ) (r : Option ℕ) (marks : List Mark) (before after : ℕ) → NoneBehind g t k → at ≤ k + 1 → k ≤ length (whole_text g) → IsUnmarked t at (k + 1)
-      → reached g.dfa.now 0 (word_over t 1 (whole_text g)) ≡ r → after ≤ before + 2 * height_limit (length (whole_text g)) → Followed g t at marks marks hs hs before after r
-  followed-none k r marks before after none early inside quiet run cost = record {
-    more = [];
-    marks_are = sym (append-nil marks);
-    beside = [];
-    ahead = sym (append-nil hs);
-    kept = refl;
-    none = none-behind_earlier g t (at - 1) k (omega (arith, early)) inside (λ p above below. quiet p (omega (arith, above)) below) none;
-    end_is = sym run;
+  pub followed-none : (r : Option ℕ) (before after : ℕ) → NoneAfter g.dfa.now place.state ahead g.finals (word_over t at ahead) → reached g.dfa.now place.state (word_over t at ahead) ≡ r
+      → after ≤ before + 2 * height_limit (length (whole_text g)) → Followed g t ms ms hs before after r
+  followed-none r before after none run cost = record {
+    trail = record {
+      read = f.word;
+      left = word_over t at ahead;
+      back = ahead;
+      word_is = f.word_is;
+      parts = f.behind.leads.parts;
+      count = f.behind.count;
+      kept = subst (λ x. AreKept g f.behind.count f.word ms x) (take-length hs) f.behind.kept;
+      none = λ q on. subst (λ n. NoneAfter g.dfa.now n ahead g.finals (word_over t at ahead)) (same-state place.state q (reached g.dfa.now 0 f.word) f.behind.leads.ends on) none;
+    };
+    more = 0;
+    count = omega arith;
+    end_is = sym (ap (reached g.dfa.now 0) f.word_is ∙ path-on (step_of g.dfa.now) 0 place.state f.word (word_over t at ahead) f.behind.leads.ends ∙ run);
     cost = omega (arith, cost);
   }
 
-  -- all nodes are passed
-  pub followed-last : (to : Place) (marks : List Mark) (looks : ℕ) → IsUnmarked t at position → Comes to → to.next ≡ 0 → Followed g t at marks marks hs hs looks looks (Some to.state)
-  followed-last to marks looks quiet all none =
-      let p = (comes-there to all).0 in
-      let empty : p.passes.back ≡ [] = back-none hs to.next p.passes.back p.passes.stands.ahead (omega (arith, none)) in
-      let leads : Leads g t (at + length p.passes.front) to.state n [] = subst (λ b. Leads g t (at + length p.passes.front) to.state n (text_ahead g b)) empty (leads-there to p quiet) in
-      let size = leads-size g t (at + length p.passes.front) to.state n [] leads in
-      followed-none (at + length p.passes.front - 1) (Some to.state) marks looks looks
-      (none-from g t (at + length p.passes.front) to.state n [] leads (none-plain g.dfa.now to.state [] g.finals)) (omega arith) (omega (arith, size)) (λ q above below. quiet q above (omega (arith, below, size, p.before, leads.at_is)))
-      (leads-run g t (at + length p.passes.front) to.state n [] leads) (omega arith)
-
   -- no run comes to the position
-  pub followed-dead : (here q : ℕ) (back : List ℕ) (marks : List Mark) (before after : ℕ) → Leads g t here q n back → at ≤ here → here ≤ position → position ≤ here + length back → IsUnmarked t at position
-      → Dies g q here back position → after ≤ before + 2 * height_limit (length (whole_text g)) → Followed g t at marks marks hs hs before after None
-  followed-dead here q back marks before after leads late' from to quiet dies cost =
+  pub followed-dead : (position before after : ℕ) → at ≤ position → position ≤ at + length ahead → IsUnmarked t at position → Dies g place.state at ahead position
+      → after ≤ before + 2 * height_limit (length (whole_text g)) → Followed g t ms ms hs before after None
+  followed-dead position before after from to quiet dies cost =
       let a = g.dfa.now in
-      let near = take (position - here) back in
-      let far = drop (position - here) back in
-      let size : length near ≡ position - here = length-take-le (position - here) back (omega (arith, from, to)) in
-      let join : near ++ far ≡ back = take-append-drop (position - here) back in
-      let behind = word_over t (here + length near) far in
-      let words : word_over t here back ≡ plain near ++ behind =
-      ap (word_over t here) (sym join) ∙ over-append t here near far ∙ ap (λ w. w ++ behind) (over-plain t here near (λ p above below. quiet p (omega (arith, above, late')) (omega (arith, below, size, from)))) in
-      let none : NoneAfter a q back g.finals (word_over t here back) =
-      rw words (subst (λ s. NoneAfter a q s g.finals (plain near ++ behind)) join (none-passed a q near far g.finals behind (λ x e. absurd (no-state x (reached a q (plain near)) dies e)))) in
-      followed-none (here - 1) None marks before after (none-from g t here q n back leads none) (omega (arith, late')) (omega (arith, leads-size g t here q n back leads))
-      (λ p above below. quiet p above (omega (arith, below, from, leads.at_is)))
-      (leads-run g t here q n back leads ∙ ap (reached a q) words ∙ run-dead a q (plain near) behind dies) cost
+      let near = take (position - at) ahead in
+      let far = drop (position - at) ahead in
+      let size : length near ≡ position - at = length-take-le (position - at) ahead (omega (arith, from, to)) in
+      let join : near ++ far ≡ ahead = take-append-drop (position - at) ahead in
+      let rest = word_over t (at + length near) far in
+      let words : word_over t at ahead ≡ plain near ++ rest =
+      ap (word_over t at) (sym join) ∙ over-append t at near far ∙ ap (λ w. w ++ rest) (over-plain t at near (λ p above below. quiet p above (omega (arith, below, size, from)))) in
+      followed-none None before after
+      (rw words (subst (λ s. NoneAfter a place.state s g.finals (plain near ++ rest)) join (none-passed a place.state near far g.finals rest (λ x e. absurd (no-state x (reached a place.state (plain near)) dies e)))))
+      (ap (reached a place.state) words ∙ path-dead (step_of a) place.state (plain near) rest dies) cost
+
+-- what holds of each place where the walk may stand holds of this one
+module _ (g : Ground) (t : Tuple) (hs : List (Option Ahead)) (at : ℕ) (place : Place) (ms : List Mark) (c : List Ahead) (f : Follows g t hs at place ms c) (position : ℕ) (late : at ≤ position) (le : position ≤ length (whole_text g) + 1) (quiet : IsUnmarked t at position) where
+  pub most : position ≤ at + length (text_ahead g c)
+  most = omega (arith, le, follows-size g t hs at place ms c f)
+
+  abbrev Comes : Place → Type 0
+  Comes to = (x : ℕ) (d : List Ahead) → Stands g hs x place d → x ≤ position → position ≤ x + length (text_ahead g d) → (p : PassesTo g hs x position place to d) × EndsBehind g position p.passes.back
+
+  pub comes-there : (to : Place) → Comes to → (p : PassesTo g hs at position place to c) × EndsBehind g position p.passes.back
+  comes-there to all = all at c f.behind.stands late most
+
+  -- all nodes are passed
+  pub followed-last : (to : Place) (looks : ℕ) → Comes to → to.next ≡ 0 → Followed g t ms ms hs looks looks (Some to.state)
+  followed-last to looks all none =
+      let p = (comes-there to all).0 in
+      let d = p.passes.back in
+      let empty : d ≡ [] = back-none hs to.next d p.passes.stands.ahead (omega (arith, none)) in
+      let on : Follows g t hs (at + length p.passes.front) to ms [] = subst (λ b. Follows g t hs (at + length p.passes.front) to ms b) empty (follows-pass g t hs at place ms c f position to quiet p) in
+      followed-none g t hs (at + length p.passes.front) to ms [] on (Some to.state) looks looks (none-plain g.dfa.now to.state [] g.finals) refl (omega arith)
+
+  -- the node over the position comes next
+  pub over-node : IsGround g → (to : Place) (h : Ahead) → Comes to → 0 < to.next → ((before : ℕ) → to.next ≡ suc before → slice_get hs before ≡ Some (Some h)) → StandsOver g t hs position to ms h
+  over-node ground to h all pos found =
+      let there = comes-there to all in
+      let p = there.0.passes in
+      let k = next-node g ground hs at place to c p h pos found in
+      let here : at + length p.front ≡ h.at = sym k.stands.join.0 in
+      record {
+        rest = k.rest;
+        follows = subst (λ n. Follows g t hs n to ms (h ∷ k.rest)) here (subst (λ b. Follows g t hs (at + length p.front) to ms b) k.back (follows-pass g t hs at place ms c f position to quiet there.0));
+        over = record { from = omega (arith, here, there.0.before); before = subst (EndsBehind g position) k.back there.1 };
+        quiet = λ q above below. quiet q (omega (arith, above, here)) below;
+      }
 
 -- ---- at the node
-module _ (g : Ground) (t : Tuple) (old : List (Option Ahead)) (at n position end : ℕ) (from to : Place) (h : Ahead) (o : StandsOver g t old at n position from to h) (e : end ≡ length (whole_text g) + 1) where
+module _ (g : Ground) (t : Tuple) (old : List (Option Ahead)) (position : ℕ) (to : Place) (ms : List Mark) (h : Ahead) (o : StandsOver g t old position to ms h) where
   abbrev all : List ℕ
   all = text_ahead g (h ∷ o.rest)
 
-  size : h.at + length (text_at g h.id.index) + length (text_ahead g o.rest) ≡ end
-  size = omega (arith, e, leads-size g t h.at to.state n all o.leads, length-append (text_at g h.id.index) (text_ahead g o.rest))
+  over-size : h.at + length (text_at g h.id.index) ≤ h.at + length all
+  over-size = omega (arith, length-append (text_at g h.id.index) (text_ahead g o.rest))
 
-  pub position-early : position < end
-  position-early = omega (arith, o.over.before, size)
+  pub over-early : position < length (whole_text g) + 1
+  over-early = omega (arith, o.over.before, over-size, follows-size g t old h.at to ms (h ∷ o.rest) o.follows)
 
-  pub over-few : (k : ℕ) → length t ≡ k → 0 < mark_of t position → n < 2 * k
-  over-few k tuple some = leads-few g t h.at to.state n all o.leads k position tuple o.over.from (omega (arith, o.over.before, length-append (text_at g h.id.index) (text_ahead g o.rest))) some
+  pub over-few : (k : ℕ) → length t ≡ k → 0 < mark_of t position → length ms < 2 * k
+  over-few k tuple some = follows-few g t old h.at to ms (h ∷ o.rest) o.follows k position tuple o.over.from (omega (arith, o.over.before, over-size)) some
+
+  abbrev over-ahead : IsAhead g h
+  over-ahead = o.follows.behind.stands.goals.0
 
   over-high : height_at g h.id.index ≤ height_limit (length (whole_text g))
-  over-high = height-short g h (length (whole_text g)) o.stands.goals.0 (omega (arith, size, e, o.leads.at_is))
+  over-high = height-short g h (length (whole_text g)) over-ahead (omega (arith, over-size, follows-size g t old h.at to ms (h ∷ o.rest) o.follows, over-ahead.positive))
 
   -- what the way down needs
-  pub over-down : (k marks_room ahead_room : ℕ) (marks : List Mark) → length t ≡ k → 0 < mark_of t position → n ≡ length marks → 2 * k ≤ marks_room → length old + 69 * (2 * k - n) ≤ ahead_room
-      → CanGoDown g h to.state (length old) marks marks_room old ahead_room
-  over-down k marks_room ahead_room marks tuple some count room fit =
+  pub over-down : (k marks_room ahead_room : ℕ) → length t ≡ k → 0 < mark_of t position → HasRoom k marks_room ahead_room → CanGoDown g h to.state (length old) ms marks_room old ahead_room
+  over-down k marks_room ahead_room tuple some room =
       let few = over-few k tuple some in
       record {
-        is_ahead = o.stands.goals.0;
-        state = o.stands.state;
-        next = ahead-most old h.next o.rest o.stands.ahead;
-        marks_fit = omega (arith, few, room, count);
-        ahead_fit = omega (arith, few, fit);
+        is_ahead = over-ahead;
+        state = o.follows.behind.stands.state;
+        next = ahead-most old h.next o.rest o.follows.behind.stands.ahead.1;
+        marks_fit = omega (arith, few, room.marks_fit);
+        ahead_fit = omega (arith, few, room.ahead_fits, follows-short g t old h.at to ms (h ∷ o.rest) o.follows);
         low = omega arith;
         fits = fits-none g old;
-        deep = omega (arith, height-lowest g h o.stands.goals.0);
+        deep = omega (arith, height-lowest g h over-ahead);
       }
 
   -- no run comes to the position
-  pub followed-fails : (can : CanFollow g t old at from n) (before after : ℕ) (marks ms : List Mark) (new : List (Option Ahead)) → Fails g h to.state position (length old) marks ms old new
-      → after ≤ before + 2 * height_at g h.id.index → Followed g t at marks ms old (take (length old) new) before after None
-  followed-fails can before after marks ms new k cost =
+  pub followed-fails : (before after : ℕ) (more : List Mark) (new : List (Option Ahead)) → Fails g h to.state position (length old) ms more old new
+      → after ≤ before + 2 * height_at g h.id.index → Followed g t ms more (take (length old) new) before after None
+  followed-fails before after more new k cost =
       let same : take (length old) new ≡ old = k.ahead ∙ take-length old in
       let dies : Dies g to.state h.at all position = ap (λ x. reached g.dfa.now to.state (plain x)) (take-append-le (position - h.at) (text_at g h.id.index) (text_ahead g o.rest) (omega (arith, o.over.before))) ∙ k.dies in
-      rw (k.kept, same) (followed-dead g t old at position end n from can (omega (arith, o.late, o.over.from)) (omega (arith, position-early)) e h.at to.state all marks before after o.leads o.late o.over.from
-      (omega (arith, o.over.before, length-append (text_at g h.id.index) (text_ahead g o.rest))) o.quiet dies (omega (arith, cost, over-high)))
+      rw (k.kept, same) (followed-dead g t old h.at to ms (h ∷ o.rest) o.follows position before after o.over.from (omega (arith, o.over.before, over-size)) o.quiet dies (omega (arith, cost, over-high)))
 
-  module _ (marks ms : List Mark) (mid : List (Option Ahead)) (k : Lays g t h to.state position (length old) marks ms old mid) (count : n ≡ length marks) (some : 0 < mark_of t position) where
-    abbrev m : Mark
-    m = k.keeps.mark
+  module _ (more : List Mark) (mid : List (Option Ahead)) (k : Lays g t h to.state position (length old) ms more old mid) (some : 0 < mark_of t position) where
+    abbrev laid-mark : Mark
+    laid-mark = k.keeps.mark
 
-    pub lays-way : Way g mid h.at to.state (h ∷ o.rest) m
-    lays-way = k.way o.rest o.stands
+    pub lays-way : Way g mid h.at to.state (h ∷ o.rest) laid-mark
+    lays-way = k.way o.rest (stands-before g old h.at to h o.rest o.follows.behind.stands)
+
+    abbrev word : Marked
+    word = o.follows.word
+
+    abbrev bare : List ℕ
+    bare = lays-way.front
 
     abbrev rest : List ℕ
     rest = text_ahead g lays-way.back
 
-    mark-there : mark_of t m.at ≡ m.mark
-    mark-there = ap (mark_of t) k.position_is ∙ sym k.mark_is
+    abbrev letter : Marked
+    letter = (laid-mark.mark, laid-mark.byte) ∷ []
 
-    lays-leads : Leads g t m.at m.state n (m.byte ∷ rest)
-    lays-leads = subst (λ x. Leads g t x m.state n (m.byte ∷ rest)) (sym lays-way.at_is) (leads-pass g t h.at to.state n all o.leads m.state lays-way.front (m.byte ∷ rest) lays-way.passed
-        (λ x above below. o.quiet x (omega (arith, above, o.late)) (omega (arith, below, lays-way.at_is, k.position_is))))
+    lays-some : 0 < laid-mark.mark
+    lays-some = omega (arith, k.mark_is, some)
 
-    -- the mark and those behind it are kept
-    lays-kept : (beside : List (Option Ahead)) (more : List Mark) → AreKept g t (mid ++ beside) (m.at + 1) (suc (length marks)) (length mid) more → AreKept g t (mid ++ beside) at (length marks) (length old) (m ∷ more)
-    lays-kept beside more behind =
-        let first : IsFirstMark t at m.at m.mark = record { after = omega (arith, o.late, o.over.from, k.position_is); mark_is = mark-there; some = rw k.mark_is some; quiet = λ x above below. o.quiet x above (omega (arith, below, k.position_is)) } in
-        let low : length old ≤ length mid = omega (arith, ap length k.keeps.ahead, length-append old k.keeps.beside) in
-        let leads : Leads g t m.at m.state (length marks) (m.byte ∷ rest) = subst (λ x. Leads g t m.at m.state x (m.byte ∷ rest)) count lays-leads in
-        (length mid, kept-way g t mid (mid ++ beside) at (length marks) (length old) h.at to.state (h ∷ o.rest) m lays-way leads first k.keeps.base_is low k.keeps.fits (take_at mid beside (length mid) refl), behind)
+    kept : AreKept g (suc o.follows.behind.count) ((word ++ plain bare) ++ letter) more mid
+    kept = kept-more g h.at to (length old) word ms more old old mid (h ∷ o.rest) o.follows.behind k.keeps refl (omega arith) lays-way lays-some
+
+    -- the tuple's word up to the mark and behind it
+    lays-word : word_over t 1 (whole_text g) ≡ ((word ++ plain bare) ++ letter) ++ word_over t (position + 1) rest
+    lays-word =
+        let there : h.at + length bare ≡ position = omega (arith, lays-way.at_is, k.position_is) in
+        let v = word_over t (position + 1) rest in
+        let letters : word_over t h.at all ≡ plain bare ++ (letter ++ v) =
+        ap (word_over t h.at) lays-way.passed.parts
+        ∙ over-on t h.at bare laid-mark.byte rest laid-mark.mark (λ p above below. o.quiet p above (omega (arith, below, there))) (ap (mark_of t) there ∙ sym k.mark_is)
+        ∙ ap (λ n. plain bare ++ (letter ++ word_over t (n + 1) rest)) there in
+        o.follows.word_is ∙ ap (λ w. word ++ w) letters ∙ sym (append_assoc (word ++ plain bare) letter v ∙ append_assoc word (plain bare) (letter ++ v))
+
+    lays-leads : Leads g (word ++ plain bare) laid-mark.state (laid-mark.byte ∷ rest)
+    lays-leads = leads-pass g word to.state all o.follows.behind.leads bare laid-mark.state (laid-mark.byte ∷ rest) lays-way.passed
 
     -- the walk goes on behind the mark
-    pub lays-goes : IsDeterministic g.dfa.now → (q : ℕ) (last : Mark) → last ≡ m → step_of g.dfa.now last.state last.mark last.byte ≡ Some q
-        → CanFollow g t mid (position + 1) (record { state = q; next = last.next; quiet = false }) (length ms)
+    pub lays-goes : IsDeterministic g.dfa.now → (q : ℕ) (last : Mark) → last ≡ laid-mark → step_of g.dfa.now last.state last.mark last.byte ≡ Some q
+        → CanFollow g t mid (position + 1) (record { state = q; next = last.next; quiet = false }) more
     lays-goes auto q last same step =
-        let here : step_of g.dfa.now m.state m.mark m.byte ≡ Some q = rw same at step in
-        let number : length ms ≡ n + 1 = ap length k.keeps.kept ∙ length-append marks (m ∷ []) ∙ omega (arith, count) in
-        let place : Place = record { state = q; next = m.next; quiet = false } in
-        let on : CanFollow g t mid (m.at + 1) place (n + 1) = record {
-          chain = lays-way.back;
-          stands = stands-mark g mid m lays-way.back m.mark q auto lays-way.is_mark here;
-          leads = leads-letter g t m.at m.state n m.byte rest lays-leads q (ap (λ x. step_of g.dfa.now m.state x m.byte) mark-there ∙ here) (rw k.position_is some);
-        } in
-        rw same (subst (λ x. CanFollow g t mid (position + 1) place x) (sym number) (subst (λ x. CanFollow g t mid (x + 1) place (n + 1)) k.position_is on))
+        let here : step_of g.dfa.now laid-mark.state laid-mark.mark laid-mark.byte ≡ Some q = rw same at step in
+        let place : Place = record { state = q; next = laid-mark.next; quiet = false } in
+        let on = behind-mark g h.at to (length old) word ms more old old mid (h ∷ o.rest) o.follows.behind k.keeps refl (omega arith) lays-way lays-some place auto here refl (λ e. cc) in
+        rw same (lays-way.back, record {
+          word = (word ++ plain bare) ++ letter;
+          behind = subst (λ n. Behind g (n + 1) place (length mid) ((word ++ plain bare) ++ letter) more mid lays-way.back) k.position_is on;
+          word_is = lays-word;
+        })
 
     -- the run ends at the letter
-    pub followed-stuck : (before after : ℕ) → step_of g.dfa.now m.state m.mark m.byte ≡ None → after ≤ before + 2 * height_at g h.id.index
-        → Followed g t at marks ms old mid before after None
+    pub followed-stuck : (before after : ℕ) → step_of g.dfa.now laid-mark.state laid-mark.mark laid-mark.byte ≡ None → after ≤ before + 2 * height_at g h.id.index → Followed g t ms more mid before after None
     followed-stuck before after step cost =
-        let dead : step_of g.dfa.now m.state (mark_of t m.at) m.byte ≡ None = ap (λ x. step_of g.dfa.now m.state x m.byte) mark-there ∙ step in
+        let a = g.dfa.now in
+        let dead : reached a 0 ((word ++ plain bare) ++ letter) ≡ None = path-on (step_of a) 0 laid-mark.state (word ++ plain bare) letter lays-leads.ends ∙ path-one (step_of a) laid-mark.state laid-mark.mark laid-mark.byte ∙ step in
         record {
-          more = m ∷ [];
-          marks_are = k.keeps.kept;
-          beside = k.keeps.beside;
-          ahead = k.keeps.ahead;
-          kept = subst (λ x. AreKept g t x at (length marks) (length old) (m ∷ [])) (append-nil mid) (lays-kept [] [] (ap length (sym (append-nil mid))));
-          none = stuck-none g t m.at m.state n m.byte rest lays-leads dead;
-          end_is = sym (stuck-run g t m.at m.state n m.byte rest lays-leads dead);
+          trail = record {
+            read = (word ++ plain bare) ++ letter;
+            left = word_over t (position + 1) rest;
+            back = rest;
+            word_is = lays-word;
+            parts = lays-leads.parts ∙ sym (append_assoc (bytes_of (word ++ plain bare)) (laid-mark.byte ∷ []) rest) ∙ ap (λ s. s ++ rest) (sym (bytes-append (word ++ plain bare) letter));
+            count = suc o.follows.behind.count;
+            kept = kept;
+            none = λ q run. absurd (no-state q (reached a 0 ((word ++ plain bare) ++ letter)) dead run);
+          };
+          more = 1;
+          count = ap length k.keeps.kept ∙ length-append ms (laid-mark ∷ []);
+          end_is = sym (ap (reached a 0) lays-word ∙ path-dead (step_of a) 0 ((word ++ plain bare) ++ letter) (word_over t (position + 1) rest) dead);
           cost = omega (arith, cost, over-high);
         }
 
     -- the marks behind it were kept too
-    pub followed-on : (marks' : List Mark) (new : List (Option Ahead)) (before between after : ℕ) (r : Option ℕ)
-        → between ≤ before + 2 * height_at g h.id.index → Followed g t (position + 1) ms marks' mid new between after r → Followed g t at marks marks' old new before after r
-    followed-on marks' new before between after r cost f =
-        let number : length ms ≡ suc (length marks) = ap length k.keeps.kept ∙ length-append marks (m ∷ []) ∙ omega arith in
-        let back : position + 1 - 1 ≡ m.at = omega (arith, k.position_is) in
+    pub followed-on : (marks : List Mark) (new : List (Option Ahead)) (before between after : ℕ) (r : Option ℕ) → between ≤ before + 2 * height_at g h.id.index
+        → Followed g t more marks new between after r → Followed g t ms marks new before after r
+    followed-on marks new before between after r cost f =
         let high = height_limit (length (whole_text g)) in
-        let sum : high * suc (length f.more) ≡ high * length f.more + high = mul-suc high (length f.more) in
+        let sum : high * suc f.more ≡ high * f.more + high = mul-suc high f.more in
         record {
-          more = m ∷ f.more;
-          marks_are = f.marks_are ∙ ap (λ x. x ++ f.more) k.keeps.kept ∙ append_assoc marks (m ∷ []) f.more;
-          beside = k.keeps.beside ++ f.beside;
-          ahead = f.ahead ∙ ap (λ x. x ++ f.beside) k.keeps.ahead ∙ append_assoc old k.keeps.beside f.beside;
-          kept = subst (λ x. AreKept g t x at (length marks) (length old) (m ∷ f.more)) (sym f.ahead) (lays-kept f.beside f.more (subst (λ x. AreKept g t x (m.at + 1) (suc (length marks)) (length mid) f.more) f.ahead
-              (subst (λ x. AreKept g t new (x + 1) (suc (length marks)) (length mid) f.more) (sym k.position_is) (subst (λ x. AreKept g t new (position + 1) x (length mid) f.more) number f.kept))));
-          none = subst (λ x. NoneBehind g t (last_at x f.more)) back f.none;
+          trail = f.trail;
+          more = suc f.more;
+          count = omega (arith, f.count, ap length k.keeps.kept, length-append ms (laid-mark ∷ []));
           end_is = f.end_is;
           cost = omega (arith, cost, over-high, f.cost, sum);
         }

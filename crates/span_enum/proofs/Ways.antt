@@ -1,17 +1,17 @@
 -- The way over letters without marks: over nodes ahead, and down to a mark.
 use Rattle.span_enum.proofs.Base.{Ahead, AreAhead, AreBetween, AreGoals, AtMost, Between, Bool, Byte, CanEnd, Descends, DeterministicAutomaton, Dies, Fails, Fits, GoesFirst, Ground, IsDeterministic, IsGreatestMark, IsGround, IsMarkedLeft}
 use Rattle.span_enum.proofs.Base.{IsNodeAt, IsOver, IsPlainLeft, Join, Keeps, Laid, Lays, LeadQuiet, List, Look, Mark, Marked, Meets, NodeId, None, Option, Passed, Passes, PassesPlain, PassesTo, Place, Some, Stands, StandsBefore, Tuple}
-use Rattle.span_enum.proofs.Base.{Turns, Way, [], ap, append-nil, append_assoc, arith, bit_and, bytes-plain, bytes_of, can_reach_of, child, false, here, length, length-append, mark_of, mark_over, marked, marked_of, member, plain}
-use Rattle.span_enum.proofs.Base.{reached, refl, sibling, slice_get, states_of, subst, suc, sym, take, take-append-add, take-append-le, text_ahead, text_at, true, true≢false, unmarked_of, ℕ, ◌++◌, ◌+◌, ◌-◌, ◌<◌, ◌∙◌, ◌∷◌, ◌≡◌, ◌≤◌}
+use Rattle.span_enum.proofs.Base.{Turns, Way, [], ap, append-nil, append_assoc, arith, bit_and, bytes-append, bytes-plain, bytes_of, can_reach_of, child, false, has-count, here, length, length-append, mark, mark_count-append, mark_of}
+use Rattle.span_enum.proofs.Base.{mark_over, marked, marked_of, member, path-on, path-parts, plain, plain-append, plain-dead, plain-on, reached, refl, sibling, slice_get, states_of, step_of, subst, suc, sym, take, take-append-add}
+use Rattle.span_enum.proofs.Base.{take-append-le, text_ahead, text_at, true, true≢false, unmarked_of, ℕ, ◌++◌, ◌+◌, ◌-◌, ◌<◌, ◌∙◌, ◌∷◌, ◌≡◌, ◌≤◌}
 use Rattle.span_enum.proofs.Chains.{Fork, before-left, before-right, between-compose, fork-goals, fork-height, fork-text, goals-on, next-is}
-use Rattle.span_enum.proofs.Runs.{IsFirst-byte, IsFirst-fork, IsFirst-plain, Tells, bytes-append, fit-byte, goal-plain, has-count, mark_count-append, marked-run, plain-append, plain-dead, plain-run, run-behind, run-join, run-on, run-parts}
-use Rattle.span_enum.proofs.Runs.{run-within, table-from_run, tells}
+use Rattle.span_enum.proofs.Runs.{IsFirst-byte, IsFirst-fork, IsFirst-plain, Tells, fit-byte, goal-plain, marked-run, run-behind, run-join, run-within, table-from_run, tells}
 use Rattle.span_enum.proofs.Tables.{byte-text, look-table, pair-text, plain-left}
 
 pub passed-on : (a : DeterministicAutomaton) (p q r : ℕ) (s u v x y : List ℕ) → Passed a p s x q u → Passed a q u y r v → Passed a p s (x ++ y) r v
 passed-on a p q r s u v x y one two = record {
   parts = one.parts ∙ ap (λ z. x ++ z) two.parts ∙ sym (append_assoc x y v);
-  step = plain-run a p q x y one.step ∙ two.step;
+  step = plain-on (step_of a) p q x y one.step ∙ two.step;
 }
 
 first-on : (g : Ground) (p q r : ℕ) (b c d : List Ahead) (x y : Marked) → GoesFirst g p b x q c → GoesFirst g q c y r d → GoesFirst g p b (x ++ y) r d
@@ -100,8 +100,8 @@ passes-dies g hs at position from place c p h n le none =
     let whole : text_ahead g c ≡ (front ++ x) ++ text_ahead g n.rest = p.passes.passed.parts ∙ ap (λ b. front ++ text_ahead g b) n.back ∙ sym (append_assoc front x (text_ahead g n.rest)) in
     let size : position - at ≡ length (front ++ x) + (position - (at + length (front ++ x))) = omega (arith, le, n.stands.join.0, n.stands.goals.0.look.len_is, length-append front x) in
     let letters : take (position - at) (text_ahead g c) ≡ (front ++ x) ++ far = ap (take (position - at)) whole ∙ ap (λ k. take k ((front ++ x) ++ text_ahead g n.rest)) size ∙ take-append-add (front ++ x) (text_ahead g n.rest) (position - (at + length (front ++ x))) in
-    let dead : reached g.dfa.now from.state (plain (front ++ x)) ≡ None = plain-run g.dfa.now from.state place.state front x p.passes.passed.step ∙ sym (n.tells.unmarked place.state n.stands.state) ∙ none in
-    ap (λ y. reached g.dfa.now from.state (plain y)) letters ∙ plain-dead g.dfa.now from.state (front ++ x) far dead
+    let dead : reached g.dfa.now from.state (plain (front ++ x)) ≡ None = plain-on (step_of g.dfa.now) from.state place.state front x p.passes.passed.step ∙ sym (n.tells.unmarked place.state n.stands.state) ∙ none in
+    ap (λ y. reached g.dfa.now from.state (plain y)) letters ∙ plain-dead (step_of g.dfa.now) from.state (front ++ x) far dead
 
 -- where the walk can go on, a run over the next node leads into its goals
 pub can-head : (g : Ground) (hs : List (Option Ahead)) (at : ℕ) (from place : Place) (c : List Ahead) (p : PassesPlain g hs at from place c) (h : Ahead) → Next g hs at from place c p.passes h
@@ -110,7 +110,7 @@ can-head g hs at from place c p h n =
     let a = g.dfa.now in
     let x = text_at g h.id.index in
     let can : CanEnd g place.state (h ∷ n.rest) = rw n.back at p.can in
-    let k = run-parts a place.state x (text_ahead g n.rest) can.word can.state can.bytes can.ends in
+    let k = path-parts (step_of a) place.state x (text_ahead g n.rest) can.word can.state can.bytes can.ends in
     table-from_run a x h.look.table.now place.state h.goals n.tells n.stands.state (record {
       word = k.left;
       state = k.middle;
@@ -119,10 +119,10 @@ can-head g hs at from place c p h n =
       goal = n.stands.goals.1.reach k.middle k.left k.left_bytes k.left_ends (run-behind a place.state x (text_ahead g n.rest) can.word can.state g.finals k can.goal);
     })
 
-pub plain-on : (g : Ground) (auto : IsDeterministic g.dfa.now) (hs : List (Option Ahead)) (at : ℕ) (from place : Place) (c : List Ahead) (p : PassesPlain g hs at from place c) (h : Ahead) (q : ℕ)
+pub node-on : (g : Ground) (auto : IsDeterministic g.dfa.now) (hs : List (Option Ahead)) (at : ℕ) (from place : Place) (c : List Ahead) (p : PassesPlain g hs at from place c) (h : Ahead) (q : ℕ)
     → Next g hs at from place c p.passes h → bit_and (marked_of h.look.table.now place.state) h.goals ≡ 0
     → unmarked_of h.look.table.now place.state ≡ Some q → PassesPlain g hs at from (record { state = q; next = h.next; quiet = false }) c
-plain-on g auto hs at from place c p h q n none step =
+node-on g auto hs at from place c p h q n none step =
     let x = text_at g h.id.index in
     let goal = goal-plain h.look.table.now place.state h.goals q (can-head g hs at from place c p h n) none step in
     let alone = IsFirst-plain g.dfa.now x h.look.table.now place.state h.goals q n.tells n.stands.state none step goal in
@@ -153,7 +153,7 @@ some-mark g hs at from place c p h most n turns few =
     let w : Marked = run.2.word ++ on.word in
     let bytes : bytes_of (plain x ++ w) ≡ text_ahead g c =
     bytes-append (plain x) w ∙ ap (λ y. bytes_of (plain x) ++ y) (bytes-append run.2.word on.word) ∙ rw (bytes-plain x, run.2.bytes, on.bytes) (sym (p.passes.passed.parts ∙ ap (λ b. x ++ text_ahead g b) n.back)) in
-    let ends : reached a from.state (plain x ++ w) ≡ Some on.state = run-on a from.state place.state (plain x) w p.passes.passed.step ∙ run-on a place.state run.0 run.2.word on.word run.2.ends ∙ on.ends in
+    let ends : reached a from.state (plain x ++ w) ≡ Some on.state = path-on (step_of a) from.state place.state (plain x) w p.passes.passed.step ∙ path-on (step_of a) place.state run.0 run.2.word on.word run.2.ends ∙ on.ends in
     omega (arith, few (plain x ++ w) on.state bytes ends on.goal, has-count run.2.word run.2.mark, mark_count-append (plain x) w, mark_count-append run.2.word on.word)
 
 -- ---- a letter
@@ -277,14 +277,14 @@ module _ (g : Ground) (h : Ahead) (l r : NodeId) (left right : Look) (f : Fork g
           (k.way c (before-right g h l r left right f hs q c s p low run));
     }
     laid-right p low run from false k = record {
-      dies = ap (λ y. reached g.dfa.now q (plain y)) (right-letters from) ∙ plain-run g.dfa.now q p left-text (take (position - (h.at + left.len)) (text_at g r.index)) run ∙ k.dies;
+      dies = ap (λ y. reached g.dfa.now q (plain y)) (right-letters from) ∙ plain-on (step_of g.dfa.now) q p left-text (take (position - (h.at + left.len)) (text_at g r.index)) run ∙ k.dies;
       kept = k.kept;
       ahead = k.ahead;
     }
 
     pub fails-here : h.at + left.len ≤ position → reached g.dfa.now q (plain left-text) ≡ None → Fails g h q position base marks marks hs hs
     fails-here from run = record {
-      dies = ap (λ y. reached g.dfa.now q (plain y)) (right-letters from) ∙ plain-dead g.dfa.now q left-text (take (position - (h.at + left.len)) (text_at g r.index)) run;
+      dies = ap (λ y. reached g.dfa.now q (plain y)) (right-letters from) ∙ plain-dead (step_of g.dfa.now) q left-text (take (position - (h.at + left.len)) (text_at g r.index)) run;
       kept = refl;
       ahead = refl;
     }

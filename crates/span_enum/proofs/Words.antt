@@ -1,9 +1,10 @@
 -- The words of tuples, and the next marked text after a given one.
-use Rattle.span_enum.proofs.Base.{AreSpans, CanRun, DeterministicAutomaton, IsAfter, IsFirst, IsGreatestMark, IsNext, IsNoMark, IsUnmarked, List, Marked, None, NoneAfter, Precedes, Some, Tuple, [], ap, append_cancel_left, arith, blanks}
-use Rattle.span_enum.proofs.Base.{bytes-plain, bytes_of, cases_eq, cut, cut-start, height_limit, inl, inr, length, looks_limit, mark_count, mark_of, marks-append, marks_in, max, member, mul-add, mul-le-mul_left, mul-le-mul_right, mul_assoc}
-use Rattle.span_enum.proofs.Base.{plain, reached, refl, subst, suc, sym, take, take_at, true, word-append, word-plain, word-same, word-tell, word_from, word_over, write-append, write-next, write-zeros, write_marks, write_word, ℕ, ◌*◌, ◌++◌}
-use Rattle.span_enum.proofs.Base.{◌+◌, ◌<◌, ◌∙◌, ◌∷◌, ◌≡◌, ◌≤◌, ◌⊎◌}
-use Rattle.span_enum.proofs.Runs.{OneLetter, Parts, bytes-append, count-more, length-bytes, mark_count-append, one-letter, precedes-append, precedes-prefix, precedes-split, run-behind, run-dead, run-on, run-one, run-parts, same-state}
+use Rattle.span_enum.proofs.Base.{AreSpans, CanRun, DeterministicAutomaton, IsAfter, IsFirst, IsGreatestMark, IsNext, IsNoMark, IsUnmarked, List, Marked, None, NoneAfter, OneLetter, Parts, Precedes, Some, Tuple, [], ap, append_cancel_left}
+use Rattle.span_enum.proofs.Base.{arith, blanks, bytes-append, bytes-plain, bytes_of, cases_eq, count-more, cut, cut-start, height_limit, inl, inr, length, length-bytes, looks_limit, mark_count, mark_count-append, mark_of, marks-append}
+use Rattle.span_enum.proofs.Base.{marks_in, max, member, mul-add, mul-le-mul_left, mul-le-mul_right, mul_assoc, one-letter, path-dead, path-on, path-one, path-parts, plain, precedes-append, precedes-prefix, precedes-split, reached, refl}
+use Rattle.span_enum.proofs.Base.{same-state, step_of, subst, suc, sym, take, take_at, true, word-append, word-plain, word_from, word_over, write-append, write-next, write-zeros, write_marks, write_word, ℕ, ◌*◌, ◌++◌, ◌+◌, ◌<◌, ◌∙◌, ◌∷◌}
+use Rattle.span_enum.proofs.Base.{◌≡◌, ◌≤◌, ◌⊎◌}
+use Rattle.span_enum.proofs.Runs.{run-behind}
 
 -- ---- tuples written mark by mark, and the words of tuples
 length-marks : (w : Marked) → length (marks_in w) ≡ length w
@@ -34,9 +35,6 @@ over-bytes t p (b ∷ s) = ap (λ x. b ∷ x) (over-bytes t (suc p) s)
 pub over-length : (t : Tuple) (p : ℕ) (s : List ℕ) → length (word_over t p s) ≡ length s
 over-length t p s = sym (length-bytes (word_over t p s)) ∙ ap length (over-bytes t p s)
 
-pub over-same : (t u : Tuple) (p : ℕ) (s : List ℕ) → ((q : ℕ) → p ≤ q → q < p + length s → mark_of t q ≡ mark_of u q) → word_over t p s ≡ word_over u p s
-over-same t u p s same = word-same (mark_of t) (mark_of u) p s same
-
 word-zero : (p : ℕ) (s : List ℕ) → word_from (λ q. 0) p s ≡ plain s
 word-zero p [] = refl
 word-zero p (b ∷ s) = ap (λ w. (0, b) ∷ w) (word-zero (suc p) s)
@@ -44,11 +42,9 @@ word-zero p (b ∷ s) = ap (λ w. (0, b) ∷ w) (word-zero (suc p) s)
 pub over-plain : (t : Tuple) (p : ℕ) (s : List ℕ) → IsUnmarked t p (p + length s) → word_over t p s ≡ plain s
 over-plain t p s none = word-plain (mark_of t) p s none ∙ word-zero p s
 
-pub quiet-plain : (t : Tuple) (p : ℕ) (s : List ℕ) → word_over t p s ≡ plain s → IsUnmarked t p (p + length s)
-quiet-plain t p s e = word-tell (mark_of t) (λ q. 0) p s (e ∙ sym (word-zero p s))
-
-pub write-plain : (p : ℕ) (s : List ℕ) (t : Tuple) → write_word p (plain s) t ≡ t
-write-plain p s t = ap (λ w. write_word p w t) (sym (word-zero p s)) ∙ write-zeros p s t
+-- letters without marks write nothing
+pub write-bare : (w : Marked) (s : List ℕ) (t : Tuple) → write_word 1 (w ++ plain s) t ≡ write_word 1 w t
+write-bare w s t = write_word-append 1 w (plain s) t ∙ ap (λ v. write_word (1 + length w) v (write_word 1 w t)) (sym (word-zero (1 + length w) s)) ∙ write-zeros (1 + length w) s (write_word 1 w t)
 
 pub over-count : (t : Tuple) (p : ℕ) (s : List ℕ) (q : ℕ) → p ≤ q → q < p + length s → 0 < mark_of t q → 0 < mark_count (word_over t p s)
 over-count t p [] q from to some = absurd (omega arith)
@@ -60,10 +56,10 @@ over-count t p (b ∷ s) q from to some = elim (cases_eq p q) [
 -- the run over two joined texts goes over the second from where the first leads
 pub over-run : (a : DeterministicAutomaton) (p at q : ℕ) (t : Tuple) (s u : List ℕ) → reached a p (word_over t at s) ≡ Some q
     → reached a p (word_over t at (s ++ u)) ≡ reached a q (word_over t (at + length s) u)
-over-run a p at q t s u e = ap (reached a p) (over-append t at s u) ∙ run-on a p q (word_over t at s) (word_over t (at + length s) u) e
+over-run a p at q t s u e = ap (reached a p) (over-append t at s u) ∙ path-on (step_of a) p q (word_over t at s) (word_over t (at + length s) u) e
 
 pub over-dead : (a : DeterministicAutomaton) (p at : ℕ) (t : Tuple) (s u : List ℕ) → reached a p (word_over t at s) ≡ None → reached a p (word_over t at (s ++ u)) ≡ None
-over-dead a p at t s u e = ap (reached a p) (over-append t at s u) ∙ run-dead a p (word_over t at s) (word_over t (at + length s) u) e
+over-dead a p at t s u e = ap (reached a p) (over-append t at s u) ∙ path-dead (step_of a) p (word_over t at s) (word_over t (at + length s) u) e
 
 -- ---- words cut at the same place
 pub append-same : {X : Type 0} (a b c d : List X) → length a ≡ length c → a ++ b ≡ c ++ d → (a ≡ c) × (b ≡ d)
@@ -116,9 +112,9 @@ none-plain a p s goals v r h = precedes-plain s v h.after
 
 -- ---- one letter
 byte-after : (a : DeterministicAutomaton) (p b goals old : ℕ) (v : Marked) (r : ℕ) → IsAfter a p (b ∷ []) goals ((old, b) ∷ []) v r
-    → (k : OneLetter a p b v r) × (k.mark < old)
+    → (k : OneLetter (step_of a) p b v r) × (k.mark < old)
 byte-after a p b goals old v r h =
-    let one = one-letter a p b r v h.bytes h.ends in
+    let one = one-letter (step_of a) p b r v h.bytes h.ends in
     (one, elim (rw one.word at h.after) [ inl lt ↦ lt | inr z ↦ absurd z.1 ])
 
 pub none-byte : (a : DeterministicAutomaton) (p b goals old : ℕ) → ((m : ℕ) → IsNoMark a p b goals old m) → NoneAfter a p (b ∷ []) goals ((old, b) ∷ [])
@@ -126,7 +122,7 @@ none-byte a p b goals old none v r h = let one = byte-after a p b goals old v r 
 
 pub IsNext-byte : (a : DeterministicAutomaton) (p b goals old m q : ℕ) → IsGreatestMark a p b goals old m q → IsNext a p (b ∷ []) goals ((old, b) ∷ []) ((m, b) ∷ []) q
 IsNext-byte a p b goals old m q best = record {
-  is_after = record { bytes = refl; ends = run-one a p m b ∙ best.step; goal = best.goal; after = inl best.below };
+  is_after = record { bytes = refl; ends = path-one (step_of a) p m b ∙ best.step; goal = best.goal; after = inl best.below };
   least = λ v r h.
       let one = byte-after a p b goals old v r h in
       let within : one.0.mark ≤ m = best.most one.0.mark r one.1 one.0.step h.goal in
@@ -137,13 +133,13 @@ IsNext-byte a p b goals old m q best = record {
 module _ (a : DeterministicAutomaton) (s u : List ℕ) (p goals : ℕ) (w1 w2 : Marked) (e1 : bytes_of w1 ≡ s) where
   -- a text after two joined ones: the first parts decide, or they are equal
   record ComesAfter (v : Marked) (r : ℕ) : Type 0 where
-    parts : Parts a p s u v r
+    parts : Parts (step_of a) p s u v r
     onward : CanRun a parts.middle u goals
     cases : Precedes w1 parts.left ⊎ ((w1 ≡ parts.left) × IsAfter a parts.middle u goals w2 parts.right r)
 
   comes-after : (v : Marked) (r : ℕ) → IsAfter a p (s ++ u) goals (w1 ++ w2) v r → ComesAfter v r
   comes-after v r h =
-      let k = run-parts a p s u v r h.bytes h.ends in
+      let k = path-parts (step_of a) p s u v r h.bytes h.ends in
       record {
         parts = k;
         onward = run-behind a p s u v r goals k h.goal;
@@ -158,7 +154,7 @@ module _ (a : DeterministicAutomaton) (s u : List ℕ) (p goals : ℕ) (w1 w2 : 
   IsNext-front q r v2 run l = record {
     is_after = record {
       bytes = bytes-append w1 v2 ∙ rw (e1, l.is_after.bytes) refl;
-      ends = run-on a p q w1 v2 run ∙ l.is_after.ends;
+      ends = path-on (step_of a) p q w1 v2 run ∙ l.is_after.ends;
       goal = l.is_after.goal;
       after = precedes-prefix w1 w2 v2 l.is_after.after;
     };
@@ -196,7 +192,7 @@ module _ (a : DeterministicAutomaton) (s u : List ℕ) (p goals : ℕ) (w1 w2 : 
     IsNext-fork q r v1 v2 l f = record {
       is_after = record {
         bytes = bytes-append v1 v2 ∙ rw (l.is_after.bytes, f.bytes) refl;
-        ends = run-on a p q v1 v2 l.is_after.ends ∙ f.ends;
+        ends = path-on (step_of a) p q v1 v2 l.is_after.ends ∙ f.ends;
         goal = f.goal;
         after = precedes-append w1 v1 w2 v2 l.is_after.after;
       };

@@ -1,7 +1,8 @@
 -- What the walk to the next answer finds.
-use Rattle.std.specs.Prelude.{ℕ, List, Option, Some}
+use Rattle.std.specs.Prelude.{◌≡◌, List, Option, Some}
 use Rattle.span_enum.specs.Members.{Tuple, IsFirstMember, NoMemberLeft}
-use Rattle.span_enum.specs.Trail.{Agree, whole_text, IsTrail, IsTrailOf, IsStateAt}
+use Rattle.span_enum.specs.Trail.{whole_text, IsTrail, IsTrailOf, IsStateAt}
+use Rattle.span_enum.specs.Tuples.{word_over}
 use Rattle.span_enum.specs.declared.ground.Ground.{Ground}
 use Rattle.span_enum.specs.declared.trail.Ahead.{Ahead}
 use Rattle.span_enum.specs.declared.trail.Mark.{Mark}
@@ -18,8 +19,8 @@ pub record IsNoneAfter (g : Ground) (cursor : Option Tuple) (ms : List Mark) (hs
   pub none : NoMemberLeft g.dfa.now (whole_text g) cursor
   pub trail : IsTrail g cursor ms hs
 
--- f is the first answer after the tuple, and agrees with it before the end
-pub record IsLoweredAtEnd (g : Ground) (t : Tuple) (end : ℕ) (f : Found) : Type 0 where
+-- f is the first answer after the tuple, and has the same marks over the text
+pub record IsLoweredAtEnd (g : Ground) (t : Tuple) (f : Found) : Type 0 where
   pub first : IsFirstMember g.dfa.now (whole_text g) (Some t) f.tuple
-  pub agree : Agree t f.tuple end
+  pub same : word_over f.tuple 1 (whole_text g) ≡ word_over t 1 (whole_text g)
   pub state : IsStateAt g (Some f.tuple) f.state

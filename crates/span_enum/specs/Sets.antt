@@ -1,5 +1,5 @@
 -- Sets of states, and the states before a text from which some run ends in a set.
-use Rattle.std.specs.Prelude.{ℕ, ◌==◌, Bool, true, false, ◌||◌, not, List, [], ◌∷◌, Option, Some, None, bit_and}
+use Rattle.std.specs.Prelude.{ℕ, ◌==◌, Bool, false, ◌||◌, not, List, length, Option, Some, None, bit_and}
 use Rattle.marker_dfa.specs.Deterministic.{DeterministicAutomaton, ends_of}
 use Rattle.state_tables.specs.StateSet.{member}
 use Rattle.state_tables.specs.Table.{Row, unmarked_of, marked_of}
@@ -13,10 +13,6 @@ is_goal goals (Some q) = member goals q
 abbrev pub can_reach_of : List Row → ℕ → ℕ → Bool
 can_reach_of t p goals = is_goal goals (unmarked_of t p) || not (bit_and (marked_of t p) goals == 0)
 
-abbrev pub has_item : List ℕ → Bool
-has_item [] = false
-has_item (x ∷ xs) = true
-
 -- whether a text may end in the state
 abbrev pub is_final : DeterministicAutomaton → ℕ → Bool
-is_final a p = has_item (ends_of a p)
+is_final a p = not (length (ends_of a p) == 0)

@@ -1,5 +1,5 @@
 -- What is kept of the last answer: its marks, and the nodes ahead of each.
-use Rattle.std.specs.Prelude.{suc, ◌≡◌, ℕ, ◌+◌, ◌-◌, ◌*◌, ◌^◌, ◌<◌, ◌≤◌, Bool, true, false, List, [], ◌∷◌, ◌++◌, length, take, slice_get, bit_and, Option, Some, None}
+use Rattle.std.specs.Prelude.{zero, suc, ◌≡◌, ℕ, ◌+◌, ◌-◌, ◌*◌, ◌^◌, ◌<◌, ◌≤◌, Bool, true, false, List, [], ◌∷◌, ◌++◌, length, take, slice_get, bit_and, Option, Some, None}
 use Rattle.span_types.specs.Places.{AreSpans}
 use Rattle.span_types.specs.Marks.{mark_of}
 use Rattle.span_types.specs.Words.{Marked, mark_count}
@@ -17,7 +17,7 @@ use Rattle.span_enum.specs.Members.{Tuple}
 use Rattle.span_enum.specs.Letters.{step_of, reached}
 use Rattle.span_enum.specs.Listing.{text_of, IsReady}
 use Rattle.span_enum.specs.Ends.{AreFinals}
-use Rattle.span_enum.specs.Tuples.{word_over, write_word, end_mark, IsUnmarked}
+use Rattle.span_enum.specs.Tuples.{word_over, write_word, end_mark}
 use Rattle.span_enum.specs.Between.{AreBetween}
 use Rattle.span_enum.specs.Quiet.{AreQuietFinals, IsQuiet, AreQuiet, EndsIn}
 use Rattle.span_enum.specs.Next.{NoneAfter, IsNext}
@@ -40,10 +40,6 @@ pub record IsGround (g : Ground) : Type 0 where
 -- the whole text
 abbrev pub whole_text : Ground → List ℕ
 whole_text g = text_of g.view.store.now g.root
-
--- the marks before a position are the same
-abbrev pub Agree : Tuple → Tuple → ℕ → Type 0
-Agree t u at = (p : ℕ) → 1 ≤ p → p < at → mark_of t p ≡ mark_of u p
 
 -- the text of a node
 abbrev pub text_at : Ground → ℕ → List ℕ
@@ -114,14 +110,6 @@ pub record CanGo (g : Ground) (hs : List (Option Ahead)) (place : Place) : Type 
   pub chain : List Ahead
   pub stands : Stands g hs at place chain
   pub can : CanEnd g place.state chain
-
--- the same with the marks counted
-pub record CanFinish (g : Ground) (hs : List (Option Ahead)) (place : Place) (most : ℕ) : Type 0 where
-  pub at : ℕ
-  pub chain : List Ahead
-  pub stands : Stands g hs at place chain
-  pub can : CanEnd g place.state chain
-  pub few : AtMost g place.state chain most
 
 -- the next node, if there is one, has a run with marks into its goals
 abbrev pub Turns : ℕ → List Ahead → Type 0
@@ -232,70 +220,72 @@ pub record Descends (g : Ground) (h : Ahead) (q base : ℕ) (marks more : List M
   pub written : out' ≡ write_mark keeps.mark.mark keeps.mark.at out
   pub cost : after ≤ before + 2 * height_at g h.id.index
 
--- the tuple has these letters before a position, which lead to the state, and so many marks
-pub record Leads (g : Ground) (t : Tuple) (at q n : ℕ) (back : List ℕ) : Type 0 where
-  pub front : List ℕ
-  pub parts : whole_text g ≡ front ++ back
-  pub at_is : at ≡ 1 + length front
-  pub before : reached g.dfa.now 0 (word_over t 1 front) ≡ Some q
-  pub count : mark_count (word_over t 1 front) ≡ n
+-- a word was read, which leads to the state. The text behind it is left
+pub record Leads (g : Ground) (word : Marked) (q : ℕ) (back : List ℕ) : Type 0 where
+  pub parts : whole_text g ≡ bytes_of word ++ back
+  pub ends : reached g.dfa.now 0 word ≡ Some q
 
--- this is the tuple's first mark from a position on
-pub record IsFirstMark (t : Tuple) (from at mark : ℕ) : Type 0 where
-  pub after : from ≤ at
-  pub mark_is : mark_of t at ≡ mark
-  pub some : 0 < mark
-  pub quiet : IsUnmarked t from at
-
--- the nodes of the mark stand in the list from lo to hi
-pub record IsPlaced (m : Mark) (lo hi : ℕ) : Type 0 where
-  pub base : m.base ≡ lo
-  pub next : m.next ≤ hi
-  pub rises : lo ≤ hi
-
--- m is the mark number n of the tuple, the first one from this position on: its nodes stand in the list from lo to hi, and those behind it from hi on
-pub record IsKept (g : Ground) (t : Tuple) (hs : List (Option Ahead)) (from n lo hi : ℕ) (m : Mark) : Type 0 where
+-- m is the mark of the letter behind the word, and its nodes stand in the list from its base on
+pub record IsKept (g : Ground) (word : Marked) (hs : List (Option Ahead)) (m : Mark) : Type 0 where
   pub chain : List Ahead
   pub is_mark : IsMark g hs m chain
-  pub leads : Leads g t m.at m.state n (m.byte ∷ text_ahead g chain)
-  pub first : IsFirstMark t from m.at m.mark
-  pub placed : IsPlaced m lo hi
-  pub fits : Fits g lo (take hi hs)
+  pub leads : Leads g word m.state (m.byte ∷ text_ahead g chain)
+  pub at_is : m.at ≡ length word + 1
+  pub some : 0 < m.mark
+  pub low : m.base ≤ length hs
+  pub fits : Fits g m.base hs
 
--- these are the marks of the tuple from a position on, from number n on, in turn
-abbrev pub AreKept : Ground → Tuple → List (Option Ahead) → ℕ → ℕ → ℕ → List Mark → Type 0
-AreKept g t hs from n lo [] = lo ≡ length hs
-AreKept g t hs from n lo (m ∷ ms) = (hi : ℕ) × IsKept g t hs from n lo hi m × AreKept g t hs (m.at + 1) (suc n) hi ms
+-- the last of the marks is that of the last letter of the word that has one
+pub record LastKept (g : Ground) (word : Marked) (ms : List Mark) (hs : List (Option Ahead)) : Type 0 where
+  pub others : List Mark
+  pub mark : Mark
+  pub marks_are : ms ≡ others ++ mark ∷ []
+  pub before : Marked
+  pub bare : List ℕ
+  pub word_is : word ≡ before ++ (mark.mark, mark.byte) ∷ plain bare
+  pub kept : IsKept g before hs mark
 
--- the position of the last mark, or else this one
-abbrev pub last_at : ℕ → List Mark → ℕ
-last_at at [] = at
-last_at at (m ∷ ms) = last_at m.at ms
+-- these are the marks of the word, of which n letters have one. Those before the last one need only the nodes up to its base
+abbrev pub AreKept : Ground → ℕ → Marked → List Mark → List (Option Ahead) → Type 0
+AreKept g zero word ms hs = (s : List ℕ) × (word ≡ plain s) × (ms ≡ []) × (length hs ≤ 1)
+AreKept g (suc n) word ms hs = (last : LastKept g word ms hs) × AreKept g n last.before last.others (take last.mark.base hs)
 
--- the first marked text from the place on was found and written, and its marks are kept for each tuple that has them there
-pub record Finds (g : Ground) (at : ℕ) (from : Place) (c : List Ahead) (n base : ℕ) (more : List Mark) (hs : List (Option Ahead)) (before after : ℕ) (r : Option ℕ) (old new : Tuple) : Type 0 where
-  pub word : Marked
+-- the walk stands behind a word, and these are the nodes ahead. The marks of the word are kept in the list up to the base
+pub record Behind (g : Ground) (at : ℕ) (place : Place) (base : ℕ) (word : Marked) (ms : List Mark) (hs : List (Option Ahead)) (c : List Ahead) : Type 0 where
+  pub at_is : at ≡ length word + 1
+  pub stands : Stands g hs at place c
+  pub leads : Leads g word place.state (text_ahead g c)
+  pub low : base ≤ length hs
+  pub count : ℕ
+  pub kept : AreKept g count word ms (take base hs)
+
+-- and the rest is accepted
+pub record Begins (g : Ground) (place : Place) (base : ℕ) (word : Marked) (ms : List Mark) (hs : List (Option Ahead)) : Type 0 where
+  pub at : ℕ
+  pub chain : List Ahead
+  pub behind : Behind g at place base word ms hs chain
+  pub can : CanEnd g place.state chain
+  pub fits : Fits g base hs
+
+-- the first marked text behind the word was found and written, and its marks are kept with those of the word
+pub record Finds (g : Ground) (from : Place) (word : Marked) (back : List ℕ) (ms : List Mark) (hs : List (Option Ahead)) (before after : ℕ) (r : Option ℕ) (old new : Tuple) : Type 0 where
+  pub rest : Marked
   pub state : ℕ
   pub ends : EndsIn g.dfa.now r state
-  pub first : IsFirst g.dfa.now from.state (text_ahead g c) g.finals word state
-  pub cost : (len : ℕ) → length (text_ahead g c) ≤ len → after ≤ before + 2 * (height_limit len * mark_count word)
-  pub written : new ≡ write_word at word old
-  pub kept : (t : Tuple) → Leads g t at from.state n (text_ahead g c) → word_over t at (text_ahead g c) ≡ word → AreKept g t hs at n base more
-  pub last : last_at (at - 1) more ≤ at - 1 + length (text_ahead g c)
-  pub quiet : (t : Tuple) → word_over t at (text_ahead g c) ≡ word → IsUnmarked t (last_at (at - 1) more + 1) (at + length (text_ahead g c))
+  pub first : IsFirst g.dfa.now from.state back g.finals rest state
+  pub cost : after ≤ before + 2 * (height_limit (length (whole_text g)) * mark_count rest)
+  pub written : (t : Tuple) → old ≡ write_word 1 word t → new ≡ write_word 1 (word ++ rest) t
+  pub count : ℕ
+  pub kept : AreKept g count (word ++ rest) ms hs
 
--- the rest was completed: the nodes up to the base stay, and marks are added
-pub record Completes (g : Ground) (from : Place) (base : ℕ) (marks ms : List Mark) (old new : List (Option Ahead)) (before after : ℕ) (r : Option ℕ) (out out' : Tuple) : Type 0 where
-  pub more : List Mark
-  pub marks_are : ms ≡ marks ++ more
-  pub same : take base new ≡ take base old
-  pub low : base ≤ length new
-  pub finds : (at : ℕ) (c : List Ahead) → Stands g old at from c → CanEnd g from.state c → Finds g at from c (length marks) base more new before after r out out'
+-- the walk can go on behind some word
+abbrev pub CanFinish : Ground → Place → ℕ → List Mark → List (Option Ahead) → Type 0
+CanFinish g from base marks hs = (word : Marked) × Begins g from base word marks hs
 
--- no accepted text that has the tuple's first k letters comes after the tuple
-abbrev pub NoneBehind : Ground → Tuple → ℕ → Type 0
-NoneBehind g t k = (front back : List ℕ) (q : ℕ) → whole_text g ≡ front ++ back → length front ≡ k → reached g.dfa.now 0 (word_over t 1 front) ≡ Some q
-    → NoneAfter g.dfa.now q back g.finals (word_over t (1 + k) back)
+-- the first marked text was found for each such word
+abbrev pub Completes : Ground → Place → ℕ → List Mark → List Mark → List (Option Ahead) → List (Option Ahead) → ℕ → ℕ → Option ℕ → Tuple → Tuple → Type 0
+Completes g from base marks ms old new before after r out out' =
+    (word : Marked) (b : Begins g from base word marks old) → Finds g from word (text_ahead g b.chain) ms new before after r out out'
 
 -- nothing is read yet
 pub record IsFresh (g : Ground) (ms : List Mark) (hs : List (Option Ahead)) : Type 0 where
@@ -305,12 +295,16 @@ pub record IsFresh (g : Ground) (ms : List Mark) (hs : List (Option Ahead)) : Ty
   pub text_is : text_ahead g chain ≡ whole_text g
   pub one : length hs ≤ 1
 
--- the marks of the tuple are kept, behind the last of which nothing that comes after the tuple is accepted
+-- the marks of a part of the tuple's word are kept, behind which nothing that comes after the tuple is accepted
 pub record IsTrailOf (g : Ground) (t : Tuple) (ms : List Mark) (hs : List (Option Ahead)) : Type 0 where
-  pub base : ℕ
-  pub one : base ≤ 1
-  pub kept : AreKept g t hs 1 0 base ms
-  pub none : NoneBehind g t (last_at 0 ms)
+  pub read : Marked
+  pub left : Marked
+  pub back : List ℕ
+  pub word_is : word_over t 1 (whole_text g) ≡ read ++ left
+  pub parts : whole_text g ≡ bytes_of read ++ back
+  pub count : ℕ
+  pub kept : AreKept g count read ms hs
+  pub none : (q : ℕ) → reached g.dfa.now 0 read ≡ Some q → NoneAfter g.dfa.now q back g.finals left
 
 abbrev pub IsTrail : Ground → Option Tuple → List Mark → List (Option Ahead) → Type 0
 IsTrail g None ms hs = IsFresh g ms hs
@@ -332,11 +326,15 @@ pub record HasRoom (variables marks ahead : ℕ) : Type 0 where
   pub ahead_fits : 1 + 69 * (2 * variables) ≤ ahead
 
 -- ---- the way along the marks of a given tuple
--- what the walk along a tuple's marks needs to go on
-pub record CanFollow (g : Ground) (t : Tuple) (hs : List (Option Ahead)) (at : ℕ) (place : Place) (n : ℕ) : Type 0 where
-  pub chain : List Ahead
-  pub stands : Stands g hs at place chain
-  pub leads : Leads g t at place.state n (text_ahead g chain)
+-- the walk stands at a position in the word of the tuple, whose marks up to there are kept
+pub record Follows (g : Ground) (t : Tuple) (hs : List (Option Ahead)) (at : ℕ) (place : Place) (ms : List Mark) (c : List Ahead) : Type 0 where
+  pub word : Marked
+  pub behind : Behind g at place (length hs) word ms hs c
+  pub word_is : word_over t 1 (whole_text g) ≡ word ++ word_over t at (text_ahead g c)
+
+-- over some nodes ahead
+abbrev pub CanFollow : Ground → Tuple → List (Option Ahead) → ℕ → Place → List Mark → Type 0
+CanFollow g t hs at place ms = (c : List Ahead) × Follows g t hs at place ms c
 
 -- no run without marks over the text up to this position
 abbrev pub Dies : Ground → ℕ → ℕ → List ℕ → ℕ → Type 0
@@ -370,16 +368,13 @@ abbrev pub Laid : Ground → Tuple → Ahead → ℕ → ℕ → ℕ → List Ma
 Laid g t h q position base marks more old new true = Lays g t h q position base marks more old new
 Laid g t h q position base marks more old new false = Fails g h q position base marks more old new
 
--- the tuple's marks were kept from the position on, as far as a run follows them
-pub record Followed (g : Ground) (t : Tuple) (at : ℕ) (marks ms : List Mark) (old new : List (Option Ahead)) (before after : ℕ) (end : Option ℕ) : Type 0 where
-  pub more : List Mark
-  pub marks_are : ms ≡ marks ++ more
-  pub beside : List (Option Ahead)
-  pub ahead : new ≡ old ++ beside
-  pub kept : AreKept g t new at (length marks) (length old) more
-  pub none : NoneBehind g t (last_at (at - 1) more)
+-- the tuple's marks were kept, as far as a run follows them
+pub record Followed (g : Ground) (t : Tuple) (marks ms : List Mark) (new : List (Option Ahead)) (before after : ℕ) (end : Option ℕ) : Type 0 where
+  pub trail : IsTrailOf g t ms new
+  pub more : ℕ
+  pub count : length ms ≡ length marks + more
   pub end_is : end ≡ reached g.dfa.now 0 (word_over t 1 (whole_text g))
-  pub cost : after ≤ before + 2 * (height_limit (length (whole_text g)) * length more) + 2 * height_limit (length (whole_text g))
+  pub cost : after ≤ before + 2 * (height_limit (length (whole_text g)) * more) + 2 * height_limit (length (whole_text g))
 
 -- ---- the last mark that can be lowered
 -- m is the last of the marks
@@ -392,27 +387,6 @@ pub record LowersLast (g : Ground) (ms : List Mark) (l : Lowered) : Type 0 where
   pub is_last : IsLast ms mark
   pub at : l.at ≡ mark.at
   pub best : IsGreatestMark g.dfa.now mark.state mark.byte mark.goals mark.mark l.mark l.state
-
--- the tuple begins with the letters and marks of the word
-abbrev pub Starts : Tuple → Marked → Type 0
-Starts t word = word_over t 1 (bytes_of word) ≡ word
-
--- the walk stands behind the letters of a word. What is kept up to the base are the marks of each tuple that begins with it
-pub record Begins (g : Ground) (place : Place) (base : ℕ) (word : Marked) (ms : List Mark) (hs : List (Option Ahead)) : Type 0 where
-  pub chain : List Ahead
-  pub stands : Stands g hs (length word + 1) place chain
-  pub can : CanEnd g place.state chain
-  pub bytes : whole_text g ≡ bytes_of word ++ text_ahead g chain
-  pub ends : reached g.dfa.now 0 word ≡ Some place.state
-  pub count : mark_count word ≡ length ms
-  pub fits : Fits g base hs
-  pub low : base ≤ length hs
-  pub root : ℕ
-  pub one : root ≤ 1
-  pub before : last_at 0 ms ≤ length word
-  pub kept : (u : Tuple) → Starts u word → AreKept g u (take base hs) 1 0 root ms
-  pub quiet : (u : Tuple) → Starts u word → IsUnmarked u (last_at 0 ms + 1) (length word + 1)
-  pub short : base ≤ root + 69 * length ms
 
 -- the last mark is lowered: behind a word that ends with the lower one the first text over the rest makes the next one
 pub record IsTurned (g : Ground) (t : Tuple) (l : Lowered) (turn : Turn) (ms : List Mark) (hs : List (Option Ahead)) : Type 0 where

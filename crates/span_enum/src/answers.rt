@@ -6,7 +6,7 @@ ghost use Rattle.marker_dfa.specs.Deterministic.{states_of};
 ghost use Rattle.span_enum.specs.Listing.{text_of, IsReady, IsCursor};
 ghost use Rattle.span_enum.specs.Members.{IsMember, IsFirstMember, NoMemberLeft, HasMember};
 ghost use Rattle.span_enum.specs.Sets.{is_final};
-ghost use Rattle.span_enum.specs.Trail.{IsGround, whole_text, CanFinish, Finishes, Fits, HasRoom, IsFresh, IsStateAt, IsTrailOf, NoEndAfter};
+ghost use Rattle.span_enum.specs.Trail.{IsGround, whole_text, CanFinish, Finishes, HasRoom, IsFresh, IsStateAt, IsTrailOf, NoEndAfter};
 ghost use Rattle.span_enum.specs.Answering.{IsFoundAfter, IsLoweredAtEnd, IsNoneAfter};
 ghost use Rattle.span_enum.specs.Words.{CanRun, IsGreatestMark};
 
@@ -223,13 +223,10 @@ fn finish<'a, L: Ledger>(
     looks: &mut Steps<L>,
 ) -> Found
     requires ground { IsGround ground.now }
-    requires finish { CanFinish ground.now trail.old.ahead.items from (2 * ground.now.dfa.now.variables - length trail.old.marks.items) }
-    requires fits { Fits ground.now base trail.old.ahead.items }
-    requires low { base ≤ length trail.old.ahead.items }
-    requires marks_fit { 2 * ground.now.dfa.now.variables ≤ trail.old.marks.capacity }
-    requires ahead_fit { base + 69 * (2 * ground.now.dfa.now.variables - length trail.old.marks.items) ≤ trail.old.ahead.capacity }
-    requires positive { 1 ≤ end }
-    requires short { end ≤ 281474976710657 }
+    requires end { end ≡ length (whole_text ground.now) + 1 }
+    requires low { end ≤ 281474976710657 }
+    requires finish { CanFinish ground.now from base trail.old.marks.items trail.old.ahead.items }
+    requires room { HasRoom ground.now.dfa.now.variables trail.old.marks.capacity trail.old.ahead.capacity }
     ensures finishes { Finishes ground.now from base trail.old.marks.items trail.new.marks.items trail.old.ahead.items trail.new.ahead.items
         looks.old looks.new marks end result }
     ensures marks_room { trail.new.marks.capacity ≡ trail.old.marks.capacity }
@@ -333,7 +330,7 @@ fn lowered_at_end(ground: &Ground<'_>, end: u64, state: Option<u8>, t: &Tuple) -
     requires low { end ≤ 281474976710657 }
     requires tuple { length t.now ≡ ground.now.dfa.now.variables }
     requires state { IsStateAt ground.now (Some t.now) state }
-    ensures { MatchOption result (NoEndAfter ground.now t.now end) (IsLoweredAtEnd ground.now t.now end) }
+    ensures { MatchOption result (NoEndAfter ground.now t.now end) (IsLoweredAtEnd ground.now t.now) }
 {
     let _count = t.count();
     let q = state?;

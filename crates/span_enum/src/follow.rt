@@ -95,11 +95,9 @@ pub(crate) fn follow<'a, L: Ledger>(
     requires ground { IsGround ground.now }
     requires tuple { length t.now ≡ ground.now.dfa.now.variables }
     requires end { end ≡ length (whole_text ground.now) + 1 }
-    requires can { CanFollow ground.now t.now trail.old.ahead.items at from (length trail.old.marks.items) }
-    requires marks_fit { 2 * ground.now.dfa.now.variables ≤ trail.old.marks.capacity }
-    requires ahead_fit { length trail.old.ahead.items + 69 * (2 * ground.now.dfa.now.variables - length trail.old.marks.items) ≤ trail.old.ahead.capacity }
-    ensures followed { Followed ground.now t.now at trail.old.marks.items trail.new.marks.items trail.old.ahead.items trail.new.ahead.items
-        looks.old looks.new result }
+    requires can { CanFollow ground.now t.now trail.old.ahead.items at from trail.old.marks.items }
+    requires room { HasRoom ground.now.dfa.now.variables trail.old.marks.capacity trail.old.ahead.capacity }
+    ensures followed { Followed ground.now t.now trail.old.marks.items trail.new.marks.items trail.new.ahead.items looks.old looks.new result }
     ensures room { (trail.new.marks.capacity ≡ trail.old.marks.capacity) × (trail.new.ahead.capacity ≡ trail.old.ahead.capacity) }
 {
     let to = first_mark(t, at, end);

@@ -8,7 +8,7 @@ ghost use Rattle.state_tables.specs.Table.{marked_of, unmarked_of};
 ghost use Rattle.span_enum.specs.Sets.{can_reach_of};
 ghost use Rattle.span_enum.specs.Words.{IsFork};
 ghost use Rattle.span_enum.specs.OverLeft.{IsOverLeft};
-ghost use Rattle.span_enum.specs.Trail.{IsGround, IsAhead, Stands, CanEnd, CanGo, CanFinish, PassesPlain, Turns, CanGoDown, mark_over, Descends, Completes, Fits, height_at};
+ghost use Rattle.span_enum.specs.Trail.{IsGround, IsAhead, Stands, CanEnd, CanGo, CanFinish, PassesPlain, Turns, CanGoDown, mark_over, Descends, Completes, HasRoom, whole_text};
 ghost use Rattle.span_enum.specs.WayDown.{GoesOnAt, child, sibling};
 ghost use Rattle.span_enum.specs.declared.trail.Ahead.{Ahead};
 
@@ -289,11 +289,9 @@ pub(crate) fn complete<'a, L: Ledger>(
     looks: &mut Steps<L>,
 ) -> Option<u8>
     requires ground { IsGround ground.now }
-    requires finish { CanFinish ground.now trail.old.ahead.items from (2 * ground.now.dfa.now.variables - length trail.old.marks.items) }
-    requires fits { Fits ground.now base trail.old.ahead.items }
-    requires low { base ≤ length trail.old.ahead.items }
-    requires marks_fit { 2 * ground.now.dfa.now.variables ≤ trail.old.marks.capacity }
-    requires ahead_fit { base + 69 * (2 * ground.now.dfa.now.variables - length trail.old.marks.items) ≤ trail.old.ahead.capacity }
+    requires short { length (whole_text ground.now) ≤ 281474976710656 }
+    requires finish { CanFinish ground.now from base trail.old.marks.items trail.old.ahead.items }
+    requires room { HasRoom ground.now.dfa.now.variables trail.old.marks.capacity trail.old.ahead.capacity }
     ensures completes { Completes ground.now from base trail.old.marks.items trail.new.marks.items trail.old.ahead.items trail.new.ahead.items
         looks.old looks.new result out.old out.new }
     ensures within { IfSome result (λ q. q < states_of ground.now.dfa.now) }

@@ -1,18 +1,13 @@
-use Rattle.span_enum.proofs.Base.{Agree, NoEndAfter, Some, ap, arith, blanks, length, whole_text, write_mark, write_word, ◌++◌, ◌+◌, ◌∙◌}
-use Rattle.span_enum.proofs.Answerings.{answer-found, begins-finish, begins-fit, next-ended, none-ended, trail-agree}
+use Rattle.span_enum.proofs.Base.{NoEndAfter, Some, ap, arith, blanks, length, text, whole_text, write_mark, write_word, ◌++◌, ◌+◌, ◌∙◌}
 use Rattle.span_enum.proofs.Roots.{ground-text}
+use Rattle.span_enum.proofs.Answerings.{answer-found, next-ended, none-ended, trail-same}
 use Rattle.span_enum.proofs.answers.answer_after.Goals as goal
 
 pub returns-in-Some-clause-answer : goal.returns-in-Some-clause-answer
 returns-in-Some-clause-answer g c =
-    let agree : Agree c.args.t.now c.in-Some.found.tuple (length (whole_text c.args.ground.now) + 1) = rw c.requires.end at c.in-Some.ensures.agree in (
-      record {
-        first = c.in-Some.ensures.first;
-        trail = trail-agree c.args.ground.now c.args.t.now c.in-Some.found.tuple c.args.trail.now.marks.items c.args.trail.now.ahead.items agree c.requires.trail;
-        state = c.in-Some.ensures.state;
-      },
-      omega arith,
-    )
+    let found = c.in-Some.ensures in
+    let trail = trail-same c.args.ground.now c.args.t.now c.in-Some.found.tuple c.args.trail.now.marks.items c.args.trail.now.ahead.items found.same c.requires.trail in
+    (record { first = found.first; trail = trail; state = found.state }, omega arith)
 
 pub returns-in_err-lowered-clause-answer : goal.returns-in_err-lowered-clause-answer
 returns-in_err-lowered-clause-answer g c =
@@ -27,17 +22,7 @@ returns-in_err-lowered-clause-answer g c =
     )
 
 pub finish-requires-clause-finish : goal.finish-requires-clause-finish
-finish-requires-clause-finish g c =
-    let ground = c.args.ground.now in
-    let text = ground-text ground c.requires.ground (omega (arith, c.requires.end, c.requires.low)) in
-    begins-finish ground c.requires.ground text _ _ _ _ _ c.lower_to-turn.ensures.turned.begins
-
-pub finish-requires-clause-ahead_fit : goal.finish-requires-clause-ahead_fit
-finish-requires-clause-ahead_fit g c =
-    let ground = c.args.ground.now in
-    let text = ground-text ground c.requires.ground (omega (arith, c.requires.end, c.requires.low)) in
-    rw (c.lower_to-turn.ensures.ahead_room, c.in_ok-lowered.ensures.ahead_room)
-    (begins-fit ground c.requires.ground text _ _ _ _ _ c.lower_to-turn.ensures.turned.begins c.args.trail.now.ahead.capacity c.requires.room.ahead_fits)
+finish-requires-clause-finish g c = (c.lower_to-turn.ensures.turned.word, c.lower_to-turn.ensures.turned.begins)
 
 pub returns-clause-answer : goal.returns-clause-answer
 returns-clause-answer g c =

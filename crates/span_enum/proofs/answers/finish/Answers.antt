@@ -1,11 +1,10 @@
-use Rattle.span_enum.proofs.Base.{IsGreatestMark, ap, is_final, states_of, subst, sym, true, write-nothing, ◌<◌, ◌∙◌, ◌≡◌}
+use Rattle.span_enum.proofs.Base.{IsGreatestMark, ap, is_final, mark, states_of, subst, sym, true, write-nothing, ◌<◌, ◌∙◌, ◌≡◌}
 use Rattle.span_enum.proofs.answers.finish.Goals as goal
 
 pub with_end-requires-clause-ends : goal.with_end-requires-clause-ends
 with_end-requires-clause-ends g c =
     let ground = c.args.ground.now in
-    let f = c.requires.finish in
-    let found = c.in-Some.ensures.completes.finds f.at f.chain f.stands f.can in
+    let found = c.in-Some.ensures.completes c.requires.finish.0 c.requires.finish.1 in
     let final : is_final ground.dfa.now found.state ≡ true = sym (c.requires.ground.all found.state (subst (λ n. n < states_of ground.dfa.now) found.ends c.in-Some.ensures.within)) ∙ found.first.goal in
     ap (is_final ground.dfa.now) found.ends ∙ final
 

@@ -1,8 +1,8 @@
-use Rattle.span_enum.proofs.Base.{Begins, IsFirst, None, [], ap, arith, blanks, false, refl, subst, sym, true≢false, ◌∙◌}
-use Rattle.span_enum.proofs.Answerings.{answer-found, begins-finish, first-ended}
+use Rattle.span_enum.proofs.Base.{Begins, IsFirst, None, [], ap, arith, blanks, false, refl, subst, sym, text, true≢false, ◌∙◌}
 use Rattle.span_enum.proofs.Roots.{fresh-begins, ground-text, text-short}
 use Rattle.span_enum.proofs.Runs.{run-from_accepted}
 use Rattle.span_enum.proofs.Tuples.{none-member}
+use Rattle.span_enum.proofs.Answerings.{answer-found, first-ended}
 use Rattle.span_enum.proofs.answers.first_answer.Given.{Over}
 use Rattle.span_enum.proofs.answers.first_answer.Goals.{After-len-count}
 use Rattle.span_enum.proofs.answers.first_answer.Goals as goal
@@ -23,22 +23,16 @@ begins : (g : Over) (c : After-len-count g) → Begins c.args.ground.now (record
 begins g c = fresh-begins c.args.ground.now c.args.trail.now.marks.items c.args.trail.now.ahead.items c.len-count.result c.requires.fresh c.len-count.ensures.value (c.if-not-has_first.ensures.0 refl)
 
 pub finish-requires-clause-finish : goal.finish-requires-clause-finish
-finish-requires-clause-finish g c =
-    let ground = c.args.ground.now in
-    let text = ground-text ground c.requires.ground (text-short ground _ _ c.requires.fresh) in
-    begins-finish ground c.requires.ground text _ _ _ _ _ (begins g (goal.at.finish-requires-clause-finish g c).After-len-count)
+finish-requires-clause-finish g c = ([], begins g (goal.at.finish-requires-clause-finish g c).After-len-count)
 
-pub finish-requires-clause-fits : goal.finish-requires-clause-fits
-finish-requires-clause-fits g c = (begins g (goal.at.finish-requires-clause-fits g c).After-len-count).fits
-
-pub finish-requires-clause-short : goal.finish-requires-clause-short
-finish-requires-clause-short g c = omega (arith, text-short c.args.ground.now _ _ c.requires.fresh, c.requires.end)
+pub finish-requires-clause-low : goal.finish-requires-clause-low
+finish-requires-clause-low g c = omega (arith, text-short c.args.ground.now _ _ c.requires.fresh, c.requires.end)
 
 pub returns-clause-answer : goal.returns-clause-answer
 returns-clause-answer g c =
     let ground = c.args.ground.now in
     let fresh = c.requires.fresh in
     let text = ground-text ground c.requires.ground (text-short ground _ _ fresh) in
-    let b = fresh-begins ground c.args.trail.now.marks.items c.args.trail.now.ahead.items c.len-count.result fresh c.len-count.ensures.value (c.if-not-has_first.ensures.0 refl) in
+    let b = begins g (goal.at.returns-clause-answer g c).After-len-count in
     answer-found ground c.requires.ground text None tt _ _ [] _ _ c.args.end _ _ _ _ c.none-none.result c.finish.result b (c.none-none.ensures ∙ ap blanks c.variables.ensures.value) c.requires.end
-    (λ w r e first best. first-ended ground c.requires.ground text w r e (subst (λ x. IsFirst ground.dfa.now 0 x ground.finals w r) (sym b.bytes) first) best) c.finish.ensures.finishes
+    (λ w r e first best. first-ended ground c.requires.ground text w r e (subst (λ x. IsFirst ground.dfa.now 0 x ground.finals w r) (sym b.behind.leads.parts) first) best) c.finish.ensures.finishes

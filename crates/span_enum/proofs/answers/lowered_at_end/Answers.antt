@@ -1,7 +1,7 @@
-use Rattle.span_enum.proofs.Base.{Some, ap, arith, reached, whole_text, word_over, write_mark, ◌∙◌, ◌≡◌}
-use Rattle.span_enum.proofs.Answerings.{lowered-end}
+use Rattle.span_enum.proofs.Base.{Some, ap, arith, reached, text, whole_text, word_over, write_mark, ◌∙◌, ◌≡◌}
 use Rattle.span_enum.proofs.Roots.{ground-text}
 use Rattle.span_enum.proofs.Runs.{run-within}
+use Rattle.span_enum.proofs.Answerings.{lowered-end}
 use Rattle.span_enum.proofs.answers.lowered_at_end.Goals as goal
 
 pub greatest_end-requires : goal.greatest_end-requires
@@ -16,4 +16,4 @@ returns c =
     let greatest = rw c.end_limit.ensures at c.in_ok-mark.ensures in
     let found = lowered-end c.args.ground.now c.requires.ground text c.args.t.now c.with_mark.result (record { size = c.requires.tuple; valid = c.count-count.ensures.tuple }) c.in_ok-q.q c.in_ok-mark.mark
     (rw c.in_ok-q.was at c.requires.state) (rw c.requires.end at greatest) (rw c.requires.end at (c.with_mark.ensures.value ∙ ap (write_mark c.in_ok-mark.mark c.args.end) c.cut_at.ensures)) in
-    rw (c.requires.end, c.in_ok-q.was) (record { first = found.0; agree = found.1; state = found.2 })
+    rw c.in_ok-q.was (record { first = found.0; same = found.1; state = found.2 })

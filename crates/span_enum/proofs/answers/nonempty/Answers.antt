@@ -1,5 +1,5 @@
-use Rattle.span_enum.proofs.Base.{[], can_reach_of, ends_of, is_final, length, not, sym, text, tree, ◌<◌, ◌∙◌, ◌≡◌}
-use Rattle.span_enum.proofs.Runs.{Tells, accepted-from_run, end-run, not-empty, run-end, run-from_accepted, run-from_table, table-from_run}
+use Rattle.span_enum.proofs.Base.{[], can_reach_of, is_final, length, not, refl, sym, text, tree, ◌<◌, ◌∙◌, ◌≡◌}
+use Rattle.span_enum.proofs.Runs.{Tells, accepted-from_run, end-run, run-end, run-from_accepted, run-from_table, table-from_run}
 use Rattle.span_enum.proofs.Tables.{look-table}
 use Rattle.span_enum.proofs.Tuples.{IsText, accepted-from_some, look-text, no-text, some-from_accepted}
 use Rattle.span_enum.proofs.answers.nonempty.Goals as goal
@@ -8,7 +8,7 @@ pub returns-in-None-clause-some : goal.returns-in-None-clause-some
 returns-in-None-clause-some g c =
     let a = c.args.dfa.now in
     let auto = c.states-states.ensures.automaton in
-    let tests : not c.is_empty.result ≡ is_final a 0 = rw (c.is_empty.ensures, c.ends.ensures) (not-empty (ends_of a 0)) in
+    let tests : not c.is_empty.result ≡ is_final a 0 = rw (c.is_empty.ensures, c.ends.ensures) refl in
     rw c.in-None.is ((λ h. some-from_accepted a auto [] no-text (end-run a 0 (sym tests ∙ h))), (λ h. tests ∙ run-end a 0 (accepted-from_some a auto [] no-text h)))
 
 pub returns-in-Some-clause-some : goal.returns-in-Some-clause-some

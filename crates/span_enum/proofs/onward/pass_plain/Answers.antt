@@ -1,6 +1,6 @@
 use Rattle.span_enum.proofs.Base.{Ahead, List, PassesPlain, [], arith, ℕ, ◌≡◌}
 use Rattle.span_enum.proofs.Chains.{next-there}
-use Rattle.span_enum.proofs.Ways.{Next, back-none, can-head, next-node, plain-none, plain-on}
+use Rattle.span_enum.proofs.Ways.{Next, back-none, can-head, next-node, node-on, plain-none}
 use Rattle.span_enum.proofs.onward.pass_plain.Goals.{After-ahead_at-node}
 use Rattle.span_enum.proofs.onward.pass_plain.Goals as goal
 
@@ -42,7 +42,7 @@ pub loop-place-preserved : goal.loop-place-preserved
 loop-place-preserved c = record {
   passes = λ at k s can.
       let p = c.loop-place.invariant.passes at k s can in
-      plain-on c.args.ground.now c.requires.ground.automaton c.args.trail.now.ahead.items at c.args.from c.loop-place.place k p c.ahead_at-node.result.now c.in-Some.state
+      node-on c.args.ground.now c.requires.ground.automaton c.args.trail.now.ahead.items at c.args.from c.loop-place.place k p c.ahead_at-node.result.now c.in-Some.state
       (node (goal.at.loop-place-preserved c).After-ahead_at-node at k p) c.in-Some.ensures.plain.0 c.in-Some.ensures.plain.1;
 }
 

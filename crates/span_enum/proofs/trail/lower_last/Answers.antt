@@ -1,11 +1,11 @@
-use Rattle.span_enum.proofs.Base.{arith, refl}
-use Rattle.span_enum.proofs.Kept.{cut-trail, none-at_start}
+use Rattle.span_enum.proofs.Base.{arith, mark, refl}
+use Rattle.span_enum.proofs.Kept.{last-kept, none-at_start}
 use Rattle.span_enum.proofs.trail.lower_last.Goals as goal
 
 pub greatest_mark-requires : goal.greatest_mark-requires
 greatest_mark-requires c =
     let trail = c.loop-trail.trail in
-    (cut-trail c.args.ground.now c.args.t.now trail.marks.items _ trail.ahead.items c.last_of-last.result.now c.last_of-last.ensures c.loop-trail.invariant.trail).last.is_mark.state
+    (last-kept c.args.ground.now c.args.t.now trail.marks.items trail.ahead.items c.loop-trail.invariant.trail c.last_of-last.result.now c.last_of-last.ensures).kept.is_mark.state
 
 pub returns-in-Some-clause-lowers : goal.returns-in-Some-clause-lowers
 returns-in-Some-clause-lowers c = record { mark = c.last_of-last.result.now; is_last = c.last_of-last.ensures; at = refl; best = c.in-Some.ensures.mark }

@@ -1,5 +1,4 @@
-use Rattle.span_enum.proofs.Base.{ap, arith, cases_eq, ends_of, inl, inr, is_final, member, member-zero, sym, ◌<◌, ◌∙◌, ◌≢◌}
-use Rattle.span_enum.proofs.Runs.{not-empty}
+use Rattle.span_enum.proofs.Base.{ap, arith, cases_eq, inl, inr, is_final, member, member-zero, sym, ◌<◌, ◌∙◌, ◌≢◌}
 use Rattle.span_enum.proofs.Tables.{member-more_other, member-more_same}
 use Rattle.span_enum.proofs.walk.final_states.Goals as goal
 
@@ -11,7 +10,7 @@ loop-p-preserved c =
     let set = c.loop-p.set in
     let p = c.loop-p.p in
     let a = c.args.dfa.now in
-    rw (c.state_if-set.ensures, c.is_empty.ensures, c.ends.ensures, not-empty (ends_of a p))
+    rw (c.state_if-set.ensures, c.is_empty.ensures, c.ends.ensures)
     (record {
       below = λ k h. elim (cases_eq k p) [
         | inl same ↦ ap (member _) same ∙ member-more_same set p (is_final a p) (c.loop-p.invariant.above p (omega arith)) ∙ ap (is_final a) (sym same)
