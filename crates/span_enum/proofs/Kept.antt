@@ -46,8 +46,8 @@ kept-count g zero w ms hs k = ap mark_count k.1 ∙ count-plain k.0 ∙ sym (ap 
 kept-count g (suc n) w ms hs k =
     let l = k.0 in
     let m = l.mark in
-    omega (arith, kept-count g n l.before l.others (take m.base hs) k.1, ap mark_count l.word_is, mark_count-append l.before ((m.mark, m.byte) ∷ plain l.bare),
-    count-more m.mark m.byte (plain l.bare) l.kept.some, count-plain l.bare, ap length l.marks_are, length-append l.others (m ∷ []))
+    let parts : mark_count w ≡ mark_count l.before + mark_count ((m.mark, m.byte) ∷ plain l.bare) = ap mark_count l.word_is ∙ mark_count-append l.before ((m.mark, m.byte) ∷ plain l.bare) in
+    omega (arith, kept-count g n l.before l.others (take m.base hs) k.1, parts, count-more m.mark m.byte (plain l.bare) l.kept.some, count-plain l.bare, ap length l.marks_are, length-append l.others (m ∷ []))
 
 -- few nodes are kept for each mark
 pub kept-short : (g : Ground) (n : ℕ) (w : Marked) (ms : List Mark) (hs : List (Option Ahead)) → AreKept g n w ms hs → length hs ≤ 1 + 69 * length ms
@@ -135,7 +135,7 @@ module _ (g : Ground) (t : Tuple) (ms : List Mark) (hs : List (Option Ahead)) (i
           let l = k.0 in
           let x = l.mark in
           let s = text_ahead g l.kept.chain in
-          let one = (x.mark, x.byte) ∷ [] in
+          let one : Marked = (x.mark, x.byte) ∷ [] in
           let same = last-same ms l.others x m l.marks_are last in
           let read : bytes_of is.read ≡ bytes_of l.before ++ x.byte ∷ l.bare =
           ap bytes_of l.word_is ∙ bytes-append l.before ((x.mark, x.byte) ∷ plain l.bare) ∙ ap (λ y. bytes_of l.before ++ x.byte ∷ y) (bytes-plain l.bare) in

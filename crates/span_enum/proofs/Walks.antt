@@ -157,20 +157,16 @@ module _ (g : Ground) (from : Place) (base : ℕ) (word : Marked) (marks : List 
       word-on = word-more g b.at from base word marks ms1 hs (take cut hs) hs1 c b.behind d.keeps same low k.way k.on.some
 
       abbrev pub begins-on : CanFinish g to (length hs1) ms1 hs1
-      begins-on = (word-on, record {
-        at = m.at + 1;
-        chain = k.way.back;
-        behind = behind-mark g b.at from base word marks ms1 hs (take cut hs) hs1 c b.behind d.keeps same low k.way k.on.some to auto k.on.step k.on.next k.on.quiet;
-        can = k.on.can;
-        fits = fits-none g hs1;
-      })
+      begins-on =
+          let on = behind-mark g b.at from base word marks ms1 hs (take cut hs) hs1 c b.behind d.keeps same low k.way k.on.some to auto k.on.step k.on.next k.on.quiet in
+          (word-on, record { at = m.at + 1; chain = k.way.back; behind = on; can = k.on.can; fits = fits-none g hs1 })
 
       pub finds-more : (hs2 : List (Option Ahead)) (ms2 : List Mark) (after : ℕ) (r : Option ℕ) (out2 : Tuple) → Completes g to (length hs1) ms1 ms2 hs1 hs2 mid after r out1 out2 → Finds g from word back ms2 hs2 before after r out out2
       finds-more hs2 ms2 after r out2 on =
           let f = on word-on begins-on.1 in
           let high = arrives-high g hs cut b.at from place c h n (length (whole_text g)) (omega (arith, leads-size g word from.state back b.behind.leads)) in
           let x = plain k.way.front in
-          let one = (m.mark, m.byte) ∷ [] in
+          let one : Marked = (m.mark, m.byte) ∷ [] in
           let join : word-on ++ f.rest ≡ word ++ (letters ++ f.rest) = ap (λ w. w ++ f.rest) (append_assoc word x one) ∙ append_assoc word letters f.rest in
           let count : mark_count (letters ++ f.rest) ≡ 1 + mark_count f.rest =
           omega (arith, mark_count-append letters f.rest, mark_count-append x one, count-plain k.way.front, count-more m.mark m.byte [] k.on.some) in
@@ -393,11 +389,8 @@ module _ (g : Ground) (t : Tuple) (old : List (Option Ahead)) (position : ℕ) (
         let here : step_of g.dfa.now laid-mark.state laid-mark.mark laid-mark.byte ≡ Some q = rw same at step in
         let place : Place = record { state = q; next = laid-mark.next; quiet = false } in
         let on = behind-mark g h.at to (length old) word ms more old old mid (h ∷ o.rest) o.follows.behind k.keeps refl (omega arith) lays-way lays-some place auto here refl (λ e. cc) in
-        rw same (lays-way.back, record {
-          word = (word ++ plain bare) ++ letter;
-          behind = subst (λ n. Behind g (n + 1) place (length mid) ((word ++ plain bare) ++ letter) more mid lays-way.back) k.position_is on;
-          word_is = lays-word;
-        })
+        let there = subst (λ (n : ℕ). Behind g (n + 1) place (length mid) ((word ++ plain bare) ++ letter) more mid lays-way.back) k.position_is on in
+        rw same (lays-way.back, record { word = (word ++ plain bare) ++ letter; behind = there; word_is = lays-word })
 
     -- the run ends at the letter
     pub followed-stuck : (before after : ℕ) → step_of g.dfa.now laid-mark.state laid-mark.mark laid-mark.byte ≡ None → after ≤ before + 2 * height_at g h.id.index → Followed g t ms more mid before after None

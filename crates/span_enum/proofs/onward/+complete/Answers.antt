@@ -1,4 +1,4 @@
-use Rattle.span_enum.proofs.Base.{Begins, Marked, [], ap, arith, length, length-append, ℕ, ◌+◌, ◌∙◌, ◌∷◌, ◌≡◌}
+use Rattle.span_enum.proofs.Base.{Begins, HasRoom, Marked, [], ap, arith, length, length-append, ℕ, ◌+◌, ◌∙◌, ◌∷◌, ◌≡◌}
 use Rattle.span_enum.proofs.Walks.{Arrives, arrives, begins-on, finds-end, finds-more, finds-quiet, one-more, turn-down}
 use Rattle.span_enum.proofs.onward.+complete.Given.{Over}
 use Rattle.span_enum.proofs.onward.+complete.Goals.{After-cut_before}
@@ -41,10 +41,9 @@ complete-requires g t c κs within =
     let on = begins-on c.args.ground.now c.args.from c.args.base c.requires.finish.0 _ _ b _ _ c.cut_before.result n c.cut_before.ensures.base c.requires.ground.automaton _ _ _ _ _ _ _ d in
     let room = c.requires.room in
     let same = c.descend-behind.ensures in
-    (omega (arith, c.decreases, number, one), (within, (c.requires.ground, (c.requires.short, (rw c.len-kept.ensures.value on, record {
-      marks_fit = omega (arith, room.marks_fit, same.marks_room);
-      ahead_fits = omega (arith, room.ahead_fits, same.ahead_room, c.truncate-2.ensures.capacity);
-    })))))
+    let fits : HasRoom c.args.ground.now.dfa.now.variables c.descend-behind.new.trail.marks.capacity c.descend-behind.new.trail.ahead.capacity =
+    record { marks_fit = omega (arith, room.marks_fit, same.marks_room); ahead_fits = omega (arith, room.ahead_fits, same.ahead_room, c.truncate-2.ensures.capacity) } in
+    (omega (arith, c.decreases, number, one), (within, (c.requires.ground, (c.requires.short, (rw c.len-kept.ensures.value on, fits)))))
 
 pub returns-clause-completes : goal.returns-clause-completes
 returns-clause-completes g t c = λ word b.

@@ -12,7 +12,7 @@ returns c =
     let low : marked_of here.look.table.now c.args.p < 2 ^ 128 = rw c.marked-marked.ensures.value at c.marked-marked.type_inv in
     let among = c.goals_among.ensures in
     let are = λ (s u : List ℕ) (il : IsTable a s c.args.left.now) (ir : IsTable a u c.args.right.now).
-        are-between a c.states-states.ensures.automaton s u c.args.left.now c.args.right.now c.args.p here.goals c.reached.result c.goals_among.result.goals c.requires.state (tells a s _ il) (tells a u _ ir) c.reached.ensures.value among.goals in
+    are-between a c.states-states.ensures.automaton s u c.args.left.now c.args.right.now c.args.p here.goals c.reached.result c.goals_among.result.goals c.requires.state (tells a s _ il) (tells a u _ ir) c.reached.ensures.value among.goals in
     record {
       between = are;
       on = λ q h. (among.goals.only q h).1;
