@@ -1,6 +1,8 @@
 -- Records of version 1, field by field.
-use Rattle.std.proofs.Common.{◌≡◌, ℕ, ◌+◌, ◌^◌, ◌≤◌, true, false, List, [], ◌∷◌, ◌++◌, length, get_or, Result, Ok, Err, refl, ap, sym, subst, ◌∙◌, arith, nat_le, eqb}
-use Rattle.std.proofs.lemmas.Bool.{leb-true, and_parts, ne_eqb}
+use Rattle.std.proofs.Common.{◌≡◌, ℕ, ◌+◌, ◌^◌, ◌≤◌, ◌<◌, max, add-one, true, false, List, [], ◌∷◌, ◌++◌, length, get_or, Result, Ok, Err, refl, ap, sym, subst, ◌∙◌, arith, nat_le, eqb}
+use Rattle.std.proofs.Math.Nat.{two-pow-succ}
+use Rattle.std.proofs.Math.Pow.{pow_mono}
+use Rattle.std.proofs.lemmas.Bool.{leb-true, le-leb, and_parts, ne_eqb}
 use Rattle.std.proofs.lemmas.List.{length-map}
 use Rattle.slp_model.specs.declared.NodeId.{NodeId}
 use Rattle.slp_model.specs.declared.Node.{Node}
@@ -109,3 +111,18 @@ kind-other ns bytes rest k z h =
     let a : eqb k 0 ≡ false = ne_eqb k 0 (λ e. omega (arith, e, z)) in
     let b : eqb k 1 ≡ false = ne_eqb k 1 (λ e. omega (arith, e, z)) in
     rw (h, a, b) refl
+
+-- ---- a node of height h has at most 2^h bytes
+leaves-most : (t : Tree) → leaves t ≤ 2 ^ height t
+leaves-most (Leaf b) = omega arith
+leaves-most (Fork l r) =
+    let low : 2 ^ height l ≤ 2 ^ max (height l) (height r) = pow_mono (omega arith) in
+    let high : 2 ^ height r ≤ 2 ^ max (height l) (height r) = pow_mono (omega arith) in
+    let twice : 2 ^ (max (height l) (height r) + 1) ≡ 2 ^ max (height l) (height r) + 2 ^ max (height l) (height r) = rw add-one (two-pow-succ (max (height l) (height r))) in
+    omega (arith, leaves-most l, leaves-most r, low, high, twice)
+
+pub low_short : (s t : Tree) → height s < 48 → height t < 48 → nat_le (leaves s + leaves t) (2 ^ 48) ≡ true
+low_short s t g h =
+    let left : 2 ^ height s ≤ 2 ^ 47 = pow_mono {j = 47} (omega (arith, g)) in
+    let right : 2 ^ height t ≤ 2 ^ 47 = pow_mono {j = 47} (omega (arith, h)) in
+    le-leb (leaves s + leaves t) (2 ^ 48) (omega (arith, leaves-most s, leaves-most t, left, right))

@@ -1,8 +1,8 @@
 //! Records of version 1: bytes and balanced pairs.
-ghost use Rattle.std.specs.Prelude.{◌≡◌, ◌+◌, ◌^◌, ◌<◌, ◌≤◌, List, [], length, get_or, nat_le};
+ghost use Rattle.std.specs.Prelude.{◌≡◌, ◌+◌, ◌^◌, ◌<◌, ◌≤◌, true, IsTrue, List, [], length, get_or, nat_le};
 ghost use Rattle.slp_model.specs.declared.Node.{Node};
 ghost use Rattle.slp_model.specs.Tree.{Leaf, leaves, height};
-ghost use Rattle.slp_model.specs.Nodes.{trees, Grows};
+ghost use Rattle.slp_model.specs.Nodes.{tree, trees, Grows};
 ghost use Rattle.slp_model.specs.Join.{is_near};
 ghost use Rattle.slp_rebalance.specs.Entries.{entry_trees, AreEntries};
 ghost use Rattle.slp_image.specs.Image.{node_pair, node_at, records_onto};
@@ -10,7 +10,7 @@ ghost use Rattle.slp_image.specs.Reads.{HaveThese, ReadsByte, ReadsRecord, Reads
 
 use crate::fields::{byte, child};
 use crate::refusal::ImageRefusal;
-use node_store::Store;
+use node_store::{NodeId, Store};
 use slp_rebalance::Roots;
 use span_types::Steps;
 use std::sync::ledger::Ledger;
@@ -27,16 +27,29 @@ fn are_near(roots: &Roots, store: &Store, left: usize, right: usize) -> bool
     g <= h + 1 && h <= g + 1
 }
 
-/// Whether the lengths of two entries sum to at most 2^48.
+// Whether two nodes are so low that they have at most 2^48 bytes: a node of height h has at most 2^h.
+#[tactic(auto, using(crate::proofs::NodeLemmas::low_short))]
+fn are_low(store: &Store, a: NodeId, b: NodeId) -> bool
+    requires a { a.index < length store.now }
+    requires b { b.index < length store.now }
+    ensures { IsTrue result → nat_le (leaves (tree store.now a.index) + leaves (tree store.now b.index)) (2 ^ 48) ≡ true }
+{
+    store.height(a) < 48 && store.height(b) < 48
+}
+
+/// Whether the lengths of two entries sum to at most 2^48. Of most their heights tell it, which are near at hand.
 pub(crate) fn are_short(roots: &Roots, store: &Store, left: usize, right: usize) -> bool
     requires live { AreEntries store.now roots.now }
     requires left { left < length roots.now }
     requires right { right < length roots.now }
     ensures { result ≡ nat_le (leaves (get_or (entry_trees store.now roots.now) left (Leaf 0)) + leaves (get_or (entry_trees store.now roots.now) right (Leaf 0))) (2 ^ 48) }
 {
-    let m = store.len(roots.root(left));
-    let n = store.len(roots.root(right));
-    m + n <= 1 << 48
+    let a = roots.root(left);
+    let b = roots.root(right);
+    if are_low(store, a, b) {
+        return true;
+    }
+    store.len(a) + store.len(b) <= 1 << 48
 }
 
 /// A byte's record, after its kind.
