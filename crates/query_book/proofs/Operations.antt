@@ -3,10 +3,10 @@ use Rattle.std.proofs.Common.{◌≡◌, inl, inr, ℕ, suc, ◌+◌, ◌<◌, �
 use Rattle.span_types.specs.Query.{Query, Union, Join, Project, query_of}
 use Rattle.span_types.specs.VarList.{AreVars}
 use Rattle.span_types.specs.Rel.{names_of}
-use Rattle.marker_dfa.specs.Deterministic.{states_of}
+use Rattle.marker_dfa.specs.Reached.{CountIsAbove}
+use Rattle.marker_dfa.specs.Deterministic.{IsAutomatonOf, states_of}
 use Rattle.span_algebra.specs.Renaming.{both_names}
 use Rattle.span_algebra.specs.Answers.{GivesUnion, GivesJoin, GivesProjection}
-use Rattle.span_algebra.specs.Reached.{CountIsAbove, IsAutomatonOf}
 use Rattle.span_algebra.specs.TreeAutomaton.{UnionStep, UnionEnd, union_size, JoinStep, JoinEnd, join_size, ProjectStep, ProjectEnd}
 use Rattle.span_algebra.specs.Trees.{IsTreeAutomaton}
 use Rattle.span_algebra.proofs.TreeAutomata.{counts-by-any}

@@ -2,7 +2,7 @@
 use Rattle.std.specs.Prelude.{ℕ, suc}
 use Rattle.span_types.specs.FormulaTree.{FormulaTree, sets}
 use Rattle.formula_law.specs.Accepts.{Steps}
-use Rattle.span_algebra.specs.Reached as occurrences
+use Rattle.marker_dfa.specs.Reached as occurrences
 
 -- Count(f) is above n: there are more than n reached sets
 abbrev pub CountIsAbove : ℕ → FormulaTree → Type 0
