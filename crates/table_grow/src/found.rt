@@ -43,13 +43,14 @@ fn find(
     tables: &Tables,
     store: &Store,
     dfa: &Dfa,
-    memory: &Memory,
+    memory: &mut Memory,
     id: NodeId,
 ) -> Result<Found, NoMemory>
-    requires ready { IsReady dfa.now store.now tables.now filler.now memory.now }
+    requires ready { IsReady dfa.now store.now tables.now filler.now memory.old }
     requires due { IsDue store.now tables.now filler.now id }
     ensures found { IfOk result (IsFound dfa.now store.now tables.now id.index) }
     ensures children { ChildrenPlaced store.now tables.now filler.now id.index }
+    ensures memory { memory.new ≡ memory.old }
 {
     let _ = dfa.states();
     match store.node(id) {
@@ -60,7 +61,7 @@ fn find(
         Node::Pair(left, right) => {
             let left = filler.number(tables, store, left);
             let right = filler.number(tables, store, right);
-            match memory.recall(left, right) {
+            match memory.recall_in_front(left, right) {
                 Some(number) => Ok(Found::Kept(number)),
                 None => {
                     let table = filler.compute(alloc, tables, store, dfa, id)?;
@@ -78,14 +79,15 @@ pub(crate) fn work_on<G: Gate>(
     tables: &Tables,
     store: &Store,
     dfa: &Dfa,
-    memory: &Memory,
+    memory: &mut Memory,
     gate: &G,
     id: NodeId,
 ) -> Result<Done, NoMemory>
-    requires ready { IsReady dfa.now store.now tables.now filler.now memory.now }
+    requires ready { IsReady dfa.now store.now tables.now filler.now memory.old }
     requires due { IsDue store.now tables.now filler.now id }
     ensures id { IfOk result (λ x. x.id ≡ id) }
     ensures done { IfOk result (IsDone dfa.now store.now tables.now filler.now) }
+    ensures memory { memory.new ≡ memory.old }
 {
     gate.pass(id.index);
     let found = find(alloc, filler, tables, store, dfa, memory, id)?;

@@ -77,6 +77,19 @@ impl Memory {
         }
     }
 
+    /// The same, and what was found is put back into its place in front. What is remembered stays as it is.
+    pub(crate) fn recall_in_front(&mut self, left: usize, right: usize) -> Option<usize>
+        ensures found { IfSome result (λ number. Contains self.old ((left, right), number)) }
+        ensures same { self.new ≡ self.old }
+    {
+        if let Some(number) = found(&self.front, left, right) {
+            return Some(number);
+        }
+        let number = *self.cache.peek(&(left, right))?;
+        note(&mut self.front, self.cache.len(), left, right, number);
+        Some(number)
+    }
+
     /// Remembers a composition, if there is memory for it. A full memory is emptied first.
     pub(crate) fn remember(&mut self, left: usize, right: usize, number: usize)
         ensures { (e : Entry) → Contains self.new e → Contains self.old e ⊎ (e ≡ ((left, right), number)) }

@@ -12,7 +12,7 @@ returns-in-Some-clause-found c =
     recalled-table c.args.dfa.now c.args.store.now c.args.tables.now c.args.filler.now c.args.id.index c.in-Pair.left c.in-Pair.right
     c.number-left.result c.number-right.result c.in-Some.number c.states.ensures.automaton c.requires.ready.all c.in-Pair.ensures.tree
     c.number-left.ensures.number c.number-right.ensures.number
-    (c.requires.ready.entries ((c.number-left.result, c.number-right.result), c.in-Some.number) c.in-Some.ensures)
+    (c.requires.ready.entries ((c.number-left.result, c.number-right.result), c.in-Some.number) c.in-Some.ensures.found)
 
 pub compute-requires-in-None-clause-true_children : goal.compute-requires-in-None-clause-true_children
 compute-requires-in-None-clause-true_children c =
