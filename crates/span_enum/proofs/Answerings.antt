@@ -1,7 +1,7 @@
 -- The next answer and what is kept of it, from the walk that completes it.
 use Rattle.span_enum.proofs.Base.{Ahead, Begins, DeterministicAutomaton, EndsIn, Finishes, Found, Gives, Ground, IfSome, IsDeterministic, IsFirst, IsFirstLeft, IsFirstMember, IsFoundAfter, IsGreatestMark, IsGround, IsMember, IsNext}
 use Rattle.span_enum.proofs.Base.{IsStateAt, IsTrailOf, IsTupleOf, List, Mark, Marked, NoEndAfter, NoMemberLeft, None, NoneAfter, Option, Place, Some, Tuple, [], ap, append-nil, arith, blanks, bytes_of, cut, end_mark, ended, height_limit}
-use Rattle.span_enum.proofs.Base.{length, length-bytes, looks_limit, mark_count, reached, step_of, subst, sym, text, text_ahead, whole_text, word_of, word_over, write_mark, write_word, ℕ, ◌++◌, ◌+◌, ◌∙◌, ◌∷◌, ◌≡◌, ◌≤◌}
+use Rattle.span_enum.proofs.Base.{length, length-bytes, looks_limit, mark_count, reached, step_of, subst, sym, text_ahead, whole_text, word_of, word_over, write_mark, write_word, ℕ, ◌++◌, ◌+◌, ◌∙◌, ◌∷◌, ◌≡◌, ◌≤◌}
 use Rattle.span_enum.proofs.Kept.{leads-on}
 use Rattle.span_enum.proofs.Runs.{IsFirst-byte, IsFirst-fork, fit-end, member-one, reach-end}
 use Rattle.span_enum.proofs.Tuples.{IsText, accepted-word, accepts-from_member, first-member, none-member, read-back, word-run}

@@ -1,7 +1,7 @@
 -- The words of std, of the crates below and of specs/ that the proofs speak in.
 pub use Rattle.std.proofs.Common.{All, AllPairs, Any, Bool, Contains, IfSome, List, None, Option, Some, [], ap, append-nil, append_assoc, arith, bit_and, bit_or, drop, false, get_or, if◌then◌else◌, inl, inr, length, length-append}
-pub use Rattle.std.proofs.Common.{length-take-le, map, max, min, mul-add, mul-le-mul_left, mul-le-mul_right, mul-suc, mul_assoc, nat_le, nat_lt, not, refl, slice_get, subst, suc, sym, take, take_at, true, true≢false, zero, ℕ}
-pub use Rattle.std.proofs.Common.{◌&&◌, ◌*◌, ◌++◌, ◌+◌, ◌-◌, ◌<◌, ◌==◌, ◌^◌, ◌||◌, ◌↔◌, ◌∙◌, ◌∷◌, ◌≡◌, ◌≢◌, ◌≤◌, ◌⊎◌}
+pub use Rattle.std.proofs.Common.{length-take-le, map, max, min, mul-add, mul-le-mul_left, mul-le-mul_right, mul-suc, mul_assoc, nat_le, nat_lt, not, refl, slice_get, subst, suc, sym, take, take_at, true, true≢false, zero, ℕ, ◌&&◌, ◌*◌}
+pub use Rattle.std.proofs.Common.{◌++◌, ◌+◌, ◌-◌, ◌<◌, ◌==◌, ◌^◌, ◌||◌, ◌↔◌, ◌∙◌, ◌∷◌, ◌≡◌, ◌≢◌, ◌≤◌, ◌⊎◌}
 pub use Rattle.std.proofs.Math.Bool.{and-true, or-false}
 pub use Rattle.std.proofs.Math.ListN.{get_or-append}
 pub use Rattle.std.proofs.Math.Seq.{take-append-add, take-append_seam, take-length}
@@ -27,7 +27,7 @@ pub use Rattle.slp_model.specs.Tree.{height, text}
 pub use Rattle.slp_model.specs.declared.Node.{Node}
 pub use Rattle.slp_model.specs.declared.Node.TheVariants.{Byte, Pair}
 pub use Rattle.slp_model.specs.declared.NodeId.{NodeId}
-pub use Rattle.span_types.proofs.AnswerLaws.{here, split-member, there}
+pub use Rattle.span_types.proofs.AnswerLaws.{here, split-member}
 pub use Rattle.span_types.proofs.LimitLemmas.{height_limit-right}
 pub use Rattle.span_types.proofs.MarkSteps.{four_le}
 pub use Rattle.span_types.proofs.OrderLaws.{irreflexive, transitive}

@@ -2,7 +2,7 @@
 use Rattle.span_enum.proofs.Base.{Ahead, AreAhead, AreBetween, AreGoals, Between, CanGoDown, DeterministicAutomaton, Fits, FitsAt, Ground, IsAhead, IsDeterministic, IsGround, IsLook, IsMark, IsNodeAt, IsQuietPlace, IsTable, Join, LeadQuiet}
 use Rattle.span_enum.proofs.Base.{List, Look, Mark, Marked, NodeId, None, Option, Pair, Place, Some, Stands, StandsBefore, [], ap, append_assoc, arith, bytes-append, bytes-plain, bytes_of, child, get_push, height_at, inl, inr, length}
 use Rattle.span_enum.proofs.Base.{length-append, length-take, max, path-on, path-one, path-parts, plain, push_get, push_last, reached, refl, same_Some, sibling, slice_get, slice_get_cases, slice_get_within, states_of, step_of, subst, suc}
-use Rattle.span_enum.proofs.Base.{sym, take, text_ahead, text_at, there, zero, ℕ, ◌++◌, ◌+◌, ◌-◌, ◌<◌, ◌∙◌, ◌∷◌, ◌≡◌, ◌≤◌}
+use Rattle.span_enum.proofs.Base.{sym, take, text_ahead, text_at, zero, ℕ, ◌++◌, ◌+◌, ◌-◌, ◌<◌, ◌∙◌, ◌∷◌, ◌≡◌, ◌≤◌}
 use Rattle.span_enum.proofs.Runs.{run-behind, run-join, step-within}
 use Rattle.span_enum.proofs.Tables.{look-is, pair-height, pair-text, quiet-join}
 

@@ -2,7 +2,7 @@
 use Rattle.span_enum.proofs.Base.{Ahead, AreKept, Behind, DeterministicAutomaton, Fits, Ground, IsDeterministic, IsGreatestMark, IsKept, IsLast, IsNext, IsNoMark, IsQuietPlace, IsTrailOf, IsTurned, IsUnmarked, Keeps, Leads, List, Lowered}
 use Rattle.span_enum.proofs.Base.{Mark, Marked, NoneAfter, Option, Passed, Place, Some, Tuple, Way, [], ap, append_assoc, append_cancel_left, arith, blanks, bytes-append, bytes-plain, bytes_of, count-more, count-plain, cut, false, length}
 use Rattle.span_enum.proofs.Base.{length-append, length-bytes, length-plain, length-take-le, mark, mark_count, mark_count-append, mark_of, path-on, path-one, plain, plain-append, reached, refl, same-state, step_of, subst, suc, sym, take}
-use Rattle.span_enum.proofs.Base.{take-append-le, take-length, text, text_ahead, there, whole_text, word_over, write_mark, write_word, zero, ℕ, ◌*◌, ◌++◌, ◌+◌, ◌-◌, ◌<◌, ◌∙◌, ◌∷◌, ◌≡◌, ◌≤◌}
+use Rattle.span_enum.proofs.Base.{take-append-le, take-length, text_ahead, whole_text, word_over, write_mark, write_word, zero, ℕ, ◌*◌, ◌++◌, ◌+◌, ◌-◌, ◌<◌, ◌∙◌, ◌∷◌, ◌≡◌, ◌≤◌}
 use Rattle.span_enum.proofs.Chains.{fits-none, fits-short, stands-mark}
 use Rattle.span_enum.proofs.Tuples.{few-marks}
 use Rattle.span_enum.proofs.Words.{IsNext-byte, IsNext-fork, IsNext-front, append-same, none-byte, none-fork, none-passed, over-append, over-plain, over-split, read-cut, write_word-append}

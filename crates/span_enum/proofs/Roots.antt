@@ -1,6 +1,6 @@
 -- The root of a text ahead of its first letter, and what it tells of the text.
 use Rattle.span_enum.proofs.Base.{Ahead, AreAhead, AreQuiet, AreTables, Begins, Behind, CanRun, DeterministicAutomaton, Dictionary, Ground, IsAhead, IsFresh, IsGround, IsLive, IsLook, List, Look, Mark, Node, NodeId, None, Option, Some}
-use Rattle.span_enum.proofs.Base.{Stands, [], ap, append-nil, arith, bytes-none, count_of, ends_of, false, length, length-take-le, refl, slice_get, subst, suc, sym, text_ahead, text_at, text_of, there, whole_text, ℕ, ◌++◌, ◌<◌, ◌∙◌, ◌∷◌}
+use Rattle.span_enum.proofs.Base.{Stands, [], ap, append-nil, arith, bytes-none, count_of, ends_of, false, length, length-take-le, refl, slice_get, subst, suc, sym, text_ahead, text_at, text_of, whole_text, ℕ, ◌++◌, ◌<◌, ◌∙◌, ◌∷◌}
 use Rattle.span_enum.proofs.Base.{◌≡◌, ◌≤◌}
 use Rattle.span_enum.proofs.Chains.{fits-none}
 use Rattle.span_enum.proofs.Runs.{AreBytes, Tells, end-facts, final-from, goal-from_nothing, run-nothing}

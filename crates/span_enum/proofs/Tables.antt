@@ -1,7 +1,7 @@
 -- What the tables of a text and of its parts tell of the runs over them.
 use Rattle.span_enum.proofs.Base.{AllPairs, AreAmong, AreBetween, AreQuiet, AreTables, Bool, Byte, CanRun, Contains, Contains-get_or, DeterministicAutomaton, Dictionary, IsDeterministic, IsGreatestMark, IsLook, IsNoMark, IsNodeAt}
 use Rattle.span_enum.proofs.Base.{IsPlainLeft, IsTable, LeadQuiet, LeadsQuiet, List, Marked, Node, NodeId, None, Option, Pair, Row, Some, StayQuiet, [], ap, arith, bit_and, bit_or, bytes-append, bytes-plain, bytes_of, can_reach_of}
-use Rattle.span_enum.proofs.Base.{cases_eq, cases_lt, count_of, ends_of, false, get_or, get_or_default, has-count, has_mark, height, if◌then◌else◌, inl, inr, is_goal, length, mark, mark_count, marked, marked_of, marks_of, max, member}
+use Rattle.span_enum.proofs.Base.{cases_eq, cases_lt, count_of, ends_of, false, get_or, get_or_default, has-count, has_mark, height, if◌then◌else◌, inl, inr, is_goal, length, mark_count, marked, marked_of, marks_of, max, member}
 use Rattle.span_enum.proofs.Base.{member-or, member-single_other, member-single_same, member-zero, not-both, one-letter, or-cases, or-false, or-left, or-right, path-on, path-parts, plain, plain-append, plain-on, reached, reached_of, refl}
 use Rattle.span_enum.proofs.Base.{row_at, same-state, single_of, states_of, step_of, subst, suc, sym, text, tree, true, unmarked_of, zero, ℕ, ◌++◌, ◌+◌, ◌<◌, ◌==◌, ◌^◌, ◌||◌, ◌∙◌, ◌∷◌, ◌≡◌, ◌≢◌, ◌≤◌, ◌⊎◌}
 use Rattle.span_enum.proofs.Runs.{Tells, end-facts, end-step, fit-byte, goal-plain, low-mark, marked-run, marks-or_plain, only-plain, run-behind, run-from_table, run-within, shared-none, some-can, table-from_run, tells}

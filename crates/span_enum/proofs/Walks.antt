@@ -2,8 +2,8 @@
 use Rattle.span_enum.proofs.Base.{Ahead, AreAhead, AreKept, AtMost, Begins, Behind, CanFinish, CanFollow, CanGoDown, Completes, Descends, Dies, EndsBehind, EndsIn, Fails, Finds, Fits, Followed, Follows, GoesFirst, Ground, HasRoom, IsAhead}
 use Rattle.span_enum.proofs.Base.{IsDeterministic, IsFirst, IsGround, IsOver, IsUnmarked, Lays, Leads, List, Mark, Marked, Meets, None, NoneAfter, Option, Passed, PassesPlain, PassesTo, Place, Some, Stands, StandsBefore, Tuple, Turns, Way}
 use Rattle.span_enum.proofs.Base.{[], ap, append-nil, append_assoc, arith, bytes-append, bytes-none, bytes-plain, bytes_of, cases_lt, count-more, count-plain, cut, drop, false, height-most, height-within, height_at, height_limit}
-use Rattle.span_enum.proofs.Base.{height_limit-right, here, inl, inr, length, length-append, length-plain, length-take, length-take-le, length-text, mark_count, mark_count-append, mark_of, max, mul-suc, no-state, path-dead, path-on}
-use Rattle.span_enum.proofs.Base.{path-one, plain, reached, refl, same-state, slice_get, slice_get_within, step_of, subst, suc, sym, take, take-append-drop, take-append-le, take-length, take-take, text_ahead, text_at, there, tree, true}
+use Rattle.span_enum.proofs.Base.{height_limit-right, inl, inr, length, length-append, length-plain, length-take, length-take-le, length-text, mark_count, mark_count-append, mark_of, max, mul-suc, no-state, path-dead, path-on}
+use Rattle.span_enum.proofs.Base.{path-one, plain, reached, refl, same-state, slice_get, slice_get_within, step_of, subst, suc, sym, take, take-append-drop, take-append-le, take-length, take-take, text_ahead, text_at, tree, true}
 use Rattle.span_enum.proofs.Base.{whole_text, word_over, write_mark, write_word, ℕ, ◌*◌, ◌++◌, ◌+◌, ◌-◌, ◌<◌, ◌∙◌, ◌∷◌, ◌≡◌, ◌≤◌}
 use Rattle.span_enum.proofs.Chains.{ahead-most, ahead-move, fits-none, fits-take, slice-take, stands-before}
 use Rattle.span_enum.proofs.Kept.{behind-mark, is-kept, kept-count, kept-few, kept-more, kept-plain, kept-short, leads-on, leads-pass, leads-size, over-on, word-more}

@@ -1,7 +1,7 @@
 -- The way over letters without marks: over nodes ahead, and down to a mark.
 use Rattle.span_enum.proofs.Base.{Ahead, AreAhead, AreBetween, AreGoals, AtMost, Between, Bool, Byte, CanEnd, Descends, DeterministicAutomaton, Dies, Fails, Fits, GoesFirst, Ground, IsDeterministic, IsGreatestMark, IsGround, IsMarkedLeft}
 use Rattle.span_enum.proofs.Base.{IsNodeAt, IsOver, IsPlainLeft, Join, Keeps, Laid, Lays, LeadQuiet, List, Look, Mark, Marked, Meets, NodeId, None, Option, Passed, Passes, PassesPlain, PassesTo, Place, Some, Stands, StandsBefore, Tuple}
-use Rattle.span_enum.proofs.Base.{Turns, Way, [], ap, append-nil, append_assoc, arith, bit_and, bytes-append, bytes-plain, bytes_of, can_reach_of, child, false, has-count, here, length, length-append, mark, mark_count-append, mark_of}
+use Rattle.span_enum.proofs.Base.{Turns, Way, [], ap, append-nil, append_assoc, arith, bit_and, bytes-append, bytes-plain, bytes_of, can_reach_of, child, false, has-count, here, length, length-append, mark_count-append, mark_of}
 use Rattle.span_enum.proofs.Base.{mark_over, marked, marked_of, member, path-on, path-parts, plain, plain-append, plain-dead, plain-on, reached, refl, sibling, slice_get, states_of, step_of, subst, suc, sym, take, take-append-add}
 use Rattle.span_enum.proofs.Base.{take-append-le, text_ahead, text_at, true, true≢false, unmarked_of, ℕ, ◌++◌, ◌+◌, ◌-◌, ◌<◌, ◌∙◌, ◌∷◌, ◌≡◌, ◌≤◌}
 use Rattle.span_enum.proofs.Chains.{Fork, before-left, before-right, between-compose, fork-goals, fork-height, fork-text, goals-on, next-is}

@@ -1,9 +1,9 @@
 //! The answers of an automaton on a text.
-ghost use Rattle.std.specs.Prelude.{◌≡◌, ℕ, ◌+◌, ◌-◌, ◌*◌, ◌^◌, ◌<◌, ◌≤◌, [], None, Some, length, true, IsTrue, ◌↔◌, MatchOption, IfSome, IfOk};
+ghost use Rattle.std.specs.Prelude.{◌≡◌, ℕ, ◌+◌, ◌-◌, ◌*◌, ◌<◌, ◌≤◌, [], None, Some, length, true, IsTrue, ◌↔◌, MatchOption, IfOk};
 ghost use Rattle.span_types.specs.Fibonacci.{looks_limit};
 ghost use Rattle.span_types.specs.Writes.{write_mark};
 ghost use Rattle.marker_dfa.specs.Deterministic.{states_of};
-ghost use Rattle.span_enum.specs.Listing.{text_of, IsReady, IsCursor};
+ghost use Rattle.span_enum.specs.Listing.{text_of, IsReady};
 ghost use Rattle.span_enum.specs.Members.{IsMember, IsFirstMember, NoMemberLeft, HasMember};
 ghost use Rattle.span_enum.specs.Sets.{is_final};
 ghost use Rattle.span_enum.specs.Trail.{IsGround, whole_text, CanFinish, Finishes, HasRoom, IsFresh, IsStateAt, IsTrailOf, NoEndAfter};

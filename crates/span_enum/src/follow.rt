@@ -1,7 +1,6 @@
 //! The way along the marks of a given tuple.
 ghost use Rattle.std.specs.Prelude.{◌≡◌, ℕ, ◌<◌, ◌≤◌, ◌+◌, ◌*◌, ◌-◌, List, length, true, false, MatchOption};
-ghost use Rattle.marker_dfa.specs.Deterministic.{states_of};
-ghost use Rattle.span_enum.specs.Trail.{IsGround, Stands, PassesTo, EndsBehind, Dies, text_ahead, text_at, whole_text, CanGoDown, IsOver, Laid, CanFollow, Followed, HasRoom, height_at};
+ghost use Rattle.span_enum.specs.Trail.{IsGround, Stands, PassesTo, EndsBehind, Dies, text_ahead, whole_text, CanGoDown, IsOver, Laid, CanFollow, Followed, HasRoom, height_at};
 ghost use Rattle.span_enum.specs.declared.trail.Ahead.{Ahead};
 
 use crate::ground::Ground;

@@ -1,5 +1,5 @@
 //! The way on to the first marked text behind a place.
-ghost use Rattle.std.specs.Prelude.{◌≡◌, ℕ, ◌<◌, ◌≤◌, ◌+◌, ◌*◌, ◌-◌, ◌++◌, ◌∷◌, [], ◌^◌, true, bit_and, length, max, List, IfSome, MatchOption, Some};
+ghost use Rattle.std.specs.Prelude.{◌≡◌, ℕ, ◌<◌, ◌≤◌, ◌+◌, ◌-◌, ◌++◌, ◌∷◌, [], ◌^◌, true, bit_and, length, max, List, IfSome, MatchOption, Some};
 ghost use Rattle.slp_model.specs.Nodes.{IsNodeAt};
 ghost use Rattle.slp_model.specs.declared.Node.TheVariants.{Byte, Pair};
 ghost use Rattle.marker_dfa.specs.Deterministic.{states_of};

@@ -1,5 +1,5 @@
 //! What is kept of the last answer: its marks, and the nodes ahead of each.
-ghost use Rattle.std.specs.Prelude.{◌≡◌, ℕ, List, ◌∷◌, ◌++◌, Option, ◌<◌, ◌≤◌, [], suc, length, slice_get, Some, IfOk, MatchOption};
+ghost use Rattle.std.specs.Prelude.{◌≡◌, ℕ, Option, ◌<◌, ◌≤◌, [], suc, length, slice_get, Some, IfOk, MatchOption};
 ghost use Rattle.span_enum.specs.Next.{NoneAfter};
 ghost use Rattle.span_enum.specs.Words.{IsNoMark};
 ghost use Rattle.span_enum.specs.Tuples.{word_over};

@@ -1,4 +1,4 @@
-use Rattle.span_enum.proofs.Base.{NoEndAfter, Some, ap, arith, blanks, length, text, whole_text, write_mark, write_word, ◌++◌, ◌+◌, ◌∙◌}
+use Rattle.span_enum.proofs.Base.{NoEndAfter, Some, ap, arith, blanks, length, whole_text, write_mark, write_word, ◌++◌, ◌+◌, ◌∙◌}
 use Rattle.span_enum.proofs.Roots.{ground-text}
 use Rattle.span_enum.proofs.Answerings.{answer-found, next-ended, none-ended, trail-same}
 use Rattle.span_enum.proofs.answers.answer_after.Goals as goal

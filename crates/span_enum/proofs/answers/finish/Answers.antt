@@ -1,4 +1,4 @@
-use Rattle.span_enum.proofs.Base.{IsGreatestMark, ap, is_final, mark, states_of, subst, sym, true, write-nothing, ◌<◌, ◌∙◌, ◌≡◌}
+use Rattle.span_enum.proofs.Base.{IsGreatestMark, ap, is_final, states_of, subst, sym, true, write-nothing, ◌<◌, ◌∙◌, ◌≡◌}
 use Rattle.span_enum.proofs.answers.finish.Goals as goal
 
 pub with_end-requires-clause-ends : goal.with_end-requires-clause-ends

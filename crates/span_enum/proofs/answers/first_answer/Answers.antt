@@ -1,4 +1,4 @@
-use Rattle.span_enum.proofs.Base.{Begins, IsFirst, None, [], ap, arith, blanks, false, refl, subst, sym, text, true≢false, ◌∙◌}
+use Rattle.span_enum.proofs.Base.{Begins, IsFirst, None, [], ap, arith, blanks, false, refl, subst, sym, true≢false, ◌∙◌}
 use Rattle.span_enum.proofs.Roots.{fresh-begins, ground-text, text-short}
 use Rattle.span_enum.proofs.Runs.{run-from_accepted}
 use Rattle.span_enum.proofs.Tuples.{none-member}

@@ -1,4 +1,4 @@
-use Rattle.span_enum.proofs.Base.{Some, ap, arith, reached, text, whole_text, word_over, write_mark, ◌∙◌, ◌≡◌}
+use Rattle.span_enum.proofs.Base.{Some, ap, arith, reached, whole_text, word_over, write_mark, ◌∙◌, ◌≡◌}
 use Rattle.span_enum.proofs.Roots.{ground-text}
 use Rattle.span_enum.proofs.Runs.{run-within}
 use Rattle.span_enum.proofs.Answerings.{lowered-end}

@@ -1,5 +1,4 @@
-use Rattle.span_enum.proofs.Base.{IsTable, List, here, marked_of, ℕ, ◌<◌, ◌^◌}
-use Rattle.span_enum.proofs.Chains.{fork}
+use Rattle.span_enum.proofs.Base.{IsTable, List, marked_of, ℕ, ◌<◌, ◌^◌}
 use Rattle.span_enum.proofs.Runs.{tells}
 use Rattle.span_enum.proofs.Tables.{are-between, between-left, lead-quiet}
 use Rattle.span_enum.proofs.sets.goals_between.Goals as goal

@@ -1,4 +1,4 @@
-use Rattle.span_enum.proofs.Base.{arith, mark, refl}
+use Rattle.span_enum.proofs.Base.{arith, refl}
 use Rattle.span_enum.proofs.Kept.{last-kept, none-at_start}
 use Rattle.span_enum.proofs.trail.lower_last.Goals as goal
 
