@@ -1,7 +1,7 @@
 use Rattle.std.proofs.Common.{refl, ◌∙◌}
 use Rattle.table_grow.specs.Layers.{IsLayer}
 use Rattle.table_grow.proofs.Growing.{kept-refl, kept-trans}
-use Rattle.table_grow.proofs.Layering.{due-all, free-all, once-all, placed-first, placed-next, placed-all}
+use Rattle.table_grow.proofs.Layering.{due-all, free-all, once-all, placed-first, placed-next}
 use Rattle.table_grow.proofs.growth.by_height.Goals as goal
 
 pub loop-height-init : goal.loop-height-init

@@ -1,5 +1,5 @@
-use Rattle.std.proofs.Common.{arith, refl, ◌∙◌}
-use Rattle.table_grow.proofs.Growing.{kept-refl, kept-trans, old-some}
+use Rattle.std.proofs.Common.{arith, refl}
+use Rattle.table_grow.proofs.Growing.{kept-refl, old-some}
 use Rattle.table_grow.proofs.growth.place_new.Goals as goal
 
 pub loop-from-init : goal.loop-from-init
