@@ -1,3 +1,2 @@
-pub mod Bounds
 mod Backwards
 mod Documents

@@ -1,7 +1,7 @@
 //! Rows of unions, joins and projections of automata.
 ghost use Rattle.std.specs.Prelude.{◌≡◌, IfOk, length};
 
-use crate::formulas::dfa_of;
+use crate::formulas::automaton_of;
 use crate::subsets::says;
 use formula_syntax::read;
 use marker_dfa::Dfa;
@@ -29,9 +29,7 @@ fn names_of(alloc: Global, text: &[u8]) -> Result<Vars, NoMemory> {
 fn side_of(alloc: Global, text: &[u8]) -> Result<Side, NoMemory>
     ensures { IfOk result (λ s. length s.names ≡ s.dfa.variables) }
 {
-    let Ok(dfa) = dfa_of(alloc, text) else {
-        return Err(NoMemory);
-    };
+    let dfa = automaton_of(alloc, text)?;
     let names = names_of(alloc, text)?;
     if dfa.variables() != names.count() {
         return Err(NoMemory);

@@ -1,116 +1,111 @@
 //! Rows of questions to a book of queries.
-ghost use Rattle.std.specs.Prelude.{◌≡◌, ◌<◌, IsTrue};
+ghost use Rattle.std.specs.Prelude.{◌≡◌, ◌<◌, IfOk, IsTrue, length};
 ghost use Rattle.slp_model.specs.Nodes.{IsLive};
 ghost use Rattle.query_book.specs.Answers.{HasVariablesOf};
 ghost use Rattle.query_book.specs.Book.{queries_of};
 ghost use Rattle.query_book.specs.Serving.{Covers};
 
-use crate::books::register;
+use crate::books::{Queries, grown_book};
+use crate::one_letter::spanned;
 use node_store::{NodeId, Store};
 use query_book::{BookRefusal, QueryBook};
-use span_types::{Steps, Tuple};
+use span_types::{NoMemory, Steps, Tuple};
 use std::alloc::Global;
 use std::marker::Brand;
-use std::process::Abort;
 use std::sync::ledger::{Blank, Ledger};
-use std::test::Fail;
 use std::thread::Threads;
-use work_gate::OpenGate;
+
+const QUERIES: Queries = &[(b"q", b".*$x{a+}.*"), (b"r", b"b")];
 
 #[test]
-fn first_question(rt: HostRuntime) -> Result<(), Fail> {
-    asked::<_, Brand, Brand, Brand>(&rt, rt.alloc(), Blank::new(1), Blank::new(1), Blank::new(1))
+fn first_question(rt: HostRuntime) {
+    let told = asked::<HostRuntime, Brand>(&rt, rt.alloc(), Blank::new(1));
+    assert!(rt; told == Ok([true; 3]));
 }
 
-/// The queries `.*$x{a+}.*` and `b` on the text `aa`.
-fn asked<R: Threads + Sync + Abort, P: Ledger, T: Ledger, L: Ledger>(
+/// What is seen of the queries on the text `aa`.
+fn asked<R: Threads + Sync, L: Ledger>(
     rt: &R,
     alloc: Global,
-    pairs: Blank,
-    places: Blank,
-    looks: Blank,
-) -> Result<(), Fail>
-    requires pairs { (pairs.name ≡ P.name) × (pairs.parts ≡ P.parts) × (0 < P.parts) }
-    requires places { (places.name ≡ T.name) × (places.parts ≡ T.parts) × (0 < T.parts) }
-    requires looks { (looks.name ≡ L.name) × (looks.parts ≡ L.parts) × (0 < L.parts) }
+    blank: Blank,
+) -> Result<[bool; 3], NoMemory>
+    requires name { blank.name ≡ L.name }
+    requires parts { blank.parts ≡ L.parts }
+    requires some { 0 < L.parts }
 {
-    let mut pairs = Steps::<P>::new(pairs);
-    let mut places = Steps::<T>::new(places);
-    let mut looks = Steps::<L>::new(looks);
+    let mut steps = Steps::<L>::new(blank);
     let mut store = Store::new(alloc);
-    let letter = store.byte(b'a')?;
-    let root = store.pair(letter, letter, &mut pairs)?;
-    let mut book = QueryBook::new(alloc);
-    register(alloc, &mut book, b"q", b".*$x{a+}.*")?;
-    register(alloc, &mut book, b"r", b"b")?;
-    book.grow_all(rt, alloc, &store, 2, &OpenGate, &mut places)?;
-    tested(rt, &book, &store, Some(root), &mut looks);
-    listed(rt, alloc, &book, &store, Some(root), &mut looks);
-    Ok(())
+    let root = Some(two_letters(&mut store, &mut steps)?);
+    let book = grown_book(rt, alloc, QUERIES, &store, 2, &mut steps)?;
+    Ok([
+        has_answers(&book, &store, root, &mut steps),
+        has_three_tuples(alloc, &book, &store, root, &mut steps),
+        has_the_second(alloc, &book, &store, root, &mut steps),
+    ])
 }
 
-fn tested<L: Ledger>(
-    rt: &impl Abort,
+/// The node of `aa`.
+fn two_letters<L: Ledger>(store: &mut Store, pairs: &mut Steps<L>) -> Result<NodeId, NoMemory>
+    ensures { IfOk result (λ root. root.index < length store.new) }
+{
+    let letter = store.byte(b'a')?;
+    store.pair(letter, letter, pairs)
+}
+
+fn has_answers<L: Ledger>(
     book: &QueryBook,
     store: &Store,
     root: Option<NodeId>,
     looks: &mut Steps<L>,
-)
+) -> bool
     requires covers { Covers store.now book.now }
     requires live { IsLive store.now root }
 {
-    assert_eq!(rt; book.test(b"q", store, root, looks), Ok(true));
-    assert_eq!(rt; book.test(b"r", store, root, looks), Ok(false));
-    assert_eq!(rt;
-        book.test(b"z", store, root, looks),
-        Err(BookRefusal::NoSuchQuery)
-    );
+    let q = book.test(b"q", store, root, looks);
+    let r = book.test(b"r", store, root, looks);
+    let z = book.test(b"z", store, root, looks);
+    q == Ok(true) && r == Ok(false) && z == Err(BookRefusal::NoSuchQuery)
 }
 
-/// Three tuples, of which the second is also found by `has`, and the third by `seek`.
-fn listed<'a, L: Ledger>(
-    rt: &impl Abort,
+fn has_three_tuples<'a, L: Ledger>(
     alloc: Global,
     book: &'a QueryBook,
     store: &'a Store,
     root: Option<NodeId>,
     looks: &mut Steps<L>,
-)
+) -> bool
     requires covers { Covers store.now book.now }
     requires live { IsLive store.now root }
 {
     let Ok(mut answers) = book.start(alloc, b"q", store, root, looks) else {
-        panic!(rt; "no listing");
+        return false;
     };
-    assert_eq!(rt; first_span(&answers.next(looks)), Some((1, 2)));
-    match answers.next(looks) {
-        Some(second) => sought(rt, alloc, book, store, root, &second, looks),
-        None => panic!(rt; "one tuple alone"),
-    }
-    assert_eq!(rt; first_span(&answers.next(looks)), Some((2, 3)));
-    assert_eq!(rt; first_span(&answers.next(looks)), None);
+    let first = answers.next(looks) == Some(spanned(1, 2));
+    let second = answers.next(looks) == Some(spanned(1, 3));
+    let third = answers.next(looks) == Some(spanned(2, 3));
+    first && second && third && answers.next(looks) == None
 }
 
-/// The second tuple.
-fn sought<'a, L: Ledger>(
-    rt: &impl Abort,
+/// The second tuple is found by `has`, and the third one by `seek` after it.
+fn has_the_second<'a, L: Ledger>(
     alloc: Global,
     book: &'a QueryBook,
     store: &'a Store,
     root: Option<NodeId>,
-    second: &Tuple,
     looks: &mut Steps<L>,
-)
+) -> bool
     requires covers { Covers store.now book.now }
     requires live { IsLive store.now root }
 {
-    assert_eq!(rt; (second.spans[0].start, second.spans[0].end), (1, 3));
-    assert!(rt; fits(book, b"q", second));
-    assert_eq!(rt; book.has(b"q", store, root, second, looks), Ok(true));
-    let Ok(mut rest) = book.seek(alloc, b"q", store, root, second, looks) else {
-        panic!(rt; "no listing after a tuple");
-    };
-    assert_eq!(rt; first_span(&rest.next(looks)), Some((2, 3)));
+    let second = spanned(1, 3);
+    if !fits(book, b"q", &second) {
+        return false;
+    }
+    let has = book.has(b"q", store, root, &second, looks) == Ok(true);
+    match book.seek(alloc, b"q", store, root, &second, looks) {
+        Ok(mut rest) => has && rest.next(looks) == Some(spanned(2, 3)),
+        Err(_) => false,
+    }
 }
 
 /// Whether the tuple has as many variables as the query of this name.
@@ -120,12 +115,5 @@ fn fits(book: &QueryBook, name: &[u8], tuple: &Tuple) -> bool
     match book.vars(name) {
         Ok(vars) => vars.count() == tuple.count(),
         Err(_) => false,
-    }
-}
-
-fn first_span(tuple: &Option<Tuple>) -> Option<(u64, u64)> {
-    match tuple {
-        Some(tuple) => Some((tuple.spans[0].start, tuple.spans[0].end)),
-        None => None,
     }
 }

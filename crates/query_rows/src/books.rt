@@ -1,30 +1,71 @@
 //! Rows of books of queries.
-ghost use Rattle.std.specs.Prelude.{List};
+ghost use Rattle.std.specs.Prelude.{◌≤◌, List, IfOk};
 ghost use Rattle.slp_model.specs.declared.Node.{Node};
-ghost use Rattle.query_book.specs.Serving.{Serves};
+ghost use Rattle.query_book.specs.Serving.{Covers, Serves};
 
 use crate::subsets::says;
+use node_store::Store;
 use query_book::{BookRefusal, QueryBook, QueryRefusal};
-use span_types::{Name, NoMemory};
+use span_types::{Name, NoMemory, Steps};
 use std::alloc::Global;
+use std::sync::ledger::Ledger;
 use std::test::Fail;
+use std::thread::Threads;
+use work_gate::OpenGate;
 
-/// Registers the query of a text.
-pub fn register(
-    alloc: Global,
-    book: &mut QueryBook,
-    name: &[u8],
-    text: &[u8],
-) -> Result<(), NoMemory>
+/// Queries by their names.
+pub type Queries = &'static [(&'static [u8], &'static [u8])];
+
+/// The name, which is one: another is told as a want of memory, as a text below that is no query.
+pub fn named(alloc: Global, name: &[u8]) -> Result<Name, NoMemory> {
+    match Name::new(alloc, name) {
+        Ok(name) => Ok(name),
+        Err(_) => Err(NoMemory),
+    }
+}
+
+fn register(alloc: Global, book: &mut QueryBook, name: &[u8], text: &[u8]) -> Result<(), NoMemory>
     ensures { (ns : List Node) → Serves ns book.old → Serves ns book.new }
 {
-    let name = Name::new(alloc, name).map_err(|_| NoMemory)?;
-    book.add(alloc, name, text).map_err(|_| NoMemory)
+    let name = named(alloc, name)?;
+    match book.add(alloc, name, text) {
+        Ok(()) => Ok(()),
+        Err(_) => Err(NoMemory),
+    }
+}
+
+/// The book of these queries, without tables.
+pub fn book_of(alloc: Global, queries: Queries) -> Result<QueryBook, NoMemory>
+    ensures { IfOk result (λ book. (ns : List Node) → Serves ns book) }
+{
+    let mut book = QueryBook::new(alloc);
+    for (name, text) in queries {
+        register(alloc, &mut book, name, text)?;
+    }
+    Ok(book)
+}
+
+/// The same with the tables of all nodes.
+pub fn grown_book<R: Threads + Sync, L: Ledger>(
+    rt: &R,
+    alloc: Global,
+    queries: Queries,
+    store: &Store,
+    workers: u8,
+    places: &mut Steps<L>,
+) -> Result<QueryBook, NoMemory>
+    requires least { 1 ≤ workers }
+    requires most { workers ≤ 64 }
+    ensures { IfOk result (Covers store.now) }
+{
+    let mut book = book_of(alloc, queries)?;
+    book.grow_all(rt, alloc, store, workers, &OpenGate, places)?;
+    Ok(book)
 }
 
 /// What `add` says of a text for the query `q`: `ok` or its refusal.
 fn added(alloc: Global, book: &mut QueryBook, text: &[u8]) -> Result<String, NoMemory> {
-    let name = Name::new(alloc, b"q").map_err(|_| NoMemory)?;
+    let name = named(alloc, b"q")?;
     let said = match book.add(alloc, name, text) {
         Ok(()) => String::from_str(alloc, "ok"),
         Err(why) => why.to_string(alloc),

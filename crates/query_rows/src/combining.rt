@@ -1,9 +1,10 @@
 //! Rows of queries that are made of queries.
-use crate::books::register;
+use crate::books::{Queries, book_of, named};
 use line_parts::is_name_list;
 use query_book::{CombineRefusal, QueryBook};
-use span_types::{Name, NoMemory, is_well_named};
+use span_types::{NoMemory, is_well_named};
 use std::alloc::Global;
+use std::process::Abort;
 use std::test::Fail;
 
 /// The names of a query's variables, each with a space behind it.
@@ -29,34 +30,28 @@ fn said(
     }
 }
 
-/// The name of the query that is made.
-fn made_name(alloc: Global) -> Result<Name, NoMemory> {
-    Name::new(alloc, b"n").map_err(|_| NoMemory)
+/// How a query is made of two.
+#[derive(Clone, Copy)]
+enum Pairing {
+    Union,
+    Join,
 }
 
-fn united(
+fn combined(
     alloc: Global,
     book: &mut QueryBook,
+    how: Pairing,
     left: &[u8],
     right: &[u8],
 ) -> Result<String, NoMemory> {
     if !is_well_named(left) || !is_well_named(right) {
         return Err(NoMemory);
     }
-    let made = book.union(alloc, made_name(alloc)?, left, right);
-    said(alloc, book, made)
-}
-
-fn joined(
-    alloc: Global,
-    book: &mut QueryBook,
-    left: &[u8],
-    right: &[u8],
-) -> Result<String, NoMemory> {
-    if !is_well_named(left) || !is_well_named(right) {
-        return Err(NoMemory);
-    }
-    let made = book.join(alloc, made_name(alloc)?, left, right);
+    let name = named(alloc, b"n")?;
+    let made = match how {
+        Pairing::Union => book.union(alloc, name, left, right),
+        Pairing::Join => book.join(alloc, name, left, right),
+    };
     said(alloc, book, made)
 }
 
@@ -69,12 +64,12 @@ fn projected(
     if !is_well_named(source) || !is_name_list(keep) {
         return Err(NoMemory);
     }
-    let made = book.project(alloc, made_name(alloc)?, source, keep);
+    let name = named(alloc, b"n")?;
+    let made = book.project(alloc, name, source, keep);
     said(alloc, book, made)
 }
 
-/// Queries by their names.
-const OPERANDS: &[(&[u8], &[u8])] = &[
+const OPERANDS: Queries = &[
     (b"q", b".*$x{a+}$z{}.*"),
     (b"r", b"$y{.}$x{b*}"),
     (b"eight", b"$a{}$b{}$c{}$d{}$e{}$f{}$g{}$h{}"),
@@ -82,14 +77,6 @@ const OPERANDS: &[(&[u8], &[u8])] = &[
     (b"thirds", b"([ab][ab][ab])*"),
     (b"marked", b"[ab]*$x{a}[ab][ab][ab][ab][ab][ab]"),
 ];
-
-fn operands(alloc: Global) -> Result<QueryBook, NoMemory> {
-    let mut book = QueryBook::new(alloc);
-    for (name, text) in OPERANDS {
-        register(alloc, &mut book, name, text)?;
-    }
-    Ok(book)
-}
 
 /// Two names, and what is said of their union, and of their join.
 const PAIRS: &[(&[u8], &[u8], &str)] = &[
@@ -101,22 +88,23 @@ const PAIRS: &[(&[u8], &[u8], &str)] = &[
     (b"late", b"thirds", "too many states"),
 ];
 
-#[test]
-fn unions(rt: HostRuntime) -> Result<(), Fail> {
-    let mut book = operands(rt.alloc())?;
+fn check_pairs(rt: &impl Abort, alloc: Global, how: Pairing) -> Result<(), NoMemory> {
+    let mut book = book_of(alloc, OPERANDS)?;
     for (left, right, want) in PAIRS {
-        assert!(rt; united(rt.alloc(), &mut book, left, right)?.as_str() == *want);
+        let said = combined(alloc, &mut book, how, left, right)?;
+        assert!(rt; said.as_str() == *want);
     }
     Ok(())
 }
 
 #[test]
+fn unions(rt: HostRuntime) -> Result<(), Fail> {
+    Ok(check_pairs(&rt, rt.alloc(), Pairing::Union)?)
+}
+
+#[test]
 fn joins(rt: HostRuntime) -> Result<(), Fail> {
-    let mut book = operands(rt.alloc())?;
-    for (left, right, want) in PAIRS {
-        assert!(rt; joined(rt.alloc(), &mut book, left, right)?.as_str() == *want);
-    }
-    Ok(())
+    Ok(check_pairs(&rt, rt.alloc(), Pairing::Join)?)
 }
 
 /// A name, the variables to keep, and what is said of the projection.
@@ -132,7 +120,7 @@ const PROJECTIONS: &[(&[u8], &[u8], &str)] = &[
 
 #[test]
 fn projections(rt: HostRuntime) -> Result<(), Fail> {
-    let mut book = operands(rt.alloc())?;
+    let mut book = book_of(rt.alloc(), OPERANDS)?;
     for (source, keep, want) in PROJECTIONS {
         assert!(rt; projected(rt.alloc(), &mut book, source, keep)?.as_str() == *want);
     }
@@ -141,10 +129,9 @@ fn projections(rt: HostRuntime) -> Result<(), Fail> {
 
 /// A book whose query `n` is of 127 parts.
 fn many_parts(alloc: Global) -> Result<QueryBook, NoMemory> {
-    let mut book = QueryBook::new(alloc);
-    register(alloc, &mut book, b"n", b"a")?;
+    let mut book = book_of(alloc, &[(b"n", b"a")])?;
     for _ in 0..6 {
-        let _ = united(alloc, &mut book, b"n", b"n")?;
+        let _ = combined(alloc, &mut book, Pairing::Union, b"n", b"n")?;
     }
     Ok(book)
 }
@@ -154,7 +141,7 @@ fn most_parts(rt: HostRuntime) -> Result<(), Fail> {
     let alloc = rt.alloc();
     let mut book = many_parts(alloc)?;
     let want = "a query of 255 parts is too large";
-    assert!(rt; joined(alloc, &mut book, b"n", b"n")?.as_str() == want);
+    assert!(rt; combined(alloc, &mut book, Pairing::Join, b"n", b"n")?.as_str() == want);
     for (keep, want) in [
         (b"()".as_slice(), ""),
         (b"x", "a query of 129 parts is too large"),

@@ -18,3 +18,11 @@ pub fn dfa_of(alloc: Global, text: &[u8]) -> Result<Dfa, DfaRefusal> {
     let nfa = nfa_of(alloc, text)?;
     determinise(alloc, &nfa)
 }
+
+/// The same where that has few states: more of them are told as a want of memory too.
+pub fn automaton_of(alloc: Global, text: &[u8]) -> Result<Dfa, NoMemory> {
+    match dfa_of(alloc, text) {
+        Ok(dfa) => Ok(dfa),
+        Err(_) => Err(NoMemory),
+    }
+}

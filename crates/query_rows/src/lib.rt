@@ -27,6 +27,8 @@ mod formulas;
 #[cfg(test)]
 mod listings;
 #[cfg(test)]
+mod meeting;
+#[cfg(test)]
 mod one_letter;
 #[cfg(test)]
 mod positions;

@@ -1,102 +1,74 @@
-//! Rows of tables: gates that show that each node passes and that two pieces of a height run at once, and an order of nodes
+//! Rows of tables: a gate that shows that each node passes and that two pieces of a height run at once, and an order of nodes
 //! that isn't that of their ids.
-ghost use Rattle.std.specs.Prelude.{◌≡◌, ◌<◌, ◌≤◌, IfOk, length};
-ghost use Rattle.slp_model.specs.Nodes.{IsLive};
-ghost use Rattle.state_tables.specs.Dictionary.{count_of};
+ghost use Rattle.std.specs.Prelude.{◌≡◌, ◌<◌, ◌≤◌, [], IfOk};
 ghost use Rattle.table_grow.specs.Schedule.{IsSchedule};
 
-use crate::formulas::dfa_of;
-use marker_dfa::{Dfa, DfaRefusal};
+use crate::formulas::automaton_of;
+use crate::meeting::Meeting;
+use marker_dfa::Dfa;
 use node_store::{Node, NodeId, Store};
 use pair_loader::load;
 use span_types::{NoMemory, Steps};
 use state_tables::Tables;
 use std::alloc::Global;
 use std::marker::Brand;
-use std::sync::atomic::{AtomicU64, Ordering};
 use std::sync::ledger::{Blank, Ledger};
 use std::test::Fail;
 use std::thread::Threads;
 use table_grow::{Memory, fill, grow};
 use work_gate::{Gate, OpenGate};
 
-/// How many turns the first of two nodes waits for the other one.
-const TURNS: u32 = 50_000_000;
+/// The formula whose automaton has the tables.
+const LETTERS: &[u8] = b"[abcdr]*";
 
-/// Counts the nodes that pass.
-#[derive(Drop)]
-struct Counter {
-    passed: AtomicU64,
-}
-
-impl Gate for Counter {
-    fn pass(&self, _node: usize) {
-        self.passed.fetch_add(1, Ordering::SeqCst);
-    }
-}
-
-/// Counts the nodes that pass, and holds the first of two until the second has arrived, for a stated number of turns.
-#[derive(Drop)]
-struct Meeting {
-    left: usize,
-    right: usize,
-    passed: AtomicU64,
-    arrived: AtomicU64,
-    gave_up: AtomicU64,
-}
-
-impl Gate for Meeting {
-    fn pass(&self, node: usize) {
-        self.passed.fetch_add(1, Ordering::SeqCst);
-        if node != self.left && node != self.right {
-            return;
-        }
-        self.arrived.fetch_add(1, Ordering::SeqCst);
-        for _ in 0..TURNS {
-            if self.arrived.load(Ordering::SeqCst) > 1 {
-                return;
-            }
-        }
-        self.gave_up.store(1, Ordering::SeqCst);
-    }
-}
-
-/// The automaton of `[abcdr]*`.
-fn automaton(alloc: Global) -> Result<Dfa, DfaRefusal> {
-    dfa_of(alloc, b"[abcdr]*")
-}
-
-/// What there is after growth: nodes, tables, distinct tables, and compositions that are remembered.
-type Counts = (usize, usize, usize, usize);
-
+/// The tables by growth, with nothing remembered before.
 fn grown<R: Threads + Sync, G: Gate, L: Ledger>(
     rt: &R,
     alloc: Global,
     store: &Store,
     dfa: &Dfa,
-    size: usize,
+    memory: &mut Memory,
     workers: u8,
     gate: &G,
     places: &mut Steps<L>,
-) -> Result<Counts, NoMemory>
-    requires size { 1 ≤ size }
-    requires small { size ≤ 65536 }
+) -> Result<Tables, NoMemory>
+    requires empty { memory.old ≡ [] }
     requires some_workers { 1 ≤ workers }
     requires few_workers { workers ≤ 64 }
 {
     let mut tables = Tables::new(alloc, dfa);
-    let mut memory = Memory::new(alloc, size)?;
     grow(
         rt,
         alloc,
         &mut tables,
         store,
         dfa,
-        &mut memory,
+        memory,
         workers,
         gate,
         places,
     )?;
+    Ok(tables)
+}
+
+/// What there is after growth: nodes, tables, distinct tables, and compositions that are remembered.
+type Counts = (usize, usize, usize, usize);
+
+fn counted<R: Threads + Sync, G: Gate, L: Ledger>(
+    rt: &R,
+    alloc: Global,
+    store: &Store,
+    size: usize,
+    workers: u8,
+    gate: &G,
+    places: &mut Steps<L>,
+) -> Result<Counts, NoMemory> {
+    if size < 1 || size > 65_536 || workers < 1 || workers > 64 {
+        return Err(NoMemory);
+    }
+    let dfa = automaton_of(alloc, LETTERS)?;
+    let mut memory = Memory::new(alloc, size)?;
+    let tables = grown(rt, alloc, store, &dfa, &mut memory, workers, gate, places)?;
     Ok((
         store.count(),
         tables.count(),
@@ -105,30 +77,27 @@ fn grown<R: Threads + Sync, G: Gate, L: Ledger>(
     ))
 }
 
-/// What there is after growth over the row's text, and how many nodes passed the gate.
-fn of_row<R: Threads + Sync, L: Ledger>(
+/// What there is after growth over the nodes of a short text.
+fn of_text<R: Threads + Sync, G: Gate, L: Ledger>(
     rt: &R,
     alloc: Global,
     blank: Blank,
+    text: &[u8],
     size: usize,
     workers: u8,
-) -> Result<(Counts, u64), Fail>
+    gate: &G,
+) -> Result<Counts, NoMemory>
     requires name { blank.name ≡ L.name }
     requires parts { blank.parts ≡ L.parts }
     requires some { 0 < L.parts }
 {
-    if size < 1 || size > 65_536 || workers < 1 || workers > 64 {
-        return Err("a size and a number of workers within the limits".into());
+    if text.len() > 100 {
+        return Err(NoMemory);
     }
     let mut steps = Steps::<L>::new(blank);
     let mut store = Store::new(alloc);
-    let _ = load(alloc, &mut store, b"abracadabra", &mut steps)?;
-    let dfa = automaton(alloc)?;
-    let gate = Counter {
-        passed: AtomicU64::new(0),
-    };
-    let counts = grown(rt, alloc, &store, &dfa, size, workers, &gate, &mut steps)?;
-    Ok((counts, gate.passed.load(Ordering::SeqCst)))
+    load(alloc, &mut store, text, &mut steps)?;
+    counted(rt, alloc, &store, size, workers, gate, &mut steps)
 }
 
 /// The sizes of the memory and the numbers of workers.
@@ -138,70 +107,54 @@ const SETTINGS: [(usize, u8); 4] = [(1, 1), (4096, 1), (1, 4), (4096, 64)];
 fn one_table_on_any_workers(rt: HostRuntime) -> Result<(), Fail> {
     let alloc = rt.alloc();
     for (size, workers) in SETTINGS {
-        let found = of_row::<HostRuntime, Brand>(&rt, alloc, Blank::new(1), size, workers)?;
-        assert_eq!(rt; found, ((15, 15, 1, 1), 15), "{size} {workers}");
+        let gate = Meeting::new(None);
+        let found = of_text::<HostRuntime, Meeting, Brand>(
+            &rt,
+            alloc,
+            Blank::new(1),
+            b"abracadabra",
+            size,
+            workers,
+            &gate,
+        )?;
+        assert!(rt; found == (15, 15, 1, 1), "{size} {workers}");
+        assert!(rt; gate.counts() == (15, 0, 0), "{size} {workers}");
     }
     Ok(())
 }
 
-/// A gate for the two children of the root.
-fn held_children(store: &Store, root: Option<NodeId>) -> Result<Meeting, Fail>
-    requires { IsLive store.now root }
-{
-    let root = root.ok_or("a root")?;
-    match store.node(root) {
-        Node::Pair(left, right) => Ok(Meeting {
-            left: left.index,
-            right: right.index,
-            passed: AtomicU64::new(0),
-            arrived: AtomicU64::new(0),
-            gave_up: AtomicU64::new(0),
-        }),
-        Node::Byte(_) => Err("a pair".into()),
-    }
-}
-
-/// How many nodes passed the gate, and whether it gave up, where two workers grow the tables of `abcd`.
-fn met<R: Threads + Sync, L: Ledger>(
-    rt: &R,
-    alloc: Global,
-    blank: Blank,
-) -> Result<(u64, u64), Fail>
-    requires name { blank.name ≡ L.name }
-    requires parts { blank.parts ≡ L.parts }
-    requires some { 0 < L.parts }
-{
-    let mut steps = Steps::<L>::new(blank);
-    let mut store = Store::new(alloc);
-    let root = load(alloc, &mut store, b"abcd", &mut steps)?;
-    let gate = held_children(&store, root)?;
-    let dfa = automaton(alloc)?;
-    let _ = grown(rt, alloc, &store, &dfa, 4096, 2, &gate, &mut steps)?;
-    let passed = gate.passed.load(Ordering::SeqCst);
-    Ok((passed, gate.gave_up.load(Ordering::SeqCst)))
-}
+/// The children of the root of `abcd`, which are `ab` and `cd`.
+const CHILDREN: (usize, usize) = (2, 5);
 
 #[test]
 fn two_nodes_meet(rt: HostRuntime) -> Result<(), Fail> {
-    let alloc = rt.alloc();
-    let (passed, gave_up) = met::<HostRuntime, Brand>(&rt, alloc, Blank::new(1))?;
-    assert_eq!(rt; (passed, gave_up), (7, 0));
+    let gate = Meeting::new(Some(CHILDREN));
+    let found = of_text::<HostRuntime, Meeting, Brand>(
+        &rt,
+        rt.alloc(),
+        Blank::new(1),
+        b"abcd",
+        4096,
+        2,
+        &gate,
+    )?;
+    assert!(rt; found.0 == 7 && gate.counts() == (7, 2, 0));
     Ok(())
 }
 
 /// The two nodes of a store of two bytes, the last one first.
-fn backwards(store: &Store) -> Result<[NodeId; 2], Fail>
+fn backwards(store: &Store) -> Result<[NodeId; 2], NoMemory>
     ensures { IfOk result (λ ids. IsSchedule store.now 0 ids) }
 {
     if store.count() != 2 {
-        return Err("two nodes".into());
+        return Err(NoMemory);
     }
     match (
         store.node(NodeId { index: 0 }),
         store.node(NodeId { index: 1 }),
     ) {
         (Node::Byte(_), Node::Byte(_)) => Ok([NodeId { index: 1 }, NodeId { index: 0 }]),
-        _ => Err("two bytes".into()),
+        _ => Err(NoMemory),
     }
 }
 
@@ -211,60 +164,53 @@ fn filled<L: Ledger>(
     store: &Store,
     dfa: &Dfa,
     places: &mut Steps<L>,
-) -> Result<Tables, Fail>
-    ensures { IfOk result (λ tables. count_of tables ≡ length store.now) }
-{
-    let mut tables = Tables::new(alloc, dfa);
+) -> Result<Tables, NoMemory> {
     let schedule = backwards(store)?;
+    let mut tables = Tables::new(alloc, dfa);
     fill(alloc, &mut tables, store, dfa, &schedule, places)?;
     Ok(tables)
 }
 
-/// The tables by growth.
-fn grown_tables<R: Threads + Sync, L: Ledger>(
+/// Whether two nodes have the same tables in both.
+fn are_same(left: &Tables, right: &Tables) -> bool {
+    if left.count() != 2 || right.count() != 2 {
+        return false;
+    }
+    let (first, second) = (NodeId { index: 0 }, NodeId { index: 1 });
+    left.table(first) == right.table(first) && left.table(second) == right.table(second)
+}
+
+fn same<R: Threads + Sync, L: Ledger>(
     rt: &R,
     alloc: Global,
     store: &Store,
-    dfa: &Dfa,
     places: &mut Steps<L>,
-) -> Result<Tables, NoMemory>
-    ensures { IfOk result (λ tables. count_of tables ≡ length store.now) }
-{
-    let mut tables = Tables::new(alloc, dfa);
+) -> Result<bool, NoMemory> {
+    let dfa = automaton_of(alloc, LETTERS)?;
+    let filled = filled(alloc, store, &dfa, places)?;
     let mut memory = Memory::new(alloc, 4096)?;
-    grow(
-        rt,
-        alloc,
-        &mut tables,
-        store,
-        dfa,
-        &mut memory,
-        1,
-        &OpenGate,
-        places,
-    )?;
-    Ok(tables)
+    let grown = grown(rt, alloc, store, &dfa, &mut memory, 1, &OpenGate, places)?;
+    Ok(are_same(&filled, &grown))
 }
 
 /// Whether two bytes get the same tables by growth as in an order that isn't that of their ids.
-fn agree<R: Threads + Sync, L: Ledger>(rt: &R, alloc: Global, blank: Blank) -> Result<bool, Fail>
+fn agree<R: Threads + Sync, L: Ledger>(
+    rt: &R,
+    alloc: Global,
+    blank: Blank,
+) -> Result<bool, NoMemory>
     requires name { blank.name ≡ L.name }
     requires parts { blank.parts ≡ L.parts }
     requires some { 0 < L.parts }
 {
     let mut steps = Steps::<L>::new(blank);
     let mut store = Store::new(alloc);
-    let first = store.byte(b'a')?;
-    let second = store.byte(b'x')?;
-    let dfa = automaton(alloc)?;
-    let filled = filled(alloc, &store, &dfa, &mut steps)?;
-    let grown = grown_tables(rt, alloc, &store, &dfa, &mut steps)?;
-    Ok(filled.table(first) == grown.table(first) && filled.table(second) == grown.table(second))
+    store.byte(b'a')?;
+    store.byte(b'x')?;
+    same(rt, alloc, &store, &mut steps)
 }
 
 #[test]
-fn any_order_gives_the_same(rt: HostRuntime) -> Result<(), Fail> {
-    let alloc = rt.alloc();
-    assert!(rt; agree::<HostRuntime, Brand>(&rt, alloc, Blank::new(1))?);
-    Ok(())
+fn any_order_gives_the_same(rt: HostRuntime) {
+    assert!(rt; agree::<HostRuntime, Brand>(&rt, rt.alloc(), Blank::new(1)) == Ok(true));
 }
