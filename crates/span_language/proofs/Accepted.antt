@@ -2,7 +2,7 @@
 use Rattle.std.proofs.Common.{◌≡◌, ℕ, List, Option, Some, None, length, refl, sym, ◌∙◌, ap, subst}
 use Rattle.edge_io.specs.Files.{Files}
 use Rattle.script_syntax.specs.declared.form.Command.{Command}
-use Rattle.script_syntax.specs.declared.form.Command.TheVariants.{Nothing, Text, LoadFile, LetDoc, DropDoc, Names, Show, SaveFile, OpenFile}
+use Rattle.script_syntax.specs.declared.form.Command.TheVariants.{Nothing, LoadFile, LetDoc, Show, SaveFile, OpenFile}
 use Rattle.script_syntax.specs.declared.form.Command.TheVariants as form
 use Rattle.span_types.specs.Query.{Query, Union, Join}
 use Rattle.span_types.specs.Rel.{names_of}
@@ -19,7 +19,7 @@ use Rattle.span_language.specs.Step.{Does, HasDocuments, IsRegistered, IsYesOrNo
 use Rattle.span_language.proofs.Values.{are_told, one_ok, one_value, one_within}
 use Rattle.span_language.proofs.Images.{one_image}
 use Rattle.span_language.proofs.Expressions.{one_text}
-use Rattle.span_language.proofs.Questions.{one_answer, one_asked, one_replacing}
+use Rattle.span_language.proofs.Questions.{both_asked, one_answer, one_replacing}
 use Rattle.span_language.proofs.Texts.{one_query, one_tuple}
 use Rattle.span_language.proofs.Combinations.{one_named, one_pair, one_projection}
 use Rattle.span_language.proofs.Listings.{one_choice, one_list_reply, one_listed}
@@ -33,9 +33,6 @@ no_save None file settled = settled tt
 no_save (Some all) file settled = settled file refl
 
 module _ (old : World) (r s : List ℕ) (n m : World) where
-  same : (reply : List ℕ) (new : World) → (r ≡ reply) × (n ≡ new) → (s ≡ reply) × (m ≡ new) → Same r s n m
-  same reply new h k = (h.0 ∙ sym k.0, h.1 ∙ sym k.1)
-
   -- the document is given a text
   given : (name t u : List ℕ) → t ≡ u → (r ≡ given_text name t) × HasDocuments old n (put old.state.documents name t)
       → (s ≡ given_text name u) × HasDocuments old m (put old.state.documents name u) → Same r s n m
@@ -51,72 +48,44 @@ module _ (old : World) (r s : List ℕ) (n m : World) where
   accepted : (name : List ℕ) (q : Query) → IsAccepted q × IsRegistered old n name q r → IsAccepted q × IsRegistered old m name q s → Same r s n m
   accepted name q h k = registered name q q refl h.1 k.1
 
-  loaded : (name file : List ℕ) → IsSettled old.files (LoadFile name file) → Does old (LoadFile name file) r n → Does old (LoadFile name file) s m → Same r s n m
-  loaded name file settled (b, h, reply, new) (c, k, reply2, new2) =
-      given name b c (one_within old.files file load_size b c (are_told old.files (LoadFile name file) tt settled) h k) (reply, new) (reply2, new2)
-
-  opened : (file : List ℕ) → IsSettled old.files (OpenFile file) → Does old (OpenFile file) r n → Does old (OpenFile file) s m → Same r s n m
-  opened file settled (b, d, nodes, h, holds, reply, new) (c, e, count, k, has, reply2, new2) =
-      let bytes = one_within old.files file open_size b c (are_told old.files (OpenFile file) tt settled) h k in
-      let docs = one_image b c d e nodes count bytes holds has in
-      (reply ∙ ap (λ (z : Documents). opened_text (length z)) docs ∙ sym reply2, new ∙ ap (λ (z : Documents). world (with_documents old.state z) old.files) docs ∙ sym new2)
-
-  projected : (name source keep : List ℕ) → Does old (form.ProjectQuery name source keep) r n → Does old (form.ProjectQuery name source keep) s m → Same r s n m
-  projected name source keep h k =
-      one_named old.state.queries source (λ q. HasProjection q keep (λ p. IsAccepted p × IsRegistered old n name p r)) (λ q. HasProjection q keep (λ p. IsAccepted p × IsRegistered old m name p s))
-      (Same r s n m) h k (λ q a b. one_projection q keep (λ p. IsAccepted p × IsRegistered old n name p r) (λ p. IsAccepted p × IsRegistered old m name p s) (Same r s n m) a b (accepted name))
-
-  listed : (query name : List ℕ) (word : Option (List ℕ)) (limit : ℕ) → Does old (form.List query name word limit) r n → Does old (form.List query name word limit) s m → Same r s n m
-  listed query name word limit (q, t, h, reply, new) (p, u, k, reply2, new2) =
-      let e = one_asked old query name q p t u h k in
-      (one_list_reply q t word limit r s reply (subst (λ z. IsListReply z t word limit s) (sym e.0) (subst (λ z. IsListReply p z word limit s) (sym e.1) reply2)), new ∙ sym new2)
-
-  answered : (query name : List ℕ) → Does old (form.Nonempty query name) r n → Does old (form.Nonempty query name) s m → Same r s n m
-  answered query name (q, t, h, reply, new) (p, u, k, reply2, new2) =
-      let e = one_asked old query name q p t u h k in
-      (one_answer (HasAnswer q t) r s reply (subst (λ z. IsYesOrNo (HasAnswer z t) s) (sym e.0) (subst (λ z. IsYesOrNo (HasAnswer p z) s) (sym e.1) reply2)), new ∙ sym new2)
-
-  had : (query name word : List ℕ) → Does old (form.Has query name word) r n → Does old (form.Has query name word) s m → Same r s n m
-  had query name word (q, t, x, h, text, reply, new) (p, u, y, k, text2, reply2, new2) =
-      let e = one_asked old query name q p t u h k in
-      let tuple = one_tuple p word y x text2 (subst (λ (z : Query). TupleText word (names_of z) x) e.0 text) in
-      let at_tuple = subst (λ z. IsYesOrNo (IsAnswer p u z) s) tuple reply2 in
-      (one_answer (IsAnswer q t x) r s reply (subst (λ z. IsYesOrNo (IsAnswer z t x) s) (sym e.0) (subst (λ z. IsYesOrNo (IsAnswer p z x) s) (sym e.1) at_tuple)), new ∙ sym new2)
-
-  replaced_once : (name query source by : List ℕ) → Does old (form.ReplaceDoc name query source by) r n → Does old (form.ReplaceDoc name query source by) s m → Same r s n m
-  replaced_once name query source by (q, t, w, spans, h, is, few, short, reply, new) (p, u, v, spans2, k, is2, few2, short2, reply2, new2) =
-      let e = one_replacing old query source by q p t u w v h k in
-      let chosen = one_choice q p t u spans spans2 e.0 e.1 is is2 in
-      given name (replaced t spans w) (replaced u spans2 v) (λ i. replaced (e.1 i) (chosen i) (e.2 i)) (reply, new) (reply2, new2)
-
 pub one_done : (old : World) (command : Command) (r s : List ℕ) (n m : World) → IsSettled old.files command → Does old command r n → Does old command s m → Same r s n m
-one_done old Nothing r s n m settled h k = absurd h
-one_done old (Text name bytes) r s n m settled h k = same old r s n m _ _ h k
-one_done old (LoadFile name file) r s n m settled h k = loaded old r s n m name file settled h k
+one_done old (LoadFile name file) r s n m settled (b, h, reply, new) (c, k, reply2, new2) =
+    given old r s n m name b c (one_within file load_size old.files b c (are_told old.files (LoadFile name file) tt settled) h k) (reply, new) (reply2, new2)
 one_done old (LetDoc name expr) r s n m settled (e, t, reads, value, reply, new) (f, u, reads2, value2, reply2, new2) =
     given old r s n m name t u (one_text old.state.documents expr e f t u reads reads2 value value2) (reply, new) (reply2, new2)
-one_done old (DropDoc name) r s n m settled (t, there, reply, new) (u, there2, reply2, new2) = (reply ∙ sym reply2, new ∙ sym new2)
-one_done old Names r s n m settled h k = same old r s n m _ _ h k
 one_done old (Show name i j) r s n m settled (b, is, reply, new) (c, it, reply2, new2) =
     (reply ∙ ap shown_text (one_ok (shown old.state.documents name i j) b c is it) ∙ sym reply2, new ∙ sym new2)
 one_done old (form.Query name text) r s n m settled (q, is, h) (p, it, k) = registered old r s n m name q p (one_query text q p is it) h k
-one_done old (form.Unquery name) r s n m settled (q, there, reply, new) (p, there2, reply2, new2) = (reply ∙ sym reply2, new ∙ sym new2)
 one_done old (form.UnionQuery name left right) r s n m settled h k =
     one_pair Union old.state.queries left right (λ q. IsAccepted q × IsRegistered old n name q r) (λ q. IsAccepted q × IsRegistered old m name q s) (Same r s n m) h k (accepted old r s n m name)
 one_done old (form.JoinQuery name left right) r s n m settled h k =
     one_pair Join old.state.queries left right (λ q. IsAccepted q × IsRegistered old n name q r) (λ q. IsAccepted q × IsRegistered old m name q s) (Same r s n m) h k (accepted old r s n m name)
-one_done old (form.ProjectQuery name source keep) r s n m settled h k = projected old r s n m name source keep h k
-one_done old (form.List query name word limit) r s n m settled h k = listed old r s n m query name word limit h k
-one_done old (form.Nonempty query name) r s n m settled h k = answered old r s n m query name h k
-one_done old (form.Has query name word) r s n m settled h k = had old r s n m query name word h k
+one_done old (form.ProjectQuery name source keep) r s n m settled h k =
+    let P : Query → Type 0 = λ p. IsAccepted p × IsRegistered old n name p r in
+    let R : Query → Type 0 = λ p. IsAccepted p × IsRegistered old m name p s in
+    one_named old.state.queries source (λ q. HasProjection q keep P) (λ q. HasProjection q keep R) (Same r s n m) h k
+    (λ q a b. one_projection q keep P R (Same r s n m) a b (accepted old r s n m name))
+one_done old (form.List query name word limit) r s n m settled (q, t, h, reply, new) (p, u, k, reply2, new2) =
+    (both_asked old query name q p t u (λ q t. IsListReply q t word limit r) (λ q t. IsListReply q t word limit s) (r ≡ s) h k reply reply2 (one_list_reply q t word limit r s), new ∙ sym new2)
+one_done old (form.Nonempty query name) r s n m settled (q, t, h, reply, new) (p, u, k, reply2, new2) =
+    (both_asked old query name q p t u (λ q t. IsYesOrNo (HasAnswer q t) r) (λ q t. IsYesOrNo (HasAnswer q t) s) (r ≡ s) h k reply reply2 (one_answer (HasAnswer q t) r s), new ∙ sym new2)
+one_done old (form.Has query name word) r s n m settled (q, t, x, h, text, reply, new) (p, u, y, k, text2, reply2, new2) =
+    let S : Query → List ℕ → Type 0 = λ q t. TupleText word (names_of q) y × IsYesOrNo (IsAnswer q t y) s in
+    (both_asked old query name q p t u (λ q t. IsYesOrNo (IsAnswer q t x) r) S (r ≡ s) h k reply (text2, reply2)
+    (λ a b. one_answer (IsAnswer q t x) r s a (subst (λ z. IsYesOrNo (IsAnswer q t z) s) (one_tuple q word y x b.0 text) b.1)), new ∙ sym new2)
 one_done old (SaveFile file) r s n m settled h k = absurd (no_save old.files file settled)
-one_done old (OpenFile file) r s n m settled h k = opened old r s n m file settled h k
+one_done old (OpenFile file) r s n m settled (b, d, nodes, h, holds, reply, new) (c, e, count, k, has, reply2, new2) =
+    let bytes = one_within file open_size old.files b c (are_told old.files (OpenFile file) tt settled) h k in
+    let docs = one_image b c d e nodes count bytes holds has in
+    (reply ∙ ap (λ (z : Documents). opened_text (length z)) docs ∙ sym reply2, new ∙ ap (λ (z : Documents). world (with_documents old.state z) old.files) docs ∙ sym new2)
 one_done old (form.ListAll query limit) r s n m settled (q, there, reply, new) (p, there2, reply2, new2) =
     let e = one_value (value_of old.state.queries query) p q there2 there in
     (one_listed q limit old.state.documents r s reply (subst (λ z. AreListed z limit old.state.documents s) e reply2), new ∙ sym new2)
-one_done old (form.ReplaceDoc name query source by) r s n m settled h k = replaced_once old r s n m name query source by h k
-one_done old (form.MarkDocs name) r s n m settled h k = same old r s n m _ _ h k
-one_done old (form.UnmarkDocs name) r s n m settled (d, there, reply, new) (e, there2, reply2, new2) = (reply ∙ sym reply2, new ∙ sym new2)
+one_done old (form.ReplaceDoc name query source by) r s n m settled (q, t, w, spans, h, is, few, short, reply, new) (p, u, v, spans2, k, is2, few2, short2, reply2, new2) =
+    let e = one_replacing old query source by q p t u w v h k in
+    let chosen = one_choice q p t u spans spans2 e.0 e.1 is is2 in
+    given old r s n m name (replaced t spans w) (replaced u spans2 v) (λ i. replaced (e.1 i) (chosen i) (e.2 i)) (reply, new) (reply2, new2)
 one_done old (form.BackDocs name) r s n m settled (d, there, reply, new) (e, there2, reply2, new2) =
     (reply ∙ sym reply2, new ∙ ap (λ (z : Documents). world (with_documents old.state z) old.files) (one_value (value_of old.state.versions name) d e there there2) ∙ sym new2)
-one_done old form.Compact r s n m settled h k = same old r s n m _ _ h k
+one_done old Nothing r s n m settled h k = absurd h
+one_done old _ r s n m settled h k = (cc, cc)

@@ -15,12 +15,6 @@ use Rattle.span_language.specs.declared.told.Told.TheVariants.{Quiet, Accepted, 
 use Rattle.span_language.proofs.Accepted.{one_done}
 use Rattle.span_language.proofs.Refused.{one_refusal, refused_once}
 
-nothing_done : (old : World) (command : Command) (r : List ℕ) (n : World) → command ≡ Nothing → Does old command r n → ⊥
-nothing_done old command r n e h = subst (λ (c : Command). Does old c r n) e h
-
-nothing_refused : (old : World) (command : Command) (why : Refusal) → command ≡ Nothing → IsRefused old command why → ⊥
-nothing_refused old command why e h = subst (λ (c : Command). IsRefused old c why) e h
-
 -- one telling, one reply and one world
 abbrev pub IsOne : Told → Told → List ℕ → List ℕ → World → World → Type 0
 IsOne told told2 r s n m = (told ≡ told2) × (r ≡ s) × (n ≡ m)
@@ -28,12 +22,12 @@ IsOne told told2 r s n m = (told ≡ told2) × (r ≡ s) × (n ≡ m)
 one_carry : (old : World) (number : ℕ) (command : Command) (told told2 : Told) (r s : List ℕ) (n m : World) → IsSettled old.files command
     → Carries old number command told r n → Carries old number command told2 s m → IsOne told told2 r s n m
 one_carry old number command Quiet Quiet r s n m settled h k = (refl, h.1 ∙ sym k.1, h.2 ∙ sym k.2)
-one_carry old number command Quiet Accepted r s n m settled h k = absurd (nothing_done old command s m h.0 k)
-one_carry old number command Quiet Refused r s n m settled h (why, k, reply, new) = absurd (nothing_refused old command why h.0 k)
-one_carry old number command Accepted Quiet r s n m settled h k = absurd (nothing_done old command r n k.0 h)
+one_carry old number command Quiet Accepted r s n m settled h k = absurd (subst (λ (c : Command). Does old c s m) h.0 k)
+one_carry old number command Quiet Refused r s n m settled h (why, k, reply, new) = absurd (subst (λ (c : Command). IsRefused old c why) h.0 k)
+one_carry old number command Accepted Quiet r s n m settled h k = absurd (subst (λ (c : Command). Does old c r n) k.0 h)
 one_carry old number command Accepted Accepted r s n m settled h k = let e = one_done old command r s n m settled h k in (refl, e.0, e.1)
 one_carry old number command Accepted Refused r s n m settled h (why, k, reply, new) = absurd (refused_once old command r n why settled h k)
-one_carry old number command Refused Quiet r s n m settled (why, h, reply, new) k = absurd (nothing_refused old command why k.0 h)
+one_carry old number command Refused Quiet r s n m settled (why, h, reply, new) k = absurd (subst (λ (c : Command). IsRefused old c why) k.0 h)
 one_carry old number command Refused Accepted r s n m settled (why, h, reply, new) k = absurd (refused_once old command s m why settled k h)
 one_carry old number command Refused Refused r s n m settled (why, h, reply, new) (other, k, reply2, new2) =
     (refl, reply ∙ ap (refusal_text number) (one_refusal old command why other settled h k) ∙ sym reply2, new ∙ sym new2)

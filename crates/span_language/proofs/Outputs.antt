@@ -2,9 +2,8 @@
 use Rattle.std.proofs.Common.{◌≡◌, ◌||◌, ℕ, ◌+◌, List, [], ◌∷◌, ◌++◌, Option, Some, None, sym, ◌∙◌, ap, subst}
 use Rattle.edge_io.specs.Files.{Files}
 use Rattle.script_syntax.specs.declared.form.Command.{Command}
-use Rattle.script_syntax.specs.declared.form.Command.TheVariants.{Nothing, Text, LoadFile, LetDoc, DropDoc, Names, Show, SaveFile, OpenFile}
-use Rattle.script_syntax.specs.declared.form.Command.TheVariants as form
-use Rattle.span_language.specs.State.{State, World, world}
+use Rattle.script_syntax.specs.declared.form.Command.TheVariants.{Nothing, SaveFile}
+use Rattle.span_language.specs.State.{World}
 use Rattle.span_language.specs.Step.{Carries, Does}
 use Rattle.span_language.specs.Means.{Step}
 use Rattle.span_language.specs.Runs.{Adds, Runs, Sum, is_refused}
@@ -14,45 +13,19 @@ use Rattle.span_language.specs.declared.told.Told.TheVariants.{Quiet, Accepted, 
 use Rattle.span_language.proofs.Accepted.{no_save}
 use Rattle.span_language.proofs.Lines.{one_line}
 
-files_of : (old new : World) (state : State) → new ≡ world state old.files → new.files ≡ old.files
-files_of old new state e = ap (λ (w : World). w.files) e
-
-same_files : (old new : World) → new ≡ old → new.files ≡ old.files
-same_files old new e = ap (λ (w : World). w.files) e
-
 done_keeps : (old : World) (command : Command) (r : List ℕ) (n : World) → IsSettled old.files command → Does old command r n → n.files ≡ old.files
 done_keeps old Nothing r n settled h = absurd h
-done_keeps old (Text name bytes) r n settled h = files_of old n _ h.1
-done_keeps old (LoadFile name file) r n settled h = files_of old n _ h.3
-done_keeps old (LetDoc name expr) r n settled h = files_of old n _ h.5
-done_keeps old (DropDoc name) r n settled h = files_of old n _ h.3
-done_keeps old Names r n settled h = same_files old n h.1
-done_keeps old (Show name i j) r n settled h = same_files old n h.3
-done_keeps old (form.Query name text) r n settled h = files_of old n _ h.2.1
-done_keeps old (form.Unquery name) r n settled h = files_of old n _ h.3
-done_keeps old (form.UnionQuery name left right) r n settled h = files_of old n _ h.holds.holds.1.1
-done_keeps old (form.JoinQuery name left right) r n settled h = files_of old n _ h.holds.holds.1.1
-done_keeps old (form.ProjectQuery name source keep) r n settled h = files_of old n _ h.holds.3.1.1
-done_keeps old (form.List query name word limit) r n settled h = same_files old n h.4
-done_keeps old (form.Nonempty query name) r n settled h = same_files old n h.4
-done_keeps old (form.Has query name word) r n settled h = same_files old n h.6
 done_keeps old (SaveFile file) r n settled h = absurd (no_save old.files file settled)
-done_keeps old (OpenFile file) r n settled h = files_of old n _ h.6
-done_keeps old (form.ListAll query limit) r n settled h = same_files old n h.3
-done_keeps old (form.ReplaceDoc name query source by) r n settled h = files_of old n _ h.9
-done_keeps old (form.MarkDocs name) r n settled h = files_of old n _ h.1
-done_keeps old (form.UnmarkDocs name) r n settled h = files_of old n _ h.3
-done_keeps old (form.BackDocs name) r n settled h = files_of old n _ h.3
-done_keeps old form.Compact r n settled h = same_files old n h.1
+done_keeps old _ r n settled h = cc
 
 carry_keeps : (old : World) (number : ℕ) (command : Command) (told : Told) (r : List ℕ) (n : World) → IsSettled old.files command → Carries old number command told r n → n.files ≡ old.files
-carry_keeps old number command Quiet r n settled h = same_files old n h.2
+carry_keeps old number command Quiet r n settled h = ap (λ (w : World). w.files) h.2
 carry_keeps old number command Accepted r n settled h = done_keeps old command r n settled h
-carry_keeps old number command Refused r n settled h = same_files old n h.3
+carry_keeps old number command Refused r n settled h = ap (λ (w : World). w.files) h.3
 
 step_keeps : (old : World) (number : ℕ) (line : List ℕ) (told : Told) (r : List ℕ) (n : World) → IsSettledLine old.files line → Step old number line told r n → n.files ≡ old.files
 step_keeps old number line told r n settled (Some command, means, h) = carry_keeps old number command told r n (settled command means) h
-step_keeps old number line told r n settled (None, means, h) = same_files old n h.2
+step_keeps old number line told r n settled (None, means, h) = ap (λ (w : World). w.files) h.2
 
 step_of : (old : World) (number : ℕ) (line : List ℕ) (sum : Sum) (new : World) → (h : Adds old number line sum new) → Step old number line h.told sum.output new
 step_of old number line sum new h = (h.meaning, h.means, h.carried)

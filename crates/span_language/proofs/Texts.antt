@@ -1,15 +1,15 @@
 -- What the texts of a query, of a tuple and of kept variables say is one.
 use Rattle.std.proofs.Common.{◌≡◌, ℕ, List, [], ◌∷◌, ◌++◌, Option, Some, None, refl, sym, ◌∙◌, ap, subst, inl, inr, codes, arith}
 use Rattle.line_parts.specs.NameList.{AreNames, IsName, with_commas}
-use Rattle.line_parts.proofs.Cuts.{NoByte, name_plain, no_cut, one_cut}
+use Rattle.line_parts.proofs.Cuts.{NoByte, from_test, no_cut, not_true, one_cut}
 use Rattle.line_parts.proofs.Names.{name_no_comma}
-use Rattle.span_types.specs.FormulaTree.{FormulaTree}
 use Rattle.span_types.specs.Query.{Query, Leaf}
+use Rattle.span_types.specs.FormulaTree.{FormulaTree}
 use Rattle.span_types.specs.Rel.{names_of}
 use Rattle.span_enum.specs.Members.{Tuple}
 use Rattle.formula_syntax.specs.FormulaOf.{Formula, FormulaOf, Outcome}
 use Rattle.formula_syntax.specs.FormulaOf as formula
-use Rattle.formula_syntax.proofs.Outcomes.{is-outcome}
+use Rattle.formula_syntax.proofs.Outcomes.{has-outcome, is-outcome, outcome}
 use Rattle.query_book.specs.Keeping.{IsVarsText}
 use Rattle.query_book.specs.Occurrences.{CountIsAbove}
 use Rattle.query_book.specs.Registering.{IsQueryOf}
@@ -17,24 +17,16 @@ use Rattle.span_cursor.specs.Tuples.{TupleText}
 use Rattle.span_cursor.proofs.TupleLemmas.{one_tuple_of}
 use Rattle.report_text.specs.declared.refusal.Refusal.{Refusal}
 use Rattle.report_text.specs.declared.refusal.Refusal.TheVariants as why
-use Rattle.span_language.specs.Cursors.{IsCursorOf, IsCursorRefused, IsTupleRefused}
+use Rattle.span_language.specs.Cursors.{IsCursorOf, IsCursorRefused}
 use Rattle.span_language.specs.Step.{IsTextRefused}
 
 abbrev Name : Type 0
 Name = List ℕ
 
-first_byte : (a b : ℕ) (xs ys : List ℕ) → a ∷ xs ≡ b ∷ ys → a ≡ b
-first_byte a b xs ys e = cc
-
 -- no list of names is a pair of brackets
 no_brackets : (name : Name) (names : List Name) → IsName name → codes "()" ≡ with_commas name names → ⊥
-no_brackets name names named e = by name names (name_plain 40 name refl named) e
-  where
-    by : (name : Name) (names : List Name) → NoByte 40 name → codes "()" ≡ with_commas name names → ⊥
-    by [] [] plain e = let bad : ⊥ = cc in bad
-    by [] (next ∷ names) plain e = let same = first_byte 40 44 (codes ")") (with_commas next names) e in omega (arith, same)
-    by (b ∷ bs) [] plain e = plain.0 (first_byte b 40 bs (codes ")") (sym e))
-    by (b ∷ bs) (next ∷ names) plain e = plain.0 (first_byte b 40 (bs ++ 44 ∷ with_commas next names) (codes ")") (sym e))
+no_brackets name [] named e = not_true (subst IsName (sym e) named)
+no_brackets name (next ∷ names) named e = no_cut 44 name (with_commas next names) (subst (NoByte 44) e (from_test 44 (codes "()") refl))
 
 one_listed : (n m : Name) (ns ms : List Name) → AreNames (n ∷ ns) → AreNames (m ∷ ms) → with_commas n ns ≡ with_commas m ms → n ∷ ns ≡ m ∷ ms
 one_listed n m [] [] h k e = ap (λ (z : Name). z ∷ []) e
@@ -51,31 +43,25 @@ one_names text [] (m ∷ ms) h k = absurd (no_brackets m ms k.0.0 (sym h ∙ k.1
 one_names text (n ∷ ns) [] h k = absurd (no_brackets n ns h.0.0 (sym k ∙ h.1))
 one_names text (n ∷ ns) (m ∷ ms) h k = one_listed n m ns ms h.0 k.0 (sym h.1 ∙ k.1)
 
--- the text has other names than its own, or is none
-pub tuple_once : (q : Query) (word : List ℕ) (tuple : Tuple) (r : Refusal) → TupleText word (names_of q) tuple → IsTupleRefused q word r → ⊥
-tuple_once q word tuple r h (inl k) = k.0 (names_of q, tuple, h)
-tuple_once q word tuple r h (inr ((names, values, text, other), is)) = other (one_tuple_of word names (names_of q) values tuple text h).0
-
 pub one_tuple : (q : Query) (word : List ℕ) (t u : Tuple) → TupleText word (names_of q) t → TupleText word (names_of q) u → t ≡ u
 one_tuple q word t u h k = (one_tuple_of word (names_of q) (names_of q) t u h k).1
-
-pub one_tuple_refusal : (q : Query) (word : List ℕ) (r s : Refusal) → IsTupleRefused q word r → IsTupleRefused q word s → r ≡ s
-one_tuple_refusal q word r s (inl h) (inl k) = h.1 ∙ sym k.1
-one_tuple_refusal q word r s (inl h) (inr ((names, values, text, other), is)) = absurd (h.0 (names, values, text))
-one_tuple_refusal q word r s (inr ((names, values, text, other), is)) (inl k) = absurd (k.0 (names, values, text))
-one_tuple_refusal q word r s (inr h) (inr k) = h.1 ∙ sym k.1
 
 pub one_cursor : (q : Query) (after : Option (List ℕ)) (c d : Option Tuple) → IsCursorOf q after c → IsCursorOf q after d → c ≡ d
 one_cursor q None c d h k = h ∙ sym k
 one_cursor q (Some word) c d (t, h, e) (u, k, f) = e ∙ ap Some (one_tuple q word t u h k) ∙ sym f
 
+-- the text has other names than its own, or is none
 pub cursor_once : (q : Query) (after : Option (List ℕ)) (c : Option Tuple) (r : Refusal) → IsCursorOf q after c → IsCursorRefused q after r → ⊥
 cursor_once q None c r h k = k
-cursor_once q (Some word) c r (t, h, e) k = tuple_once q word t r h k
+cursor_once q (Some word) c r (t, h, e) (inl k) = k.0 (names_of q, t, h)
+cursor_once q (Some word) c r (t, h, e) (inr ((names, values, text, other), is)) = other (one_tuple_of word names (names_of q) values t text h).0
 
 pub one_cursor_refusal : (q : Query) (after : Option (List ℕ)) (r s : Refusal) → IsCursorRefused q after r → IsCursorRefused q after s → r ≡ s
 one_cursor_refusal q None r s h k = absurd h
-one_cursor_refusal q (Some word) r s h k = one_tuple_refusal q word r s h k
+one_cursor_refusal q (Some word) r s (inl h) (inl k) = h.1 ∙ sym k.1
+one_cursor_refusal q (Some word) r s (inl h) (inr ((names, values, text, other), is)) = absurd (h.0 (names, values, text))
+one_cursor_refusal q (Some word) r s (inr ((names, values, text, other), is)) (inl k) = absurd (k.0 (names, values, text))
+one_cursor_refusal q (Some word) r s (inr h) (inr k) = h.1 ∙ sym k.1
 
 one_outcome : (s : List ℕ) (o p : Outcome) → FormulaOf s o → FormulaOf s p → o ≡ p
 one_outcome s o p h k = is-outcome s o h ∙ sym (is-outcome s p k)
@@ -102,29 +88,24 @@ tells_one : (o : Outcome) (r s : Refusal) → Tells o r → Tells o s → r ≡ 
 tells_one (Formula f names) r s h k = h.1 ∙ sym k.1
 tells_one _ r s h k = h ∙ sym k
 
-record Refuses (s : List ℕ) (r : Refusal) : Type 0 where
-  outcome : Outcome
-  of : FormulaOf s outcome
-  tells : Tells outcome r
-
-refuses : (s : List ℕ) (r : Refusal) → IsTextRefused s r → Refuses s r
-refuses s (why.FormulaTooLong len) h = record { outcome = formula.TooLong len; of = h; tells = refl }
-refuses s why.BadFormula h = record { outcome = formula.BadText; of = h; tells = refl }
-refuses s why.TooDeep h = record { outcome = formula.TooDeep; of = h; tells = refl }
-refuses s why.TooManyPositions h = record { outcome = formula.TooManyPositions; of = h; tells = refl }
-refuses s why.TooManyVariables h = record { outcome = formula.TooManyVariables; of = h; tells = refl }
-refuses s (why.NotFunctional name) h = record { outcome = formula.NotFunctional name; of = h; tells = refl }
-refuses s why.TooManyStates h = record { outcome = Formula h.formula h.names; of = h.outcome; tells = (h.many, refl) }
-refuses s _ h = absurd h
-
-pub one_text_refusal : (s : List ℕ) (r t : Refusal) → IsTextRefused s r → IsTextRefused s t → r ≡ t
-one_text_refusal s r t h k = by (refuses s r h) (refuses s t k)
+-- the refusal of a text is told by each outcome of it
+tells : (s : List ℕ) (p : Outcome) (r : Refusal) → FormulaOf s p → IsTextRefused s r → Tells p r
+tells s p r of h = by r h
   where
-    by : Refuses s r → Refuses s t → r ≡ t
-    by a b = tells_one b.outcome r t (subst (λ o. Tells o r) (one_outcome s a.outcome b.outcome a.of b.of) a.tells) b.tells
+    at : (o : Outcome) (r : Refusal) → FormulaOf s o → Tells o r → Tells p r
+    at o r h is = subst (λ z. Tells z r) (one_outcome s o p h of) is
+    by : (r : Refusal) → IsTextRefused s r → Tells p r
+    by (why.FormulaTooLong len) h = at (formula.TooLong len) (why.FormulaTooLong len) h refl
+    by why.BadFormula h = at formula.BadText why.BadFormula h refl
+    by why.TooDeep h = at formula.TooDeep why.TooDeep h refl
+    by why.TooManyPositions h = at formula.TooManyPositions why.TooManyPositions h refl
+    by why.TooManyVariables h = at formula.TooManyVariables why.TooManyVariables h refl
+    by (why.NotFunctional name) h = at (formula.NotFunctional name) (why.NotFunctional name) h refl
+    by why.TooManyStates h = at (Formula h.formula h.names) why.TooManyStates h.outcome (h.many, refl)
+    by _ h = absurd h
 
 pub text_once : (s : List ℕ) (q : Query) (r : Refusal) → IsQueryOf s q → IsTextRefused s r → ⊥
-text_once s q r h k = by (refuses s r k)
-  where
-    by : Refuses s r → ⊥
-    by a = h.few (subst (λ o. Tells o r) (one_outcome s a.outcome (Formula h.formula h.names) a.of h.outcome) a.tells).0
+text_once s q r h k = h.few (tells s (Formula h.formula h.names) r h.outcome k).0
+
+pub one_text_refusal : (s : List ℕ) (r t : Refusal) → IsTextRefused s r → IsTextRefused s t → r ≡ t
+one_text_refusal s r t h k = tells_one (outcome s) r t (tells s (outcome s) r (has-outcome s) h) (tells s (outcome s) t (has-outcome s) k)
