@@ -1,21 +1,10 @@
 -- An accepted command has one reply and leaves one world.
 use Rattle.std.proofs.Common.{◌≡◌, ℕ, List, Option, Some, None, length, refl, sym, ◌∙◌, ap, subst}
-use Rattle.edge_io.specs.Files.{Files}
-use Rattle.script_syntax.specs.declared.form.Command.{Command}
-use Rattle.script_syntax.specs.declared.form.Command.TheVariants.{Nothing, LoadFile, LetDoc, Show, SaveFile, OpenFile}
+use Rattle.span_language.proofs.Names.{AreListed, Command, Documents, Does, Files, given_text, HasAnswer, HasDocuments, HasProjection, IsAccepted, IsAnswer}
+use Rattle.span_language.proofs.Names.{IsListReply, IsRegistered, IsSettled, IsYesOrNo, Join, LetDoc, load_size, LoadFile, names_of, Nothing, open_size, opened_text}
+use Rattle.span_language.proofs.Names.{OpenFile, put, Query, query_text, replaced, SaveFile, Show, shown, shown_text, TupleText, Union, value_of, with_documents}
+use Rattle.span_language.proofs.Names.{with_queries, World, world}
 use Rattle.script_syntax.specs.declared.form.Command.TheVariants as form
-use Rattle.span_types.specs.Query.{Query, Union, Join}
-use Rattle.span_types.specs.Rel.{names_of}
-use Rattle.span_cursor.specs.Tuples.{TupleText}
-use Rattle.query_book.specs.Answers.{HasAnswer, IsAnswer}
-use Rattle.query_book.specs.Combining.{HasProjection, IsAccepted}
-use Rattle.report_text.specs.Reply.{opened_text, query_text, shown_text}
-use Rattle.span_replace.specs.Replaced.{replaced}
-use Rattle.span_language.specs.State.{Documents, World, put, value_of, with_documents, with_queries, world}
-use Rattle.span_language.specs.Laws.{IsSettled}
-use Rattle.span_language.specs.Listed.{AreListed, IsListReply}
-use Rattle.span_language.specs.Replies.{given_text, shown}
-use Rattle.span_language.specs.Step.{Does, HasDocuments, IsRegistered, IsYesOrNo, load_size, open_size}
 use Rattle.span_language.proofs.Values.{are_told, one_ok, one_value, one_within}
 use Rattle.span_language.proofs.Images.{one_image}
 use Rattle.span_language.proofs.Expressions.{one_text}
@@ -70,9 +59,11 @@ one_done old (form.List query name word limit) r s n m settled (q, t, h, reply, 
 one_done old (form.Nonempty query name) r s n m settled (q, t, h, reply, new) (p, u, k, reply2, new2) =
     (both_asked old query name q p t u (λ q t. IsYesOrNo (HasAnswer q t) r) (λ q t. IsYesOrNo (HasAnswer q t) s) (r ≡ s) h k reply reply2 (one_answer (HasAnswer q t) r s), new ∙ sym new2)
 one_done old (form.Has query name word) r s n m settled (q, t, x, h, text, reply, new) (p, u, y, k, text2, reply2, new2) =
-    let S : Query → List ℕ → Type 0 = λ q t. TupleText word (names_of q) y × IsYesOrNo (IsAnswer q t y) s in
-    (both_asked old query name q p t u (λ q t. IsYesOrNo (IsAnswer q t x) r) S (r ≡ s) h k reply (text2, reply2)
-    (λ a b. one_answer (IsAnswer q t x) r s a (subst (λ z. IsYesOrNo (IsAnswer q t z) s) (one_tuple q word y x b.0 text) b.1)), new ∙ sym new2)
+    let S : Query → List ℕ → Type 0 = λ q t. TupleText word (names_of q) y × IsYesOrNo (IsAnswer q t y) s in (
+      both_asked old query name q p t u (λ q t. IsYesOrNo (IsAnswer q t x) r) S (r ≡ s) h k reply (text2, reply2)
+          (λ a b. one_answer (IsAnswer q t x) r s a (subst (λ z. IsYesOrNo (IsAnswer q t z) s) (one_tuple q word y x b.0 text) b.1)),
+      new ∙ sym new2,
+    )
 one_done old (SaveFile file) r s n m settled h k = absurd (no_save old.files file settled)
 one_done old (OpenFile file) r s n m settled (b, d, nodes, h, holds, reply, new) (c, e, count, k, has, reply2, new2) =
     let bytes = one_within file open_size old.files b c (are_told old.files (OpenFile file) tt settled) h k in

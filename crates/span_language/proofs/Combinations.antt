@@ -1,16 +1,9 @@
 -- A query that is made of others is one, or has one first refusal.
 use Rattle.std.proofs.Common.{◌≡◌, ◌⊎◌, ℕ, List, None, sym, ◌∙◌, ap, subst, inl, inr, arith}
-use Rattle.span_types.specs.Query.{Query, Project}
-use Rattle.span_types.specs.Rel.{names_of}
-use Rattle.query_book.specs.Answers.{IsNamed}
-use Rattle.query_book.specs.Combining.{HasPair, HasProjection, IsAbsent, IsAccepted, IsPairRefused, IsPast, IsProjectRefused, IsProjectionPast}
-use Rattle.query_book.specs.Keeping.{HasOther, IsVarsText}
-use Rattle.query_book.specs.declared.refusal.CombineRefusal.{CombineRefusal}
+use Rattle.span_language.proofs.Names.{CombineRefusal, HasOther, HasPair, HasProjection, IsAbsent, IsAccepted, IsCombineRefusal, IsNamed, IsPairRefused, IsPast}
+use Rattle.span_language.proofs.Names.{IsProjectionPast, IsProjectRefused, IsUncombined, IsVarsText, Named, names_of, NoSuchQuery, Project, Query, QueryTooLarge}
+use Rattle.span_language.proofs.Names.{Refusal, value_of}
 use Rattle.query_book.specs.declared.refusal.CombineRefusal.TheVariants as combine
-use Rattle.report_text.specs.declared.refusal.Refusal.{Refusal}
-use Rattle.report_text.specs.declared.refusal.Refusal.TheVariants.{NoSuchQuery, QueryTooLarge}
-use Rattle.span_language.specs.State.{Named, value_of}
-use Rattle.span_language.specs.Step.{IsCombineRefusal, IsUncombined}
 use Rattle.span_language.proofs.Texts.{one_names}
 use Rattle.span_language.proofs.Values.{one_value, no_value}
 

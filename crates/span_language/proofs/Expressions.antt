@@ -1,15 +1,7 @@
 -- An expression has one value, or one first refusal.
 use Rattle.std.proofs.Common.{◌≡◌, ℕ, List, sym, ◌∙◌, subst}
-use Rattle.std.specs.Prelude.{Result, Ok, Err}
-use Rattle.edit_expr.specs.declared.expr.Expr.{Expr}
-use Rattle.edit_expr.specs.declared.refusal.EditRefusal.{EditRefusal}
+use Rattle.span_language.proofs.Names.{Documents, EditRefusal, Err, eval, Expr, ExprReads, IsEditRefusal, Ok, one_expression, Refusal, Result}
 use Rattle.edit_expr.specs.declared.refusal.EditRefusal.TheVariants as edit
-use Rattle.edit_expr.specs.Eval.{eval}
-use Rattle.edit_expr.specs.Expressions.{ExprReads}
-use Rattle.edit_expr.proofs.MeaningLemmas.{one_expression}
-use Rattle.report_text.specs.declared.refusal.Refusal.{Refusal}
-use Rattle.span_language.specs.State.{Documents}
-use Rattle.span_language.specs.Replies.{IsEditRefusal}
 use Rattle.span_language.proofs.Values.{not_both, one_err, one_ok}
 
 same_refusal : (r : EditRefusal) (why other : Refusal) → IsEditRefusal r why → IsEditRefusal r other → why ≡ other

@@ -1,11 +1,6 @@
 -- An image holds one list of documents, or has one first fault.
 use Rattle.std.proofs.Common.{◌≡◌, ℕ, List, Some, sym, ap, subst}
-use Rattle.std.specs.Prelude.{Ok, Err}
-use Rattle.slp_image.specs.Fields.{kind_of}
-use Rattle.slp_image.specs.Image.{Meaning, image}
-use Rattle.slp_image.specs.declared.refusal.ImageRefusal.{ImageRefusal}
-use Rattle.span_language.specs.State.{Documents}
-use Rattle.span_language.specs.Step.{IsFaulty}
+use Rattle.span_language.proofs.Names.{Documents, Err, image, ImageRefusal, IsFaulty, kind_of, Meaning, Ok}
 use Rattle.span_language.proofs.Values.{not_both, one_err, one_ok, one_value}
 
 -- the bytes hold these documents, with so many nodes

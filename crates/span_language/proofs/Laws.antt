@@ -1,9 +1,6 @@
 -- The laws of the language.
 use Rattle.std.proofs.Common.{◌≡◌, ℕ, List, Some, None}
-use Rattle.span_language.specs.State.{World}
-use Rattle.span_language.specs.Means.{Step}
-use Rattle.span_language.specs.Laws.{ChangesNothing}
-use Rattle.span_language.specs.declared.told.Told.TheVariants.{Quiet, Refused}
+use Rattle.span_language.proofs.Names.{ChangesNothing, Quiet, Refused, Step, World}
 
 refused : (old : World) (number : ℕ) (line reply : List ℕ) (new : World) → Step old number line Refused reply new → new ≡ old
 refused old number line reply new (Some command, means, h) = h.3

@@ -1,3 +1,4 @@
+mod Names
 pub mod Laws
 pub mod Values
 pub mod Images

@@ -1,17 +1,7 @@
 -- A line has one reply, unless it is a `save`.
 use Rattle.std.proofs.Common.{◌≡◌, ℕ, List, Option, Some, None, refl, sym, ◌∙◌, ap, subst}
-use Rattle.script_syntax.specs.Syntax.{LineText}
-use Rattle.script_syntax.specs.declared.form.Command.{Command}
-use Rattle.script_syntax.specs.declared.form.Command.TheVariants.{Nothing, SaveFile}
-use Rattle.script_syntax.proofs.OneLine.{one_command_of}
-use Rattle.report_text.specs.Reply.{refusal_text}
-use Rattle.report_text.specs.declared.refusal.Refusal.{Refusal}
-use Rattle.span_language.specs.State.{World}
-use Rattle.span_language.specs.Step.{Carries, Does, IsRefused}
-use Rattle.span_language.specs.Means.{Carried, Means, Step}
-use Rattle.span_language.specs.Laws.{HasOneReply, IsSettled, IsSettledLine, Saves}
-use Rattle.span_language.specs.declared.told.Told.{Told}
-use Rattle.span_language.specs.declared.told.Told.TheVariants.{Quiet, Accepted, Refused}
+use Rattle.span_language.proofs.Names.{Accepted, Carried, Carries, Command, Does, HasOneReply, IsRefused, IsSettled, IsSettledLine, LineText, Means, one_command_of}
+use Rattle.span_language.proofs.Names.{Quiet, refusal_text, Refused, SaveFile, Saves, Step, Told, World}
 use Rattle.span_language.proofs.Accepted.{one_done}
 use Rattle.span_language.proofs.Refused.{one_refusal, refused_once}
 

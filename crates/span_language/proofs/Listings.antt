@@ -1,16 +1,7 @@
 -- A listing has one reply, and the spans that are chosen are one list.
 use Rattle.std.proofs.Common.{◌≡◌, ℕ, Bool, List, [], ◌∷◌, ◌++◌, Option, None, sym, ◌∙◌, ap, subst}
-use Rattle.span_types.specs.Query.{Query}
-use Rattle.span_types.specs.Rel.{IsAnswersOf, names_of}
-use Rattle.span_types.specs.Answers.{IsPage}
-use Rattle.span_types.specs.declared.tuple.Span.{Span}
-use Rattle.span_types.proofs.LeafLaws.{one-query-list}
-use Rattle.span_types.proofs.PageLaws.{one-page}
-use Rattle.span_enum.specs.Members.{Tuple}
-use Rattle.span_replace.specs.Chosen.{chosen}
-use Rattle.span_language.specs.State.{Documents}
-use Rattle.span_language.specs.Listed.{AreListed, IsListReply, IsPageOf, doc_line, page_text}
-use Rattle.span_language.specs.Step.{IsChosenOf}
+use Rattle.span_language.proofs.Names.{AreListed, chosen, doc_line, Documents, IsAnswersOf, IsChosenOf, IsListReply, IsPage, IsPageOf, names_of, one-page}
+use Rattle.span_language.proofs.Names.{one-query-list, page_text, Query, Span, Tuple}
 use Rattle.span_language.proofs.Texts.{one_cursor}
 
 one_page_of : (q : Query) (s : List ℕ) (c d : Option Tuple) (n : ℕ) (page other : List Tuple) (more less : Bool) → c ≡ d

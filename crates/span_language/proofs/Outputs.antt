@@ -1,15 +1,7 @@
 -- A list of lines has one output, unless a `save` is among them.
 use Rattle.std.proofs.Common.{◌≡◌, ◌||◌, ℕ, ◌+◌, List, [], ◌∷◌, ◌++◌, Option, Some, None, sym, ◌∙◌, ap, subst}
-use Rattle.edge_io.specs.Files.{Files}
-use Rattle.script_syntax.specs.declared.form.Command.{Command}
-use Rattle.script_syntax.specs.declared.form.Command.TheVariants.{Nothing, SaveFile}
-use Rattle.span_language.specs.State.{World}
-use Rattle.span_language.specs.Step.{Carries, Does}
-use Rattle.span_language.specs.Means.{Step}
-use Rattle.span_language.specs.Runs.{Adds, Runs, Sum, is_refused}
-use Rattle.span_language.specs.Laws.{AreSettled, HasOneOutput, IsSettled, IsSettledLine}
-use Rattle.span_language.specs.declared.told.Told.{Told}
-use Rattle.span_language.specs.declared.told.Told.TheVariants.{Quiet, Accepted, Refused}
+use Rattle.span_language.proofs.Names.{Accepted, Adds, AreSettled, Carries, Command, Does, Files, HasOneOutput, is_refused, IsSettled, IsSettledLine, Nothing, Quiet}
+use Rattle.span_language.proofs.Names.{Refused, Runs, SaveFile, Step, Sum, Told, World}
 use Rattle.span_language.proofs.Accepted.{no_save}
 use Rattle.span_language.proofs.Lines.{one_line}
 

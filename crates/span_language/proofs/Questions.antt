@@ -1,10 +1,6 @@
 -- A question is asked of one query and one text, or has one first refusal.
-use Rattle.std.proofs.Common.{◌≡◌, ℕ, List, length, subst, arith}
-use Rattle.span_types.specs.Query.{Query}
-use Rattle.span_types.specs.Rel.{names_of}
-use Rattle.report_text.specs.declared.refusal.Refusal.{Refusal}
-use Rattle.span_language.specs.State.{World, value_of}
-use Rattle.span_language.specs.Step.{IsAsked, IsReplacing, IsUnasked, IsUnreplaced, IsYesOrNo}
+use Rattle.std.proofs.Common.{◌≡◌, ℕ, List, subst, arith}
+use Rattle.span_language.proofs.Names.{IsAsked, IsReplacing, IsUnasked, IsUnreplaced, IsYesOrNo, Query, Refusal, value_of, World}
 use Rattle.span_language.proofs.Values.{one_value}
 
 module _ (old : World) (query name : List ℕ) where

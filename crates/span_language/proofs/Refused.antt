@@ -1,19 +1,9 @@
 -- A command is accepted or has one first refusal.
 use Rattle.std.proofs.Common.{◌≡◌, ◌<◌, ◌≤◌, ◌^◌, ◌⊎◌, ℕ, List, Option, Some, None, length, refl, sym, ◌∙◌, ap, subst, inl, inr, arith}
-use Rattle.script_syntax.specs.declared.form.Command.{Command}
-use Rattle.script_syntax.specs.declared.form.Command.TheVariants.{LoadFile, LetDoc, Show, OpenFile}
+use Rattle.span_language.proofs.Names.{BadImage, Command, Does, IsAsked, IsCursorOf, IsCursorRefused, IsRefused, IsRegistered, IsSettled, Join, LetDoc, load_size}
+use Rattle.span_language.proofs.Names.{LoadFile, most_spans, open_size, OpenFile, Query, Refusal, replaced, Show, shown, Span, TooLong, TooManyMatches, Tuple, Union}
+use Rattle.span_language.proofs.Names.{value_of, World}
 use Rattle.script_syntax.specs.declared.form.Command.TheVariants as form
-use Rattle.span_types.specs.Query.{Query, Union, Join}
-use Rattle.span_types.specs.declared.tuple.Span.{Span}
-use Rattle.span_enum.specs.Members.{Tuple}
-use Rattle.report_text.specs.declared.refusal.Refusal.{Refusal}
-use Rattle.report_text.specs.declared.refusal.Refusal.TheVariants.{BadImage, TooLong, TooManyMatches}
-use Rattle.span_replace.specs.Replaced.{replaced}
-use Rattle.span_language.specs.State.{World, value_of}
-use Rattle.span_language.specs.Cursors.{IsCursorOf, IsCursorRefused}
-use Rattle.span_language.specs.Laws.{IsSettled}
-use Rattle.span_language.specs.Replies.{shown}
-use Rattle.span_language.specs.Step.{Does, IsAsked, IsRefused, IsRegistered, load_size, most_spans, open_size}
 use Rattle.span_language.proofs.Values.{are_told, no_value, not_both, one_err, one_file_refusal, one_within, within_read}
 use Rattle.span_language.proofs.Images.{image_once, one_fault}
 use Rattle.span_language.proofs.Expressions.{one_edit_refusal, text_once as value_once}

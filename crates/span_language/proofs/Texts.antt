@@ -1,24 +1,10 @@
 -- What the texts of a query, of a tuple and of kept variables say is one.
-use Rattle.std.proofs.Common.{◌≡◌, ℕ, List, [], ◌∷◌, ◌++◌, Option, Some, None, refl, sym, ◌∙◌, ap, subst, inl, inr, codes, arith}
-use Rattle.line_parts.specs.NameList.{AreNames, IsName, with_commas}
-use Rattle.line_parts.proofs.Cuts.{NoByte, from_test, no_cut, not_true, one_cut}
-use Rattle.line_parts.proofs.Names.{name_no_comma}
-use Rattle.span_types.specs.Query.{Query, Leaf}
-use Rattle.span_types.specs.FormulaTree.{FormulaTree}
-use Rattle.span_types.specs.Rel.{names_of}
-use Rattle.span_enum.specs.Members.{Tuple}
-use Rattle.formula_syntax.specs.FormulaOf.{Formula, FormulaOf, Outcome}
+use Rattle.std.proofs.Common.{◌≡◌, ℕ, List, [], ◌∷◌, Option, Some, None, refl, sym, ◌∙◌, ap, subst, inl, inr, codes}
+use Rattle.span_language.proofs.Names.{AreNames, CountIsAbove, Formula, FormulaOf, FormulaTree, from_test, has-outcome, is-outcome, IsCursorOf, IsCursorRefused}
+use Rattle.span_language.proofs.Names.{IsName, IsQueryOf, IsTextRefused, IsVarsText, Leaf, name_no_comma, names_of, no_cut, NoByte, not_true, one_cut, one_tuple_of}
+use Rattle.span_language.proofs.Names.{Outcome, outcome, Query, Refusal, Tuple, TupleText, with_commas}
 use Rattle.formula_syntax.specs.FormulaOf as formula
-use Rattle.formula_syntax.proofs.Outcomes.{has-outcome, is-outcome, outcome}
-use Rattle.query_book.specs.Keeping.{IsVarsText}
-use Rattle.query_book.specs.Occurrences.{CountIsAbove}
-use Rattle.query_book.specs.Registering.{IsQueryOf}
-use Rattle.span_cursor.specs.Tuples.{TupleText}
-use Rattle.span_cursor.proofs.TupleLemmas.{one_tuple_of}
-use Rattle.report_text.specs.declared.refusal.Refusal.{Refusal}
 use Rattle.report_text.specs.declared.refusal.Refusal.TheVariants as why
-use Rattle.span_language.specs.Cursors.{IsCursorOf, IsCursorRefused}
-use Rattle.span_language.specs.Step.{IsTextRefused}
 
 abbrev Name : Type 0
 Name = List ℕ
@@ -94,6 +80,7 @@ tells s p r of h = by r h
   where
     at : (o : Outcome) (r : Refusal) → FormulaOf s o → Tells o r → Tells p r
     at o r h is = subst (λ z. Tells z r) (one_outcome s o p h of) is
+
     by : (r : Refusal) → IsTextRefused s r → Tells p r
     by (why.FormulaTooLong len) h = at (formula.TooLong len) (why.FormulaTooLong len) h refl
     by why.BadFormula h = at formula.BadText why.BadFormula h refl

@@ -1,11 +1,6 @@
 -- A name or a file has one value, and a result is one.
 use Rattle.std.proofs.Common.{◌≡◌, ◌<◌, ◌≤◌, ℕ, List, Option, Some, None, refl, arith}
-use Rattle.std.specs.Prelude.{Result, Ok, Err}
-use Rattle.edge_io.specs.Files.{Files, Holds}
-use Rattle.script_syntax.specs.declared.form.Command.{Command}
-use Rattle.report_text.specs.declared.refusal.Refusal.{Refusal}
-use Rattle.span_language.specs.Step.{IsFileRefused, IsOfFile, IsWithin}
-use Rattle.span_language.specs.Laws.{IsSettled}
+use Rattle.span_language.proofs.Names.{Command, Err, Files, IsFileRefused, IsOfFile, IsSettled, IsWithin, Ok, Refusal, Result}
 
 pub over : {a b : ℕ} → a ≤ b → b < a → ⊥
 over le lt = omega (arith, le, lt)
