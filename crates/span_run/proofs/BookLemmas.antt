@@ -1,7 +1,7 @@
 -- Queries by name, and how many nodes have their tables.
-use Rattle.std.proofs.Common.{◌≡◌, ℕ, suc, ◌+◌, ◌*◌, ◌≤◌, true, false, cond, List, [], ◌∷◌, length, Option, Some, None, refl, sym, ap, subst, ◌∙◌, arith, IsSome, option_map}
-use Rattle.span_run.proofs.Names.{AllByRecursion, ArePartlyAt, covered_of, Entry, Grows, IsNamed, names_of, Node, Places, PlacesPart, Query, same_Some, Serves}
-use Rattle.span_run.proofs.Names.{sum_of}
+use Rattle.span_run.proofs.Names.{[], AllByRecursion, ap, ArePartlyAt, arith, cond, covered_of, Entry, false, Grows, IsNamed, IsSome, length, List, names_of}
+use Rattle.span_run.proofs.Names.{Node, None, Option, option_map, Places, PlacesPart, Query, refl, same_Some, Serves, Some, subst, suc, sum_of, sym, true, ℕ}
+use Rattle.span_run.proofs.Names.{◌*◌, ◌+◌, ◌∙◌, ◌∷◌, ◌≡◌, ◌≤◌}
 use Rattle.query_book.specs.Named.{Named, is_same, value_of, put, taken_out}
 use Rattle.query_book.proofs.Served.{serves-more}
 use Rattle.span_run.proofs.PlacesLemmas.{sum_within}

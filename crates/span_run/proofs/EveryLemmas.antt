@@ -1,18 +1,18 @@
 -- A listing of the answers on every document in progress.
-use Rattle.std.proofs.Common.{◌≡◌, ℕ, zero, suc, ◌+◌, ◌<◌, ◌≤◌, ◌^◌, Bool, true, false, nat_lt, get_or, refl, ap, sym, subst, ◌∙◌, arith, List, [], ◌∷◌, ◌++◌, append_assoc, length, take, drop, Option, Some, None, Contains, slice_get, map, option_map}
+use Rattle.span_run.proofs.Names.{[], after-none, ap, append_assoc, AreAnswered, AreAnswersOf, AreListed, AreLive, AreShort, AreTables, arith, at_drop_more}
+use Rattle.span_run.proofs.Names.{Bool, Command, Contains, count_of, DeterministicAutomaton, Dictionary, Doc, doc_line, done_line, drop, drop_all, every_text}
+use Rattle.span_run.proofs.Names.{false, first_page_text, flat_map, get_or, get_or_from_slice_get, HasAnswersOf, IsDeterministic, IsPage, IsPageOf, IsSent}
+use Rattle.span_run.proofs.Names.{IsUpTo, IsWellFormed, length, List, ltb-false, ltb-true, map, Named, names_of, nat_lt, Node, None, option_map, Outlet, Page}
+use Rattle.span_run.proofs.Names.{page_text, plain, Query, refl, rest_text, slice_get, slice_get-get_or, slice_get_within, Some, subst, suc, sym, take, text_at}
+use Rattle.span_run.proofs.Names.{text_of, true, Tuple, tuple_line, value_of, zero, ℕ, ◌++◌, ◌+◌, ◌<◌, ◌^◌, ◌∙◌, ◌∷◌, ◌≡◌, ◌≤◌}
 use Rattle.span_run.proofs.BookLemmas.{query_of}
-use Rattle.span_run.proofs.Names.{after-none, append-nil, Appends, Appends-trans, AppendsFront, AreAnswered, AreAnswersOf, AreListed, AreLive, AreShort}
-use Rattle.span_run.proofs.Names.{AreTables, at_drop_more, Command, count_of, DeterministicAutomaton, Dictionary, Doc, doc_line, done_line, drop_all}
-use Rattle.span_run.proofs.Names.{every_text, first_page_text, flat_map, get_or_from_slice_get, HasAnswersOf, IsDeterministic, IsPage, IsPageOf, IsWellFormed}
-use Rattle.span_run.proofs.Names.{ltb-false, ltb-true, Named, names_of, Node, Page, page_text, plain, Query, rest_text, slice_get-get_or, slice_get_within}
-use Rattle.span_run.proofs.Names.{text_at, text_of, Tuple, tuple_line, value_of}
 use Rattle.std.proofs.lemmas.List.Elements.{Contains-get_or}
 use Rattle.script_syntax.specs.declared.form.Command.TheVariants as form
 use Rattle.script_syntax.specs.Syntax.{Reads}
 use Rattle.span_enum.proofs.Exists.{answers-exist}
 use Rattle.query_book.proofs.Covered.{bytes-found}
 use Rattle.span_run.specs.Every.{IsRegistered}
-use Rattle.span_run.proofs.Written.{IsListing, listing_ends, listing_goes_on, listing_stops}
+use Rattle.span_run.proofs.Written.{sent_all}
 
 -- a line's limit is one that a line can give, and so is its list of names
 pub well_formed : (line : List ℕ) (command : Command) → Reads line command → IsWellFormed command
@@ -20,14 +20,6 @@ well_formed line (form.ListAll q k) (name, None, e, text) = (omega (arith, e), o
 well_formed line (form.ListAll q k) (name, Some n, (low, high, e), text) = (omega (arith, low, e), omega (arith, high, e))
 well_formed line (form.ProjectQuery n q k) (name, source, names, text) = names
 well_formed line _ h = tt
-
--- ---- a part of the whole was written up to what is left of it
-pub listing_part : (a b c : Option (List ℕ)) (left mid whole : List ℕ) → IsListing a b mid whole → IsListing b c left mid → IsListing a c left whole
-listing_part a b c left mid whole (front, before, is) (piece, wrote, cut) =
-    (front ++ piece, Appends-trans a b c front piece before wrote, is ∙ ap (λ (l : List ℕ). front ++ l) cut ∙ sym (append_assoc front piece left))
-
-pub listing_breaks : (a b c : Option (List ℕ)) (mid whole : List ℕ) → IsListing a b mid whole → AppendsFront b c mid → AppendsFront a c whole
-listing_breaks a b c mid whole h stopped = listing_stops a b c mid [] whole (subst (λ (l : List ℕ). IsListing a b l whole) (sym (append-nil mid)) h) stopped
 
 -- ---- the documents from a place on
 module _ (a : DeterministicAutomaton) (ns : List Node) (names : List (List ℕ)) (n : ℕ) where
@@ -49,9 +41,6 @@ module _ (a : DeterministicAutomaton) (ns : List Node) (names : List (List ℕ))
       ∙ ap (λ (t : List ℕ). doc_line d.name ++ (t ++ every_text names n ds ls)) text
       ∙ sym (append_assoc (doc_line d.name) (page_text names p.tuples p.more) (every_text names n ds ls))
 
-  pub rest_end : (ds : List Doc) (ls : List (List Tuple)) (place : ℕ) → length ds ≤ place → rest_text names n ds ls place ≡ done_line
-  rest_end ds ls place past = ap (λ (es : List Doc). every_text names n es (drop place ls)) (drop_all place ds past)
-
   -- ---- the reply
   pub listed : (q : Query) → HasAnswersOf a q → names ≡ names_of q → (ds : List Doc) (ls : List (List Tuple)) → AreShort ns ds → AreAnswered a ns ds ls → AreListed q n (plain ns ds) (every_text names n ds ls)
   listed q has is [] [] short are = refl
@@ -69,6 +58,9 @@ module _ (a : DeterministicAutomaton) (ns : List Node) (names : List (List ℕ))
     listed q has is ds ls (λ k e at. short (suc k) e at) are.1,
     ap (λ (ms : List (List ℕ)). doc_line d.name ++ (first_page_text ms n l ++ every_text names n ds ls)) is,
   )
+
+pub rest_end : {x y : Outlet} {whole : List ℕ} (names : List (List ℕ)) (n : ℕ) (ds : List Doc) (ls : List (List Tuple)) (place : ℕ) → length ds ≤ place → IsUpTo x y (rest_text names n ds ls place) whole → IsUpTo x y done_line whole
+rest_end {x} {y} {whole} names n ds ls place past h = subst (λ (es : List Doc). IsUpTo x y (every_text names n es (drop place ls)) whole) (drop_all place ds past) h
 
 -- ---- what a page has, and what there is
 take_at : (n : ℕ) (xs : List Tuple) (k : ℕ) (t : Tuple) → slice_get (take n xs) k ≡ Some t → slice_get xs k ≡ Some t
@@ -136,16 +128,10 @@ short_all ns ds place h past k d e = h k d (omega (arith, past, slice_get_within
 pub sized_at : (ts : List Tuple) (n : ℕ) → ((k : ℕ) (t : Tuple) → slice_get ts k ≡ Some t → n ≡ length t) → (i : ℕ) (t : Tuple) → t ≡ get_or ts i t → i < length ts → n ≡ length t
 sized_at ts n h i t is lt = subst (λ (u : Tuple). n ≡ length u) (sym is) (h i (get_or ts i t) (slice_get-get_or ts i t lt))
 
-module _ (a b c : Option (List ℕ)) (names : List (List ℕ)) (ts : List Tuple) (i : ℕ) (t : Tuple) (is : t ≡ get_or ts i t) (lt : i < length ts) (so_far : IsListing a b (flat_map (tuple_line names) (drop i ts)) (flat_map (tuple_line names) ts)) where
-  cut : IsListing a b (tuple_line names t ++ flat_map (tuple_line names) (drop (i + 1) ts)) (flat_map (tuple_line names) ts)
-  cut = subst (λ (l : List ℕ). IsListing a b l (flat_map (tuple_line names) ts)) (at_drop_more (flat_map (tuple_line names)) ts i t lt ∙ ap (λ (u : Tuple). tuple_line names u ++ flat_map (tuple_line names) (drop (i + 1) ts)) (sym is)) so_far
+pub tuples_left : {a b : Outlet} {whole : List ℕ} (names : List (List ℕ)) (ts : List Tuple) (i : ℕ) (t : Tuple) → t ≡ get_or ts i t → i < length ts → IsUpTo a b (flat_map (tuple_line names) (drop i ts)) whole
+    → IsUpTo a b (tuple_line names t ++ flat_map (tuple_line names) (drop (i + 1) ts)) whole
+tuples_left {a} {b} {whole} names ts i t is lt h =
+    subst (λ (l : List ℕ). IsUpTo a b l whole) (at_drop_more (flat_map (tuple_line names)) ts i t lt ∙ ap (λ (u : Tuple). tuple_line names u ++ flat_map (tuple_line names) (drop (i + 1) ts)) (sym is)) h
 
-  pub tuples_next : Appends b c (tuple_line names t) → IsListing a c (flat_map (tuple_line names) (drop (i + 1) ts)) (flat_map (tuple_line names) ts)
-  tuples_next wrote = listing_goes_on a b c (tuple_line names t) (flat_map (tuple_line names) (drop (i + 1) ts)) (flat_map (tuple_line names) ts) cut wrote
-
-  pub tuples_stop : AppendsFront b c (tuple_line names t) → AppendsFront a c (flat_map (tuple_line names) ts)
-  tuples_stop stopped = listing_stops a b c (tuple_line names t) (flat_map (tuple_line names) (drop (i + 1) ts)) (flat_map (tuple_line names) ts) cut stopped
-
-pub tuples_end : (a b : Option (List ℕ)) (names : List (List ℕ)) (ts : List Tuple) (i : ℕ) → length ts ≤ i → IsListing a b (flat_map (tuple_line names) (drop i ts)) (flat_map (tuple_line names) ts) → Appends a b (flat_map (tuple_line names) ts)
-tuples_end a b names ts i past so_far =
-    listing_ends a b (flat_map (tuple_line names) ts) (subst (λ (us : List Tuple). IsListing a b (flat_map (tuple_line names) us) (flat_map (tuple_line names) ts)) (drop_all i ts past) so_far)
+pub tuples_end : {a b : Outlet} {whole : List ℕ} (names : List (List ℕ)) (ts : List Tuple) (i : ℕ) → length ts ≤ i → IsUpTo a b (flat_map (tuple_line names) (drop i ts)) whole → IsSent a whole b
+tuples_end {a} {b} {whole} names ts i past h = sent_all (subst (λ (us : List Tuple). IsUpTo a b (flat_map (tuple_line names) us) whole) (drop_all i ts past) h)

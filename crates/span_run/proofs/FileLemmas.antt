@@ -1,8 +1,8 @@
 -- What loading a file does.
-use Rattle.std.proofs.Common.{◌≡◌, inl, inr, ℕ, ◌+◌, ◌≤◌, List, length, Option, Some, Result, Ok, Err, refl, sym, subst, arith}
-use Rattle.span_run.proofs.Names.{Assigns, BadImage, Carries, counters, Documents, Files, FileTooLong, image, IsFileDenied, IsLoadPaid, IsTurnedAway, IsWithin}
-use Rattle.span_run.proofs.Names.{load_limit, load_size, Meaning, no_steps, NoSuchFile, open_size, Opens, PaysFor, PaysForPart, put, refusal_text, Refused}
-use Rattle.span_run.proofs.Names.{State, Told, with_documents, World, world}
+use Rattle.span_run.proofs.Names.{arith, Assigns, BadImage, Carries, counters, Documents, Err, Files, FileTooLong, image, inl, inr, IsFileDenied, IsLoadPaid}
+use Rattle.span_run.proofs.Names.{IsTurnedAway, IsWithin, length, List, load_limit, load_size, Meaning, no_steps, NoSuchFile, Ok, open_size, Opens, Option}
+use Rattle.span_run.proofs.Names.{PaysFor, PaysForPart, put, refl, refusal_text, Refused, Result, Some, State, subst, sym, Told, with_documents, World, world}
+use Rattle.span_run.proofs.Names.{ℕ, ◌+◌, ◌≡◌, ◌≤◌}
 use Rattle.script_syntax.specs.declared.form.Command.TheVariants as form
 use Rattle.slp_image.specs.Fields.{kind_of}
 use Rattle.slp_image.specs.Documents.{Fails}

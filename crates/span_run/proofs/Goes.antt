@@ -1,17 +1,16 @@
 -- What commands that grow the store, or that give tables, or that do neither, say of what is held.
-use Rattle.std.proofs.Common.{◌≡◌, ◌⊎◌, ◌∙◌, ◌+◌, ◌≤◌, ℕ, List, length, Option, Result, Ok, Err, inl, inr, refl, sym, ap, subst, arith, IfErr, IfOk, OnErr, OnOk}
-use Rattle.std.specs.Result.{IsErrAnd}
-use Rattle.span_run.proofs.Names.{Accepted, Answer, Answers, AreKept, AreLive, AreLive-grows, ArePartlyAt, at, Carries, Command, Compacts, counters, covered_of}
-use Rattle.span_run.proofs.Names.{Doc, Documents, Entry, Files, Goes, Grows, Grows-length, Grows-none, Held, IsAllowed, IsHeld, IsOfFile, IsOnce, IsPut, IsSave}
-use Rattle.span_run.proofs.Names.{IsSaved, KeepsFiles, KeepsOthers, Named, no_steps, Node, nodes_of, pairs_of, PaysFor, PaysForPart, Places, plain, plain-grows}
-use Rattle.span_run.proofs.Names.{plain_versions, queries_of, Query, Quiet, Refused, Registers, Rose, saved_text, Scene, scene, Serves, State, state_of, Stays}
-use Rattle.span_run.proofs.Names.{Stop, sum_of, Tallies, Told, with_documents, with_queries, world, world_at}
+use Rattle.span_run.proofs.Names.{Accepted, Answer, Answers, ap, AreKept, AreLive, AreLive-grows, ArePartlyAt, arith, at, Carries, Command, Compacts, counters}
+use Rattle.span_run.proofs.Names.{covered_of, Doc, Documents, Entry, Err, Files, Goes, Grows, Grows-length, Grows-none, Held, IfErr, inl, inr, IsAllowed}
+use Rattle.span_run.proofs.Names.{IsErrAnd, IsHeld, IsOfFile, IsOnce, IsPut, IsSave, IsSaved, KeepsFiles, KeepsOthers, length, List, Named, no_steps, Node}
+use Rattle.span_run.proofs.Names.{nodes_of, Ok, Option, pairs_of, PaysFor, PaysForPart, Places, plain, plain-grows, plain_versions, queries_of, Query, Quiet}
+use Rattle.span_run.proofs.Names.{refl, Refused, Registers, Result, Rose, saved_text, Scene, scene, Serves, State, state_of, Stays, Stop, subst, sum_of, sym}
+use Rattle.span_run.proofs.Names.{Tallies, Told, with_documents, with_queries, world, world_at, ℕ, ◌+◌, ◌∙◌, ◌≡◌, ◌≤◌, ◌⊎◌}
 use Rattle.script_syntax.specs.declared.form.Command.TheVariants as form
 use Rattle.span_language.specs.declared.told.Stop.TheVariants as stop
 use Rattle.span_run.proofs.HeldLemmas.{AreKept-grows, Grows-pairs, plain_versions-grows}
-use Rattle.span_run.proofs.CarryLemmas.{none_paid, not_begun, part_of_paid}
 use Rattle.span_run.proofs.PlacesLemmas.{none_placed, none_placed_part}
-use Rattle.span_run.proofs.BookLemmas.{covered-within, serves-grows, grown_placed, grown_placed_part}
+use Rattle.span_run.proofs.BookLemmas.{covered-within, grown_placed, grown_placed_part, serves-grows}
+use Rattle.span_run.proofs.CarryLemmas.{none_paid, not_begun, part_of_paid}
 
 -- a call found no memory, and that is passed on
 pub passed_on : {T : Type 0} (r : Result T Stop) (P : Stop → Type 0) → IsErrAnd r (λ e. e ≡ stop.NoMemory) → P stop.NoMemory → IfErr r P
@@ -21,18 +20,6 @@ passed_on (Err e) P h p = subst P (sym h) p
 pub if_err_both : {T E : Type 0} (r : Result T E) (P Q S : E → Type 0) → ((x : E) → P x → Q x → S x) → IfErr r P → IfErr r Q → IfErr r S
 if_err_both (Ok x) P Q S f h k = tt
 if_err_both (Err e) P Q S f h k = f e h k
-
-pub if_err_four : {T E : Type 0} (r : Result T E) (P : Type 0) (Q R S Z : E → Type 0) → ((x : E) → P → Q x → R x → S x → Z x) → OnErr r P → IfErr r Q → IfErr r R → IfErr r S → IfErr r Z
-if_err_four (Ok x) P Q R S Z f p q r s = tt
-if_err_four (Err e) P Q R S Z f p q r s = f e p q r s
-
-pub if_ok_both : {T E : Type 0} (r : Result T E) (P : T → Type 0) (Q : Type 0) (Z : T → Type 0) → ((x : T) → P x → Q → Z x) → IfOk r P → OnOk r Q → IfOk r Z
-if_ok_both (Ok x) P Q Z f p q = f x p q
-if_ok_both (Err e) P Q Z f p q = tt
-
-pub on_err_of : {T E : Type 0} (r : Result T E) (P : E → Type 0) (Q : Type 0) → ((x : E) → P x → Q) → IfErr r P → OnErr r Q
-on_err_of (Ok x) P Q f p = tt
-on_err_of (Err e) P Q f p = f e p
 
 -- of another kind
 pub never : (kind : Type 0) → (kind → ⊥) → (told : Told) → IsOnce kind told 0

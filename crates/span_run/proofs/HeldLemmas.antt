@@ -1,7 +1,7 @@
 -- Documents in a store, and the plain documents that they stand for.
-use Rattle.std.proofs.Common.{◌≡◌, ℕ, ◌+◌, ◌≤◌, Bool, true, false, cond, List, [], ◌∷◌, ◌++◌, length, Option, Some, refl, ap, ◌∙◌, arith, subst, option_map, ◌-◌, take, min}
-use Rattle.span_run.proofs.Names.{AreKept, AreLive, AreLive-grows, Doc, Grows, is_same, IsLive, Named, Node, NodeId, pair_weight, plain, plain-grows}
-use Rattle.span_run.proofs.Names.{plain_versions, put, root_leaves, root_tree, sum_by-append, take_min, taken_out, text_at, value_of}
+use Rattle.span_run.proofs.Names.{[], ap, AreKept, AreLive, AreLive-grows, arith, Bool, cond, Doc, false, Grows, is_same, IsLive, length, List, min, Named}
+use Rattle.span_run.proofs.Names.{Node, NodeId, Option, option_map, pair_weight, plain, plain-grows, plain_versions, put, refl, root_leaves, root_tree, Some}
+use Rattle.span_run.proofs.Names.{subst, sum_by-append, take, take_min, taken_out, text_at, true, value_of, ℕ, ◌++◌, ◌+◌, ◌-◌, ◌∙◌, ◌∷◌, ◌≡◌, ◌≤◌}
 use Rattle.slp_model.specs.Nodes.{pair_count}
 use Rattle.slp_model.proofs.TreeLemmas.{length-root_text}
 use Rattle.doc_book.specs.Docs as book

@@ -12,7 +12,7 @@ pub mod QueryLemmas
 pub mod ReadingLemmas
 pub mod CarryLemmas
 pub mod Goes
-pub mod Combined
+pub mod Registered
 pub mod Thinned
 pub mod Sending
 pub mod ReplaceLemmas
@@ -20,3 +20,4 @@ pub mod Listings
 pub mod FileLemmas
 pub mod RunsLemmas
 pub mod ScriptLemmas
+pub mod Facts

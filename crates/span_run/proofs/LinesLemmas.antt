@@ -1,7 +1,7 @@
 -- The first line of a script.
-use Rattle.std.proofs.Common.{◌≡◌, ◌≢◌, ℕ, suc, ◌<◌, Bool, true, false, List, [], ◌∷◌, ◌++◌, length, refl, ◌∙◌, ap, arith, All, ◌==◌, if◌then◌else◌}
+use Rattle.span_run.proofs.Names.{[], All, ap, arith, Bool, false, if◌then◌else◌, length, lines_of, List, onto_first, refl, suc, true, ℕ, ◌++◌, ◌<◌, ◌==◌, ◌∙◌}
+use Rattle.span_run.proofs.Names.{◌∷◌, ◌≡◌, ◌≢◌}
 use Rattle.std.proofs.lemmas.Bool.Decides.{nat_tests}
-use Rattle.span_run.proofs.Names.{lines_of, onto_first}
 
 other : (b : ℕ) (xs ys : List (List ℕ)) → (b ≡ 10 → ⊥) → (if b == 10 then xs else ys) ≡ ys
 other b xs ys h = let is : (b == 10) ≡ false = grind (arith, nat_tests) in ap (λ (t : Bool). if t then xs else ys) is

@@ -1,11 +1,10 @@
 -- What listing the answers of a query does.
-use Rattle.std.proofs.Common.{◌≡◌, inl, inr, ℕ, ◌+◌, ◌*◌, ◌≤◌, nat_lt, List, Option, Some, None, length, take, refl, sym, ap, subst, ◌∙◌, arith}
+use Rattle.span_run.proofs.Names.{Accepted, answers_steps, ap, AreAnswersOf, arith, Carries, counters, first_page_text, HasCursor, HasList, IfNamed, inl, inr}
+use Rattle.span_run.proofs.Names.{IsAfter, IsAllowed, IsCursorFor, IsListingOf, IsListReply, IsNamed, IsRefused, IsUnreadCursor, IsWordRefusal, length, List}
+use Rattle.span_run.proofs.Names.{Listing, Lists, looks_limit, most_looks, Named, names_of, nat_lt, no_steps, None, NoSuchDocument, Option, option_map}
+use Rattle.span_run.proofs.Names.{page_text, PaysFor, Query, Quiet, refl, Refusal, refusal_text, Refused, same_Some, Some, subst, sym, take, Tells, Told, Tuple}
+use Rattle.span_run.proofs.Names.{Unread, value_of, World, ℕ, ◌*◌, ◌+◌, ◌∙◌, ◌≡◌, ◌≤◌}
 use Rattle.span_run.proofs.BookLemmas.{names_known, query_of}
-use Rattle.span_run.proofs.Names.{Accepted, answers_steps, Appends, AppendsFront, AreAnswersOf, Carries, counters, Finishes, first_page_text, Halts, HasCursor}
-use Rattle.span_run.proofs.Names.{HasList, IfNamed, IsAfter, IsAllowed, IsCursorFor, IsListingOf, IsListReply, IsNamed, IsRefused, IsUnreadCursor}
-use Rattle.span_run.proofs.Names.{IsWordRefusal, Listing, Lists, looks_limit, most_looks, Named, names_of, no_steps, NoSuchDocument, page_text, PaysFor, Query}
-use Rattle.span_run.proofs.Names.{Quiet, Refusal, refusal_text, Refused, same_Some, Tells, Told, Tuple, Unread, value_of, World}
-use Rattle.std.specs.Option.{option_map}
 use Rattle.script_syntax.specs.declared.form.Command.TheVariants as form
 use Rattle.span_language.specs.Cursors.{IsCursorOf}
 use Rattle.span_run.specs.declared.words.Unread.TheVariants as unread
@@ -41,10 +40,10 @@ module _ (Writes : List ℕ → Type 0) (queries : Named Query) (name text : Lis
   -- of the page of a listing's answers some was written
   pub lists_page : (mid : ℕ) (listing : Listing) (names : List (List ℕ)) → IsNamed queries name (IsListingOf text cursor listing) → option_map names_of (value_of queries name) ≡ Some names
       → mid ≤ before + 2 * most_looks (value_of queries name) text
-      → ((all rest : List Tuple) → AreAnswersOf listing.automaton listing.text all → IsAfter all listing.after rest → Writes (first_page_text names n rest))
-      → ((all rest : List Tuple) → AreAnswersOf listing.automaton listing.text all → IsAfter all listing.after rest → after ≤ mid + (length (take n rest) + 1) * looks_limit listing.automaton.variables (length listing.text))
+      → ((all rest : List Tuple) → AreAnswersOf listing.automaton listing.text all → IsAfter all listing.after rest
+      → Writes (first_page_text names n rest) × (after ≤ mid + (length (take n rest) + 1) * looks_limit listing.automaton.variables (length listing.text)))
       → Lists Writes queries name text cursor n before after
-  lists_page mid listing names named names_are begun writes paid =
+  lists_page mid listing names named names_are begun written =
       let q = named.query in
       let is = named.holds in
       let l = list q named.there in
@@ -53,12 +52,12 @@ module _ (Writes : List ℕ → Type 0) (queries : Named Query) (name text : Lis
       let are : AreAnswersOf listing.automaton listing.text l.all = subst (λ (s : List ℕ). AreAnswersOf listing.automaton s l.all) (sym is.text) here in
       let rest : IsAfter l.all listing.after l.rest = subst (λ (o : Option Tuple). IsAfter l.all o l.rest) (sym is.after) l.after in
       let same : names ≡ names_of q = names_known queries name names named names_are in
-      let wrote : Writes (first_page_text (names_of q) n l.rest) = subst (λ (ns : List (List ℕ)). Writes (first_page_text ns n l.rest)) same (writes l.all l.rest are rest) in
+      let wrote : Writes (first_page_text (names_of q) n l.rest) = subst (λ (ns : List (List ℕ)). Writes (first_page_text ns n l.rest)) same (written l.all l.rest are rest).0 in
       let most : mid ≤ before + 2 * looks_limit (length (names_of q)) (length text) = subst (λ (o : Option Query). mid ≤ before + 2 * most_looks o text) named.there begun in
       let each : looks_limit listing.automaton.variables (length listing.text) ≡ looks_limit (length (names_of q)) (length text) =
       ap (λ (k : ℕ). looks_limit k (length listing.text)) is.defines.variables ∙ ap (λ (s : List ℕ). looks_limit (length (names_of q)) (length s)) is.text in
       let page : after ≤ mid + (length (take n l.rest) + 1) * looks_limit (length (names_of q)) (length text) =
-      subst (λ (b : ℕ). after ≤ mid + (length (take n l.rest) + 1) * b) each (paid l.all l.rest are rest) in
+      subst (λ (b : ℕ). after ≤ mid + (length (take n l.rest) + 1) * b) each (written l.all l.rest are rest).1 in
       lists q named.there l wrote (omega (arith, most, page))
 
   -- of the page nothing was written
@@ -93,7 +92,7 @@ module _ (w : World) (number : ℕ) (query name text : List ℕ) (word : Option 
   }
 
   -- a reply that was told is one of the line's, and was written
-  list_carries : (Writes : List ℕ → Type 0) (told : Told) (before after : ℕ) → Tells Writes number w.state.queries query word text n told before after
+  pub list_carries : (Writes : List ℕ → Type 0) (told : Told) (before after : ℕ) → Tells Writes number w.state.queries query word text n told before after
       → (reply : List ℕ) × Carries w number (form.List query name word n) told reply w × Writes reply
   list_carries Writes Quiet before after h = absurd h
   list_carries Writes Accepted before after (cursor, h, l) = (
@@ -102,12 +101,6 @@ module _ (w : World) (number : ℕ) (query name text : List ℕ) (word : Option 
     l.writes,
   )
   list_carries Writes Refused before after (u, why, not_read, is, wrote, same) = (refusal_text number why, (why, word_refused w query name text word n u why there not_read is, refl, refl), wrote)
-
-  pub list_finishes : (a b : Option (List ℕ)) (told : Told) (before after : ℕ) → Tells (Appends a b) number w.state.queries query word text n told before after → Finishes (Carries w number (form.List query name word n)) told a b w
-  list_finishes a b told before after h = list_carries (Appends a b) told before after h
-
-  pub list_halts : (a b : Option (List ℕ)) (told : Told) (before after : ℕ) → Tells (AppendsFront a b) number w.state.queries query word text n told before after → Halts (Carries w number (form.List query name word n)) w a b w
-  list_halts a b told before after h = let r = list_carries (AppendsFront a b) told before after h in inr (told, r.0, r.1, r.2)
 
   pub list_paid : (Writes : List ℕ → Type 0) (told : Told) (before after pairs : ℕ) → Tells Writes number w.state.queries query word text n told before after
       → PaysFor w (form.List query name word n) (counters before pairs) (counters after pairs)

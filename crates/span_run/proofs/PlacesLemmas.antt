@@ -1,6 +1,5 @@
 -- Each query has at most one table of each node.
-use Rattle.std.proofs.Common.{ℕ, ◌+◌, ◌*◌, ◌≤◌, [], ◌∷◌, length, arith}
-use Rattle.span_run.proofs.Names.{AllByRecursion, IsStanding, Named, nodes_of, Places, PlacesPart, Standing, sum_of}
+use Rattle.span_run.proofs.Names.{[], AllByRecursion, arith, IsStanding, length, Named, nodes_of, Places, PlacesPart, Standing, sum_of, ℕ, ◌*◌, ◌+◌, ◌∷◌, ◌≤◌}
 
 -- what was placed so far, where so many queries were registered and so many nodes dropped
 abbrev pub PlacesSoFar : ℕ → ℕ → Standing → ℕ → ℕ → Type 0

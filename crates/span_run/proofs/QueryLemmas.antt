@@ -1,15 +1,15 @@
 -- What registering and asking queries does.
-use Rattle.std.proofs.Common.{rules, ◌≡◌, inl, inr, ℕ, ◌+◌, ◌≤◌, List, Option, Some, None, refl, sym, ap, subst, ◌∙◌, arith, length, ◌↔◌, IsSome, IsTrue, Bool, true, false, option_map}
-use Rattle.span_run.proofs.Names.{Accepted, answers_steps, BadTuple, Carries, counters, Doc, Files, HasAnswer, HasVariablesOf, IsAllowed, IsAnswer, IsAnswered}
-use Rattle.span_run.proofs.Names.{IsFormulaRefusal, IsJudged, IsNamed, IsRefused, IsTextDenied, IsTextRefusal, IsTextRefused, IsTupleOf, IsUnread, IsWordPaid}
-use Rattle.span_run.proofs.Names.{IsWordRefusal, IsYesOrNo, most_looks, Named, names_of, no_steps, no_text, Node, NodeId, NoSuchDocument, NoSuchQuery, ok_text}
-use Rattle.span_run.proofs.Names.{OtherVariables, PaysFor, plain, Query, Quiet, Refusal, refusal_text, Refused, State, taken_out, text_at, Told, Tuple}
-use Rattle.span_run.proofs.Names.{TupleText, Unread, value_of, with_queries, World, world, yes_text}
+use Rattle.span_run.proofs.Names.{Accepted, answers_steps, ap, arith, BadTuple, Bool, Carries, Command, counters, Doc, false, Files, HasAnswer, HasVariablesOf}
+use Rattle.span_run.proofs.Names.{Held, Holds, inl, inr, IsAnswer, IsAnswered, IsHeld, IsJudged, IsNamed, IsRefused, IsRefusedFreely, IsReplied, IsReplyPaid}
+use Rattle.span_run.proofs.Names.{IsSome, IsTextRefusal, IsTextRefused, IsTrue, IsTupleOf, IsUnread, IsWordPaid, IsWordRefusal, IsYesOrNo, length, List}
+use Rattle.span_run.proofs.Names.{most_looks, Named, names_of, no_steps, no_text, Node, NodeId, None, NoSuchDocument, NoSuchQuery, ok_text, Option, option_map}
+use Rattle.span_run.proofs.Names.{OtherVariables, PaysFor, plain, Query, question_of, Quiet, refl, Refusal, refusal_text, Refused, rules, Some, State, subst}
+use Rattle.span_run.proofs.Names.{sym, taken_out, text_at, Told, true, Tuple, TupleText, Unread, value_of, with_queries, World, world, yes_text, ℕ, ◌+◌, ◌↔◌}
+use Rattle.span_run.proofs.Names.{◌∙◌, ◌≡◌, ◌≤◌}
 use Rattle.script_syntax.specs.declared.form.Command.TheVariants as form
 use Rattle.query_book.specs.Registering.{IsRefused as IsUnregistered}
 use Rattle.query_book.specs.declared.refusal.QueryRefusal.{QueryRefusal}
 use Rattle.query_book.specs.declared.refusal.QueryRefusal.TheVariants as query
-use Rattle.formula_syntax.specs.declared.refusal.FormulaRefusal.{FormulaRefusal}
 use Rattle.formula_syntax.specs.declared.refusal.FormulaRefusal.TheVariants as formula
 use Rattle.doc_book.specs.Docs as book
 use Rattle.span_run.specs.declared.words.Unread.TheVariants as unread
@@ -43,14 +43,14 @@ document_is ns ds name root there = value_of-plain ns ds name ∙ ap (option_map
 pub document_lacks : (ns : List Node) (ds : List Doc) (name : List ℕ) → book.root_of ds name ≡ None → value_of (plain ns ds) name ≡ None
 document_lacks ns ds name missing = value_of-plain ns ds name ∙ ap (option_map (text_at ns)) missing
 
-pub test_carries : (w : World) (number : ℕ) (query name text : List ℕ) (told : Told) (reply : List ℕ) → value_of w.state.documents name ≡ Some text → IsAnswered (λ q. HasAnswer q text) number w.state.queries query told reply
+test_carries : (w : World) (number : ℕ) (query name text : List ℕ) (told : Told) (reply : List ℕ) → value_of w.state.documents name ≡ Some text → IsAnswered (λ q. HasAnswer q text) number w.state.queries query told reply
     → Carries w number (form.Nonempty query name) told reply w
 test_carries w number query name text Quiet reply there h = absurd h
 test_carries w number query name text Accepted reply there (q, registered, answer) = (q, text, record { document = there; registered = registered }, answer, refl)
 test_carries w number query name text Refused reply there (none, written) = (NoSuchQuery query, inr (text, there, none, refl), written, refl)
 
 -- the looks of a test: those of one answer where there is such a query, else none
-pub test_paid : (w : World) (query name text : List ℕ) (looks more pairs : ℕ) → value_of w.state.documents name ≡ Some text → more ≤ looks + most_looks (value_of w.state.queries query) text
+test_paid : (w : World) (query name text : List ℕ) (looks more pairs : ℕ) → value_of w.state.documents name ≡ Some text → more ≤ looks + most_looks (value_of w.state.queries query) text
     → PaysFor w (form.Nonempty query name) (counters looks pairs) (counters more pairs)
 test_paid w query name text looks more pairs there cost = at (value_of w.state.queries query) refl cost
   where
@@ -58,21 +58,12 @@ test_paid w query name text looks more pairs there cost = at (value_of w.state.q
     at (Some q) is paid = (answers_steps 1 q text, inr (q, text, record { document = there; registered = is }, refl), record { looks = omega (arith, paid); pairs = omega arith })
     at None is paid = (no_steps, inl (NoSuchQuery query, inr (text, there, is, refl), refl), record { looks = omega (arith, paid); pairs = omega arith })
 
-pub test_free : (w : World) (query name : List ℕ) → value_of w.state.documents name ≡ None → IsAllowed w (form.Nonempty query name) no_steps
-test_free w query name missing = inl (NoSuchDocument name, inl (missing, refl), refl)
-
 -- a text that gives no query
-pub query_denied : (w : World) (number : ℕ) (name text : List ℕ) (why : QueryRefusal) (told : Told) (reply : List ℕ) → IsUnregistered text why → IsTextDenied number why told reply → Carries w number (form.Query name text) told reply w
-query_denied w number name text why told reply refuses (is, kept, refusal, written) = rw is (kept, at_why why refuses refusal, written, refl)
-  where
-    at_formula : (f : FormulaRefusal) → IsUnregistered text (query.Formula f) → IsFormulaRefusal f kept → IsTextRefused text kept
-    at_formula formula.NoMemory h e = absurd e
-    at_formula _ h e = subst (IsTextRefused text) (sym e) h
-
-    at_why : (y : QueryRefusal) → IsUnregistered text y → IsTextRefusal y kept → IsTextRefused text kept
-    at_why (query.Formula f) h e = at_formula f h e
-    at_why query.TooManyStates h e = subst (IsTextRefused text) (sym e) h
-    at_why query.NoMemory h e = absurd e
+pub text_refused : (text : List ℕ) (kept : Refusal) (why : QueryRefusal) → IsUnregistered text why → IsTextRefusal why kept → IsTextRefused text kept
+text_refused text kept (query.Formula formula.NoMemory) h e = absurd e
+text_refused text kept (query.Formula _) h e = subst (IsTextRefused text) (sym e) h
+text_refused text kept query.TooManyStates h e = subst (IsTextRefused text) (sym e) h
+text_refused text kept query.NoMemory h e = absurd e
 
 -- ---- what asking for a tuple does
 pub has_variables : (queries : Named Query) (name word : List ℕ) (tuple : Tuple) → IsTupleOf queries name word tuple → HasVariablesOf queries name tuple
@@ -104,13 +95,13 @@ word_why query unread.NoSuchQuery = (NoSuchQuery query, refl)
 word_why query unread.BadTuple = (BadTuple, refl)
 word_why query unread.OtherVariables = (OtherVariables, refl)
 
-pub has_carries : (w : World) (number : ℕ) (query name word text : List ℕ) (told : Told) (reply : List ℕ) → value_of w.state.documents name ≡ Some text → IsJudged number w.state.queries query word text told reply → Carries w number (form.Has query name word) told reply w
+has_carries : (w : World) (number : ℕ) (query name word text : List ℕ) (told : Told) (reply : List ℕ) → value_of w.state.documents name ≡ Some text → IsJudged number w.state.queries query word text told reply → Carries w number (form.Has query name word) told reply w
 has_carries w number query name word text Quiet reply there h = absurd h
 has_carries w number query name word text Accepted reply there (tuple, q, registered, is, answer) = (q, text, tuple, record { document = there; registered = registered }, is, answer, refl)
 has_carries w number query name word text Refused reply there (u, why, not_read, is, written) = (why, has_refused w query name word text there u why not_read is, written, refl)
 
 -- the looks for a word: those of one answer where it is a tuple, else none
-pub has_paid : (w : World) (query name word text : List ℕ) (looks more pairs : ℕ) → value_of w.state.documents name ≡ Some text → IsWordPaid w.state.queries query word text looks more
+has_paid : (w : World) (query name word text : List ℕ) (looks more pairs : ℕ) → value_of w.state.documents name ≡ Some text → IsWordPaid w.state.queries query word text looks more
     → PaysFor w (form.Has query name word) (counters looks pairs) (counters more pairs)
 has_paid w query name word text looks more pairs there (inl (u, not_read, same)) =
     let why = word_why query u in
@@ -119,5 +110,21 @@ has_paid w query name word text looks more pairs there (inr (tuple, is, cost)) =
     let paid : more ≤ looks + most_looks (Some is.query) text = subst (λ (o : Option Query). more ≤ looks + most_looks o text) is.there cost in
     (answers_steps 1 is.query text, inr (is.query, text, tuple, record { document = there; registered = is.there }, is.text, refl), record { looks = omega (arith, paid); pairs = omega arith })
 
-pub has_free : (w : World) (query name word : List ℕ) → value_of w.state.documents name ≡ None → IsAllowed w (form.Has query name word) no_steps
-has_free w query name word missing = inl (NoSuchDocument name, inl (inl (missing, refl)), refl)
+-- ---- both questions
+pub asked_carries : (w : World) (number : ℕ) (query name text : List ℕ) (word : Option (List ℕ)) (told : Told) (reply : List ℕ) → value_of w.state.documents name ≡ Some text → IsReplied number w.state.queries query word text told reply
+    → Carries w number (question_of query name word) told reply w
+asked_carries w number query name text None told reply there h = test_carries w number query name text told reply there h
+asked_carries w number query name text (Some word) told reply there h = has_carries w number query name word text told reply there h
+
+pub asked_paid : (w : World) (query name text : List ℕ) (word : Option (List ℕ)) (looks more pairs : ℕ) → value_of w.state.documents name ≡ Some text → IsReplyPaid w.state.queries query word text looks more
+    → PaysFor w (question_of query name word) (counters looks pairs) (counters more pairs)
+asked_paid w query name text None looks more pairs there paid = test_paid w query name text looks more pairs there paid
+asked_paid w query name text (Some word) looks more pairs there paid = has_paid w query name word text looks more pairs there paid
+
+pub none_asked : (h : Held) (files : Option Files) (query name : List ℕ) (word : Option (List ℕ)) → IsHeld h → value_of (plain h.store h.docs) name ≡ None → IsRefusedFreely h files (question_of query name word) (NoSuchDocument name)
+none_asked h files query name None is missing = record { held = is; refused = inl (missing, refl); free = inl (NoSuchDocument name, inl (missing, refl), refl) }
+none_asked h files query name (Some word) is missing = record { held = is; refused = inl (inl (missing, refl)); free = inl (NoSuchDocument name, inl (inl (missing, refl)), refl) }
+
+pub no_kind : (Kind : Command → Type 0) (query name : List ℕ) (word : Option (List ℕ)) → (Kind (form.Nonempty query name) → ⊥) → ((w : List ℕ) → Kind (form.Has query name w) → ⊥) → Kind (question_of query name word) → ⊥
+no_kind Kind query name None test has is = test is
+no_kind Kind query name (Some word) test has is = has word is

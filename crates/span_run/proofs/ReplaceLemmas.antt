@@ -1,10 +1,10 @@
 -- What a replacement does.
-use Rattle.std.proofs.Common.{◌≡◌, ◌∙◌, inl, inr, ℕ, ◌+◌, ◌*◌, ◌<◌, ◌≤◌, List, length, min, Option, Some, refl, sym, ap, subst, arith, Result, option_map}
+use Rattle.span_run.proofs.Names.{ap, ArePartlyAt, AreSources, arith, at, Carries, Chooses, counters, covered_of, Documents, Entry, Files, Held, inl, inr}
+use Rattle.span_run.proofs.Names.{IsChosenOf, IsHeld, IsReplacing, length, List, looks_limit, min, most_spans, Named, names_of, NotOneVariable, Option}
+use Rattle.span_run.proofs.Names.{option_map, PaysFor, put, queries_of, Query, refl, refusal_text, Refused, replace_steps, replaced, ReplaceRefusal, Replaces}
+use Rattle.span_run.proofs.Names.{Result, same_Some, Serves, Some, Span, State, state_of, Stays, subst, sum_of, sym, text_at, Told, TooLong, TooManyMatches}
+use Rattle.span_run.proofs.Names.{value_of, with_documents, World, world, ℕ, ◌*◌, ◌+◌, ◌<◌, ◌∙◌, ◌≡◌, ◌≤◌}
 use Rattle.span_run.proofs.BookLemmas.{query_of}
-use Rattle.span_run.proofs.Names.{ArePartlyAt, AreSources, at, Carries, Chooses, counters, covered_of, Documents, Entry, Files, Held, IsChosenOf, IsHeld}
-use Rattle.span_run.proofs.Names.{IsReplacing, looks_limit, most_spans, Named, names_of, NotOneVariable, PaysFor, put, queries_of, Query, refusal_text, Refused}
-use Rattle.span_run.proofs.Names.{replace_steps, replaced, ReplaceRefusal, Replaces, same_Some, Serves, Span, State, state_of, Stays, sum_of, text_at, Told}
-use Rattle.span_run.proofs.Names.{TooLong, TooManyMatches, value_of, with_documents, World, world}
 use Rattle.script_syntax.specs.declared.form.Command.TheVariants as form
 use Rattle.span_language.specs.declared.told.Stop.TheVariants as stop
 use Rattle.span_run.specs.declared.replacing.Sources.{Sources}

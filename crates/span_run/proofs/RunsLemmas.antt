@@ -1,9 +1,10 @@
 -- A run goes on by one line.
-use Rattle.std.proofs.Common.{◌≡◌, ◌⊎◌, ℕ, suc, ◌+◌, ◌-◌, ◌*◌, ◌≤◌, Bool, true, false, List, [], ◌∷◌, ◌++◌, length, take, refl, sym, ◌∙◌, ap, subst, arith, inl, inr, append_assoc, length-append, ◌||◌, Option, Some, None, IfSome}
-use Rattle.span_run.proofs.Names.{Adds, Allowance, Anywhere, append-nil, Appends, Appends-kept, Appends-nil, Appends-trans, both, both_of, Carried, Command}
-use Rattle.span_run.proofs.Names.{Counters, Halts, InFileLine, is_refused, IsDone, IsFront, IsList, IsPaid, IsStanding, IsStopped, Leaves, Means, Named}
-use Rattle.span_run.proofs.Names.{no_lines, no_steps, nodes_of, nothing, Of, Outlet, Outside, outside, pairs_of, PlacesFew, Rose, Runs, RunsAll, RunsFront}
-use Rattle.span_run.proofs.Names.{Scene, Standing, start, State, Stop, Stopped, Sum, sum_of, Told, UnlessList, World, world, world_in}
+use Rattle.span_run.proofs.Names.{[], Adds, Allowance, Anywhere, ap, append-nil, append_assoc, Appends, Appends-kept, Appends-nil, Appends-trans, arith, Bool}
+use Rattle.span_run.proofs.Names.{both, both_of, Carried, Command, Counters, false, Halts, IfSome, InFileLine, inl, inr, is_refused, IsDone, IsFront, IsList}
+use Rattle.span_run.proofs.Names.{IsPaid, IsStanding, IsStopped, Leaves, length, length-append, List, Means, Named, no_lines, no_steps, nodes_of, None, nothing}
+use Rattle.span_run.proofs.Names.{Of, Option, Outlet, Outside, outside, pairs_of, PlacesFew, refl, Rose, Runs, RunsAll, RunsFront, Scene, Some, Standing, start}
+use Rattle.span_run.proofs.Names.{State, Stop, Stopped, subst, suc, Sum, sum_of, sym, take, Told, true, UnlessList, World, world, world_in, ℕ, ◌*◌, ◌++◌, ◌+◌}
+use Rattle.span_run.proofs.Names.{◌-◌, ◌||◌, ◌∙◌, ◌∷◌, ◌≡◌, ◌≤◌, ◌⊎◌}
 use Rattle.std.proofs.Math.Nat.{mul-le-mul_left}
 use Rattle.slp_model.specs.Nodes.{pair_count}
 use Rattle.span_language.specs.declared.told.Stop.TheVariants as stop

@@ -1,7 +1,6 @@
 -- What the words that were read ask for.
-use Rattle.std.proofs.Common.{◌≡◌, ◌∙◌, ℕ, List, refl, sym, subst, ap, codes, Option, Some, None, IfSome}
+use Rattle.span_run.proofs.Names.{ap, AsksForNoDemo, codes, IfSome, List, None, OfScript, Option, refl, script_of, Some, subst, sym, ℕ, ◌∙◌, ◌≡◌}
 use Rattle.span_words.specs.Words.{AsksFor, Refused, Words, text_of}
-use Rattle.span_run.proofs.Names.{AsksForNoDemo, OfScript, script_of}
 
 same_demo : (most : ℕ) (text : Option (List ℕ)) (n k : Option ℕ) → AsksFor most text n → AsksFor most text k → n ≡ k
 same_demo most None n k a b = a ∙ sym b

@@ -1,16 +1,17 @@
--- A reply that was sent, or wasn't, and lines that do nothing.
-use Rattle.std.proofs.Common.{◌≡◌, ◌∙◌, ◌≤◌, ℕ, [], Option, Some, None, inl, inr, refl, sym, subst, arith, length, List}
-use Rattle.span_run.proofs.Names.{Answer, Answers, Appends-nil, at, Carried, Carries, Command, Compacts, covered_of, Done, Files, Finishes, Goes, Held}
-use Rattle.span_run.proofs.Names.{IsAnswering, IsHeld, IsList, IsRefused, IsRefusedFreely, IsSent, IsUnsent, Keeps-refl, Leaves, no_steps, Of, Outlet, Passes}
-use Rattle.span_run.proofs.Names.{Quiet, Refusal, refusal_text, Refused, Registers, Replies, scene, seen, Site, standing_of, state_of, Stays, Stop, Stopped}
-use Rattle.span_run.proofs.Names.{Syntax, Tallies, Told, World, world, world_at}
+-- How a line ends: its reply was written, or a front of it, or it was stopped before.
+use Rattle.span_run.proofs.Names.{[], Allowance, Answer, Answers, Appends-nil, ArePartlyAt, arith, at, Carried, Carries, Command, Compacts, counters_in}
+use Rattle.span_run.proofs.Names.{covered_of, Done, Ends, Entry, Err, Files, Goes, Held, IfErr, IfOk, inl, inr, IsAllowance, IsAnswering, IsHeld, IsList}
+use Rattle.span_run.proofs.Names.{IsOnce, IsPaid, IsRefused, IsRefusedFreely, Keeps-refl, Leaves, length, List, MatchResult, no_steps, Of, Ok, Option, Outlet}
+use Rattle.span_run.proofs.Names.{Passes, queries_of, Quiet, refl, Refusal, refusal_text, Refused, Registers, Replies, Result, Scene, scene, seen, Serves, Site}
+use Rattle.span_run.proofs.Names.{Some, standing_of, state_of, Stays, Stop, Stopped, subst, sum_of, sym, Tallies, Told, WantsFor, World, world, world_in, Wrote}
+use Rattle.span_run.proofs.Names.{ℕ, ◌+◌, ◌≡◌, ◌≤◌, ◌⊎◌}
 use Rattle.script_syntax.specs.declared.form.Command.TheVariants as form
 use Rattle.span_language.specs.declared.told.Stop.TheVariants as stop
-use Rattle.span_run.proofs.Written.{nothing_front}
-use Rattle.span_run.proofs.CarryLemmas.{none_paid}
+use Rattle.span_run.proofs.Written.{starts, waits}
 use Rattle.span_run.proofs.PlacesLemmas.{none_placed, none_placed_part}
 use Rattle.span_run.proofs.BookLemmas.{covered-within}
-use Rattle.span_run.proofs.Goes.{never, none_tallied, no_shelf, no_sink, refused_answers}
+use Rattle.span_run.proofs.CarryLemmas.{none_paid}
+use Rattle.span_run.proofs.Goes.{no_shelf, no_sink, none_tallied, refused_answers, same_queries, unplaced}
 
 pub passes_of : (old new : Site) (command : Command) (before after : Outlet) → Goes old command new → before.faults ≤ after.faults → before.wants ≤ after.wants → Passes (Some command) (scene old) before (scene new) after
 passes_of old new command before after goes later wants_later = record {
@@ -25,33 +26,44 @@ passes_of old new command before after goes later wants_later = record {
   wants_later = wants_later;
 }
 
--- an answer that was sent
-pub answer_done : (old new : Site) (number : ℕ) (command : Command) (answer : Answer) (before after : Outlet) (told : Told) → Answers old number command new answer → told ≡ answer.told → IsSent before answer.line.items after
-    → Done number (Some command) (scene old) before (scene new) after told
-answer_done old new number command answer before after told a is sent = record {
-  passes = passes_of old new command before after a.goes sent.later sent.wants_later;
-  finishes = subst (λ (t : Told). Finishes (Carried (world_at old) number (Some command)) t before.written after.written (world_at new)) (sym is) (answer.line.items, a.carries, sent.appends);
-  paid = a.paid;
-  tallies = subst (λ (t : Told). Tallies (Registers command) (Compacts command) t (scene old) (scene new)) (sym is) a.tallies;
+-- a line whose reply was written, or a front of it
+pub written_ends : (number : ℕ) (meaning : Option Command) (old new : Scene) (before after : Outlet) (told : Told) (reply : List ℕ) (r : Result Told Stop)
+    → (before.faults ≤ after.faults → before.wants ≤ after.wants → Passes meaning old before new after) → Replies meaning → Carried (world_in old) number meaning told reply (world_in new)
+    → ((a : Allowance) × IsAllowance (world_in old) meaning a × IsPaid a (counters_in old) (counters_in new)) → Tallies (Of Registers meaning) (Of Compacts meaning) told old new
+    → (Of IsList meaning → ⊥) ⊎ (WantsFor r before after × ((world_in new).state ≡ (world_in old).state)) → IfOk r (λ t. t ≡ told) → Wrote r before reply after → Ends number meaning old before new after r
+written_ends number meaning old new before after told reply (Ok t) passes replied carried paid tallies wants is sent = record {
+  passes = passes sent.later sent.wants_later;
+  finishes = (reply, subst (λ (x : Told). Carried (world_in old) number meaning x reply (world_in new)) (sym is) carried, sent.appends);
+  paid = paid;
+  tallies = subst (λ (x : Told). Tallies (Of Registers meaning) (Of Compacts meaning) x old new) (sym is) tallies;
+}
+written_ends number meaning old new before after told reply (Err why) passes replied carried paid tallies wants is cut = record {
+  passes = passes cut.later cut.wants_later;
+  halts = inr (told, reply, carried, cut.front);
+  fault = λ e. (replied, cut.fault e);
+  shelf_fault = λ e. absurd (cut.no_shelf e);
+  want = λ e. elim wants [
+    | inl other ↦ inl other
+    | inr (want, same) ↦ inr (elim (want e) [
+      | inl rose ↦ inl rose
+      | inr kept ↦ inr (record { written = kept; state = same })
+    ])
+  ];
 }
 
-pub replies : (command : Command) → IsAnswering command → Some command ≡ Some form.Nothing → ⊥
+replies : (command : Command) → IsAnswering command → Some command ≡ Some form.Nothing → ⊥
 replies command answering is = let same : command ≡ form.Nothing = cc is in subst IsAnswering same answering
 
 lists_none : (command : Command) → IsAnswering command → IsList command → ⊥
 lists_none (form.List q n w k) answering list = answering
 lists_none _ answering list = list
 
--- an answer that wasn't
-pub answer_stopped : (old new : Site) (number : ℕ) (command : Command) (answer : Answer) (before after : Outlet) (why : Stop) → Replies (Some command) → Answers old number command new answer → IsUnsent before answer.line.items after why
-    → Stopped number (Some command) (scene old) before (scene new) after why
-answer_stopped old new number command answer before after why replied a unsent = record {
-  passes = passes_of old new command before after a.goes unsent.later unsent.wants_later;
-  halts = inr (answer.told, answer.line.items, a.carries, unsent.front);
-  fault = λ is. (replied, unsent.fault is);
-  shelf_fault = λ is. absurd (unsent.no_shelf is);
-  want = λ is. inr (inl (unsent.want is));
-}
+-- an answer that was sent, or wasn't
+pub answer_ends : (old new : Site) (number : ℕ) (command : Command) (answer : Answer) (before after : Outlet) (r : Result Told Stop) → IsAnswering command → Answers old number command new answer
+    → IfOk r (λ t. t ≡ answer.told) → Wrote r before answer.line.items after → Ends number (Some command) (scene old) before (scene new) after r
+answer_ends old new number command answer before after r answering a is wrote =
+    written_ends number (Some command) (scene old) (scene new) before after answer.told answer.line.items r (passes_of old new command before after a.goes) (replies command answering) a.carries a.paid a.tallies
+    (inl (lists_none command answering)) is wrote
 
 -- a command that was stopped before it had an answer
 pub stays_stopped : (old new : Site) (number : ℕ) (command : Command) (before : Outlet) (why : Stop) → IsAnswering command → Stays old number command new why → Stopped number (Some command) (scene old) before (scene new) before why
@@ -59,7 +71,7 @@ stays_stopped old new number command before why answering s = record {
   passes = passes_of old new command before before s.goes (omega arith) (omega arith);
   halts = elim s.state [
     | inl same ↦ inl (record { written = Keeps-refl before.written; state = same })
-    | inr more ↦ inr (more.1.0, more.1.1, more.1.2, nothing_front before.written more.1.1)
+    | inr more ↦ inr (more.1.0, more.1.1, more.1.2, (waits (starts before more.1.1)).front)
   ];
   fault = λ is. absurd (s.sink is);
   shelf_fault = λ is. let file = s.shelf is in (
@@ -73,12 +85,15 @@ stays_stopped old new number command before why answering s = record {
   want = λ is. inl (lists_none command answering);
 }
 
--- a command that was stopped before it wrote anything
-pub unstarted : (old new : Site) (number : ℕ) (command : Command) (before : Outlet) → Goes old command new → state_of new.held ≡ state_of old.held → Stopped number (Some command) (scene old) before (scene new) before stop.NoMemory
-unstarted old new number command before goes same =
-    let left : Leaves (world_at old) before.written before.written (world_at new) = record { written = Keeps-refl before.written; state = same } in
+-- a command that was stopped before it wrote anything, since there was no memory for all tables
+pub unplaced_stops : (h : Held) (book : List Entry) (number : ℕ) (command : Command) (files : Option Files) (faults looks pairs p q : ℕ) (before : Outlet) → IsHeld h → Serves h.store book → queries_of book ≡ queries_of h.book
+    → ArePartlyAt (length h.store) (covered_of h.book) (covered_of book) → q + sum_of (covered_of h.book) ≡ p + sum_of (covered_of book)
+    → Stopped number (Some command) (seen (standing_of h) files faults looks pairs p) before (seen (standing_of (record h { book = book })) files faults looks pairs q) before stop.NoMemory
+unplaced_stops h book number command files faults looks pairs p q before is serves same partly steps =
+    let goes = (unplaced h book number command files faults looks pairs p q is serves same partly steps).goes in
+    let left : Leaves (world (state_of h) files) before.written before.written (world (state_of (record h { book = book })) files) = record { written = Keeps-refl before.written; state = same_queries h book same } in
     record {
-      passes = passes_of old new command before before goes (omega arith) (omega arith);
+      passes = passes_of (at h files faults looks pairs p) (at (record h { book = book }) files faults looks pairs q) command before before goes (omega arith) (omega arith);
       halts = inl left;
       fault = λ e. absurd (no_sink e);
       shelf_fault = λ e. no_shelf e;
@@ -86,7 +101,7 @@ unstarted old new number command before goes same =
     }
 
 -- ---- nothing was done to what is held
-pub passes_by : (meaning : Option Command) (h : Held) (files : Option Files) (faults looks pairs places : ℕ) (before after : Outlet) → IsHeld h → before.faults ≤ after.faults → before.wants ≤ after.wants
+passes_by : (meaning : Option Command) (h : Held) (files : Option Files) (faults looks pairs places : ℕ) (before after : Outlet) → IsHeld h → before.faults ≤ after.faults → before.wants ≤ after.wants
     → Passes meaning (seen (standing_of h) files faults looks pairs places) before (seen (standing_of h) files faults looks pairs places) after
 passes_by meaning h files faults looks pairs places before after is later wants_later = record {
   more_nodes = inl (omega arith);
@@ -100,24 +115,10 @@ passes_by meaning h files faults looks pairs places before after is later wants_
   wants_later = wants_later;
 }
 
-pub calm_tallied : (registers compacts : Type 0) (told : Told) (h : Held) (files : Option Files) (faults looks pairs places : ℕ) → (registers → ⊥) → (compacts → ⊥)
+calm_tallied : (registers compacts : Type 0) (told : Told) (h : Held) (files : Option Files) (faults looks pairs places : ℕ) → IsOnce registers told 0 → IsOnce compacts told 0
     → Tallies registers compacts told (seen (standing_of h) files faults looks pairs places) (seen (standing_of h) files faults looks pairs places)
-calm_tallied registers compacts told h files faults looks pairs places other kept =
-    none_tallied registers compacts told (seen (standing_of h) files faults looks pairs places) (seen (standing_of h) files faults looks pairs places) (never registers other told) (never compacts kept told) (omega arith) (omega arith) (none_placed (length h.store) (covered_of h.book) places)
-
--- the memory ran out before anything was done
-pub not_begun : (number : ℕ) (meaning : Option Command) (h : Held) (files : Option Files) (faults looks pairs places : ℕ) (before : Outlet) → IsHeld h
-    → Stopped number meaning (seen (standing_of h) files faults looks pairs places) before (seen (standing_of h) files faults looks pairs places) before stop.NoMemory
-not_begun number meaning h files faults looks pairs places before is =
-    let here = world (state_of h) files in
-    let left : Leaves here before.written before.written here = record { written = Keeps-refl before.written; state = refl } in
-    record {
-      passes = passes_by meaning h files faults looks pairs places before before is (omega arith) (omega arith);
-      halts = inl left;
-      fault = λ e. absurd (no_sink e);
-      shelf_fault = λ e. no_shelf e;
-      want = λ e. inr (inr left);
-    }
+calm_tallied registers compacts told h files faults looks pairs places none kept =
+    none_tallied registers compacts told (seen (standing_of h) files faults looks pairs places) (seen (standing_of h) files faults looks pairs places) none kept (omega arith) (omega arith) (none_placed (length h.store) (covered_of h.book) places)
 
 pub quiet_done : (number : ℕ) (h : Held) (files : Option Files) (faults looks pairs places : ℕ) (before : Outlet) → IsHeld h
     → Done number (Some form.Nothing) (seen (standing_of h) files faults looks pairs places) before (seen (standing_of h) files faults looks pairs places) before Quiet
@@ -125,33 +126,19 @@ quiet_done number h files faults looks pairs places before is = record {
   passes = passes_by (Some form.Nothing) h files faults looks pairs places before before is (omega arith) (omega arith);
   finishes = ([], (refl, refl, refl), Appends-nil before.written);
   paid = (no_steps, refl, none_paid looks pairs pairs refl);
-  tallies = calm_tallied (Registers form.Nothing) (Compacts form.Nothing) Quiet h files faults looks pairs places (λ no. no) (λ no. no);
+  tallies = calm_tallied (Registers form.Nothing) (Compacts form.Nothing) Quiet h files faults looks pairs places refl refl;
 }
 
-none_of : (Kind : Command → Type 0) → Of Kind None → ⊥
-none_of Kind h = h
-
--- a line that is no command
-pub syntax_done : (number : ℕ) (h : Held) (files : Option Files) (faults looks pairs places : ℕ) (answer : Answer) (before after : Outlet) (told : Told) → IsHeld h → answer.told ≡ Refused
-    → answer.line.items ≡ refusal_text number Syntax → told ≡ answer.told → IsSent before answer.line.items after
-    → Done number None (seen (standing_of h) files faults looks pairs places) before (seen (standing_of h) files faults looks pairs places) after told
-syntax_done number h files faults looks pairs places answer before after told is refused written same sent = record {
-  passes = passes_by None h files faults looks pairs places before after is sent.later sent.wants_later;
-  finishes = (answer.line.items, (same ∙ refused, written, refl), sent.appends);
-  paid = (no_steps, refl, none_paid looks pairs pairs refl);
-  tallies = calm_tallied (Of Registers None) (Of Compacts None) told h files faults looks pairs places (none_of Registers) (none_of Compacts);
-}
-
-pub syntax_stopped : (number : ℕ) (h : Held) (files : Option Files) (faults looks pairs places : ℕ) (answer : Answer) (before after : Outlet) (why : Stop) → IsHeld h → answer.line.items ≡ refusal_text number Syntax
-    → IsUnsent before answer.line.items after why
-    → Stopped number None (seen (standing_of h) files faults looks pairs places) before (seen (standing_of h) files faults looks pairs places) after why
-syntax_stopped number h files faults looks pairs places answer before after why is written unsent = record {
-  passes = passes_by None h files faults looks pairs places before after is unsent.later unsent.wants_later;
-  halts = inr (Refused, answer.line.items, (refl, written, refl), unsent.front);
-  fault = λ e. ((λ nothing. let bad : ⊥ = cc nothing in bad), unsent.fault e);
-  shelf_fault = λ e. absurd (unsent.no_shelf e);
-  want = λ e. inl (λ list. list);
-}
+-- a line that only replies, and for nothing
+pub still_ends : (number : ℕ) (meaning : Option Command) (h : Held) (files : Option Files) (faults looks pairs places : ℕ) (before after : Outlet) (told : Told) (reply : List ℕ) (r : Result Told Stop) → IsHeld h → Replies meaning
+    → Carried (world (state_of h) files) number meaning told reply (world (state_of h) files) → IsAllowance (world (state_of h) files) meaning no_steps → IsOnce (Of Registers meaning) told 0 → IsOnce (Of Compacts meaning) told 0
+    → (Of IsList meaning → ⊥) ⊎ WantsFor r before after → IfOk r (λ t. t ≡ told) → Wrote r before reply after
+    → Ends number meaning (seen (standing_of h) files faults looks pairs places) before (seen (standing_of h) files faults looks pairs places) after r
+still_ends number meaning h files faults looks pairs places before after told reply r is replied carried free none kept wants is_told wrote =
+    let here = seen (standing_of h) files faults looks pairs places in
+    written_ends number meaning here here before after told reply r (passes_by meaning h files faults looks pairs places before after is) replied carried
+    (no_steps, free, none_paid looks pairs pairs refl) (calm_tallied (Of Registers meaning) (Of Compacts meaning) told h files faults looks pairs places none kept)
+    (elim wants [ inl other ↦ inl other | inr want ↦ inr (want, refl) ]) is_told wrote
 
 -- ---- what a refused command says of the whole
 pub refused_here : (h : Held) (number : ℕ) (command : Command) (why : Refusal) (answer : Answer) (files : Option Files) (faults looks pairs places : ℕ) → IsRefusedFreely h files command why
@@ -164,6 +151,11 @@ refused_here h number command why answer files faults looks pairs places is told
 -- what is refused has a reply
 pub refused_replies : (w : World) (command : Command) (why : Refusal) → IsRefused w command why → Some command ≡ Some form.Nothing → ⊥
 refused_replies w command why refused is = let same : command ≡ form.Nothing = cc is in subst (λ (c : Command). IsRefused w c why) same refused
+
+-- what ends a command ends the line that it is
+pub line_ends : {T E : Type 0} {P : T → Type 0} {Q : E → Type 0} (r : Result T E) (D : T → Type 0) (S : E → Type 0) → ((x : T) → P x → D x) → ((e : E) → Q e → S e) → MatchResult r P Q → IfOk r D × IfErr r S
+line_ends (Ok x) D S done stopped h = (done x h, tt)
+line_ends (Err e) D S done stopped h = (tt, stopped e h)
 
 -- ---- which commands have one value as their reply
 pub is_answering : (command : Command) → (command ≡ form.Nothing → ⊥) → (command ≡ form.Names → ⊥) → ((q n : List ℕ) (w : Option (List ℕ)) (k : ℕ) → command ≡ form.List q n w k → ⊥) → ((q : List ℕ) (k : ℕ) → command ≡ form.ListAll q k → ⊥) → IsAnswering command

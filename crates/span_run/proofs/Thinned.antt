@@ -1,9 +1,9 @@
 -- What is held when the nodes that nothing reaches are gone.
-use Rattle.std.proofs.Common.{◌≡◌, ◌∙◌, ◌+◌, ◌-◌, ◌*◌, ◌≤◌, ℕ, zero, suc, Bool, true, false, List, [], ◌∷◌, length, map, Option, inl, inr, refl, sym, ap, subst, arith}
+use Rattle.span_run.proofs.Names.{[], Accepted, AllByRecursion, Answer, Answers, ap, arith, at, Bool, Carries, Compacts, covered_of, Doc, Entry, false, Files}
+use Rattle.span_run.proofs.Names.{Held, inl, inr, IsHeld, length, List, map, Named, no_steps, Node, ok_text, Option, pair_weight, Places, queries_of, refl}
+use Rattle.span_run.proofs.Names.{Registers, Serves, State, state_of, subst, suc, sum_by-cons, sum_of, sym, Told, true, world, zero, ℕ, ◌*◌, ◌+◌, ◌-◌, ◌∙◌, ◌∷◌}
+use Rattle.span_run.proofs.Names.{◌≡◌, ◌≤◌}
 use Rattle.slp_model.proofs.RankLemmas.{rank-most}
-use Rattle.span_run.proofs.Names.{Accepted, AllByRecursion, Answer, Answers, at, Carries, Compacts, covered_of, Doc, Entry, Files, Held, IsHeld, Named}
-use Rattle.span_run.proofs.Names.{no_steps, Node, ok_text, pair_weight, Places, queries_of, Registers, Serves, State, state_of, sum_by-cons, sum_of, Told}
-use Rattle.span_run.proofs.Names.{world}
 use Rattle.slp_model.specs.declared.Node.TheVariants.{Byte, Pair}
 use Rattle.slp_model.specs.Nodes.{pair_count}
 use Rattle.slp_model.specs.Thin.{kept_of, rank, renumbered}

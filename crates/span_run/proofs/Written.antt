@@ -1,18 +1,20 @@
 -- What a sink holds after several writes.
-use Rattle.std.proofs.Common.{◌≡◌, length, arith, ℕ, ◌+◌, ◌≤◌, List, [], ◌++◌, take, drop, refl, sym, ◌∙◌, ap, subst, append_assoc, Option, min}
-use Rattle.span_run.proofs.Names.{append-nil, Appends, Appends-nil, Appends-trans, AppendsFront, take-add, take-append-add, take-append-le}
-use Rattle.span_run.proofs.Names.{take-append_seam, take_min}
+use Rattle.span_run.proofs.Names.{[], ap, append-nil, append_assoc, Appends, Appends-nil, Appends-trans, AppendsFront, arith, drop, Err, IsCut, IsErrAnd}
+use Rattle.span_run.proofs.Names.{IsSent, IsUpTo, length, List, MatchResult, min, Ok, Option, Outlet, refl, Result, Stop, subst, sym, take, take-add}
+use Rattle.span_run.proofs.Names.{take-append-add, take-append-le, take-append_seam, take_min, Wrote, ℕ, ◌++◌, ◌+◌, ◌∙◌, ◌≡◌, ◌≤◌}
+use Rattle.span_language.specs.declared.told.Stop.TheVariants as stop
 
--- nothing is a front of anything
-pub nothing_front : (w : Option (List ℕ)) (reply : List ℕ) → AppendsFront w w reply
-nothing_front w reply = (0, Appends-nil w)
+-- what a call sent_all with that passes on another's error
+pub passed : {T E : Type 0} (r : Result T E) (P : T → Type 0) (Q : E → Type 0) (e : E) → IsErrAnd r (λ x. x ≡ e) → Q e → MatchResult r P Q
+passed (Ok x) P Q e h q = absurd h
+passed (Err y) P Q e h q = subst Q (sym h) q
 
 pub more_of_piece : (a b c : Option (List ℕ)) (piece : List ℕ) (done n : ℕ) → Appends a b (take done piece) → Appends b c (take n (drop done piece)) → Appends a c (take (done + n) piece)
 more_of_piece a b c piece done n first second =
     subst (λ (l : List ℕ). Appends a c l) (sym (take-add done n piece)) (Appends-trans a b c (take done piece) (take n (drop done piece)) first second)
 
 -- a front of a piece, behind the pieces before it, is a front of the whole
-pub front_of_whole : (a b c : Option (List ℕ)) (before piece after whole : List ℕ) → whole ≡ before ++ piece ++ after
+front_of_whole : (a b c : Option (List ℕ)) (before piece after whole : List ℕ) → whole ≡ before ++ piece ++ after
     → Appends a b before → AppendsFront b c piece → AppendsFront a c whole
 front_of_whole a b c before piece after whole is first (n, second) =
     let m = length before + min n (length piece) in
@@ -23,25 +25,57 @@ front_of_whole a b c before piece after whole is first (n, second) =
     ∙ ap (λ (l : List ℕ). before ++ l) (take-append-le (min n (length piece)) piece after few ∙ take_min n piece)
     in (m, subst (λ (l : List ℕ). Appends a c l) (sym front) (Appends-trans a b c before (take n piece) first second))
 
--- and so is what stands before the piece
-pub before_of_whole : (a b : Option (List ℕ)) (before rest whole : List ℕ) → whole ≡ before ++ rest → Appends a b before → AppendsFront a b whole
-before_of_whole a b before rest whole is first = (length before, subst (λ (l : List ℕ). Appends a b l) (sym (ap (λ (l : List ℕ). take (length before) l) is ∙ take-append_seam before rest)) first)
+-- ---- a listing in progress
+pub none_sent : (a : Outlet) → IsSent a [] a
+none_sent a = record { appends = Appends-nil a.written; later = omega arith; wants_later = omega arith }
 
--- a listing in progress: what was written, and the front of the whole that is left
-abbrev pub IsListing : Option (List ℕ) → Option (List ℕ) → List ℕ → List ℕ → Type 0
-IsListing a b left whole = (done : List ℕ) × Appends a b done × (whole ≡ done ++ left)
+pub starts : (a : Outlet) (whole : List ℕ) → IsUpTo a a whole whole
+starts a whole = record { done = []; sent = none_sent a; cut = refl }
 
-pub listing_starts : (a : Option (List ℕ)) (whole : List ℕ) → IsListing a a whole whole
-listing_starts a whole = ([], Appends-nil a, refl)
+pub sent_on : {a b c : Outlet} {whole : List ℕ} (piece left line : List ℕ) → IsUpTo a b (piece ++ left) whole → line ≡ piece → IsSent b line c → IsUpTo a c left whole
+sent_on {a} {b} {c} {whole} piece left line h is wrote = record {
+  done = h.done ++ piece;
+  sent = record {
+    appends = Appends-trans a.written b.written c.written h.done piece h.sent.appends (subst (λ (l : List ℕ). Appends b.written c.written l) is wrote.appends);
+    later = omega (arith, h.sent.later, wrote.later);
+    wants_later = omega (arith, h.sent.wants_later, wrote.wants_later);
+  };
+  cut = h.cut ∙ sym (append_assoc h.done piece left);
+}
 
-pub listing_goes_on : (a b c : Option (List ℕ)) (piece left whole : List ℕ) → IsListing a b (piece ++ left) whole → Appends b c piece → IsListing a c left whole
-listing_goes_on a b c piece left whole (done, before, is) wrote = (done ++ piece, Appends-trans a b c done piece before wrote, is ∙ sym (append_assoc done piece left))
+pub stops : {a b c : Outlet} {whole : List ℕ} {why : Stop} (piece left line : List ℕ) → IsUpTo a b (piece ++ left) whole → line ≡ piece → IsCut b line c why → IsCut a whole c why
+stops {a} {b} {c} {whole} {why} piece left line h is stopped = record {
+  front = front_of_whole a.written b.written c.written h.done piece left whole (h.cut ∙ sym (append_assoc h.done piece left)) h.sent.appends
+      (subst (λ (l : List ℕ). AppendsFront b.written c.written l) is stopped.front);
+  later = omega (arith, h.sent.later, stopped.later);
+  wants_later = omega (arith, h.sent.wants_later, stopped.wants_later);
+  fault = λ e. let rose = stopped.fault e in omega (arith, h.sent.later, rose);
+  no_shelf = stopped.no_shelf;
+}
 
-pub listing_waits : (a b : Option (List ℕ)) (left whole : List ℕ) → IsListing a b left whole → AppendsFront a b whole
-listing_waits a b left whole (done, before, is) = before_of_whole a b done left whole is before
+pub waits : {a b : Outlet} {left whole : List ℕ} → IsUpTo a b left whole → IsCut a whole b stop.NoMemory
+waits {a} {b} {left} {whole} h = record {
+  front = (length h.done, subst (λ (l : List ℕ). Appends a.written b.written l) (sym (ap (λ (l : List ℕ). take (length h.done) l) h.cut ∙ take-append_seam h.done left)) h.sent.appends);
+  later = h.sent.later;
+  wants_later = h.sent.wants_later;
+  fault = λ e. let bad : ⊥ = cc e in absurd bad;
+  no_shelf = λ e. cc e;
+}
 
-pub listing_stops : (a b c : Option (List ℕ)) (piece left whole : List ℕ) → IsListing a b (piece ++ left) whole → AppendsFront b c piece → AppendsFront a c whole
-listing_stops a b c piece left whole (done, before, is) stopped = front_of_whole a b c done piece left whole (is ∙ sym (append_assoc done piece left)) before stopped
+pub sent_all : {a b : Outlet} {whole : List ℕ} → IsUpTo a b [] whole → IsSent a whole b
+sent_all {a} {b} {whole} h = subst (λ (l : List ℕ). IsSent a l b) (sym (h.cut ∙ append-nil h.done)) h.sent
 
-pub listing_ends : (a b : Option (List ℕ)) (whole : List ℕ) → IsListing a b [] whole → Appends a b whole
-listing_ends a b whole (done, before, is) = subst (λ (l : List ℕ). Appends a b l) (sym (is ∙ append-nil done)) before
+-- the last piece
+pub last : {T : Type 0} {a b : Outlet} {whole : List ℕ} (r : Result T Stop) (c : Outlet) (piece line : List ℕ) → IsUpTo a b piece whole → line ≡ piece → Wrote r b line c → Wrote r a whole c
+last {T} {a} {b} {whole} r c piece line h is wrote = by r wrote
+  where
+    all : IsUpTo a b (piece ++ []) whole
+    all = subst (λ (l : List ℕ). IsUpTo a b l whole) (sym (append-nil piece)) h
+
+    by : (q : Result T Stop) → Wrote q b line c → Wrote q a whole c
+    by (Ok x) sent = sent_all (sent_on piece [] line all is sent)
+    by (Err why) stopped = stops piece [] line all is stopped
+
+-- a part of the whole was written up to what is left of it
+pub part : {a b c : Outlet} {left mid whole : List ℕ} → IsUpTo a b mid whole → IsUpTo b c left mid → IsUpTo a c left whole
+part {a} {b} {c} {left} {mid} {whole} h p = sent_on p.done left p.done (subst (λ (l : List ℕ). IsUpTo a b l whole) p.cut h) refl p.sent

@@ -1,12 +1,11 @@
 -- What a line of a meaning does to a session and to the outside.
 use Rattle.std.specs.Prelude.{◌≡◌, ◌⊎◌, ℕ, ◌+◌, ◌≤◌, List, Option}
-use Rattle.std.specs.Io.KnownBytes.{Appends}
 use Rattle.edge_io.specs.Causes.{Rose}
 use Rattle.script_syntax.specs.declared.form.Command.{Command}
 use Rattle.span_language.specs.Allowance.{Allowance, IsPaid, no_steps}
 use Rattle.span_language.specs.Counts.{Compacts, PlacesPart, Registers}
 use Rattle.span_language.specs.Means.{Carried, IsAllowance, Means, Of, Replies}
-use Rattle.span_language.specs.Step.{AppendsFront, Finishes, Halts, IsList, IsOfFile, IsSave, KeepsFiles, Leaves}
+use Rattle.span_language.specs.Step.{Finishes, Halts, IsList, IsOfFile, IsSave, KeepsFiles, Leaves}
 use Rattle.span_language.specs.declared.told.Told.{Told}
 use Rattle.span_language.specs.declared.told.Stop.{Stop}
 use Rattle.span_language.specs.declared.told.Stop.TheVariants as stop
@@ -48,21 +47,6 @@ pub record Stopped (number : ℕ) (meaning : Option Command) (old : Scene) (befo
   pub fault : why ≡ stop.OutFault → Replies meaning × Rose before.faults after.faults
   pub shelf_fault : why ≡ stop.ShelfFault → Of IsOfFile meaning × Rose old.faults new.faults × Leaves (world_in old) before.written after.written (world_in new)
   pub want : why ≡ stop.NoMemory → (Of IsList meaning → ⊥) ⊎ (Rose before.wants after.wants ⊎ Leaves (world_in old) before.written after.written (world_in new))
-
--- a piece was written whole
-pub record IsSent (before : Outlet) (piece : List ℕ) (after : Outlet) : Type 0 where
-  pub appends : Appends before.written after.written piece
-  pub later : before.faults ≤ after.faults
-  pub wants_later : before.wants ≤ after.wants
-
--- a front of it was, and then the sink took no more for this reason
-pub record IsUnsent (before : Outlet) (piece : List ℕ) (after : Outlet) (why : Stop) : Type 0 where
-  pub front : AppendsFront before.written after.written piece
-  pub later : before.faults ≤ after.faults
-  pub wants_later : before.wants ≤ after.wants
-  pub fault : why ≡ stop.OutFault → Rose before.faults after.faults
-  pub want : why ≡ stop.NoMemory → Rose before.wants after.wants
-  pub no_shelf : why ≡ stop.ShelfFault → ⊥
 
 -- the line was done, by what it means, and told this
 abbrev pub IsDone : List ℕ → ℕ → Scene → Outlet → Scene → Outlet → Told → Type 0

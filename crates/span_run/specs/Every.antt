@@ -1,6 +1,5 @@
 -- What a listing of the answers on every document writes.
-use Rattle.std.specs.Prelude.{◌≡◌, ℕ, ◌≤◌, ◌^◌, List, [], ◌∷◌, ◌++◌, Option, Some, length, drop, slice_get}
-use Rattle.std.specs.Io.KnownBytes.{Appends}
+use Rattle.std.specs.Prelude.{◌≡◌, ℕ, ◌≤◌, ◌^◌, List, [], ◌∷◌, ◌++◌, Some, length, drop, slice_get}
 use Rattle.slp_model.specs.declared.Node.{Node}
 use Rattle.marker_dfa.specs.Deterministic.{DeterministicAutomaton}
 use Rattle.state_tables.specs.Dictionary.{AreTables, Dictionary}
@@ -46,10 +45,6 @@ every_text names n (d ∷ ds) (l ∷ ls) = doc_line d.name ++ (first_page_text n
 -- the same of the documents from a place on
 abbrev pub rest_text : List (List ℕ) → ℕ → List Doc → List (List Tuple) → ℕ → List ℕ
 rest_text names n ds ls place = every_text names n (drop place ds) (drop place ls)
-
--- of the whole all was written but what is left
-abbrev pub WritesUpTo : Option (List ℕ) → Option (List ℕ) → List ℕ → List ℕ → Type 0
-WritesUpTo before after left whole = (done : List ℕ) × Appends before after done × (whole ≡ done ++ left)
 
 -- the reply with the answers of the query of this name on each document is written
 pub record ListsEvery (Writes : List ℕ → Type 0) (queries : Named Query) (name : List ℕ) (documents : Documents) (n : ℕ) : Type 0 where

@@ -6,8 +6,10 @@ pub mod Scene
 pub mod Answers
 pub mod Subject
 pub mod Carried
+pub mod Written
 pub mod Refusing
 pub mod Shown
+pub mod Registering
 pub mod Reading
 pub mod Asked
 pub mod Judged

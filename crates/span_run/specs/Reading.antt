@@ -1,11 +1,10 @@
 -- Files that are read in pieces.
-use Rattle.std.specs.Prelude.{◌≡◌, ◌⊎◌, ℕ, ◌+◌, ◌<◌, ◌≤◌, List, Option, Some, IfSome, length, take}
+use Rattle.std.specs.Prelude.{◌≡◌, ◌⊎◌, ℕ, ◌+◌, ◌<◌, ◌≤◌, List, ◌++◌, Option, Some, IfSome, length, take}
 use Rattle.std.specs.Io.KnownBytes.{Consumes}
 use Rattle.edge_io.specs.Files.{Files, Holds, file_of}
 use Rattle.edge_io.specs.declared.ShelfRefusal.{ShelfRefusal}
 use Rattle.edge_io.specs.declared.ShelfRefusal.TheVariants as shelf
-use Rattle.slp_image.specs.Image.{image}
-use Rattle.span_language.specs.Step.{IsWithin, Lacks, load_size, open_size}
+use Rattle.span_language.specs.Step.{IsWithin, Lacks, load_size}
 use Rattle.span_language.specs.Allowance.{load_limit}
 use Rattle.span_run.specs.declared.reading.FileRefusal.{FileRefusal}
 use Rattle.span_run.specs.declared.reading.FileRefusal.TheVariants.{Absent, TooLong, Failed, NoMemory}
@@ -38,10 +37,11 @@ pub record IsFrontOf (all : Files) (name : List ℕ) (limit : ℕ) (front : List
 abbrev pub IsFileFront : Option Files → List ℕ → ℕ → List ℕ → Type 0
 IsFileFront files name limit front = IfSome files (λ all. IsFrontOf all name limit front)
 
+-- what was read of a file behind a front of so many bytes: the file begins with both, and where nothing was read the front is all of it
+abbrev pub IsNextPiece : Option Files → List ℕ → ℕ → ℕ → List ℕ → Type 0
+IsNextPiece files name limit at piece = (front : List ℕ) → length front ≡ at → IsFileFront files name limit front
+    → IsFileFront files name limit (front ++ piece) × (length piece ≡ 0 → IsWithin files name limit front)
+
 -- the pair calls of loading a file: none, or at most those that its bytes may cost
 abbrev pub IsLoadPaid : Option Files → List ℕ → ℕ → ℕ → Type 0
 IsLoadPaid files name before after = (after ≡ before) ⊎ ((bytes : List ℕ) × IsWithin files name load_size bytes × (after ≤ before + load_limit (length bytes)))
-
--- the pair calls of opening a file: none, or at most those that its image may cost
-abbrev pub IsOpenPaid : Option Files → List ℕ → ℕ → ℕ → Type 0
-IsOpenPaid files name before after = (after ≡ before) ⊎ ((bytes : List ℕ) × IsWithin files name open_size bytes × (after ≤ before + (image bytes).cost))

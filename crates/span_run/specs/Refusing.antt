@@ -1,5 +1,5 @@
 -- What a refused command does: it replies, and nothing else.
-use Rattle.std.specs.Prelude.{◌≡◌, ℕ, Option, Some, Result, IfErr, IfOk}
+use Rattle.std.specs.Prelude.{◌≡◌, ℕ, Option, Some, Result, IfOk}
 use Rattle.edge_io.specs.Files.{Files}
 use Rattle.script_syntax.specs.declared.form.Command.{Command}
 use Rattle.report_text.specs.declared.refusal.Refusal.{Refusal}
@@ -11,10 +11,11 @@ use Rattle.span_language.specs.declared.told.Stop.{Stop}
 use Rattle.span_run.specs.declared.answer.Answer.{Answer}
 use Rattle.span_run.specs.declared.held.Held.{Held}
 use Rattle.span_run.specs.Answers.{Answers, StaysFreely}
-use Rattle.span_run.specs.Carried.{Done, Outlet, Stopped}
+use Rattle.span_run.specs.Carried.{Outlet}
 use Rattle.span_run.specs.Held.{IsHeld, standing_of, state_of}
 use Rattle.span_run.specs.Scene.{seen}
 use Rattle.span_run.specs.Site.{at}
+use Rattle.span_run.specs.Written.{Ends}
 
 -- the command is refused for this reason, and that may cost nothing
 pub record IsRefusedFreely (h : Held) (files : Option Files) (command : Command) (why : Refusal) : Type 0 where
@@ -32,12 +33,7 @@ RefusesFreely held number why result = (old : Held) (command : Command) (files :
 abbrev pub KeepsFreely : Held → ℕ → Result Answer Stop → Type 0
 KeepsFreely held number result = (old : Held) (command : Command) → IsHeld old → held ≡ old → StaysFreely old number command held result
 
--- the answer was written
+-- the answer was written, or not the whole of it
 abbrev pub TurnsAway : Held → ℕ → Refusal → Outlet → Outlet → Result Told Stop → Type 0
 TurnsAway held number why before after result = (command : Command) (files : Option Files) (faults looks pairs places : ℕ) → IsRefusedFreely held files command why
-    → IfOk result (Done number (Some command) (seen (standing_of held) files faults looks pairs places) before (seen (standing_of held) files faults looks pairs places) after)
-
--- or not the whole of it
-abbrev pub StopsBefore : Held → ℕ → Refusal → Outlet → Outlet → Result Told Stop → Type 0
-StopsBefore held number why before after result = (command : Command) (files : Option Files) (faults looks pairs places : ℕ) → IsRefusedFreely held files command why
-    → IfErr result (Stopped number (Some command) (seen (standing_of held) files faults looks pairs places) before (seen (standing_of held) files faults looks pairs places) after)
+    → Ends number (Some command) (seen (standing_of held) files faults looks pairs places) before (seen (standing_of held) files faults looks pairs places) after result

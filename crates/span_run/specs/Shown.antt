@@ -6,7 +6,6 @@ use Rattle.formula_syntax.specs.declared.refusal.FormulaRefusal.{FormulaRefusal}
 use Rattle.formula_syntax.specs.declared.refusal.FormulaRefusal.TheVariants as formula
 use Rattle.query_book.specs.declared.refusal.QueryRefusal.{QueryRefusal}
 use Rattle.query_book.specs.declared.refusal.QueryRefusal.TheVariants as query
-use Rattle.query_book.specs.declared.refusal.CombineRefusal.{CombineRefusal}
 use Rattle.report_text.specs.declared.refusal.Refusal.TheVariants as refusal
 use Rattle.slp_image.specs.Fields.{kind_of}
 use Rattle.slp_image.specs.Image.{Meaning}
@@ -18,7 +17,6 @@ use Rattle.span_run.specs.declared.reading.FileRefusal.{FileRefusal}
 use Rattle.span_run.specs.declared.reading.FileRefusal.TheVariants.{Absent, TooLong, Failed, NoMemory}
 use Rattle.span_language.specs.State.{Documents, put}
 use Rattle.span_language.specs.Replies.{given_text, IsEditRefusal}
-use Rattle.span_language.specs.Step.{IsCombineRefusal}
 use Rattle.span_language.specs.declared.told.Told.{Told}
 use Rattle.span_language.specs.declared.told.Told.TheVariants.{Accepted, Refused}
 
@@ -67,11 +65,3 @@ abbrev pub IsTextRefusal : QueryRefusal → Refusal → Type 0
 IsTextRefusal (query.Formula f) why = IsFormulaRefusal f why
 IsTextRefusal query.TooManyStates why = why ≡ refusal.TooManyStates
 IsTextRefusal query.NoMemory why = ⊥
-
--- the reply gives the refusal of a query's text
-abbrev pub IsTextDenied : ℕ → QueryRefusal → Told → List ℕ → Type 0
-IsTextDenied number why told reply = (told ≡ Refused) × (kept : Refusal) × IsTextRefusal why kept × (reply ≡ refusal_text number kept)
-
--- the reply gives why no query was made of others
-abbrev pub IsUncombinedTold : ℕ → CombineRefusal → Told → List ℕ → Type 0
-IsUncombinedTold number why told reply = (told ≡ Refused) × (kept : Refusal) × IsCombineRefusal why kept × (reply ≡ refusal_text number kept)

@@ -6,13 +6,13 @@ ghost use Rattle.span_run.specs.Site.{at};
 ghost use Rattle.span_run.specs.Answers.{Answers, IsAnswering, IsWellFormed, Stays};
 
 use crate::answer::Answer;
-use crate::combining::{join, project, union};
 use crate::compacting::compact;
 use crate::context::Context;
 use crate::documents::{drop_document, let_document, show, text};
 use crate::files::{load_file, open_file, save_file};
 use crate::held::Held;
-use crate::queries::{has, query, test, unquery};
+use crate::queries::{ask, unquery};
+use crate::registering::{Recipe, register};
 use crate::replacing::{Replacing, replace};
 use crate::versions::{back, mark, unmark};
 use edge_io::Shelf;
@@ -51,14 +51,24 @@ pub fn answer<R: Threads + Sync, F: Shelf, G: Gate, P: Ledger, T: Ledger, L: Led
         Command::LetDoc { name, expr } => let_document(held, number, name, expr, pairs),
         Command::DropDoc { name } => drop_document(held, number, name),
         Command::Show { name, from, to } => show(held, number, name, from, to),
-        Command::Query { name, formula } => query(held, number, name, formula),
+        Command::Query { name, formula } => {
+            register(held, number, name, Recipe::Formula { text: formula })
+        }
         Command::Unquery { name } => unquery(held, number, name),
-        Command::UnionQuery { name, left, right } => union(held, number, name, left, right),
-        Command::JoinQuery { name, left, right } => join(held, number, name, left, right),
-        Command::ProjectQuery { name, source, keep } => project(held, number, name, source, keep),
-        Command::Nonempty { query, name } => test(context, held, query, name, places, looks),
+        Command::UnionQuery { name, left, right } => {
+            register(held, number, name, Recipe::Union { left, right })
+        }
+        Command::JoinQuery { name, left, right } => {
+            register(held, number, name, Recipe::Join { left, right })
+        }
+        Command::ProjectQuery { name, source, keep } => {
+            register(held, number, name, Recipe::Project { source, keep })
+        }
+        Command::Nonempty { query, name } => {
+            ask(context, held, query, name, None, places, looks)
+        }
         Command::Has { query, name, tuple } => {
-            has(context, held, query, name, tuple, places, looks)
+            ask(context, held, query, name, Some(tuple), places, looks)
         }
         Command::SaveFile { file } => save_file(held, number, file, shelf),
         Command::OpenFile { file } => open_file(held, number, file, shelf, pairs),

@@ -6,16 +6,16 @@ ghost use Rattle.span_language.specs.Step.{IsShort};
 ghost use Rattle.span_run.specs.Answers.{IsAnswering, IsWellFormed};
 ghost use Rattle.span_run.specs.Held.{IsHeld, standing_of};
 ghost use Rattle.span_run.specs.Scene.{seen};
-ghost use Rattle.span_run.specs.Carried.{Done, IsDone, IsStopped, Stopped, outlet};
+ghost use Rattle.span_run.specs.Carried.{IsDone, IsStopped, outlet};
+ghost use Rattle.span_run.specs.Written.{Ends};
 
-use crate::answer::Answer;
 use crate::answering::answer;
 use crate::context::Context;
 use crate::documents::write_names;
 use crate::every::list_all;
 use crate::held::Held;
 use crate::listing::{Page, list};
-use crate::offer::send;
+use crate::offer::{send, send_refusal};
 use edge_io::{Shelf, Sink};
 use report_text::Refusal;
 use script_syntax::{Command, LineRefusal, command};
@@ -41,16 +41,11 @@ fn reply<R: Threads + Sync, K: Sink, F: Shelf, G: Gate, P: Ledger, T: Ledger, L:
     requires short { IsShort command }
     requires well_formed { IsWellFormed command }
     ensures held { IsHeld held.new }
-    ensures done { IfOk result (Done context.entry.number (Some command)
+    ensures ends { Ends context.entry.number (Some command)
         (seen (standing_of held.old) (F.files shelf.old) (F.faults shelf.old) looks.old pairs.old places.old)
         (outlet (K.written out.old) (K.faults out.old) (K.wants out.old))
         (seen (standing_of held.new) (F.files shelf.new) (F.faults shelf.new) looks.new pairs.new places.new)
-        (outlet (K.written out.new) (K.faults out.new) (K.wants out.new))) }
-    ensures stopped { IfErr result (Stopped context.entry.number (Some command)
-        (seen (standing_of held.old) (F.files shelf.old) (F.faults shelf.old) looks.old pairs.old places.old)
-        (outlet (K.written out.old) (K.faults out.old) (K.wants out.old))
-        (seen (standing_of held.new) (F.files shelf.new) (F.faults shelf.new) looks.new pairs.new places.new)
-        (outlet (K.written out.new) (K.faults out.new) (K.wants out.new))) }
+        (outlet (K.written out.new) (K.faults out.new) (K.wants out.new)) result }
 {
     let answer = answer(context, held, command, shelf, pairs, places, looks)?;
     send(answer, out)
@@ -60,19 +55,13 @@ fn reply<R: Threads + Sync, K: Sink, F: Shelf, G: Gate, P: Ledger, T: Ledger, L:
 fn names<K: Sink>(held: &mut Held, out: &mut K) -> Result<Told, Stop>
     requires { IsHeld held.old }
     ensures held { IsHeld held.new }
-    ensures done { (number : ℕ) (files : Option Files) (faults looks pairs places : ℕ) → IfOk result
-        (Done number (Some form.Names) (seen (standing_of held.old) files faults looks pairs places)
+    ensures ends { (number : ℕ) (files : Option Files) (faults looks pairs places : ℕ) → Ends number (Some form.Names)
+        (seen (standing_of held.old) files faults looks pairs places)
         (outlet (K.written out.old) (K.faults out.old) (K.wants out.old))
         (seen (standing_of held.new) files faults looks pairs places)
-        (outlet (K.written out.new) (K.faults out.new) (K.wants out.new))) }
-    ensures stopped { (number : ℕ) (files : Option Files) (faults looks pairs places : ℕ) → IfErr result
-        (Stopped number (Some form.Names) (seen (standing_of held.old) files faults looks pairs places)
-        (outlet (K.written out.old) (K.faults out.old) (K.wants out.old))
-        (seen (standing_of held.new) files faults looks pairs places)
-        (outlet (K.written out.new) (K.faults out.new) (K.wants out.new))) }
+        (outlet (K.written out.new) (K.faults out.new) (K.wants out.new)) result }
 {
-    write_names(held.alloc, &held.store, &held.docs, out)?;
-    Ok(Told::Accepted)
+    write_names(held.alloc, &held.store, &held.docs, out)
 }
 
 /// Does a command, and writes its reply.
@@ -90,16 +79,11 @@ fn carry<R: Threads + Sync, K: Sink, F: Shelf, G: Gate, P: Ledger, T: Ledger, L:
     requires short { IsShort command }
     requires well_formed { IsWellFormed command }
     ensures held { IsHeld held.new }
-    ensures done { IfOk result (Done context.entry.number (Some command)
+    ensures ends { Ends context.entry.number (Some command)
         (seen (standing_of held.old) (F.files shelf.old) (F.faults shelf.old) looks.old pairs.old places.old)
         (outlet (K.written out.old) (K.faults out.old) (K.wants out.old))
         (seen (standing_of held.new) (F.files shelf.new) (F.faults shelf.new) looks.new pairs.new places.new)
-        (outlet (K.written out.new) (K.faults out.new) (K.wants out.new))) }
-    ensures stopped { IfErr result (Stopped context.entry.number (Some command)
-        (seen (standing_of held.old) (F.files shelf.old) (F.faults shelf.old) looks.old pairs.old places.old)
-        (outlet (K.written out.old) (K.faults out.old) (K.wants out.old))
-        (seen (standing_of held.new) (F.files shelf.new) (F.faults shelf.new) looks.new pairs.new places.new)
-        (outlet (K.written out.new) (K.faults out.new) (K.wants out.new))) }
+        (outlet (K.written out.new) (K.faults out.new) (K.wants out.new)) result }
 {
     match command {
         Command::Nothing => Ok(Told::Quiet),
@@ -151,8 +135,7 @@ pub fn carry_line<R: Threads + Sync, K: Sink, F: Shelf, G: Gate, P: Ledger, T: L
     match command(held.alloc, line) {
         Ok(command) => carry(context, held, command, out, shelf, pairs, places, looks),
         Err(LineRefusal::Syntax) => {
-            let answer = Answer::refused(held.alloc, context.number, &Refusal::Syntax)?;
-            send(answer, out)
+            send_refusal(held.alloc, context.number, &Refusal::Syntax, out)
         }
         Err(LineRefusal::NoMemory) => Err(Stop::NoMemory),
     }

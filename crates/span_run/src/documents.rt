@@ -1,24 +1,23 @@
 //! What commands do to documents, and their replies.
-ghost use Rattle.std.specs.Prelude.{◌≡◌, ◌≤◌, ◌+◌, ◌^◌, length, IfOk, IfErr, OnOk, OnErr, Option, ℕ};
-ghost use Rattle.std.specs.Io.KnownBytes.{Appends};
+ghost use Rattle.std.specs.Prelude.{◌≡◌, ◌≤◌, ◌+◌, ◌^◌, length, IfOk, IfErr, OnErr, Option, ℕ};
 ghost use Rattle.slp_model.specs.Nodes.{Grows, IsLive};
-ghost use Rattle.edge_io.specs.Causes.{Rose};
 ghost use Rattle.edge_io.specs.Files.{Files};
 ghost use Rattle.edit_expr.specs.Eval as meaning;
 ghost use Rattle.edit_expr.specs.Eval.{greatest, operations};
 ghost use Rattle.edit_expr.specs.Values.{AreLive, plain, text_at};
 ghost use Rattle.script_syntax.specs.declared.form.Command.TheVariants as form;
 ghost use Rattle.span_language.specs.Allowance.{edit_limit};
-ghost use Rattle.span_language.specs.Replies.{names_text, shown_range};
-ghost use Rattle.span_language.specs.Step.{AppendsFront};
+ghost use Rattle.span_language.specs.Replies.{entry_text, names_text, shown_range};
+ghost use Rattle.span_run.specs.Carried.{outlet};
 ghost use Rattle.span_run.specs.Answers.{Answers, AnswersFreely, Stays, StaysFreely};
 ghost use Rattle.span_run.specs.Held.{IsHeld};
 ghost use Rattle.span_run.specs.Shown.{Assigns, IsShown, IsGiven, IsDenied};
 ghost use Rattle.span_run.specs.Site.{at};
+ghost use Rattle.span_run.specs.Written.{Wrote};
 
 use crate::answer::{Answer, ok_line};
 use crate::held::Held;
-use crate::offer::offer;
+use crate::offer::{close, offer};
 use crate::reading::{bytes_between, head_of, is_within, root_len};
 use crate::refusing::refuse;
 use doc_book::{Docs, Missing};
@@ -28,7 +27,7 @@ use node_store::Store;
 use pair_loader::load;
 use report_text::{Refusal, doc_line, name_line, shown_line};
 use slp_model::NodeId;
-use span_language::Stop;
+use span_language::{Stop, Told};
 use span_types::{ByteList, Name, NoMemory, Steps};
 use std::alloc::Global;
 use std::sync::ledger::Ledger;
@@ -235,28 +234,38 @@ pub fn show(held: &mut Held, number: u64, name: Name, i: u64, j: u64) -> Result<
     }
 }
 
+/// A document's line in the reply to `names`.
+fn entry_line(
+    alloc: Global,
+    store: &Store,
+    name: &Name,
+    root: Option<NodeId>,
+) -> Result<Vec<u8>, NoMemory>
+    requires { IsLive store.now root }
+    ensures { IfOk result (λ line. line.items ≡ entry_text (name.now, text_at store.now root)) }
+{
+    let mut line = Vec::new(alloc);
+    let len = root_len(store, root);
+    name_line(alloc, name, len, &mut line)?;
+    Ok(line)
+}
+
 /// `names`: each document's line is offered before the next is made.
 pub fn write_names<K: Sink>(
     alloc: Global,
     store: &Store,
     docs: &Docs,
     out: &mut K,
-) -> Result<(), Stop>
+) -> Result<Told, Stop>
     requires { AreLive store.now docs.now }
-    ensures done { OnOk result (Appends (K.written out.old) (K.written out.new) (names_text (plain store.now docs.now))) }
-    ensures stopped { OnErr result (AppendsFront (K.written out.old) (K.written out.new) (names_text (plain store.now docs.now))) }
-    ensures later { K.faults out.old ≤ K.faults out.new }
-    ensures wants_later { K.wants out.old ≤ K.wants out.new }
-    ensures fault { IfErr result (λ why. why ≡ Stop.OutFault → Rose (K.faults out.old) (K.faults out.new)) }
-    ensures shelf_fault { IfErr result (λ why. why ≡ Stop.ShelfFault → ⊥) }
+    ensures told { IfOk result (λ told. told ≡ Told.Accepted) }
+    ensures wrote { Wrote result (outlet (K.written out.old) (K.faults out.old) (K.wants out.old)) (names_text (plain store.now docs.now))
+        (outlet (K.written out.new) (K.faults out.new) (K.wants out.new)) }
 {
     for place in 0..docs.count() {
         let (name, root) = docs.at(place);
-        let mut line = Vec::new(alloc);
-        let len = root_len(store, root);
-        name_line(alloc, name, len, &mut line)?;
+        let line = entry_line(alloc, store, name, root)?;
         offer(out, &line)?;
     }
-    offer(out, b"end\n")?;
-    Ok(())
+    close(out, b"end\n")
 }

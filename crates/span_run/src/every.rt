@@ -1,8 +1,6 @@
 //! The answers of a query on every document are listed, in batches: a batch's lines are written before the next one is found.
-ghost use Rattle.std.specs.Prelude.{◌≡◌, ◌≤◌, ◌+◌, ◌++◌, ℕ, List, Option, Some, None, true, false, length, slice_get, OnOk, OnErr, IfOk, IfErr};
-ghost use Rattle.std.specs.Io.KnownBytes.{Appends};
+ghost use Rattle.std.specs.Prelude.{◌≡◌, ◌≤◌, ◌+◌, ◌++◌, ℕ, List, Option, Some, None, true, false, length, slice_get, OnOk, IfOk, IfErr};
 ghost use Rattle.std.specs.List.{flat_map};
-ghost use Rattle.edge_io.specs.Causes.{Rose};
 ghost use Rattle.edge_io.specs.Files.{Files};
 ghost use Rattle.edit_expr.specs.Values.{AreLive, plain};
 ghost use Rattle.script_syntax.specs.declared.form.Command.TheVariants as form;
@@ -10,17 +8,17 @@ ghost use Rattle.span_enum.specs.Members.{Tuple as ATuple};
 ghost use Rattle.query_book.specs.Book.{queries_of};
 ghost use Rattle.query_book.specs.Named.{value_of};
 ghost use Rattle.query_book.specs.Serving.{Covers};
-ghost use Rattle.span_language.specs.Listed.{doc_line, page_text, tuple_line};
-ghost use Rattle.span_language.specs.Step.{AppendsFront};
-ghost use Rattle.span_run.specs.Carried.{Done, Stopped, outlet};
-ghost use Rattle.span_run.specs.Every.{AreAnswered, AreShort, IsRegistered, IsSurvey, ListsEvery, WritesUpTo, every_text, rest_text};
+ghost use Rattle.span_language.specs.Listed.{doc_line, last_line, page_text, tuple_line};
+ghost use Rattle.span_run.specs.Carried.{outlet};
+ghost use Rattle.span_run.specs.Every.{AreAnswered, AreShort, IsRegistered, IsSurvey, ListsEvery, every_text, rest_text};
 ghost use Rattle.span_run.specs.Held.{IsHeld, standing_of};
 ghost use Rattle.span_run.specs.Scene.{seen};
+ghost use Rattle.span_run.specs.Written.{Ends, IsCut, IsUpTo, Wrote};
 
 use crate::context::Context;
 use crate::held::Held;
 use crate::listing::write_tuple;
-use crate::offer::offer;
+use crate::offer::{close, offer};
 use crate::reading::root_len;
 use crate::refusing::turn_away;
 use doc_book::Docs;
@@ -73,15 +71,18 @@ fn line_of(alloc: Global, name: &Name) -> Result<Vec<u8>, NoMemory>
     Ok(line)
 }
 
+/// The last line of a page.
+fn last_of(more: bool) -> &'static [u8]
+    ensures { result.now ≡ last_line more }
+{
+    if more { b"more\n" } else { b"end\n" }
+}
+
 /// Writes the lines of a page's tuples.
 fn write_tuples<K: Sink>(tuples: &[Tuple], vars: &Vars, out: &mut K) -> Result<(), Stop>
     requires { (place : ℕ) (t : ATuple) → slice_get tuples.now place ≡ Some t → length vars.now ≡ length t }
-    ensures done { OnOk result (Appends (K.written out.old) (K.written out.new) (flat_map (tuple_line vars.now) tuples.now)) }
-    ensures stopped { OnErr result (AppendsFront (K.written out.old) (K.written out.new) (flat_map (tuple_line vars.now) tuples.now)) }
-    ensures later { K.faults out.old ≤ K.faults out.new }
-    ensures fault { IfErr result (λ why. why ≡ Stop.OutFault → Rose (K.faults out.old) (K.faults out.new)) }
-    ensures wants_later { K.wants out.old ≤ K.wants out.new }
-    ensures shelf_fault { IfErr result (λ why. why ≡ Stop.ShelfFault → ⊥) }
+    ensures { Wrote result (outlet (K.written out.old) (K.faults out.old) (K.wants out.old)) (flat_map (tuple_line vars.now) tuples.now)
+        (outlet (K.written out.new) (K.faults out.new) (K.wants out.new)) }
 {
     for tuple in tuples {
         write_tuple(tuple, vars, out)?;
@@ -99,21 +100,13 @@ fn write_document<K: Sink>(
     out: &mut K,
 ) -> Result<(), Stop>
     requires { (place : ℕ) (t : ATuple) → slice_get tuples.now place ≡ Some t → length vars.now ≡ length t }
-    ensures done { OnOk result (Appends (K.written out.old) (K.written out.new) (doc_line name.now ++ page_text vars.now tuples.now more)) }
-    ensures stopped { OnErr result (AppendsFront (K.written out.old) (K.written out.new) (doc_line name.now ++ page_text vars.now tuples.now more)) }
-    ensures later { K.faults out.old ≤ K.faults out.new }
-    ensures fault { IfErr result (λ why. why ≡ Stop.OutFault → Rose (K.faults out.old) (K.faults out.new)) }
-    ensures wants_later { K.wants out.old ≤ K.wants out.new }
-    ensures shelf_fault { IfErr result (λ why. why ≡ Stop.ShelfFault → ⊥) }
+    ensures { Wrote result (outlet (K.written out.old) (K.faults out.old) (K.wants out.old)) (doc_line name.now ++ page_text vars.now tuples.now more)
+        (outlet (K.written out.new) (K.faults out.new) (K.wants out.new)) }
 {
     let line = line_of(alloc, name)?;
     offer(out, &line)?;
     write_tuples(tuples, vars, out)?;
-    if more {
-        offer(out, b"more\n")
-    } else {
-        offer(out, b"end\n")
-    }
+    offer(out, last_of(more))
 }
 
 /// What is listed on every document: the answers of a query with these variables, by its automaton and the tables of all nodes,
@@ -139,15 +132,12 @@ fn list_batch<R: Threads + Sync, K: Sink, G: Gate>(
     requires places { first + count ≤ length survey.docs.now }
     requires survey { IsSurvey survey.dfa.now survey.view.store.now survey.view.tables.now survey.docs.now survey.vars.now survey.limit }
     ensures done { OnOk result ((lists : List (List ATuple)) → AreAnswered survey.entry.dfa.now survey.entry.view.store.now survey.entry.docs.now lists
-        → WritesUpTo (K.written out.old) (K.written out.new)
+        → IsUpTo (outlet (K.written out.old) (K.faults out.old) (K.wants out.old)) (outlet (K.written out.new) (K.faults out.new) (K.wants out.new))
         (rest_text survey.entry.vars.now survey.entry.limit survey.entry.docs.now lists (first + count))
         (rest_text survey.entry.vars.now survey.entry.limit survey.entry.docs.now lists first)) }
-    ensures stopped { OnErr result ((lists : List (List ATuple)) → AreAnswered survey.entry.dfa.now survey.entry.view.store.now survey.entry.docs.now lists
-        → AppendsFront (K.written out.old) (K.written out.new) (rest_text survey.entry.vars.now survey.entry.limit survey.entry.docs.now lists first)) }
-    ensures later { K.faults out.old ≤ K.faults out.new }
-    ensures fault { IfErr result (λ why. why ≡ Stop.OutFault → Rose (K.faults out.old) (K.faults out.new)) }
-    ensures wants_later { K.wants out.old ≤ K.wants out.new }
-    ensures shelf_fault { IfErr result (λ why. why ≡ Stop.ShelfFault → ⊥) }
+    ensures stopped { IfErr result (λ why. (lists : List (List ATuple)) → AreAnswered survey.entry.dfa.now survey.entry.view.store.now survey.entry.docs.now lists
+        → IsCut (outlet (K.written out.old) (K.faults out.old) (K.wants out.old)) (rest_text survey.entry.vars.now survey.entry.limit survey.entry.docs.now lists first)
+        (outlet (K.written out.new) (K.faults out.new) (K.wants out.new)) why) }
 {
     let _all = survey.docs.count();
     let found = pages(
@@ -181,16 +171,13 @@ fn list_documents<R: Threads + Sync, K: Sink, G: Gate>(
     context: Context<'_, R, G>,
     survey: Survey<'_>,
     out: &mut K,
-) -> Result<(), Stop>
+) -> Result<Told, Stop>
     requires survey { IsSurvey survey.dfa.now survey.view.store.now survey.view.tables.now survey.docs.now survey.vars.now survey.limit }
-    ensures done { OnOk result ((lists : List (List ATuple)) → AreAnswered survey.entry.dfa.now survey.entry.view.store.now survey.entry.docs.now lists
-        → Appends (K.written out.old) (K.written out.new) (every_text survey.entry.vars.now survey.entry.limit survey.entry.docs.now lists)) }
-    ensures stopped { OnErr result ((lists : List (List ATuple)) → AreAnswered survey.entry.dfa.now survey.entry.view.store.now survey.entry.docs.now lists
-        → AppendsFront (K.written out.old) (K.written out.new) (every_text survey.entry.vars.now survey.entry.limit survey.entry.docs.now lists)) }
-    ensures later { K.faults out.old ≤ K.faults out.new }
-    ensures fault { IfErr result (λ why. why ≡ Stop.OutFault → Rose (K.faults out.old) (K.faults out.new)) }
-    ensures wants_later { K.wants out.old ≤ K.wants out.new }
-    ensures shelf_fault { IfErr result (λ why. why ≡ Stop.ShelfFault → ⊥) }
+    ensures told { IfOk result (λ told. told ≡ Told.Accepted) }
+    ensures wrote { (lists : List (List ATuple)) → AreAnswered survey.entry.dfa.now survey.entry.view.store.now survey.entry.docs.now lists
+        → Wrote result (outlet (K.written out.old) (K.faults out.old) (K.wants out.old))
+        (every_text survey.entry.vars.now survey.entry.limit survey.entry.docs.now lists)
+        (outlet (K.written out.new) (K.faults out.new) (K.wants out.new)) }
 {
     let all = survey.docs.count();
     let mut first = 0;
@@ -199,7 +186,7 @@ fn list_documents<R: Threads + Sync, K: Sink, G: Gate>(
         list_batch(context, survey, first, count, out)?;
         first += count;
     }
-    offer(out, b"done\n")
+    close(out, b"done\n")
 }
 
 /// Writes the pages of the query of this name on every document.
@@ -212,19 +199,15 @@ fn list_query<R: Threads + Sync, K: Sink, G: Gate>(
     query: &Name,
     limit: u16,
     out: &mut K,
-) -> Result<(), Stop>
+) -> Result<Told, Stop>
     requires covers { Covers store.now book.now }
     requires live { AreLive store.now docs.now }
     requires there { IsRegistered (queries_of book.now) query.now }
     requires some { 1 ≤ limit }
     requires few { limit ≤ 10000 }
-    ensures done { OnOk result (ListsEvery (Appends (K.written out.old) (K.written out.new)) (queries_of book.now) query.now (plain store.now docs.now) limit) }
-    ensures stopped { OnErr result (ListsEvery (AppendsFront (K.written out.old) (K.written out.new))
-        (queries_of book.now) query.now (plain store.now docs.now) limit) }
-    ensures later { K.faults out.old ≤ K.faults out.new }
-    ensures fault { IfErr result (λ why. why ≡ Stop.OutFault → Rose (K.faults out.old) (K.faults out.new)) }
-    ensures wants_later { K.wants out.old ≤ K.wants out.new }
-    ensures shelf_fault { IfErr result (λ why. why ≡ Stop.ShelfFault → ⊥) }
+    ensures told { IfOk result (λ told. told ≡ Told.Accepted) }
+    ensures wrote { ListsEvery (λ reply. Wrote result (outlet (K.written out.old) (K.faults out.old) (K.wants out.old)) reply
+        (outlet (K.written out.new) (K.faults out.new) (K.wants out.new))) (queries_of book.now) query.now (plain store.now docs.now) limit }
 {
     check_lengths(store, docs);
     let name = query.bytes();
@@ -260,18 +243,11 @@ pub fn list_all<R: Threads + Sync, K: Sink, G: Gate, T: Ledger>(
     requires some { 1 ≤ limit }
     requires few { limit ≤ 10000 }
     ensures held { IsHeld held.new }
-    ensures done { (files : Option Files) (faults looks pairs : ℕ) → IfOk result
-        (Done context.entry.number (Some (form.ListAll query limit))
+    ensures ends { (files : Option Files) (faults looks pairs : ℕ) → Ends context.entry.number (Some (form.ListAll query limit))
         (seen (standing_of held.old) files faults looks pairs places.old)
         (outlet (K.written out.old) (K.faults out.old) (K.wants out.old))
         (seen (standing_of held.new) files faults looks pairs places.new)
-        (outlet (K.written out.new) (K.faults out.new) (K.wants out.new))) }
-    ensures stopped { (files : Option Files) (faults looks pairs : ℕ) → IfErr result
-        (Stopped context.entry.number (Some (form.ListAll query limit))
-        (seen (standing_of held.old) files faults looks pairs places.old)
-        (outlet (K.written out.old) (K.faults out.old) (K.wants out.old))
-        (seen (standing_of held.new) files faults looks pairs places.new)
-        (outlet (K.written out.new) (K.faults out.new) (K.wants out.new))) }
+        (outlet (K.written out.new) (K.faults out.new) (K.wants out.new)) result }
 {
     if has_query(&held.book, &query) {
         held.book.grow_all(
@@ -291,8 +267,7 @@ pub fn list_all<R: Threads + Sync, K: Sink, G: Gate, T: Ledger>(
             &query,
             limit,
             out,
-        )?;
-        Ok(Told::Accepted)
+        )
     } else {
         turn_away(
             held,

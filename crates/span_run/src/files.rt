@@ -1,5 +1,5 @@
 //! What commands do with files, and their replies.
-ghost use Rattle.std.specs.Prelude.{◌≡◌, ◌≤◌, ◌+◌, ◌^◌, ◌++◌, [], length, IfOk, IfErr, OnOk, OnErr, Some, ℕ};
+ghost use Rattle.std.specs.Prelude.{◌≡◌, ◌<◌, ◌≤◌, ◌+◌, ◌++◌, [], length, take, IfOk, IfErr, OnOk, OnErr, Some, ℕ};
 ghost use Rattle.slp_model.specs.Nodes.{Grows, IsLive};
 ghost use Rattle.edge_io.specs.Causes.{Rose};
 ghost use Rattle.edit_expr.specs.Values.{AreLive, plain, text_at};
@@ -11,7 +11,7 @@ ghost use Rattle.span_language.specs.Step.{IsWithin, load_size, open_size};
 ghost use Rattle.span_language.specs.declared.told.Told.TheVariants as told;
 ghost use Rattle.span_run.specs.Answers.{Answers, Stays};
 ghost use Rattle.span_run.specs.Held.{IsHeld};
-ghost use Rattle.span_run.specs.Reading.{IsFileFront, IsLoadPaid, IsTurnedAway};
+ghost use Rattle.span_run.specs.Reading.{IsFileFront, IsLoadPaid, IsNextPiece, IsTurnedAway};
 ghost use Rattle.span_run.specs.Shown.{IsFileDenied, Opens};
 ghost use Rattle.span_run.specs.Site.{at};
 
@@ -35,10 +35,35 @@ use std::sync::ledger::Ledger;
 const MAX_LOAD: u64 = 1 << 32;
 
 /// The most bytes of a file that `open` takes.
-const MAX_OPEN: usize = 1 << 30;
+const MAX_OPEN: u64 = 1 << 30;
 
 /// How many bytes of a file are read at once.
 const PIECE: usize = 65_536;
+
+/// Reads the next piece of a file of which `at` bytes were read, and answers how many bytes it has: none at the end. The file may
+/// have at most `limit` bytes.
+fn next_piece<F: Shelf>(
+    shelf: &mut F,
+    name: &[u8],
+    limit: u64,
+    at: u64,
+    piece: &mut [u8],
+) -> Result<usize, FileRefusal>
+    requires within { at ≤ limit }
+    requires room { 0 < length piece.old }
+    ensures next { IfOk result (λ count. IsNextPiece (F.files shelf.old) name.now limit at (take count piece.new)) }
+    ensures count { IfOk result (λ count. (count ≤ length piece.new) × (at + count ≤ limit)) }
+    ensures refused { IfErr result (IsTurnedAway (F.files shelf.old) name.now limit) }
+    ensures files { F.files shelf.new ≡ F.files shelf.old }
+    ensures later { F.faults shelf.old ≤ F.faults shelf.new }
+    ensures fault { IfErr result (λ why. why ≡ FileRefusal.Failed → Rose (F.faults shelf.old) (F.faults shelf.new)) }
+{
+    let count = shelf.read_at(name, at, piece)?;
+    if count as u64 > limit - at {
+        return Err(FileRefusal::TooLong);
+    }
+    Ok(count)
+}
 
 /// Loads a file that was found to be short enough, piece by piece.
 fn load_pieces<F: Shelf, P: Ledger>(
@@ -61,19 +86,15 @@ fn load_pieces<F: Shelf, P: Ledger>(
     let mut loader = Loader::new(alloc)?;
     let mut piece = [0u8; PIECE];
     let mut at = 0u64;
-    while at <= MAX_LOAD {
-        let count = shelf.read_at(name, at, &mut piece)?;
+    loop {
+        let count = next_piece(shelf, name, MAX_LOAD, at, &mut piece)?;
         if count == 0 {
             let root = loader.finish(store, pairs)?;
             return Ok(root);
         }
-        if count as u64 > MAX_LOAD - at {
-            return Err(FileRefusal::TooLong);
-        }
         loader.feed(store, &piece[..count], pairs)?;
         at += count as u64;
     }
-    Err(FileRefusal::TooLong)
 }
 
 /// Loads a file of at most 2^32 bytes.
@@ -159,17 +180,13 @@ fn read_pieces<F: Shelf>(alloc: Global, name: &[u8], shelf: &mut F) -> Result<Ve
 {
     let mut bytes = Vec::new(alloc);
     let mut piece = [0u8; PIECE];
-    while bytes.len() <= MAX_OPEN {
-        let count = shelf.read_at(name, bytes.len() as u64, &mut piece)?;
+    loop {
+        let count = next_piece(shelf, name, MAX_OPEN, bytes.len() as u64, &mut piece)?;
         if count == 0 {
             return Ok(bytes);
         }
-        if count > MAX_OPEN - bytes.len() {
-            return Err(FileRefusal::TooLong);
-        }
         push_piece(&mut bytes, &piece[..count])?;
     }
-    Err(FileRefusal::TooLong)
 }
 
 /// Reads a file of at most 2^30 bytes whole.
@@ -180,7 +197,7 @@ fn read_file<F: Shelf>(alloc: Global, name: &[u8], shelf: &mut F) -> Result<Vec<
     ensures later { F.faults shelf.old ≤ F.faults shelf.new }
     ensures fault { IfErr result (λ why. why ≡ FileRefusal.Failed → Rose (F.faults shelf.old) (F.faults shelf.new)) }
 {
-    check_size(shelf, name, MAX_OPEN as u64)?;
+    check_size(shelf, name, MAX_OPEN)?;
     let bytes = read_pieces(alloc, name, shelf)?;
     Ok(bytes)
 }

@@ -22,7 +22,6 @@
 mod answer;
 mod answering;
 mod carrying;
-mod combining;
 mod compacting;
 mod context;
 mod documents;
@@ -35,6 +34,7 @@ mod offer;
 mod queries;
 mod reading;
 mod refusing;
+mod registering;
 mod replacing;
 mod session;
 mod subject;

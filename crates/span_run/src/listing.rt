@@ -1,6 +1,5 @@
 //! Answers are listed, each line offered before the next answer is found.
-ghost use Rattle.std.specs.Prelude.{◌≡◌, ◌⊎◌, ◌≤◌, ◌+◌, ◌*◌, ℕ, List, Option, Some, length, take, OnOk, OnErr, IfOk, IfErr};
-ghost use Rattle.std.specs.Io.KnownBytes.{Appends, Keeps};
+ghost use Rattle.std.specs.Prelude.{◌≡◌, ◌≤◌, ◌+◌, ◌*◌, ℕ, List, Option, Some, length, take, IfOk, IfErr};
 ghost use Rattle.edge_io.specs.Causes.{Rose};
 ghost use Rattle.edge_io.specs.Files.{Files};
 ghost use Rattle.edit_expr.specs.Values.{text_at};
@@ -12,17 +11,16 @@ ghost use Rattle.query_book.specs.Answers.{HasList, IfNamed, IsListingOf, IsName
 ghost use Rattle.query_book.specs.Book.{queries_of};
 ghost use Rattle.query_book.specs.Named.{value_of};
 ghost use Rattle.span_language.specs.Listed.{tuple_line, first_page_text};
-ghost use Rattle.span_language.specs.Step.{AppendsFront};
-ghost use Rattle.span_run.specs.Carried.{Done, Stopped, outlet};
+ghost use Rattle.span_run.specs.Carried.{outlet};
 ghost use Rattle.span_run.specs.Held.{IsHeld, standing_of};
 ghost use Rattle.span_run.specs.Listing.{HasCursor, Lists, Tells};
 ghost use Rattle.span_run.specs.Scene.{seen};
 ghost use Rattle.span_run.specs.Subject.{IsSubject};
+ghost use Rattle.span_run.specs.Written.{Ends, WantsFor, Wrote};
 
-use crate::answer::Answer;
 use crate::context::Context;
 use crate::held::Held;
-use crate::offer::{offer, send};
+use crate::offer::{close, offer, send_refusal};
 use crate::refusing::turn_away;
 use crate::subject::Subject;
 use crate::words::{cursor_of, word_refusal};
@@ -48,13 +46,9 @@ pub struct Page {
 /// Writes a tuple's line.
 pub fn write_tuple<K: Sink>(tuple: &Tuple, vars: &Vars, out: &mut K) -> Result<(), Stop>
     requires { length vars.now ≡ length tuple.now }
-    ensures done { OnOk result (Appends (K.written out.old) (K.written out.new) (tuple_line vars.now tuple.now)) }
-    ensures stopped { OnErr result (AppendsFront (K.written out.old) (K.written out.new) (tuple_line vars.now tuple.now)) }
-    ensures later { K.faults out.old ≤ K.faults out.new }
-    ensures fault { IfErr result (λ why. why ≡ Stop.OutFault → Rose (K.faults out.old) (K.faults out.new)) }
-    ensures wants_later { K.wants out.old ≤ K.wants out.new }
+    ensures wrote { Wrote result (outlet (K.written out.old) (K.faults out.old) (K.wants out.old)) (tuple_line vars.now tuple.now)
+        (outlet (K.written out.new) (K.faults out.new) (K.wants out.new)) }
     ensures want { IfErr result (λ why. why ≡ Stop.NoMemory → Rose (K.wants out.old) (K.wants out.new)) }
-    ensures shelf_fault { IfErr result (λ why. why ≡ Stop.ShelfFault → ⊥) }
 {
     let mut line = [0u8; 800];
     let len = print(tuple, vars, &mut line);
@@ -69,35 +63,24 @@ fn write_page<K: Sink, L: Ledger>(
     limit: u16,
     out: &mut K,
     looks: &mut Steps<L>,
-) -> Result<(), Stop>
+) -> Result<Told, Stop>
     requires { length vars.now ≡ answers.old.automaton.variables }
-    ensures done { OnOk result ((all rest : List ATuple) → AreAnswersOf answers.old.automaton answers.old.text all
-        → IsAfter all answers.old.after rest → Appends (K.written out.old) (K.written out.new)
-        (first_page_text vars.now limit rest)) }
-    ensures stopped { OnErr result ((all rest : List ATuple) → AreAnswersOf answers.old.automaton answers.old.text all
-        → IsAfter all answers.old.after rest → AppendsFront (K.written out.old) (K.written out.new)
-        (first_page_text vars.now limit rest)) }
-    ensures cost { (all rest : List ATuple) → AreAnswersOf answers.old.automaton answers.old.text all
-        → IsAfter all answers.old.after rest → looks.new ≤ looks.old +
-        (length (take limit rest) + 1) * looks_limit answers.old.automaton.variables (length answers.old.text) }
-    ensures later { K.faults out.old ≤ K.faults out.new }
-    ensures fault { IfErr result (λ why. why ≡ Stop.OutFault → Rose (K.faults out.old) (K.faults out.new)) }
-    ensures wants_later { K.wants out.old ≤ K.wants out.new }
+    ensures told { IfOk result (λ told. told ≡ Told.Accepted) }
+    ensures page { (all rest : List ATuple) → AreAnswersOf answers.old.automaton answers.old.text all → IsAfter all answers.old.after rest
+        → Wrote result (outlet (K.written out.old) (K.faults out.old) (K.wants out.old)) (first_page_text vars.now limit rest)
+        (outlet (K.written out.new) (K.faults out.new) (K.wants out.new))
+        × (looks.new ≤ looks.old + (length (take limit rest) + 1) * looks_limit answers.old.automaton.variables (length answers.old.text)) }
     ensures want { IfErr result (λ why. why ≡ Stop.NoMemory → Rose (K.wants out.old) (K.wants out.new)) }
-    ensures shelf_fault { IfErr result (λ why. why ≡ Stop.ShelfFault → ⊥) }
 {
     let mut left = limit;
-    while left > 0 {
-        let Some(tuple) = answers.next(looks) else {
-            return offer(out, b"end\n");
-        };
+    while let Some(tuple) = answers.next(looks) {
+        if left == 0 {
+            return close(out, b"more\n");
+        }
         write_tuple(&tuple, vars, out)?;
         left -= 1;
     }
-    match answers.next(looks) {
-        Some(_) => offer(out, b"more\n"),
-        None => offer(out, b"end\n"),
-    }
+    close(out, b"end\n")
 }
 
 /// The answers of the query of this name from a cursor on.
@@ -140,18 +123,15 @@ fn list_from<K: Sink, L: Ledger>(
     limit: u16,
     out: &mut K,
     looks: &mut Steps<L>,
-) -> Result<(), Stop>
+) -> Result<Told, Stop>
     requires subject { IsSubject subject.store.now subject.book.now subject.root }
     requires cursor { HasCursor (queries_of subject.book.now) query.now cursor }
-    ensures done { OnOk result (Lists (Appends (K.written out.old) (K.written out.new)) (queries_of subject.entry.book.now) query.now
-        (text_at subject.entry.store.now subject.entry.root) cursor limit looks.old looks.new) }
-    ensures stopped { OnErr result (Lists (AppendsFront (K.written out.old) (K.written out.new)) (queries_of subject.entry.book.now) query.now
-        (text_at subject.entry.store.now subject.entry.root) cursor limit looks.old looks.new) }
-    ensures later { K.faults out.old ≤ K.faults out.new }
-    ensures fault { IfErr result (λ why. why ≡ Stop.OutFault → Rose (K.faults out.old) (K.faults out.new)) }
-    ensures wants_later { K.wants out.old ≤ K.wants out.new }
-    ensures want { IfErr result (λ why. why ≡ Stop.NoMemory → Rose (K.wants out.old) (K.wants out.new) ⊎ Keeps (K.written out.old) (K.written out.new)) }
-    ensures shelf_fault { IfErr result (λ why. why ≡ Stop.ShelfFault → ⊥) }
+    ensures told { IfOk result (λ told. told ≡ Told.Accepted) }
+    ensures page { Lists (λ reply. Wrote result (outlet (K.written out.old) (K.faults out.old) (K.wants out.old)) reply
+        (outlet (K.written out.new) (K.faults out.new) (K.wants out.new))) (queries_of subject.entry.book.now) query.now
+        (text_at subject.entry.store.now subject.entry.root) cursor limit looks.old looks.new }
+    ensures want { WantsFor result (outlet (K.written out.old) (K.faults out.old) (K.wants out.old))
+        (outlet (K.written out.new) (K.faults out.new) (K.wants out.new)) }
 {
     let mut answers = answers_from(subject, query, cursor, looks)?;
     match subject.book.vars(query.bytes()) {
@@ -170,25 +150,16 @@ fn list_root<K: Sink, L: Ledger>(
     looks: &mut Steps<L>,
 ) -> Result<Told, Stop>
     requires { IsSubject subject.store.now subject.book.now subject.root }
-    ensures done { IfOk result (λ told. Tells (Appends (K.written out.old) (K.written out.new)) number (queries_of subject.entry.book.now) query
-        page.after (text_at subject.entry.store.now subject.entry.root) page.limit told looks.old looks.new) }
-    ensures stopped { OnErr result ((told : Told) × Tells (AppendsFront (K.written out.old) (K.written out.new)) number
-        (queries_of subject.entry.book.now) query page.after (text_at subject.entry.store.now subject.entry.root) page.limit told looks.old looks.new) }
-    ensures later { K.faults out.old ≤ K.faults out.new }
-    ensures fault { IfErr result (λ why. why ≡ Stop.OutFault → Rose (K.faults out.old) (K.faults out.new)) }
-    ensures wants_later { K.wants out.old ≤ K.wants out.new }
-    ensures want { IfErr result (λ why. why ≡ Stop.NoMemory → Rose (K.wants out.old) (K.wants out.new) ⊎ Keeps (K.written out.old) (K.written out.new)) }
-    ensures shelf_fault { IfErr result (λ why. why ≡ Stop.ShelfFault → ⊥) }
+    ensures tells { (told : Told) × IfOk result (λ t. t ≡ told)
+        × Tells (λ reply. Wrote result (outlet (K.written out.old) (K.faults out.old) (K.wants out.old)) reply
+        (outlet (K.written out.new) (K.faults out.new) (K.wants out.new))) number (queries_of subject.entry.book.now) query
+        page.after (text_at subject.entry.store.now subject.entry.root) page.limit told looks.old looks.new }
+    ensures want { WantsFor result (outlet (K.written out.old) (K.faults out.old) (K.wants out.old))
+        (outlet (K.written out.new) (K.faults out.new) (K.wants out.new)) }
 {
     match cursor_of(subject.book, &query, &page.after) {
-        Ok(cursor) => {
-            list_from(subject, &query, cursor, page.limit, out, looks)?;
-            Ok(Told::Accepted)
-        }
-        Err(why) => {
-            let answer = Answer::refused(subject.alloc, number, &word_refusal(why, query))?;
-            send(answer, out)
-        }
+        Ok(cursor) => list_from(subject, &query, cursor, page.limit, out, looks),
+        Err(why) => send_refusal(subject.alloc, number, &word_refusal(why, query), out),
     }
 }
 
@@ -205,18 +176,11 @@ pub fn list<R: Threads + Sync, K: Sink, G: Gate, T: Ledger, L: Ledger>(
 ) -> Result<Told, Stop>
     requires { IsHeld held.old }
     ensures held { IsHeld held.new }
-    ensures done { (files : Option Files) (faults pairs : ℕ) → IfOk result
-        (Done context.entry.number (Some (form.List query name page.after page.limit))
+    ensures ends { (files : Option Files) (faults pairs : ℕ) → Ends context.entry.number (Some (form.List query name page.after page.limit))
         (seen (standing_of held.old) files faults looks.old pairs places.old)
         (outlet (K.written out.old) (K.faults out.old) (K.wants out.old))
         (seen (standing_of held.new) files faults looks.new pairs places.new)
-        (outlet (K.written out.new) (K.faults out.new) (K.wants out.new))) }
-    ensures stopped { (files : Option Files) (faults pairs : ℕ) → IfErr result
-        (Stopped context.entry.number (Some (form.List query name page.after page.limit))
-        (seen (standing_of held.old) files faults looks.old pairs places.old)
-        (outlet (K.written out.old) (K.faults out.old) (K.wants out.old))
-        (seen (standing_of held.new) files faults looks.new pairs places.new)
-        (outlet (K.written out.new) (K.faults out.new) (K.wants out.new))) }
+        (outlet (K.written out.new) (K.faults out.new) (K.wants out.new)) result }
 {
     match held.docs.get(name.bytes()) {
         Ok(root) => {

@@ -1,24 +1,21 @@
 //! Bytes are offered to a sink until it has taken all of them.
-ghost use Rattle.std.specs.Prelude.{◌≡◌, ◌≤◌, OnOk, OnErr, IfOk, IfErr};
-ghost use Rattle.std.specs.Io.KnownBytes.{Appends};
+ghost use Rattle.std.specs.Prelude.{◌≡◌, IfOk, IfErr};
 ghost use Rattle.edge_io.specs.Causes.{Rose};
-ghost use Rattle.span_language.specs.Step.{AppendsFront};
-ghost use Rattle.span_run.specs.Carried.{IsSent, IsUnsent, outlet};
-ghost use Rattle.span_language.specs.declared.told.Stop.TheVariants as stop;
+ghost use Rattle.report_text.specs.Reply.{refusal_text};
+ghost use Rattle.span_run.specs.Carried.{outlet};
+ghost use Rattle.span_run.specs.Written.{WantsFor, Wrote};
 
 use crate::answer::Answer;
 use edge_io::{Sink, WriteRefusal};
+use report_text::Refusal;
 use span_language::{Stop, Told};
+use std::alloc::Global;
 
 /// Writes a whole piece. A rest that wasn't taken is offered again.
 pub fn offer<K: Sink>(out: &mut K, piece: &[u8]) -> Result<(), Stop>
-    ensures done { OnOk result (Appends (K.written out.old) (K.written out.new) piece.now) }
-    ensures stopped { OnErr result (AppendsFront (K.written out.old) (K.written out.new) piece.now) }
-    ensures later { K.faults out.old ≤ K.faults out.new }
-    ensures fault { IfErr result (λ why. why ≡ Stop.OutFault → Rose (K.faults out.old) (K.faults out.new)) }
-    ensures wants_later { K.wants out.old ≤ K.wants out.new }
+    ensures wrote { Wrote result (outlet (K.written out.old) (K.faults out.old) (K.wants out.old)) piece.now
+        (outlet (K.written out.new) (K.faults out.new) (K.wants out.new)) }
     ensures want { IfErr result (λ why. why ≡ Stop.NoMemory → Rose (K.wants out.old) (K.wants out.new)) }
-    ensures shelf_fault { IfErr result (λ why. why ≡ Stop.ShelfFault → ⊥) }
 {
     let mut done = 0;
     while done < piece.len() {
@@ -31,19 +28,41 @@ pub fn offer<K: Sink>(out: &mut K, piece: &[u8]) -> Result<(), Stop>
     Ok(())
 }
 
+/// Writes the last piece of an accepted reply.
+pub fn close<K: Sink>(out: &mut K, piece: &[u8]) -> Result<Told, Stop>
+    ensures told { IfOk result (λ told. told ≡ Told.Accepted) }
+    ensures wrote { Wrote result (outlet (K.written out.old) (K.faults out.old) (K.wants out.old)) piece.now
+        (outlet (K.written out.new) (K.faults out.new) (K.wants out.new)) }
+    ensures want { IfErr result (λ why. why ≡ Stop.NoMemory → Rose (K.wants out.old) (K.wants out.new)) }
+{
+    offer(out, piece)?;
+    Ok(Told::Accepted)
+}
+
 /// Writes a reply that was made.
 pub fn send<K: Sink>(answer: Answer, out: &mut K) -> Result<Told, Stop>
     ensures told { IfOk result (λ told. told ≡ answer.told) }
-    ensures done { OnOk result (IsSent (outlet (K.written out.old) (K.faults out.old) (K.wants out.old)) answer.line.items
-        (outlet (K.written out.new) (K.faults out.new) (K.wants out.new))) }
-    ensures stopped { IfErr result (IsUnsent (outlet (K.written out.old) (K.faults out.old) (K.wants out.old)) answer.line.items
-        (outlet (K.written out.new) (K.faults out.new) (K.wants out.new))) }
-    ensures later { K.faults out.old ≤ K.faults out.new }
-    ensures fault { IfErr result (λ why. why ≡ Stop.OutFault → Rose (K.faults out.old) (K.faults out.new)) }
-    ensures wants_later { K.wants out.old ≤ K.wants out.new }
+    ensures wrote { Wrote result (outlet (K.written out.old) (K.faults out.old) (K.wants out.old)) answer.line.items
+        (outlet (K.written out.new) (K.faults out.new) (K.wants out.new)) }
     ensures want { IfErr result (λ why. why ≡ Stop.NoMemory → Rose (K.wants out.old) (K.wants out.new)) }
-    ensures shelf_fault { IfErr result (λ why. why ≡ Stop.ShelfFault → ⊥) }
 {
     offer(out, &answer.line)?;
     Ok(answer.told)
+}
+
+/// Writes the reply to a refused line.
+pub fn send_refusal<K: Sink>(
+    alloc: Global,
+    number: u64,
+    why: &Refusal,
+    out: &mut K,
+) -> Result<Told, Stop>
+    ensures told { IfOk result (λ told. told ≡ Told.Refused) }
+    ensures wrote { Wrote result (outlet (K.written out.old) (K.faults out.old) (K.wants out.old)) (refusal_text number why.now)
+        (outlet (K.written out.new) (K.faults out.new) (K.wants out.new)) }
+    ensures want { WantsFor result (outlet (K.written out.old) (K.faults out.old) (K.wants out.old))
+        (outlet (K.written out.new) (K.faults out.new) (K.wants out.new)) }
+{
+    let answer = Answer::refused(alloc, number, why)?;
+    send(answer, out)
 }

@@ -1,20 +1,16 @@
 //! What commands do with queries, and their replies.
-ghost use Rattle.std.specs.Prelude.{◌≡◌, ◌≤◌, IfOk, IfErr, IsSome, Option, Some, true, false, ◌+◌, ℕ};
+ghost use Rattle.std.specs.Prelude.{◌≡◌, ◌≤◌, IfOk, IfErr, Option, true, false, ◌+◌, ℕ};
 ghost use Rattle.edit_expr.specs.Values.{text_at};
 ghost use Rattle.query_book.specs.Answers.{HasAnswer, HasVariablesOf, IsAnswer, most_looks};
 ghost use Rattle.edge_io.specs.Files.{Files};
-ghost use Rattle.report_text.specs.Reply.{query_text};
 ghost use Rattle.script_syntax.specs.declared.form.Command.TheVariants as form;
-ghost use Rattle.span_types.specs.Query.{Query};
-ghost use Rattle.span_types.specs.Rel.{names_of};
 ghost use Rattle.query_book.specs.Named.{value_of};
 ghost use Rattle.query_book.specs.Book.{queries_of};
 ghost use Rattle.span_language.specs.Replies.{yes_text, no_text};
 ghost use Rattle.span_run.specs.Answers.{Answers, AnswersFreely, Stays, StaysFreely};
 ghost use Rattle.span_run.specs.Asked.{IsAnswered};
 ghost use Rattle.span_run.specs.Held.{IsHeld};
-ghost use Rattle.span_run.specs.Judged.{IsJudged, IsWordPaid};
-ghost use Rattle.span_run.specs.Shown.{IsFormulaRefusal, IsTextDenied};
+ghost use Rattle.span_run.specs.Judged.{IsJudged, IsReplied, IsReplyPaid, IsWordPaid, question_of};
 ghost use Rattle.span_run.specs.Site.{at};
 ghost use Rattle.span_run.specs.Subject.{IsSubject};
 ghost use Rattle.span_language.specs.declared.told.Told.TheVariants as told;
@@ -26,79 +22,13 @@ use crate::refusing::refuse;
 use crate::subject::Subject;
 use crate::words::{tuple_of, word_refusal};
 use doc_book::Missing;
-use formula_syntax::FormulaRefusal;
-use query_book::{QueryBook, QueryRefusal};
-use report_text::{Refusal, query_line};
+use report_text::Refusal;
 use span_language::Stop;
 use span_types::{ByteList, Name, NoMemory, Steps, Tuple};
 use std::alloc::Global;
 use std::sync::ledger::Ledger;
 use std::thread::Threads;
 use work_gate::Gate;
-
-/// The refusal of a formula's text, as a reply has it.
-fn formula_refusal(why: FormulaRefusal) -> Result<Refusal, NoMemory>
-    ensures { IfOk result (IsFormulaRefusal why) }
-{
-    match why {
-        FormulaRefusal::TooLong { len } => Ok(Refusal::FormulaTooLong { len }),
-        FormulaRefusal::BadText => Ok(Refusal::BadFormula),
-        FormulaRefusal::TooDeep => Ok(Refusal::TooDeep),
-        FormulaRefusal::TooManyPositions => Ok(Refusal::TooManyPositions),
-        FormulaRefusal::TooManyVariables => Ok(Refusal::TooManyVariables),
-        FormulaRefusal::NotFunctional { name } => Ok(Refusal::NotFunctional { name }),
-        FormulaRefusal::NoMemory => Err(NoMemory),
-    }
-}
-
-/// The reply to a text that gives no query.
-fn text_denied(alloc: Global, number: u64, why: QueryRefusal) -> Result<Answer, NoMemory>
-    ensures { IfOk result (λ answer. IsTextDenied number why answer.told answer.line.items) }
-{
-    let why = match why {
-        QueryRefusal::Formula(why) => formula_refusal(why)?,
-        QueryRefusal::TooManyStates => Refusal::TooManyStates,
-        QueryRefusal::NoMemory => return Err(NoMemory),
-    };
-    let answer = Answer::refused(alloc, number, &why)?;
-    Ok(answer)
-}
-
-/// The reply that tells the variables of a query that is there.
-pub fn registered(alloc: Global, book: &QueryBook, name: &Name) -> Result<Answer, NoMemory>
-    requires { IsSome (value_of (queries_of book.now) name.now) }
-    ensures told { IfOk result (λ answer. answer.told ≡ told.Accepted) }
-    ensures line { IfOk result (λ answer. (q : Query) → value_of (queries_of book.now) name.now ≡ Some q
-        → answer.line.items ≡ query_text name.now (names_of q)) }
-{
-    match book.vars(name.bytes()) {
-        Ok(vars) => {
-            let mut line = Vec::new(alloc);
-            query_line(alloc, name, vars, &mut line)?;
-            Ok(Answer::accepted(line))
-        }
-        Err(_) => unreachable!(),
-    }
-}
-
-/// `query NAME FORMULA`
-pub fn query(held: &mut Held, number: u64, name: Name, formula: ByteList) -> Result<Answer, Stop>
-    requires { IsHeld held.old }
-    ensures done { AnswersFreely held.old number (form.Query name formula) held.new result }
-    ensures stopped { StaysFreely held.old number (form.Query name formula) held.new result }
-{
-    let kept = name.copy(held.alloc)?;
-    match held.book.add(held.alloc, name, formula.bytes()) {
-        Ok(()) => {
-            let answer = registered(held.alloc, &held.book, &kept)?;
-            Ok(answer)
-        }
-        Err(why) => {
-            let answer = text_denied(held.alloc, number, why)?;
-            Ok(answer)
-        }
-    }
-}
 
 /// `unquery NAME`
 pub fn unquery(held: &mut Held, number: u64, name: Name) -> Result<Answer, Stop>
@@ -154,48 +84,6 @@ fn test_root<L: Ledger>(
         Err(_) => {
             let answer = Answer::refused(alloc, number, &Refusal::NoSuchQuery { name: query })?;
             Ok(answer)
-        }
-    }
-}
-
-/// `test Q NAME`
-pub fn test<R: Threads + Sync, G: Gate, T: Ledger, L: Ledger>(
-    context: Context<'_, R, G>,
-    held: &mut Held,
-    query: Name,
-    name: Name,
-    places: &mut Steps<T>,
-    looks: &mut Steps<L>,
-) -> Result<Answer, Stop>
-    requires { IsHeld held.old }
-    ensures done { (files : Option Files) (faults pairs : ℕ) → IfOk result
-        (Answers (at held.old files faults looks.old pairs places.old) context.entry.number (form.Nonempty query name)
-        (at held.new files faults looks.new pairs places.new)) }
-    ensures stopped { (files : Option Files) (faults pairs : ℕ) → IfErr result
-        (Stays (at held.old files faults looks.old pairs places.old) context.entry.number (form.Nonempty query name)
-        (at held.new files faults looks.new pairs places.new)) }
-{
-    match held.docs.get(name.bytes()) {
-        Ok(root) => {
-            held.book.grow_all(
-                context.lent.rt,
-                held.alloc,
-                &held.store,
-                context.lent.workers,
-                context.lent.gate,
-                places,
-            )?;
-            let subject = Subject {
-                alloc: held.alloc,
-                store: &held.store,
-                book: &held.book,
-                root,
-            };
-            let answer = test_root(subject, context.number, query, looks)?;
-            Ok(answer)
-        }
-        Err(Missing::NoSuchDocument) => {
-            refuse(held, context.number, &Refusal::NoSuchDocument { name })
         }
     }
 }
@@ -258,22 +146,41 @@ fn has_root<L: Ledger>(
     }
 }
 
-/// `has Q NAME TUPLE`
-pub fn has<R: Threads + Sync, G: Gate, T: Ledger, L: Ledger>(
+/// What is asked of a query on a root's text, as a reply: whether the word is an answer, and without a word whether there is one.
+fn ask_root<L: Ledger>(
+    subject: Subject<'_>,
+    number: u64,
+    query: Name,
+    word: &Option<ByteList>,
+    looks: &mut Steps<L>,
+) -> Result<Answer, NoMemory>
+    requires { IsSubject subject.store.now subject.book.now subject.root }
+    ensures ok { IfOk result (λ answer. IsReplied number (queries_of subject.entry.book.now) query word.now
+        (text_at subject.entry.store.now subject.entry.root) answer.told answer.line.items) }
+    ensures cost { IsReplyPaid (queries_of subject.entry.book.now) query word.now (text_at subject.entry.store.now subject.entry.root) looks.old looks.new }
+{
+    match word {
+        None => test_root(subject, number, query, looks),
+        Some(word) => has_root(subject, number, query, word, looks),
+    }
+}
+
+/// `has Q NAME TUPLE`, and `test Q NAME` where no tuple is given.
+pub fn ask<R: Threads + Sync, G: Gate, T: Ledger, L: Ledger>(
     context: Context<'_, R, G>,
     held: &mut Held,
     query: Name,
     name: Name,
-    word: ByteList,
+    word: Option<ByteList>,
     places: &mut Steps<T>,
     looks: &mut Steps<L>,
 ) -> Result<Answer, Stop>
     requires { IsHeld held.old }
     ensures done { (files : Option Files) (faults pairs : ℕ) → IfOk result
-        (Answers (at held.old files faults looks.old pairs places.old) context.entry.number (form.Has query name word)
+        (Answers (at held.old files faults looks.old pairs places.old) context.entry.number (question_of query name word)
         (at held.new files faults looks.new pairs places.new)) }
     ensures stopped { (files : Option Files) (faults pairs : ℕ) → IfErr result
-        (Stays (at held.old files faults looks.old pairs places.old) context.entry.number (form.Has query name word)
+        (Stays (at held.old files faults looks.old pairs places.old) context.entry.number (question_of query name word)
         (at held.new files faults looks.new pairs places.new)) }
 {
     match held.docs.get(name.bytes()) {
@@ -292,7 +199,7 @@ pub fn has<R: Threads + Sync, G: Gate, T: Ledger, L: Ledger>(
                 book: &held.book,
                 root,
             };
-            let answer = has_root(subject, context.number, query, &word, looks)?;
+            let answer = ask_root(subject, context.number, query, &word, looks)?;
             Ok(answer)
         }
         Err(Missing::NoSuchDocument) => {

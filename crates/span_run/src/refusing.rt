@@ -1,10 +1,10 @@
 //! Commands that are refused: they do nothing, and cost nothing.
 ghost use Rattle.span_run.specs.Carried.{outlet};
-ghost use Rattle.span_run.specs.Refusing.{KeepsFreely, RefusesFreely, StopsBefore, TurnsAway};
+ghost use Rattle.span_run.specs.Refusing.{KeepsFreely, RefusesFreely, TurnsAway};
 
 use crate::answer::Answer;
 use crate::held::Held;
-use crate::offer::send;
+use crate::offer::send_refusal;
 use edge_io::Sink;
 use report_text::Refusal;
 use span_language::{Stop, Told};
@@ -25,11 +25,8 @@ pub fn turn_away<K: Sink>(
     why: &Refusal,
     out: &mut K,
 ) -> Result<Told, Stop>
-    ensures done { TurnsAway held.now number why.now (outlet (K.written out.old) (K.faults out.old) (K.wants out.old))
-        (outlet (K.written out.new) (K.faults out.new) (K.wants out.new)) result }
-    ensures stopped { StopsBefore held.now number why.now (outlet (K.written out.old) (K.faults out.old) (K.wants out.old))
+    ensures { TurnsAway held.now number why.now (outlet (K.written out.old) (K.faults out.old) (K.wants out.old))
         (outlet (K.written out.new) (K.faults out.new) (K.wants out.new)) result }
 {
-    let answer = Answer::refused(held.alloc, number, why)?;
-    send(answer, out)
+    send_refusal(held.alloc, number, why, out)
 }

@@ -1,10 +1,9 @@
-use Rattle.std.proofs.Common.{rules, Some, sym, subst}
-use Rattle.span_run.proofs.Names.{Command, Done, IsWellFormed, outlet, Quiet, seen, standing_of}
-use Rattle.span_run.proofs.Sending.{quiet_done, is_answering}
+use Rattle.span_run.proofs.Names.{Command, Done, IsWellFormed, outlet, Quiet, rules, seen, Some, standing_of, subst, sym}
+use Rattle.span_run.proofs.Facts.{is_answering, quiet_done}
 use Rattle.span_run.proofs.carrying.carry.Goals as goal
 
-pub returns-in-Nothing-clause-done : goal.returns-in-Nothing-clause-done
-returns-in-Nothing-clause-done g c =
+pub returns-in-Nothing-clause-ends : goal.returns-in-Nothing-clause-ends
+returns-in-Nothing-clause-ends g c =
     let f = g.F.Shelf in
     let k = g.K.Sink in
     let here = seen (standing_of c.args.held.now) (f.files c.args.shelf.now) (f.faults c.args.shelf.now) c.args.looks.now c.args.pairs.now c.args.places.now in

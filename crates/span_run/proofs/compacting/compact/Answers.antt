@@ -1,9 +1,7 @@
-use Rattle.std.proofs.Common.{◌∙◌, ap, sym, subst, List}
-use Rattle.span_run.proofs.Names.{at, Doc, Named, Node, Stays}
+use Rattle.span_run.proofs.Names.{ap, at, Doc, List, Named, Node, Stays, subst, sym, ◌∙◌}
 use Rattle.script_syntax.specs.declared.form.Command.TheVariants as form
 use Rattle.span_language.specs.declared.told.Stop.TheVariants as stop
-use Rattle.span_run.proofs.Thinned.{compact_answers}
-use Rattle.span_run.proofs.Goes.{passed_on, stays}
+use Rattle.span_run.proofs.Facts.{compact_answers, passed_on, stays}
 use Rattle.span_run.proofs.compacting.compact.Goals as goal
 
 pub returns-in_err-line-clause-stopped : goal.returns-in_err-line-clause-stopped

@@ -1,6 +1,5 @@
-use Rattle.std.proofs.Common.{ap, ◌∙◌}
-use Rattle.span_run.proofs.Names.{AreLive-grows, err_from_is_err_and, eval, plain, plain-grows, text_at}
-use Rattle.span_run.proofs.CarryLemmas.{assigned_value, assigned_refusal}
+use Rattle.span_run.proofs.Names.{ap, AreLive-grows, err_from_is_err_and, eval, plain, plain-grows, text_at, ◌∙◌}
+use Rattle.span_run.proofs.Facts.{assigned_refusal, assigned_value}
 use Rattle.span_run.proofs.documents.assign.Goals as goal
 
 pub give-requires-clause-live : goal.give-requires-clause-live

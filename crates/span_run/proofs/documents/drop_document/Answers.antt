@@ -1,12 +1,7 @@
-use Rattle.std.proofs.Common.{◌∙◌, sym, ap, subst, refl, List, ℕ, IsSome}
-use Rattle.span_run.proofs.Names.{AreLive, Doc, plain, state_of, text_at}
+use Rattle.span_run.proofs.Names.{ap, AreLive, Doc, IsSome, List, plain, refl, state_of, subst, sym, text_at, ℕ, ◌∙◌}
 use Rattle.doc_book.specs.Docs as book
 use Rattle.script_syntax.specs.declared.form.Command.TheVariants as form
-use Rattle.span_run.proofs.HeldLemmas.{AreLive-taken_out, plain-taken_out}
-use Rattle.span_run.proofs.BookLemmas.{some_value}
-use Rattle.span_run.proofs.CarryLemmas.{drop_carries}
-use Rattle.span_run.proofs.QueryLemmas.{document_is, document_lacks}
-use Rattle.span_run.proofs.Goes.{free_answers, passed_on, stays}
+use Rattle.span_run.proofs.Facts.{AreLive-taken_out, document_is, document_lacks, drop_carries, free_answers, passed_on, plain-taken_out, some_value, stays}
 use Rattle.span_run.proofs.documents.drop_document.Goals as goal
 
 pub returns-in_err-line-clause-stopped : goal.returns-in_err-line-clause-stopped

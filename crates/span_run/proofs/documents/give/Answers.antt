@@ -1,6 +1,5 @@
-use Rattle.std.proofs.Common.{sym, ap, subst, ◌∙◌}
-use Rattle.span_run.proofs.Names.{AreLive, plain}
-use Rattle.span_run.proofs.HeldLemmas.{AreLive-put, plain-put}
+use Rattle.span_run.proofs.Names.{ap, AreLive, plain, subst, sym, ◌∙◌}
+use Rattle.span_run.proofs.Facts.{AreLive-put, plain-put}
 use Rattle.span_run.proofs.documents.give.Goals as goal
 
 pub returns-clause-live : goal.returns-clause-live

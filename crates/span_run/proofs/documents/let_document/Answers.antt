@@ -1,8 +1,6 @@
-use Rattle.std.proofs.Common.{arith, refl, sym, subst, List, ℕ, rules, inl}
-use Rattle.span_run.proofs.Names.{counters, Expr, ExprReads, plain, state_of, world}
+use Rattle.span_run.proofs.Names.{arith, counters, Expr, ExprReads, inl, List, plain, refl, rules, state_of, subst, sym, world, ℕ}
 use Rattle.script_syntax.specs.declared.form.Command.TheVariants as form
-use Rattle.span_run.proofs.CarryLemmas.{let_carries, let_paid, part_of_paid}
-use Rattle.span_run.proofs.Goes.{grown_answers, grown_stops, passed_on, stays}
+use Rattle.span_run.proofs.Facts.{grown_answers, grown_stops, let_carries, let_paid, part_of_paid, passed_on, stays}
 use Rattle.span_run.proofs.documents.let_document.Goals as goal
 
 pub returns-in_err-answer-in-Ok-clause-stopped : goal.returns-in_err-answer-in-Ok-clause-stopped

@@ -1,11 +1,7 @@
-use Rattle.std.proofs.Common.{refl, sym, ap, ◌∙◌, Err}
+use Rattle.span_run.proofs.Names.{ap, Err, NoSuchDocument, option_map_or, refl, shown_range, state_of, sym, text_at, world, ◌∙◌}
 use Rattle.doc_book.specs.Docs as book
-use Rattle.span_run.proofs.Names.{NoSuchDocument, option_map_or, shown_range, state_of, text_at, world}
 use Rattle.script_syntax.specs.declared.form.Command.TheVariants as form
-use Rattle.span_run.proofs.HeldLemmas.{live_root}
-use Rattle.span_run.proofs.CarryLemmas.{show_carries, some_of_ok, none_of_err}
-use Rattle.span_run.proofs.QueryLemmas.{document_is, document_lacks}
-use Rattle.span_run.proofs.Goes.{free_answers, passed_on, stays}
+use Rattle.span_run.proofs.Facts.{document_is, document_lacks, free_answers, live_root, none_of_err, passed_on, show_carries, some_of_ok, stays}
 use Rattle.span_run.proofs.documents.show.Goals as goal
 
 pub show_range-requires : goal.show_range-requires

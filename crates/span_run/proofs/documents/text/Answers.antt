@@ -1,8 +1,7 @@
-use Rattle.std.proofs.Common.{◌≡◌, ◌∙◌, ◌≤◌, ◌+◌, ◌*◌, List, ℕ, length, refl, ap, subst, arith}
-use Rattle.span_run.proofs.Names.{AreLive-grows, counters, height_limit, PaysFor, plain, plain-grows, root_text, shape-text, state_of, text_at, world}
+use Rattle.span_run.proofs.Names.{ap, AreLive-grows, arith, counters, height_limit, length, List, PaysFor, plain, plain-grows, refl, root_text, shape-text}
+use Rattle.span_run.proofs.Names.{state_of, subst, text_at, world, ℕ, ◌*◌, ◌+◌, ◌∙◌, ◌≡◌, ◌≤◌}
 use Rattle.script_syntax.specs.declared.form.Command.TheVariants as form
-use Rattle.span_run.proofs.CarryLemmas.{assigned_after, load_paid, part_of_paid, text_carries}
-use Rattle.span_run.proofs.Goes.{grown_answers, grown_stops, passed_on}
+use Rattle.span_run.proofs.Facts.{assigned_after, grown_answers, grown_stops, load_paid, part_of_paid, passed_on, text_carries}
 use Rattle.span_run.proofs.documents.text.Goals as goal
 
 pub returns-in_err-root-clause-stopped : goal.returns-in_err-root-clause-stopped

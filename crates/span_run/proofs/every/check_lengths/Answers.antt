@@ -1,6 +1,5 @@
-use Rattle.std.proofs.Common.{arith}
-use Rattle.span_run.proofs.Names.{live-at}
-use Rattle.span_run.proofs.EveryLemmas.{short_all, short_next}
+use Rattle.span_run.proofs.Names.{arith, live-at}
+use Rattle.span_run.proofs.Facts.{short_all, short_next}
 use Rattle.span_run.proofs.every.check_lengths.Goals as goal
 
 pub root_len-len-requires : goal.root_len-len-requires

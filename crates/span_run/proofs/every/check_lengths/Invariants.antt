@@ -1,5 +1,4 @@
-use Rattle.std.proofs.Common.{◌≡◌, ℕ, ◌<◌, ◌≤◌, ◌^◌, length, Some, slice_get}
-use Rattle.span_run.proofs.Names.{Doc, text_at}
+use Rattle.span_run.proofs.Names.{Doc, length, slice_get, Some, text_at, ℕ, ◌<◌, ◌^◌, ◌≡◌, ◌≤◌}
 use Rattle.span_run.proofs.every.check_lengths.Given as goal
 
 abbrev pub invariant-loop-place : goal.invariant-loop-place

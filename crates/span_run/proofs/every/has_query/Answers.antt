@@ -1,5 +1,5 @@
 use Rattle.span_run.proofs.Names.{queries_of}
-use Rattle.span_run.proofs.EveryLemmas.{registered}
+use Rattle.span_run.proofs.Facts.{registered}
 use Rattle.span_run.proofs.every.has_query.Goals as goal
 
 pub returns-in-Ok-clause-there : goal.returns-in-Ok-clause-there

@@ -1,22 +1,26 @@
-use Rattle.std.proofs.Common.{arith, length}
-use Rattle.span_run.proofs.Names.{err_from_is_err_and}
-use Rattle.span_run.proofs.EveryParts.{batch_next, batch_stops, found_sizes}
+use native.Mathlib.Numerals.{unary_clauses}
+use Rattle.span_run.proofs.Names.{length, refl}
+use Rattle.span_run.proofs.Facts.{batch_left, found_sizes, passed, sent_on, starts, stops, waits}
 use Rattle.span_run.proofs.every.list_batch.Goals as goal
 
 pub write_document-requires : goal.write_document-requires
 write_document-requires g c =
-    found_sizes c.args.survey.dfa.now c.args.survey.view.store.now c.args.survey.docs.now c.args.first c.args.count c.args.survey.limit _ c.in_ok-found.ensures c.loop-place.place (record { name = c.at.result.0.now; root = c.at.result.1 }) c.tuples.result.now c.more.result c.at.ensures c.tuples.ensures c.more.ensures (length c.args.survey.vars.now) c.requires.survey.variables c.requires.survey.answered
+    found_sizes c.args.survey.dfa.now c.args.survey.view.store.now c.args.survey.docs.now c.args.first c.args.count c.args.survey.limit _ c.in_ok-found.ensures c.loop-place.place (record { name = c.at.result.0.now; root = c.at.result.1 }) c.tuples.result.now c.more.result
+    c.at.ensures c.tuples.ensures c.more.ensures (length c.args.survey.vars.now) c.requires.survey.variables c.requires.survey.answered
+
+pub returns-in_err-found-clause-stopped : goal.returns-in_err-found-clause-stopped
+returns-in_err-found-clause-stopped g c = passed c.from_residual.result _ _ _ c.from_residual.ensures.1 (λ lists are. waits (starts _ _))
+
+pub loop-place-init : goal.loop-place-init
+loop-place-init g c = λ lists are. simp unary_clauses (starts _ _)
 
 pub loop-place-preserved : goal.loop-place-preserved
-loop-place-preserved g c = record {
-  so_far = λ lists are. batch_next c.args.survey.dfa.now c.args.survey.view.store.now c.args.survey.docs.now c.args.first c.args.count c.args.survey.limit _ c.in_ok-found.ensures c.loop-place.place (record { name = c.at.result.0.now; root = c.at.result.1 }) c.tuples.result.now c.more.result c.at.ensures c.tuples.ensures c.more.ensures
-      (g.K.Sink.written c.args.out.now) (g.K.Sink.written c.loop-place.out) (g.K.Sink.written c.write_document.new.out) c.args.survey.vars.now lists are (c.loop-place.invariant.so_far lists are) c.in_ok-write_document.ensures.done;
-  later = omega (arith, c.loop-place.invariant.later, c.write_document.ensures.later);
-  wants_later = omega (arith, c.loop-place.invariant.wants_later, c.write_document.ensures.wants_later);
-}
+loop-place-preserved g c = λ lists are.
+    sent_on _ _ _ (batch_left c.args.survey.dfa.now c.args.survey.view.store.now c.args.survey.docs.now c.args.first c.args.count c.args.survey.limit _ c.in_ok-found.ensures c.loop-place.place (record { name = c.at.result.0.now; root = c.at.result.1 }) c.tuples.result.now c.more.result
+    c.at.ensures c.tuples.ensures c.more.ensures c.args.survey.vars.now lists are (c.loop-place.invariant lists are)) refl c.in_ok-write_document.ensures
 
 pub returns-in_err-write_document-clause-stopped : goal.returns-in_err-write_document-clause-stopped
 returns-in_err-write_document-clause-stopped g c =
-    let p = err_from_is_err_and c.from_residual-in_err-write_document.result c.from_residual-in_err-write_document.ensures.1 in
-    rw (p.1) (λ lists are. batch_stops c.args.survey.dfa.now c.args.survey.view.store.now c.args.survey.docs.now c.args.first c.args.count c.args.survey.limit _ c.in_ok-found.ensures c.loop-place.place (record { name = c.at.result.0.now; root = c.at.result.1 }) c.tuples.result.now c.more.result c.at.ensures c.tuples.ensures c.more.ensures
-    (g.K.Sink.written c.args.out.now) (g.K.Sink.written c.loop-place.out) (g.K.Sink.written c.write_document.new.out) c.args.survey.vars.now lists are (c.loop-place.invariant.so_far lists are) c.in_err-write_document.ensures.stopped)
+    passed c.from_residual-in_err-write_document.result _ _ _ c.from_residual-in_err-write_document.ensures.1 (λ lists are.
+    stops _ _ _ (batch_left c.args.survey.dfa.now c.args.survey.view.store.now c.args.survey.docs.now c.args.first c.args.count c.args.survey.limit _ c.in_ok-found.ensures c.loop-place.place (record { name = c.at.result.0.now; root = c.at.result.1 }) c.tuples.result.now c.more.result
+    c.at.ensures c.tuples.ensures c.more.ensures c.args.survey.vars.now lists are (c.loop-place.invariant lists are)) refl c.in_err-write_document.ensures)

@@ -1,15 +1,12 @@
-use Rattle.std.proofs.Common.{◌≤◌, ◌-◌, List}
-use Rattle.span_run.proofs.Names.{AreAnswered, every_text, rest_text, Tuple}
-use Rattle.span_run.proofs.Written.{IsListing}
+use Rattle.span_run.proofs.Names.{AreAnswered, every_text, IsUpTo, List, outlet, rest_text, Tuple, ◌-◌, ◌≤◌}
 use Rattle.span_run.proofs.every.list_documents.Given as goal
 
 abbrev pub invariant-loop-first : goal.invariant-loop-first
 invariant-loop-first g l = record {
   within : l.first ≤ l.all;
   so_far : (lists : List (List Tuple)) → AreAnswered l.survey.dfa.now l.survey.view.store.now l.survey.docs.now lists
-      → IsListing (g.K.Sink.written l.fn.out) (g.K.Sink.written l.out) (rest_text l.survey.vars.now l.survey.limit l.survey.docs.now lists l.first) (every_text l.survey.vars.now l.survey.limit l.survey.docs.now lists);
-  later : g.K.Sink.faults l.fn.out ≤ g.K.Sink.faults l.out;
-  wants_later : g.K.Sink.wants l.fn.out ≤ g.K.Sink.wants l.out;
+      → IsUpTo (outlet (g.K.Sink.written l.fn.out) (g.K.Sink.faults l.fn.out) (g.K.Sink.wants l.fn.out)) (outlet (g.K.Sink.written l.out) (g.K.Sink.faults l.out) (g.K.Sink.wants l.out))
+      (rest_text l.survey.vars.now l.survey.limit l.survey.docs.now lists l.first) (every_text l.survey.vars.now l.survey.limit l.survey.docs.now lists);
 }
 
 abbrev pub decreases-loop-first : goal.decreases-loop-first

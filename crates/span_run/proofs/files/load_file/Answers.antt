@@ -1,10 +1,8 @@
-use Rattle.std.proofs.Common.{◌∙◌, ap, subst, List, ℕ, refl, Ok}
-use Rattle.span_run.proofs.Names.{AreLive-grows, Assigns, IfOk-weaker, IsLoadPaid, IsTurnedAway, IsWithin, load_size, plain, plain-grows, state_of, text_at}
-use Rattle.span_run.proofs.Names.{world}
+use Rattle.span_run.proofs.Names.{ap, AreLive-grows, Assigns, IfOk-weaker, IsLoadPaid, IsTurnedAway, IsWithin, List, load_size, Ok, plain, plain-grows, refl}
+use Rattle.span_run.proofs.Names.{state_of, subst, text_at, world, ℕ, ◌∙◌}
 use Rattle.script_syntax.specs.declared.form.Command.TheVariants as form
-use Rattle.span_run.proofs.CarryLemmas.{assigned_after}
-use Rattle.span_run.proofs.FileLemmas.{load_carries, load_denied, file_paid, file_refused_paid, file_begun}
-use Rattle.span_run.proofs.Goes.{grown_answers, grown_same, grown_stays, grown_stops, if_err_both, passed_on}
+use Rattle.span_run.proofs.Facts.{assigned_after, file_begun, file_paid, file_refused_paid, grown_answers, grown_same, grown_stays, grown_stops, if_err_both}
+use Rattle.span_run.proofs.Facts.{load_carries, load_denied, passed_on}
 use Rattle.span_run.proofs.files.load_file.Goals as goal
 
 pub give-requires-clause-live : goal.give-requires-clause-live

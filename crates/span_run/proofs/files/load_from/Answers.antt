@@ -1,5 +1,4 @@
-use Rattle.std.proofs.Common.{arith}
-use Rattle.span_run.proofs.Names.{Grows-none}
+use Rattle.span_run.proofs.Names.{arith, Grows-none}
 use Rattle.span_run.proofs.files.load_from.Goals as goal
 
 pub returns-in_err-check_size-clause-grows : goal.returns-in_err-check_size-clause-grows

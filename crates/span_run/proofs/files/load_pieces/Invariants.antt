@@ -1,9 +1,8 @@
-use Rattle.std.proofs.Common.{◌≡◌, ◌+◌, ◌-◌, ◌^◌, ◌≤◌, length}
-use Rattle.span_run.proofs.Names.{fed, Grows, IsFileFront, IsLoader, load_size, pending_count}
+use Rattle.span_run.proofs.Names.{fed, Grows, IsFileFront, IsLoader, length, load_size, pending_count, ◌+◌, ◌-◌, ◌≡◌, ◌≤◌}
 use Rattle.span_run.proofs.files.load_pieces.Given as goal
 
-abbrev pub invariant-loop-at : goal.invariant-loop-at
-invariant-loop-at g l = record {
+abbrev pub invariant-loop-loader : goal.invariant-loop-loader
+invariant-loop-loader g l = record {
   used : IsLoader l.store l.loader;
   at : l.at ≡ length (fed l.store l.loader);
   within : l.at ≤ load_size;
@@ -14,5 +13,5 @@ invariant-loop-at g l = record {
   later : g.F.Shelf.faults l.fn.shelf ≤ g.F.Shelf.faults l.shelf;
 }
 
-abbrev pub decreases-loop-at : goal.decreases-loop-at
-decreases-loop-at g l = 2 ^ 32 + 1 - l.at
+abbrev pub decreases-loop-loader : goal.decreases-loop-loader
+decreases-loop-loader g l = load_size - l.at

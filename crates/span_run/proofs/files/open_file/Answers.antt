@@ -1,9 +1,8 @@
-use Rattle.std.proofs.Common.{sym, subst, List, ℕ, refl, arith}
-use Rattle.span_run.proofs.Names.{counters, Grows-none, IfOk-weaker, image, IsTurnedAway, IsWithin, open_size, plain, state_of, world}
+use Rattle.span_run.proofs.Names.{arith, counters, Grows-none, IfOk-weaker, image, IsTurnedAway, IsWithin, List, open_size, plain, refl, state_of, subst, sym}
+use Rattle.span_run.proofs.Names.{world, ℕ}
 use Rattle.script_syntax.specs.declared.form.Command.TheVariants as form
-use Rattle.span_run.proofs.CarryLemmas.{not_begun, part_of_paid}
-use Rattle.span_run.proofs.FileLemmas.{open_carries, open_denied, open_paid, open_refused_paid}
-use Rattle.span_run.proofs.Goes.{grown_answers, grown_same, grown_stays, grown_stops, if_err_both, passed_on}
+use Rattle.span_run.proofs.Facts.{grown_answers, grown_same, grown_stays, grown_stops, if_err_both, not_begun, open_carries, open_denied, open_paid}
+use Rattle.span_run.proofs.Facts.{open_refused_paid, part_of_paid, passed_on}
 use Rattle.span_run.proofs.files.open_file.Goals as goal
 
 pub returns-in_err-answer-in-Ok-clause-stopped : goal.returns-in_err-answer-in-Ok-clause-stopped

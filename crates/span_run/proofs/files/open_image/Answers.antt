@@ -1,5 +1,5 @@
 use Rattle.span_run.proofs.Names.{AreLive-grows, err_from_is_err_and, image, plain, plain-grows}
-use Rattle.span_run.proofs.FileLemmas.{opens_refused}
+use Rattle.span_run.proofs.Facts.{opens_refused}
 use Rattle.span_run.proofs.files.open_image.Goals as goal
 
 pub returns-in_err-opened_line-in-Ok-clause-live : goal.returns-in_err-opened_line-in-Ok-clause-live

@@ -1,8 +1,8 @@
-use Rattle.std.proofs.Common.{rules, ◌≡◌, ◌∙◌, ◌++◌, ap, sym, subst, length, List, ℕ}
-use Rattle.span_run.proofs.Names.{Doc, Holds, IsPut, KeepsOthers, length-map, plain, saved_text, text_at}
+use Rattle.span_run.proofs.Names.{ap, Doc, Holds, IsPut, KeepsOthers, length, length-map, List, plain, rules, saved_text, subst, sym, text_at, ℕ, ◌++◌, ◌∙◌}
+use Rattle.span_run.proofs.Names.{◌≡◌}
 use Rattle.script_syntax.specs.declared.form.Command.TheVariants as form
 use Rattle.span_language.specs.declared.told.Stop.TheVariants as stop
-use Rattle.span_run.proofs.Goes.{no_shelf, no_sink, passed_on, saved_answers, saved_stays, stays}
+use Rattle.span_run.proofs.Facts.{no_shelf, no_sink, passed_on, saved_answers, saved_stays, stays}
 use Rattle.span_run.proofs.files.save_file.Goals as goal
 
 pub returns-in_err-image-clause-stopped : goal.returns-in_err-image-clause-stopped

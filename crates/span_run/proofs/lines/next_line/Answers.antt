@@ -1,6 +1,5 @@
-use Rattle.std.proofs.Common.{◌∙◌, ap}
-use Rattle.span_run.proofs.Names.{lines_of}
-use Rattle.span_run.proofs.LinesLemmas.{no_newline, lines_cut, lines_one}
+use Rattle.span_run.proofs.Names.{ap, lines_of, ◌∙◌}
+use Rattle.span_run.proofs.Facts.{lines_cut, lines_one, no_newline}
 use Rattle.span_run.proofs.lines.next_line.Goals as goal
 
 pub returns-in-Some-clause-lines : goal.returns-in-Some-clause-lines

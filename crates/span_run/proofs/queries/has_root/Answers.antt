@@ -1,6 +1,5 @@
-use Rattle.std.proofs.Common.{inl, inr, refl}
-use Rattle.span_run.proofs.Names.{queries_of, text_at}
-use Rattle.span_run.proofs.QueryLemmas.{has_variables, judged, judged_unread}
+use Rattle.span_run.proofs.Names.{inl, inr, queries_of, refl, text_at}
+use Rattle.span_run.proofs.Facts.{has_variables, judged, judged_unread}
 use Rattle.span_run.proofs.queries.has_root.Goals as goal
 
 pub has_tuple-requires-clause-tuple : goal.has_tuple-requires-clause-tuple

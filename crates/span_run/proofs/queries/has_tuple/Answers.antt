@@ -1,5 +1,5 @@
 use Rattle.span_run.proofs.Names.{IsAnswer, queries_of, text_at}
-use Rattle.span_run.proofs.QueryLemmas.{answered}
+use Rattle.span_run.proofs.Facts.{answered}
 use Rattle.span_run.proofs.queries.has_tuple.Goals as goal
 
 pub returns-in_ok-answer-in-Ok-clause-ok : goal.returns-in_ok-answer-in-Ok-clause-ok

@@ -1,9 +1,6 @@
-use Rattle.std.proofs.Common.{◌∙◌, ap, refl, sym, subst, length, List, ℕ, IsSome}
+use Rattle.span_run.proofs.Names.{ap, covered_of, Entry, IsSome, length, List, queries_of, refl, state_of, subst, sym, taken_out, value_of, ℕ, ◌∙◌}
 use Rattle.script_syntax.specs.declared.form.Command.TheVariants as form
-use Rattle.span_run.proofs.Names.{covered_of, Entry, queries_of, state_of, taken_out, value_of}
-use Rattle.span_run.proofs.BookLemmas.{take_placed, covered-within}
-use Rattle.span_run.proofs.QueryLemmas.{unquery_carries}
-use Rattle.span_run.proofs.Goes.{booked_answers, never, passed_on, stays}
+use Rattle.span_run.proofs.Facts.{booked_answers, covered-within, never, passed_on, stays, take_placed, unquery_carries}
 use Rattle.span_run.proofs.queries.unquery.Goals as goal
 
 pub returns-in_err-line-clause-stopped : goal.returns-in_err-line-clause-stopped

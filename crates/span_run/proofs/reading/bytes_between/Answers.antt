@@ -1,5 +1,5 @@
-use Rattle.std.proofs.Common.{arith}
-use Rattle.span_run.proofs.HeldLemmas.{length-text_at}
+use Rattle.span_run.proofs.Names.{arith}
+use Rattle.span_run.proofs.Facts.{length-text_at}
 use Rattle.span_run.proofs.reading.bytes_between.Goals as goal
 
 pub new-requires-clause-within : goal.new-requires-clause-within

@@ -1,5 +1,5 @@
 use Rattle.span_run.proofs.Names.{text_at}
-use Rattle.span_run.proofs.HeldLemmas.{head_of-text}
+use Rattle.span_run.proofs.Facts.{head_of-text}
 use Rattle.span_run.proofs.reading.head_of.Goals as goal
 
 pub returns : goal.returns

@@ -1,6 +1,5 @@
-use Rattle.std.proofs.Common.{sym, ap, ◌∙◌, length, Some}
-use Rattle.span_run.proofs.Names.{text_at}
-use Rattle.span_run.proofs.HeldLemmas.{length-text_at}
+use Rattle.span_run.proofs.Names.{ap, length, Some, sym, text_at, ◌∙◌}
+use Rattle.span_run.proofs.Facts.{length-text_at}
 use Rattle.span_run.proofs.reading.root_len.Goals as goal
 
 pub returns-in-Some-clause-len : goal.returns-in-Some-clause-len

@@ -1,8 +1,6 @@
-use Rattle.std.proofs.Common.{sym, subst}
+use Rattle.span_run.proofs.Names.{Answers, at, Held, Stays, subst, sym}
 use Rattle.span_language.specs.declared.told.Stop.TheVariants as stop
-use Rattle.span_run.proofs.Names.{Answers, at, Held, Stays}
-use Rattle.span_run.proofs.Goes.{passed_on, stays}
-use Rattle.span_run.proofs.Sending.{refused_here}
+use Rattle.span_run.proofs.Facts.{passed_on, refused_here, stays}
 use Rattle.span_run.proofs.refusing.refuse.Goals as goal
 
 pub returns-in_err-answer-clause-stopped : goal.returns-in_err-answer-clause-stopped

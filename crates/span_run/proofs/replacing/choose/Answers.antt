@@ -1,5 +1,5 @@
-use Rattle.std.proofs.Common.{◌≡◌, ◌≤◌, ◌+◌, ◌*◌, ◌∙◌, ap, refl, sym, subst, length, min, arith, List, ℕ}
-use Rattle.span_run.proofs.Names.{AreAnswersOf, looks_limit, Node, queries_of, text_at, text_of, value_of}
+use Rattle.span_run.proofs.Names.{ap, AreAnswersOf, arith, length, List, looks_limit, min, Node, queries_of, refl, subst, sym, text_at, text_of, value_of, ℕ}
+use Rattle.span_run.proofs.Names.{◌*◌, ◌+◌, ◌∙◌, ◌≡◌, ◌≤◌}
 use Rattle.span_replace.specs.Chosen.{chosen}
 use Rattle.span_run.proofs.replacing.choose.Goals as goal
 

@@ -1,9 +1,6 @@
-use Rattle.std.proofs.Common.{◌≡◌, ◌∙◌, inl, inr, refl, sym, ap, List, ℕ, Some, None, option_map}
+use Rattle.span_run.proofs.Names.{ap, inl, inr, List, names_of, None, option_map, queries_of, refl, Some, state_of, sym, text_at, value_of, world, ℕ, ◌∙◌, ◌≡◌}
 use Rattle.doc_book.specs.Docs as book
-use Rattle.span_run.proofs.Names.{names_of, queries_of, state_of, text_at, value_of, world}
-use Rattle.span_run.proofs.CarryLemmas.{none_of_err, some_of_ok}
-use Rattle.span_run.proofs.QueryLemmas.{document_is, document_lacks}
-use Rattle.span_run.proofs.ReplaceLemmas.{not_one}
+use Rattle.span_run.proofs.Facts.{document_is, document_lacks, none_of_err, not_one, some_of_ok}
 use Rattle.span_run.proofs.replacing.find_sources.Goals as goal
 
 pub returns-in-Err-NoSuchDocument-clause-err : goal.returns-in-Err-NoSuchDocument-clause-err

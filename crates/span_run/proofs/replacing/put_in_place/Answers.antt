@@ -1,6 +1,5 @@
-use Rattle.std.proofs.Common.{◌∙◌, ap, inl}
-use Rattle.span_run.proofs.Names.{AreLive-grows, err_from_is_err_and, plain, plain-grows, replaced, text_at}
-use Rattle.span_run.proofs.CarryLemmas.{assigned_after}
+use Rattle.span_run.proofs.Names.{ap, AreLive-grows, err_from_is_err_and, inl, plain, plain-grows, replaced, text_at, ◌∙◌}
+use Rattle.span_run.proofs.Facts.{assigned_after}
 use Rattle.span_run.proofs.replacing.put_in_place.Goals as goal
 
 pub give-requires-clause-live : goal.give-requires-clause-live

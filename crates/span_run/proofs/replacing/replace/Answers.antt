@@ -1,12 +1,10 @@
-use Rattle.std.proofs.Common.{rules, ◌≡◌, inl, ap, refl, subst, length, arith, List, Err}
-use Rattle.span_run.proofs.Names.{counters, plain, queries_of, replaced, ReplaceRefusal, Replaces, Span, state_of, text_at, world}
+use Rattle.span_run.proofs.Names.{ap, arith, counters, Err, inl, length, List, plain, queries_of, refl, replaced, ReplaceRefusal, Replaces, rules, Span}
+use Rattle.span_run.proofs.Names.{state_of, subst, text_at, world, ◌≡◌}
 use Rattle.script_syntax.specs.declared.form.Command.TheVariants as form
 use Rattle.span_replace.specs.Outcomes.{IsChoice}
 use Rattle.span_replace.specs.declared.refusal.ReplaceRefusal.TheVariants.{TooManyMatches}
-use Rattle.span_run.proofs.CarryLemmas.{part_of_paid}
-use Rattle.span_run.proofs.HeldLemmas.{live_root}
-use Rattle.span_run.proofs.ReplaceLemmas.{choose_stops, chosen_before, is_replacing, replace_carries, replace_many, replace_paid}
-use Rattle.span_run.proofs.Goes.{moved_answers, moved_stops, passed_on, placed_answers, unplaced}
+use Rattle.span_run.proofs.Facts.{choose_stops, chosen_before, is_replacing, live_root, moved_answers, moved_stops, part_of_paid, passed_on, placed_answers}
+use Rattle.span_run.proofs.Facts.{replace_carries, replace_many, replace_paid, unplaced}
 use Rattle.span_run.proofs.replacing.replace.Goals as goal
 
 pub choose-requires-clause-subject : goal.choose-requires-clause-subject

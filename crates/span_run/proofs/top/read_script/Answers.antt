@@ -1,5 +1,4 @@
-use Rattle.std.proofs.Common.{length, ◌≤◌, ◌+◌, ◌^◌, arith, ◌++◌, take, length-append, length-take}
-use Rattle.span_run.proofs.Names.{Consumes-trans}
+use Rattle.span_run.proofs.Names.{arith, Consumes-trans, length, length-append, length-take, take, ◌++◌, ◌+◌, ◌^◌, ◌≤◌}
 use Rattle.span_run.proofs.top.read_script.Goals as goal
 
 pub returns-then-is_err-clause-taken : goal.returns-then-is_err-clause-taken

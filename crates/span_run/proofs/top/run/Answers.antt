@@ -1,7 +1,5 @@
-use Rattle.std.proofs.Common.{◌≤◌, ◌^◌, length, map, string_bytes, refl}
-use Rattle.span_run.proofs.Names.{Anywhere, InFileLine, lines_of, outside, RunsFront, script_of, UnlessList}
-use Rattle.span_run.proofs.RunsLemmas.{none_ran, none_written, each_some}
-use Rattle.span_run.proofs.ScriptLemmas.{of_demo, of_script}
+use Rattle.span_run.proofs.Names.{Anywhere, InFileLine, length, lines_of, map, outside, refl, RunsFront, script_of, string_bytes, UnlessList, ◌^◌, ◌≤◌}
+use Rattle.span_run.proofs.Facts.{each_some, none_ran, none_written, of_demo, of_script}
 use Rattle.span_run.proofs.top.run.Goals as goal
 
 pub returns-in-Err-Usage-clause-usage : goal.returns-in-Err-Usage-clause-usage

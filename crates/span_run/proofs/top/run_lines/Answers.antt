@@ -1,8 +1,6 @@
-use Rattle.std.proofs.Common.{◌≡◌, ◌+◌, ap, subst, sym, Bool, arith}
-use Rattle.span_run.proofs.Names.{err_from_is_err_and, IsStopped, lines_of, outlet, outside, seen, Stop}
+use Rattle.span_run.proofs.Names.{ap, arith, Bool, err_from_is_err_and, IsStopped, lines_of, outlet, outside, seen, Stop, subst, sym, ◌+◌, ◌≡◌}
 use Rattle.span_language.specs.declared.told.Stop.TheVariants as stop
-use Rattle.span_run.proofs.LinesLemmas.{empty_of}
-use Rattle.span_run.proofs.RunsLemmas.{IsAt, at_start, ends, goes_on, stops_anywhere, stops_in_file, stops_wanting, rose_later, told_of}
+use Rattle.span_run.proofs.Facts.{at_start, empty_of, ends, goes_on, IsAt, rose_later, stops_anywhere, stops_in_file, stops_wanting, told_of}
 use Rattle.span_run.proofs.top.run_lines.Goals as goal
 
 pub returns-in_err-told : goal.returns-in_err-told

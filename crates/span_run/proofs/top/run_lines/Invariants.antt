@@ -1,6 +1,5 @@
-use Rattle.std.proofs.Common.{◌+◌, ◌≤◌, length}
-use Rattle.span_run.proofs.Names.{IsStanding, lines_of, outside}
-use Rattle.span_run.proofs.RunsLemmas.{IsAt}
+use Rattle.span_run.proofs.Names.{IsStanding, length, lines_of, outside, ◌+◌, ◌≤◌}
+use Rattle.span_run.proofs.Facts.{IsAt}
 use Rattle.span_run.proofs.top.run_lines.Given as goal
 
 abbrev pub invariant-loop-rest : goal.invariant-loop-rest

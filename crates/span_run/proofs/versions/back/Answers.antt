@@ -1,9 +1,6 @@
-use Rattle.std.proofs.Common.{rules, ◌≡◌, ◌∙◌, ap, refl, sym, List, ℕ, Some, None, option_map}
-use Rattle.span_run.proofs.Names.{plain, state_of, value_of}
+use Rattle.span_run.proofs.Names.{ap, List, None, option_map, plain, refl, rules, Some, state_of, sym, value_of, ℕ, ◌∙◌, ◌≡◌}
 use Rattle.script_syntax.specs.declared.form.Command.TheVariants as form
-use Rattle.span_run.proofs.HeldLemmas.{version_kept, version_of-plain}
-use Rattle.span_run.proofs.CarryLemmas.{back_carries}
-use Rattle.span_run.proofs.Goes.{marked_answers, passed_on, stays}
+use Rattle.span_run.proofs.Facts.{back_carries, marked_answers, passed_on, stays, version_kept, version_of-plain}
 use Rattle.span_run.proofs.versions.back.Goals as goal
 
 pub returns-in_err-line-clause-stopped : goal.returns-in_err-line-clause-stopped

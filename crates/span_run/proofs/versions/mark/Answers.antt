@@ -1,10 +1,7 @@
-use Rattle.std.proofs.Common.{◌∙◌, ap, refl, sym, subst, List}
-use Rattle.span_run.proofs.Names.{AreKept, at, Doc, Named, plain_versions, state_of, Stays}
+use Rattle.span_run.proofs.Names.{ap, AreKept, at, Doc, List, Named, plain_versions, refl, state_of, Stays, subst, sym, ◌∙◌}
 use Rattle.script_syntax.specs.declared.form.Command.TheVariants as form
 use Rattle.span_language.specs.declared.told.Stop.TheVariants as stop
-use Rattle.span_run.proofs.HeldLemmas.{AreKept-put, plain_versions-put}
-use Rattle.span_run.proofs.CarryLemmas.{mark_carries}
-use Rattle.span_run.proofs.Goes.{marked_answers, passed_on, stays}
+use Rattle.span_run.proofs.Facts.{AreKept-put, mark_carries, marked_answers, passed_on, plain_versions-put, stays}
 use Rattle.span_run.proofs.versions.mark.Goals as goal
 
 pub returns-in_err-line-clause-stopped : goal.returns-in_err-line-clause-stopped

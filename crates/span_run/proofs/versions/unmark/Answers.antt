@@ -1,11 +1,9 @@
-use Rattle.std.proofs.Common.{◌≡◌, ◌∙◌, ap, refl, sym, subst, List, ℕ, Option, Ok, Err, Some, None, ok_or}
+use Rattle.span_run.proofs.Names.{ap, AreKept, Doc, Err, List, Named, None, Ok, ok_or, Option, plain, plain_versions, refl, Some, state_of, subst, sym}
+use Rattle.span_run.proofs.Names.{taken_out, value_of, ℕ, ◌∙◌, ◌≡◌}
 use Rattle.std.specs.Option.{option_map}
-use Rattle.span_run.proofs.Names.{AreKept, Doc, Named, plain, plain_versions, state_of, taken_out, value_of}
 use Rattle.doc_versions.specs.declared.VersionRefusal.{VersionRefusal}
 use Rattle.script_syntax.specs.declared.form.Command.TheVariants as form
-use Rattle.span_run.proofs.HeldLemmas.{AreKept-taken_out, plain_versions-taken_out, version_of-plain}
-use Rattle.span_run.proofs.CarryLemmas.{unmark_carries}
-use Rattle.span_run.proofs.Goes.{marked_answers, passed_on, stays}
+use Rattle.span_run.proofs.Facts.{AreKept-taken_out, marked_answers, passed_on, plain_versions-taken_out, stays, unmark_carries, version_of-plain}
 use Rattle.span_run.proofs.versions.unmark.Goals as goal
 
 there_of : {A B : Type 0} (o : Option A) (f : A → B) (x : B) (e : VersionRefusal) → Ok x ≡ ok_or (option_map f o) e → (y : A) × (o ≡ Some y)

@@ -1,8 +1,7 @@
-use Rattle.std.proofs.Common.{subst, ◌≡◌, Some, List, ℕ}
+use Rattle.span_run.proofs.Names.{List, names_of, queries_of, Some, subst, ℕ, ◌≡◌}
 use Rattle.std.specs.Option.{option_map}
-use Rattle.span_run.proofs.Names.{names_of, queries_of}
 use Rattle.query_book.specs.Named.{value_of}
-use Rattle.span_run.proofs.PageLemmas.{no_word}
+use Rattle.span_run.proofs.Facts.{no_word}
 use Rattle.span_run.proofs.words.cursor_of.Goals as goal
 
 pub returns-in-Ok-vars-clause-ok : goal.returns-in-Ok-vars-clause-ok

@@ -1,6 +1,5 @@
-use Rattle.std.proofs.Common.{◌≡◌, ℕ, List, Some, sym, subst, ap, ◌∙◌, option_map}
-use Rattle.span_run.proofs.BookLemmas.{query_of}
-use Rattle.span_run.proofs.Names.{HasOtherNames, IsTupleText, Named, names_of, queries_of, Query, value_of}
+use Rattle.span_run.proofs.Names.{ap, HasOtherNames, IsTupleText, List, Named, names_of, option_map, queries_of, Query, Some, subst, sym, value_of, ℕ, ◌∙◌, ◌≡◌}
+use Rattle.span_run.proofs.Facts.{query_of}
 use Rattle.span_run.proofs.words.tuple_of.Goals as goal
 
 -- the query whose variables were told

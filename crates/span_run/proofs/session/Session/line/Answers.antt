@@ -1,6 +1,5 @@
-use Rattle.std.proofs.Common.{subst, IfOk, IfErr}
-use Rattle.span_run.proofs.Names.{IsDone, IsStopped, outlet, seen, Standing, standing_of}
-use Rattle.span_run.proofs.BookLemmas.{covered-within}
+use Rattle.span_run.proofs.Names.{IfErr, IfOk, IsDone, IsStopped, outlet, seen, Standing, standing_of, subst}
+use Rattle.span_run.proofs.Facts.{covered-within}
 use Rattle.span_run.proofs.session.Session.line.Goals as goal
 
 pub returns-clause-done : goal.returns-clause-done
