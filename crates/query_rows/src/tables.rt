@@ -123,6 +123,30 @@ fn one_table_on_any_workers(rt: HostRuntime) -> Result<(), Fail> {
     Ok(())
 }
 
+/// A text of letters and others, so that two tables have four compositions.
+const MIXED: &[u8] = b"axxaaxxxaa";
+
+/// How many compositions a memory has room for.
+const ROOMS: [usize; 3] = [1, 2, 3];
+
+#[test]
+fn no_more_is_remembered_than_has_room(rt: HostRuntime) -> Result<(), Fail> {
+    let alloc = rt.alloc();
+    for size in ROOMS {
+        let found = of_text::<HostRuntime, OpenGate, Brand>(
+            &rt,
+            alloc,
+            Blank::new(1),
+            MIXED,
+            size,
+            1,
+            &OpenGate,
+        )?;
+        assert!(rt; found.3 <= size, "{size}");
+    }
+    Ok(())
+}
+
 /// The children of the root of `abcd`, which are `ab` and `cd`.
 const CHILDREN: (usize, usize) = (2, 5);
 
