@@ -37,7 +37,7 @@ pub record IsRead (f : FormulaTree) (names : List (List ℕ)) : Type 0 where
   pub bytes : HasByteSets f
 
 -- its states are the reached sets of the formula's position automaton, and it accepts what that accepts
-pub record IsAutomatonOf (f : FormulaTree) (d : DeterministicAutomaton) : Type 0 where
+pub record IsFormulaAutomaton (f : FormulaTree) (d : DeterministicAutomaton) : Type 0 where
   pub automaton : Automaton
   pub positions : IsPositionAutomaton f automaton
   pub same : AcceptsSame automaton d

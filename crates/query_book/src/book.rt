@@ -1,5 +1,5 @@
 //! Queries by name.
-ghost use Rattle.std.specs.Prelude.{◌≡◌, ◌+◌, ◌≤◌, ℕ, List, [], length, OnOk, OnErr, IfOk, IfErr, IsSome, Some, MatchResult};
+ghost use Rattle.std.specs.Prelude.{◌≡◌, ◌+◌, ◌≤◌, List, [], length, OnOk, OnErr, IfOk, IfErr, IsSome, Some, MatchResult};
 ghost use Rattle.std.specs.Option.{option_map};
 ghost use Rattle.span_types.specs.Query.{Query, query_of};
 ghost use Rattle.span_types.specs.Rel.{names_of};

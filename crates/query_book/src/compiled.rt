@@ -5,7 +5,7 @@ ghost use Rattle.span_types.specs.Query.{Leaf, query_of};
 ghost use Rattle.marker_nfa.specs.Occurrences.{IsWithinLimits};
 ghost use Rattle.marker_dfa.specs.Refusals.{IfTooMany};
 ghost use Rattle.query_book.specs.Occurrences.{CountIsAbove};
-ghost use Rattle.query_book.specs.Compiling.{CannotCompile, IsAutomatonOf, IsCompiled, IsCompiledOf, IsRead};
+ghost use Rattle.query_book.specs.Compiling.{CannotCompile, IsFormulaAutomaton, IsCompiled, IsCompiledOf, IsRead};
 ghost use Rattle.query_book.specs.Registering.{IsRefused};
 
 use crate::refusal::QueryRefusal;
@@ -66,7 +66,7 @@ fn compile_leaf(alloc: Global, formula: Formula, vars: Vars) -> Result<Compiled,
 /// The deterministic automaton of a formula.
 fn automaton_of(alloc: Global, formula: &Formula) -> Result<Dfa, DfaRefusal>
     requires { IsWithinLimits (tree_of formula.now) }
-    ensures automaton { IfOk result (IsAutomatonOf (tree_of formula.now)) }
+    ensures automaton { IfOk result (IsFormulaAutomaton (tree_of formula.now)) }
     ensures few { IfOk result (λ _. CountIsAbove 128 (tree_of formula.now) → ⊥) }
     ensures many { IfTooMany result (CountIsAbove 128 (tree_of formula.now)) }
 {

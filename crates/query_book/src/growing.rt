@@ -1,5 +1,5 @@
 //! The tables of all queries, query by query.
-ghost use Rattle.std.specs.Prelude.{◌≡◌, ◌+◌, ◌<◌, ◌≤◌, length, OnOk, OnErr};
+ghost use Rattle.std.specs.Prelude.{◌≡◌, ◌+◌, ◌<◌, ◌≤◌, length, OnOk};
 ghost use Rattle.query_book.specs.Book.{entries_of};
 ghost use Rattle.query_book.specs.Growing.{ChangesAt, ChangesFirst, Grows, MayGrow};
 ghost use Rattle.query_book.specs.Kept.{AreSound};

@@ -1,5 +1,5 @@
 //! Questions to the queries of a book.
-ghost use Rattle.std.specs.Prelude.{◌≡◌, ◌↔◌, ◌+◌, ◌*◌, ◌<◌, ◌≤◌, ◌^◌, None, Some, All, length, IfOk, IfErr, IsTrue, IsErrOf};
+ghost use Rattle.std.specs.Prelude.{◌≡◌, ◌↔◌, ◌+◌, ◌*◌, ◌<◌, ◌≤◌, None, Some, All, length, IfOk, IfErr, IsTrue, IsErrOf};
 ghost use Rattle.slp_model.specs.Nodes.{IsLive};
 ghost use Rattle.marker_dfa.specs.Deterministic.{IsDeterministic};
 ghost use Rattle.span_enum.specs.Listing.{IsReady, text_of};

@@ -1,5 +1,5 @@
 //! What commands are lent beside what a session holds.
-ghost use Rattle.std.specs.Prelude.{◌≡◌, ◌≤◌};
+ghost use Rattle.std.specs.Prelude.{◌≤◌};
 
 use std::alloc::AllocError;
 use std::thread::Threads;

@@ -135,8 +135,10 @@ fn list_batch<R: Threads + Sync, K: Sink, G: Gate>(
         → IsUpTo (outlet (K.written out.old) (K.faults out.old) (K.wants out.old)) (outlet (K.written out.new) (K.faults out.new) (K.wants out.new))
         (rest_text survey.entry.vars.now survey.entry.limit survey.entry.docs.now lists (first + count))
         (rest_text survey.entry.vars.now survey.entry.limit survey.entry.docs.now lists first)) }
-    ensures stopped { IfErr result (λ why. (lists : List (List ATuple)) → AreAnswered survey.entry.dfa.now survey.entry.view.store.now survey.entry.docs.now lists
-        → IsCut (outlet (K.written out.old) (K.faults out.old) (K.wants out.old)) (rest_text survey.entry.vars.now survey.entry.limit survey.entry.docs.now lists first)
+    ensures stopped { IfErr result (λ why. (lists : List (List ATuple))
+        → AreAnswered survey.entry.dfa.now survey.entry.view.store.now survey.entry.docs.now lists
+        → IsCut (outlet (K.written out.old) (K.faults out.old) (K.wants out.old))
+        (rest_text survey.entry.vars.now survey.entry.limit survey.entry.docs.now lists first)
         (outlet (K.written out.new) (K.faults out.new) (K.wants out.new)) why) }
 {
     let _all = survey.docs.count();

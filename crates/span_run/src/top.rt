@@ -1,8 +1,7 @@
 //! The top call: words and a script in, replies and a status out.
-ghost use Rattle.std.specs.Prelude.{◌≡◌, ◌⊎◌, ℕ, ◌+◌, ◌^◌, ◌<◌, ◌≤◌, ◌||◌, true, false, None, Some, IfOk, IfErr, IfSome, OnErr, OnOk, length, map, string_bytes};
-ghost use Rattle.std.specs.Io.KnownBytes.{Consumes, Keeps};
+ghost use Rattle.std.specs.Prelude.{◌≡◌, ◌⊎◌, ◌+◌, ◌^◌, ◌<◌, ◌≤◌, ◌||◌, true, false, None, Some, IfOk, IfErr, IfSome, length, map, string_bytes};
 ghost use Rattle.edge_io.specs.Causes.{Rose};
-ghost use Rattle.span_words.specs.Words.{Refused, Words};
+ghost use Rattle.span_words.specs.Words.{Refused};
 ghost use Rattle.span_run.specs.Reading.{TakesAtMost};
 ghost use Rattle.span_language.specs.Lines.{lines_of};
 ghost use Rattle.span_language.specs.Runs.{is_refused, outside, Anywhere, InFileLine, UnlessList, RunsAll, RunsFront};
@@ -47,37 +46,38 @@ pub enum Status {
     ScriptTooLong,
 }
 
+/// Why there is no script.
 #[derive(Clone, Copy, Debug, PartialEq, Eq)]
-enum Unread {
+enum NoScript {
     Fault,
     TooLong,
     NoMemory,
 }
 
 /// All the bytes of a source, where they are at most 2^24. At most one byte more is taken from it.
-fn read_script<S: Source>(alloc: Global, script: &mut S) -> Result<Vec<u8>, Unread>
+fn read_script<S: Source>(alloc: Global, script: &mut S) -> Result<Vec<u8>, NoScript>
     ensures all { IfOk result (λ bytes. IfSome (S.left script.old) (λ left. bytes.items ≡ left)) }
     ensures short { IfOk result (λ bytes. length bytes.items ≤ 2 ^ 24) }
-    ensures too_long { IfErr result (λ why. why ≡ Unread.TooLong → IfSome (S.left script.old) (λ left. 2 ^ 24 < length left)) }
+    ensures too_long { IfErr result (λ why. why ≡ NoScript.TooLong → IfSome (S.left script.old) (λ left. 2 ^ 24 < length left)) }
     ensures taken { TakesAtMost (2 ^ 24 + 1) (S.left script.old) (S.left script.new) }
     ensures later { S.faults script.old ≤ S.faults script.new }
-    ensures fault { IfErr result (λ why. why ≡ Unread.Fault → Rose (S.faults script.old) (S.faults script.new)) }
+    ensures fault { IfErr result (λ why. why ≡ NoScript.Fault → Rose (S.faults script.old) (S.faults script.new)) }
 {
     let mut bytes = Vec::new(alloc);
     let mut chunk = [0u8; 4096];
     while bytes.len() <= MAX_SCRIPT {
         let room = chunk.len().min(MAX_SCRIPT + 1 - bytes.len());
         let Ok(count) = script.read(&mut chunk[..room]) else {
-            return Err(Unread::Fault);
+            return Err(NoScript::Fault);
         };
         if count == 0 {
             return Ok(bytes);
         }
         if bytes.extend_from_slice(&chunk[..count]).is_err() {
-            return Err(Unread::NoMemory);
+            return Err(NoScript::NoMemory);
         }
     }
-    Err(Unread::TooLong)
+    Err(NoScript::TooLong)
 }
 
 /// The script that is asked for: that of a demo, for which the source isn't read, or else all the bytes of the source.
@@ -85,20 +85,20 @@ fn asked_script<S: Source>(
     alloc: Global,
     number: Option<u8>,
     script: &mut S,
-) -> Result<Vec<u8>, Unread>
+) -> Result<Vec<u8>, NoScript>
     requires { IfSome number (λ n. (1 ≤ n) × (n ≤ 46)) }
     ensures all { IfOk result (λ bytes. IfSome (script_of number (S.left script.old)) (λ told. bytes.items ≡ told)) }
     ensures short { IfOk result (λ bytes. length bytes.items ≤ 2 ^ 24) }
-    ensures too_long { IfErr result (λ why. why ≡ Unread.TooLong → (number ≡ None) × IfSome (S.left script.old) (λ left. 2 ^ 24 < length left)) }
+    ensures too_long { IfErr result (λ why. why ≡ NoScript.TooLong → (number ≡ None) × IfSome (S.left script.old) (λ left. 2 ^ 24 < length left)) }
     ensures taken { TakesAtMost (2 ^ 24 + 1) (S.left script.old) (S.left script.new) }
-    ensures fault { IfErr result (λ why. why ≡ Unread.Fault → (number ≡ None) × Rose (S.faults script.old) (S.faults script.new)) }
+    ensures fault { IfErr result (λ why. why ≡ NoScript.Fault → (number ≡ None) × Rose (S.faults script.old) (S.faults script.new)) }
     ensures unread { IfSome number (λ _. script.new ≡ script.old) }
 {
     match number {
         None => read_script(alloc, script),
         Some(number) => match demo(alloc, number) {
             Ok(bytes) => Ok(bytes),
-            Err(_) => Err(Unread::NoMemory),
+            Err(_) => Err(NoScript::NoMemory),
         },
     }
 }
@@ -244,9 +244,9 @@ pub fn run<
     };
     let bytes = match asked_script(alloc, options.demo, script) {
         Ok(bytes) => bytes,
-        Err(Unread::Fault) => return Status::ScriptFault,
-        Err(Unread::TooLong) => return Status::ScriptTooLong,
-        Err(Unread::NoMemory) => return Status::NoMemory,
+        Err(NoScript::Fault) => return Status::ScriptFault,
+        Err(NoScript::TooLong) => return Status::ScriptTooLong,
+        Err(NoScript::NoMemory) => return Status::NoMemory,
     };
     let lent = Lent {
         rt,

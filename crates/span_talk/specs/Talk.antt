@@ -1,5 +1,5 @@
 -- A conversation: lines that come when they are sent, each with its reply before more is heard.
-use Rattle.std.specs.Prelude.{◌≡◌, ℕ, ◌==◌, Bool, List, [], ◌∷◌, ◌++◌, Option, Some, None, if◌then◌else◌}
+use Rattle.std.specs.Prelude.{◌≡◌, ℕ, ◌+◌, ◌==◌, Bool, List, [], ◌∷◌, ◌++◌, Option, Some, None, if◌then◌else◌, length}
 use Rattle.std.specs.List.{AllByRecursion}
 use Rattle.std.specs.Io.KnownBytes.{Appends, Consumes}
 use Rattle.span_language.specs.State.{World}
@@ -28,13 +28,15 @@ OfHeard old new Holds = (heard : List ℕ) × Consumes old new heard × Holds he
 abbrev pub HaveRun : List (List ℕ) → Outside → Outside → Type 0
 HaveRun lines before after = (refused : Bool) × RunsAll lines refused before after
 
--- a moment at which the client was heard: what it had left to send, and what had been written for it
+-- a moment at which the client was heard: what it had left to send, what had been written for it, and the number of the line that it was
+-- told to come next
 pub record Moment : Type 0 where
   pub left : Option (List ℕ)
   pub written : Option (List ℕ)
+  pub number : ℕ
 
-abbrev pub moment : Option (List ℕ) → Option (List ℕ) → Moment
-moment left written = record { left = left; written = written }
+abbrev pub moment : Option (List ℕ) → Option (List ℕ) → ℕ → Moment
+moment left written number = record { left = left; written = written; number = number }
 
 -- where moments are told, they are those of before and this one
 abbrev pub Notes : Option (List Moment) → Option (List Moment) → Moment → Type 0
@@ -49,9 +51,10 @@ pub record AreReplied (lines : List (List ℕ)) (before : Outside) (written : Op
   pub ran : Runs (start before) 1 lines sum mid
   pub wrote : Appends before.written written sum.output
 
--- the reply to each whole line that had come by this moment had been written
+-- the reply to each whole line that had come by this moment had been written, and the number was that of the line that came next
 abbrev pub IsServed : Option (List ℕ) → Outside → Moment → Type 0
-IsServed sent before m = OfHeard sent m.left (λ heard. AreReplied (whole_lines heard) before m.written)
+IsServed sent before m = OfHeard sent m.left
+    (λ heard. AreReplied (whole_lines heard) before m.written × (m.number ≡ 1 + length (whole_lines heard)))
 
 -- so it was at each further moment that is told
 abbrev pub AreServed : Option (List ℕ) → Outside → Option (List Moment) → Option (List Moment) → Type 0

@@ -21,7 +21,7 @@ pub trait Client<K: Sink> {
     /// How often it has failed.
     ghost faults: { Self → ℕ };
 
-    /// What was left and what had been written each time that it was heard, where the client tells that.
+    /// What was left, what had been written and which number was told each time that it was heard, where the client tells that.
     ghost moments: { Self → Option (List Moment) };
 
     /// Waits for the next bytes, reads them to the front of `into`, which isn't empty, and answers how many, as
@@ -31,7 +31,7 @@ pub trait Client<K: Sink> {
         ensures bound { ReadsAtMost result into.new }
         ensures bytes { ReadConsumes (left self.old) (left self.new) result into.new }
         ensures cause { HasCause (faults self.old) (faults self.new) result }
-        ensures moment { Notes (moments self.old) (moments self.new) (moment (left self.old) (K.written said.now)) };
+        ensures moment { Notes (moments self.old) (moments self.new) (moment (left self.old) (K.written said.now) number) };
 }
 
 /// A client whose bytes come from a source. It is prompted for each line where there is something to prompt it on, as a

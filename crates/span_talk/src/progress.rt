@@ -1,5 +1,5 @@
 //! How a conversation goes on, by a line, by a piece, and to its end.
-ghost use Rattle.std.specs.Prelude.{◌≡◌, ℕ, ◌+◌, ◌^◌, ◌<◌, ◌≤◌, [], ◌||◌, IfOk, IfErr, OnOk, length};
+ghost use Rattle.std.specs.Prelude.{◌≡◌, ◌+◌, ◌^◌, ◌<◌, ◌≤◌, [], ◌||◌, IfOk, IfErr, OnOk, length};
 ghost use Rattle.std.specs.Io.KnownBytes.{IsAtEnd};
 ghost use Rattle.edge_io.specs.Causes.{Rose};
 ghost use Rattle.span_language.specs.Lines.{lines_of};

@@ -75,7 +75,8 @@ pub fn talk<
         (outside (K.written out.new) (F.files shelf.new) looks.new pairs.new places.new)) }
     ensures no_words { result ≡ Status.Usage → ⊥ }
 
-    // Each time that the client was heard, the reply to each line that had come had been written, and nothing else.
+    // Each time that the client was heard, the reply to each line that had come had been written, and nothing else, and it was
+    // told the number of the next one.
     ensures served { AreServed (C.left client.old)
         (outside (K.written out.old) (F.files shelf.old) looks.old pairs.old places.old) (C.moments client.old)
         (C.moments client.new) }

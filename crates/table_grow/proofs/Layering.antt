@@ -165,10 +165,3 @@ placed-next nodes d e f g from to high ids at layer still placed only = record {
       only id (λ k x h. let is = layer.each k x h in let live = is.live in λ same. absurd (omega (arith, same, live, far)))
       ∙ at.behind id (subst (λ n. n ≤ id) still.known new) far;
 }
-
--- after the last height each node is placed
-pub placed-all : (nodes : List Node) (d : Dictionary) (f : Filling) (layers : List (List NodeId)) (from to : ℕ) → AreLayers nodes from to layers → IsPlacedUnder nodes d f from to 69 → PlacedBelow d f to
-placed-all nodes d f layers from to are at = λ id live. elim (cases_lt id from) [
-  | inl early ↦ at.before id early
-  | inr late ↦ at.under id live (are.low id late live)
-]

@@ -1,6 +1,6 @@
 //! The tables of the new nodes of one height, made in pieces at once from finished tables.
 
-ghost use Rattle.std.specs.Prelude.{◌≡◌, ◌+◌, ◌<◌, ◌^◌, ◌++◌, ◌∷◌, [], ℕ, All, length, map, IfOk};
+ghost use Rattle.std.specs.Prelude.{◌≡◌, ◌+◌, ◌<◌, ◌^◌, ◌++◌, ◌∷◌, [], All, length, map, IfOk};
 ghost use Rattle.std.specs.Thread.{IsSync};
 ghost use Rattle.table_grow.specs.Growing.{IsDue, IsReady};
 ghost use Rattle.table_grow.specs.Pieces.{AreMade, AreOwn, Extends, IsPiece, IsSpot, IsWithin, shifted};

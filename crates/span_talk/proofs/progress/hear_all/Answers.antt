@@ -47,7 +47,7 @@ served g c =
     let t = g.C.Client in
     let l = c.pieces in
     let i = l.invariant in
-    more_served (t.left c.args.client.now) _ (t.moments c.args.client.now) (t.moments l.client) (t.moments c.hear.new.self) (moment (t.left l.client) (g.K.Sink.written l.out))
+    more_served (t.left c.args.client.now) _ (t.moments c.args.client.now) (t.moments l.client) (t.moments c.hear.new.self) (moment (t.left l.client) (g.K.Sink.written l.out) l.progress.number)
     i.served c.hear.ensures.moment (i.so_far.0, i.so_far.1, replied i.so_far.0 _ _ _ i.so_far.3)
 
 pub returns-in-Err-clause-served : goal.returns-in-Err-clause-served
