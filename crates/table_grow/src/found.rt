@@ -22,13 +22,6 @@ pub enum Found {
     Composed(usize, usize, Table),
 }
 
-impl Found {
-    /// Whether two tables were composed for it.
-    pub(crate) fn is_composed(&self) -> bool {
-        matches!(self, Found::Composed(_, _, _))
-    }
-}
-
 /// What was found for a node.
 #[derive(Drop)]
 pub struct Done {

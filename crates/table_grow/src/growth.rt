@@ -22,7 +22,7 @@ use std::sync::ledger::Ledger;
 use std::thread::Threads;
 use work_gate::Gate;
 
-// The nodes from `from` on and before `to` in the order of their ids, on this thread. It answers how many were composed.
+// The nodes from `from` on and before `to` in the order of their ids, on this thread.
 fn in_order<G: Gate>(
     alloc: Global,
     filler: &mut Filler,
@@ -33,7 +33,7 @@ fn in_order<G: Gate>(
     gate: &G,
     from: usize,
     to: usize,
-) -> Result<usize, NoMemory>
+) -> Result<(), NoMemory>
     requires ready { IsReady dfa.now store.now tables.old filler.old memory.old }
     requires new { filler.old.known ≤ from }
     requires range { from ≤ to }
@@ -47,14 +47,12 @@ fn in_order<G: Gate>(
     ensures placed { OnOk result (PlacedBelow tables.new filler.new to) }
     ensures free { OnOk result (FreeFrom tables.new filler.new to) }
 {
-    let mut composed = 0usize;
     for index in from..to {
         let id = NodeId { index };
         let done = work_on(alloc, filler, tables, store, dfa, memory, gate, id)?;
-        composed = composed.saturating_add(done.found.is_composed() as usize);
         place_one(filler, tables, store, dfa, memory, done)?;
     }
-    Ok(composed)
+    Ok(())
 }
 
 /// How many nodes of a height are worth a thread, where each has its share of rows to compose.
@@ -68,7 +66,7 @@ fn pieces_of(memory: &Memory, workers: u8, count: usize) -> u8 {
     workers.min((count / WORTH).min(64) as u8)
 }
 
-// Some new nodes, none of which is placed yet and all of whose children are, in pieces. It answers how many tables were made.
+// Some new nodes, none of which is placed yet and all of whose children are, in pieces.
 fn place_some<R: Threads + Sync, G: Gate>(
     rt: &R,
     alloc: Global,
@@ -80,7 +78,7 @@ fn place_some<R: Threads + Sync, G: Gate>(
     workers: u8,
     gate: &G,
     ids: &[NodeId],
-) -> Result<usize, NoMemory>
+) -> Result<(), NoMemory>
     requires ready { IsReady dfa.now store.now tables.old filler.old memory.old }
     requires due { All (IsDue store.now tables.old filler.old) ids.now }
     requires free { All (λ id. number_in tables.old filler.old id.index ≡ None) ids.now }
@@ -95,12 +93,10 @@ fn place_some<R: Threads + Sync, G: Gate>(
     let piece = in_pieces(
         rt, alloc, filler, tables, store, dfa, memory, gate, ids, workers,
     )?;
-    let made = piece.made.len();
-    place_piece(alloc, filler, tables, store, dfa, memory, ids, piece)?;
-    Ok(made)
+    place_piece(alloc, filler, tables, store, dfa, memory, ids, piece)
 }
 
-// The nodes from `from` on and before `to` by rising height, each height in pieces. It answers how many tables were made.
+// The nodes from `from` on and before `to` by rising height, each height in pieces.
 fn by_height<R: Threads + Sync, G: Gate>(
     rt: &R,
     alloc: Global,
@@ -113,7 +109,7 @@ fn by_height<R: Threads + Sync, G: Gate>(
     gate: &G,
     from: usize,
     to: usize,
-) -> Result<usize, NoMemory>
+) -> Result<(), NoMemory>
     requires ready { IsReady dfa.now store.now tables.old filler.old memory.old }
     requires new { filler.old.known ≤ from }
     requires range { from ≤ to }
@@ -128,16 +124,14 @@ fn by_height<R: Threads + Sync, G: Gate>(
     ensures free { OnOk result (FreeFrom tables.new filler.new to) }
 {
     let layers = Layers::new(alloc, store, from, to)?;
-    let mut made = 0usize;
     for height in 0..HEIGHTS {
         let ids = layers.of_height(height);
         let pieces = pieces_of(memory, workers, ids.len());
-        let more = place_some(
+        place_some(
             rt, alloc, filler, tables, store, dfa, memory, pieces, gate, ids,
         )?;
-        made = made.saturating_add(more);
     }
-    Ok(made)
+    Ok(())
 }
 
 // The nodes from `from` on and before `to`. With one worker no thread is started and no height is asked for.
@@ -153,7 +147,7 @@ fn place_part<R: Threads + Sync, G: Gate>(
     gate: &G,
     from: usize,
     to: usize,
-) -> Result<usize, NoMemory>
+) -> Result<(), NoMemory>
     requires ready { IsReady dfa.now store.now tables.old filler.old memory.old }
     requires new { filler.old.known ≤ from }
     requires range { from ≤ to }
@@ -176,12 +170,12 @@ fn place_part<R: Threads + Sync, G: Gate>(
     }
 }
 
-/// How many rows have to be composed for each node, so that pieces pay.
+/// How many rows of new tables there have to be for each node, so that pieces pay.
 const ROWS: usize = 16;
 
-// Whether so many compositions for so many nodes are worth pieces.
-fn pays(dfa: &Dfa, composed: usize, nodes: usize) -> bool {
-    composed.saturating_mul(dfa.states() as usize) >= nodes.saturating_mul(ROWS)
+// Whether so many new tables for so many nodes are worth pieces. Where there are few, pieces would compose the same ones.
+fn pays(dfa: &Dfa, fresh: usize, nodes: usize) -> bool {
+    fresh.saturating_mul(dfa.states() as usize) >= nodes.saturating_mul(ROWS)
 }
 
 /// How many nodes are placed on one thread before it is asked whether pieces pay.
@@ -197,7 +191,8 @@ fn part_len(in_pieces: bool) -> usize
     if in_pieces { PLACED_AT_ONCE } else { ASKED }
 }
 
-// All new nodes, some at a time. The next ones are placed in pieces where nothing is remembered yet, or enough was composed.
+// All new nodes, some at a time. The next ones are placed in pieces where nothing is remembered yet, or enough of those before
+// have a table that no node had.
 fn place_new<R: Threads + Sync, G: Gate>(
     rt: &R,
     alloc: Global,
@@ -223,10 +218,11 @@ fn place_new<R: Threads + Sync, G: Gate>(
     while from < store.count() {
         let to = from + (store.count() - from).min(most);
         let at_once = if in_pieces { workers } else { 1 };
-        let composed = place_part(
+        let before = tables.distinct();
+        place_part(
             rt, alloc, filler, tables, store, dfa, memory, at_once, gate, from, to,
         )?;
-        in_pieces = pays(dfa, composed, to - from);
+        in_pieces = pays(dfa, tables.distinct().saturating_sub(before), to - from);
         most = part_len(in_pieces);
         from = to;
     }
@@ -236,8 +232,8 @@ fn place_new<R: Threads + Sync, G: Gate>(
 /// Gives every node of the store its table. The tables are those of this automaton and of the first nodes of this store,
 /// and every remembered composition is true of them.
 ///
-/// The nodes without a table are taken some at a time: where nothing is remembered yet, or many of those before had to be
-/// composed, by rising height, those of one height in at most `workers` pieces at once, 1 to 64; with one worker, and
+/// The nodes without a table are taken some at a time: where nothing is remembered yet, or many of those before have a table
+/// that no node had, by rising height, those of one height in at most `workers` pieces at once, 1 to 64; with one worker, and
 /// elsewhere, in the order of their ids. `gate.pass` is called for each of them before its table is looked up in the memory
 /// or computed. It is one step for each, and takes expected constant time where the composition is remembered.
 ///

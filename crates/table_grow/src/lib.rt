@@ -9,9 +9,9 @@
 //! those of its children and reads no text, so after an edit only the new nodes are worked on, one step each.
 //! Compositions of tables that have been seen are remembered, and the memory is emptied where it is full, so most nodes
 //! cost one look. Nodes of the same height don't depend on each other: where nothing is remembered yet, or many of the nodes
-//! before had to be composed, they are cut into at most `workers` pieces that run at once. A piece makes a composition that
-//! isn't remembered once, and what all have made is kept and remembered before the next height. The result depends neither
-//! on the memory nor on the workers.
+//! before have a table that no node had, they are cut into at most `workers` pieces that run at once. A piece makes a
+//! composition that isn't remembered once, and what all have made is kept and remembered before the next height. The result
+//! depends neither on the memory nor on the workers.
 //!
 //! A composition takes at most as many steps as the square of the automaton's states, a remembered one expected
 //! constant time. Beside the tables memory is taken for a place for each new node, and for the compositions that are

@@ -32,9 +32,9 @@ loop-height-preserved g c =
     let at = c.loop-height in
     let layer : IsLayer c.args.store.now c.args.from c.args.to at.height c.of_height-ids.result.now = rw c.of_height-ids.ensures (c.in_ok-layers.ensures.each at.height c.loop-height-test.true) in
     record {
-      ready = c.in_ok-more.ensures.ready;
+      ready = c.in_ok-place_some.ensures.ready;
       kept = kept-trans c.args.tables.now at.tables c.place_some.new.tables at.invariant.kept c.place_some.ensures.kept;
-      known = c.in_ok-more.ensures.still.known ∙ at.invariant.known;
+      known = c.in_ok-place_some.ensures.still.known ∙ at.invariant.known;
       under = placed-next c.args.store.now at.tables c.place_some.new.tables at.filler c.place_some.new.filler c.args.from c.args.to at.height c.of_height-ids.result.now
-          at.invariant.under layer c.in_ok-more.ensures.still c.in_ok-more.ensures.placed c.in_ok-more.ensures.others;
+          at.invariant.under layer c.in_ok-place_some.ensures.still c.in_ok-place_some.ensures.placed c.in_ok-place_some.ensures.others;
     }
