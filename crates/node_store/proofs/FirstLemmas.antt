@@ -1,13 +1,14 @@
--- One more node that is found by its left child or among the others.
-use Rattle.std.proofs.Common.{◌≡◌, ◌≢◌, false, ℕ, zero, suc, ◌+◌, ◌<◌, inl, inr, List, [], ◌∷◌, ◌++◌, length, map, get_or, set, slice_get, Some, ap, sym, subst, ◌∙◌, arith, length-append, get_or-set_same, get_or-set_other, refl}
+-- One more node that is found by a child or among the others.
+use Rattle.std.proofs.Common.{◌≡◌, ◌≢◌, ◌⊎◌, false, ℕ, zero, suc, ◌+◌, ◌<◌, inl, inr, List, [], ◌∷◌, ◌++◌, length, map, get_or, set, slice_get, Some, ap, sym, subst, ◌∙◌, arith, length-append, get_or-set_same, get_or-set_other, refl}
 use Rattle.std.proofs.lemmas.List.{map-append, length-set}
 use Rattle.node_store.specs.declared.narrow.Narrow.{Narrow}
-use Rattle.node_store.specs.declared.nodes.Way.TheVariants.{First}
+use Rattle.node_store.specs.declared.nodes.Way.{Way}
+use Rattle.node_store.specs.declared.nodes.Way.TheVariants.{Known, First, Second, Other}
 use Rattle.node_store.specs.declared.narrow.Narrow.TheVariants.{Byte, Pair}
 use Rattle.node_store.specs.contracts.narrow.NarrowPartialEq.TheImpl.{ghosts}
 use Rattle.node_store.specs.Narrow.{wide, AreUnique}
 use Rattle.node_store.specs.SearchTree.{IsAbsent}
-use Rattle.node_store.specs.Firsts.{LeadsTo, Leads, IsIndexed, IsWay}
+use Rattle.node_store.specs.Firsts.{LeadsTo, RightLeadsTo, Leads, RightLeads, IsIndexed, IsNotFirst, IsRightWay, IsWay}
 use Rattle.node_store.proofs.NarrowLemmas.{absent-wide, unique-push, unique-none, differs-at}
 use Rattle.node_store.proofs.SearchTreeLemmas.{narrow-push, same_or_other}
 
@@ -31,119 +32,205 @@ push-none (x ∷ firsts) (suc l) = push-none firsts l
 unique-more : (all : List Narrow) (n : Narrow) → AreUnique (map wide all) → IsAbsent all n → AreUnique (map wide (all ++ n ∷ []))
 unique-more all n unique absent = subst AreUnique (sym (map-append wide all (n ∷ []))) (unique-push (map wide all) (wide n) unique (absent-wide all n absent))
 
-pub indexed-none : IsIndexed [] [] [] []
+pub indexed-none : IsIndexed [] [] [] [] []
 indexed-none = record {
   unique = unique-none;
   as_many = refl;
+  as_many_right = refl;
   as_long = refl;
   inside = λ l i h. cc;
+  inside_right = λ r i h. cc;
   leads = λ i n h. cc;
+  right = λ i n h. cc;
   found = λ i n h absent. cc;
   placed = λ k n h. cc;
 }
 
--- a pair whose left child led nowhere
-absent-pair : (all : List Narrow) (firsts : List ℕ) (others : List Narrow) (indices : List ℕ) (l r : ℕ) → IsIndexed all firsts others indices → get_or firsts l 0 ≡ 0 → IsAbsent all (Pair l r)
-absent-pair all firsts others indices l r x none i h = x.leads i (Pair l r) h none
+-- ---- links of one more node
+-- links with one more place, where n nodes are: they lead as before, and from nowhere further than to the new node
+record Extends (n : ℕ) (links after : List ℕ) : Type 0 where
+  longer : length after ≡ length links + 1
+  inside : ((m i : ℕ) → get_or links m 0 ≡ suc i → i < n) → (m i : ℕ) → get_or after m 0 ≡ suc i → i < n + 1
+  some : (m : ℕ) → get_or links m 0 ≢ 0 → get_or after m 0 ≢ 0
+  to : (m i : ℕ) → get_or links m 0 ≡ suc i → get_or after m 0 ≡ suc i
 
-pub first-absent : (all : List Narrow) (firsts : List ℕ) (others : List Narrow) (indices : List ℕ) (n : Narrow) (l : ℕ) → IsIndexed all firsts others indices → IsWay all firsts n (First l) → IsAbsent all n
-first-absent all firsts others indices n l x way = subst (IsAbsent all) (sym way.1.0) (absent-pair all firsts others indices l way.0 x way.1.1.1)
+extends-none : (n : ℕ) (links : List ℕ) → Extends n links (links ++ 0 ∷ [])
+extends-none n links = record {
+  longer = length-append links (0 ∷ []);
+  inside = λ old m i h. omega (arith, old m i (sym (push-none links m) ∙ h));
+  some = λ m h e. h (sym (push-none links m) ∙ e);
+  to = λ m i h. push-none links m ∙ h;
+}
 
-added-pair : (all : List Narrow) (firsts : List ℕ) (others : List Narrow) (indices : List ℕ) (l r : ℕ) → IsIndexed all firsts others indices → l < length firsts → get_or firsts l 0 ≡ 0
-    → IsIndexed (all ++ Pair l r ∷ []) (set firsts l (suc (length all)) ++ 0 ∷ []) others indices
-added-pair all firsts others indices l r x within none = record {
-  unique = unique-more all (Pair l r) x.unique (absent-pair all firsts others indices l r x none);
-  as_many = omega (arith, length-append (set firsts l (suc (length all))) (0 ∷ []), length-set firsts l (suc (length all)), longer, x.as_many);
-  as_long = x.as_long;
-  inside = inside;
-  leads = λ i n h. elim (narrow-push all (Pair l r) n i h) [
-    | inl old ↦ leads n (x.leads i n old.1)
-    | inr new ↦ subst (Leads after) new.1 (λ e. omega (arith, here, e))
+-- the child leads to the new node from now on
+here : (links : List ℕ) (c n : ℕ) → c < length links → get_or (set links c (suc n) ++ 0 ∷ []) c 0 ≡ suc n
+here links c n within = push-none (set links c (suc n)) c ∙ get_or-set_same links c (suc n) 0 within
+
+extends-led : (n : ℕ) (links : List ℕ) (c : ℕ) → c < length links → get_or links c 0 ≡ 0 → Extends n links (set links c (suc n) ++ 0 ∷ [])
+extends-led n links c within none = record {
+  longer = omega (arith, length-append (set links c (suc n)) (0 ∷ []), length-set links c (suc n));
+  inside = λ old m i h. elim (same_or_other m c) [
+    | inl e ↦ omega (arith, at, ap (λ k. get_or after k 0) e, h)
+    | inr ne ↦ omega (arith, old m i (sym (same m ne) ∙ h))
   ];
-  found = λ i n h absent. elim (narrow-push all (Pair l r) n i h) [
-    | inl old ↦ leads_to n i (x.found i n old.1 absent)
-    | inr new ↦ subst (λ m. LeadsTo after m i) new.1 (here ∙ ap suc (sym new.0))
+  some = λ m h e. elim (same_or_other m c) [
+    | inl t ↦ omega (arith, at, ap (λ k. get_or after k 0) t, e)
+    | inr ne ↦ h (sym (same m ne) ∙ e)
   ];
-  placed = λ k n h. let p = x.placed k n h in (p.0, (p.1.0, get-left all (Pair l r ∷ []) n p.0 p.1.1));
+  to = λ m i h. elim (same_or_other m c) [
+    | inl t ↦ absurd (omega (arith, none, ap (λ k. get_or links k 0) t, h))
+    | inr ne ↦ same m ne ∙ h
+  ];
 }
   where
     after : List ℕ
-    after = set firsts l (suc (length all)) ++ 0 ∷ []
+    after = set links c (suc n) ++ 0 ∷ []
 
-    longer : length (all ++ Pair l r ∷ []) ≡ length all + 1
-    longer = length-append all (Pair l r ∷ [])
+    at : get_or after c 0 ≡ suc n
+    at = here links c n within
 
-    here : get_or after l 0 ≡ suc (length all)
-    here = push-none (set firsts l (suc (length all))) l ∙ get_or-set_same firsts l (suc (length all)) 0 within
+    same : (m : ℕ) → m ≢ c → get_or after m 0 ≡ get_or links m 0
+    same m other = push-none (set links c (suc n)) m ∙ get_or-set_other links c m (suc n) 0 other
 
-    same : (m : ℕ) → m ≢ l → get_or after m 0 ≡ get_or firsts m 0
-    same m other = push-none (set firsts l (suc (length all))) m ∙ get_or-set_other firsts l m (suc (length all)) 0 other
+leads-more : (k : ℕ) (links after : List ℕ) (n : Narrow) → Extends k links after → Leads links n → Leads after n
+leads-more k links after (Byte b) e h = tt
+leads-more k links after (Pair l r) e h = e.some l h
 
-    inside : (m i : ℕ) → get_or after m 0 ≡ suc i → i < length (all ++ Pair l r ∷ [])
-    inside m i h = elim (same_or_other m l) [
-      | inl e ↦ omega (arith, longer, here, ap (λ k. get_or after k 0) e, h)
-      | inr ne ↦ omega (arith, longer, x.inside m i (sym (same m ne) ∙ h))
-    ]
+right-leads-more : (k : ℕ) (links after : List ℕ) (n : Narrow) → Extends k links after → RightLeads links n → RightLeads after n
+right-leads-more k links after (Byte b) e h = tt
+right-leads-more k links after (Pair l r) e h = e.some r h
 
-    leads : (n : Narrow) → Leads firsts n → Leads after n
-    leads (Byte b) h = tt
-    leads (Pair m s) h = λ e. elim (same_or_other m l) [
-      | inl t ↦ omega (arith, here, ap (λ k. get_or after k 0) t, e)
-      | inr ne ↦ h (sym (same m ne) ∙ e)
-    ]
+leads-to-more : (k : ℕ) (links after : List ℕ) (n : Narrow) (i : ℕ) → Extends k links after → LeadsTo links n i → LeadsTo after n i
+leads-to-more k links after (Byte b) i e h = h
+leads-to-more k links after (Pair l r) i e h = e.to l i h
 
-    leads_to : (n : Narrow) (i : ℕ) → LeadsTo firsts n i → LeadsTo after n i
-    leads_to (Byte b) i h = h
-    leads_to (Pair m s) i h = elim (same_or_other m l) [
-      | inl t ↦ absurd (omega (arith, none, ap (λ k. get_or firsts k 0) t, h))
-      | inr ne ↦ same m ne ∙ h
-    ]
+right-leads-to-more : (k : ℕ) (links after : List ℕ) (n : Narrow) (i : ℕ) → Extends k links after → RightLeadsTo links n i → RightLeadsTo after n i
+right-leads-to-more k links after (Byte b) i e h = h
+right-leads-to-more k links after (Pair l r) i e h = e.to r i h
 
-pub first-added : (all : List Narrow) (firsts : List ℕ) (others : List Narrow) (indices : List ℕ) (n : Narrow) (l : ℕ) → IsIndexed all firsts others indices → IsWay all firsts n (First l)
-    → IsIndexed (all ++ n ∷ []) (set firsts l (suc (length all)) ++ 0 ∷ []) others indices
-first-added all firsts others indices n l x way = subst (λ m. IsIndexed (all ++ m ∷ []) (set firsts l (suc (length all)) ++ 0 ∷ []) others indices) (sym way.1.0) (added-pair all firsts others indices l way.0 x way.1.1.0 way.1.1.1)
+-- to lead to a node is to lead
+right-leads : (seconds : List ℕ) (n : Narrow) (i : ℕ) → RightLeadsTo seconds n i → RightLeads seconds n
+right-leads seconds (Byte b) i h = tt
+right-leads seconds (Pair l r) i h = λ e. omega (arith, e, h)
 
--- a node that its left child doesn't lead to and that isn't among the others
-pub other-absent : (all : List Narrow) (firsts : List ℕ) (others : List Narrow) (indices : List ℕ) (n : Narrow) → IsIndexed all firsts others indices
-    → ((i : ℕ) → LeadsTo firsts n i → slice_get all i ≢ Some n) → IsAbsent others n → IsAbsent all n
-other-absent all firsts others indices n x not_first absent i h = not_first i (x.found i n h absent) h
+-- ---- one more node
+module _ (all : List Narrow) (firsts seconds : List ℕ) (others : List Narrow) (indices : List ℕ) (n : Narrow) (x : IsIndexed all firsts seconds others indices) where
+  -- a pair whose left child led nowhere
+  pub first-absent : (l : ℕ) → IsWay all firsts seconds n (First l) → IsAbsent all n
+  first-absent l (r, is, within, none) i h = x.leads i (Pair l r) (subst (λ m. slice_get all i ≡ Some m) is h) none
 
-pub other-added : (all : List Narrow) (firsts : List ℕ) (others : List Narrow) (indices : List ℕ) (n : Narrow) → IsIndexed all firsts others indices
-    → Leads firsts n → ((i : ℕ) → LeadsTo firsts n i → slice_get all i ≢ Some n) → IsAbsent others n
-    → IsIndexed (all ++ n ∷ []) (firsts ++ 0 ∷ []) (others ++ n ∷ []) (indices ++ length all ∷ [])
-other-added all firsts others indices n x led not_first absent = record {
-  unique = unique-more all n x.unique (other-absent all firsts others indices n x not_first absent);
-  as_many = omega (arith, longer, length-append firsts (0 ∷ []), x.as_many);
-  as_long = omega (arith, length-append indices (length all ∷ []), length-append others (n ∷ []), x.as_long);
-  inside = λ m i h. omega (arith, longer, x.inside m i (sym (push-none firsts m) ∙ h));
-  leads = λ i m h. elim (narrow-push all n m i h) [
-    | inl old ↦ leads m (x.leads i m old.1)
-    | inr new ↦ leads m (subst (Leads firsts) new.1 led)
-  ];
-  found = λ i m h gone. elim (narrow-push all n m i h) [
-    | inl old ↦ leads_to m i (x.found i m old.1 (λ k at. gone k (get-left others (n ∷ []) m k at)))
-    | inr new ↦ absurd (gone (length others) (get-last others n ∙ ap Some new.1))
-  ];
-  placed = λ k m h. elim (narrow-push others n m k h) [
-    | inl old ↦ let p = x.placed k m old.1 in (p.0, (get-left indices (length all ∷ []) p.0 k p.1.0, get-left all (n ∷ []) m p.0 p.1.1))
-    | inr new ↦ (length all, (subst (λ j. slice_get (indices ++ length all ∷ []) j ≡ Some (length all)) (x.as_long ∙ sym new.0) (get-last indices (length all)), get-last all n ∙ ap Some new.1))
-  ];
-}
-  where
-    longer : length (all ++ n ∷ []) ≡ length all + 1
-    longer = length-append all (n ∷ [])
+  -- a pair that isn't first, and whose right child led nowhere
+  pub second-absent : (r : ℕ) → IsWay all firsts seconds n (Second r) → IsAbsent all n
+  second-absent r (not_first, (l, is, within, none)) i h = elim (x.right i n h) [
+    | inl to ↦ not_first.1 i to h
+    | inr right ↦ (let nowhere : get_or seconds r 0 ≢ 0 = subst (RightLeads seconds) is right in nowhere none)
+  ]
 
-    leads : (m : Narrow) → Leads firsts m → Leads (firsts ++ 0 ∷ []) m
-    leads (Byte b) h = tt
-    leads (Pair l r) h = λ e. h (sym (push-none firsts l) ∙ e)
+  -- a node that no child leads to and that isn't among the others
+  pub other-absent : IsWay all firsts seconds n Other → IsAbsent others n → IsAbsent all n
+  other-absent (not_first, right, not_second) absent i h = elim (x.found i n h absent) [
+    | inl to ↦ not_first.1 i to h
+    | inr to ↦ not_second i to h
+  ]
 
-    leads_to : (m : Narrow) (i : ℕ) → LeadsTo firsts m i → LeadsTo (firsts ++ 0 ∷ []) m i
-    leads_to (Byte b) i h = h
-    leads_to (Pair l r) i h = push-none firsts l ∙ h
+  longer : length (all ++ n ∷ []) ≡ length all + 1
+  longer = length-append all (n ∷ [])
 
+  -- the new node is found by a child
+  child-added : (f s : List ℕ) → Extends (length all) firsts f → Extends (length all) seconds s → IsAbsent all n → Leads f n → LeadsTo f n (length all) ⊎ RightLeadsTo s n (length all)
+      → IsIndexed (all ++ n ∷ []) f s others indices
+  child-added f s ef es absent leads by = record {
+    unique = unique-more all n x.unique absent;
+    as_many = omega (arith, longer, ef.longer, x.as_many);
+    as_many_right = omega (arith, longer, es.longer, x.as_many_right);
+    as_long = x.as_long;
+    inside = λ m i h. omega (arith, longer, ef.inside x.inside m i h);
+    inside_right = λ m i h. omega (arith, longer, es.inside x.inside_right m i h);
+    leads = λ i m h. elim (narrow-push all n m i h) [
+      | inl old ↦ leads-more (length all) firsts f m ef (x.leads i m old.1)
+      | inr new ↦ subst (Leads f) new.1 leads
+    ];
+    right = λ i m h. elim (narrow-push all n m i h) [
+      | inl old ↦ elim (x.right i m old.1) [
+        | inl to ↦ inl (leads-to-more (length all) firsts f m i ef to)
+        | inr right ↦ inr (right-leads-more (length all) seconds s m es right)
+      ]
+      | inr new ↦ elim (at i m new.0 new.1) [ inl to ↦ inl to | inr to ↦ inr (right-leads s m i to) ]
+    ];
+    found = λ i m h gone. elim (narrow-push all n m i h) [
+      | inl old ↦ elim (x.found i m old.1 gone) [
+        | inl to ↦ inl (leads-to-more (length all) firsts f m i ef to)
+        | inr to ↦ inr (right-leads-to-more (length all) seconds s m i es to)
+      ]
+      | inr new ↦ at i m new.0 new.1
+    ];
+    placed = λ k m h. let p = x.placed k m h in (p.0, (p.1.0, get-left all (n ∷ []) m p.0 p.1.1));
+  }
+    where
+      at : (i : ℕ) (m : Narrow) → i ≡ length all → n ≡ m → LeadsTo f m i ⊎ RightLeadsTo s m i
+      at i m place same = subst (λ j. LeadsTo f m j ⊎ RightLeadsTo s m j) (sym place) (subst (λ k. LeadsTo f k (length all) ⊎ RightLeadsTo s k (length all)) same by)
+
+  pub first-added : (l : ℕ) → IsWay all firsts seconds n (First l) → IsIndexed (all ++ n ∷ []) (set firsts l (suc (length all)) ++ 0 ∷ []) (seconds ++ 0 ∷ []) others indices
+  first-added l (r, is, within, none) =
+      let to : LeadsTo (set firsts l (suc (length all)) ++ 0 ∷ []) (Pair l r) (length all) = here firsts l (length all) within in
+      let leads : Leads (set firsts l (suc (length all)) ++ 0 ∷ []) (Pair l r) = λ e. omega (arith, e, to) in
+      child-added (set firsts l (suc (length all)) ++ 0 ∷ []) (seconds ++ 0 ∷ []) (extends-led (length all) firsts l within none) (extends-none (length all) seconds) (first-absent l (r, is, within, none))
+      (subst (Leads (set firsts l (suc (length all)) ++ 0 ∷ [])) (sym is) leads) (inl (subst (λ m. LeadsTo (set firsts l (suc (length all)) ++ 0 ∷ []) m (length all)) (sym is) to))
+
+  pub second-added : (r : ℕ) → IsWay all firsts seconds n (Second r) → IsIndexed (all ++ n ∷ []) (firsts ++ 0 ∷ []) (set seconds r (suc (length all)) ++ 0 ∷ []) others indices
+  second-added r (not_first, (l, is, within, none)) =
+      let to : RightLeadsTo (set seconds r (suc (length all)) ++ 0 ∷ []) (Pair l r) (length all) = here seconds r (length all) within in
+      child-added (firsts ++ 0 ∷ []) (set seconds r (suc (length all)) ++ 0 ∷ []) (extends-none (length all) firsts) (extends-led (length all) seconds r within none) (second-absent r (not_first, (l, is, within, none)))
+      (leads-more (length all) firsts (firsts ++ 0 ∷ []) n (extends-none (length all) firsts) not_first.0) (inr (subst (λ m. RightLeadsTo (set seconds r (suc (length all)) ++ 0 ∷ []) m (length all)) (sym is) to))
+
+  -- it is found among the others
+  pub other-added : IsWay all firsts seconds n Other → IsAbsent others n → IsIndexed (all ++ n ∷ []) (firsts ++ 0 ∷ []) (seconds ++ 0 ∷ []) (others ++ n ∷ []) (indices ++ length all ∷ [])
+  other-added way absent = record {
+    unique = unique-more all n x.unique (other-absent way absent);
+    as_many = omega (arith, longer, ef.longer, x.as_many);
+    as_many_right = omega (arith, longer, es.longer, x.as_many_right);
+    as_long = omega (arith, length-append indices (length all ∷ []), length-append others (n ∷ []), x.as_long);
+    inside = λ m i h. omega (arith, longer, ef.inside x.inside m i h);
+    inside_right = λ m i h. omega (arith, longer, es.inside x.inside_right m i h);
+    leads = λ i m h. elim (narrow-push all n m i h) [
+      | inl old ↦ leads-more (length all) firsts f m ef (x.leads i m old.1)
+      | inr new ↦ leads-more (length all) firsts f m ef (subst (Leads firsts) new.1 way.0.0)
+    ];
+    right = λ i m h. elim (narrow-push all n m i h) [
+      | inl old ↦ elim (x.right i m old.1) [
+        | inl to ↦ inl (leads-to-more (length all) firsts f m i ef to)
+        | inr right ↦ inr (right-leads-more (length all) seconds s m es right)
+      ]
+      | inr new ↦ inr (right-leads-more (length all) seconds s m es (subst (RightLeads seconds) new.1 way.1))
+    ];
+    found = λ i m h gone. elim (narrow-push all n m i h) [
+      | inl old ↦ elim (x.found i m old.1 (λ k at. gone k (get-left others (n ∷ []) m k at))) [
+        | inl to ↦ inl (leads-to-more (length all) firsts f m i ef to)
+        | inr to ↦ inr (right-leads-to-more (length all) seconds s m i es to)
+      ]
+      | inr new ↦ absurd (gone (length others) (get-last others n ∙ ap Some new.1))
+    ];
+    placed = λ k m h. elim (narrow-push others n m k h) [
+      | inl old ↦ let p = x.placed k m old.1 in (p.0, (get-left indices (length all ∷ []) p.0 k p.1.0, get-left all (n ∷ []) m p.0 p.1.1))
+      | inr new ↦ (length all, (subst (λ j. slice_get (indices ++ length all ∷ []) j ≡ Some (length all)) (x.as_long ∙ sym new.0) (get-last indices (length all)), get-last all n ∙ ap Some new.1))
+    ];
+  }
+    where
+      f : List ℕ
+      f = firsts ++ 0 ∷ []
+
+      s : List ℕ
+      s = seconds ++ 0 ∷ []
+
+      ef : Extends (length all) firsts f
+      ef = extends-none (length all) firsts
+
+      es : Extends (length all) seconds s
+      es = extends-none (length all) seconds
+
+-- ---- how a node is found
 -- a pair that isn't the first one with its left child
-pub not-first : (all : List Narrow) (firsts : List ℕ) (l r i : ℕ) (n d : Narrow) → n ≡ Pair l r → get_or firsts l 0 ≡ suc i → ghosts.eq (get_or all i d) n ≡ false
-    → Leads firsts n × ((j : ℕ) → LeadsTo firsts n j → slice_get all j ≢ Some n)
+pub not-first : (all : List Narrow) (firsts : List ℕ) (l r i : ℕ) (n d : Narrow) → n ≡ Pair l r → get_or firsts l 0 ≡ suc i → ghosts.eq (get_or all i d) n ≡ false → IsNotFirst all firsts n
 not-first all firsts l r i n d is leads other = (subst (Leads firsts) (sym is) (λ e. omega (arith, e, leads)), at)
   where
     at : (j : ℕ) → LeadsTo firsts n j → slice_get all j ≢ Some n
@@ -152,10 +239,31 @@ not-first all firsts l r i n d is leads other = (subst (Leads firsts) (sym is) (
         let same : j ≡ i = omega (arith, leads, pair) in
         differs-at all n d i other (subst (λ k. slice_get all k ≡ Some n) same h)
 
+-- nor the first of those that aren't, with its right child
+pub not-second : (all : List Narrow) (seconds : List ℕ) (l r i : ℕ) (d : Narrow) → get_or seconds r 0 ≡ suc i → ghosts.eq (get_or all i d) (Pair l r) ≡ false → IsRightWay all seconds l r Other
+not-second all seconds l r i d leads other = ((λ e. omega (arith, e, leads)), at)
+  where
+    at : (j : ℕ) → get_or seconds r 0 ≡ suc j → slice_get all j ≢ Some (Pair l r)
+    at j led h =
+        let same : j ≡ i = omega (arith, leads, led) in
+        differs-at all (Pair l r) d i other (subst (λ k. slice_get all k ≡ Some (Pair l r)) same h)
+
+-- the way of a pair that isn't first is by its right child
+pub right-way : (all : List Narrow) (firsts seconds : List ℕ) (n : Narrow) (l r : ℕ) (way : Way) → n ≡ Pair l r → IsNotFirst all firsts n → IsRightWay all seconds l r way → IsWay all firsts seconds n way
+right-way all firsts seconds n l r (Known i) is not_first h = h ∙ ap Some (sym is)
+right-way all firsts seconds n l r (First k) is not_first h = absurd h
+right-way all firsts seconds n l r (Second k) is not_first (same, within, none) =
+    (not_first, (l, is ∙ ap (Pair l) (sym same), subst (λ j. j < length seconds) (sym same) within, subst (λ j. get_or seconds j 0 ≡ 0) (sym same) none))
+right-way all firsts seconds n l r Other is not_first (some, other) = (
+  not_first,
+  subst (RightLeads seconds) (sym is) some,
+  λ i to h. other i (subst (λ m. RightLeadsTo seconds m i) is to) (h ∙ ap Some is),
+)
+
 -- a node among the others stands at its index
-pub other-at : (all : List Narrow) (firsts : List ℕ) (others : List Narrow) (indices : List ℕ) (n : Narrow) (k i : ℕ) → IsIndexed all firsts others indices → slice_get others k ≡ Some n → slice_get indices k ≡ Some i
+pub other-at : (all : List Narrow) (firsts seconds : List ℕ) (others : List Narrow) (indices : List ℕ) (n : Narrow) (k i : ℕ) → IsIndexed all firsts seconds others indices → slice_get others k ≡ Some n → slice_get indices k ≡ Some i
     → slice_get all i ≡ Some n
-other-at all firsts others indices n k i x there at =
+other-at all firsts seconds others indices n k i x there at =
     let p = x.placed k n there in
     let same : p.0 ≡ i = cc in
     subst (λ j. slice_get all j ≡ Some n) same p.1.1

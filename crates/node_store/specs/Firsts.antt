@@ -1,9 +1,9 @@
 -- How nodes are found.
-use Rattle.std.specs.Prelude.{◌≡◌, ◌≢◌, ℕ, suc, ◌<◌, List, length, map, slice_get, get_or, Some}
+use Rattle.std.specs.Prelude.{◌≡◌, ◌≢◌, ◌⊎◌, ℕ, suc, ◌<◌, List, length, map, slice_get, get_or, Some}
 use Rattle.node_store.specs.declared.narrow.Narrow.{Narrow}
 use Rattle.node_store.specs.declared.narrow.Narrow.TheVariants.{Byte, Pair}
 use Rattle.node_store.specs.declared.nodes.Way.{Way}
-use Rattle.node_store.specs.declared.nodes.Way.TheVariants.{Known, First, Other}
+use Rattle.node_store.specs.declared.nodes.Way.TheVariants.{Known, First, Second, Other}
 use Rattle.node_store.specs.Narrow.{wide, AreUnique}
 use Rattle.node_store.specs.SearchTree.{IsAbsent}
 
@@ -12,23 +12,48 @@ abbrev pub LeadsTo : List ℕ → Narrow → ℕ → Type 0
 LeadsTo firsts (Byte b) i = ⊥
 LeadsTo firsts (Pair l r) i = get_or firsts l 0 ≡ suc i
 
+-- and its right child
+abbrev pub RightLeadsTo : List ℕ → Narrow → ℕ → Type 0
+RightLeadsTo seconds (Byte b) i = ⊥
+RightLeadsTo seconds (Pair l r) i = get_or seconds r 0 ≡ suc i
+
 -- n isn't a pair whose left child leads nowhere
 abbrev pub Leads : List ℕ → Narrow → Type 0
 Leads firsts (Byte b) = Unit {0}
 Leads firsts (Pair l r) = get_or firsts l 0 ≢ 0
 
--- each node is found by its left child or is among the others, and these are the indices of the others
-pub record IsIndexed (all : List Narrow) (firsts : List ℕ) (others : List Narrow) (indices : List ℕ) : Type 0 where
+-- nor one whose right child does
+abbrev pub RightLeads : List ℕ → Narrow → Type 0
+RightLeads seconds (Byte b) = Unit {0}
+RightLeads seconds (Pair l r) = get_or seconds r 0 ≢ 0
+
+-- each node is found by its left child, or else by its right one or among the others, and these are the indices of the others
+pub record IsIndexed (all : List Narrow) (firsts seconds : List ℕ) (others : List Narrow) (indices : List ℕ) : Type 0 where
   pub unique : AreUnique (map wide all)
   pub as_many : length firsts ≡ length all
+  pub as_many_right : length seconds ≡ length all
   pub as_long : length indices ≡ length others
   pub inside : (l i : ℕ) → get_or firsts l 0 ≡ suc i → i < length all
+  pub inside_right : (r i : ℕ) → get_or seconds r 0 ≡ suc i → i < length all
   pub leads : (i : ℕ) (n : Narrow) → slice_get all i ≡ Some n → Leads firsts n
-  pub found : (i : ℕ) (n : Narrow) → slice_get all i ≡ Some n → IsAbsent others n → LeadsTo firsts n i
+  pub right : (i : ℕ) (n : Narrow) → slice_get all i ≡ Some n → LeadsTo firsts n i ⊎ RightLeads seconds n
+  pub found : (i : ℕ) (n : Narrow) → slice_get all i ≡ Some n → IsAbsent others n → LeadsTo firsts n i ⊎ RightLeadsTo seconds n i
   pub placed : (k : ℕ) (n : Narrow) → slice_get others k ≡ Some n → (i : ℕ) × ((slice_get indices k ≡ Some i) × (slice_get all i ≡ Some n))
 
+-- n isn't the first pair with its left child, and there is one
+abbrev pub IsNotFirst : List Narrow → List ℕ → Narrow → Type 0
+IsNotFirst all firsts n = Leads firsts n × ((i : ℕ) → LeadsTo firsts n i → slice_get all i ≢ Some n)
+
 -- how n is found
-abbrev pub IsWay : List Narrow → List ℕ → Narrow → Way → Type 0
-IsWay all firsts n (Known i) = slice_get all i ≡ Some n
-IsWay all firsts n (First l) = (r : ℕ) × ((n ≡ Pair l r) × ((l < length firsts) × (get_or firsts l 0 ≡ 0)))
-IsWay all firsts n Other = Leads firsts n × ((i : ℕ) → LeadsTo firsts n i → slice_get all i ≢ Some n)
+abbrev pub IsWay : List Narrow → List ℕ → List ℕ → Narrow → Way → Type 0
+IsWay all firsts seconds n (Known i) = slice_get all i ≡ Some n
+IsWay all firsts seconds n (First l) = (r : ℕ) × (n ≡ Pair l r) × (l < length firsts) × (get_or firsts l 0 ≡ 0)
+IsWay all firsts seconds n (Second r) = IsNotFirst all firsts n × ((l : ℕ) × (n ≡ Pair l r) × (r < length seconds) × (get_or seconds r 0 ≡ 0))
+IsWay all firsts seconds n Other = IsNotFirst all firsts n × RightLeads seconds n × ((i : ℕ) → RightLeadsTo seconds n i → slice_get all i ≢ Some n)
+
+-- how the pair of l and r is found, which isn't the first one with its left child
+abbrev pub IsRightWay : List Narrow → List ℕ → ℕ → ℕ → Way → Type 0
+IsRightWay all seconds l r (Known i) = slice_get all i ≡ Some (Pair l r)
+IsRightWay all seconds l r (First k) = ⊥
+IsRightWay all seconds l r (Second k) = (k ≡ r) × (r < length seconds) × (get_or seconds r 0 ≡ 0)
+IsRightWay all seconds l r Other = (get_or seconds r 0 ≢ 0) × ((i : ℕ) → get_or seconds r 0 ≡ suc i → slice_get all i ≢ Some (Pair l r))

@@ -4,7 +4,7 @@ ghost use Rattle.slp_model.specs.Nodes.{IsBelow};
 ghost use Rattle.node_store.specs.Narrow.{wide, AreUnique};
 ghost use Rattle.node_store.specs.SearchTree.{IsAbsent};
 ghost use Rattle.node_store.specs.Stored.{IsNew};
-ghost use Rattle.node_store.specs.Firsts.{IsIndexed, IsWay};
+ghost use Rattle.node_store.specs.Firsts.{IsIndexed, IsRightWay, IsWay};
 
 use crate::narrow::Narrow;
 use crate::others::Others;
@@ -15,15 +15,18 @@ use std::marker::Model;
 
 /// Nodes in the order in which they came, each once.
 ///
-/// The first pair with a left child is found through this child, and no pair of a child without one is there yet. So most nodes
-/// are found, and most new ones taken in, without a hash and a look into an index, whose wait for memory costs most; and where
-/// a text is new, children stand side by side. The other pairs, and the bytes, are found by their hashes. A node takes 12 bytes
-/// and 4 for the first pair that it begins, and one of the others 31 more where the vectors are full.
+/// The first pair with a left child is found through this child, and no pair of a child without one is there yet; and of the
+/// pairs that aren't first, the first with a right child is found through that, in the same way. So most nodes are found, and
+/// most new ones taken in, without a hash and a look into an index, whose wait for memory costs most; and where a text is new,
+/// children stand side by side. The other pairs, and the bytes, are found by their hashes. A node takes 12 bytes, 4 for the
+/// first pair that it begins and 4 for one that it ends, and one of the others 31 more where the vectors are full.
 #[derive(Drop)]
 pub(crate) struct Nodes {
     all: Vec<Narrow>,
     // For each node the index of the first pair that has it on the left, and one; 0 is none.
     firsts: Vec<u32>,
+    // The same of the first pair that has it on the right and isn't the first one with its left child.
+    seconds: Vec<u32>,
     others: Others,
     // For each of the others its index.
     indices: Vec<u32>,
@@ -39,13 +42,15 @@ impl Model for Nodes {
 
     ghost view = { λ s. map wide s.all.items };
 
-    ghost invariant = { λ s. IsIndexed s.all.items s.firsts.items s.others s.indices.items };
+    ghost invariant = { λ s. IsIndexed s.all.items s.firsts.items s.seconds.items s.others s.indices.items };
 }
 
-/// How a node is found: at this index; not at all, since no pair has this left child yet; or among the others, if anywhere.
+/// How a node is found: at this index; not at all, since no pair has this left child yet, or none but first ones this right
+/// child; or among the others, if anywhere.
 pub(crate) enum Way {
     Known(usize),
     First(usize),
+    Second(usize),
     Other,
 }
 
@@ -57,6 +62,7 @@ impl Nodes {
         Nodes {
             all: Vec::new(alloc),
             firsts: Vec::new(alloc),
+            seconds: Vec::new(alloc),
             others: Others::new(alloc),
             indices: Vec::new(alloc),
         }
@@ -69,6 +75,7 @@ impl Nodes {
         Ok(Nodes {
             all: Vec::with_capacity(alloc, count)?,
             firsts: Vec::with_capacity(alloc, count)?,
+            seconds: Vec::with_capacity(alloc, count)?,
             others: Others::new(alloc),
             indices: Vec::new(alloc),
         })
@@ -90,23 +97,30 @@ impl Nodes {
         self.all[index].widened()
     }
 
-    /// How many of the pairs of neighbours aren't the first pair with their left child.
+    /// How many of the pairs of neighbours neither child leads to.
     pub(crate) fn unknown_pairs(&self, blocks: &[NodeId]) -> usize {
         let mut count: usize = 0;
         for place in 0..blocks.len() / 2 {
-            if !self.is_first_pair(blocks[2 * place], blocks[2 * place + 1]) {
+            if !self.is_led_to(blocks[2 * place], blocks[2 * place + 1]) {
                 count = count.saturating_add(1);
             }
         }
         count
     }
 
-    // Whether the pair is the first one with its left child. It may be there without that.
+    // Whether a child leads to the pair. It may be there without that.
     #[inline(always)]
-    fn is_first_pair(&self, left: NodeId, right: NodeId) -> bool {
-        let link = self.firsts.get(left.index).copied().unwrap_or(0);
+    fn is_led_to(&self, left: NodeId, right: NodeId) -> bool {
+        self.is_at(&self.firsts, left, Node::Pair(left, right))
+            || self.is_at(&self.seconds, right, Node::Pair(left, right))
+    }
+
+    // Whether the child's link leads to the node.
+    #[inline(always)]
+    fn is_at(&self, links: &[u32], child: NodeId, node: Node) -> bool {
+        let link = links.get(child.index).copied().unwrap_or(0);
         match self.all.get((link as usize).wrapping_sub(1)) {
-            Some(narrow) => narrow.widened() == Node::Pair(left, right),
+            Some(narrow) => narrow.widened() == node,
             None => false,
         }
     }
@@ -117,6 +131,7 @@ impl Nodes {
     {
         let _all = self.all.reserve(count);
         let _firsts = self.firsts.reserve(count);
+        let _seconds = self.seconds.reserve(count);
     }
 
     /// The place of the node, which is added last where it isn't there, and whether it was added. Its children are among the
@@ -138,6 +153,7 @@ impl Nodes {
         let (index, added) = insert_narrow(
             &mut self.all,
             &mut self.firsts,
+            &mut self.seconds,
             &mut self.others,
             &mut self.indices,
             narrow,
@@ -150,63 +166,73 @@ impl Nodes {
 fn insert_narrow(
     all: &mut Vec<Narrow>,
     firsts: &mut Vec<u32>,
+    seconds: &mut Vec<u32>,
     others: &mut Others,
     indices: &mut Vec<u32>,
     narrow: Narrow,
 ) -> Result<(usize, bool), NoMemory>
-    requires indexed { IsIndexed all.old.items firsts.old.items others.old indices.old.items }
+    requires indexed { IsIndexed all.old.items firsts.old.items seconds.old.items others.old indices.old.items }
     requires below { IsBelow (length all.old.items) (wide narrow) }
-    ensures indexed { IsIndexed all.new.items firsts.new.items others.new indices.new.items }
+    ensures indexed { IsIndexed all.new.items firsts.new.items seconds.new.items others.new indices.new.items }
     ensures added { IfOk result (λ r. IsTrue r.1 → (all.new.items ≡ all.old.items ++ narrow ∷ []) × IsAbsent all.old.items narrow) }
     ensures there { IfOk result (λ r. IsFalse r.1 → all.new.items ≡ all.old.items) }
     ensures node { IfOk result (λ r. slice_get all.new.items r.0 ≡ Some narrow) }
     ensures err { OnErr result (all.new.items ≡ all.old.items) }
 {
-    match way_of(all, firsts, narrow) {
+    match way_of(all, firsts, seconds, narrow) {
         Way::Known(index) => Ok((index, false)),
         Way::First(left) => {
-            let index = add_first(all, firsts, narrow, left)?;
+            let index = add_led(all, firsts, seconds, narrow, left)?;
             Ok((index, true))
         }
-        Way::Other => insert_other(all, firsts, others, indices, narrow),
+        Way::Second(right) => {
+            let index = add_led(all, seconds, firsts, narrow, right)?;
+            Ok((index, true))
+        }
+        Way::Other => insert_other(all, firsts, seconds, others, indices, narrow),
     }
 }
 
-// Adds a pair that is the first one with this left child, and answers its index.
-fn add_first(
+// Adds a pair to which this child leads from now on, and answers its index. The new node leads nowhere yet.
+fn add_led(
     all: &mut Vec<Narrow>,
-    firsts: &mut Vec<u32>,
+    links: &mut Vec<u32>,
+    rest: &mut Vec<u32>,
     narrow: Narrow,
-    left: usize,
+    child: usize,
 ) -> Result<usize, NoMemory>
-    requires { left < length firsts.old.items }
+    requires { child < length links.old.items }
     ensures index { IfOk result (λ index. index ≡ length all.old.items) }
     ensures all { OnOk result (all.new.items ≡ all.old.items ++ narrow ∷ []) }
-    ensures firsts { OnOk result (firsts.new.items ≡ set firsts.old.items left (suc (length all.old.items)) ++ 0 ∷ []) }
-    ensures err { OnErr result ((all.new.items ≡ all.old.items) × (firsts.new.items ≡ firsts.old.items)) }
+    ensures links { OnOk result (links.new.items ≡ set links.old.items child (suc (length all.old.items)) ++ 0 ∷ []) }
+    ensures rest { OnOk result (rest.new.items ≡ rest.old.items ++ 0 ∷ []) }
+    ensures err { OnErr result ((all.new.items ≡ all.old.items) × (links.new.items ≡ links.old.items) × (rest.new.items ≡ rest.old.items)) }
 {
     let index = all.len();
     let link = number_after(index)? + 1;
     all.reserve(1)?;
-    firsts.reserve(1)?;
-    firsts[left] = link;
+    links.reserve(1)?;
+    rest.reserve(1)?;
+    links[child] = link;
     all.push_reserved(narrow);
-    firsts.push_reserved(0);
+    links.push_reserved(0);
+    rest.push_reserved(0);
     Ok(index)
 }
 
-// The index of a node that its left child doesn't lead to, which is added last where it isn't among the others, and whether
+// The index of a node that neither child leads to, which is added last where it isn't among the others, and whether
 // it was added.
 fn insert_other(
     all: &mut Vec<Narrow>,
     firsts: &mut Vec<u32>,
+    seconds: &mut Vec<u32>,
     others: &mut Others,
     indices: &mut Vec<u32>,
     narrow: Narrow,
 ) -> Result<(usize, bool), NoMemory>
-    requires indexed { IsIndexed all.old.items firsts.old.items others.old indices.old.items }
-    requires other { IsWay all.old.items firsts.old.items narrow Way.Other }
-    ensures indexed { IsIndexed all.new.items firsts.new.items others.new indices.new.items }
+    requires indexed { IsIndexed all.old.items firsts.old.items seconds.old.items others.old indices.old.items }
+    requires other { IsWay all.old.items firsts.old.items seconds.old.items narrow Way.Other }
+    ensures indexed { IsIndexed all.new.items firsts.new.items seconds.new.items others.new indices.new.items }
     ensures added { IfOk result (λ r. IsTrue r.1 → (all.new.items ≡ all.old.items ++ narrow ∷ []) × IsAbsent all.old.items narrow) }
     ensures there { IfOk result (λ r. IsFalse r.1 → all.new.items ≡ all.old.items) }
     ensures node { IfOk result (λ r. slice_get all.new.items r.0 ≡ Some narrow) }
@@ -216,6 +242,7 @@ fn insert_other(
     let number = number_after(index)?;
     all.reserve(1)?;
     firsts.reserve(1)?;
+    seconds.reserve(1)?;
     indices.reserve(1)?;
     let (place, added) = others.insert(narrow)?;
     if !added {
@@ -224,6 +251,7 @@ fn insert_other(
     indices.push_reserved(number);
     all.push_reserved(narrow);
     firsts.push_reserved(0);
+    seconds.push_reserved(0);
     Ok((index, true))
 }
 
@@ -240,12 +268,14 @@ fn number_after(len: usize) -> Result<u32, NoMemory>
 }
 
 // How the node is found.
-fn way_of(all: &[Narrow], firsts: &[u32], narrow: Narrow) -> Way
+fn way_of(all: &[Narrow], firsts: &[u32], seconds: &[u32], narrow: Narrow) -> Way
     requires below { IsBelow (length firsts.now) (wide narrow) }
+    requires as_many { length seconds.now ≡ length firsts.now }
     requires inside { (l i : ℕ) → get_or firsts.now l 0 ≡ suc i → i < length all.now }
-    ensures { IsWay all.now firsts.now narrow result }
+    requires inside_right { (r i : ℕ) → get_or seconds.now r 0 ≡ suc i → i < length all.now }
+    ensures { IsWay all.now firsts.now seconds.now narrow result }
 {
-    let Narrow::Pair(left, _) = narrow else {
+    let Narrow::Pair(left, right) = narrow else {
         return Way::Other;
     };
     let first = firsts[left as usize];
@@ -254,6 +284,24 @@ fn way_of(all: &[Narrow], firsts: &[u32], narrow: Narrow) -> Way
     }
     let index = (first - 1) as usize;
     if all[index] == narrow {
+        Way::Known(index)
+    } else {
+        right_way_of(all, seconds, left, right)
+    }
+}
+
+// How a pair is found that isn't the first one with its left child.
+fn right_way_of(all: &[Narrow], seconds: &[u32], left: u32, right: u32) -> Way
+    requires within { right < length seconds.now }
+    requires inside { (r i : ℕ) → get_or seconds.now r 0 ≡ suc i → i < length all.now }
+    ensures { IsRightWay all.now seconds.now left right result }
+{
+    let second = seconds[right as usize];
+    if second == 0 {
+        return Way::Second(right as usize);
+    }
+    let index = (second - 1) as usize;
+    if all[index] == Narrow::Pair(left, right) {
         Way::Known(index)
     } else {
         Way::Other

@@ -11,13 +11,14 @@ returns-clause-indexed c =
     let number : c.in_ok-number.number ≡ length c.args.all.now.items = search rules in
     let more : c.push_reserved.new.self.items ≡ c.args.indices.now.items ++ c.in_ok-number.number ∷ [] = search rules in
     let indices = more ∙ ap (λ k. c.args.indices.now.items ++ k ∷ []) number in
-    rw (all, firsts, made.0, indices) (other-added c.args.all.now.items c.args.firsts.now.items c.args.others.now c.args.indices.now.items c.args.narrow c.requires.indexed c.requires.other.0 c.requires.other.1 made.1)
+    let seconds : c.push_reserved-4.new.self.items ≡ c.args.seconds.now.items ++ 0 ∷ [] = search rules in
+    rw (all, firsts, seconds, made.0, indices) (other-added c.args.all.now.items c.args.firsts.now.items c.args.seconds.now.items c.args.others.now c.args.indices.now.items c.args.narrow c.requires.indexed c.requires.other made.1)
 
 pub returns-clause-added : goal.returns-clause-added
 returns-clause-added c = λ was.
     let is : IsTrue c.in_ok-place.added = search rules in
     let made = c.in_ok-place.ensures.added is in
-    (search rules, other-absent c.args.all.now.items c.args.firsts.now.items c.args.others.now c.args.indices.now.items c.args.narrow c.requires.indexed c.requires.other.1 made.1)
+    (search rules, other-absent c.args.all.now.items c.args.firsts.now.items c.args.seconds.now.items c.args.others.now c.args.indices.now.items c.args.narrow c.requires.indexed c.requires.other made.1)
 
 pub returns-clause-node : goal.returns-clause-node
 returns-clause-node c =

@@ -1,7 +1,7 @@
 use Rattle.std.proofs.Common.{rules, arith, ◌≡◌, ◌≢◌, ◌-◌, true, false, get_or}
 use Rattle.node_store.specs.declared.narrow.Narrow.TheVariants.{Byte}
 use Rattle.node_store.specs.contracts.narrow.NarrowPartialEq.TheImpl.{ghosts}
-use Rattle.node_store.proofs.FirstLemmas.{not-first}
+use Rattle.node_store.proofs.FirstLemmas.{not-first, right-way}
 use Rattle.node_store.proofs.NarrowLemmas.{equals-at}
 use Rattle.node_store.proofs.nodes.way_of.Goals as goal
 
@@ -21,4 +21,5 @@ pub returns-else-eq : goal.returns-else-eq
 returns-else-eq c =
     let some : get_or c.args.firsts.now c.in-Pair.left 0 ≢ 0 = search rules in
     let e : ghosts.eq (get_or c.args.all.now (get_or c.args.firsts.now c.in-Pair.left 0 - 1) (Byte 0)) c.args.narrow ≡ false = search rules in
-    not-first c.args.all.now c.args.firsts.now c.in-Pair.left c.in-Pair.field-1 (get_or c.args.firsts.now c.in-Pair.left 0 - 1) c.args.narrow (Byte 0) c.in-Pair.is (omega (arith, some)) e
+    right-way c.args.all.now c.args.firsts.now c.args.seconds.now c.args.narrow c.in-Pair.left c.in-Pair.right c.right_way_of.result c.in-Pair.is
+    (not-first c.args.all.now c.args.firsts.now c.in-Pair.left c.in-Pair.right (get_or c.args.firsts.now c.in-Pair.left 0 - 1) c.args.narrow (Byte 0) c.in-Pair.is (omega (arith, some)) e) c.right_way_of.ensures
