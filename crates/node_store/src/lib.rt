@@ -11,9 +11,10 @@
 //! Nodes are only added and never change, so an id means the same text ever after.
 //!
 //! `byte` and `pair` take expected constant time, amortized where the store grows, the other calls on a node constant
-//! time, and `thin` linear time. A node takes 25 bytes where the vectors are full: 12 itself, 9 its length and height, and 4 for
-//! the first pair that has it on the left. Most nodes are such a first pair, and are found through their left child; each other
-//! one takes 31 bytes more. Full vectors double, and a full index grows fourfold, or twofold where it is large.
+//! time, and `thin` linear time. A node takes 29 bytes where the vectors are full: 12 itself, 9 its length and height, 4 for the
+//! first pair that has it on the left, and 4 for the first of the other pairs that has it on the right. Most nodes are such a
+//! pair, and are found through a child; each other one takes 31 bytes more. Full vectors double, and a full index grows fourfold,
+//! or twofold where it is large.
 //!
 //! Nodes that are made once each are hash consing (A. Ershov, *On programming of arithmetic operations*, 1958). That
 //! the trees are balanced is from M. L. Schmid and N. Schweikardt, *Query evaluation over SLP-represented document
@@ -58,9 +59,10 @@ pub(crate) struct Facts {
 /// The nodes of a straight-line program in the order in which they came, each once. A child comes before its parent,
 /// and nodes never change.
 ///
-/// Without a node it takes no memory. A node takes 25 bytes where the vectors are full, and 31 more where it isn't the first
-/// pair with its left child. Full vectors are doubled and a full index grows fourfold, or twofold where it is large, and the old
-/// one stands until the new one is filled. There are fewer than 2^32 nodes, and at most 9·2^28 that are no such first pair.
+/// Without a node it takes no memory. A node takes 29 bytes where the vectors are full, and 31 more where it is neither the first
+/// pair with its left child nor the first of the other pairs with its right child. Full vectors are doubled and a full index grows
+/// fourfold, or twofold where it is large, and the old one stands until the new one is filled. There are fewer than 2^32 nodes, and
+/// at most 9·2^28 that no child leads to.
 #[derive(Drop)]
 pub struct Store {
     nodes: Nodes,
@@ -252,8 +254,8 @@ impl Store {
         self.insert(pair, facts)
     }
 
-    /// Makes room for the pairs of neighbours, the first with the second, the third with the fourth and so on, that aren't
-    /// known by their left children, as far as there is memory. Where many pairs are asked for one after the other this is
+    /// Makes room for the pairs of neighbours, the first with the second, the third with the fourth and so on, to which no child
+    /// leads, as far as there is memory. Where many pairs are asked for one after the other this is
     /// worth a call before: the places in memory that all of them need are then waited for at once.
     pub fn make_room(&mut self, blocks: &[NodeId])
         ensures { self.new ≡ self.old }
