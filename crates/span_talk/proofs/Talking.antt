@@ -53,13 +53,15 @@ module _ (bytes : List ℕ) (before : Outside) (kept : List ℕ) (p : Place) (t 
   -- the replies to the whole lines were written, and the number is that of the next one
   pub replied : AreReplied (whole_lines bytes) before p.now.written × (p.number ≡ 1 + length (whole_lines bytes))
   replied =
-      let same : whole_lines bytes ≡ t.at.done = whole_is bytes t.done t.begun t.cut ∙ t.at.cut ∙ append-nil t.at.done in
-      (record {
-        sum = t.at.sum;
-        mid = world p.standing.state p.now.files;
-        ran = subst (λ (l : List (List ℕ)). Runs (start before) 1 l t.at.sum (world p.standing.state p.now.files)) (sym same) t.at.ran;
-        wrote = t.at.wrote;
-      }, t.at.counted ∙ ap (λ (l : List (List ℕ)). 1 + length l) (sym same))
+      let same : whole_lines bytes ≡ t.at.done = whole_is bytes t.done t.begun t.cut ∙ t.at.cut ∙ append-nil t.at.done in (
+        record {
+          sum = t.at.sum;
+          mid = world p.standing.state p.now.files;
+          ran = subst (λ (l : List (List ℕ)). Runs (start before) 1 l t.at.sum (world p.standing.state p.now.files)) (sym same) t.at.ran;
+          wrote = t.at.wrote;
+        },
+        t.at.counted ∙ ap (λ (l : List (List ℕ)). 1 + length l) (sym same),
+      )
 
   pub have_run : IsStanding p.standing → HaveRun (whole_lines bytes) before p.now
   have_run held = (p.refused, subst (λ (l : List (List ℕ)). RunsAll l p.refused before p.now) (sym (whole_is bytes t.done t.begun t.cut)) (ends t.done [] p.number p.refused p.standing before p.now refl held t.at))
