@@ -9,7 +9,7 @@
 //!
 //! The loader keeps at most one full block of each height, like a binary counter, so equal stretches at multiples of
 //! their length become the same nodes. For n bytes it makes at most n + 4·(H(n)+1) pair calls, each of expected
-//! constant time. Its own memory is at most 49 blocks, and 3.5 MB for blocks of two, four and eight bytes that it has
+//! constant time. Its own memory is at most 49 blocks, and 7 MB for blocks of two, four and eight bytes that it has
 //! seen before, which make most pair calls needless; the nodes that it makes stand in the store.
 //!
 //! A text without repetition takes a node for each byte or so: there is no search for the smallest grammar, which is
@@ -40,9 +40,9 @@ use words::Words;
 ///
 /// It keeps full blocks of bytes, at most one of each height, as nodes of the store: a block of
 /// height h has 2^h bytes. After a refusal it keeps none, and answers NoMemory to every call.
-/// From the first piece of 16,384 bytes on it also keeps the blocks of the last words of two, four and
-/// eight bytes beside these bytes, in 3.5 MB, where it gets this memory, so that most of them need no
-/// pair calls.
+/// From 4,096 bytes on it also keeps the blocks of the last words of two, four and eight bytes beside
+/// these bytes, in 192 KB, and from 262,144 bytes on in 7 MB, where it gets this memory, so that most of
+/// them need no pair calls.
 #[derive(Drop)]
 pub struct Loader {
     // The highest block first.

@@ -15,12 +15,18 @@ use std::sync::ledger::Ledger;
 /// The height of the blocks of the longest words, which have eight bytes.
 pub(crate) const WORD_HEIGHT: u8 = 3;
 
-// From this length on a piece pays for the memory of the words.
-const LONG_PIECE: usize = 16_384;
+// From so many bytes on a text pays for a small memory of its words, and from so many on for a large one.
+const SHORT_TEXT: usize = 1 << 12;
+
+const LONG_TEXT: usize = 1 << 18;
+
+// How many places the words of each length have in a short text, and those of two, four and eight bytes in a long one. Of real
+// texts nearly all words of four bytes come again, and a word that is found here needs no look into the store's index.
+const FEW: usize = 1 << 12;
 
 const TWOS: usize = 1 << 16;
 
-const FOURS: usize = 1 << 15;
+const FOURS: usize = 1 << 18;
 
 const EIGHTS: usize = 1 << 17;
 
@@ -38,6 +44,8 @@ pub(crate) struct Words {
     pub(crate) twos: Vec<Word>,
     pub(crate) fours: Vec<Word>,
     pub(crate) eights: Vec<Word>,
+    // How many bytes were fed. Nothing that is proved depends on it.
+    fed: usize,
 }
 
 impl Words {
@@ -49,19 +57,29 @@ impl Words {
             twos: Vec::new(alloc),
             fours: Vec::new(alloc),
             eights: Vec::new(alloc),
+            fed: 0,
         }
     }
 
-    /// Makes room for the words of a long piece, if there is memory for it.
+    /// Makes room for the words of a further piece, as many as pay, if there is memory for them.
     pub(crate) fn make_room(&mut self, len: usize)
         ensures { (nodes : List Node) → AreKnown nodes (known_of self.old) → AreKnown nodes (known_of self.new) }
     {
-        if len < LONG_PIECE {
-            return;
+        self.fed = self.fed.saturating_add(len);
+        if self.fed >= LONG_TEXT {
+            self.make_places(TWOS, FOURS, EIGHTS);
+        } else if self.fed >= SHORT_TEXT {
+            self.make_places(FEW, FEW, FEW);
         }
-        make_places(&mut self.twos, TWOS);
-        make_places(&mut self.fours, FOURS);
-        make_places(&mut self.eights, EIGHTS);
+    }
+
+    // At least so many places for words of two, four and eight bytes, where there is memory for them.
+    fn make_places(&mut self, twos: usize, fours: usize, eights: usize)
+        ensures { (nodes : List Node) → AreKnown nodes (known_of self.old) → AreKnown nodes (known_of self.new) }
+    {
+        make_places(&mut self.twos, twos);
+        make_places(&mut self.fours, fours);
+        make_places(&mut self.eights, eights);
     }
 
     /// The block of two bytes.
@@ -79,12 +97,11 @@ impl Words {
         ensures cost { pairs.new ≤ pairs.old + 1 }
     {
         let bytes = number_of_two(word);
-        let place = bytes as usize;
-        if let Some(block) = found(&self.twos, place, bytes) {
+        if let Some(block) = found(&self.twos, bytes) {
             return Ok(block);
         }
         let block = pair_of_bytes(store, word[0], word[1], pairs)?;
-        note(&mut self.twos, place, bytes, block);
+        note(&mut self.twos, bytes, block);
         Ok(block)
     }
 
@@ -103,15 +120,14 @@ impl Words {
         ensures cost { pairs.new ≤ pairs.old + 3 }
     {
         let bytes = number_of_four(word);
-        let place = hash(bytes) >> 49;
-        if let Some(block) = found(&self.fours, place, bytes) {
+        if let Some(block) = found(&self.fours, bytes) {
             return Ok(block);
         }
         let (first, second) = word.split_at(2);
         let left = self.two(store, first, pairs)?;
         let right = self.two(store, second, pairs)?;
         let block = store.pair_blocks(left, right, 1, pairs)?;
-        note(&mut self.fours, place, bytes, block);
+        note(&mut self.fours, bytes, block);
         Ok(block)
     }
 
@@ -130,15 +146,14 @@ impl Words {
         ensures cost { pairs.new ≤ pairs.old + 7 }
     {
         let bytes = number_of_eight(word);
-        let place = hash(bytes) >> 47;
-        if let Some(block) = found(&self.eights, place, bytes) {
+        if let Some(block) = found(&self.eights, bytes) {
             return Ok(block);
         }
         let (first, second) = word.split_at(4);
         let left = self.four(store, first, pairs)?;
         let right = self.four(store, second, pairs)?;
         let block = store.pair_blocks(left, right, 2, pairs)?;
-        note(&mut self.eights, place, bytes, block);
+        note(&mut self.eights, bytes, block);
         Ok(block)
     }
 }
@@ -166,13 +181,14 @@ fn number_of_eight(word: &[u8]) -> u64
     ])
 }
 
-// A multiplicative hash, whose highest bits are the best (D. E. Knuth, The Art of Computer
-// Programming, volume 3, section 6.4).
-fn hash(bytes: u64) -> usize {
-    bytes.wrapping_mul(0x9E37_79B9_7F4A_7C15) as usize
+// The place of a word: of a multiplicative hash the highest bits, which are the best (D. E. Knuth, The Art of Computer
+// Programming, volume 3, section 6.4), in proportion to how many places there are.
+fn place_of(words: &[Word], bytes: u64) -> usize {
+    let hash = bytes.wrapping_mul(0x9E37_79B9_7F4A_7C15) >> 32;
+    (hash.wrapping_mul(words.len() as u64) >> 32) as usize
 }
 
-// So many empty places, where there are none yet, if there is memory for them.
+// So many empty places, where there are fewer, if there is memory for them.
 fn make_places(words: &mut Vec<Word>, count: usize)
     ensures { (nodes : List Node) (h : ℕ) (w : Width) → AreWords nodes h w words.old.items → AreWords nodes h w words.new.items }
 {
@@ -180,16 +196,17 @@ fn make_places(words: &mut Vec<Word>, count: usize)
         bytes: 0,
         block: None,
     };
-    if words.is_empty() {
+    if words.len() < count {
+        words.clear();
         let _ = words.resize(count, none);
     }
 }
 
-// The block of the word at this place, if it has these bytes.
-fn found(words: &Vec<Word>, place: usize, bytes: u64) -> Option<NodeId>
+// The block of the word, if it stands at its place.
+fn found(words: &Vec<Word>, bytes: u64) -> Option<NodeId>
     ensures { IfSome result (λ id. (nodes : List Node) (h : ℕ) (w : Width) → AreWords nodes h w words.now.items → IsBlockAt nodes h (to_le_bytes w bytes) id.index) }
 {
-    let word = words.get(place)?;
+    let word = words.get(place_of(words, bytes))?;
     if word.bytes != bytes {
         return None;
     }
@@ -197,10 +214,11 @@ fn found(words: &Vec<Word>, place: usize, bytes: u64) -> Option<NodeId>
     Some(NodeId { index })
 }
 
-// Puts a word at this place, if there is room for words.
-fn note(words: &mut Vec<Word>, place: usize, bytes: u64, block: NodeId)
+// Puts a word at its place, if there is room for words.
+fn note(words: &mut Vec<Word>, bytes: u64, block: NodeId)
     ensures { (nodes : List Node) (h : ℕ) (w : Width) → IsBlockAt nodes h (to_le_bytes w bytes) block.index → AreWords nodes h w words.old.items → AreWords nodes h w words.new.items }
 {
+    let place = place_of(words, bytes);
     if let (Some(word), Ok(index)) = (words.get_mut(place), u32::try_from(block.index)) {
         *word = Word {
             bytes,
