@@ -102,15 +102,21 @@ EXAMPLES = pathlib.Path("/usr/share/doc/bowtie2/examples")
 STATUS_OF_PACKAGES = pathlib.Path("/var/lib/dpkg/status")
 
 
+def source_files():
+    """The files of Python's standard library, one after the other."""
+    for file in sorted(pathlib.Path(sysconfig.get_path("stdlib")).rglob("*.py")):
+        if "site-packages" not in file.parts:
+            yield file.read_bytes()
+
+
 def sources(size):
     """The sources of Python's standard library, one file after the other."""
     parts, have = [], 0
-    for file in sorted(pathlib.Path(sysconfig.get_path("stdlib")).rglob("*.py")):
+    for part in source_files():
         if have >= size:
             break
-        if "site-packages" not in file.parts:
-            parts.append(file.read_bytes())
-            have += len(parts[-1])
+        parts.append(part)
+        have += len(part)
     return b"".join(parts)[:size]
 
 
@@ -168,6 +174,16 @@ def make_texts(folder, quick, files):
         (folder / name).write_bytes(text)
         for script, lines in text_scripts(name, formula, len(text)).items():
             write_script(folder / f"{script}.script", lines)
+
+
+def files_script(folder, name, count):
+    """Files of Python's standard library, each loaded as a document of its own."""
+    (folder / name).mkdir(exist_ok=True)
+    lines = []
+    for place, text in enumerate(itertools.islice(source_files(), count)):
+        (folder / name / f"{place}").write_bytes(text)
+        lines.append(f"load d{place} {name}/{place}")
+    return lines
 
 
 # -------------------------------------------------------------------------------------------------------------- scripts
@@ -510,6 +526,7 @@ def make(folder, quick, huge, files):
     """Makes all inputs in a folder. A log that is there is kept, since it takes longest."""
     folder.mkdir(parents=True, exist_ok=True)
     make_texts(folder, quick, files)
+    write_script(folder / "files.script", files_script(folder, "files", 100 if quick else 1000))
     logs = {"log1m": MEGABYTE}
     if not quick:
         logs["log16m"] = 16 * MEGABYTE
