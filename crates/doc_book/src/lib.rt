@@ -11,8 +11,9 @@
 //!
 //! A document is a name and a root, so it takes memory for these alone and none for its text, which stands in the node
 //! store. It is a map of the crate `name_map`, which lists documents in the order in which they came and has the costs:
-//! `set` and `get` take expected constant time, `take_out` of the first document amortised constant time and of another,
-//! as `copy`, time linear in the number of documents.
+//! `set`, `get` and `take_out` take expected constant time, amortised, whichever documents come and go; `copy` takes
+//! linear time. `at` and `set_root` take constant time after `settle`, until the next `take_out`, and else up to linear
+//! time, so a caller that goes over all documents calls `settle` first.
 #![tactic(auto)]
 
 ghost use Rattle.std.specs.Prelude.{◌≡◌, ◌<◌, ◌≤◌, [], length, slice_get, ok_or, Some, None, IsSome, IfOk, OnOk, OnErr};
@@ -96,8 +97,8 @@ impl Docs {
         }
     }
 
-    /// Takes the document with this name out, and the rest close up. The first document takes amortised expected constant
-    /// time, and another time linear in the number of documents.
+    /// Takes the document with this name out, and the rest close up. Takes amortised expected constant time, whichever
+    /// document it is.
     ///
     /// # Errors
     ///
@@ -114,6 +115,14 @@ impl Docs {
         }
     }
 
+    /// Makes `at` and `set_root` take constant time until the next `take_out`, and changes no document and no place. Takes
+    /// no memory, and constant time where they do already, else expected time linear in the number of documents.
+    pub fn settle(&mut self)
+        ensures { self.new ≡ self.old }
+    {
+        self.by_name.settle();
+    }
+
     /// How many documents there are.
     pub fn count(&self) -> usize
         ensures count { result ≡ length self.now }
@@ -122,7 +131,8 @@ impl Docs {
         self.by_name.count()
     }
 
-    /// The name and the root of the document at this place. Places count from 0.
+    /// The name and the root of the document at this place. Places count from 0. Takes constant time after `settle`, and
+    /// else up to linear time.
     pub fn at(&self, place: usize) -> (&Name, Option<NodeId>)
         requires { place < length self.now }
         ensures { slice_get self.now place ≡ Some (record { name = result.0.now; root = result.1 }) }
@@ -131,7 +141,8 @@ impl Docs {
         (name, *root)
     }
 
-    /// Gives the document at this place another root. Takes no memory.
+    /// Gives the document at this place another root. Takes no memory, and constant time after `settle`, else up to
+    /// linear time.
     pub fn set_root(&mut self, place: usize, root: Option<NodeId>)
         requires { place < length self.old }
         ensures { self.new ≡ with_root self.old place root }
@@ -147,11 +158,8 @@ impl Docs {
     pub fn copy(&self, alloc: Global) -> Result<Docs, NoMemory>
         ensures { IfOk result (λ copy. copy ≡ self.now) }
     {
-        let mut copy = Docs::new(alloc);
-        for place in 0..self.count() {
-            let (name, root) = self.at(place);
-            copy.set(alloc, name.copy(alloc)?, root)?;
-        }
-        Ok(copy)
+        Ok(Docs {
+            by_name: self.by_name.copy(alloc)?,
+        })
     }
 }

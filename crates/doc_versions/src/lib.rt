@@ -9,10 +9,12 @@
 //! ```
 //!
 //! A version is a list of names and roots, so it takes memory linear in the number of documents and none for their
-//! texts: nodes never change, and each text is shared with the documents. `mark` and `back` copy that list, `unmark`
-//! is linear in the number of versions, and a look-up by name takes expected constant time. Texts that are shared
-//! like this are *persistent* data structures (Driscoll, Sarnak, Sleator and Tarjan, "Making data structures
-//! persistent", 1989), by copying of roots.
+//! texts: nodes never change, and each text is shared with the documents. `mark` and `back` copy that list in linear
+//! time. `unmark` and a look-up by name take expected constant time, amortised for `unmark`. `at` and `set_root` take
+//! constant time after `settle`, until the next `unmark`, and else up to linear time.
+//!
+//! Texts that are shared like this are *persistent* data structures (Driscoll, Sarnak, Sleator and Tarjan, "Making data
+//! structures persistent", 1989), by copying of roots.
 #![tactic(auto)]
 
 ghost use Rattle.std.specs.Prelude.{◌≡◌, ◌↔◌, ◌<◌, ℕ, List, [], false, length, slice_get, Some, None, IfOk, OnOk, OnErr, IsErrOf, ok_or};
@@ -108,7 +110,8 @@ impl Versions {
         }
     }
 
-    /// Takes the version with this name out, and the rest close up. Takes time linear in the number of versions.
+    /// Takes the version with this name out, and the rest close up. Takes amortised expected constant time, whichever
+    /// version it is.
     ///
     /// # Errors
     ///
@@ -124,6 +127,14 @@ impl Versions {
         }
     }
 
+    /// Makes `at` and `set_root` take constant time until the next `unmark`, and changes no version and no place. Takes no
+    /// memory, and constant time where they do already, else expected time linear in the number of versions.
+    pub fn settle(&mut self)
+        ensures { self.new ≡ self.old }
+    {
+        self.by_name.settle();
+    }
+
     /// How many versions there are.
     pub fn count(&self) -> usize
         ensures count { result ≡ length self.now }
@@ -132,7 +143,8 @@ impl Versions {
         self.by_name.count()
     }
 
-    /// The name and the documents of the version at this place. Places count from 0.
+    /// The name and the documents of the version at this place. Places count from 0. Takes constant time after `settle`,
+    /// and else up to linear time.
     pub fn at(&self, place: usize) -> (&Name, &Docs)
         requires { place < length self.now }
         ensures { slice_get self.now place ≡ Some (result.0.now, result.1.now) }
@@ -140,7 +152,8 @@ impl Versions {
         self.by_name.at(place)
     }
 
-    /// Gives the document at place `doc` of the version at this place another root. Takes no memory.
+    /// Gives the document at place `doc` of the version at this place another root. Takes no memory, and constant time
+    /// after `settle`, else up to linear time.
     pub fn set_root(&mut self, place: usize, doc: usize, root: Option<NodeId>)
         requires place { place < length self.old }
         requires doc { doc < length (docs_at self.old place) }

@@ -1,5 +1,8 @@
--- When a call on the outside may answer a fault or want of memory: only where the object's own count rose.
-use Rattle.std.specs.Prelude.{ℕ, ◌+◌, ◌-◌, ◌^◌, ◌≤◌, min, Result, OnErr, IsErrOf}
+-- How the counts of an object of the outside move in a call. A count never falls. A call returns a fault or allocation
+-- failure only where that count increased, and a call that returns anything else leaves every count unchanged.
+use Rattle.std.specs.Prelude.{◌≡◌, ℕ, ◌+◌, ◌-◌, ◌^◌, ◌≤◌, min, Result, OnOk, OnErr, IsErrOf}
+use Rattle.edge_io.specs.declared.PutRefusal.{PutRefusal}
+use Rattle.edge_io.specs.declared.PutRefusal.TheVariants as put
 use Rattle.edge_io.specs.declared.ShelfRefusal.{ShelfRefusal}
 use Rattle.edge_io.specs.declared.ShelfRefusal.TheVariants as shelf
 use Rattle.edge_io.specs.declared.WriteRefusal.{WriteRefusal}
@@ -13,10 +16,15 @@ one_more n = min (n + 1) (2 ^ 64 - 1)
 abbrev pub Rose : ℕ → ℕ → Type 0
 Rose before now = one_more before ≤ now
 
--- the count never falls, and an `Err` comes only where it rose
+-- the count of faults and that of allocation failures are unchanged
+abbrev pub Stand : ℕ → ℕ → ℕ → ℕ → Type 0
+Stand faults_before faults_now wants_before wants_now = (faults_now ≡ faults_before) × (wants_now ≡ wants_before)
+
+-- the count never falls, an `Err` comes only where it rose, and an `Ok` only where it is unchanged
 pub record HasCause {T E : Type 0} (before now : ℕ) (result : Result T E) : Type 0 where
   pub later : before ≤ now
   pub failed : OnErr result (Rose before now)
+  pub kept : OnOk result (now ≡ before)
 
 -- the same for the two refusals of a write, each with its own count
 pub record HasWriteCause {T : Type 0} (faults_before faults_now wants_before wants_now : ℕ) (result : Result T WriteRefusal) : Type 0 where
@@ -24,10 +32,23 @@ pub record HasWriteCause {T : Type 0} (faults_before faults_now wants_before wan
   pub wants_later : wants_before ≤ wants_now
   pub failed : IsErrOf result Failed → Rose faults_before faults_now
   pub wanted : IsErrOf result NoMemory → Rose wants_before wants_now
+  pub kept : OnOk result (Stand faults_before faults_now wants_before wants_now)
 
--- and of a shelf's read
+-- of a shelf's read, which also leaves the counts where it returns `Absent` or `Denied`
 pub record HasShelfCause {T : Type 0} (faults_before faults_now wants_before wants_now : ℕ) (result : Result T ShelfRefusal) : Type 0 where
   pub later : faults_before ≤ faults_now
   pub wants_later : wants_before ≤ wants_now
   pub failed : IsErrOf result shelf.Failed → Rose faults_before faults_now
   pub wanted : IsErrOf result shelf.NoMemory → Rose wants_before wants_now
+  pub kept : OnOk result (Stand faults_before faults_now wants_before wants_now)
+  pub kept_absent : IsErrOf result shelf.Absent → Stand faults_before faults_now wants_before wants_now
+  pub kept_denied : IsErrOf result shelf.Denied → Stand faults_before faults_now wants_before wants_now
+
+-- and of a shelf's put, which also leaves the counts where it returns `Denied`
+pub record HasPutCause {T : Type 0} (faults_before faults_now wants_before wants_now : ℕ) (result : Result T PutRefusal) : Type 0 where
+  pub later : faults_before ≤ faults_now
+  pub wants_later : wants_before ≤ wants_now
+  pub failed : IsErrOf result put.Failed → Rose faults_before faults_now
+  pub wanted : IsErrOf result put.NoMemory → Rose wants_before wants_now
+  pub kept : OnOk result (Stand faults_before faults_now wants_before wants_now)
+  pub kept_denied : IsErrOf result put.Denied → Stand faults_before faults_now wants_before wants_now

@@ -1,5 +1,5 @@
 -- What the objects in memory show.
-use Rattle.std.specs.Prelude.{ℕ, List}
+use Rattle.std.specs.Prelude.{ℕ, List, Option}
 use Rattle.edge_io.specs.Files.{Files}
 use Rattle.edge_io.specs.Injection.{Injection}
 
@@ -16,9 +16,10 @@ pub record MemOutput : Type 0 where
   pub injection : Injection
   pub wants : ℕ
 
--- a shelf: its files, how many bytes a read gives at most, its faults, and how often it found no memory
+-- a shelf: its files, what was begun, how many bytes a read gives at most, its faults, and how often it found no memory
 pub record MemFiles : Type 0 where
   pub files : Files
+  pub begun : Option (List ℕ × List ℕ)
   pub piece : ℕ
   pub injection : Injection
   pub wants : ℕ
@@ -31,4 +32,5 @@ pub record SureOutput : Type 0 where
 -- a shelf that never fails
 pub record SureFiles : Type 0 where
   pub files : Files
+  pub begun : Option (List ℕ × List ℕ)
   pub wants : ℕ

@@ -1,5 +1,6 @@
 -- What the adapters over std show.
-use Rattle.std.specs.Prelude.{ℕ, List, Option}
+use Rattle.std.specs.Prelude.{ℕ, Bool, List, Option, Some, None, if◌then◌else◌}
+use Rattle.edge_io.specs.Files.{Files}
 
 -- a source over a reader: the bytes that are left, where the reader tells them, and how often it failed
 pub record ReaderInput : Type 0 where
@@ -11,7 +12,16 @@ pub record WriterOutput : Type 0 where
   pub written : Option (List ℕ)
   pub faults : ℕ
 
--- a shelf over a folder: how often it failed, and how often it found no memory
-pub record FolderCounts : Type 0 where
+-- a shelf over a folder: whether a put was begun, how often it failed, and how often it found no memory
+pub record FolderState : Type 0 where
+  pub begun : Bool
   pub faults : ℕ
   pub wants : ℕ
+
+-- the files of a folder, which no contract knows
+abbrev pub untold : Option Files
+untold = None
+
+-- a put that was begun in a folder, of which no contract knows more
+abbrev pub untold_put : Bool → Option (Option (List ℕ × List ℕ))
+untold_put begun = if begun then Some None else None

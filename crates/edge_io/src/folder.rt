@@ -1,70 +1,144 @@
 // The trusted edge: files named from the current folder.
-ghost use Rattle.std.specs.Prelude.{◌≡◌, ◌<◌, length, take, None, IfErr, IfOk, IfSome, IsErrOf, OnOk};
+ghost use Rattle.std.specs.Prelude.{◌≡◌, ◌≢◌, ◌<◌, ◌++◌, [], List, ℕ, Some, None, false, true, length, take, IfOk, IfSome, IsErrOf, OnErr, OnOk};
 ghost use Rattle.std.specs.Io.{ReadsAtMost};
-ghost use Rattle.edge_io.specs.Causes.{HasWriteCause, HasShelfCause, one_more};
-ghost use Rattle.edge_io.specs.Files.{HasPiece, Holds, file_of};
+ghost use Rattle.edge_io.specs.Causes.{HasPutCause, HasShelfCause, one_more};
+ghost use Rattle.edge_io.specs.Files.{AllowsReads, AllowsWrites, HasPiece, Holds, IsBegun, IsPutTo};
+ghost use Rattle.edge_io.specs.Outside.{untold, untold_put};
 
-use crate::{Shelf, ShelfRefusal, WriteRefusal};
-use std::io::{ErrorKind, Read, Seek, SeekFrom};
+use crate::opened::{Opened, read_file};
+use crate::replacement::{Replacement, begin};
+use crate::{PutRefusal, Shelf, ShelfRefusal};
+use std::io::ErrorKind;
 use std::marker::Model;
 use std::rt::Files;
-use std::{fs, io, str};
 
 /// A shelf over files named from the current folder. It tells nothing of their content. A name with `/` is a path.
 ///
-/// - A read is `Absent` where the system knows no file of this name, or a part of the path is a plain file. It takes a
-///   system call to open the file, one to seek and one to read.
-/// - A put makes or empties the file first and then writes the bytes to it, without asking the system to bring them to
-///   the disk. So a put that fails leaves the file as it was where it couldn't be opened, and else with some front of
-///   the bytes, perhaps none; a reader in between may see such a front. Who needs the old bytes puts under a new name.
-/// - A want of memory is what the system tells as one. All else is a fault: a name that isn't text or names a folder, a
-///   missing right, a full disk, a put below a folder that isn't there, a read that a signal interrupted.
+/// # Reads
+///
+/// A read at the offset where the last read of the same name ended goes on in the file that was opened then: one system
+/// call. Every other read opens the file: it asks for its kind, opens it, seeks and reads. The file stays open until
+/// the next read of another place, the next put or the end of the shelf.
+///
+/// - `Absent`: the system knows no file of this name, or a part of the path is a plain file.
+/// - `Denied`: the name is a folder, a pipe or a socket, has no end that can be sought, runs in a circle of links, or
+///   isn't UTF-8; or a right is missing.
+///
+/// # Puts
+///
+/// A put writes the bytes to a new file in the same folder, brings it to the disk, and renames it over the old file. So
+/// whoever opens the file, also after a power failure, finds the old bytes or the new ones whole. The new file is named
+/// `new file N`, has the old one's owner, group and rights as far as the system lets it, and is removed where the put
+/// fails. A process that is killed in a put leaves it behind. Other names of the old file by hard links keep the old
+/// bytes, and its access control lists aren't copied.
+///
+/// - A link is followed, and stays. Where it names no file, that file is made.
+/// - A device, a pipe and whatever lies below /dev or /proc is written to as it is, piece by piece. So a put to it that
+///   fails may have written some of the bytes.
+/// - `Denied`: the name is a folder or a socket, its folder isn't there or isn't one, the name can't be a file's, a right
+///   is missing, or the file system can't be written to. The right to write to the old file is asked for, and so is that
+///   to make files in its folder.
+///
+/// # Failures
+///
+/// `NoMemory` is what the system tells as such. All else is a fault: a failing device, a full disk, too many open files,
+/// and a call that signals interrupted 1,001 times in a row. Three calls are repeated by std without such a limit: the
+/// open of a file, the change of its rights, and its transfer to the disk.
 #[derive(Drop)]
-pub struct DirShelf<'a, R> {
+pub struct DirShelf<'a, R: Files + AllocGlobal> {
     rt: &'a R,
+    opened: Option<Opened<R>>,
+    begun: Option<Replacement<'a, R>>,
     faults: u64,
     wants: u64,
 }
 
-impl<'a, R> Model for DirShelf<'a, R> {
-    ghost use Rattle.edge_io.specs.Outside.{FolderCounts};
+impl<'a, R: Files + AllocGlobal> Model for DirShelf<'a, R> {
+    ghost use Rattle.std.specs.Prelude.{is_some};
+    ghost use Rattle.edge_io.specs.Outside.{FolderState};
 
-    ghost Value = { FolderCounts };
+    ghost Value = { FolderState };
 
-    ghost view = { λ s. record { faults = s.faults; wants = s.wants } };
+    ghost view = { λ s. record { begun = is_some s.begun; faults = s.faults; wants = s.wants } };
 }
 
 impl<'a, R: Files + AllocGlobal> DirShelf<'a, R> {
     /// The shelf of the current folder, which hasn't failed yet.
     pub fn new(rt: &'a R) -> DirShelf<'a, R>
-        ensures { result ≡ record { faults = 0; wants = 0 } }
+        ensures { result ≡ record { begun = false; faults = 0; wants = 0 } }
     {
         DirShelf {
             rt,
+            opened: None,
+            begun: None,
             faults: 0,
             wants: 0,
         }
     }
 }
 
-fn text_of(name: &[u8]) -> io::Result<&str> {
-    str::from_utf8(name).map_err(|_| io::Error::from(ErrorKind::InvalidInput))
+/// The refusal of a read.
+fn refusal_of(kind: ErrorKind) -> ShelfRefusal {
+    match kind {
+        // A path below a plain file names no file either, and nor does a name that no file can have.
+        ErrorKind::NotFound
+        | ErrorKind::NotADirectory
+        | ErrorKind::InvalidFilename
+        | ErrorKind::InvalidInput => ShelfRefusal::Absent,
+        ErrorKind::PermissionDenied
+        | ErrorKind::IsADirectory
+        | ErrorKind::NotSeekable
+        | ErrorKind::FilesystemLoop => ShelfRefusal::Denied,
+        ErrorKind::OutOfMemory => ShelfRefusal::NoMemory,
+        _ => ShelfRefusal::Failed,
+    }
 }
 
-fn read_file<R: Files>(rt: &R, name: &[u8], from: u64, into: &mut [u8]) -> io::Result<usize>
-    ensures { ReadsAtMost result into.new }
+/// Counts a refused read, and returns it.
+fn refused(why: ShelfRefusal, faults: &mut u64, wants: &mut u64) -> Result<usize, ShelfRefusal>
+    ensures same { result ≡ Err why }
+    ensures cause { HasShelfCause faults.old faults.new wants.old wants.new result }
+    ensures failed { why ≡ ShelfRefusal.Failed → (faults.new ≡ one_more faults.old) × (wants.new ≡ wants.old) }
+    ensures want { why ≡ ShelfRefusal.NoMemory → (faults.new ≡ faults.old) × (wants.new ≡ one_more wants.old) }
 {
-    let mut file = fs::open(rt, text_of(name)?)?;
-    file.seek(SeekFrom::Start(from))?;
-    file.read(into)
+    match why {
+        ShelfRefusal::Failed => *faults = faults.saturating_add(1),
+        ShelfRefusal::NoMemory => *wants = wants.saturating_add(1),
+        ShelfRefusal::Absent | ShelfRefusal::Denied => {}
+    }
+    Err(why)
 }
 
-fn write_file<R: Files>(rt: &R, name: &[u8], bytes: &[u8]) -> io::Result<()> {
-    fs::write(rt, text_of(name)?, bytes)
+/// Counts what a put came to, and returns it.
+fn counted(
+    done: Result<(), PutRefusal>,
+    faults: &mut u64,
+    wants: &mut u64,
+) -> Result<(), PutRefusal>
+    ensures same { result ≡ done }
+    ensures cause { HasPutCause faults.old faults.new wants.old wants.new result }
+    ensures failed { IsErrOf done PutRefusal.Failed → (faults.new ≡ one_more faults.old) × (wants.new ≡ wants.old) }
+    ensures want { IsErrOf done PutRefusal.NoMemory → (faults.new ≡ faults.old) × (wants.new ≡ one_more wants.old) }
+{
+    match done {
+        Err(PutRefusal::Failed) => *faults = faults.saturating_add(1),
+        Err(PutRefusal::NoMemory) => *wants = wants.saturating_add(1),
+        Err(PutRefusal::Denied) | Ok(()) => {}
+    }
+    done
+}
+
+/// Puts a file whole.
+fn put_whole<R: Files + AllocGlobal>(rt: &R, name: &[u8], bytes: &[u8]) -> Result<(), PutRefusal> {
+    let mut new = begin(rt, name)?;
+    new.append(bytes)?;
+    new.end()
 }
 
 impl<'a, R: Files + AllocGlobal> Shelf for DirShelf<'a, R> {
-    ghost files = { λ _. None };
+    ghost files = { λ _. untold };
+
+    ghost begun = { λ s. untold_put s.begun };
 
     ghost faults = { λ s. s.faults };
 
@@ -74,47 +148,63 @@ impl<'a, R: Files + AllocGlobal> Shelf for DirShelf<'a, R> {
         requires { 0 < length into.old }
         ensures bound { ReadsAtMost result into.new }
         ensures bytes { IfOk result (λ n. IfSome None (λ all. HasPiece all name.now from (take n into.new))) }
-        ensures untold { IfErr result (λ why. why ≡ ShelfRefusal.Absent → IfSome None (λ all. file_of all name.now ≡ None)) }
+        ensures allowed { OnOk result (AllowsReads None name.now) }
         ensures cause { HasShelfCause self.old.faults self.new.faults self.old.wants self.new.wants result }
-        ensures kept { OnOk result (self.new ≡ self.old) }
-        ensures absent { IsErrOf result ShelfRefusal.Absent → self.new ≡ self.old }
+        ensures begun { self.new.begun ≡ self.old.begun }
         ensures failed { IsErrOf result ShelfRefusal.Failed → self.new ≡ record self.old { faults = one_more self.old.faults } }
         ensures want { IsErrOf result ShelfRefusal.NoMemory → self.new ≡ record self.old { wants = one_more self.old.wants } }
     {
-        let error = match read_file(self.rt, name, from, into) {
+        let why = match read_file(self.rt, &mut self.opened, name, from, into) {
             Ok(count) => return Ok(count),
-            Err(error) => error,
+            Err(error) => refusal_of(error.kind()),
         };
-        match error.kind() {
-            // A path below a plain file names no file either.
-            ErrorKind::NotFound | ErrorKind::NotADirectory => Err(ShelfRefusal::Absent),
-            ErrorKind::OutOfMemory => {
-                self.wants = self.wants.saturating_add(1);
-                Err(ShelfRefusal::NoMemory)
-            }
-            _ => {
-                self.faults = self.faults.saturating_add(1);
-                Err(ShelfRefusal::Failed)
-            }
-        }
+        refused(why, &mut self.faults, &mut self.wants)
     }
 
-    fn put(&mut self, name: &[u8], bytes: &[u8]) -> Result<(), WriteRefusal>
+    fn put(&mut self, name: &[u8], bytes: &[u8]) -> Result<(), PutRefusal>
         ensures done { OnOk result (Holds None name.now bytes.now) }
-        ensures cause { HasWriteCause self.old.faults self.new.faults self.old.wants self.new.wants result }
-        ensures kept { OnOk result (self.new ≡ self.old) }
-        ensures failed { IsErrOf result WriteRefusal.Failed → self.new ≡ record self.old { faults = one_more self.old.faults } }
-        ensures want { IsErrOf result WriteRefusal.NoMemory → self.new ≡ record self.old { wants = one_more self.old.wants } }
+        ensures allowed { OnOk result (AllowsWrites None name.now) }
+        ensures refused { OnErr result (untold ≡ untold) }
+        ensures given_up { self.new.begun ≡ false }
+        ensures cause { HasPutCause self.old.faults self.new.faults self.old.wants self.new.wants result }
+        ensures failed { IsErrOf result PutRefusal.Failed → self.new ≡ record { begun = false; faults = one_more self.old.faults; wants = self.old.wants } }
+        ensures want { IsErrOf result PutRefusal.NoMemory → self.new ≡ record { begun = false; faults = self.old.faults; wants = one_more self.old.wants } }
     {
-        let error = match write_file(self.rt, name, bytes) {
-            Ok(()) => return Ok(()),
-            Err(error) => error,
+        self.opened = None;
+        self.begun = None;
+        let done = put_whole(self.rt, name, bytes);
+        counted(done, &mut self.faults, &mut self.wants)
+    }
+
+    fn begin(&mut self, name: &[u8]) -> Result<(), PutRefusal> {
+        self.opened = None;
+        self.begun = None;
+        let done = match begin(self.rt, name) {
+            Ok(new) => {
+                self.begun = Some(new);
+                Ok(())
+            }
+            Err(why) => Err(why),
         };
-        if error.kind() == ErrorKind::OutOfMemory {
-            self.wants = self.wants.saturating_add(1);
-            return Err(WriteRefusal::NoMemory);
+        counted(done, &mut self.faults, &mut self.wants)
+    }
+
+    fn append(&mut self, bytes: &[u8]) -> Result<(), PutRefusal> {
+        let Some(mut new) = self.begun.take() else {
+            return Ok(());
+        };
+        let done = new.append(bytes);
+        if done.is_ok() {
+            self.begun = Some(new);
         }
-        self.faults = self.faults.saturating_add(1);
-        Err(WriteRefusal::Failed)
+        counted(done, &mut self.faults, &mut self.wants)
+    }
+
+    fn end(&mut self) -> Result<(), PutRefusal> {
+        let Some(new) = self.begun.take() else {
+            return Ok(());
+        };
+        let done = new.end();
+        counted(done, &mut self.faults, &mut self.wants)
     }
 }

@@ -1,25 +1,30 @@
 // Files in memory.
-ghost use Rattle.std.specs.Prelude.{◌≡◌, ◌≤◌, ◌<◌, Some, None, length, take, drop, option_map, position, IfSome, MatchOption, OnOk, OnErr};
+ghost use Rattle.std.specs.Prelude.{◌≡◌, ◌≢◌, ◌≤◌, ◌<◌, ◌⊎◌, ◌++◌, ◌∷◌, [], Some, None, length, take, drop, option_map, position, IfErr, IfOk, IsErrOf, OnErr, OnOk};
+ghost use Rattle.std.specs.List.{list_any};
 ghost use Rattle.std.specs.Str.{bytes_eq};
-ghost use Rattle.edge_io.specs.Files.{HasPiece, KeepsOthers, file_of, put_file};
+ghost use Rattle.edge_io.specs.Files.{AllowsReads, AllowsWrites, DeniesReads, DeniesWrites, HasPiece, KeepsOthers, LacksFile, close_file, file_of, open_files, put_entry, put_file, writes_closed};
+ghost use Rattle.edge_io.specs.Told.{told, told_names};
 
 use crate::front::copy_front;
-use std::alloc::AllocError;
+use crate::{PutRefusal, ShelfRefusal};
+use std::alloc::{AllocError, Global};
 use std::marker::Model;
 
-/// Files by name. Where a name stands twice its first entry counts.
+/// Files by name, and the names that are closed. Where a name stands twice its first entry counts.
 #[derive(Drop)]
 pub struct KeptFiles {
     files: Vec<(Vec<u8>, Vec<u8>)>,
+    no_reads: Vec<Vec<u8>>,
+    no_writes: Vec<Vec<u8>>,
 }
 
 impl Model for KeptFiles {
     ghost use Rattle.edge_io.specs.Files.{Files};
-    ghost use Rattle.edge_io.specs.Told.{told};
+    ghost use Rattle.edge_io.specs.Told.{told, told_names};
 
     ghost Value = { Files };
 
-    ghost view = { λ k. told k.files.items };
+    ghost view = { λ k. record { entries = told k.files.items; no_reads = told_names k.no_reads.items; no_writes = told_names k.no_writes.items } };
 }
 
 fn bytes_from(bytes: &[u8], from: u64) -> &[u8]
@@ -39,14 +44,57 @@ fn place_of(files: &[(Vec<u8>, Vec<u8>)], name: &[u8]) -> Option<usize>
     files.iter().position(|file| file.0.as_slice() == name)
 }
 
-impl KeptFiles {
-    ghost use Rattle.edge_io.specs.Told.{told};
+fn is_listed(names: &[Vec<u8>], name: &[u8]) -> bool
+    ensures { result ≡ list_any (λ other. bytes_eq other.items name.now) names.now }
+{
+    names.iter().any(|other| other.as_slice() == name)
+}
 
-    /// These names and bytes.
+/// Gives the entry of this name these bytes. A new name goes last.
+fn put_bytes(
+    files: &mut Vec<(Vec<u8>, Vec<u8>)>,
+    name: &[u8],
+    bytes: &[u8],
+) -> Result<(), AllocError>
+    ensures whole { OnOk result (told files.new.items ≡ put_entry (told files.old.items) name.now bytes.now) }
+    ensures refused { OnErr result (told files.new.items ≡ told files.old.items) }
+{
+    let place = place_of(files, name);
+    let alloc = *files.allocator();
+    let bytes = Vec::from_slice(alloc, bytes)?;
+    match place {
+        Some(place) => files[place].1 = bytes,
+        None => {
+            let name = Vec::from_slice(alloc, name)?;
+            files.push((name, bytes))?;
+        }
+    }
+    Ok(())
+}
+
+impl KeptFiles {
+    /// These names and bytes, none of them closed.
     pub fn new(files: Vec<(Vec<u8>, Vec<u8>)>) -> KeptFiles
-        ensures { result ≡ told files.items }
+        ensures { result ≡ open_files (told files.items) }
     {
-        KeptFiles { files }
+        let alloc = *files.allocator();
+        KeptFiles {
+            files,
+            no_reads: Vec::new(alloc),
+            no_writes: Vec::new(alloc),
+        }
+    }
+
+    /// The allocator of the files.
+    pub fn alloc(&self) -> Global {
+        *self.files.allocator()
+    }
+
+    /// Whether a name is closed for writing.
+    pub fn denies_writes(&self, name: &[u8]) -> bool
+        ensures { result ≡ writes_closed self.now name.now }
+    {
+        is_listed(&self.no_writes, name)
     }
 
     /// The bytes of the file with this name.
@@ -59,35 +107,68 @@ impl KeptFiles {
         }
     }
 
-    /// Copies at most `most` bytes of a file from an offset to the front of `into`, and answers how many.
-    pub fn read_at(&self, name: &[u8], from: u64, most: usize, into: &mut [u8]) -> Option<usize>
+    /// Copies at most `most` bytes of a file from an offset to the front of `into`, and returns how many.
+    pub fn read_at(
+        &self,
+        name: &[u8],
+        from: u64,
+        most: usize,
+        into: &mut [u8],
+    ) -> Result<usize, ShelfRefusal>
         requires room { 0 < length into.old }
         requires some { 0 < most }
-        ensures bound { IfSome result (λ n. n ≤ length into.new) }
-        ensures most { IfSome result (λ n. n ≤ most) }
-        ensures bytes { MatchOption result (file_of self.now name.now ≡ None) (λ n. HasPiece self.now name.now from (take n into.new)) }
+        ensures bound { IfOk result (λ n. n ≤ length into.new) }
+        ensures most { IfOk result (λ n. n ≤ most) }
+        ensures bytes { IfOk result (λ n. HasPiece self.now name.now from (take n into.new)) }
+        ensures allowed { OnOk result (AllowsReads (Some self.now) name.now) }
+        ensures absent { IsErrOf result ShelfRefusal.Absent → LacksFile (Some self.now) name.now }
+        ensures denied { IsErrOf result ShelfRefusal.Denied → DeniesReads (Some self.now) name.now }
+        ensures others { IfErr result (λ why. (why ≡ ShelfRefusal.Absent) ⊎ (why ≡ ShelfRefusal.Denied)) }
     {
-        let bytes = self.file(name)?;
+        let Some(bytes) = self.file(name) else {
+            return Err(ShelfRefusal::Absent);
+        };
+        if is_listed(&self.no_reads, name) {
+            return Err(ShelfRefusal::Denied);
+        }
         let rest = bytes_from(bytes, from);
-        Some(copy_front(&rest[..rest.len().min(most)], into))
+        Ok(copy_front(&rest[..rest.len().min(most)], into))
     }
 
     /// Gives a file these bytes. A new name goes last.
-    pub fn put(&mut self, name: &[u8], bytes: &[u8]) -> Result<(), AllocError>
+    pub fn put(&mut self, name: &[u8], bytes: &[u8]) -> Result<(), PutRefusal>
         ensures done { OnOk result (file_of self.new name.now ≡ Some bytes.now) }
         ensures others { KeepsOthers (Some self.old) (Some self.new) name.now }
         ensures whole { OnOk result (self.new ≡ put_file self.old name.now bytes.now) }
+        ensures allowed { OnOk result (AllowsWrites (Some self.old) name.now) }
+        ensures denied { IsErrOf result PutRefusal.Denied → DeniesWrites (Some self.old) name.now }
+        ensures refused { OnErr result (self.new ≡ self.old) }
+        ensures no_fault { result ≢ Err PutRefusal.Failed }
+    {
+        if is_listed(&self.no_writes, name) {
+            return Err(PutRefusal::Denied);
+        }
+        match put_bytes(&mut self.files, name, bytes) {
+            Ok(()) => Ok(()),
+            Err(_) => Err(PutRefusal::NoMemory),
+        }
+    }
+
+    /// Closes a name for reading, for writing, or both.
+    pub fn close(&mut self, name: &[u8], reads: bool, writes: bool) -> Result<(), AllocError>
+        ensures closed { OnOk result (self.new ≡ close_file self.old name.now reads writes) }
         ensures refused { OnErr result (self.new ≡ self.old) }
     {
-        let place = place_of(&self.files, name);
         let alloc = *self.files.allocator();
-        let bytes = Vec::from_slice(alloc, bytes)?;
-        match place {
-            Some(place) => self.files[place].1 = bytes,
-            None => {
-                let name = Vec::from_slice(alloc, name)?;
-                self.files.push((name, bytes))?;
-            }
+        let unread = Vec::from_slice(alloc, name)?;
+        let unwritten = Vec::from_slice(alloc, name)?;
+        self.no_reads.reserve(1)?;
+        self.no_writes.reserve(1)?;
+        if reads {
+            self.no_reads.push(unread).unwrap();
+        }
+        if writes {
+            self.no_writes.push(unwritten).unwrap();
         }
         Ok(())
     }

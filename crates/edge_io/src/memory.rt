@@ -1,17 +1,18 @@
 // A source, a sink and a shelf in memory that move at most `piece` bytes a call, and fail at stated calls.
-ghost use Rattle.std.specs.Prelude.{◌≡◌, ◌≤◌, ◌<◌, ◌↔◌, ◌≢◌, [], Some, None, length, take, option_map, IsTrue, IsErr, IsErrOf, IfOk, IfErr, OnOk, OnErr};
+ghost use Rattle.std.specs.Prelude.{◌≡◌, ◌≤◌, ◌<◌, ◌↔◌, ◌≢◌, ◌++◌, [], Some, None, length, take, option_map, IsTrue, IsErr, IsErrOf, IsOk, IsSome, IfOk, IfSome, OnOk, OnErr};
 ghost use Rattle.std.specs.Io.{ReadsAtMost};
-ghost use Rattle.std.specs.Io.KnownBytes.{ReadConsumes, WriteAppends};
-ghost use Rattle.edge_io.specs.Causes.{HasCause, HasWriteCause, HasShelfCause, one_more};
-ghost use Rattle.edge_io.specs.Files.{HasPiece, KeepsOthers, file_of, put_file};
+ghost use Rattle.std.specs.Io.KnownBytes.{Keeps, ReadConsumes, WriteAppends};
+ghost use Rattle.edge_io.specs.Causes.{HasCause, HasPutCause, HasShelfCause, HasWriteCause, one_more};
+ghost use Rattle.edge_io.specs.Files.{AllowsReads, AllowsWrites, DeniesReads, DeniesWrites, HasPiece, IsPutTo, KeepsOthers, LacksFile, close_file, file_of, open_files, put_file};
 ghost use Rattle.edge_io.specs.Injection.{fresh, fails_next, after_call};
 ghost use Rattle.edge_io.specs.Told.{told};
 
+use crate::begun::Begun;
 use crate::front::copy_front;
 use crate::injection::FaultPlan;
 use crate::kept::KeptFiles;
-use crate::{Failed, Shelf, ShelfRefusal, Sink, Source, WriteRefusal};
-use std::alloc::Global;
+use crate::{Failed, PutRefusal, Shelf, ShelfRefusal, Sink, Source, WriteRefusal};
+use std::alloc::{AllocError, Global};
 use std::marker::Model;
 
 /// A source over bytes in memory. It tells the bytes that are left.
@@ -119,6 +120,8 @@ impl MemSink {
 impl Sink for MemSink {
     ghost written = { λ s. Some s.written };
 
+    ghost kept = { λ _. 0 };
+
     ghost faults = { λ s. s.injection.faults };
 
     ghost wants = { λ s. s.wants };
@@ -147,12 +150,22 @@ impl Sink for MemSink {
         }
         Ok(count)
     }
+
+    fn flush(&mut self) -> Result<(), WriteRefusal>
+        ensures sure { IsOk result }
+        ensures same { self.new ≡ self.old }
+        ensures bytes { Keeps (Some self.old.written) (Some self.new.written) }
+        ensures cause { HasWriteCause self.old.injection.faults self.new.injection.faults self.old.wants self.new.wants result }
+    {
+        Ok(())
+    }
 }
 
 /// A shelf in memory. It tells its files. Where a name is given twice at first, its first entry counts.
 #[derive(Drop)]
 pub struct MemShelf {
     files: KeptFiles,
+    begun: Begun,
     piece: usize,
     plan: FaultPlan,
     wants: u64,
@@ -164,7 +177,7 @@ impl Model for MemShelf {
 
     ghost Value = { MemFiles };
 
-    ghost view = { λ s. record { files = s.files; piece = s.piece; injection = s.plan; wants = s.wants } };
+    ghost view = { λ s. record { files = s.files; begun = s.begun; piece = s.piece; injection = s.plan; wants = s.wants } };
 
     ghost invariant = { λ s. 0 < s.piece };
 }
@@ -174,14 +187,28 @@ impl MemShelf {
     /// reads and puts together.
     pub fn new(files: Vec<(Vec<u8>, Vec<u8>)>, piece: usize, failing: Vec<u64>) -> MemShelf
         requires { 0 < piece }
-        ensures { result ≡ record { files = told files.items; piece = piece; injection = fresh failing.items; wants = 0 } }
+        ensures { result ≡ record { files = open_files (told files.items); begun = None; piece = piece; injection = fresh failing.items; wants = 0 } }
     {
         MemShelf {
             files: KeptFiles::new(files),
+            begun: Begun::none(),
             piece,
             plan: FaultPlan::new(failing),
             wants: 0,
         }
+    }
+
+    /// Closes a name for reading, for writing, or both: such calls return `Denied`. A read still returns `Absent` where no
+    /// file has the name.
+    ///
+    /// # Errors
+    ///
+    /// Allocation failure: nothing has changed.
+    pub fn close(&mut self, name: &[u8], reads: bool, writes: bool) -> Result<(), AllocError>
+        ensures closed { OnOk result (self.new ≡ record self.old { files = close_file self.old.files name.now reads writes }) }
+        ensures refused { OnErr result (self.new ≡ self.old) }
+    {
+        self.files.close(name, reads, writes)
     }
 
     /// The bytes of the file with this name.
@@ -195,6 +222,8 @@ impl MemShelf {
 impl Shelf for MemShelf {
     ghost files = { λ s. Some s.files };
 
+    ghost begun = { λ s. option_map (λ put. Some put) s.begun };
+
     ghost faults = { λ s. s.injection.faults };
 
     ghost wants = { λ s. s.wants };
@@ -203,44 +232,117 @@ impl Shelf for MemShelf {
         requires { 0 < length into.old }
         ensures bound { ReadsAtMost result into.new }
         ensures kept { self.new.files ≡ self.old.files }
+        ensures same_begun { option_map (λ put. Some put) self.new.begun ≡ option_map (λ put. Some put) self.old.begun }
         ensures bytes { IfOk result (λ n. HasPiece self.old.files name.now from (take n into.new)) }
-        ensures absent { IfErr result (λ why. why ≡ ShelfRefusal.Absent → file_of self.old.files name.now ≡ None) }
+        ensures allowed { OnOk result (AllowsReads (Some self.old.files) name.now) }
+        ensures absent { IsErrOf result ShelfRefusal.Absent → LacksFile (Some self.old.files) name.now }
+        ensures denied { IsErrOf result ShelfRefusal.Denied → DeniesReads (Some self.old.files) name.now }
         ensures cause { HasShelfCause self.old.injection.faults self.new.injection.faults self.old.wants self.new.wants result }
         ensures piece { IfOk result (λ n. n ≤ self.old.piece) }
         ensures failing { IsErrOf result ShelfRefusal.Failed ↔ IsTrue (fails_next self.old.injection) }
         ensures injection { self.new.injection ≡ after_call self.old.injection }
         ensures no_want { result ≢ Err ShelfRefusal.NoMemory }
-        ensures same { (self.new.piece ≡ self.old.piece) × (self.new.wants ≡ self.old.wants) }
+        ensures same { (self.new.piece ≡ self.old.piece) × (self.new.wants ≡ self.old.wants) × (self.new.begun ≡ self.old.begun) }
     {
         if self.plan.next_fails() {
             return Err(ShelfRefusal::Failed);
         }
-        match self.files.read_at(name, from, self.piece, into) {
-            Some(count) => Ok(count),
-            None => Err(ShelfRefusal::Absent),
-        }
+        self.files.read_at(name, from, self.piece, into)
     }
 
-    fn put(&mut self, name: &[u8], bytes: &[u8]) -> Result<(), WriteRefusal>
+    fn put(&mut self, name: &[u8], bytes: &[u8]) -> Result<(), PutRefusal>
         ensures done { OnOk result (file_of self.new.files name.now ≡ Some bytes.now) }
         ensures others { KeepsOthers (Some self.old.files) (Some self.new.files) name.now }
         ensures whole { OnOk result (self.new.files ≡ put_file self.old.files name.now bytes.now) }
+        ensures allowed { OnOk result (AllowsWrites (Some self.old.files) name.now) }
+        ensures denied { IsErrOf result PutRefusal.Denied → DeniesWrites (Some self.old.files) name.now }
         ensures refused { OnErr result (self.new.files ≡ self.old.files) }
-        ensures cause { HasWriteCause self.old.injection.faults self.new.injection.faults self.old.wants self.new.wants result }
-        ensures failing { IsErrOf result WriteRefusal.Failed ↔ IsTrue (fails_next self.old.injection) }
+        ensures given_up { self.new.begun ≡ None }
+        ensures cause { HasPutCause self.old.injection.faults self.new.injection.faults self.old.wants self.new.wants result }
+        ensures failing { IsErrOf result PutRefusal.Failed ↔ IsTrue (fails_next self.old.injection) }
         ensures injection { self.new.injection ≡ after_call self.old.injection }
-        ensures wants { OnOk result (self.new.wants ≡ self.old.wants) }
-        ensures want { IsErrOf result WriteRefusal.NoMemory → self.new.wants ≡ one_more self.old.wants }
-        ensures no_want { IsErrOf result WriteRefusal.Failed → self.new.wants ≡ self.old.wants }
+        ensures want { IsErrOf result PutRefusal.NoMemory → self.new.wants ≡ one_more self.old.wants }
+        ensures no_want { result ≢ Err PutRefusal.NoMemory → self.new.wants ≡ self.old.wants }
+        ensures same { self.new.piece ≡ self.old.piece }
+    {
+        self.begun = Begun::none();
+        if self.plan.next_fails() {
+            return Err(PutRefusal::Failed);
+        }
+        let done = self.files.put(name, bytes);
+        if done == Err(PutRefusal::NoMemory) {
+            self.wants = self.wants.saturating_add(1);
+        }
+        done
+    }
+
+    fn begin(&mut self, name: &[u8]) -> Result<(), PutRefusal>
+        ensures kept { self.new.files ≡ self.old.files }
+        ensures begun { OnOk result (self.new.begun ≡ Some (name.now, [])) }
+        ensures allowed { OnOk result (AllowsWrites (Some self.old.files) name.now) }
+        ensures denied { IsErrOf result PutRefusal.Denied → DeniesWrites (Some self.old.files) name.now }
+        ensures given_up { OnErr result (self.new.begun ≡ None) }
+        ensures cause { HasPutCause self.old.injection.faults self.new.injection.faults self.old.wants self.new.wants result }
+        ensures failing { IsErrOf result PutRefusal.Failed ↔ IsTrue (fails_next self.old.injection) }
+        ensures injection { self.new.injection ≡ after_call self.old.injection }
+        ensures want { IsErrOf result PutRefusal.NoMemory → self.new.wants ≡ one_more self.old.wants }
+        ensures no_want { result ≢ Err PutRefusal.NoMemory → self.new.wants ≡ self.old.wants }
+        ensures same { self.new.piece ≡ self.old.piece }
+    {
+        self.begun = Begun::none();
+        if self.plan.next_fails() {
+            return Err(PutRefusal::Failed);
+        }
+        if self.files.denies_writes(name) {
+            return Err(PutRefusal::Denied);
+        }
+        if self.begun.begin(self.files.alloc(), name).is_err() {
+            self.wants = self.wants.saturating_add(1);
+            return Err(PutRefusal::NoMemory);
+        }
+        Ok(())
+    }
+
+    fn append(&mut self, bytes: &[u8]) -> Result<(), PutRefusal>
+        requires { IsSome self.old.begun }
+        ensures kept { self.new.files ≡ self.old.files }
+        ensures begun { OnOk result (self.new.begun ≡ option_map (λ put. (put.0, put.1 ++ bytes.now)) self.old.begun) }
+        ensures no_denial { result ≢ Err PutRefusal.Denied }
+        ensures given_up { OnErr result (self.new.begun ≡ None) }
+        ensures cause { HasPutCause self.old.injection.faults self.new.injection.faults self.old.wants self.new.wants result }
+        ensures failing { IsErrOf result PutRefusal.Failed ↔ IsTrue (fails_next self.old.injection) }
+        ensures injection { self.new.injection ≡ after_call self.old.injection }
+        ensures want { IsErrOf result PutRefusal.NoMemory → self.new.wants ≡ one_more self.old.wants }
+        ensures no_want { result ≢ Err PutRefusal.NoMemory → self.new.wants ≡ self.old.wants }
         ensures same { self.new.piece ≡ self.old.piece }
     {
         if self.plan.next_fails() {
-            return Err(WriteRefusal::Failed);
+            self.begun = Begun::none();
+            return Err(PutRefusal::Failed);
         }
-        if self.files.put(name, bytes).is_err() {
+        if self.begun.append(bytes).is_err() {
             self.wants = self.wants.saturating_add(1);
-            return Err(WriteRefusal::NoMemory);
+            return Err(PutRefusal::NoMemory);
         }
         Ok(())
+    }
+
+    fn end(&mut self) -> Result<(), PutRefusal>
+        requires { IsSome self.old.begun }
+        ensures done { IfSome self.old.begun (λ put. IsPutTo (Some self.old.files) (Some self.new.files) put.0 put.1 result) }
+        ensures whole { IfSome self.old.begun (λ put. OnOk result (self.new.files ≡ put_file self.old.files put.0 put.1)) }
+        ensures refused { OnErr result (self.new.files ≡ self.old.files) }
+        ensures given_up { self.new.begun ≡ None }
+        ensures cause { HasPutCause self.old.injection.faults self.new.injection.faults self.old.wants self.new.wants result }
+        ensures failing { IsErrOf result PutRefusal.Failed ↔ IsTrue (fails_next self.old.injection) }
+        ensures injection { self.new.injection ≡ after_call self.old.injection }
+        ensures want { IsErrOf result PutRefusal.NoMemory → self.new.wants ≡ one_more self.old.wants }
+        ensures no_want { result ≢ Err PutRefusal.NoMemory → self.new.wants ≡ self.old.wants }
+        ensures same { self.new.piece ≡ self.old.piece }
+    {
+        let Some((name, bytes)) = self.begun.take() else {
+            return Ok(());
+        };
+        self.put(&name, &bytes)
     }
 }

@@ -1,7 +1,7 @@
 // The trusted edge: a source over any reader of std, and a sink over any writer.
 ghost use Rattle.std.specs.Prelude.{◌≡◌, ◌<◌, ◌≤◌, length, IfOk, OnErr, OnOk};
 ghost use Rattle.std.specs.Io.{ReadsAtMost};
-ghost use Rattle.std.specs.Io.KnownBytes.{ReadConsumes, WriteAppends};
+ghost use Rattle.std.specs.Io.KnownBytes.{Keeps, ReadConsumes, WriteAppends};
 ghost use Rattle.edge_io.specs.Causes.{HasCause, HasWriteCause, one_more};
 
 use crate::{Failed, Sink, Source, WriteRefusal};
@@ -49,7 +49,6 @@ impl<R: Read> Source for StdSource<R> {
         ensures bound { ReadsAtMost result into.new }
         ensures bytes { ReadConsumes self.old.left self.new.left result into.new }
         ensures cause { HasCause self.old.faults self.new.faults result }
-        ensures kept { OnOk result (self.new.faults ≡ self.old.faults) }
         ensures failed { OnErr result (self.new.faults ≡ one_more self.old.faults) }
     {
         for _ in 0..=REPEATS {
@@ -96,6 +95,8 @@ impl<W: Write> StdSink<W> {
 impl<W: Write> Sink for StdSink<W> {
     ghost written = { λ s. s.written };
 
+    ghost kept = { λ _. 0 };
+
     ghost faults = { λ s. s.faults };
 
     ghost wants = { λ _. 0 };
@@ -106,13 +107,28 @@ impl<W: Write> Sink for StdSink<W> {
         ensures bound { IfOk result (λ n. n ≤ length piece.now) }
         ensures bytes { WriteAppends self.old.written self.new.written result piece.now }
         ensures cause { HasWriteCause self.old.faults self.new.faults 0 0 result }
-        ensures kept { OnOk result (self.new.faults ≡ self.old.faults) }
         ensures failed { OnErr result (self.new.faults ≡ one_more self.old.faults) }
     {
         for _ in 0..=REPEATS {
             match self.writer.write(piece) {
                 Ok(0) => break,
                 Ok(count) => return Ok(count),
+                Err(error) if error.kind() == ErrorKind::Interrupted => {}
+                Err(_) => break,
+            }
+        }
+        self.faults = self.faults.saturating_add(1);
+        Err(WriteRefusal::Failed)
+    }
+
+    fn flush(&mut self) -> Result<(), WriteRefusal>
+        ensures bytes { Keeps self.old.written self.new.written }
+        ensures cause { HasWriteCause self.old.faults self.new.faults 0 0 result }
+        ensures failed { OnErr result (self.new.faults ≡ one_more self.old.faults) }
+    {
+        for _ in 0..=REPEATS {
+            match self.writer.flush() {
+                Ok(()) => return Ok(()),
                 Err(error) if error.kind() == ErrorKind::Interrupted => {}
                 Err(_) => break,
             }

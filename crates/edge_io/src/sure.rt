@@ -1,14 +1,15 @@
 // A source, a sink and a shelf in memory that never fail.
-ghost use Rattle.std.specs.Prelude.{◌≡◌, ◌≤◌, ◌<◌, [], Some, None, length, take, option_map, IsOk, IfOk, IfErr, OnOk, OnErr, IsOkUnless};
+ghost use Rattle.std.specs.Prelude.{◌≡◌, ◌≢◌, ◌≤◌, ◌<◌, ◌⊎◌, ◌++◌, [], Some, None, length, take, option_map, IsOk, IsSome, IfOk, IfErr, IfSome, OnOk, OnErr, IsErrOf, IsOkUnless};
 ghost use Rattle.std.specs.Io.{ReadsAtMost};
-ghost use Rattle.std.specs.Io.KnownBytes.{ReadConsumes, WriteAppends};
-ghost use Rattle.edge_io.specs.Causes.{HasCause, HasWriteCause, HasShelfCause, one_more};
-ghost use Rattle.edge_io.specs.Files.{HasPiece, KeepsOthers, file_of, put_file};
+ghost use Rattle.std.specs.Io.KnownBytes.{Keeps, ReadConsumes, WriteAppends};
+ghost use Rattle.edge_io.specs.Causes.{HasCause, HasPutCause, HasShelfCause, HasWriteCause, one_more};
+ghost use Rattle.edge_io.specs.Files.{AllowsReads, AllowsWrites, DeniesReads, DeniesWrites, HasPiece, IsPutTo, KeepsOthers, LacksFile, file_of, open_files, put_file};
 ghost use Rattle.edge_io.specs.Told.{told};
 
+use crate::begun::Begun;
 use crate::front::copy_front;
 use crate::kept::KeptFiles;
-use crate::{Failed, Shelf, ShelfRefusal, Sink, Source, WriteRefusal};
+use crate::{Failed, PutRefusal, Shelf, ShelfRefusal, Sink, Source, WriteRefusal};
 use std::alloc::Global;
 use std::marker::Model;
 
@@ -93,6 +94,8 @@ impl SureSink {
 impl Sink for SureSink {
     ghost written = { λ s. Some s.written };
 
+    ghost kept = { λ _. 0 };
+
     ghost faults = { λ _. 0 };
 
     ghost wants = { λ s. s.wants };
@@ -114,12 +117,22 @@ impl Sink for SureSink {
         }
         Ok(piece.len())
     }
+
+    fn flush(&mut self) -> Result<(), WriteRefusal>
+        ensures sure { IsOk result }
+        ensures same { self.new ≡ self.old }
+        ensures bytes { Keeps (Some self.old.written) (Some self.new.written) }
+        ensures cause { HasWriteCause 0 0 self.old.wants self.new.wants result }
+    {
+        Ok(())
+    }
 }
 
 /// A shelf in memory that never fails. It tells its files. Where a name is given twice at first, its first entry counts.
 #[derive(Drop)]
 pub struct SureShelf {
     files: KeptFiles,
+    begun: Begun,
     wants: u64,
 }
 
@@ -128,16 +141,17 @@ impl Model for SureShelf {
 
     ghost Value = { SureFiles };
 
-    ghost view = { λ s. record { files = s.files; wants = s.wants } };
+    ghost view = { λ s. record { files = s.files; begun = s.begun; wants = s.wants } };
 }
 
 impl SureShelf {
     /// A shelf with these names and bytes.
     pub fn new(files: Vec<(Vec<u8>, Vec<u8>)>) -> SureShelf
-        ensures { result ≡ record { files = told files.items; wants = 0 } }
+        ensures { result ≡ record { files = open_files (told files.items); begun = None; wants = 0 } }
     {
         SureShelf {
             files: KeptFiles::new(files),
+            begun: Begun::none(),
             wants: 0,
         }
     }
@@ -153,6 +167,8 @@ impl SureShelf {
 impl Shelf for SureShelf {
     ghost files = { λ s. Some s.files };
 
+    ghost begun = { λ s. option_map (λ put. Some put) s.begun };
+
     ghost faults = { λ _. 0 };
 
     ghost wants = { λ s. s.wants };
@@ -162,30 +178,90 @@ impl Shelf for SureShelf {
         ensures bound { ReadsAtMost result into.new }
         ensures kept { self.new ≡ self.old }
         ensures bytes { IfOk result (λ n. HasPiece self.old.files name.now from (take n into.new)) }
-        ensures absent { IfErr result (λ why. why ≡ ShelfRefusal.Absent → file_of self.old.files name.now ≡ None) }
+        ensures allowed { OnOk result (AllowsReads (Some self.old.files) name.now) }
+        ensures absent { IsErrOf result ShelfRefusal.Absent → LacksFile (Some self.old.files) name.now }
+        ensures denied { IsErrOf result ShelfRefusal.Denied → DeniesReads (Some self.old.files) name.now }
         ensures cause { HasShelfCause 0 0 self.old.wants self.new.wants result }
-        ensures sure { IsOkUnless result ShelfRefusal.Absent }
+        ensures sure { IfErr result (λ why. (why ≡ ShelfRefusal.Absent) ⊎ (why ≡ ShelfRefusal.Denied)) }
     {
-        match self.files.read_at(name, from, usize::MAX, into) {
-            Some(count) => Ok(count),
-            None => Err(ShelfRefusal::Absent),
-        }
+        self.files.read_at(name, from, usize::MAX, into)
     }
 
-    fn put(&mut self, name: &[u8], bytes: &[u8]) -> Result<(), WriteRefusal>
+    fn put(&mut self, name: &[u8], bytes: &[u8]) -> Result<(), PutRefusal>
         ensures done { OnOk result (file_of self.new.files name.now ≡ Some bytes.now) }
         ensures others { KeepsOthers (Some self.old.files) (Some self.new.files) name.now }
         ensures whole { OnOk result (self.new.files ≡ put_file self.old.files name.now bytes.now) }
+        ensures allowed { OnOk result (AllowsWrites (Some self.old.files) name.now) }
+        ensures denied { IsErrOf result PutRefusal.Denied → DeniesWrites (Some self.old.files) name.now }
         ensures refused { OnErr result (self.new.files ≡ self.old.files) }
-        ensures cause { HasWriteCause 0 0 self.old.wants self.new.wants result }
-        ensures sure { IsOkUnless result WriteRefusal.NoMemory }
-        ensures wants { OnOk result (self.new.wants ≡ self.old.wants) }
-        ensures want { OnErr result (self.new.wants ≡ one_more self.old.wants) }
+        ensures given_up { self.new.begun ≡ None }
+        ensures cause { HasPutCause 0 0 self.old.wants self.new.wants result }
+        ensures sure { result ≢ Err PutRefusal.Failed }
+        ensures want { IsErrOf result PutRefusal.NoMemory → self.new.wants ≡ one_more self.old.wants }
+        ensures no_want { result ≢ Err PutRefusal.NoMemory → self.new.wants ≡ self.old.wants }
     {
-        if self.files.put(name, bytes).is_err() {
+        self.begun = Begun::none();
+        let done = self.files.put(name, bytes);
+        if done == Err(PutRefusal::NoMemory) {
             self.wants = self.wants.saturating_add(1);
-            return Err(WriteRefusal::NoMemory);
+        }
+        done
+    }
+
+    fn begin(&mut self, name: &[u8]) -> Result<(), PutRefusal>
+        ensures kept { self.new.files ≡ self.old.files }
+        ensures begun { OnOk result (self.new.begun ≡ Some (name.now, [])) }
+        ensures allowed { OnOk result (AllowsWrites (Some self.old.files) name.now) }
+        ensures denied { IsErrOf result PutRefusal.Denied → DeniesWrites (Some self.old.files) name.now }
+        ensures given_up { OnErr result (self.new.begun ≡ None) }
+        ensures cause { HasPutCause 0 0 self.old.wants self.new.wants result }
+        ensures sure { result ≢ Err PutRefusal.Failed }
+        ensures want { IsErrOf result PutRefusal.NoMemory → self.new.wants ≡ one_more self.old.wants }
+        ensures no_want { result ≢ Err PutRefusal.NoMemory → self.new.wants ≡ self.old.wants }
+    {
+        self.begun = Begun::none();
+        if self.files.denies_writes(name) {
+            return Err(PutRefusal::Denied);
+        }
+        if self.begun.begin(self.files.alloc(), name).is_err() {
+            self.wants = self.wants.saturating_add(1);
+            return Err(PutRefusal::NoMemory);
         }
         Ok(())
+    }
+
+    fn append(&mut self, bytes: &[u8]) -> Result<(), PutRefusal>
+        requires { IsSome self.old.begun }
+        ensures kept { self.new.files ≡ self.old.files }
+        ensures begun { OnOk result (self.new.begun ≡ option_map (λ put. (put.0, put.1 ++ bytes.now)) self.old.begun) }
+        ensures no_denial { result ≢ Err PutRefusal.Denied }
+        ensures given_up { OnErr result (self.new.begun ≡ None) }
+        ensures cause { HasPutCause 0 0 self.old.wants self.new.wants result }
+        ensures sure { result ≢ Err PutRefusal.Failed }
+        ensures want { IsErrOf result PutRefusal.NoMemory → self.new.wants ≡ one_more self.old.wants }
+        ensures no_want { result ≢ Err PutRefusal.NoMemory → self.new.wants ≡ self.old.wants }
+    {
+        if self.begun.append(bytes).is_err() {
+            self.wants = self.wants.saturating_add(1);
+            return Err(PutRefusal::NoMemory);
+        }
+        Ok(())
+    }
+
+    fn end(&mut self) -> Result<(), PutRefusal>
+        requires { IsSome self.old.begun }
+        ensures done { IfSome self.old.begun (λ put. IsPutTo (Some self.old.files) (Some self.new.files) put.0 put.1 result) }
+        ensures whole { IfSome self.old.begun (λ put. OnOk result (self.new.files ≡ put_file self.old.files put.0 put.1)) }
+        ensures refused { OnErr result (self.new.files ≡ self.old.files) }
+        ensures given_up { self.new.begun ≡ None }
+        ensures cause { HasPutCause 0 0 self.old.wants self.new.wants result }
+        ensures sure { result ≢ Err PutRefusal.Failed }
+        ensures want { IsErrOf result PutRefusal.NoMemory → self.new.wants ≡ one_more self.old.wants }
+        ensures no_want { result ≢ Err PutRefusal.NoMemory → self.new.wants ≡ self.old.wants }
+    {
+        let Some((name, bytes)) = self.begun.take() else {
+            return Ok(());
+        };
+        self.put(&name, &bytes)
     }
 }

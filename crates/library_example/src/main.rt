@@ -27,7 +27,7 @@ use std::sync::ledger::{Blank, Ledger};
 use std::thread::Threads;
 use work_gate::OpenGate;
 
-/// What the session is asked. The shelf has a file `motd` and takes none, so the last line is stopped.
+/// What the session is asked. The shelf has a file `motd` and takes none, so the last line is refused.
 const LINES: [&[u8]; 6] = [
     b"load d motd",
     b"query q (.*\\n)?$word{[A-Z][a-z]*}[^a-z].*",
@@ -54,7 +54,7 @@ fn answered<R: Threads + Sync, P: Ledger, T: Ledger, L: Ledger>(
     let mut looks = Steps::<L>::new(looks);
     let mut session = Session::new(alloc);
     let mut replies = Replies::new(alloc);
-    let mut shelf = Shipped::new();
+    let mut shelf = Shipped;
     let mut number = 1u64;
     for line in LINES {
         let told = session.line(

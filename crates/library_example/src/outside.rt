@@ -1,7 +1,7 @@
 //! A sink and a shelf of one's own.
 ghost use Rattle.std.specs.Prelude.{None};
 
-use edge_io::{Shelf, ShelfRefusal, Sink, WriteRefusal};
+use edge_io::{PutRefusal, Shelf, ShelfRefusal, Sink, WriteRefusal};
 use std::alloc::Global;
 
 /// A sink that keeps the replies and counts their lines.
@@ -36,6 +36,8 @@ impl Replies {
 impl Sink for Replies {
     ghost written = { λ _. None };
 
+    ghost kept = { λ _. 0 };
+
     ghost faults = { λ _. 0 };
 
     ghost wants = { λ s. s.wants };
@@ -48,6 +50,10 @@ impl Sink for Replies {
         let ends = piece.iter().filter(|byte| **byte == b'\n').count();
         self.lines = self.lines.saturating_add(ends as u64);
         Ok(piece.len())
+    }
+
+    fn flush(&mut self) -> Result<(), WriteRefusal> {
+        Ok(())
     }
 }
 
@@ -70,23 +76,16 @@ fn bytes_from(bytes: &[u8], from: u64) -> &[u8] {
     }
 }
 
-/// A shelf of the files that stand in the program. It takes none: a put is a fault.
+/// A shelf of the files that stand in the program. It takes none: each name is closed for writing.
 #[derive(Drop)]
-pub struct Shipped {
-    faults: u64,
-}
-
-impl Shipped {
-    /// A shelf that hasn't failed yet.
-    pub fn new() -> Shipped {
-        Shipped { faults: 0 }
-    }
-}
+pub struct Shipped;
 
 impl Shelf for Shipped {
     ghost files = { λ _. None };
 
-    ghost faults = { λ s. s.faults };
+    ghost begun = { λ _. None };
+
+    ghost faults = { λ _. 0 };
 
     ghost wants = { λ _. 0 };
 
@@ -100,8 +99,20 @@ impl Shelf for Shipped {
         Ok(count)
     }
 
-    fn put(&mut self, _name: &[u8], _bytes: &[u8]) -> Result<(), WriteRefusal> {
-        self.faults = self.faults.saturating_add(1);
-        Err(WriteRefusal::Failed)
+    fn put(&mut self, _name: &[u8], _bytes: &[u8]) -> Result<(), PutRefusal> {
+        Err(PutRefusal::Denied)
+    }
+
+    fn begin(&mut self, _name: &[u8]) -> Result<(), PutRefusal> {
+        Err(PutRefusal::Denied)
+    }
+
+    // Nothing is ever begun.
+    fn append(&mut self, _bytes: &[u8]) -> Result<(), PutRefusal> {
+        unreachable!()
+    }
+
+    fn end(&mut self) -> Result<(), PutRefusal> {
+        unreachable!()
     }
 }

@@ -1,5 +1,5 @@
 //! The pages of many documents, in pieces.
-ghost use Rattle.std.specs.Prelude.{◌≡◌, ◌+◌, ◌<◌, ◌≤◌, ◌^◌, All, length, IfOk};
+ghost use Rattle.std.specs.Prelude.{◌≡◌, ◌+◌, ◌<◌, ◌≤◌, ◌^◌, All, length, take, IfOk};
 ghost use Rattle.std.specs.List.{AllByRecursion};
 ghost use Rattle.std.specs.Thread.{IsSync};
 ghost use Rattle.slp_model.specs.Nodes.{IsLive};
@@ -8,7 +8,7 @@ ghost use Rattle.list_all.specs.Every.{ArePages, AreRoots};
 ghost use Rattle.list_all.specs.Places.{HaveEach};
 
 use crate::finder::{FindPage, Finder};
-use crate::found::Pages;
+use crate::found::{OnePage, Pages};
 use crate::shared::{Shared, joined, place_of};
 use doc_book::Docs;
 use indexmap::IndexSet;
@@ -109,13 +109,93 @@ fn in_pieces<R: Threads + Sync, F: FindPage, G: Gate>(
     joined(first?, second?)
 }
 
+/// What a page costs beside its answers, in answers.
+const PAGE: usize = 2;
+
+/// How many answers are found in the time that it takes to start a thread, at least.
+const ANSWERS_OF_THREAD: usize = 256;
+
+/// So few roots are always halved, so that a gate sees two threads.
+const FEWEST: usize = 2;
+
+// What the page found last cost, in answers.
+fn last_cost(found: &[OnePage]) -> usize {
+    match found.last() {
+        Some(page) => page.tuples().len().saturating_add(PAGE),
+        None => 0,
+    }
+}
+
+/// The pages of the first roots in order, on this thread, until they cost what a thread's start costs.
+fn first_piece<F: FindPage, G: Gate>(
+    alloc: Global,
+    finder: &F,
+    roots: &[Option<NodeId>],
+    at: usize,
+    gate: &G,
+) -> Result<Shared, NoMemory>
+    requires can { All (F.can_find finder.now) roots.now }
+    requires places { at + length roots.now < 2 ^ 64 }
+    ensures pages { IfOk result (λ pages. HaveEach (F.is_page finder.now) pages.found.items (take (length pages.places.items) roots.now) pages.places.items) }
+    ensures few { IfOk result (λ pages. length pages.places.items ≤ length roots.now) }
+{
+    let mut seen = IndexSet::new(alloc);
+    let mut found = Vec::new(alloc);
+    let mut places = Vec::new(alloc);
+    let mut cost: usize = 0;
+    for (index, root) in roots.iter().enumerate() {
+        if cost >= ANSWERS_OF_THREAD {
+            return Ok(Shared { found, places });
+        }
+        gate.pass(at + index);
+        let before = found.len();
+        let place = place_of(alloc, finder, &mut seen, &mut found, *root)?;
+        places.push(place)?;
+        if found.len() > before {
+            cost = cost.saturating_add(last_cost(&found));
+        }
+    }
+    Ok(Shared { found, places })
+}
+
+// In how many pieces at most the pages of so many further roots are found, if each costs as much as the last one found.
+fn pieces_of(found: &[OnePage], rest: usize, workers: u8) -> u8 {
+    let cost = rest.saturating_mul(last_cost(found));
+    workers.min((cost / ANSWERS_OF_THREAD).min(64) as u8)
+}
+
+/// The pages of the roots in order, found in as many pieces as are worth a thread's start, and at most `workers`.
+fn in_worthy_pieces<R: Threads + Sync, F: FindPage, G: Gate>(
+    rt: &R,
+    alloc: Global,
+    finder: &F,
+    roots: &[Option<NodeId>],
+    at: usize,
+    workers: u8,
+    gate: &G,
+) -> Result<Shared, NoMemory>
+    requires can { All (F.can_find finder.now) roots.now }
+    requires places { at + length roots.now < 2 ^ 64 }
+    ensures { IfOk result (λ pages. HaveEach (F.is_page finder.now) pages.found.items roots.now pages.places.items) }
+{
+    if workers <= 1 || roots.len() <= FEWEST {
+        return in_pieces(rt, alloc, finder, roots, at, workers, gate);
+    }
+    let first = first_piece(alloc, finder, roots, at, gate)?;
+    let (front, rest) = roots.split_at(first.places.len());
+    let pieces = pieces_of(&first.found, rest.len(), workers);
+    let second = in_pieces(rt, alloc, finder, rest, at + front.len(), pieces, gate)?;
+    joined(first, second)
+}
+
 /// The page of each of the documents at the places from `first` on: the first `limit` answers of the automaton on its text,
 /// and whether there are more. It is the same for every number of workers.
 ///
 /// Documents with one root share one page in a piece: it is found once, and takes memory once.
-/// The view's tables are those of the automaton, and the documents' roots are its nodes or none. The places are cut into at
-/// most `workers` pieces, 1 to 64, which run at once, and `gate.pass` is called with each place before its page. The limit is
-/// 1 to 10,000.
+/// The view's tables are those of the automaton, and the documents' roots are its nodes or none. Two places are halved. More are
+/// worked on by one thread until they have cost as much as a thread's start, and the rest is cut into at most `workers` pieces, 1
+/// to 64, which run at once: as many as are worth that, if each page costs as much as the last one found. `gate.pass` is called
+/// with each place before its page. The limit is 1 to 10,000.
 ///
 /// # Errors
 ///
@@ -144,6 +224,6 @@ pub fn pages<R: Threads + Sync, G: Gate>(
     let _all = docs.count();
     let roots = roots_of(alloc, docs, first, count)?;
     let finder = Finder { view, dfa, limit };
-    let shared = in_pieces(rt, alloc, &finder, &roots, first, workers, gate)?;
+    let shared = in_worthy_pieces(rt, alloc, &finder, &roots, first, workers, gate)?;
     Ok(Pages { shared })
 }

@@ -1,3 +1,3 @@
-pub mod Entries
+pub mod Index
 pub mod NamedLaws
-pub mod Removal
+pub mod SlotLaws

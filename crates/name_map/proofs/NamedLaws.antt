@@ -1,12 +1,12 @@
 -- Laws of values by name.
-use Rattle.std.proofs.Common.{◌≡◌, ℕ, suc, Bool, true, false, cond, List, [], ◌∷◌, length, map, Option, Some, None, refl, sym, ap, subst, ◌∙◌}
+use Rattle.std.proofs.Common.{◌≡◌, ℕ, suc, Bool, true, false, cond, zero, List, [], ◌∷◌, length, map, Option, Some, None, is_some, refl, sym, ap, subst, ◌∙◌}
 use Rattle.std.specs.Cmp.Lexicographic.{same_text, bytes_decides}
 use Rattle.std.specs.Prelude.{IfNone}
 use Rattle.std.specs.List.{AllByRecursion}
 use Rattle.std.proofs.lemmas.Map.Keys.{IsDistinct-head, IsDistinct-tail}
-use Rattle.name_map.specs.Named.{Named, is_same, value_of, put, taken_out, AreDistinctNames}
+use Rattle.name_map.specs.Named.{Named, is_same, value_of, put, taken_out, with_value, AreDistinctNames}
 
-same-self : (n : List ℕ) → is_same n n ≡ true
+pub same-self : (n : List ℕ) → is_same n n ≡ true
 same-self n = (bytes_decides n n).1 refl
 
 module _ {A : Type 0} where
@@ -77,3 +77,17 @@ module _ {A : Type 0} where
   pub taken_out-none : (ps : Named A) (n : List ℕ) (o : Option A) → o ≡ value_of ps n → IfNone o (taken_out ps n ≡ ps)
   taken_out-none ps n None q = taken_out-missing ps n (sym q)
   taken_out-none ps n (Some v) q = tt
+
+  -- a value that is written at a place adds no name and takes none away
+  pub is_some-with_value : (ps : Named A) (i : ℕ) (w : A) (n : List ℕ) → is_some (value_of (with_value ps i w) n) ≡ is_some (value_of ps n)
+  is_some-with_value [] i w n = refl
+  is_some-with_value (p ∷ ps) zero w n = by (is_same n p.0)
+    where
+      by : (b : Bool) → is_some (cond b (Some w) (value_of ps n)) ≡ is_some (cond b (Some p.1) (value_of ps n))
+      by true = refl
+      by false = refl
+  is_some-with_value (p ∷ ps) (suc i) w n = by (is_same n p.0) (is_some-with_value ps i w n)
+    where
+      by : (b : Bool) → is_some (value_of (with_value ps i w) n) ≡ is_some (value_of ps n) → is_some (cond b (Some p.1) (value_of (with_value ps i w) n)) ≡ is_some (cond b (Some p.1) (value_of ps n))
+      by true rest = refl
+      by false rest = rest

@@ -1,9 +1,8 @@
--- The slots of the map.
-use Rattle.std.specs.Prelude.{◌≡◌, ℕ, Bool, true, false, nat_eq, ◌+◌, List, [], ◌∷◌, length, take, slice_get, Option, None, Some, Vec}
-use Rattle.std.specs.Cmp.Lexicographic.{pointwise}
-use Rattle.std.specs.List.{IsDistinct}
-use Rattle.name_map.specs.Named.{is_same}
-use Rattle.std.specs.Map.{keys_of, values_of, lookup}
+-- The slots of the map, and the index of their names.
+use Rattle.std.specs.Prelude.{◌≡◌, ℕ, suc, cond, ◌+◌, List, [], ◌∷◌, length, take, slice_get, Option, Some, None, Vec}
+use Rattle.std.specs.Option.{is_some, option_map}
+use Rattle.std.specs.Map.{lookup}
+use Rattle.name_map.specs.Named.{is_same, value_of}
 
 -- x before the others, if there is one
 abbrev pub before : {X : Type 0} → Option X → List X → List X
@@ -11,38 +10,36 @@ before None xs = xs
 before (Some x) xs = x ∷ xs
 
 -- what the slots have that are not empty
-abbrev pub live : {K X : Type 0} → List (K × Option X) → List X
+abbrev pub live : {X : Type 0} → List (Option X) → List X
 live [] = []
-live (e ∷ es) = before e.1 (live es)
+live (o ∷ os) = before o (live os)
 
--- a slot was found, and it is empty
-abbrev pub is_hollow : {X : Type 0} → Option (Option X) → Bool
-is_hollow None = false
-is_hollow (Some None) = true
-is_hollow (Some (Some x)) = false
+-- the number of a name's slot in the index
+abbrev pub indexed : {Z : Type 0} → List (Vec ℕ Z × ℕ) → List ℕ → Option ℕ
+indexed es name = lookup (λ k. is_same name k.items) es
 
--- the key has the bytes of the name that is kept with the value
-abbrev pub IsKept : {Z A : Type 0} → Vec ℕ Z → Option (List ℕ × A) → Type 0
-IsKept key None = Unit {0}
-IsKept key (Some p) = key.items ≡ p.0
+-- of each name in the slots, which are numbered from i on, the index has the number
+abbrev pub AreIndexed : {A : Type 0} → (List ℕ → Option ℕ) → ℕ → List (Option (List ℕ × A)) → Type 0
+AreIndexed index i [] = Unit {0}
+AreIndexed index i (None ∷ os) = AreIndexed index (suc i) os
+AreIndexed index i (Some p ∷ os) = (index p.0 ≡ Some i) × AreIndexed index (suc i) os
 
--- each key has the bytes of the name that is kept with the value
-abbrev pub AreKept : {Z A : Type 0} → List (Vec ℕ Z × Option (List ℕ × A)) → Type 0
-AreKept [] = Unit {0}
-AreKept (e ∷ es) = IsKept e.0 e.1 × AreKept es
+-- the index has the names of the slots and no others
+abbrev pub HasNames : {A : Type 0} → (List ℕ → Option ℕ) → List (Option (List ℕ × A)) → Type 0
+HasNames index os = (name : List ℕ) → is_some (index name) ≡ is_some (value_of (live os) name)
 
--- keys with the same bytes
-abbrev pub same_key : {Z : Type 0} → Vec ℕ Z → Vec ℕ Z → Bool
-same_key k l = pointwise nat_eq k.items l.items
+-- the index has each name's slot, and so many slots are empty
+pub record AreSlots {A : Type 0} (index : List ℕ → Option ℕ) (os : List (Option (List ℕ × A))) (empty : ℕ) : Type 0 where
+  pub indexed : AreIndexed index 0 os
+  pub names : HasNames index os
+  pub count : length (live os) + empty ≡ length os
 
--- whether the name has an empty slot
-abbrev pub is_empty_slot : {Z A : Type 0} → List (Vec ℕ Z × Option (List ℕ × A)) → List ℕ → Bool
-is_empty_slot es name = is_hollow (lookup (λ k. pointwise nat_eq name k.items) es)
+-- the slot of this number has a pair, and so many pairs stand before it
+pub record IsSlotOf {A : Type 0} (os : List (Option (List ℕ × A))) (place slot : ℕ) : Type 0 where
+  pub pair : List ℕ × A
+  pub there : slice_get os slot ≡ Some (Some pair)
+  pub before_it : length (live (take slot os)) ≡ place
 
--- each key has the bytes of its name, no key stands twice, and so many slots are empty, which are the first
-abbrev pub AreSlots : {Z A : Type 0} → List (Vec ℕ Z × Option (List ℕ × A)) → ℕ → Type 0
-AreSlots es gone = AreKept es × IsDistinct same_key (keys_of es) × (length (live (take gone es)) ≡ 0) × (length (live es) + gone ≡ length es)
-
--- the slot behind so many has a value, and it is that of the name
-abbrev pub HasFront : {Z A : Type 0} → List (Vec ℕ Z × Option (List ℕ × A)) → ℕ → List ℕ → Type 0
-HasFront {Z} {A} es gone name = (p : List ℕ × A) × (slice_get (values_of es) gone ≡ Some (Some p)) × (is_same name p.0 ≡ true)
+-- the name of the slot of this number, which has one, has the number in the index, if it is there
+abbrev pub IsNumbered : {A : Type 0} → (List ℕ → Option ℕ) → (List ℕ → Option ℕ) → List (Option (List ℕ × A)) → ℕ → Type 0
+IsNumbered {A} old new os slot = (p : List ℕ × A) → slice_get os slot ≡ Some (Some p) → (other : List ℕ) → new other ≡ cond (is_same p.0 other) (option_map (λ _. slot) (old p.0)) (old other)

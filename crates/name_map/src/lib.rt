@@ -8,21 +8,26 @@
 //! assert_eq!(sizes.take_out(b"d"), Some(5));
 //! ```
 //!
-//! Names keep the order in which they came, whatever values they are given later. A look-up by name, by place, and a
-//! value that is set take expected constant time. It is the map in order of insertion of the crate `indexmap`, with
-//! three things that it lacks for names: the name itself at a place, look-ups that contracts see as those of a list of
-//! pairs, and names that are taken out from the first on in amortised constant time. Such a name leaves an empty slot,
-//! so that the empty slots are the first ones and the others keep their distance. When more than half of the slots are
-//! empty they are dropped. To take out any other name is linear in the number of names, and so is to set one that still
-//! has an empty slot.
+//! Names keep the order in which they came, whatever values they are given later. Contracts see the map as a list of
+//! pairs in this order.
+//!
+//! The pairs stand in a list of slots, and a hash table has the number of each name's slot. A name that is taken out
+//! leaves an empty slot. When more than half of the slots are empty, they are dropped and the others are numbered anew.
+//! So `set`, `get` and `take_out` take expected constant time, amortised where the map grows or slots are dropped,
+//! whichever names come and go and in whatever order. The hash has no key, so names can be searched for whose hashes
+//! are alike; on these a look-up takes time linear in their number.
+//!
+//! `at` and `value_mut` take constant time while no slot is empty, and else time linear in the number of names.
+//! `settle` drops the empty slots, so a caller that goes over all places calls it first.
 #![tactic(auto)]
 
-ghost use Rattle.std.specs.Prelude.{◌≡◌, ◌<◌, ℕ, List, [], false, length, slice_get, Some, None, IfNone, OnOk, OnErr};
+ghost use Rattle.std.specs.Prelude.{◌≡◌, ◌<◌, ℕ, List, [], false, length, slice_get, Some, None, IfNone, IfOk, OnOk, OnErr};
 ghost use Rattle.std.specs.Option.{option_copied, option_map};
 ghost use Rattle.std.specs.Borrow.{sem};
 ghost use Rattle.name_map.specs.Named.{AreDistinctNames, is_same, put, taken_out, value_of};
 
-use crate::slots::{Slots, close_up, forget, is_front, slot_of, take_any, take_front};
+use crate::closing::close_up;
+use crate::slots::{Slots, set, slot_named, slot_of, take_out};
 use indexmap::IndexMap;
 use span_types::{Name, NoMemory};
 use std::alloc::Global;
@@ -37,13 +42,13 @@ pub struct NameMap<V> {
 
 impl<V> Model for NameMap<V> {
     ghost use Rattle.name_map.specs.Named.{Named};
-    ghost use Rattle.name_map.specs.Kept.{AreSlots, live};
+    ghost use Rattle.name_map.specs.Kept.{AreSlots, indexed, live};
 
     ghost Value = { Named V };
 
-    ghost view = { λ m. live m.slots.map.entries };
+    ghost view = { λ m. live m.slots.items.items };
 
-    ghost invariant = { λ m. AreSlots m.slots.map.entries m.slots.gone };
+    ghost invariant = { λ m. AreSlots (indexed m.slots.index.entries) m.slots.items.items m.slots.empty };
 }
 
 impl<V> NameMap<V> {
@@ -55,14 +60,15 @@ impl<V> NameMap<V> {
     {
         NameMap {
             slots: Slots {
-                map: IndexMap::new(alloc),
-                gone: 0,
+                items: Vec::new(alloc),
+                index: IndexMap::new(alloc),
+                empty: 0,
             },
         }
     }
 
     /// Gives the name this value. A present name keeps its place, and a new one goes last. Takes expected constant time,
-    /// or time linear in the number of names where the name was among the first and was taken out shortly before.
+    /// amortised where the name is new.
     ///
     /// # Errors
     ///
@@ -75,20 +81,15 @@ impl<V> NameMap<V> {
         ensures others { OnOk result ((other : List ℕ) → is_same other name ≡ false → value_of self.new other ≡ value_of self.old other) }
         ensures err { OnErr result (self.new ≡ self.old) }
     {
-        let key = name.bytes().to_vec(alloc)?;
-        forget(&mut self.slots, name.bytes());
-        match self.slots.map.insert(key, Some((name, value))) {
-            Ok(_) => Ok(()),
-            Err(_) => Err(NoMemory),
-        }
+        set(&mut self.slots, alloc, name, value)
     }
 
-    /// The value of this name, if it is there.
+    /// The value of this name, if it is there. Takes expected constant time.
     pub fn get(&self, name: &[u8]) -> Option<&V>
         ensures { option_copied result ≡ value_of self.now name.now }
     {
-        match self.slots.map.get(name) {
-            Some(held) => match held {
+        match slot_named(&self.slots, name) {
+            Some(slot) => match &self.slots.items[slot] {
                 Some(named) => Some(&named.1),
                 None => None,
             },
@@ -96,8 +97,8 @@ impl<V> NameMap<V> {
         }
     }
 
-    /// Takes the name out and gives its value, if it is there. The rest close up. The first name takes amortised
-    /// expected constant time, and another time linear in the number of names.
+    /// Takes the name out and gives its value, if it is there. The rest close up. Takes amortised expected constant time,
+    /// whichever name it is.
     pub fn take_out(&mut self, name: &[u8]) -> Option<V>
     where
         V: Drop,
@@ -107,14 +108,38 @@ impl<V> NameMap<V> {
         ensures others { (other : List ℕ) → is_same other name.now ≡ false → value_of self.new other ≡ value_of self.old other }
         ensures same { IfNone result (self.new ≡ self.old) }
     {
-        if !is_front(&self.slots, name) {
-            return take_any(&mut self.slots, name);
-        }
-        let value = take_front(&mut self.slots, name);
-        if self.slots.gone > self.slots.map.len() / 2 {
+        take_out(&mut self.slots, name)
+    }
+
+    /// Makes `at` and `value_mut` take constant time until the next name is taken out, and changes no name, value or
+    /// place. Takes no memory, and constant time where no slot is empty, else a look-up by name for each name.
+    pub fn settle(&mut self)
+    where
+        V: Drop,
+        ensures { self.new ≡ self.old }
+    {
+        if self.slots.empty > 0 {
             close_up(&mut self.slots);
         }
-        value
+    }
+
+    /// The same names and values in the same order. Takes expected linear time, and linear memory.
+    ///
+    /// # Errors
+    ///
+    /// `NoMemory` where none was found.
+    pub fn copy(&self, alloc: Global) -> Result<NameMap<V>, NoMemory>
+    where
+        V: Copy,
+        ensures { IfOk result (λ copy. copy ≡ self.now) }
+    {
+        let mut copy = NameMap::new(alloc);
+        for held in &self.slots.items {
+            if let Some(named) = held {
+                copy.set(alloc, named.0.copy(alloc)?, named.1)?;
+            }
+        }
+        Ok(copy)
     }
 
     /// How many names there are.
@@ -122,25 +147,23 @@ impl<V> NameMap<V> {
         ensures count { result ≡ length self.now }
         ensures distinct { AreDistinctNames self.now }
     {
-        self.slots.map.len() - self.slots.gone
+        self.slots.items.len() - self.slots.empty
     }
 
-    /// The name and the value at this place. Places count from 0.
+    /// The name and the value at this place. Places count from 0. Takes constant time after `settle`, and else up to
+    /// linear time.
     pub fn at(&self, place: usize) -> (&Name, &V)
         requires { place < length self.now }
         ensures { slice_get self.now place ≡ Some (result.0.now, result.1.now) }
     {
         let slot = slot_of(&self.slots, place);
-        match self.slots.map.get_index(slot) {
-            Some((_, held)) => match held {
-                Some(named) => (&named.0, &named.1),
-                None => unreachable!(),
-            },
+        match &self.slots.items[slot] {
+            Some(named) => (&named.0, &named.1),
             None => unreachable!(),
         }
     }
 
-    /// The value at this place, to be changed.
+    /// The value at this place, to be changed. Takes constant time after `settle`, and else up to linear time.
     pub fn value_mut(&mut self, place: usize) -> &mut V
         requires { place < length self.old }
         ensures* writes_back { sem 𝓛 (lends_value V.row self.entry place result) }
@@ -148,15 +171,12 @@ impl<V> NameMap<V> {
     {
         let slot = slot_of(&self.slots, place);
         let slots = &mut self.slots;
-        let map = &mut slots.map;
-        match map.get_index_mut(slot) {
-            Some(held) => match held {
-                Some(named) => &mut named.1,
-                None => unreachable!(),
-            },
+        match &mut slots.items[slot] {
+            Some(named) => &mut named.1,
             None => unreachable!(),
         }
     }
 }
 
+mod closing;
 mod slots;

@@ -1,116 +1,122 @@
-//! The slots of the map: a name's bytes with the name and its value, or with nothing where the name was taken out.
-ghost use Rattle.std.specs.Prelude.{◌≡◌, ◌<◌, ◌+◌, [], ◌∷◌, length, slice_get, true, false, Some, None, IsSome, IsTrue, IfNone};
+//! The slots of the map, in the order in which the names came, and the index of their names.
+ghost use Rattle.std.specs.Prelude.{◌≡◌, ◌<◌, ◌+◌, ℕ, List, ◌∷◌, [], ◌++◌, length, cond, Some, OnOk, OnErr};
 ghost use Rattle.std.specs.Option.{option_map};
-ghost use Rattle.indexmap.specs.IndexMap.{index_map_len};
 ghost use Rattle.name_map.specs.Named.{is_same, put, taken_out, value_of};
-ghost use Rattle.name_map.specs.Kept.{AreSlots, HasFront, is_empty_slot, live};
+ghost use Rattle.name_map.specs.Kept.{AreSlots, IsSlotOf, indexed, live};
 
+use crate::closing::close_sparse;
 use indexmap::IndexMap;
-use span_types::Name;
+use span_types::{Name, NoMemory};
+use std::alloc::Global;
 
-/// Slots, of which the first ones are empty and no others.
+/// Slots, each with a name and its value or empty, and the number of each name's slot.
 #[derive(Drop)]
 pub(crate) struct Slots<V> {
-    pub map: IndexMap<Vec<u8>, Option<(Name, V)>>,
-    /// How many are empty.
-    pub gone: usize,
+    pub items: Vec<Option<(Name, V)>>,
+    pub index: IndexMap<Vec<u8>, usize>,
+    /// How many slots are empty.
+    pub empty: usize,
 }
 
-/// The slot of the name at this place.
+/// The number of the slot with this name.
+pub(crate) fn slot_named<V>(slots: &Slots<V>, name: &[u8]) -> Option<usize>
+    ensures { result ≡ indexed slots.now.index.entries name.now }
+{
+    slots.index.get(name).copied()
+}
+
+/// The number of the slot that has the pair at this place. Takes constant time where no slot is empty, and else time
+/// linear in the number of slots.
 pub(crate) fn slot_of<V>(slots: &Slots<V>, place: usize) -> usize
-    requires within { place < length (live slots.now.map.entries) }
-    requires gone { length (live slots.now.map.entries) + slots.now.gone ≡ length slots.now.map.entries }
-    ensures { result ≡ slots.now.gone + place }
+    requires within { place < length (live slots.now.items.items) }
+    requires count { length (live slots.now.items.items) + slots.now.empty ≡ length slots.now.items.items }
+    ensures { IsSlotOf slots.now.items.items place result }
 {
-    let _all = slots.map.len();
-    slots.gone + place
+    if slots.empty == 0 {
+        return place;
+    }
+    let mut left = place;
+    for (slot, held) in slots.items.iter().enumerate() {
+        if held.is_some() {
+            if left == 0 {
+                return slot;
+            }
+            left -= 1;
+        }
+    }
+    unreachable!()
 }
 
-/// Whether the first name is this one.
-pub(crate) fn is_front<V>(slots: &Slots<V>, name: &[u8]) -> bool
-    ensures { IsTrue result → HasFront slots.now.map.entries slots.now.gone name.now }
+/// Gives the name this value, in its slot, or in a new one behind the others.
+pub(crate) fn set<V: Drop>(
+    slots: &mut Slots<V>,
+    alloc: Global,
+    name: Name,
+    value: V,
+) -> Result<(), NoMemory>
+    requires { AreSlots (indexed slots.old.index.entries) slots.old.items.items slots.old.empty }
+    ensures ok { OnOk result (live slots.new.items.items ≡ put (live slots.old.items.items) name value) }
+    ensures err { OnErr result (live slots.new.items.items ≡ live slots.old.items.items) }
+    ensures kept { AreSlots (indexed slots.new.index.entries) slots.new.items.items slots.new.empty }
 {
-    match slots.map.get_index(slots.gone) {
-        Some((_, held)) => match held {
-            Some(front) => name == front.0.bytes(),
-            None => false,
-        },
-        None => false,
+    match slot_named(slots, name.bytes()) {
+        Some(slot) => {
+            slots.items[slot] = Some((name, value));
+            Ok(())
+        }
+        None => push(slots, alloc, name, value),
     }
 }
 
-/// Takes the first name out and leaves its slot empty.
-pub(crate) fn take_front<V>(slots: &mut Slots<V>, name: &[u8]) -> Option<V>
-    requires kept { AreSlots slots.old.map.entries slots.old.gone }
-    requires front { HasFront slots.old.map.entries slots.old.gone name.now }
-    ensures value { result ≡ value_of (live slots.old.map.entries) name.now }
-    ensures rest { live slots.new.map.entries ≡ taken_out (live slots.old.map.entries) name.now }
-    ensures kept { AreSlots slots.new.map.entries slots.new.gone }
+/// Adds a slot behind the others.
+fn push<V: Drop>(slots: &mut Slots<V>, alloc: Global, name: Name, value: V) -> Result<(), NoMemory>
+    ensures empty { slots.new.empty ≡ slots.old.empty }
+    ensures items { OnOk result (slots.new.items.items ≡ slots.old.items.items ++ Some (name, value) ∷ []) }
+    ensures index { OnOk result ((other : List ℕ) → indexed slots.new.index.entries other ≡ cond (is_same name other) (Some (length slots.old.items.items)) (indexed slots.old.index.entries other)) }
+    ensures items_err { OnErr result (slots.new.items.items ≡ slots.old.items.items) }
+    ensures index_err { OnErr result (slots.new.index.entries ≡ slots.old.index.entries) }
 {
-    let _all = slots.map.len();
-    let front = match slots.map.get_index_mut(slots.gone) {
-        Some(slot) => slot.take(),
-        None => None,
+    let key = name.bytes().to_vec(alloc)?;
+    let slot = slots.items.len();
+    slots.items.reserve(1)?;
+    if slots.index.insert(key, slot).is_err() {
+        return Err(NoMemory);
+    }
+    match slots.items.push(Some((name, value))) {
+        Ok(()) => Ok(()),
+        // There is room for one more.
+        Err(_) => unreachable!(),
+    }
+}
+
+/// Takes the name out and gives its value, if it is there. Where then more than half of the slots are empty, they are
+/// dropped.
+pub(crate) fn take_out<V: Drop>(slots: &mut Slots<V>, name: &[u8]) -> Option<V>
+    requires { AreSlots (indexed slots.old.index.entries) slots.old.items.items slots.old.empty }
+    ensures value { result ≡ value_of (live slots.old.items.items) name.now }
+    ensures rest { live slots.new.items.items ≡ taken_out (live slots.old.items.items) name.now }
+    ensures kept { AreSlots (indexed slots.new.index.entries) slots.new.items.items slots.new.empty }
+{
+    let Some(slot) = slot_named(slots, name) else {
+        return None;
     };
-    slots.gone += 1;
-    match front {
+    let held = empty_slot(slots, slot, name);
+    close_sparse(slots);
+    match held {
         Some((_name, value)) => Some(value),
         None => None,
     }
 }
 
-/// Takes the name out, and the slots behind close up, or drops its empty slot.
-pub(crate) fn take_any<V: Drop>(slots: &mut Slots<V>, name: &[u8]) -> Option<V>
-    requires { AreSlots slots.old.map.entries slots.old.gone }
-    ensures value { result ≡ value_of (live slots.old.map.entries) name.now }
-    ensures rest { live slots.new.map.entries ≡ taken_out (live slots.old.map.entries) name.now }
-    ensures kept { AreSlots slots.new.map.entries slots.new.gone }
-    ensures filled { is_empty_slot slots.new.map.entries name.now ≡ false }
+/// Takes the name out, whose slot this is, and leaves the slot empty.
+fn empty_slot<V>(slots: &mut Slots<V>, slot: usize, name: &[u8]) -> Option<(Name, V)>
+    requires kept { AreSlots (indexed slots.old.index.entries) slots.old.items.items slots.old.empty }
+    requires there { indexed slots.old.index.entries name.now ≡ Some slot }
+    ensures value { option_map (λ p. p.1) result ≡ value_of (live slots.old.items.items) name.now }
+    ensures rest { live slots.new.items.items ≡ taken_out (live slots.old.items.items) name.now }
+    ensures kept { AreSlots (indexed slots.new.index.entries) slots.new.items.items slots.new.empty }
 {
-    match slots.map.shift_remove(name) {
-        Some(held) => match held {
-            Some((_name, value)) => Some(value),
-            None => {
-                slots.gone -= 1;
-                None
-            }
-        },
-        None => None,
-    }
-}
-
-/// Whether this name has an empty slot.
-fn has_empty<V>(slots: &Slots<V>, name: &[u8]) -> bool
-    requires { AreSlots slots.now.map.entries slots.now.gone }
-    ensures { result ≡ is_empty_slot slots.now.map.entries name.now }
-{
-    if slots.gone == 0 {
-        return false;
-    }
-    match slots.map.get(name) {
-        Some(held) => held.is_none(),
-        None => false,
-    }
-}
-
-/// Drops the slot of this name if it is empty.
-pub(crate) fn forget<V: Drop>(slots: &mut Slots<V>, name: &[u8])
-    requires { AreSlots slots.old.map.entries slots.old.gone }
-    ensures same { live slots.new.map.entries ≡ live slots.old.map.entries }
-    ensures kept { AreSlots slots.new.map.entries slots.new.gone }
-    ensures filled { is_empty_slot slots.new.map.entries name.now ≡ false }
-{
-    if has_empty(slots, name) {
-        take_any(slots, name);
-    }
-}
-
-/// Drops the empty slots.
-pub(crate) fn close_up<V: Drop>(slots: &mut Slots<V>)
-    requires { AreSlots slots.old.map.entries slots.old.gone }
-    ensures same { live slots.new.map.entries ≡ live slots.old.map.entries }
-    ensures kept { AreSlots slots.new.map.entries slots.new.gone }
-{
-    slots.map.retain(|_, slot| slot.is_some());
-    slots.gone = 0;
+    slots.index.swap_remove(name);
+    slots.empty += 1;
+    slots.items[slot].take()
 }

@@ -1,12 +1,11 @@
 -- What a covered store says of the query of a name.
-use Rattle.std.proofs.Common.{◌≡◌, ℕ, ◌<◌, ◌≤◌, ◌^◌, Bool, true, false, cond, List, [], ◌∷◌, length, Option, Some, None, All, sym, ap, subst, ◌∙◌, arith}
+use Rattle.std.proofs.Common.{◌≡◌, ℕ, ◌<◌, ◌≤◌, Bool, true, false, cond, List, [], ◌∷◌, length, Option, Some, None, All, sym, ap, subst, ◌∙◌, arith}
 use Rattle.std.specs.Prelude.{unwrap_or}
 use Rattle.std.specs.Option.{option_map}
 use Rattle.std.specs.List.{AllByRecursion}
 use Rattle.slp_model.specs.declared.Node.{Node}
 use Rattle.slp_model.specs.declared.NodeId.{NodeId}
-use Rattle.slp_model.specs.Tree.{leaves}
-use Rattle.slp_model.specs.Nodes.{tree, IsLive}
+use Rattle.slp_model.specs.Nodes.{tree, IsLive, IsSound}
 use Rattle.slp_model.proofs.TreeLemmas.{length-text}
 use Rattle.state_tables.specs.Dictionary.{AreTables, Dictionary, count_of}
 use Rattle.marker_dfa.specs.Deterministic.{DeterministicAutomaton}
@@ -46,13 +45,10 @@ count-found ns es name t c q =
 pub served-found : (ns : List Node) (es : List Entry) (name : List ℕ) (t : TabledQuery) → Covers ns es → tabled_of es name ≡ Some t → IsServed ns t
 served-found ns es name t c q = all-found (IsServed ns) es name t c.serves q
 
--- a text has at most 2^48 bytes, where its root has
-pub short-some : (ns : List Node) (root : Option NodeId) (id : NodeId) (len : ℕ) → root ≡ Some id → len ≡ leaves (tree ns id.index) → len ≤ 2 ^ 48 → length (text_of ns root) ≤ 281474976710656
-short-some ns root id len r e s =
-    subst (λ o. length (text_of ns o) ≤ 281474976710656) (sym r) (omega (arith, length-text (tree ns id.index), e, s))
-
-pub short-none : (ns : List Node) (root : Option NodeId) → root ≡ None → length (text_of ns root) ≤ 281474976710656
-short-none ns root r = subst (λ o. length (text_of ns o) ≤ 281474976710656) (sym r) (omega arith)
+-- a text of the store has at most 2^48 bytes
+pub short-live : (ns : List Node) (root : Option NodeId) → IsSound ns → IsLive ns root → length (text_of ns root) ≤ 281474976710656
+short-live ns None sound live = omega arith
+short-live ns (Some id) sound live = omega (arith, length-text (tree ns id.index), sound.short id.index live)
 
 -- the texts of nodes with tables have bytes below 256
 pub bytes-found : (a : DeterministicAutomaton) (ns : List Node) (d : Dictionary) (root : Option NodeId) → AreTables a ns d → count_of d ≡ length ns → IsLive ns root → All (λ b. b < 256) (text_of ns root)

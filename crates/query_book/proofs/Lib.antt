@@ -13,3 +13,4 @@ pub mod Covered
 pub mod Lists
 pub mod Lent
 pub mod Renumbered
+pub mod Used

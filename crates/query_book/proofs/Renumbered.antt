@@ -18,7 +18,7 @@ use Rattle.query_book.specs.Compiling.{IsCompiled}
 use Rattle.query_book.specs.Serving.{IsServed, Serves, covered_of}
 use Rattle.query_book.specs.Kept.{IsSound, AreSound}
 use Rattle.query_book.specs.Growing.{ChangesFirst}
-use Rattle.query_book.specs.Renumbering.{Renumbers, AreWithin, ranked}
+use Rattle.query_book.specs.Renumbering.{Renumbers, AreWithin, UseEachTable, ranked}
 
 -- ---- how many are kept
 rank-up : (ks : List Bool) (i j : ℕ) → i ≤ j → rank ks i ≤ rank ks j
@@ -28,20 +28,14 @@ rank-up [] (suc i) (suc j) h = omega arith
 rank-up (b ∷ bs) (suc i) (suc j) h = omega (arith, rank-up bs i j (omega arith))
 
 -- ---- one query
-true-same : (d e : Dictionary) (r : Remembered) → e.kept ≡ d.kept → IsTrueEntry d r → IsTrueEntry e r
-true-same d e r k h = record {
-  left = subst (λ (ks : List (List Row)). r.0.0 < length ks) (sym k) h.left;
-  right = subst (λ (ks : List (List Row)). r.0.1 < length ks) (sym k) h.right;
-  number = subst (λ (ks : List (List Row)). r.1 < length ks) (sym k) h.number;
-  composed = ap (λ (ks : List (List Row)). get_or ks r.1 []) k ∙ (h.composed ∙ ap (λ (ks : List (List Row)). compose_of (get_or ks r.0.0 []) (get_or ks r.0.1 [])) (sym k));
-}
-
--- what the tables' numbers are tells nothing of the kept tables
-pub sound-same : (old new : TabledQuery) → new.query ≡ old.query → new.memory ≡ old.memory → new.tables.kept ≡ old.tables.kept → new.tables.states ≡ old.tables.states → IsSound old → IsSound new
-sound-same old new query memory kept states s = record {
+-- a query that remembers nothing
+pub sound-forgotten : (old new : TabledQuery) → new.query ≡ old.query → new.memory ≡ [] → new.tables.states ≡ old.tables.states → IsSound old → IsSound new
+sound-forgotten old new query memory states s = record {
   compiled = subst IsCompiled (sym query) s.compiled;
   states = states ∙ (s.states ∙ ap (λ q. states_of q.dfa) (sym query));
-  memory = λ r there. true-same old.tables new.tables r kept (s.memory r (subst (λ rs. Contains rs r) memory there));
+  memory = λ r there.
+      let bad : Contains [] r = subst (λ rs. Contains rs r) memory there in
+      absurd (omega (arith, bad.1));
 }
 
 pub served-thin : (ns ms : List Node) (keep : List Bool) (old new : TabledQuery) → IsThinOf ns keep ms → new.query ≡ old.query → count_of new.tables ≡ rank keep (count_of old.tables)
@@ -82,6 +76,12 @@ module _ (keep : List Bool) where
   serves-after ns ms thin [] qs h s = subst (λ xs. Serves ms (entries_of xs)) (sym h) tt
   serves-after ns ms thin (p ∷ ps) [] h s = absurd h
   serves-after ns ms thin (p ∷ ps) (q ∷ qs) h s = (h.1.served ns ms thin s.0, serves-after ns ms thin ps qs h.2 s.1)
+
+  -- in each no other table is kept
+  pub used-after : (ps qs : Named TabledQuery) → ChangesFirst (Renumbers keep) (length ps) ps qs → UseEachTable (entries_of qs)
+  used-after [] qs h = subst (λ xs. UseEachTable (entries_of xs)) (sym h) tt
+  used-after (p ∷ ps) [] h = absurd h
+  used-after (p ∷ ps) (q ∷ qs) h = (h.1.used, used-after ps qs h.2)
 
   pub queries-after : (ps qs : Named TabledQuery) → ChangesFirst (Renumbers keep) (length ps) ps qs → queries_of (entries_of qs) ≡ queries_of (entries_of ps)
   queries-after [] qs h = ap (λ xs. queries_of (entries_of xs)) h

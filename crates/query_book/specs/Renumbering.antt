@@ -1,10 +1,10 @@
 -- What happens to a book where its store becomes that of the kept nodes.
-use Rattle.std.specs.Prelude.{◌≡◌, ℕ, ◌≤◌, Bool, List, length, map}
+use Rattle.std.specs.Prelude.{◌≡◌, ℕ, ◌<◌, ◌≤◌, Bool, List, length, map, Contains}
 use Rattle.std.specs.List.{AllByRecursion}
 use Rattle.slp_model.specs.declared.Node.{Node}
 use Rattle.slp_model.specs.Kept.{IsPlanOf}
 use Rattle.slp_model.specs.Thin.{rank, IsThinOf}
-use Rattle.state_tables.specs.Dictionary.{count_of}
+use Rattle.state_tables.specs.Dictionary.{Dictionary, count_of, distinct_of}
 use Rattle.query_book.specs.declared.entry.Entry.{Entry}
 use Rattle.query_book.specs.declared.entry.TabledQuery.{TabledQuery}
 use Rattle.query_book.specs.Named.{Named}
@@ -22,11 +22,20 @@ pub record IsPlanFor (keep : List Bool) (es : Book) : Type 0 where
 abbrev pub ranked : List Bool → Named ℕ → Named ℕ
 ranked keep ps = map (λ p. (p.0, rank keep p.1)) ps
 
--- the query stays, and exactly the kept ones of the nodes that had tables have them
+-- each kept table is that of a node
+abbrev pub UsesEachTable : Dictionary → Type 0
+UsesEachTable d = (number : ℕ) → number < distinct_of d → Contains d.numbers number
+
+-- in each query
+abbrev pub UseEachTable : Book → Type 0
+UseEachTable es = AllByRecursion (λ e. UsesEachTable e.tabled.tables) es
+
+-- the query stays, exactly the kept ones of the nodes that had tables have them, and no other table is kept
 pub record Renumbers (keep : List Bool) (old new : TabledQuery) : Type 0 where
   pub query : new.query ≡ old.query
   pub sound : IsSound new
   pub count : count_of new.tables ≡ rank keep (count_of old.tables)
+  pub used : UsesEachTable new.tables
   pub served : (ns ms : List Node) → IsThinOf ns keep ms → IsServed ns old → IsServed ms new
 
 -- in each query it is said of all nodes with tables whether they are kept

@@ -11,7 +11,7 @@ ghost use Rattle.query_book.specs.Registering.{IsQueryOf, IsRefused};
 ghost use Rattle.query_book.specs.Book.{IsMissing, queries_of, tabled_of, with_entry, without_entry};
 ghost use Rattle.query_book.specs.Serving.{ArePartlyAt, Covers, Serves, all_at, covered_of, sum_of};
 ghost use Rattle.query_book.specs.Kept.{IsSound};
-ghost use Rattle.query_book.specs.Renumbering.{IsPlanFor, ranked};
+ghost use Rattle.query_book.specs.Renumbering.{IsPlanFor, UseEachTable, ranked};
 
 use crate::compiled::{Compiled, compile};
 use crate::entry::{Entry, TabledQuery, fresh_entry};
@@ -81,8 +81,8 @@ impl QueryBook {
         Ok(())
     }
 
-    /// Takes the query with this name out, and the rest close up. The first query takes amortised expected constant
-    /// time, and another time linear in the number of queries.
+    /// Takes the query with this name out, and the rest close up. Takes amortised expected constant time, whichever query
+    /// it is.
     ///
     /// # Errors
     ///
@@ -136,17 +136,21 @@ impl QueryBook {
         ensures some { ArePartlyAt (length store.now) (covered_of self.old) (covered_of self.new) }
         ensures steps { places.new + sum_of (covered_of self.old) ≡ places.old + sum_of (covered_of self.new) }
     {
+        self.by_name.settle();
         grow_entries(rt, alloc, &mut self.by_name, store, workers, gate, places)
     }
 
-    /// Leaves in each query the tables of the kept nodes alone, under their new ids, where the store becomes that of the kept
-    /// nodes. The old store is the one used before, grown. It takes no memory, and time linear in the tables.
+    /// Leaves in each query the tables of the kept nodes alone, under their nodes' new ids, where the store becomes that of
+    /// the kept nodes. The old store is the one used before, grown. A query keeps no other table, and remembers no
+    /// composition. It takes no memory, and time linear in the tables.
     pub fn renumber(&mut self, moves: &Moves)
         requires { IsPlanFor moves.now self.old }
         ensures queries { queries_of self.new ≡ queries_of self.old }
         ensures covered { covered_of self.new ≡ ranked moves.now (covered_of self.old) }
+        ensures used { UseEachTable self.new }
         ensures serves { (ns ms : List Node) → IsThinOf ns moves.now ms → Serves ns self.old → Serves ms self.new }
     {
+        self.by_name.settle();
         renumber_entries(&mut self.by_name, moves);
     }
 

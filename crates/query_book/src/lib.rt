@@ -12,10 +12,10 @@
 //! the new nodes their tables, one step for each query and node. `union`, `join` and `project` make queries of copies.
 //!
 //! On a text of n bytes `test` and `has` make at most B(k, n) looks at a node and its table for k variables, with
-//! B(k, n) = 4·(2k+1)·(H(n)+3), and take no memory. A look-up by name takes expected constant time. `remove` takes
-//! amortised expected constant time for the first query, and for another time linear in the number of queries. A query
-//! takes memory for its automaton, for its distinct tables, for a number for each node, and for up to 4,096
-//! compositions that are remembered.
+//! B(k, n) = 4·(2k+1)·(H(n)+3), and take no memory. A look-up by name takes expected constant time, and so does `remove`,
+//! amortised, whichever queries come and go. A query takes memory for its automaton, for its distinct tables, for a
+//! number for each node, and for up to 4,096 compositions that are remembered. `renumber` drops the tables that no node
+//! has any more.
 //!
 //! Queries are the regex formulas and the algebra of R. Fagin, B. Kimelfeld, F. Reiss and S. Vansummeren, *Document
 //! Spanners*, JACM 2015, asked as in M. L. Schmid and N. Schweikardt, PODS 2021.

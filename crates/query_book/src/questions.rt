@@ -135,7 +135,8 @@ impl QueryBook {
         Ok(has(view, dfa, root, tuple, looks))
     }
 
-    /// A view of the store's nodes with their tables in the query of this name, and the query's automaton.
+    /// A view of the store's nodes with their tables in the query of this name, and the query's automaton. It reads no node
+    /// and no table.
     fn lookout<'a>(
         &'a self,
         name: &[u8],
@@ -152,9 +153,7 @@ impl QueryBook {
         ensures short { length (text_of store.now root) ≤ 281474976710656 }
         ensures missing { IfErr result (IsMissing (queries_of self.now) name.now) }
     {
-        if let Some(id) = root {
-            let _len = store.len(id);
-        }
+        let _nodes = store.count();
         let tabled = self.tabled(name)?;
         let _states = tabled.query.dfa.states();
         Ok((tabled.tables.view(store), &tabled.query.dfa))

@@ -10,7 +10,7 @@ use crate::entry::TabledQuery;
 use name_map::NameMap;
 use node_store::Moves;
 
-/// Leaves in each query the tables of the kept nodes, under their new numbers.
+/// Leaves in each query the tables of the kept nodes alone, under their new numbers.
 pub(crate) fn renumber_entries(by_name: &mut NameMap<TabledQuery>, moves: &Moves)
     requires kept { AreSound by_name.old }
     requires within { AreWithin moves.now (entries_of by_name.old) }
@@ -39,4 +39,6 @@ fn renumber_query(tabled: &mut TabledQuery, moves: &Moves)
     ensures { Renumbers moves.now tabled.old tabled.new }
 {
     tabled.tables.renumber(moves);
+    // Its numbers are those from before.
+    tabled.memory.forget();
 }

@@ -3,7 +3,7 @@ use Rattle.std.specs.Prelude.{ℕ, ◌==◌, ◌&&◌, List, [], ◌∷◌, ◌+
 use Rattle.std.specs.List.{flat_map}
 use Rattle.std.specs.Fmt.{decimal}
 use Rattle.report_text.specs.declared.refusal.Refusal.{Refusal}
-use Rattle.report_text.specs.declared.refusal.Refusal.TheVariants.{Syntax, NoSuchDocument, NoSuchQuery, OutOfRange, TooLong, RangeTooWide, FormulaTooLong, BadFormula, TooDeep, TooManyPositions, TooManyVariables, NotFunctional, TooManyStates, BadTuple, OtherVariables, NoSuchFile, FileTooLong, BadImage, QueryTooLarge, NotOneVariable, TooManyMatches, NoSuchVersion}
+use Rattle.report_text.specs.declared.refusal.Refusal.TheVariants.{Syntax, NoSuchDocument, NoSuchQuery, OutOfRange, TooLong, RangeTooWide, FormulaTooLong, BadFormula, TooDeep, TooManyPositions, TooManyVariables, NotFunctional, TooManyStates, BadTuple, OtherVariables, NoSuchFile, FileTooLong, CannotRead, CannotWrite, BadImage, QueryTooLarge, NotOneVariable, TooManyMatches, NoSuchVersion, TooManyAnswers}
 
 abbrev pub hex_digit : ℕ → ℕ
 hex_digit d = if nat_lt d 10 then 48 + d else 87 + d
@@ -65,11 +65,14 @@ why_text BadTuple = codes "BadTuple"
 why_text OtherVariables = codes "OtherVariables"
 why_text (NoSuchFile file) = codes "NoSuchFile " ++ file
 why_text (FileTooLong file) = codes "FileTooLong " ++ file
+why_text (CannotRead file) = codes "CannotRead " ++ file
+why_text (CannotWrite file) = codes "CannotWrite " ++ file
 why_text (BadImage kind) = codes "BadImage " ++ decimal kind
 why_text (QueryTooLarge parts) = codes "QueryTooLarge " ++ decimal parts
 why_text (NotOneVariable count) = codes "NotOneVariable " ++ decimal count
 why_text TooManyMatches = codes "TooManyMatches"
 why_text (NoSuchVersion name) = codes "NoSuchVersion " ++ name
+why_text TooManyAnswers = codes "TooManyAnswers"
 
 -- `line N: WORD` and what it keeps
 abbrev pub refusal_text : ℕ → Refusal → List ℕ

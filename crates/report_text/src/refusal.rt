@@ -44,8 +44,12 @@ pub enum Refusal {
     OtherVariables,
     /// There is no such file.
     NoSuchFile { file: ByteList },
-    /// The file has more bytes than its limit.
+    /// The file has more bytes than its limit, or would have.
     FileTooLong { file: ByteList },
+    /// The file is there and can't be read: it is a folder or a pipe, or a right is missing.
+    CannotRead { file: ByteList },
+    /// The file can't be written: it is a folder, its folder isn't there, or a right is missing.
+    CannotWrite { file: ByteList },
     /// The file is not an image. `kind` is 1 to 12.
     BadImage { kind: u8 },
     /// The query would have this many leaves and operations, over 128.
@@ -56,6 +60,8 @@ pub enum Refusal {
     TooManyMatches,
     /// No version has this name.
     NoSuchVersion { name: Name },
+    /// The number that was asked for is over 2^64 - 2.
+    TooManyAnswers,
 }
 
 /// A word and the bytes that it keeps.
@@ -117,6 +123,8 @@ fn push_why(why: &Refusal, into: &mut Vec<u8>) -> Result<(), AllocError>
         Refusal::OtherVariables => into.extend_from_slice(b"OtherVariables")?,
         Refusal::NoSuchFile { file } => push_bytes(b"NoSuchFile ", file.bytes(), into)?,
         Refusal::FileTooLong { file } => push_bytes(b"FileTooLong ", file.bytes(), into)?,
+        Refusal::CannotRead { file } => push_bytes(b"CannotRead ", file.bytes(), into)?,
+        Refusal::CannotWrite { file } => push_bytes(b"CannotWrite ", file.bytes(), into)?,
         Refusal::BadImage { kind } => push_counted(b"BadImage ", u64::from(*kind), into)?,
         Refusal::QueryTooLarge { parts } => push_counted(b"QueryTooLarge ", *parts, into)?,
         Refusal::NotOneVariable { count } => push_counted(
@@ -126,6 +134,7 @@ fn push_why(why: &Refusal, into: &mut Vec<u8>) -> Result<(), AllocError>
         )?,
         Refusal::TooManyMatches => into.extend_from_slice(b"TooManyMatches")?,
         Refusal::NoSuchVersion { name } => push_bytes(b"NoSuchVersion ", name.bytes(), into)?,
+        Refusal::TooManyAnswers => into.extend_from_slice(b"TooManyAnswers")?,
     }
     Ok(())
 }

@@ -76,11 +76,16 @@ fn words(alloc: Global) -> Result<Vec<u8>, NoMemory> {
             file: file(b"b/c")?,
         },
         Refusal::FileTooLong { file: file(b"d")? },
+        Refusal::CannotRead { file: file(b"e")? },
+        Refusal::CannotWrite {
+            file: file(b"f/g")?,
+        },
         Refusal::BadImage { kind: 12 },
         Refusal::QueryTooLarge { parts: 129 },
         Refusal::NotOneVariable { count: 2 },
         Refusal::TooManyMatches,
         Refusal::NoSuchVersion { name: kept(b"v")? },
+        Refusal::TooManyAnswers,
     ] {
         refusal_line(alloc, 7, &why, &mut out)?;
     }
@@ -106,11 +111,14 @@ fn lines_of_refusals(rt: HostRuntime) -> Result<(), Fail> {
         line 7: OtherVariables\n\
         line 7: NoSuchFile b/c\n\
         line 7: FileTooLong d\n\
+        line 7: CannotRead e\n\
+        line 7: CannotWrite f/g\n\
         line 7: BadImage 12\n\
         line 7: QueryTooLarge 129\n\
         line 7: NotOneVariable 2\n\
         line 7: TooManyMatches\n\
-        line 7: NoSuchVersion v\n";
+        line 7: NoSuchVersion v\n\
+        line 7: TooManyAnswers\n";
     match words(rt.alloc()) {
         Ok(out) => assert_eq!(rt; out.as_slice(), wanted.as_slice()),
         Err(NoMemory) => panic!(rt; "out of memory"),

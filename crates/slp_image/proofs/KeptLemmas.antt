@@ -14,7 +14,7 @@ use Rattle.slp_model.proofs.KeptLemmas.{keeps-next}
 use Rattle.slp_model.proofs.RankLemmas.{rank-apart}
 use Rattle.doc_book.specs.declared.Doc.{Doc}
 use Rattle.doc_book.specs.Docs.{is_same, put, AreDistinctNames}
-use Rattle.doc_book.proofs.BookLemmas.{put-next}
+use Rattle.slp_image.proofs.NextLemmas.{put-next}
 use Rattle.slp_image.specs.Image.{Document, Outcome, Meaning, is_among, names_of, contents, node_at, image}
 use Rattle.slp_image.specs.Documents.{AreLive, plain, rooted, filed, HaveTrees}
 use Rattle.slp_image.specs.Reads.{AreNodes}

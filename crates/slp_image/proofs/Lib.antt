@@ -1,3 +1,4 @@
+pub mod NextLemmas
 pub mod StepLemmas
 pub mod NodeLemmas
 pub mod TextLemmas
@@ -8,3 +9,4 @@ pub mod SavedLemmas
 pub mod WriteLemmas
 pub mod KeptLemmas
 pub mod RowLemmas
+pub mod MagicLemmas

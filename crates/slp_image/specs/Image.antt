@@ -146,11 +146,15 @@ version_of bytes = do
   version ← byte_at bytes
   if (version.0 == 1) || (version.0 == 2) then Ok version else Err Version
 
+-- whether these are the bytes with which each image begins
+abbrev pub is_magic : List ℕ → Bool
+is_magic bytes = pointwise nat_eq bytes (83 ∷ (76 ∷ (80 ∷ (73 ∷ []))))
+
 -- the magic, and the version after it
 unfoldable pub version_at : List ℕ → Field ℕ
 version_at bytes = do
   magic ← bytes_at 4 bytes
-  if pointwise nat_eq magic.0 (83 ∷ (76 ∷ (80 ∷ (73 ∷ [])))) then version_of magic.1 else Err Magic
+  if is_magic magic.0 then version_of magic.1 else Err Magic
 
 -- the names and texts of the documents, and the number of nodes
 pub record Meaning : Type 0 where

@@ -1,7 +1,7 @@
 //! Fields, read from the front.
 ghost use Rattle.std.specs.Prelude.{◌≡◌, ◌^◌, ◌<◌, IfOk};
 ghost use Rattle.slp_image.specs.Fields.{byte_at, number_at, bytes_at, child_at};
-ghost use Rattle.slp_image.specs.Image.{version_of, version_at};
+ghost use Rattle.slp_image.specs.Image.{is_magic, version_of, version_at};
 ghost use Rattle.slp_image.specs.Reads.{Gives};
 
 use crate::refusal::ImageRefusal;
@@ -67,13 +67,20 @@ fn version_byte(bytes: &[u8]) -> Result<(u8, &[u8]), ImageRefusal>
     Ok((version, rest))
 }
 
+/// Whether these four bytes are those with which each image begins.
+pub(crate) fn is_magic(bytes: &[u8]) -> bool
+    ensures { result ≡ is_magic bytes.now }
+{
+    bytes == MAGIC.as_slice()
+}
+
 /// The version, which is 1 or 2.
 #[tactic(auto, unfolding(crate::specs::Image::version_at))]
 pub(crate) fn version(bytes: &[u8]) -> Result<(u8, &[u8]), ImageRefusal>
     ensures { Gives (λ x. (x.0, x.1.now)) result (version_at bytes.now) }
 {
     let (magic, rest) = slice(bytes, 4)?;
-    if magic != MAGIC.as_slice() {
+    if !is_magic(magic) {
         return Err(ImageRefusal::Magic);
     }
     version_byte(rest)

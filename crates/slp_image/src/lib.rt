@@ -29,6 +29,6 @@ mod refusal;
 mod texts;
 mod writing;
 
-pub use reading::read;
+pub use reading::{begins_image, read};
 pub use refusal::ImageRefusal;
 pub use writing::{Image, write};

@@ -1,12 +1,12 @@
 //! Documents, read from the bytes of an image.
-ghost use Rattle.std.specs.Prelude.{◌≡◌, ◌+◌, ◌≤◌, IfOk};
+ghost use Rattle.std.specs.Prelude.{◌≡◌, ◌+◌, ◌++◌, ◌≤◌, ℕ, List, false, length, take, IfOk};
 ghost use Rattle.slp_model.specs.Nodes.{Grows};
-ghost use Rattle.slp_image.specs.Image.{image, contents, node_at, text_at};
+ghost use Rattle.slp_image.specs.Image.{image, contents, is_magic, node_at, text_at};
 ghost use Rattle.slp_image.specs.Documents.{HaveTrees, Reads};
 ghost use Rattle.slp_image.specs.Reads.{ReadsNodes, ReadsTexts};
 
 use crate::documents::documents;
-use crate::fields::{number, version};
+use crate::fields::{is_magic, number, version};
 use crate::nodes::node_entries;
 use crate::refusal::ImageRefusal;
 use crate::texts::text_entries;
@@ -78,4 +78,14 @@ pub fn read<L: Ledger>(
         return read_nodes(alloc, rest, store, pairs);
     }
     read_texts(alloc, rest, store, pairs)
+}
+
+/// Whether the first bytes of a file, at least four, are those of an image. Where they aren't, it doesn't matter what follows them:
+/// they mean the same with it and without it, so a reader may stop here. Takes constant time.
+pub fn begins_image(front: &[u8]) -> bool
+    requires { 4 ≤ length front.now }
+    ensures value { result ≡ is_magic (take 4 front.now) }
+    ensures settled { result ≡ false → (rest : List ℕ) → image (front.now ++ rest) ≡ image front.now }
+{
+    is_magic(&front[..4])
 }

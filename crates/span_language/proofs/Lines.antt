@@ -1,5 +1,5 @@
 -- A line has one reply, unless it is a `save`.
-use Rattle.std.proofs.Common.{◌≡◌, ℕ, List, Option, Some, None, refl, sym, ◌∙◌, ap, subst}
+use Rattle.std.proofs.Common.{◌≡◌, ◌⊎◌, ℕ, List, Option, Some, None, refl, sym, ◌∙◌, ap, subst, inl, inr}
 use Rattle.span_language.proofs.Names.{Accepted, Carried, Carries, Command, Does, HasOneReply, IsRefused, IsSettled, IsSettledLine, LineText, Means, one_command_of}
 use Rattle.span_language.proofs.Names.{Quiet, refusal_text, Refused, SaveFile, Saves, Step, Told, World}
 use Rattle.span_language.proofs.Accepted.{one_done}
@@ -37,14 +37,19 @@ one_line old number line told told2 r s n m settled (a, means, h) (b, means2, k)
     by (Some c) means h k = one_carry old number c told told2 r s n m (settled c means) h k
     by None means h k = (h.0 ∙ sym k.0, h.1 ∙ sym k.1, h.2 ∙ sym k.2)
 
-saves : (old : World) (number : ℕ) (line file : List ℕ) (told : Told) (reply : List ℕ) (new : World) → LineText line (SaveFile file) → Step old number line told reply new → Saves old file told reply new
+abbrev SavesOrNot : World → List ℕ → Told → List ℕ → World → Type 0
+SavesOrNot old file told reply new = ((told ≡ Accepted) × Saves old file reply new) ⊎ ((told ≡ Refused) × (new ≡ old))
+
+saves : (old : World) (number : ℕ) (line file : List ℕ) (told : Told) (reply : List ℕ) (new : World) → LineText line (SaveFile file) → Step old number line told reply new
+    → SavesOrNot old file told reply new
 saves old number line file told reply new text (a, means, h) =
     by told (subst (λ (c : Option Command). Carried old number c told reply new) (one_meaning line a (Some (SaveFile file)) means text) h)
   where
-    by : (told : Told) → Carries old number (SaveFile file) told reply new → Saves old file told reply new
+    by : (told : Told) → Carries old number (SaveFile file) told reply new → SavesOrNot old file told reply new
     by Quiet h = let bad : ⊥ = cc (h.0) in absurd bad
-    by Accepted (bytes, nodes, saved, replied, state, put) = record { accepted = refl; state = state; bytes = bytes; nodes = nodes; image = saved; put = put; replied = replied }
-    by Refused (why, h, replied, is) = absurd h
+    by Accepted (bytes, nodes, saved, short, writable, replied, state, put) =
+        inl (refl, record { state = state; bytes = bytes; nodes = nodes; image = saved; short = short; writable = writable; put = put; replied = replied })
+    by Refused (why, h, replied, is) = inr (refl, is)
 
 pub has_one_reply : HasOneReply
 has_one_reply = record { one = one_line; save = saves }

@@ -36,7 +36,7 @@ pub use Rattle.span_language.specs.Means.{Carried, Means, Step}
 pub use Rattle.span_language.specs.Replies.{given_text, IsEditRefusal, shown}
 pub use Rattle.span_language.specs.Runs.{Adds, is_refused, Runs, Sum}
 pub use Rattle.span_language.specs.State.{Documents, Named, put, value_of, with_documents, with_queries, World, world}
-pub use Rattle.span_language.specs.Step.{Carries, Does, HasDocuments, IsAsked, IsChosenOf, IsCombineRefusal, IsFaulty, IsFileRefused, IsOfFile, IsRefused, IsRegistered, IsReplacing, IsTextRefused, IsUnasked, IsUncombined, IsUnreplaced, IsWithin, IsYesOrNo, load_size, most_spans, open_size}
+pub use Rattle.span_language.specs.Step.{Carries, Does, HasDocuments, IsAsked, IsChosenOf, IsCombineRefusal, IsFaulty, IsFileRefused, IsOfFile, IsOversized, IsRefused, IsRegistered, IsReplacing, IsTextRefused, IsUnasked, IsUncombined, IsUnreplaced, IsWithin, IsYesOrNo, load_size, most_spans, open_size}
 pub use Rattle.span_language.specs.declared.told.Told.{Told}
 pub use Rattle.span_language.specs.declared.told.Told.TheVariants.{Accepted, Quiet, Refused}
 pub use Rattle.span_replace.specs.Chosen.{chosen}

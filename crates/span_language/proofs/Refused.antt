@@ -1,9 +1,10 @@
 -- A command is accepted or has one first refusal.
 use Rattle.std.proofs.Common.{◌≡◌, ◌<◌, ◌≤◌, ◌^◌, ◌⊎◌, ℕ, List, Option, Some, None, length, refl, sym, ◌∙◌, ap, subst, inl, inr, arith}
 use Rattle.span_language.proofs.Names.{BadImage, Command, Does, IsAsked, IsCursorOf, IsCursorRefused, IsRefused, IsRegistered, IsSettled, Join, LetDoc, load_size}
-use Rattle.span_language.proofs.Names.{LoadFile, most_spans, open_size, OpenFile, Query, Refusal, replaced, Show, shown, Span, TooLong, TooManyMatches, Tuple, Union}
+use Rattle.span_language.proofs.Names.{LoadFile, most_spans, open_size, OpenFile, Query, Refusal, replaced, SaveFile, Show, shown, Span, TooLong, TooManyMatches, Tuple, Union}
 use Rattle.span_language.proofs.Names.{value_of, World}
 use Rattle.script_syntax.specs.declared.form.Command.TheVariants as form
+use Rattle.span_language.proofs.Accepted.{no_save}
 use Rattle.span_language.proofs.Values.{are_told, no_value, not_both, one_err, one_file_refusal, one_within, within_read}
 use Rattle.span_language.proofs.Images.{image_once, one_fault}
 use Rattle.span_language.proofs.Expressions.{one_edit_refusal, text_once as value_once}
@@ -75,6 +76,7 @@ one_refusal old (form.ProjectQuery name source keep) why other settled h k = one
 one_refusal old (form.List query name word limit) why other settled h k = listing old query name word limit why other h k
 one_refusal old (form.Nonempty query name) why other settled h k = one_unasked old query name why other h k
 one_refusal old (form.Has query name word) why other settled h k = listing old query name (Some word) 0 why other h k
+one_refusal old (SaveFile file) why other settled h k = absurd (no_save old.files file settled)
 one_refusal old (OpenFile file) why other settled h k = opening old file why other (are_told old.files (OpenFile file) tt settled) h k
 one_refusal old (form.ReplaceDoc name query source by) why other settled h k = replacing old name query source by why other h k
 one_refusal old _ why other settled h k = first_of (cc, search)
@@ -92,6 +94,7 @@ refused_once old (form.ProjectQuery name source keep) r n why settled h k = proj
 refused_once old (form.List query name word limit) r n why settled (q, t, h, is, new) k = asked_refused old query name word limit q t is.cursor why h is.cursor_is k
 refused_once old (form.Nonempty query name) r n why settled (q, t, h, is, new) k = asked_once old query name q t why h k
 refused_once old (form.Has query name word) r n why settled (q, t, x, h, text, reply, new) k = asked_refused old query name (Some word) 0 q t (Some x) why h (x, text, refl) k
+refused_once old (SaveFile file) r n why settled h k = absurd (no_save old.files file settled)
 refused_once old (OpenFile file) r n why settled (b, d, nodes, h, holds, reply, new) (inl k) = within_read file open_size old.files b why (are_told old.files (OpenFile file) tt settled) h k
 refused_once old (OpenFile file) r n why settled (b, d, nodes, h, holds, reply, new) (inr (c, kind, k, fault, is)) =
     image_once b c d nodes kind (one_within file open_size old.files b c (are_told old.files (OpenFile file) tt settled) h k) holds fault

@@ -1,12 +1,12 @@
 -- Laws of the language.
-use Rattle.std.specs.Prelude.{◌≡◌, ℕ, List, [], ◌∷◌, Option, Some, None, length}
-use Rattle.edge_io.specs.Files.{Files}
+use Rattle.std.specs.Prelude.{◌≡◌, ◌⊎◌, ◌≤◌, ℕ, List, [], ◌∷◌, Option, Some, None, length}
+use Rattle.edge_io.specs.Files.{AllowsWrites, Files}
 use Rattle.script_syntax.specs.Syntax.{LineText}
 use Rattle.script_syntax.specs.declared.form.Command.{Command}
 use Rattle.script_syntax.specs.declared.form.Command.TheVariants.{SaveFile}
 use Rattle.report_text.specs.Reply.{saved_text}
 use Rattle.span_language.specs.State.{World}
-use Rattle.span_language.specs.Step.{IsOfFile, IsPut, IsSave, IsSaved}
+use Rattle.span_language.specs.Step.{IsOfFile, IsPut, IsSave, IsSaved, open_size}
 use Rattle.span_language.specs.Means.{Step}
 use Rattle.span_language.specs.Runs.{Runs, Sum}
 use Rattle.span_language.specs.declared.told.Told.{Told}
@@ -26,13 +26,14 @@ IsSettled None command = IsOfFile command → ⊥
 abbrev pub IsSettledLine : Option Files → List ℕ → Type 0
 IsSettledLine files line = (command : Command) → LineText line command → IsSettled files command
 
--- a `save` is accepted and keeps the state and the other files; it chooses an image of the documents, whose nodes the reply tells
-pub record Saves (old : World) (file : List ℕ) (told : Told) (reply : List ℕ) (new : World) : Type 0 where
-  pub accepted : told ≡ Accepted
+-- an accepted `save` keeps the state and the other files; it chooses an image of the documents that `open` takes, whose nodes the reply tells
+pub record Saves (old : World) (file : List ℕ) (reply : List ℕ) (new : World) : Type 0 where
   pub state : new.state ≡ old.state
   pub bytes : List ℕ
   pub nodes : ℕ
   pub image : IsSaved old.state.documents bytes nodes
+  pub short : length bytes ≤ open_size
+  pub writable : AllowsWrites old.files file
   pub put : IsPut old.files file bytes new.files
   pub replied : reply ≡ saved_text (length old.state.documents) nodes
 
@@ -41,7 +42,7 @@ pub record HasOneReply : Type 0 where
   pub one : (old : World) (number : ℕ) (line : List ℕ) (told told2 : Told) (reply reply2 : List ℕ) (new new2 : World) → IsSettledLine old.files line
       → Step old number line told reply new → Step old number line told2 reply2 new2 → (told ≡ told2) × (reply ≡ reply2) × (new ≡ new2)
   pub save : (old : World) (number : ℕ) (line file : List ℕ) (told : Told) (reply : List ℕ) (new : World) → LineText line (SaveFile file)
-      → Step old number line told reply new → Saves old file told reply new
+      → Step old number line told reply new → ((told ≡ Accepted) × Saves old file reply new) ⊎ ((told ≡ Refused) × (new ≡ old))
 
 -- each of the lines is such a line
 abbrev pub AreSettled : Option Files → List (List ℕ) → Type 0

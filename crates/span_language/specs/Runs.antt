@@ -8,7 +8,7 @@ use Rattle.span_language.specs.State.{World, State, nothing, world}
 use Rattle.span_language.specs.Allowance.{Allowance, Counters, IsPaid, both_of, no_steps}
 use Rattle.span_language.specs.Counts.{Compacts, IsOnce, Registers}
 use Rattle.span_language.specs.Means.{Carried, IsAllowance, Means, Of}
-use Rattle.span_language.specs.Step.{IsList, IsOfFile, IsSave, KeepsFiles}
+use Rattle.span_language.specs.Step.{IsList, IsOfFile}
 use Rattle.span_language.specs.declared.told.Told.{Told}
 use Rattle.span_language.specs.declared.told.Told.TheVariants.{Quiet, Accepted, Refused}
 
@@ -84,38 +84,42 @@ pub record RunsAll (lines : List (List ℕ)) (refused : Bool) (before after : Ou
   pub paid : IsPaid sum.cost before.counters after.counters
   pub placed : PlacesFew sum before after
 
--- of a line of this meaning nothing was written, or a front of its reply
-abbrev pub IsFront : World → ℕ → Option Command → List ℕ → Type 0
-IsFront old number meaning part = (part ≡ []) ⊎ ((told : Told) × (reply : List ℕ) × (new : World) × (n : ℕ) × Carried old number meaning told reply new × (part ≡ take n reply))
+-- a line of this meaning was stopped: nothing was written of its reply and the told files are as before, or it was done, with these files,
+-- and a front of its reply was written
+abbrev pub IsFront : World → ℕ → Option Command → List ℕ → Option Files → Type 0
+IsFront old number meaning part files = ((part ≡ []) × (files ≡ old.files))
+    ⊎ ((told : Told) × (reply : List ℕ) × (new : World) × (n : ℕ) × Carried old number meaning told reply new × (part ≡ take n reply) × (files ≡ new.files))
 
--- the next line, in which the run was stopped: what was written of its reply, what it may cost, and the told files, which are as before it
--- but perhaps the file of a `save`
+-- the next line, in which the run was stopped: what was written of its reply, what it may cost, and the told files
 pub record IsNext (old : World) (number : ℕ) (line : List ℕ) (meaning : Option Command) (part : List ℕ) (cost : Allowance) (files : Option Files) : Type 0 where
   pub means : Means line meaning
-  pub front : IsFront old number meaning part
+  pub front : IsFront old number meaning part files
   pub allowed : (cost ≡ no_steps) ⊎ IsAllowance old meaning cost
-  pub kept : KeepsFiles (λ file. Of (IsSave file) meaning) old.files files
 
--- of the lines that are left none was begun, or the next one was stopped, in a way that Ends says by its meaning and by what was written
-abbrev pub IsPart : (Option Command → List ℕ → Type 0) → World → ℕ → List (List ℕ) → List ℕ → Allowance → Option Files → Type 0
-IsPart Ends old number left part cost files = ((part ≡ []) × (cost ≡ no_steps) × (files ≡ old.files) × Ends None [])
+-- where a run ends early, by the meaning of the line, what was written of its reply, and the told files before and after it
+abbrev pub Ending : Type 1
+Ending = Option Command → List ℕ → Option Files → Option Files → Type 0
+
+-- of the lines that are left none was begun, or the next one was stopped, in a way that Ends says
+abbrev pub IsPart : Ending → World → ℕ → List (List ℕ) → List ℕ → Allowance → Option Files → Type 0
+IsPart Ends old number left part cost files = ((part ≡ []) × (cost ≡ no_steps) × (files ≡ old.files) × Ends None [] old.files files)
     ⊎ ((line : List ℕ) × (lines : List (List ℕ)) × (meaning : Option Command) × (left ≡ line ∷ lines)
-    × IsNext old number line meaning part cost files × Ends meaning part)
+    × IsNext old number line meaning part cost files × Ends meaning part old.files files)
 
--- where a run ends early, by the meaning of the line and what was written of its reply: anywhere
-abbrev pub Anywhere : Option Command → List ℕ → Type 0
-Anywhere meaning part = Unit {0}
+-- anywhere
+abbrev pub Anywhere : Ending
+Anywhere meaning part before after = Unit {0}
 
--- in a line of the form `load`, `save` or `open`, of whose reply nothing was written
-abbrev pub InFileLine : Option Command → List ℕ → Type 0
-InFileLine meaning part = Of IsOfFile meaning × (part ≡ [])
+-- in a line of the form `load`, `save` or `open`, of whose reply nothing was written, and which left the told files as they were
+abbrev pub InFileLine : Ending
+InFileLine meaning part before after = Of IsOfFile meaning × (part ≡ []) × (after ≡ before)
 
 -- where it is in a line of the form `list`, a count rose, or nothing of its reply was written
-abbrev pub UnlessList : ℕ → ℕ → Option Command → List ℕ → Type 0
-UnlessList wants_before wants_after meaning part = Of IsList meaning → Rose wants_before wants_after ⊎ (part ≡ [])
+abbrev pub UnlessList : ℕ → ℕ → Ending
+UnlessList wants_before wants_after meaning part before after = Of IsList meaning → Rose wants_before wants_after ⊎ (part ≡ [])
 
 -- the run ended early: the first lines ran and their output was written, then perhaps a front of the next one's reply
-pub record RunsFront (Ends : Option Command → List ℕ → Type 0) (lines : List (List ℕ)) (before after : Outside) : Type 0 where
+pub record RunsFront (Ends : Ending) (lines : List (List ℕ)) (before after : Outside) : Type 0 where
   pub done : List (List ℕ)
   pub left : List (List ℕ)
   pub cut : lines ≡ done ++ left

@@ -1,7 +1,7 @@
 -- What a line does.
 use Rattle.std.specs.Prelude.{◌≡◌, ◌⊎◌, ◌<◌, ℕ, List, [], Option, Some, None, Ok, Err, IfSome, take, length, ◌≤◌, ◌^◌}
 use Rattle.std.specs.Io.KnownBytes.{Appends, Keeps}
-use Rattle.edge_io.specs.Files.{Files, Holds, KeepsOthers, file_of}
+use Rattle.edge_io.specs.Files.{AllowsReads, AllowsWrites, DeniesReads, DeniesWrites, Files, Holds, KeepsOthers, LacksFile}
 use Rattle.script_syntax.specs.declared.form.Command.{Command}
 use Rattle.script_syntax.specs.declared.form.Command.TheVariants.{Nothing, Text, LoadFile, LetDoc, DropDoc, Names, Show, SaveFile, OpenFile}
 use Rattle.script_syntax.specs.declared.form.Command.TheVariants as form
@@ -26,7 +26,7 @@ use Rattle.slp_image.specs.Save.{SaveForm}
 use Rattle.slp_image.specs.declared.refusal.ImageRefusal.{ImageRefusal}
 use Rattle.report_text.specs.Reply.{shown_text, query_text, saved_text, opened_text, refusal_text}
 use Rattle.report_text.specs.declared.refusal.Refusal.{Refusal}
-use Rattle.report_text.specs.declared.refusal.Refusal.TheVariants.{Syntax, NoSuchDocument, NoSuchQuery, FormulaTooLong, BadFormula, TooDeep, TooManyPositions, TooManyVariables, NotFunctional, TooManyStates, NoSuchFile, FileTooLong, BadImage, QueryTooLarge, OtherVariables, NoSuchVersion, NotOneVariable, TooManyMatches, TooLong}
+use Rattle.report_text.specs.declared.refusal.Refusal.TheVariants.{Syntax, NoSuchDocument, NoSuchQuery, FormulaTooLong, BadFormula, TooDeep, TooManyPositions, TooManyVariables, NotFunctional, TooManyStates, NoSuchFile, FileTooLong, CannotRead, CannotWrite, BadImage, QueryTooLarge, OtherVariables, NoSuchVersion, NotOneVariable, TooManyMatches, TooLong}
 use Rattle.span_language.specs.State.{World, Documents, Named, world, value_of, put, taken_out, with_documents, with_queries, with_versions}
 use Rattle.span_language.specs.Cursors.{IsCursorRefused, IsTupleRefused}
 use Rattle.span_language.specs.Listed.{AreListed, IsListReply}
@@ -37,21 +37,26 @@ use Rattle.span_language.specs.Replies.{ok_text, yes_text, no_text, given_text, 
 use Rattle.span_language.specs.declared.told.Told.{Told}
 use Rattle.span_language.specs.declared.told.Told.TheVariants.{Quiet, Accepted, Refused}
 
--- told files have no file of this name
-abbrev pub Lacks : Option Files → List ℕ → Type 0
-Lacks files name = IfSome files (λ all. file_of all name ≡ None)
-
--- the file is there, with these bytes, which are no more than the limit
+-- the file is there and open for reading, with these bytes, which are no more than the limit
 pub record IsWithin (files : Option Files) (name : List ℕ) (limit : ℕ) (bytes : List ℕ) : Type 0 where
   pub held : Holds files name bytes
+  pub readable : AllowsReads files name
   pub short : length bytes ≤ limit
 
--- the first refusal of a file that is to be read: it isn't there, or has more bytes than the limit
-abbrev pub IsFileRefused : Option Files → List ℕ → ℕ → Refusal → Type 0
-IsFileRefused files name limit why = (Lacks files name × (why ≡ NoSuchFile name))
-    ⊎ ((bytes : List ℕ) × Holds files name bytes × (limit < length bytes) × (why ≡ FileTooLong name))
+-- the file is there and open for reading, and has more bytes than the limit
+pub record IsOversized (files : Option Files) (name : List ℕ) (limit : ℕ) : Type 0 where
+  pub bytes : List ℕ
+  pub held : Holds files name bytes
+  pub readable : AllowsReads files name
+  pub long : limit < length bytes
 
--- the most bytes of a file of `load` and of `open`
+-- the first refusal of a file that is to be read: it isn't there, is closed for reading, or has more bytes than the limit
+abbrev pub IsFileRefused : Option Files → List ℕ → ℕ → Refusal → Type 0
+IsFileRefused files name limit why = (LacksFile files name × (why ≡ NoSuchFile name))
+    ⊎ (DeniesReads files name × (why ≡ CannotRead name))
+    ⊎ (IsOversized files name limit × (why ≡ FileTooLong name))
+
+-- the most bytes of a file of `load`, and of one of `open` and `save`
 abbrev pub load_size : ℕ
 load_size = 2 ^ 32
 
@@ -62,6 +67,11 @@ open_size = 2 ^ 30
 pub record IsSaved (documents : Documents) (bytes : List ℕ) (nodes : ℕ) : Type 0 where
   pub form : SaveForm bytes
   pub means : (image bytes).answer ≡ Ok (record { documents = documents; nodes = nodes })
+
+-- the first refusal of a `save`: the image that is chosen is too long, or else the file is closed for writing
+abbrev pub IsSaveRefused : Option Files → Documents → List ℕ → Refusal → Type 0
+IsSaveRefused files documents name why = (bytes : List ℕ) × (nodes : ℕ) × IsSaved documents bytes nodes
+    × (((open_size < length bytes) × (why ≡ FileTooLong name)) ⊎ ((length bytes ≤ open_size) × DeniesWrites files name × (why ≡ CannotWrite name)))
 
 -- the file has these bytes now, and the others are as before
 pub record IsPut (old : Option Files) (name bytes : List ℕ) (new : Option Files) : Type 0 where
@@ -175,7 +185,7 @@ Does old (form.Nonempty query name) reply new = (q : Query) × (text : List ℕ)
 Does old (form.Has query name word) reply new = (q : Query) × (text : List ℕ) × (tuple : Tuple) × IsAsked old query name q text × TupleText word (names_of q) tuple
     × IsYesOrNo (IsAnswer q text tuple) reply × (new ≡ old)
 Does old (SaveFile file) reply new = (bytes : List ℕ) × (nodes : ℕ) × IsSaved old.state.documents bytes nodes
-    × (reply ≡ saved_text (length old.state.documents) nodes) × (new.state ≡ old.state) × IsPut old.files file bytes new.files
+    × (length bytes ≤ open_size) × AllowsWrites old.files file × (reply ≡ saved_text (length old.state.documents) nodes) × (new.state ≡ old.state) × IsPut old.files file bytes new.files
 Does old (OpenFile file) reply new = (bytes : List ℕ) × (documents : Documents) × (nodes : ℕ) × IsWithin old.files file open_size bytes
     × ((image bytes).answer ≡ Ok (record { documents = documents; nodes = nodes })) × (reply ≡ opened_text (length documents)) × HasDocuments old new documents
 Does old (form.ListAll query n) reply new = (q : Query) × (value_of old.state.queries query ≡ Some q) × AreListed q n old.state.documents reply × (new ≡ old)
@@ -210,7 +220,7 @@ IsRefused old (form.List query name word n) why = IsUnasked old query name why
 IsRefused old (form.Nonempty query name) why = IsUnasked old query name why
 IsRefused old (form.Has query name word) why = IsUnasked old query name why
     ⊎ ((q : Query) × (text : List ℕ) × IsAsked old query name q text × IsTupleRefused q word why)
-IsRefused old (SaveFile file) why = ⊥
+IsRefused old (SaveFile file) why = IsSaveRefused old.files old.state.documents file why
 IsRefused old (OpenFile file) why = IsFileRefused old.files file open_size why
     ⊎ ((bytes : List ℕ) × (kind : ℕ) × IsWithin old.files file open_size bytes × IsFaulty bytes kind × (why ≡ BadImage kind))
 IsRefused old (form.ListAll query n) why = (value_of old.state.queries query ≡ None) × (why ≡ NoSuchQuery query)
@@ -258,16 +268,12 @@ AppendsFront before after reply = (n : ℕ) × Appends before after (take n repl
 abbrev pub Finishes : (Told → List ℕ → World → Type 0) → Told → Option (List ℕ) → Option (List ℕ) → World → Type 0
 Finishes Allows told before after new = (reply : List ℕ) × Allows told reply new × Appends before after reply
 
--- nothing was written, and the state is as before
+-- nothing was written, and the state and the told files are as before
 pub record Leaves (old : World) (before after : Option (List ℕ)) (new : World) : Type 0 where
   pub written : Keeps before after
-  pub state : new.state ≡ old.state
+  pub world : new ≡ old
 
--- nothing was written and the state is as before, or a front of an allowed reply was written
+-- nothing was written and all is as before, or a front of an allowed reply was written
 abbrev pub Halts : (Told → List ℕ → World → Type 0) → World → Option (List ℕ) → Option (List ℕ) → World → Type 0
 Halts Allows old before after new = Leaves old before after new
     ⊎ ((told : Told) × (reply : List ℕ) × Allows told reply new × AppendsFront before after reply)
-
--- told files are as before, but perhaps one that is saved to
-abbrev pub KeepsFiles : (List ℕ → Type 0) → Option Files → Option Files → Type 0
-KeepsFiles Saves before after = (after ≡ before) ⊎ ((file : List ℕ) × Saves file × KeepsOthers before after file)

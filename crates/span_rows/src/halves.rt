@@ -1,6 +1,6 @@
 //! A sink that takes half of each piece, and runs of a script over it.
 ghost use Rattle.std.specs.Prelude.{◌≡◌, ◌<◌, ◌≤◌, Some, length, IfOk};
-ghost use Rattle.std.specs.Io.KnownBytes.{WriteAppends};
+ghost use Rattle.std.specs.Io.KnownBytes.{Keeps, WriteAppends};
 ghost use Rattle.edge_io.specs.Causes.{HasWriteCause};
 
 use crate::running::run_over;
@@ -44,6 +44,8 @@ impl HalfSink {
 impl Sink for HalfSink {
     ghost written = { λ s. Some s.written };
 
+    ghost kept = { λ _. 0 };
+
     ghost faults = { λ _. 0 };
 
     ghost wants = { λ s. s.wants };
@@ -57,6 +59,13 @@ impl Sink for HalfSink {
     {
         let half = piece.len() - piece.len() / 2;
         self.inner.write(&piece[..half])
+    }
+
+    fn flush(&mut self) -> Result<(), WriteRefusal>
+        ensures bytes { Keeps (Some self.old.written) (Some self.new.written) }
+        ensures cause { HasWriteCause 0 0 self.old.wants self.new.wants result }
+    {
+        self.inner.flush()
     }
 }
 

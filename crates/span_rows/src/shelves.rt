@@ -2,12 +2,13 @@
 
 ghost use Rattle.std.specs.Prelude.{None};
 
-use crate::running::{Setting, plain, ran, ran_over};
-use edge_io::{MemShelf, Shelf, ShelfRefusal, WriteRefusal};
+use crate::running::{Setting, plain, ran, ran_over, run_over};
+use edge_io::{BufferedSink, MemShelf, MemSink, PutRefusal, Shelf, ShelfRefusal, SureSource};
 use span_run::Status;
 use std::alloc::{AllocError, Global};
 use std::test::Fail;
 use std::thread::Threads;
+use work_gate::OpenGate;
 
 /// What a run left: its status, what was written, and the bytes of the file `f`, none where it isn't there.
 #[derive(Drop)]
@@ -150,6 +151,8 @@ struct Endless;
 impl Shelf for Endless {
     ghost files = { λ _. None };
 
+    ghost begun = { λ _. None };
+
     ghost faults = { λ _. 0 };
 
     ghost wants = { λ _. 0 };
@@ -158,8 +161,20 @@ impl Shelf for Endless {
         Ok(if from > 1 << 32 { 0 } else { into.len().min(1) })
     }
 
-    fn put(&mut self, _name: &[u8], _bytes: &[u8]) -> Result<(), WriteRefusal> {
+    fn put(&mut self, _name: &[u8], _bytes: &[u8]) -> Result<(), PutRefusal> {
         Ok(())
+    }
+
+    fn begin(&mut self, _name: &[u8]) -> Result<(), PutRefusal> {
+        Err(PutRefusal::Denied)
+    }
+
+    fn append(&mut self, _bytes: &[u8]) -> Result<(), PutRefusal> {
+        unreachable!()
+    }
+
+    fn end(&mut self) -> Result<(), PutRefusal> {
+        unreachable!()
     }
 }
 
@@ -309,6 +324,68 @@ fn each_call_of_a_shelf_fails(rt: HostRuntime) -> Result<(), Fail> {
                 assert_eq!(rt; remains.file.len(), *file, "{call}");
             }
         }
+    }
+    Ok(())
+}
+
+/// A script over a shelf on which `closed` can't be read and `shut` can't be written: its replies.
+const CLOSED: &str =
+    "load d closed\nopen closed\ntext d a\nsave shut\nsave open\nload e missing\nnames\n";
+
+const CLOSED_OUTPUT: &str =
+    "line 1: CannotRead closed\nline 2: CannotRead closed\nok d 1 \"a\"\nline 4: CannotWrite shut\nok 1 1\n\
+    line 6: NoSuchFile missing\nd 1\nend\n";
+
+#[test]
+fn names_that_are_closed(rt: HostRuntime) -> Result<(), Fail> {
+    let alloc = rt.alloc();
+    let mut shelf = shelf_of(alloc, "closed", b"abc", 1, 0)?;
+    shelf.close(b"closed", true, false)?;
+    shelf.close(b"shut", false, true)?;
+    let script = CLOSED.as_bytes().to_vec(alloc)?;
+    let (status, written) = ran_over(&rt, alloc, script, plain(), &mut shelf)?;
+    assert_eq!(rt; status, Status::SomeRefused);
+    assert_eq!(rt; written.as_slice(), CLOSED_OUTPUT.as_bytes());
+    assert!(rt; shelf.file(b"shut").is_none());
+    Ok(())
+}
+
+/// Runs a script over output that is kept back and whose first write fails: the status, and whether a file `f` is there then.
+fn ran_kept_back<R: Threads + Sync>(
+    rt: &R,
+    alloc: Global,
+    script: &str,
+) -> Result<(Status, bool), AllocError> {
+    let mut shelf = shelf_of(alloc, "g", b"abc", 1000, 0)?;
+    let inner = MemSink::new(alloc, 1000, vec![in alloc; 1]?);
+    let mut sink = BufferedSink::new(alloc, inner)?;
+    let mut source = SureSource::new(script.as_bytes().to_vec(alloc)?);
+    let status = run_over(
+        rt,
+        alloc,
+        &[],
+        &mut source,
+        &mut sink,
+        &mut shelf,
+        &OpenGate,
+    );
+    Ok((status, shelf.file(b"f").is_some()))
+}
+
+#[test]
+fn nothing_is_saved_after_output_that_failed(rt: HostRuntime) -> Result<(), Fail> {
+    let alloc = rt.alloc();
+    for script in [
+        "query q- a\nsave f\n",
+        "text d- x)\nsave f\n",
+        "list q d\nsave f\n",
+        "names\nsave f\n",
+        "load d g\nsave f\n",
+        "load d g)\nsave f\n",
+    ] {
+        let (status, saved) = ran_kept_back(&rt, alloc, script)?;
+        assert_eq!(rt; status, Status::OutFault, "{script}");
+        assert!(rt; !saved, "{script}");
     }
     Ok(())
 }

@@ -1,11 +1,12 @@
 -- What loading a file does.
-use Rattle.span_run.proofs.Names.{arith, Assigns, BadImage, Carries, counters, Documents, Err, Files, FileTooLong, image, inl, inr, IsFileDenied, IsLoadPaid}
-use Rattle.span_run.proofs.Names.{IsTurnedAway, IsWithin, length, List, load_limit, load_size, Meaning, no_steps, NoSuchFile, Ok, open_size, Opens, Option}
+use Rattle.span_run.proofs.Names.{ap, arith, Assigns, BadImage, CannotRead, Carries, counters, Documents, Err, Files, FileTooLong, image, inl, inr, IsFileDenied, IsLoadPaid}
+use Rattle.span_run.proofs.Names.{IsOfTheFile, IsTurnedAway, IsWithin, length, List, load_limit, load_size, Meaning, MeansFile, no_steps, NoSuchFile, Ok, open_size, Opens, Option}
 use Rattle.span_run.proofs.Names.{PaysFor, PaysForPart, put, refl, refusal_text, Refused, Result, Some, State, subst, sym, Told, with_documents, World, world}
-use Rattle.span_run.proofs.Names.{ℕ, ◌+◌, ◌≡◌, ◌≤◌}
+use Rattle.span_run.proofs.Names.{ℕ, ◌+◌, ◌∙◌, ◌≡◌, ◌≤◌}
 use Rattle.script_syntax.specs.declared.form.Command.TheVariants as form
 use Rattle.slp_image.specs.Fields.{kind_of}
 use Rattle.slp_image.specs.Documents.{Fails}
+use Rattle.slp_image.specs.Image.{Outcome}
 use Rattle.slp_image.specs.declared.refusal.ImageRefusal.{ImageRefusal}
 use Rattle.slp_image.specs.declared.refusal.ImageRefusal.TheVariants as fault
 use Rattle.span_run.specs.declared.reading.FileRefusal.{FileRefusal}
@@ -20,8 +21,15 @@ load_carries st new number name file bytes told reply files there h = rw h.0.0 (
 pub load_denied : (w : World) (number : ℕ) (name file : List ℕ) (why : FileRefusal) (told : Told) (reply : List ℕ) → IsTurnedAway w.files file load_size why
     → IsFileDenied number file why told reply → Carries w number (form.LoadFile name file) told reply w
 load_denied w number name file turned.Absent told reply why h = rw h.0 (NoSuchFile file, inl (why, refl), h.1, refl)
-load_denied w number name file turned.TooLong told reply why h = rw h.0 (FileTooLong file, inr (why.0, why.1, why.2, refl), h.1, refl)
+load_denied w number name file turned.Denied told reply why h = rw h.0 (CannotRead file, inr (inl (why, refl)), h.1, refl)
+load_denied w number name file turned.TooLong told reply why h = rw h.0 (FileTooLong file, inr (inr (why, refl)), h.1, refl)
 load_denied w number name file _ told reply why h = absurd h
+
+-- only what is of the file itself has a reply
+pub of_the_file : (number : ℕ) (file : List ℕ) (why : FileRefusal) (told : Told) (reply : List ℕ) → IsFileDenied number file why told reply → IsOfTheFile why
+of_the_file number file turned.Failed told reply h = h
+of_the_file number file turned.NoMemory told reply h = h
+of_the_file number file _ told reply h = tt
 
 -- loading a file: nothing was asked for, or no more than its bytes allow
 pub file_paid : (old : World) (name file bytes : List ℕ) (looks p q : ℕ) → IsWithin old.files file load_size bytes → IsLoadPaid old.files file p q → PaysFor old (form.LoadFile name file) (counters looks p) (counters looks q)
@@ -32,7 +40,8 @@ pub file_refused_paid : (old : World) (name file : List ℕ) (number : ℕ) (why
     → PaysFor old (form.LoadFile name file) (counters looks p) (counters looks q)
 file_refused_paid old name file number why told reply looks p q turned denied (inr (all, within, paid)) = (record { looks = 0; pairs = load_limit (length all) }, inr (all, within, refl), record { looks = omega arith; pairs = omega (arith, paid) })
 file_refused_paid old name file number turned.Absent told reply looks p q lacks denied (inl same) = (no_steps, inl (NoSuchFile file, inl (lacks, refl), refl), none_paid looks p q same)
-file_refused_paid old name file number turned.TooLong told reply looks p q long denied (inl same) = (no_steps, inl (FileTooLong file, inr (long.0, long.1, long.2, refl), refl), none_paid looks p q same)
+file_refused_paid old name file number turned.Denied told reply looks p q closed denied (inl same) = (no_steps, inl (CannotRead file, inr (inl (closed, refl)), refl), none_paid looks p q same)
+file_refused_paid old name file number turned.TooLong told reply looks p q long denied (inl same) = (no_steps, inl (FileTooLong file, inr (inr (long, refl)), refl), none_paid looks p q same)
 file_refused_paid old name file number _ told reply looks p q h denied (inl same) = absurd denied
 
 pub file_begun : (old : World) (name file : List ℕ) (looks p q : ℕ) → IsLoadPaid old.files file p q → PaysForPart old (form.LoadFile name file) (counters looks p) (counters looks q)
@@ -40,25 +49,29 @@ file_begun old name file looks p q (inl same) = (no_steps, inl refl, none_paid l
 file_begun old name file looks p q (inr (all, within, paid)) = (record { looks = 0; pairs = load_limit (length all) }, inr (inr (all, within, refl)), record { looks = omega arith; pairs = omega (arith, paid) })
 
 -- the documents are those of an image
-pub open_carries : (st : State) (new : Documents) (number : ℕ) (file bytes : List ℕ) (o : Result Meaning ImageRefusal) (told : Told) (reply : List ℕ) (files : Option Files) → IsWithin files file open_size bytes → (image bytes).answer ≡ o
+pub open_carries : (st : State) (new : Documents) (number : ℕ) (file bytes : List ℕ) (o : Result Meaning ImageRefusal) (told : Told) (reply : List ℕ) (files : Option Files) → MeansFile files file bytes → (image bytes).answer ≡ o
     → Opens st.documents number o told reply new
     → Carries (world st files) number (form.OpenFile file) told reply (world (with_documents st new) files)
-open_carries st new number file bytes (Ok m) told reply files there is h = rw h.0 (bytes, m.documents, m.nodes, there, is, h.1, only_documents st m.documents new files h.2)
-open_carries st new number file bytes (Err why) told reply files there is h = rw h.0 (BadImage h.1, inr (bytes, h.1, there, record { refusal = why; means = is; kind_is = h.2 }, refl), h.3, only_documents st st.documents new files h.4)
+open_carries st new number file bytes (Ok m) told reply files there is h = rw h.0 (there.all, m.documents, m.nodes, there.within, ap (λ (i : Outcome Meaning). i.answer) there.same ∙ is, h.1, only_documents st m.documents new files h.2)
+open_carries st new number file bytes (Err why) told reply files there is h = rw h.0 (BadImage h.1, inr (there.all, h.1, there.within, record { refusal = why; means = ap (λ (i : Outcome Meaning). i.answer) there.same ∙ is; kind_is = h.2 }, refl), h.3, only_documents st st.documents new files h.4)
 
 pub open_denied : (w : World) (number : ℕ) (file : List ℕ) (why : FileRefusal) (told : Told) (reply : List ℕ) → IsTurnedAway w.files file open_size why
     → IsFileDenied number file why told reply → Carries w number (form.OpenFile file) told reply w
 open_denied w number file turned.Absent told reply why h = rw h.0 (NoSuchFile file, inl (inl (why, refl)), h.1, refl)
-open_denied w number file turned.TooLong told reply why h = rw h.0 (FileTooLong file, inl (inr (why.0, why.1, why.2, refl)), h.1, refl)
+open_denied w number file turned.Denied told reply why h = rw h.0 (CannotRead file, inl (inr (inl (why, refl))), h.1, refl)
+open_denied w number file turned.TooLong told reply why h = rw h.0 (FileTooLong file, inl (inr (inr (why, refl))), h.1, refl)
 open_denied w number file _ told reply why h = absurd h
 
-pub open_paid : (old : World) (file bytes : List ℕ) (looks p q : ℕ) → IsWithin old.files file open_size bytes → q ≤ p + (image bytes).cost → PaysFor old (form.OpenFile file) (counters looks p) (counters looks q)
-open_paid old file bytes looks p q there paid = (record { looks = 0; pairs = (image bytes).cost }, inr (bytes, there, refl), record { looks = omega arith; pairs = paid })
+pub open_paid : (old : World) (file bytes : List ℕ) (looks p q : ℕ) → MeansFile old.files file bytes → q ≤ p + (image bytes).cost → PaysFor old (form.OpenFile file) (counters looks p) (counters looks q)
+open_paid old file bytes looks p q there paid =
+    let cost : (image there.all).cost ≡ (image bytes).cost = ap (λ (i : Outcome Meaning). i.cost) there.same in
+    (record { looks = 0; pairs = (image there.all).cost }, inr (there.all, there.within, refl), record { looks = omega arith; pairs = omega (arith, paid, cost) })
 
 pub open_refused_paid : (old : World) (file : List ℕ) (number : ℕ) (why : FileRefusal) (told : Told) (reply : List ℕ) (looks p : ℕ) → IsTurnedAway old.files file open_size why → IsFileDenied number file why told reply
     → PaysFor old (form.OpenFile file) (counters looks p) (counters looks p)
 open_refused_paid old file number turned.Absent told reply looks p lacks denied = (no_steps, inl (NoSuchFile file, inl (lacks, refl), refl), none_paid looks p p refl)
-open_refused_paid old file number turned.TooLong told reply looks p long denied = (no_steps, inl (FileTooLong file, inr (long.0, long.1, long.2, refl), refl), none_paid looks p p refl)
+open_refused_paid old file number turned.Denied told reply looks p closed denied = (no_steps, inl (CannotRead file, inr (inl (closed, refl)), refl), none_paid looks p p refl)
+open_refused_paid old file number turned.TooLong told reply looks p long denied = (no_steps, inl (FileTooLong file, inr (inr (long, refl)), refl), none_paid looks p p refl)
 open_refused_paid old file number _ told reply looks p h denied = absurd denied
 
 -- the reply to a faulty image

@@ -1,8 +1,8 @@
 -- What commands that grow the store, or that give tables, or that do neither, say of what is held.
 use Rattle.span_run.proofs.Names.{Accepted, Answer, Answers, ap, AreKept, AreLive, AreLive-grows, ArePartlyAt, arith, at, Carries, Command, Compacts, counters}
-use Rattle.span_run.proofs.Names.{covered_of, Doc, Documents, Entry, Err, Files, Goes, Grows, Grows-length, Grows-none, Held, IfErr, inl, inr, IsAllowed}
-use Rattle.span_run.proofs.Names.{IsErrAnd, IsHeld, IsOfFile, IsOnce, IsPut, IsSave, IsSaved, KeepsFiles, KeepsOthers, length, List, Named, no_steps, Node}
-use Rattle.span_run.proofs.Names.{nodes_of, Ok, Option, pairs_of, PaysFor, PaysForPart, Places, plain, plain-grows, plain_versions, queries_of, Query, Quiet}
+use Rattle.span_run.proofs.Names.{covered_of, Doc, Documents, Entry, Err, Files, Goes, Grows, Grows-length, Grows-none, Held, IfErr, IfOk, inl, inr, IsAllowed}
+use Rattle.span_run.proofs.Names.{IsErrAnd, IsHeld, IsOfFile, IsOnce, IsPut, IsSaved, length, List, Named, no_steps, Node}
+use Rattle.span_run.proofs.Names.{AllowsWrites, nodes_of, Ok, open_size, Option, pairs_of, PaysFor, PaysForPart, Places, plain, plain-grows, plain_versions, queries_of, Query, Quiet}
 use Rattle.span_run.proofs.Names.{refl, Refused, Registers, Result, Rose, saved_text, Scene, scene, Serves, State, state_of, Stays, Stop, subst, sum_of, sym}
 use Rattle.span_run.proofs.Names.{Tallies, Told, with_documents, with_queries, world, world_at, ℕ, ◌+◌, ◌∙◌, ◌≡◌, ◌≤◌, ◌⊎◌}
 use Rattle.script_syntax.specs.declared.form.Command.TheVariants as form
@@ -47,6 +47,7 @@ none_tallied registers compacts told old new none kept nodes pairs placed = reco
   dropped = 0;
   none_dropped = λ _. refl;
   reached = not_one;
+  kept = not_one;
   nodes = omega (arith, nodes);
   pairs = omega (arith, pairs);
   placed = placed;
@@ -54,9 +55,9 @@ none_tallied registers compacts told old new none kept nodes pairs placed = reco
 
 -- ---- the store grew, and the documents are others
 pub grown_goes : (h : Held) (store : List Node) (docs : List Doc) (command : Command) (files after : Option Files) (faults more looks p q places : ℕ) → IsHeld h → Grows h.store store p q → AreLive store docs
-    → PaysForPart (world_at (at h files faults looks p places)) command (counters looks p) (counters looks q) → after ≡ files → faults ≤ more
+    → PaysForPart (world_at (at h files faults looks p places)) command (counters looks p) (counters looks q) → faults ≤ more
     → Goes (at h files faults looks p places) command (at (record h { store = store; docs = docs }) after more looks q places)
-grown_goes h store docs command files after faults more looks p q places is grows live begun same later =
+grown_goes h store docs command files after faults more looks p q places is grows live begun later =
     let serves = serves-grows h.store store p q h.book grows is.serves in
     record {
       held = record { live = live; kept = AreKept-grows h.store store p q grows h.versions is.kept; serves = serves };
@@ -65,7 +66,6 @@ grown_goes h store docs command files after faults more looks p q places is grow
       calls = omega (arith, grows.paid);
       begun = begun;
       placed = none_placed_part (length h.store) (length store) (covered_of h.book) places (covered-within store h.book serves);
-      files = inl same;
       faults = later;
     }
 
@@ -74,11 +74,12 @@ pub grown_state : (h : Held) (store : List Node) (docs : List Doc) (p q : ℕ) �
 grown_state h store docs p q is grows = ap (λ (v : Named Documents). record { documents = plain store docs; queries = queries_of h.book; versions = v }) (plain_versions-grows h.store store p q grows h.versions is.kept)
 
 pub grown_answers : (h : Held) (store : List Node) (docs : List Doc) (number : ℕ) (command : Command) (answer : Answer) (files after : Option Files) (faults more looks p q places : ℕ) → IsHeld h → Grows h.store store p q → AreLive store docs
-    → (Registers command → ⊥) → (Compacts command → ⊥) → PaysFor (world (state_of h) files) command (counters looks p) (counters looks q) → after ≡ files → faults ≤ more
+    → (Registers command → ⊥) → (Compacts command → ⊥) → PaysFor (world (state_of h) files) command (counters looks p) (counters looks q) → after ≡ files → more ≡ faults
     → Carries (world (state_of h) files) number command answer.told answer.line.items (world (with_documents (state_of h) (plain store docs)) files)
     → Answers (at h files faults looks p places) number command (at (record h { store = store; docs = docs }) after more looks q places) answer
-grown_answers h store docs number command answer files after faults more looks p q places is grows live other kept paid same later carries = record {
-  goes = grown_goes h store docs command files after faults more looks p q places is grows live (part_of_paid (world (state_of h) files) command (counters looks p) (counters looks q) paid) same later;
+grown_answers h store docs number command answer files after faults more looks p q places is grows live other kept paid same sound carries = record {
+  goes = grown_goes h store docs command files after faults more looks p q places is grows live (part_of_paid (world (state_of h) files) command (counters looks p) (counters looks q) paid) (omega (arith, sound));
+  sound = sound;
   carries = subst (λ (f : Option Files). Carries (world (state_of h) files) number command answer.told answer.line.items (world (state_of (record h { store = store; docs = docs })) f)) (sym same)
       (subst (λ (st : State). Carries (world (state_of h) files) number command answer.told answer.line.items (world st files)) (sym (grown_state h store docs p q is grows)) carries);
   paid = paid;
@@ -88,12 +89,16 @@ grown_answers h store docs number command answer files after faults more looks p
 
 -- the store alone grew
 pub grown_same : (h : Held) (store : List Node) (number : ℕ) (command : Command) (answer : Answer) (files after : Option Files) (faults more looks p q places : ℕ) → IsHeld h → Grows h.store store p q
-    → (Registers command → ⊥) → (Compacts command → ⊥) → PaysFor (world (state_of h) files) command (counters looks p) (counters looks q) → after ≡ files → faults ≤ more
+    → (Registers command → ⊥) → (Compacts command → ⊥) → PaysFor (world (state_of h) files) command (counters looks p) (counters looks q) → after ≡ files → more ≡ faults
     → Carries (world (state_of h) files) number command answer.told answer.line.items (world (state_of h) files)
     → Answers (at h files faults looks p places) number command (at (record h { store = store }) after more looks q places) answer
-grown_same h store number command answer files after faults more looks p q places is grows other kept paid same later carries =
-    grown_answers h store h.docs number command answer files after faults more looks p q places is grows (AreLive-grows h.store store p q grows h.docs is.live) other kept paid same later
+grown_same h store number command answer files after faults more looks p q places is grows other kept paid same sound carries =
+    grown_answers h store h.docs number command answer files after faults more looks p q places is grows (AreLive-grows h.store store p q grows h.docs is.live) other kept paid same sound
     (subst (λ (d : Documents). Carries (world (state_of h) files) number command answer.told answer.line.items (world (with_documents (state_of h) d) files)) (sym (plain-grows h.store store p q grows h.docs is.live)) carries)
+
+-- the same state and the same files are the same world
+same_world : {st su : State} {f g : Option Files} → st ≡ su → f ≡ g → world st f ≡ world su g
+same_world same files = λ i. world (same i) (files i)
 
 -- and the documents stand for the same texts
 pub grown_stays : (h : Held) (store : List Node) (docs : List Doc) (number : ℕ) (command : Command) (files after : Option Files) (faults more looks p q places : ℕ) (why : Stop) → IsHeld h → Grows h.store store p q → AreLive store docs
@@ -101,8 +106,8 @@ pub grown_stays : (h : Held) (store : List Node) (docs : List Doc) (number : ℕ
     → (why ≡ stop.ShelfFault → IsOfFile command × Rose faults more) → (why ≡ stop.OutFault → ⊥)
     → Stays (at h files faults looks p places) number command (at (record h { store = store; docs = docs }) after more looks q places) why
 grown_stays h store docs number command files after faults more looks p q places why is grows live texts begun same later shelf sink = record {
-  goes = grown_goes h store docs command files after faults more looks p q places is grows live begun same later;
-  state = inl (grown_state h store docs p q is grows ∙ ap (with_documents (state_of h)) texts);
+  goes = grown_goes h store docs command files after faults more looks p q places is grows live begun later;
+  world = inl (same_world (grown_state h store docs p q is grows ∙ ap (with_documents (state_of h)) texts) same);
   shelf = shelf;
   sink = sink;
 }
@@ -125,7 +130,7 @@ pub free_answers : (h : Held) (docs : List Doc) (number : ℕ) (command : Comman
     → Carries (world (state_of h) files) number command answer.told answer.line.items (world (with_documents (state_of h) (plain h.store docs)) files)
     → Answers (at h files faults looks pairs places) number command (at (record h { docs = docs }) files faults looks pairs places) answer
 free_answers h docs number command answer files faults looks pairs places is live other kept free carries =
-    grown_answers h h.store docs number command answer files files faults faults looks pairs pairs places is (Grows-none h.store pairs pairs (omega arith)) live other kept (no_steps, free, none_paid looks pairs pairs refl) refl (omega arith) carries
+    grown_answers h h.store docs number command answer files files faults faults looks pairs pairs places is (Grows-none h.store pairs pairs (omega arith)) live other kept (no_steps, free, none_paid looks pairs pairs refl) refl refl carries
 
 -- nothing was done
 pub stays : (h : Held) (number : ℕ) (command : Command) (files : Option Files) (faults looks pairs places : ℕ) → IsHeld h
@@ -135,16 +140,15 @@ stays h number command files faults looks pairs places is =
 
 -- ---- the store is as it was, and so are the counters
 still_goes : (h : Held) (docs : List Doc) (versions : Named (List Doc)) (book : List Entry) (command : Command) (files after : Option Files) (faults more looks pairs places : ℕ) → IsHeld h
-    → IsHeld (record h { docs = docs; versions = versions; book = book }) → KeepsFiles (λ file. IsSave file command) files after → faults ≤ more
+    → IsHeld (record h { docs = docs; versions = versions; book = book }) → faults ≤ more
     → Goes (at h files faults looks pairs places) command (at (record h { docs = docs; versions = versions; book = book }) after more looks pairs places)
-still_goes h docs versions book command files after faults more looks pairs places is now kept later = record {
+still_goes h docs versions book command files after faults more looks pairs places is now later = record {
   held = now;
   nodes = inl (omega arith);
   pairs = omega arith;
   calls = omega arith;
   begun = not_begun (world (state_of h) files) command looks pairs;
   placed = none_placed_part (length h.store) (length h.store) (covered_of h.book) places (covered-within h.store h.book is.serves);
-  files = kept;
   faults = later;
 }
 
@@ -155,7 +159,8 @@ pub booked_answers : (h : Held) (book : List Entry) (number : ℕ) (command : Co
     → Carries (world (state_of h) files) number command answer.told answer.line.items (world (with_queries (state_of h) (queries_of book)) files)
     → Answers (at h files faults looks pairs places) number command (at (record h { book = book }) files faults looks pairs places) answer
 booked_answers h book number command answer files faults looks pairs places count is serves free registered kept placed carries = record {
-  goes = still_goes h h.docs h.versions book command files files faults faults looks pairs places is (record { live = is.live; kept = is.kept; serves = serves }) (inl refl) (omega arith);
+  goes = still_goes h h.docs h.versions book command files files faults faults looks pairs places is (record { live = is.live; kept = is.kept; serves = serves }) (omega arith);
+  sound = refl;
   carries = carries;
   paid = (no_steps, free, none_paid looks pairs pairs refl);
   tallies = record {
@@ -166,6 +171,7 @@ booked_answers h book number command answer files faults looks pairs places coun
     dropped = 0;
     none_dropped = λ _. refl;
     reached = not_one;
+    kept = not_one;
     nodes = omega arith;
     pairs = omega arith;
     placed = placed;
@@ -176,8 +182,8 @@ pub booked_stops : (h : Held) (book : List Entry) (number : ℕ) (command : Comm
     → (state_of (record h { book = book }) ≡ state_of h) ⊎ ((IsOfFile command → ⊥) × ((told : Told) × (reply : List ℕ) × Carries (world (state_of h) files) number command told reply (world (state_of (record h { book = book })) files)))
     → Stays (at h files faults looks pairs places) number command (at (record h { book = book }) files faults looks pairs places) stop.NoMemory
 booked_stops h book number command files faults looks pairs places is serves state = record {
-  goes = still_goes h h.docs h.versions book command files files faults faults looks pairs places is (record { live = is.live; kept = is.kept; serves = serves }) (inl refl) (omega arith);
-  state = state;
+  goes = still_goes h h.docs h.versions book command files files faults faults looks pairs places is (record { live = is.live; kept = is.kept; serves = serves }) (omega arith);
+  world = elim state [ inl same ↦ inl (same_world same refl) | inr more ↦ inr more ];
   shelf = no_shelf;
   sink = no_sink;
 }
@@ -189,23 +195,31 @@ pub refused_answers : (h : Held) (number : ℕ) (command : Command) (answer : An
 refused_answers h number command answer files faults looks pairs places is refused free carries =
     booked_answers h h.book number command answer files faults looks pairs places 0 is is.serves free (refused_never (Registers command) answer.told refused) (refused_never (Compacts command) answer.told refused) (none_placed (length h.store) (covered_of h.book) places) carries
 
+-- the same answers over a shelf that is as it was
+pub same_shelf : (h : Held) (number : ℕ) (command : Command) (r : Result Answer Stop) (files after : Option Files) (faults more looks pairs places : ℕ) → after ≡ files → more ≡ faults
+    → IfOk r (Answers (at h files faults looks pairs places) number command (at h files faults looks pairs places)) → IfOk r (Answers (at h files faults looks pairs places) number command (at h after more looks pairs places))
+same_shelf h number command r files after faults more looks pairs places same sound answers =
+    subst (λ (f : Option Files). IfOk r (Answers (at h files faults looks pairs places) number command (at h f more looks pairs places))) (sym same)
+    (subst (λ (n : ℕ). IfOk r (Answers (at h files faults looks pairs places) number command (at h files n looks pairs places))) (sym sound) answers)
+
 -- ---- files are others
 pub saved_answers : (h : Held) (number : ℕ) (file bytes : List ℕ) (nodes : ℕ) (answer : Answer) (files after : Option Files) (faults more looks pairs places : ℕ) → IsHeld h → IsSaved (plain h.store h.docs) bytes nodes
-    → answer.told ≡ Accepted → answer.line.items ≡ saved_text (length (plain h.store h.docs)) nodes → IsPut files file bytes after → faults ≤ more
+    → length bytes ≤ open_size → AllowsWrites files file → answer.told ≡ Accepted → answer.line.items ≡ saved_text (length (plain h.store h.docs)) nodes → IsPut files file bytes after → more ≡ faults
     → Answers (at h files faults looks pairs places) number (form.SaveFile file) (at h after more looks pairs places) answer
-saved_answers h number file bytes nodes answer files after faults more looks pairs places is saved accepted written put later = record {
-  goes = still_goes h h.docs h.versions h.book (form.SaveFile file) files after faults more looks pairs places is is (inr (file, refl, put.others)) later;
-  carries = subst (λ (t : Told). Carries (world (state_of h) files) number (form.SaveFile file) t answer.line.items (world (state_of h) after)) (sym accepted) (bytes, nodes, saved, written, refl, put);
+saved_answers h number file bytes nodes answer files after faults more looks pairs places is saved short writable accepted written put sound = record {
+  goes = still_goes h h.docs h.versions h.book (form.SaveFile file) files after faults more looks pairs places is is (omega (arith, sound));
+  sound = sound;
+  carries = subst (λ (t : Told). Carries (world (state_of h) files) number (form.SaveFile file) t answer.line.items (world (state_of h) after)) (sym accepted) (bytes, nodes, saved, short, writable, written, refl, put);
   paid = (no_steps, refl, none_paid looks pairs pairs refl);
   tallies = none_tallied (Registers (form.SaveFile file)) (Compacts (form.SaveFile file)) answer.told (scene (at h files faults looks pairs places)) (scene (at h after more looks pairs places)) (never (Registers (form.SaveFile file)) (λ no. no) answer.told) (never (Compacts (form.SaveFile file)) (λ no. no) answer.told)
       (omega arith) (omega arith) (none_placed (length h.store) (covered_of h.book) places);
 }
 
-pub saved_stays : (h : Held) (number : ℕ) (file : List ℕ) (files after : Option Files) (faults more looks pairs places : ℕ) (why : Stop) → IsHeld h → KeepsOthers files after file → faults ≤ more → (why ≡ stop.ShelfFault → Rose faults more) → (why ≡ stop.OutFault → ⊥)
+pub saved_stays : (h : Held) (number : ℕ) (file : List ℕ) (files after : Option Files) (faults more looks pairs places : ℕ) (why : Stop) → IsHeld h → after ≡ files → faults ≤ more → (why ≡ stop.ShelfFault → Rose faults more) → (why ≡ stop.OutFault → ⊥)
     → Stays (at h files faults looks pairs places) number (form.SaveFile file) (at h after more looks pairs places) why
-saved_stays h number file files after faults more looks pairs places why is others later shelf sink = record {
-  goes = still_goes h h.docs h.versions h.book (form.SaveFile file) files after faults more looks pairs places is is (inr (file, refl, others)) later;
-  state = inl refl;
+saved_stays h number file files after faults more looks pairs places why is same later shelf sink = record {
+  goes = still_goes h h.docs h.versions h.book (form.SaveFile file) files after faults more looks pairs places is is later;
+  world = inl (same_world refl same);
   shelf = λ e. (tt, shelf e);
   sink = sink;
 }
@@ -216,7 +230,8 @@ pub marked_answers : (h : Held) (docs : List Doc) (versions : Named (List Doc)) 
     → Carries (world (state_of h) files) number command answer.told answer.line.items (world (state_of (record h { docs = docs; versions = versions })) files)
     → Answers (at h files faults looks pairs places) number command (at (record h { docs = docs; versions = versions }) files faults looks pairs places) answer
 marked_answers h docs versions number command answer files faults looks pairs places is live kept other keeps free carries = record {
-  goes = still_goes h docs versions h.book command files files faults faults looks pairs places is (record { live = live; kept = kept; serves = is.serves }) (inl refl) (omega arith);
+  goes = still_goes h docs versions h.book command files files faults faults looks pairs places is (record { live = live; kept = kept; serves = is.serves }) (omega arith);
+  sound = refl;
   carries = carries;
   paid = (no_steps, free, none_paid looks pairs pairs refl);
   tallies = none_tallied (Registers command) (Compacts command) answer.told (scene (at h files faults looks pairs places)) (scene (at (record h { docs = docs; versions = versions }) files faults looks pairs places)) (never (Registers command) other answer.told) (never (Compacts command) keeps answer.told)
@@ -235,7 +250,6 @@ moved_goes h store docs book command files faults looks more p q r s is grows li
   calls = omega (arith, grows.paid);
   begun = begun;
   placed = λ n few le. grown_placed_part (length h.store) r s (covered_of h.book) (covered_of book) (covered-within h.store book serves) partly steps n few few;
-  files = inl refl;
   faults = omega arith;
 }
 
@@ -251,6 +265,7 @@ pub moved_answers : (h : Held) (store : List Node) (docs : List Doc) (book : Lis
     → Answers (at h files faults looks p r) number command (at (record h { store = store; docs = docs; book = book }) files faults more q s) answer
 moved_answers h store docs book number command answer files faults looks more p q r s is grows live serves same partly steps other kept paid carries = record {
   goes = moved_goes h store docs book command files faults looks more p q r s is grows live serves partly steps (part_of_paid (world (state_of h) files) command (counters looks p) (counters more q) paid);
+  sound = refl;
   carries = subst (λ (st : State). Carries (world (state_of h) files) number command answer.told answer.line.items (world st files)) (sym (moved_state h store docs book p q is grows same)) carries;
   paid = paid;
   tallies = none_tallied (Registers command) (Compacts command) answer.told (scene (at h files faults looks p r)) (scene (at (record h { store = store; docs = docs; book = book }) files faults more q s))
@@ -264,7 +279,7 @@ pub moved_stops : (h : Held) (store : List Node) (docs : List Doc) (book : List 
     → Stays (at h files faults looks p r) number command (at (record h { store = store; docs = docs; book = book }) files faults more q s) stop.NoMemory
 moved_stops h store docs book number command files faults looks more p q r s is grows live serves same partly steps texts begun = record {
   goes = moved_goes h store docs book command files faults looks more p q r s is grows live serves partly steps begun;
-  state = inl (moved_state h store docs book p q is grows same ∙ ap (with_documents (state_of h)) texts);
+  world = inl (same_world (moved_state h store docs book p q is grows same ∙ ap (with_documents (state_of h)) texts) refl);
   shelf = no_shelf;
   sink = no_sink;
 }

@@ -15,6 +15,7 @@ pub mod Goes
 pub mod Registered
 pub mod Thinned
 pub mod Sending
+pub mod Sent
 pub mod ReplaceLemmas
 pub mod Listings
 pub mod FileLemmas

@@ -2,7 +2,7 @@
 pub use Rattle.doc_book.specs.declared.Doc.{Doc}
 pub use Rattle.doc_compact.proofs.Reached.{live-at}
 pub use Rattle.edge_io.specs.Causes.{Rose}
-pub use Rattle.edge_io.specs.Files.{Files, HasPiece, Holds, KeepsOthers}
+pub use Rattle.edge_io.specs.Files.{AllowsReads, AllowsWrites, DeniesReads, DeniesWrites, Files, HasPiece, Holds, KeepsOthers}
 pub use Rattle.edit_expr.proofs.EvalLemmas.{AreLive-grows, plain-grows}
 pub use Rattle.edit_expr.specs.Eval.{eval, greatest, operations, Outcome}
 pub use Rattle.edit_expr.specs.Expressions.{ExprReads}
@@ -20,7 +20,7 @@ pub use Rattle.query_book.specs.Serving.{ArePartlyAt, covered_of, Serves, sum_of
 pub use Rattle.query_book.specs.declared.entry.Entry.{Entry}
 pub use Rattle.report_text.specs.Reply.{name_text, query_text, refusal_text, saved_text}
 pub use Rattle.report_text.specs.declared.refusal.Refusal.{Refusal}
-pub use Rattle.report_text.specs.declared.refusal.Refusal.TheVariants.{BadImage, BadTuple, FileTooLong, NoSuchDocument, NoSuchFile, NoSuchQuery, NotOneVariable, OtherVariables, Syntax, TooLong, TooManyMatches}
+pub use Rattle.report_text.specs.declared.refusal.Refusal.TheVariants.{BadImage, BadTuple, CannotRead, CannotWrite, FileTooLong, NoSuchDocument, NoSuchFile, NoSuchQuery, NotOneVariable, OtherVariables, Syntax, TooLong, TooManyMatches}
 pub use Rattle.script_syntax.specs.declared.form.Command.{Command}
 pub use Rattle.slp_image.specs.Image.{image, Meaning}
 pub use Rattle.slp_model.proofs.NodesLemmas.{Grows-length, Grows-none, Grows-trans}
@@ -39,10 +39,10 @@ pub use Rattle.span_language.specs.Lines.{lines_of, onto_first}
 pub use Rattle.span_language.specs.Listed.{AreListed, doc_line, done_line, first_page_text, IsListReply, last_line, page_text, tuple_line}
 pub use Rattle.span_language.specs.Means.{Carried, IsAllowance, Means, Of, Replies}
 pub use Rattle.span_language.specs.Replies.{entry_text, names_text, no_text, ok_text, shown_range, yes_text}
-pub use Rattle.span_language.specs.Runs.{Adds, Anywhere, both, InFileLine, is_refused, IsFront, no_lines, Outside, outside, PlacesFew, Runs, RunsAll, RunsFront, start, Sum, UnlessList}
+pub use Rattle.span_language.specs.Runs.{Adds, Anywhere, both, Ending, InFileLine, is_refused, IsFront, no_lines, Outside, outside, PlacesFew, Runs, RunsAll, RunsFront, start, Sum, UnlessList}
 pub use Rattle.span_language.specs.Scripts.{AsksForNoDemo, OfScript, script_of}
 pub use Rattle.span_language.specs.State.{Documents, is_same, Named, nothing, put, State, taken_out, value_of, with_documents, with_queries, with_versions, World, world}
-pub use Rattle.span_language.specs.Step.{AppendsFront, Carries, Does, Finishes, Halts, IsChosenOf, IsCombineRefusal, IsList, IsOfFile, IsPut, IsRefused, IsRegistered, IsReplacing, IsSave, IsSaved, IsTextRefused, IsWithin, IsYesOrNo, KeepsFiles, Leaves, load_size, most_spans, open_size}
+pub use Rattle.span_language.specs.Step.{AppendsFront, Carries, Does, Finishes, Halts, IsChosenOf, IsCombineRefusal, IsList, IsOfFile, IsOversized, IsPut, IsRefused, IsRegistered, IsReplacing, IsSaved, IsTextRefused, IsWithin, IsYesOrNo, Leaves, load_size, most_spans, open_size}
 pub use Rattle.span_language.specs.declared.told.Stop.{Stop}
 pub use Rattle.span_language.specs.declared.told.Told.{Told}
 pub use Rattle.span_language.specs.declared.told.Told.TheVariants.{Accepted, Quiet, Refused}
@@ -50,20 +50,20 @@ pub use Rattle.span_replace.specs.Replaced.{replaced}
 pub use Rattle.span_replace.specs.declared.refusal.ReplaceRefusal.{ReplaceRefusal}
 pub use Rattle.span_run.specs.Answers.{Answers, Goes, IsAnswering, IsWellFormed, Stays}
 pub use Rattle.span_run.specs.Asked.{IsAnswered}
-pub use Rattle.span_run.specs.Carried.{Done, IsDone, IsStopped, Outlet, outlet, Passes, Stopped}
+pub use Rattle.span_run.specs.Carried.{Done, HasNoFault, IsDone, IsStopped, Outlet, outlet, Passes, Stopped}
 pub use Rattle.span_run.specs.Every.{AreAnswered, AreShort, every_text, ListsEvery, rest_text}
 pub use Rattle.span_run.specs.Held.{AreKept, IsHeld, IsStanding, nodes_of, pairs_of, plain_versions, Standing, standing_of, state_of}
 pub use Rattle.span_run.specs.Judged.{IsJudged, IsReplied, IsReplyPaid, IsWordPaid, question_of}
 pub use Rattle.span_run.specs.Listing.{HasCursor, Lists, Tells}
-pub use Rattle.span_run.specs.Reading.{IsFileFront, IsLoadPaid, IsNextPiece, IsTurnedAway}
+pub use Rattle.span_run.specs.Reading.{IsFileFront, IsLoadPaid, IsOfTheFile, IsNextPiece, IsSound, IsTurnedAway, MeansFile}
 pub use Rattle.span_run.specs.Refusing.{IsRefusedFreely}
 pub use Rattle.span_run.specs.Registering.{command_of, IsMade, IsMadeIn, IsOutcome, IsUnmade}
 pub use Rattle.span_run.specs.Replacing.{AreSources, Chooses, Replaces}
-pub use Rattle.span_run.specs.Scene.{counters_in, Scene, scene, seen, Tallies, world_in}
+pub use Rattle.span_run.specs.Scene.{counters_in, KeepsTables, Scene, scene, seen, Tallies, world_in}
 pub use Rattle.span_run.specs.Shown.{Assigns, IsDenied, IsFileDenied, IsFormulaRefusal, IsShown, IsTextRefusal, Opens}
 pub use Rattle.span_run.specs.Site.{at, Site, world_at}
 pub use Rattle.span_run.specs.Words.{IsCursorFor, IsTupleOf, IsUnread, IsUnreadCursor, IsWordRefusal}
-pub use Rattle.span_run.specs.Written.{Ends, IsCut, IsSent, IsUpTo, WantsFor, Wrote}
+pub use Rattle.span_run.specs.Written.{Ends, IsCut, IsGone, IsSent, IsUpTo, WantsFor, Wrote}
 pub use Rattle.span_run.specs.declared.answer.Answer.{Answer}
 pub use Rattle.span_run.specs.declared.held.Held.{Held}
 pub use Rattle.span_run.specs.declared.words.Unread.{Unread}

@@ -1,6 +1,6 @@
 -- A run goes on by one line.
 use Rattle.span_run.proofs.Names.{[], Adds, Allowance, Anywhere, ap, append-nil, append_assoc, Appends, Appends-kept, Appends-nil, Appends-trans, arith, Bool}
-use Rattle.span_run.proofs.Names.{both, both_of, Carried, Command, Counters, false, Halts, IfSome, InFileLine, inl, inr, is_refused, IsDone, IsFront, IsList}
+use Rattle.span_run.proofs.Names.{both, both_of, Carried, Command, Counters, Ending, false, Files, Halts, IfSome, InFileLine, inl, inr, is_refused, IsDone, IsFront, IsList}
 use Rattle.span_run.proofs.Names.{IsPaid, IsStanding, IsStopped, Leaves, length, length-append, List, Means, Named, no_lines, no_steps, nodes_of, None, nothing}
 use Rattle.span_run.proofs.Names.{Of, Option, Outlet, Outside, outside, pairs_of, PlacesFew, refl, Rose, Runs, RunsAll, RunsFront, Scene, Some, Standing, start}
 use Rattle.span_run.proofs.Names.{State, Stop, Stopped, subst, suc, Sum, sum_of, sym, take, Told, true, UnlessList, World, world, world_in, ℕ, ◌*◌, ◌++◌, ◌+◌}
@@ -104,6 +104,14 @@ at_start lines before st is none new = record {
   grown = omega (arith, ap pair_count new);
 }
 
+-- what a sink keeps back is none, also after a line that left it as it was
+pub gone_still : {K : Type 0} (kept : K → ℕ) (next now : K) → next ≡ now → kept now ≡ 0 → kept next ≡ 0
+gone_still kept next now same none = ap kept same ∙ none
+
+pub gone_on : {K Q : Type 0} (kept : K → ℕ) (next now : K) → (Q × (next ≡ now)) ⊎ (kept next ≡ 0) → kept now ≡ 0 → kept next ≡ 0
+gone_on kept next now (inl same) none = gone_still kept next now same.1 none
+gone_on kept next now (inr gone) none = gone
+
 -- a count that rose in the last part of a run rose in the run
 pub rose_later : (a b c : ℕ) → a ≤ b → Rose b c → Rose a c
 rose_later a b c le rose = omega (arith, le, rose)
@@ -149,16 +157,16 @@ module _ (lines left rest : List (List ℕ)) (line : List ℕ) (number : ℕ) (r
   part_of meaning (inl kept) = []
   part_of meaning (inr (told, reply, carried, (n, wrote))) = take n reply
 
-  part_is_front : (meaning : Option Command) (h : HaltsAt meaning) → IsFront (world_in old) (1 + length at.done) meaning (part_of meaning h)
-  part_is_front meaning (inl kept) = inl refl
-  part_is_front meaning (inr (told, reply, carried, (n, wrote))) = inr (told, reply, world_in new, n, subst (λ (k : ℕ). Carried (world_in old) k meaning told reply (world_in new)) at.counted carried, refl)
+  part_is_front : (meaning : Option Command) (h : HaltsAt meaning) → IsFront (world_in old) (1 + length at.done) meaning (part_of meaning h) new.files
+  part_is_front meaning (inl kept) = inl (refl, ap (λ (w : World). w.files) kept.world)
+  part_is_front meaning (inr (told, reply, carried, (n, wrote))) = inr (told, reply, world_in new, n, subst (λ (k : ℕ). Carried (world_in old) k meaning told reply (world_in new)) at.counted carried, refl, refl)
 
   part_written : (meaning : Option Command) (h : HaltsAt meaning) → Appends before.written after.written (at.sum.output ++ part_of meaning h)
   part_written meaning (inl kept) = Appends-trans before.written sink.written after.written at.sum.output [] at.wrote (Appends-kept sink.written sink.written after.written [] (Appends-nil sink.written) kept.written)
   part_written meaning (inr (told, reply, carried, (n, wrote))) = Appends-trans before.written sink.written after.written at.sum.output (take n reply) at.wrote wrote
 
   -- a run that is stopped in this line
-  stops : (Ends : Option Command → List ℕ → Type 0) (why : Stop) (meaning : Option Command) → IsStanding old.standing → IsStanding new.standing → Means line meaning → Stopped number meaning old sink new after why → (h : HaltsAt meaning) → Ends meaning (part_of meaning h)
+  stops : (Ends : Ending) (why : Stop) (meaning : Option Command) → IsStanding old.standing → IsStanding new.standing → Means line meaning → Stopped number meaning old sink new after why → (h : HaltsAt meaning) → Ends meaning (part_of meaning h) old.files new.files
       → RunsFront Ends lines before (told_of new after)
   stops Ends why meaning held stands means s h ends =
       let n = 256 + pairs_of old.standing + (new.pairs - old.pairs) in
@@ -173,7 +181,7 @@ module _ (lines left rest : List (List ℕ)) (line : List ℕ) (number : ℕ) (r
         ran = at.ran;
         part = part_of meaning h;
         last = s.passes.begun.0;
-        next = inr (line, rest, meaning, refl, record { means = means; front = part_is_front meaning h; allowed = s.passes.begun.1; kept = s.passes.files }, ends);
+        next = inr (line, rest, meaning, refl, record { means = means; front = part_is_front meaning h; allowed = s.passes.begun.1 }, ends);
         wrote = part_written meaning h;
         paid = both_paid at.sum.cost s.passes.begun.0 before.counters (told_of old sink).counters (told_of new after).counters at.paid s.passes.begun.2;
         placed = few_of at.sum before (told_of new after) (n + at.dropped) bound
@@ -190,7 +198,7 @@ module _ (lines left rest : List (List ℕ)) (line : List ℕ) (number : ℕ) (r
   stops_in_file held stands (inl (other, same, kept)) = let bad : ⊥ = cc other in absurd bad
   stops_in_file held stands (inr (meaning, means, s)) =
       let file = s.shelf_fault refl in
-      (file.1, stops InFileLine stop.ShelfFault meaning held stands means s (inl file.2) (file.0, refl))
+      (file.1, stops InFileLine stop.ShelfFault meaning held stands means s (inl file.2) (file.0, refl, ap (λ (w : World). w.files) file.2.world))
 
   -- want of memory, where a line of the form `list` was stopped before any of it was written unless a count rose
   pub stops_wanting : (wants : ℕ) → wants ≤ sink.wants → IsStanding old.standing → IsStanding new.standing → IsStopped line number old sink new after stop.NoMemory → RunsFront (UnlessList wants after.wants) lines before (told_of new after)
@@ -235,7 +243,7 @@ ends lines left number refused st before now none is at =
     }
 
 -- a run that ended before its first line
-pub none_ran : (Ends : Option Command → List ℕ → Type 0) (lines : List (List ℕ)) (before : Outside) → Ends None [] → RunsFront Ends lines before before
+pub none_ran : (Ends : Ending) (lines : List (List ℕ)) (before : Outside) → Ends None [] before.files before.files → RunsFront Ends lines before before
 none_ran Ends lines before ends = record {
   done = [];
   left = lines;
@@ -251,5 +259,5 @@ none_ran Ends lines before ends = record {
   placed = omega arith;
 }
 
-pub none_written : (wants : ℕ) → UnlessList wants wants None []
-none_written wants = λ list. inr refl
+pub none_written : (wants : ℕ) (files : Option Files) → UnlessList wants wants None [] files files
+none_written wants files = λ list. inr refl

@@ -1,9 +1,9 @@
 -- How a line ends: its reply was written, or a front of it, or it was stopped before.
-use Rattle.span_run.proofs.Names.{[], Allowance, Answer, Answers, Appends-nil, ArePartlyAt, arith, at, Carried, Carries, Command, Compacts, counters_in}
+use Rattle.span_run.proofs.Names.{[], Allowance, Answer, Answers, ap, Appends-nil, ArePartlyAt, arith, at, Carried, Carries, Command, Compacts, counters_in}
 use Rattle.span_run.proofs.Names.{covered_of, Done, Ends, Entry, Err, Files, Goes, Held, IfErr, IfOk, inl, inr, IsAllowance, IsAnswering, IsHeld, IsList}
 use Rattle.span_run.proofs.Names.{IsOnce, IsPaid, IsRefused, IsRefusedFreely, Keeps-refl, Leaves, length, List, MatchResult, no_steps, Of, Ok, Option, Outlet}
 use Rattle.span_run.proofs.Names.{Passes, queries_of, Quiet, refl, Refusal, refusal_text, Refused, Registers, Replies, Result, Scene, scene, seen, Serves, Site}
-use Rattle.span_run.proofs.Names.{Some, standing_of, state_of, Stays, Stop, Stopped, subst, sum_of, sym, Tallies, Told, WantsFor, World, world, world_in, Wrote}
+use Rattle.span_run.proofs.Names.{Some, standing_of, State, state_of, Stays, Stop, Stopped, subst, sum_of, sym, Tallies, Told, WantsFor, World, world, world_in, Wrote}
 use Rattle.span_run.proofs.Names.{ℕ, ◌+◌, ◌≡◌, ◌≤◌, ◌⊎◌}
 use Rattle.script_syntax.specs.declared.form.Command.TheVariants as form
 use Rattle.span_language.specs.declared.told.Stop.TheVariants as stop
@@ -20,7 +20,6 @@ passes_of old new command before after goes later wants_later = record {
   calls = goes.calls;
   begun = goes.begun;
   placed = goes.placed;
-  files = goes.files;
   shelf_later = goes.faults;
   later = later;
   wants_later = wants_later;
@@ -28,16 +27,18 @@ passes_of old new command before after goes later wants_later = record {
 
 -- a line whose reply was written, or a front of it
 pub written_ends : (number : ℕ) (meaning : Option Command) (old new : Scene) (before after : Outlet) (told : Told) (reply : List ℕ) (r : Result Told Stop)
-    → (before.faults ≤ after.faults → before.wants ≤ after.wants → Passes meaning old before new after) → Replies meaning → Carried (world_in old) number meaning told reply (world_in new)
+    → (before.faults ≤ after.faults → before.wants ≤ after.wants → Passes meaning old before new after) → new.faults ≡ old.faults → Replies meaning → Carried (world_in old) number meaning told reply (world_in new)
     → ((a : Allowance) × IsAllowance (world_in old) meaning a × IsPaid a (counters_in old) (counters_in new)) → Tallies (Of Registers meaning) (Of Compacts meaning) told old new
-    → (Of IsList meaning → ⊥) ⊎ (WantsFor r before after × ((world_in new).state ≡ (world_in old).state)) → IfOk r (λ t. t ≡ told) → Wrote r before reply after → Ends number meaning old before new after r
-written_ends number meaning old new before after told reply (Ok t) passes replied carried paid tallies wants is sent = record {
-  passes = passes sent.later sent.wants_later;
+    → (Of IsList meaning → ⊥) ⊎ (WantsFor r before after × (world_in new ≡ world_in old)) → IfOk r (λ t. t ≡ told) → Wrote r before reply after → Ends number meaning old before new after r
+written_ends number meaning old new before after told reply (Ok t) passes sound replied carried paid tallies wants is sent = record {
+  passes = passes (omega (arith, sent.sound.0)) (omega (arith, sent.sound.1));
+  shelf_sound = sound;
+  sink_sound = sent.sound;
   finishes = (reply, subst (λ (x : Told). Carried (world_in old) number meaning x reply (world_in new)) (sym is) carried, sent.appends);
   paid = paid;
   tallies = subst (λ (x : Told). Tallies (Of Registers meaning) (Of Compacts meaning) x old new) (sym is) tallies;
 }
-written_ends number meaning old new before after told reply (Err why) passes replied carried paid tallies wants is cut = record {
+written_ends number meaning old new before after told reply (Err why) passes sound replied carried paid tallies wants is cut = record {
   passes = passes cut.later cut.wants_later;
   halts = inr (told, reply, carried, cut.front);
   fault = λ e. (replied, cut.fault e);
@@ -46,7 +47,7 @@ written_ends number meaning old new before after told reply (Err why) passes rep
     | inl other ↦ inl other
     | inr (want, same) ↦ inr (elim (want e) [
       | inl rose ↦ inl rose
-      | inr kept ↦ inr (record { written = kept; state = same })
+      | inr kept ↦ inr (record { written = kept; world = same })
     ])
   ];
 }
@@ -62,23 +63,23 @@ lists_none _ answering list = list
 pub answer_ends : (old new : Site) (number : ℕ) (command : Command) (answer : Answer) (before after : Outlet) (r : Result Told Stop) → IsAnswering command → Answers old number command new answer
     → IfOk r (λ t. t ≡ answer.told) → Wrote r before answer.line.items after → Ends number (Some command) (scene old) before (scene new) after r
 answer_ends old new number command answer before after r answering a is wrote =
-    written_ends number (Some command) (scene old) (scene new) before after answer.told answer.line.items r (passes_of old new command before after a.goes) (replies command answering) a.carries a.paid a.tallies
+    written_ends number (Some command) (scene old) (scene new) before after answer.told answer.line.items r (passes_of old new command before after a.goes) a.sound (replies command answering) a.carries a.paid a.tallies
     (inl (lists_none command answering)) is wrote
 
 -- a command that was stopped before it had an answer
 pub stays_stopped : (old new : Site) (number : ℕ) (command : Command) (before : Outlet) (why : Stop) → IsAnswering command → Stays old number command new why → Stopped number (Some command) (scene old) before (scene new) before why
 stays_stopped old new number command before why answering s = record {
   passes = passes_of old new command before before s.goes (omega arith) (omega arith);
-  halts = elim s.state [
-    | inl same ↦ inl (record { written = Keeps-refl before.written; state = same })
+  halts = elim s.world [
+    | inl same ↦ inl (record { written = Keeps-refl before.written; world = same })
     | inr more ↦ inr (more.1.0, more.1.1, more.1.2, (waits (starts before more.1.1)).front)
   ];
   fault = λ is. absurd (s.sink is);
   shelf_fault = λ is. let file = s.shelf is in (
     file.0,
     file.1,
-    elim s.state [
-      | inl same ↦ record { written = Keeps-refl before.written; state = same }
+    elim s.world [
+      | inl same ↦ record { written = Keeps-refl before.written; world = same }
       | inr more ↦ absurd (more.0 file.0)
     ],
   );
@@ -91,7 +92,7 @@ pub unplaced_stops : (h : Held) (book : List Entry) (number : ℕ) (command : Co
     → Stopped number (Some command) (seen (standing_of h) files faults looks pairs p) before (seen (standing_of (record h { book = book })) files faults looks pairs q) before stop.NoMemory
 unplaced_stops h book number command files faults looks pairs p q before is serves same partly steps =
     let goes = (unplaced h book number command files faults looks pairs p q is serves same partly steps).goes in
-    let left : Leaves (world (state_of h) files) before.written before.written (world (state_of (record h { book = book })) files) = record { written = Keeps-refl before.written; state = same_queries h book same } in
+    let left : Leaves (world (state_of h) files) before.written before.written (world (state_of (record h { book = book })) files) = record { written = Keeps-refl before.written; world = ap (λ (st : State). world st files) (same_queries h book same) } in
     record {
       passes = passes_of (at h files faults looks pairs p) (at (record h { book = book }) files faults looks pairs q) command before before goes (omega arith) (omega arith);
       halts = inl left;
@@ -109,7 +110,6 @@ passes_by meaning h files faults looks pairs places before after is later wants_
   calls = omega arith;
   begun = (no_steps, inl refl, none_paid looks pairs pairs refl);
   placed = none_placed_part (length h.store) (length h.store) (covered_of h.book) places (covered-within h.store h.book is.serves);
-  files = inl refl;
   shelf_later = omega arith;
   later = later;
   wants_later = wants_later;
@@ -124,6 +124,8 @@ pub quiet_done : (number : ℕ) (h : Held) (files : Option Files) (faults looks 
     → Done number (Some form.Nothing) (seen (standing_of h) files faults looks pairs places) before (seen (standing_of h) files faults looks pairs places) before Quiet
 quiet_done number h files faults looks pairs places before is = record {
   passes = passes_by (Some form.Nothing) h files faults looks pairs places before before is (omega arith) (omega arith);
+  shelf_sound = refl;
+  sink_sound = (refl, refl);
   finishes = ([], (refl, refl, refl), Appends-nil before.written);
   paid = (no_steps, refl, none_paid looks pairs pairs refl);
   tallies = calm_tallied (Registers form.Nothing) (Compacts form.Nothing) Quiet h files faults looks pairs places refl refl;
@@ -136,7 +138,7 @@ pub still_ends : (number : ℕ) (meaning : Option Command) (h : Held) (files : O
     → Ends number meaning (seen (standing_of h) files faults looks pairs places) before (seen (standing_of h) files faults looks pairs places) after r
 still_ends number meaning h files faults looks pairs places before after told reply r is replied carried free none kept wants is_told wrote =
     let here = seen (standing_of h) files faults looks pairs places in
-    written_ends number meaning here here before after told reply r (passes_by meaning h files faults looks pairs places before after is) replied carried
+    written_ends number meaning here here before after told reply r (passes_by meaning h files faults looks pairs places before after is) refl replied carried
     (no_steps, free, none_paid looks pairs pairs refl) (calm_tallied (Of Registers meaning) (Of Compacts meaning) told h files faults looks pairs places none kept)
     (elim wants [ inl other ↦ inl other | inr want ↦ inr (want, refl) ]) is_told wrote
 

@@ -97,9 +97,9 @@ module _ (h : Held) (store : List Node) (docs : List Doc) (versions : Named (Lis
       calls = omega arith;
       begun = not_begun (world (state_of h) files) form.Compact looks pairs;
       placed = λ n least le. none_placed_part (length h.store) (length h.store) (covered_of h.book) places (covered-within h.store h.book is.serves) n least least;
-      files = inl refl;
       faults = omega arith;
     };
+    sound = refl;
     carries = subst (λ (t : Told). Carries (world (state_of h) files) number form.Compact t answer.line.items (world (state_of compacted) files)) (sym accepted) (written, ap (λ (st : State). world st files) same_state);
     paid = (no_steps, refl, none_paid looks pairs pairs refl);
     tallies = record {
@@ -110,6 +110,7 @@ module _ (h : Held) (store : List Node) (docs : List Doc) (versions : Named (Lis
       dropped = length h.store - length store;
       none_dropped = λ no. let bad : ⊥ = cc no in absurd bad;
       reached = λ _. c.reached;
+      kept = λ _. record { keep = keep; thin = c.trees; covered = moved };
       nodes = omega arith;
       pairs = omega (arith, few, pairs_left, pairs-few store);
       placed = placed;

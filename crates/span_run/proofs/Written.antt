@@ -27,7 +27,7 @@ front_of_whole a b c before piece after whole is first (n, second) =
 
 -- ---- a listing in progress
 pub none_sent : (a : Outlet) → IsSent a [] a
-none_sent a = record { appends = Appends-nil a.written; later = omega arith; wants_later = omega arith }
+none_sent a = record { appends = Appends-nil a.written; sound = (refl, refl) }
 
 pub starts : (a : Outlet) (whole : List ℕ) → IsUpTo a a whole whole
 starts a whole = record { done = []; sent = none_sent a; cut = refl }
@@ -37,8 +37,7 @@ sent_on {a} {b} {c} {whole} piece left line h is wrote = record {
   done = h.done ++ piece;
   sent = record {
     appends = Appends-trans a.written b.written c.written h.done piece h.sent.appends (subst (λ (l : List ℕ). Appends b.written c.written l) is wrote.appends);
-    later = omega (arith, h.sent.later, wrote.later);
-    wants_later = omega (arith, h.sent.wants_later, wrote.wants_later);
+    sound = (wrote.sound.0 ∙ h.sent.sound.0, wrote.sound.1 ∙ h.sent.sound.1);
   };
   cut = h.cut ∙ sym (append_assoc h.done piece left);
 }
@@ -47,17 +46,17 @@ pub stops : {a b c : Outlet} {whole : List ℕ} {why : Stop} (piece left line : 
 stops {a} {b} {c} {whole} {why} piece left line h is stopped = record {
   front = front_of_whole a.written b.written c.written h.done piece left whole (h.cut ∙ sym (append_assoc h.done piece left)) h.sent.appends
       (subst (λ (l : List ℕ). AppendsFront b.written c.written l) is stopped.front);
-  later = omega (arith, h.sent.later, stopped.later);
-  wants_later = omega (arith, h.sent.wants_later, stopped.wants_later);
-  fault = λ e. let rose = stopped.fault e in omega (arith, h.sent.later, rose);
+  later = omega (arith, h.sent.sound.0, stopped.later);
+  wants_later = omega (arith, h.sent.sound.1, stopped.wants_later);
+  fault = λ e. let rose = stopped.fault e in omega (arith, h.sent.sound.0, rose);
   no_shelf = stopped.no_shelf;
 }
 
 pub waits : {a b : Outlet} {left whole : List ℕ} → IsUpTo a b left whole → IsCut a whole b stop.NoMemory
 waits {a} {b} {left} {whole} h = record {
   front = (length h.done, subst (λ (l : List ℕ). Appends a.written b.written l) (sym (ap (λ (l : List ℕ). take (length h.done) l) h.cut ∙ take-append_seam h.done left)) h.sent.appends);
-  later = h.sent.later;
-  wants_later = h.sent.wants_later;
+  later = omega (arith, h.sent.sound.0);
+  wants_later = omega (arith, h.sent.sound.1);
   fault = λ e. let bad : ⊥ = cc e in absurd bad;
   no_shelf = λ e. cc e;
 }

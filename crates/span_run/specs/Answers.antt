@@ -9,17 +9,17 @@ use Rattle.script_syntax.specs.declared.form.Command.TheVariants as form
 use Rattle.query_book.specs.Serving.{covered_of}
 use Rattle.span_language.specs.Allowance.{PaysFor, PaysForPart}
 use Rattle.span_language.specs.Counts.{Compacts, PlacesPart, Registers}
-use Rattle.span_language.specs.Step.{Carries, IsOfFile, IsSave, KeepsFiles}
+use Rattle.span_language.specs.Step.{Carries, IsOfFile}
 use Rattle.span_run.specs.declared.answer.Answer.{Answer}
 use Rattle.span_language.specs.declared.told.Told.{Told}
 use Rattle.span_language.specs.declared.told.Stop.{Stop}
 use Rattle.span_language.specs.declared.told.Stop.TheVariants as stop
 use Rattle.span_run.specs.declared.held.Held.{Held}
-use Rattle.span_run.specs.Held.{IsHeld, state_of}
+use Rattle.span_run.specs.Held.{IsHeld}
 use Rattle.span_run.specs.Site.{Site, at, world_at, counters_at}
 use Rattle.span_run.specs.Scene.{Tallies, scene}
 
--- what holds however a command ends: the invariant, what was paid at most, and that the files stay but perhaps one that is saved to
+-- what holds however a command ends: the invariant, and what was paid at most
 pub record Goes (old : Site) (command : Command) (new : Site) : Type 0 where
   pub held : IsHeld new.held
   pub nodes : (length old.held.store ≤ length new.held.store) ⊎ Compacts command
@@ -27,20 +27,20 @@ pub record Goes (old : Site) (command : Command) (new : Site) : Type 0 where
   pub calls : old.pairs ≤ new.pairs
   pub begun : PaysForPart (world_at old) command (counters_at old) (counters_at new)
   pub placed : PlacesPart (length old.held.store) (length new.held.store) (covered_of old.held.book) old.places new.places
-  pub files : KeepsFiles (λ file. IsSave file command) old.files new.files
   pub faults : old.faults ≤ new.faults
 
--- the command has this answer here, and leaves that site
+-- the command has this answer here, and leaves that site: the shelf had no fault
 pub record Answers (old : Site) (number : ℕ) (command : Command) (new : Site) (answer : Answer) : Type 0 where
   pub goes : Goes old command new
+  pub sound : new.faults ≡ old.faults
   pub carries : Carries (world_at old) number command answer.told answer.line.items (world_at new)
   pub paid : PaysFor (world_at old) command (counters_at old) (counters_at new)
   pub tallies : Tallies (Registers command) (Compacts command) answer.told (scene old) (scene new)
 
--- the command was stopped for this reason: the state is as before, or, where it is no command of a file, as an answer allows
+-- the command was stopped for this reason: the state and the files are as before, or, where it is no command of a file, as an answer allows
 pub record Stays (old : Site) (number : ℕ) (command : Command) (new : Site) (why : Stop) : Type 0 where
   pub goes : Goes old command new
-  pub state : (state_of new.held ≡ state_of old.held)
+  pub world : (world_at new ≡ world_at old)
       ⊎ ((IsOfFile command → ⊥) × ((told : Told) × (reply : List ℕ) × Carries (world_at old) number command told reply (world_at new)))
   pub shelf : why ≡ stop.ShelfFault → IsOfFile command × Rose old.faults new.faults
   pub sink : why ≡ stop.OutFault → ⊥

@@ -5,7 +5,7 @@ use Rattle.script_syntax.specs.declared.form.Command.{Command}
 use Rattle.span_language.specs.Allowance.{Allowance, IsPaid, no_steps}
 use Rattle.span_language.specs.Counts.{Compacts, PlacesPart, Registers}
 use Rattle.span_language.specs.Means.{Carried, IsAllowance, Means, Of, Replies}
-use Rattle.span_language.specs.Step.{Finishes, Halts, IsList, IsOfFile, IsSave, KeepsFiles, Leaves}
+use Rattle.span_language.specs.Step.{Finishes, Halts, IsList, IsOfFile, Leaves}
 use Rattle.span_language.specs.declared.told.Told.{Told}
 use Rattle.span_language.specs.declared.told.Stop.{Stop}
 use Rattle.span_language.specs.declared.told.Stop.TheVariants as stop
@@ -28,14 +28,19 @@ pub record Passes (meaning : Option Command) (old : Scene) (before : Outlet) (ne
   pub calls : old.pairs ≤ new.pairs
   pub begun : (a : Allowance) × ((a ≡ no_steps) ⊎ IsAllowance (world_in old) meaning a) × IsPaid a (counters_in old) (counters_in new)
   pub placed : PlacesPart (nodes_of old.standing) (nodes_of new.standing) old.standing.covered old.places new.places
-  pub files : KeepsFiles (λ file. Of (IsSave file) meaning) old.files new.files
   pub shelf_later : old.faults ≤ new.faults
   pub later : before.faults ≤ after.faults
   pub wants_later : before.wants ≤ after.wants
 
--- it was done, and told this
+-- the sink neither failed nor found no memory
+abbrev pub HasNoFault : Outlet → Outlet → Type 0
+HasNoFault before after = (after.faults ≡ before.faults) × (after.wants ≡ before.wants)
+
+-- it was done, and told this: the shelf and the sink had no fault
 pub record Done (number : ℕ) (meaning : Option Command) (old : Scene) (before : Outlet) (new : Scene) (after : Outlet) (told : Told) : Type 0 where
   pub passes : Passes meaning old before new after
+  pub shelf_sound : new.faults ≡ old.faults
+  pub sink_sound : HasNoFault before after
   pub finishes : Finishes (Carried (world_in old) number meaning) told before.written after.written (world_in new)
   pub paid : (a : Allowance) × IsAllowance (world_in old) meaning a × IsPaid a (counters_in old) (counters_in new)
   pub tallies : Tallies (Of Registers meaning) (Of Compacts meaning) told old new

@@ -1,13 +1,14 @@
 -- Files that are read in pieces.
-use Rattle.std.specs.Prelude.{◌≡◌, ◌⊎◌, ℕ, ◌+◌, ◌<◌, ◌≤◌, List, ◌++◌, Option, Some, IfSome, length, take}
+use Rattle.std.specs.Prelude.{◌≡◌, ◌⊎◌, ℕ, ◌+◌, ◌<◌, ◌≤◌, List, ◌++◌, Option, Some, IfSome, IsFalse, MatchResult, Result, length, take}
 use Rattle.std.specs.Io.KnownBytes.{Consumes}
-use Rattle.edge_io.specs.Files.{Files, Holds, file_of}
+use Rattle.edge_io.specs.Files.{AllowsReads, DeniesReads, Files, Holds, LacksFile, file_of, reads_closed}
 use Rattle.edge_io.specs.declared.ShelfRefusal.{ShelfRefusal}
 use Rattle.edge_io.specs.declared.ShelfRefusal.TheVariants as shelf
-use Rattle.span_language.specs.Step.{IsWithin, Lacks, load_size}
+use Rattle.slp_image.specs.Image.{image}
+use Rattle.span_language.specs.Step.{IsOversized, IsWithin, load_size, open_size}
 use Rattle.span_language.specs.Allowance.{load_limit}
 use Rattle.span_run.specs.declared.reading.FileRefusal.{FileRefusal}
-use Rattle.span_run.specs.declared.reading.FileRefusal.TheVariants.{Absent, TooLong, Failed, NoMemory}
+use Rattle.span_run.specs.declared.reading.FileRefusal.TheVariants.{Absent, Denied, TooLong, Failed, NoMemory}
 
 -- at most so many bytes are taken from what is left
 abbrev pub TakesAtMost : ℕ → Option (List ℕ) → Option (List ℕ) → Type 0
@@ -18,24 +19,43 @@ abbrev pub of_shelf : ShelfRefusal → FileRefusal
 of_shelf shelf.Failed = Failed
 of_shelf shelf.NoMemory = NoMemory
 of_shelf shelf.Absent = Absent
+of_shelf shelf.Denied = Denied
 
 -- what a refusal of a file says
 abbrev pub IsTurnedAway : Option Files → List ℕ → ℕ → FileRefusal → Type 0
-IsTurnedAway files name limit Absent = Lacks files name
-IsTurnedAway files name limit TooLong = (bytes : List ℕ) × Holds files name bytes × (limit < length bytes)
+IsTurnedAway files name limit Absent = LacksFile files name
+IsTurnedAway files name limit Denied = DeniesReads files name
+IsTurnedAway files name limit TooLong = IsOversized files name limit
 IsTurnedAway files name limit Failed = Unit {0}
 IsTurnedAway files name limit NoMemory = Unit {0}
 
--- the file of this name has at most so many bytes, and begins with these
+-- the refusal is of the file itself, neither a fault nor want of memory
+abbrev pub IsOfTheFile : FileRefusal → Type 0
+IsOfTheFile Failed = ⊥
+IsOfTheFile NoMemory = ⊥
+IsOfTheFile _ = Unit {0}
+
+-- the shelf's count of faults stood, but where the file was not read for a fault or want of memory
+abbrev pub IsSound : {T : Type 0} → Result T FileRefusal → ℕ → ℕ → Type 0
+IsSound result before after = MatchResult result (λ _. after ≡ before) (λ why. IsOfTheFile why → after ≡ before)
+
+-- the file of this name is open for reading, has at most so many bytes, and begins with these
 pub record IsFrontOf (all : Files) (name : List ℕ) (limit : ℕ) (front : List ℕ) : Type 0 where
   pub file : List ℕ
   pub there : file_of all name ≡ Some file
+  pub readable : IsFalse (reads_closed all name)
   pub short : length file ≤ limit
   pub begins : front ≡ take (length front) file
 
 -- where the files are told
 abbrev pub IsFileFront : Option Files → List ℕ → ℕ → List ℕ → Type 0
 IsFileFront files name limit front = IfSome files (λ all. IsFrontOf all name limit front)
+
+-- the file, which is within the limit of `open`, means as an image what these bytes mean
+pub record MeansFile (files : Option Files) (name bytes : List ℕ) : Type 0 where
+  pub all : List ℕ
+  pub within : IsWithin files name open_size all
+  pub same : image all ≡ image bytes
 
 -- what was read of a file behind a front of so many bytes: the file begins with both, and where nothing was read the front is all of it
 abbrev pub IsNextPiece : Option Files → List ℕ → ℕ → ℕ → List ℕ → Type 0

@@ -1,6 +1,8 @@
 -- A site as callers of a session see it.
-use Rattle.std.specs.Prelude.{◌≡◌, ℕ, ◌+◌, ◌*◌, ◌≤◌, Option}
+use Rattle.std.specs.Prelude.{◌≡◌, ℕ, Bool, List, ◌+◌, ◌*◌, ◌≤◌, Option}
 use Rattle.edge_io.specs.Files.{Files}
+use Rattle.slp_model.specs.Thin.{IsThinOf}
+use Rattle.query_book.specs.Renumbering.{ranked}
 use Rattle.span_language.specs.State.{World, world}
 use Rattle.span_language.specs.Allowance.{Counters, counters}
 use Rattle.span_language.specs.Counts.{IsOnce, Places}
@@ -30,8 +32,15 @@ world_in s = world s.standing.state s.files
 abbrev pub counters_in : Scene → Counters
 counters_in s = counters s.looks s.pairs
 
+-- the store has the nodes that are kept, and of these each query has the tables that it had
+pub record KeepsTables (old new : Standing) : Type 0 where
+  pub keep : List Bool
+  pub thin : IsThinOf old.store keep new.store
+  pub covered : new.covered ≡ ranked keep old.covered
+
 -- what a line says of nodes, pairs and tables, where such a line may register a query, or compact: only an accepted line that compacts
--- drops nodes, and beside pairs no more than the 256 bytes; and then each node that is left is reached from a document or a version
+-- drops nodes, and beside pairs no more than the 256 bytes; then each node that is left is reached from a document or a version, and no table
+-- of one is lost
 pub record Tallies (registers compacts : Type 0) (told : Told) (old new : Scene) : Type 0 where
   pub queries : ℕ
   pub registered : IsOnce registers told queries
@@ -41,5 +50,6 @@ pub record Tallies (registers compacts : Type 0) (told : Told) (old new : Scene)
   pub none_dropped : compactions ≡ 0 → dropped ≡ 0
   pub nodes : nodes_of old.standing ≤ nodes_of new.standing + dropped
   pub reached : compactions ≡ 1 → IsCompact new.standing
+  pub kept : compactions ≡ 1 → KeepsTables old.standing new.standing
   pub pairs : pairs_of new.standing + dropped + old.pairs ≤ pairs_of old.standing + new.pairs + 256 * compactions
   pub placed : Places queries dropped (nodes_of new.standing) old.standing.covered new.standing.covered old.places new.places

@@ -12,9 +12,9 @@ use Rattle.slp_image.specs.Image.{Meaning}
 use Rattle.slp_image.specs.declared.refusal.ImageRefusal.{ImageRefusal}
 use Rattle.report_text.specs.Reply.{shown_text, opened_text, refusal_text}
 use Rattle.report_text.specs.declared.refusal.Refusal.{Refusal}
-use Rattle.report_text.specs.declared.refusal.Refusal.TheVariants.{NoSuchFile, FileTooLong, BadImage}
+use Rattle.report_text.specs.declared.refusal.Refusal.TheVariants.{NoSuchFile, CannotRead, FileTooLong, BadImage}
 use Rattle.span_run.specs.declared.reading.FileRefusal.{FileRefusal}
-use Rattle.span_run.specs.declared.reading.FileRefusal.TheVariants.{Absent, TooLong, Failed, NoMemory}
+use Rattle.span_run.specs.declared.reading.FileRefusal.TheVariants.{Absent, Denied, TooLong, Failed, NoMemory}
 use Rattle.span_language.specs.State.{Documents, put}
 use Rattle.span_language.specs.Replies.{given_text, IsEditRefusal}
 use Rattle.span_language.specs.declared.told.Told.{Told}
@@ -31,6 +31,7 @@ IsDenied number refusal told reply = (told ≡ Refused) × (why : Refusal) × Is
 -- the reply gives the refusal of a file
 abbrev pub IsFileDenied : ℕ → List ℕ → FileRefusal → Told → List ℕ → Type 0
 IsFileDenied number file Absent told reply = (told ≡ Refused) × (reply ≡ refusal_text number (NoSuchFile file))
+IsFileDenied number file Denied told reply = (told ≡ Refused) × (reply ≡ refusal_text number (CannotRead file))
 IsFileDenied number file TooLong told reply = (told ≡ Refused) × (reply ≡ refusal_text number (FileTooLong file))
 IsFileDenied number file Failed told reply = ⊥
 IsFileDenied number file NoMemory told reply = ⊥

@@ -1,5 +1,5 @@
 -- What calls that write do to a sink, and how a line ends that was stopped or told.
-use Rattle.std.specs.Prelude.{◌≡◌, ◌⊎◌, ℕ, ◌≤◌, List, ◌++◌, Option, Result, IfErr, MatchResult}
+use Rattle.std.specs.Prelude.{◌≡◌, ◌⊎◌, ℕ, ◌≤◌, List, ◌++◌, Option, Result, IfErr, MatchResult, OnOk}
 use Rattle.std.specs.Io.KnownBytes.{Appends, Keeps}
 use Rattle.edge_io.specs.Causes.{Rose}
 use Rattle.script_syntax.specs.declared.form.Command.{Command}
@@ -7,14 +7,13 @@ use Rattle.span_language.specs.Step.{AppendsFront}
 use Rattle.span_language.specs.declared.told.Told.{Told}
 use Rattle.span_language.specs.declared.told.Stop.{Stop}
 use Rattle.span_language.specs.declared.told.Stop.TheVariants as stop
-use Rattle.span_run.specs.Carried.{Done, Outlet, Stopped}
+use Rattle.span_run.specs.Carried.{Done, HasNoFault, Outlet, Stopped}
 use Rattle.span_run.specs.Scene.{Scene}
 
--- a piece was written whole
+-- a piece was written whole, without a fault
 pub record IsSent (before : Outlet) (piece : List ℕ) (after : Outlet) : Type 0 where
   pub appends : Appends before.written after.written piece
-  pub later : before.faults ≤ after.faults
-  pub wants_later : before.wants ≤ after.wants
+  pub sound : HasNoFault before after
 
 -- a front of it was, and then the call was stopped for this reason
 pub record IsCut (before : Outlet) (piece : List ℕ) (after : Outlet) (why : Stop) : Type 0 where
@@ -31,6 +30,10 @@ Wrote result before piece after = MatchResult result (λ _. IsSent before piece 
 -- a call found no memory only where the sink found none, or nothing was written
 abbrev pub WantsFor : {T : Type 0} → Result T Stop → Outlet → Outlet → Type 0
 WantsFor result before after = IfErr result (λ why. why ≡ stop.NoMemory → Rose before.wants after.wants ⊎ Keeps before.written after.written)
+
+-- where the call was accepted all that was written has gone out, unless there was no reply
+abbrev pub IsGone : {T : Type 0} → Result T Stop → Type 0 → ℕ → Type 0
+IsGone result quiet kept = OnOk result (quiet ⊎ (kept ≡ 0))
 
 -- of the whole all was written but what is left
 pub record IsUpTo (before after : Outlet) (left whole : List ℕ) : Type 0 where

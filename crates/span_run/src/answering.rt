@@ -70,7 +70,10 @@ pub fn answer<R: Threads + Sync, F: Shelf, G: Gate, P: Ledger, T: Ledger, L: Led
         Command::Has { query, name, tuple } => {
             ask(context, held, query, name, Some(tuple), places, looks)
         }
-        Command::SaveFile { file } => save_file(held, number, file, shelf),
+        Command::SaveFile { file } => {
+            held.settle();
+            save_file(held, number, file, shelf)
+        }
         Command::OpenFile { file } => open_file(held, number, file, shelf, pairs),
         Command::ReplaceDoc {
             name,
@@ -93,7 +96,10 @@ pub fn answer<R: Threads + Sync, F: Shelf, G: Gate, P: Ledger, T: Ledger, L: Led
         Command::MarkDocs { name } => mark(held, number, name),
         Command::UnmarkDocs { name } => unmark(held, number, name),
         Command::BackDocs { name } => back(held, number, name),
-        Command::Compact => compact(held, number),
+        Command::Compact => {
+            held.settle();
+            compact(held, number)
+        }
         Command::Nothing | Command::Names | Command::List { .. } | Command::ListAll { .. } => {
             unreachable!()
         }

@@ -1,5 +1,5 @@
 //! What a line does to what is held, and to the outside.
-ghost use Rattle.std.specs.Prelude.{ℕ, Option, Some, IfOk, IfErr};
+ghost use Rattle.std.specs.Prelude.{◌≡◌, ◌⊎◌, ℕ, Option, Some, IfOk, IfErr};
 ghost use Rattle.edge_io.specs.Files.{Files};
 ghost use Rattle.script_syntax.specs.declared.form.Command.TheVariants as form;
 ghost use Rattle.span_language.specs.Step.{IsShort};
@@ -15,7 +15,7 @@ use crate::documents::write_names;
 use crate::every::list_all;
 use crate::held::Held;
 use crate::listing::{Page, list};
-use crate::offer::{send, send_refusal};
+use crate::offer::{send, send_out, send_refusal};
 use edge_io::{Shelf, Sink};
 use report_text::Refusal;
 use script_syntax::{Command, LineRefusal, command};
@@ -41,6 +41,7 @@ fn reply<R: Threads + Sync, K: Sink, F: Shelf, G: Gate, P: Ledger, T: Ledger, L:
     requires short { IsShort command }
     requires well_formed { IsWellFormed command }
     ensures held { IsHeld held.new }
+    ensures unsent { IfErr result (λ why. why ≡ Stop.ShelfFault → out.new ≡ out.old) }
     ensures ends { Ends context.entry.number (Some command)
         (seen (standing_of held.old) (F.files shelf.old) (F.faults shelf.old) looks.old pairs.old places.old)
         (outlet (K.written out.old) (K.faults out.old) (K.wants out.old))
@@ -79,6 +80,8 @@ fn carry<R: Threads + Sync, K: Sink, F: Shelf, G: Gate, P: Ledger, T: Ledger, L:
     requires short { IsShort command }
     requires well_formed { IsWellFormed command }
     ensures held { IsHeld held.new }
+    ensures quiet { IfOk result (λ told. told ≡ Told.Quiet → out.new ≡ out.old) }
+    ensures unsent { IfErr result (λ why. why ≡ Stop.ShelfFault → out.new ≡ out.old) }
     ensures ends { Ends context.entry.number (Some command)
         (seen (standing_of held.old) (F.files shelf.old) (F.faults shelf.old) looks.old pairs.old places.old)
         (outlet (K.written out.old) (K.faults out.old) (K.wants out.old))
@@ -87,7 +90,10 @@ fn carry<R: Threads + Sync, K: Sink, F: Shelf, G: Gate, P: Ledger, T: Ledger, L:
 {
     match command {
         Command::Nothing => Ok(Told::Quiet),
-        Command::Names => names(held, out),
+        Command::Names => {
+            held.settle();
+            names(held, out)
+        }
         Command::List {
             query,
             name,
@@ -103,13 +109,16 @@ fn carry<R: Threads + Sync, K: Sink, F: Shelf, G: Gate, P: Ledger, T: Ledger, L:
             places,
             looks,
         ),
-        Command::ListAll { query, limit } => list_all(context, held, query, limit, out, places),
+        Command::ListAll { query, limit } => {
+            held.settle();
+            list_all(context, held, query, limit, out, places)
+        }
         command => reply(context, held, command, out, shelf, pairs, places, looks),
     }
 }
 
-/// Does a line, and writes its reply.
-pub fn carry_line<R: Threads + Sync, K: Sink, F: Shelf, G: Gate, P: Ledger, T: Ledger, L: Ledger>(
+/// Does a line, and writes its reply, of which the sink may keep back some.
+fn write_line<R: Threads + Sync, K: Sink, F: Shelf, G: Gate, P: Ledger, T: Ledger, L: Ledger>(
     context: Context<'_, R, G>,
     held: &mut Held,
     line: &[u8],
@@ -121,6 +130,8 @@ pub fn carry_line<R: Threads + Sync, K: Sink, F: Shelf, G: Gate, P: Ledger, T: L
 ) -> Result<Told, Stop>
     requires { IsHeld held.old }
     ensures held { IsHeld held.new }
+    ensures quiet { IfOk result (λ told. told ≡ Told.Quiet → out.new ≡ out.old) }
+    ensures unsent { IfErr result (λ why. why ≡ Stop.ShelfFault → out.new ≡ out.old) }
     ensures done { IfOk result (IsDone line.now context.entry.number
         (seen (standing_of held.old) (F.files shelf.old) (F.faults shelf.old) looks.old pairs.old places.old)
         (outlet (K.written out.old) (K.faults out.old) (K.wants out.old))
@@ -139,4 +150,34 @@ pub fn carry_line<R: Threads + Sync, K: Sink, F: Shelf, G: Gate, P: Ledger, T: L
         }
         Err(LineRefusal::NoMemory) => Err(Stop::NoMemory),
     }
+}
+
+/// Does a line, and sends its reply: all that was written has then gone out.
+pub fn carry_line<R: Threads + Sync, K: Sink, F: Shelf, G: Gate, P: Ledger, T: Ledger, L: Ledger>(
+    context: Context<'_, R, G>,
+    held: &mut Held,
+    line: &[u8],
+    out: &mut K,
+    shelf: &mut F,
+    pairs: &mut Steps<P>,
+    places: &mut Steps<T>,
+    looks: &mut Steps<L>,
+) -> Result<Told, Stop>
+    requires { IsHeld held.old }
+    ensures held { IsHeld held.new }
+    ensures gone { IfOk result (λ told. ((told ≡ Told.Quiet) × (out.new ≡ out.old)) ⊎ (K.kept out.new ≡ 0)) }
+    ensures unsent { IfErr result (λ why. why ≡ Stop.ShelfFault → out.new ≡ out.old) }
+    ensures done { IfOk result (IsDone line.now context.entry.number
+        (seen (standing_of held.old) (F.files shelf.old) (F.faults shelf.old) looks.old pairs.old places.old)
+        (outlet (K.written out.old) (K.faults out.old) (K.wants out.old))
+        (seen (standing_of held.new) (F.files shelf.new) (F.faults shelf.new) looks.new pairs.new places.new)
+        (outlet (K.written out.new) (K.faults out.new) (K.wants out.new))) }
+    ensures stopped { IfErr result (IsStopped line.now context.entry.number
+        (seen (standing_of held.old) (F.files shelf.old) (F.faults shelf.old) looks.old pairs.old places.old)
+        (outlet (K.written out.old) (K.faults out.old) (K.wants out.old))
+        (seen (standing_of held.new) (F.files shelf.new) (F.faults shelf.new) looks.new pairs.new places.new)
+        (outlet (K.written out.new) (K.faults out.new) (K.wants out.new))) }
+{
+    let told = write_line(context, held, line, out, shelf, pairs, places, looks)?;
+    send_out(told, out)
 }

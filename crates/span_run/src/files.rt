@@ -1,5 +1,5 @@
 //! What commands do with files, and their replies.
-ghost use Rattle.std.specs.Prelude.{◌≡◌, ◌<◌, ◌≤◌, ◌+◌, ◌++◌, [], length, take, IfOk, IfErr, OnOk, OnErr, Some, ℕ};
+ghost use Rattle.std.specs.Prelude.{◌≡◌, ◌<◌, ◌≤◌, ◌+◌, ◌++◌, [], true, length, take, IfOk, IfErr, List, OnOk, OnErr, Some, ℕ};
 ghost use Rattle.slp_model.specs.Nodes.{Grows, IsLive};
 ghost use Rattle.edge_io.specs.Causes.{Rose};
 ghost use Rattle.edit_expr.specs.Values.{AreLive, plain, text_at};
@@ -11,7 +11,7 @@ ghost use Rattle.span_language.specs.Step.{IsWithin, load_size, open_size};
 ghost use Rattle.span_language.specs.declared.told.Told.TheVariants as told;
 ghost use Rattle.span_run.specs.Answers.{Answers, Stays};
 ghost use Rattle.span_run.specs.Held.{IsHeld};
-ghost use Rattle.span_run.specs.Reading.{IsFileFront, IsLoadPaid, IsNextPiece, IsTurnedAway};
+ghost use Rattle.span_run.specs.Reading.{IsFileFront, IsLoadPaid, IsNextPiece, IsSound, IsTurnedAway, MeansFile};
 ghost use Rattle.span_run.specs.Shown.{IsFileDenied, Opens};
 ghost use Rattle.span_run.specs.Site.{at};
 
@@ -19,12 +19,13 @@ use crate::answer::Answer;
 use crate::documents::give;
 use crate::held::Held;
 use crate::reading::{FileRefusal, check_size};
+use crate::refusing::refuse;
 use doc_book::Docs;
-use edge_io::{Shelf, WriteRefusal};
+use edge_io::{PutRefusal, Shelf};
 use node_store::Store;
 use pair_loader::Loader;
 use report_text::{Refusal, opened_line, saved_line};
-use slp_image::{ImageRefusal, read, write};
+use slp_image::{ImageRefusal, begins_image, read, write};
 use slp_model::NodeId;
 use span_language::Stop;
 use span_types::{ByteList, Name, NoMemory, Steps};
@@ -34,7 +35,7 @@ use std::sync::ledger::Ledger;
 /// The most bytes of a file that `load` takes.
 const MAX_LOAD: u64 = 1 << 32;
 
-/// The most bytes of a file that `open` takes.
+/// The most bytes of an image that `open` reads, and that `save` writes.
 const MAX_OPEN: u64 = 1 << 30;
 
 /// How many bytes of a file are read at once.
@@ -57,6 +58,7 @@ fn next_piece<F: Shelf>(
     ensures files { F.files shelf.new ≡ F.files shelf.old }
     ensures later { F.faults shelf.old ≤ F.faults shelf.new }
     ensures fault { IfErr result (λ why. why ≡ FileRefusal.Failed → Rose (F.faults shelf.old) (F.faults shelf.new)) }
+    ensures sound { IsSound result (F.faults shelf.old) (F.faults shelf.new) }
 {
     let count = shelf.read_at(name, at, piece)?;
     if count as u64 > limit - at {
@@ -82,6 +84,7 @@ fn load_pieces<F: Shelf, P: Ledger>(
     ensures files { F.files shelf.new ≡ F.files shelf.old }
     ensures later { F.faults shelf.old ≤ F.faults shelf.new }
     ensures fault { IfErr result (λ why. why ≡ FileRefusal.Failed → Rose (F.faults shelf.old) (F.faults shelf.new)) }
+    ensures sound { IsSound result (F.faults shelf.old) (F.faults shelf.new) }
 {
     let mut loader = Loader::new(alloc)?;
     let mut piece = [0u8; PIECE];
@@ -113,13 +116,14 @@ fn load_from<F: Shelf, P: Ledger>(
     ensures files { F.files shelf.new ≡ F.files shelf.old }
     ensures later { F.faults shelf.old ≤ F.faults shelf.new }
     ensures fault { IfErr result (λ why. why ≡ FileRefusal.Failed → Rose (F.faults shelf.old) (F.faults shelf.new)) }
+    ensures sound { IsSound result (F.faults shelf.old) (F.faults shelf.new) }
 {
     check_size(shelf, name, MAX_LOAD)?;
     let root = load_pieces(alloc, store, name, shelf, pairs)?;
     Ok(root)
 }
 
-/// The reply to a file that isn't there or is too long.
+/// The reply to a file that isn't there, can't be read, or is too long.
 fn turned_away(alloc: Global, number: u64, file: ByteList, why: FileRefusal) -> Result<Answer, Stop>
     ensures ok { IfOk result (λ answer. IsFileDenied number file why answer.told answer.line.items) }
     ensures fault { IfErr result (λ stop. stop ≡ Stop.ShelfFault → why ≡ FileRefusal.Failed) }
@@ -127,6 +131,7 @@ fn turned_away(alloc: Global, number: u64, file: ByteList, why: FileRefusal) -> 
 {
     let why = match why {
         FileRefusal::Absent => Refusal::NoSuchFile { file },
+        FileRefusal::Denied => Refusal::CannotRead { file },
         FileRefusal::TooLong => Refusal::FileTooLong { file },
         FileRefusal::Failed => return Err(Stop::ShelfFault),
         FileRefusal::NoMemory => return Err(Stop::NoMemory),
@@ -169,18 +174,29 @@ fn push_piece(bytes: &mut Vec<u8>, piece: &[u8]) -> Result<(), NoMemory>
     Ok(())
 }
 
-/// Reads a file that was found to be short enough, piece by piece.
+/// Whether these first bytes of a file are those of no image, whatever follows them.
+fn is_no_image(front: &[u8]) -> bool
+    ensures { result ≡ true → (rest : List ℕ) → image (front.now ++ rest) ≡ image front.now }
+{
+    front.len() >= 4 && !begins_image(front)
+}
+
+/// Reads a file that was found to be short enough, piece by piece, as far as it matters to an image.
 fn read_pieces<F: Shelf>(alloc: Global, name: &[u8], shelf: &mut F) -> Result<Vec<u8>, FileRefusal>
     requires { IsFileFront (F.files shelf.old) name.now open_size [] }
-    ensures ok { IfOk result (λ bytes. IsWithin (F.files shelf.old) name.now open_size bytes.items) }
+    ensures ok { IfOk result (λ bytes. MeansFile (F.files shelf.old) name.now bytes.items) }
     ensures refused { IfErr result (IsTurnedAway (F.files shelf.old) name.now open_size) }
     ensures files { F.files shelf.new ≡ F.files shelf.old }
     ensures later { F.faults shelf.old ≤ F.faults shelf.new }
     ensures fault { IfErr result (λ why. why ≡ FileRefusal.Failed → Rose (F.faults shelf.old) (F.faults shelf.new)) }
+    ensures sound { IsSound result (F.faults shelf.old) (F.faults shelf.new) }
 {
     let mut bytes = Vec::new(alloc);
     let mut piece = [0u8; PIECE];
     loop {
+        if is_no_image(&bytes) {
+            return Ok(bytes);
+        }
         let count = next_piece(shelf, name, MAX_OPEN, bytes.len() as u64, &mut piece)?;
         if count == 0 {
             return Ok(bytes);
@@ -189,13 +205,14 @@ fn read_pieces<F: Shelf>(alloc: Global, name: &[u8], shelf: &mut F) -> Result<Ve
     }
 }
 
-/// Reads a file of at most 2^30 bytes whole.
+/// Reads a file of at most 2^30 bytes: whole, or of one that doesn't begin as an image does the first bytes, which mean the same.
 fn read_file<F: Shelf>(alloc: Global, name: &[u8], shelf: &mut F) -> Result<Vec<u8>, FileRefusal>
-    ensures ok { IfOk result (λ bytes. IsWithin (F.files shelf.old) name.now open_size bytes.items) }
+    ensures ok { IfOk result (λ bytes. MeansFile (F.files shelf.old) name.now bytes.items) }
     ensures refused { IfErr result (IsTurnedAway (F.files shelf.old) name.now open_size) }
     ensures files { F.files shelf.new ≡ F.files shelf.old }
     ensures later { F.faults shelf.old ≤ F.faults shelf.new }
     ensures fault { IfErr result (λ why. why ≡ FileRefusal.Failed → Rose (F.faults shelf.old) (F.faults shelf.new)) }
+    ensures sound { IsSound result (F.faults shelf.old) (F.faults shelf.new) }
 {
     check_size(shelf, name, MAX_OPEN)?;
     let bytes = read_pieces(alloc, name, shelf)?;
@@ -293,11 +310,15 @@ pub fn save_file<F: Shelf>(
         (at held.new (F.files shelf.new) (F.faults shelf.new) looks pairs places)) }
 {
     let image = write(held.alloc, &held.docs, &held.store)?;
+    if image.bytes.len() as u64 > MAX_OPEN {
+        return refuse(held, number, &Refusal::FileTooLong { file });
+    }
     let mut line = Vec::new(held.alloc);
     saved_line(held.alloc, held.docs.count() as u64, image.nodes, &mut line)?;
     match shelf.put(file.bytes(), &image.bytes) {
         Ok(()) => Ok(Answer::accepted(line)),
-        Err(WriteRefusal::Failed) => Err(Stop::ShelfFault),
-        Err(WriteRefusal::NoMemory) => Err(Stop::NoMemory),
+        Err(PutRefusal::Denied) => refuse(held, number, &Refusal::CannotWrite { file }),
+        Err(PutRefusal::Failed) => Err(Stop::ShelfFault),
+        Err(PutRefusal::NoMemory) => Err(Stop::NoMemory),
     }
 }

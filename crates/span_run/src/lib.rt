@@ -11,7 +11,8 @@
 //! ```
 //!
 //! The script has at most 2^24 bytes, and is read whole before its first line is done. A refused line changes nothing,
-//! and the run goes on. A fault or want of memory ends the run: what was written is then a prefix of the whole output.
+//! and the run goes on. A fault or an allocation failure ends the run: what was written is then a prefix of the whole
+//! output.
 //!
 //! What a line may cost is said in `span_language`, in looks, pair calls and tables. Memory is taken for the script,
 //! the nodes, the names, the queries with their tables, and what one line needs while it is done.

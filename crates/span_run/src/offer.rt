@@ -1,9 +1,10 @@
 //! Bytes are offered to a sink until it has taken all of them.
-ghost use Rattle.std.specs.Prelude.{◌≡◌, IfOk, IfErr};
+ghost use Rattle.std.specs.Prelude.{◌≡◌, ◌≤◌, IfOk, IfErr, Ok, OnOk};
+ghost use Rattle.std.specs.Io.KnownBytes.{Keeps};
 ghost use Rattle.edge_io.specs.Causes.{Rose};
 ghost use Rattle.report_text.specs.Reply.{refusal_text};
-ghost use Rattle.span_run.specs.Carried.{outlet};
-ghost use Rattle.span_run.specs.Written.{WantsFor, Wrote};
+ghost use Rattle.span_run.specs.Carried.{HasNoFault, outlet};
+ghost use Rattle.span_run.specs.Written.{IsGone, WantsFor, Wrote};
 
 use crate::answer::Answer;
 use edge_io::{Sink, WriteRefusal};
@@ -48,6 +49,29 @@ pub fn send<K: Sink>(answer: Answer, out: &mut K) -> Result<Told, Stop>
 {
     offer(out, &answer.line)?;
     Ok(answer.told)
+}
+
+/// Lets what the sink kept back of a line's reply go out. Where the line has no reply, the sink is not asked.
+pub fn send_out<K: Sink>(told: Told, out: &mut K) -> Result<Told, Stop>
+    ensures told { IfOk result (λ same. same ≡ told) }
+    ensures quiet { told ≡ Told.Quiet → (result ≡ Ok Told.Quiet) × (out.new ≡ out.old) }
+    ensures written { Keeps (K.written out.old) (K.written out.new) }
+    ensures sound { OnOk result (HasNoFault (outlet (K.written out.old) (K.faults out.old) (K.wants out.old))
+        (outlet (K.written out.new) (K.faults out.new) (K.wants out.new))) }
+    ensures gone { IsGone result (told ≡ Told.Quiet) (K.kept out.new) }
+    ensures later { (K.faults out.old ≤ K.faults out.new) × (K.wants out.old ≤ K.wants out.new) }
+    ensures fault { IfErr result (λ why. why ≡ Stop.OutFault → Rose (K.faults out.old) (K.faults out.new)) }
+    ensures want { IfErr result (λ why. why ≡ Stop.NoMemory → Rose (K.wants out.old) (K.wants out.new)) }
+    ensures no_shelf { IfErr result (λ why. why ≡ Stop.ShelfFault → ⊥) }
+{
+    if matches!(told, Told::Quiet) {
+        return Ok(told);
+    }
+    match out.flush() {
+        Ok(()) => Ok(told),
+        Err(WriteRefusal::Failed) => Err(Stop::OutFault),
+        Err(WriteRefusal::NoMemory) => Err(Stop::NoMemory),
+    }
 }
 
 /// Writes the reply to a refused line.

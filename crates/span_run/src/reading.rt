@@ -1,7 +1,7 @@
 //! Lengths and bytes of the texts in a store, and of files.
 ghost use Rattle.std.specs.Prelude.{◌≡◌, ◌≤◌, ◌+◌, ◌^◌, [], length, take, IfOk, IfErr, OnOk};
 ghost use Rattle.edge_io.specs.Causes.{Rose};
-ghost use Rattle.span_run.specs.Reading.{IsFileFront, IsTurnedAway};
+ghost use Rattle.span_run.specs.Reading.{IsFileFront, IsSound, IsTurnedAway};
 ghost use Rattle.slp_model.specs.Nodes.{IsLive};
 ghost use Rattle.edit_expr.specs.Values.{text_at};
 ghost use Rattle.span_types.specs.Ranges.{content, is_range};
@@ -70,6 +70,8 @@ pub fn head_of(alloc: Global, store: &Store, root: Option<NodeId>) -> Result<Vec
 pub enum FileRefusal {
     /// There is no file of this name.
     Absent,
+    /// It can't be read.
+    Denied,
     /// It has more bytes than the limit.
     TooLong,
     /// The shelf failed.
@@ -98,6 +100,7 @@ impl From<ShelfRefusal> for FileRefusal {
             ShelfRefusal::Failed => FileRefusal::Failed,
             ShelfRefusal::NoMemory => FileRefusal::NoMemory,
             ShelfRefusal::Absent => FileRefusal::Absent,
+            ShelfRefusal::Denied => FileRefusal::Denied,
         }
     }
 }
@@ -109,6 +112,7 @@ pub fn check_size<F: Shelf>(shelf: &mut F, name: &[u8], limit: u64) -> Result<()
     ensures files { F.files shelf.new ≡ F.files shelf.old }
     ensures later { F.faults shelf.old ≤ F.faults shelf.new }
     ensures fault { IfErr result (λ why. why ≡ FileRefusal.Failed → Rose (F.faults shelf.old) (F.faults shelf.new)) }
+    ensures sound { IsSound result (F.faults shelf.old) (F.faults shelf.new) }
 {
     let mut byte = [0u8; 1];
     let count = shelf.read_at(name, limit, &mut byte)?;

@@ -1,5 +1,5 @@
 //! A session: named documents over one store, and what a line does to it.
-ghost use Rattle.std.specs.Prelude.{◌≡◌, ◌≤◌, [], IfOk, IfErr};
+ghost use Rattle.std.specs.Prelude.{◌≡◌, ◌≤◌, ◌⊎◌, [], IfOk, IfErr};
 ghost use Rattle.span_language.specs.State.{nothing};
 ghost use Rattle.span_run.specs.Held.{IsStanding, nodes_of};
 ghost use Rattle.span_run.specs.Scene.{seen};
@@ -60,7 +60,8 @@ impl Session {
         self.held.store.count()
     }
 
-    /// Does the line with this number, and writes its reply. A refused line leaves the state as it was.
+    /// Does the line with this number, and writes its reply. A refused line leaves the state as it was. Where the line is done,
+    /// all that was written has gone out, also what the sink had kept back.
     ///
     /// Nodes get their tables in at most `workers` pieces at once, 1 to 64, and each passes the gate.
     ///
@@ -94,6 +95,8 @@ impl Session {
             (outlet (K.written out.old) (K.faults out.old) (K.wants out.old))
             (seen self.new (F.files shelf.new) (F.faults shelf.new) looks.new pairs.new places.new)
             (outlet (K.written out.new) (K.faults out.new) (K.wants out.new))) }
+        ensures gone { IfOk result (λ told. ((told ≡ Told.Quiet) × (out.new ≡ out.old)) ⊎ (K.kept out.new ≡ 0)) }
+        ensures unsent { IfErr result (λ why. why ≡ Stop.ShelfFault → out.new ≡ out.old) }
         ensures standing { IsStanding self.new }
     {
         let context = Context {

@@ -1,5 +1,5 @@
 //! The top call: words and a script in, replies and a status out.
-ghost use Rattle.std.specs.Prelude.{◌≡◌, ◌⊎◌, ◌+◌, ◌^◌, ◌<◌, ◌≤◌, ◌||◌, true, false, None, Some, IfOk, IfErr, IfSome, length, map, string_bytes};
+ghost use Rattle.std.specs.Prelude.{◌≡◌, ◌⊎◌, ◌+◌, ◌^◌, ◌<◌, ◌≤◌, ◌||◌, true, false, None, Some, IfOk, IfErr, IfSome, MatchResult, OnOk, length, map, string_bytes};
 ghost use Rattle.edge_io.specs.Causes.{Rose};
 ghost use Rattle.span_words.specs.Words.{Refused};
 ghost use Rattle.span_run.specs.Reading.{TakesAtMost};
@@ -25,7 +25,7 @@ const MAX_SCRIPT: usize = 1 << 24;
 
 /// How a run ended. The program's exit status is the number of the status.
 ///
-/// Where a fault or want of memory stopped the run, what was written is a prefix of the whole output.
+/// If a fault or an allocation failure stopped the run, what was written is a prefix of the whole output.
 #[derive(Clone, Copy, Debug, PartialEq, Eq)]
 pub enum Status {
     /// 0: every line was executed, and none refused.
@@ -62,6 +62,7 @@ fn read_script<S: Source>(alloc: Global, script: &mut S) -> Result<Vec<u8>, NoSc
     ensures taken { TakesAtMost (2 ^ 24 + 1) (S.left script.old) (S.left script.new) }
     ensures later { S.faults script.old ≤ S.faults script.new }
     ensures fault { IfErr result (λ why. why ≡ NoScript.Fault → Rose (S.faults script.old) (S.faults script.new)) }
+    ensures sound { OnOk result (S.faults script.new ≡ S.faults script.old) }
 {
     let mut bytes = Vec::new(alloc);
     let mut chunk = [0u8; 4096];
@@ -92,6 +93,7 @@ fn asked_script<S: Source>(
     ensures too_long { IfErr result (λ why. why ≡ NoScript.TooLong → (number ≡ None) × IfSome (S.left script.old) (λ left. 2 ^ 24 < length left)) }
     ensures taken { TakesAtMost (2 ^ 24 + 1) (S.left script.old) (S.left script.new) }
     ensures fault { IfErr result (λ why. why ≡ NoScript.Fault → (number ≡ None) × Rose (S.faults script.old) (S.faults script.new)) }
+    ensures sound { OnOk result (S.faults script.new ≡ S.faults script.old) }
     ensures unread { IfSome number (λ _. script.new ≡ script.old) }
 {
     match number {
@@ -110,7 +112,8 @@ fn with_refusal(before: bool, told: Told) -> bool
     before || matches!(told, Told::Refused)
 }
 
-/// Does the lines of a script in order, and answers whether one was refused.
+/// Does the lines of a script in order, and answers whether one was refused. Where the sink had kept nothing back before, all that was
+/// written has gone out whenever a line begins.
 fn run_lines<R: Threads + Sync, K: Sink, F: Shelf, G: Gate, P: Ledger, T: Ledger, L: Ledger>(
     lent: Lent<'_, R, G>,
     alloc: Global,
@@ -134,6 +137,8 @@ fn run_lines<R: Threads + Sync, K: Sink, F: Shelf, G: Gate, P: Ledger, T: Ledger
     ensures want { IfErr result (λ why. why ≡ Stop.NoMemory → RunsFront (UnlessList (K.wants out.old) (K.wants out.new))
         (lines_of script.now) (outside (K.written out.old) (F.files shelf.old) looks.old pairs.old places.old)
         (outside (K.written out.new) (F.files shelf.new) looks.new pairs.new places.new)) }
+    ensures sound { OnOk result ((K.faults out.new ≡ K.faults out.old) × (K.wants out.new ≡ K.wants out.old) × (F.faults shelf.new ≡ F.faults shelf.old)) }
+    ensures gone { K.kept out.old ≡ 0 → MatchResult result (λ _. K.kept out.new ≡ 0) (λ why. why ≡ Stop.ShelfFault → K.kept out.new ≡ 0) }
 {
     let mut session = Session::new(alloc);
     let mut rest = script;
@@ -161,8 +166,8 @@ fn run_lines<R: Threads + Sync, K: Sink, F: Shelf, G: Gate, P: Ledger, T: Ledger
 }
 
 /// Runs a script over named texts: reads the words, then the whole script, then executes its lines in order. Each line of a
-/// reply is offered to the sink, with its newline, before the next one is computed. The first fault or want of memory ends
-/// the run.
+/// reply is offered to the sink, with its newline, before the next one is computed. The first fault or
+/// allocation failure ends the run.
 ///
 /// The words are those after the program's own name. They may ask for a number of workers, from 1 to 64, which compute
 /// tables; and for the script of a demo, which is run in place of the source's bytes. The source isn't read then. The
@@ -209,6 +214,13 @@ pub fn run<
         ⊎ (result ≡ Status.ShelfFault) → OfScript (map string_bytes words.now) (S.left script.old)
         (λ bytes. length bytes ≤ 2 ^ 24) }
 
+    // A run that was done to its end had no fault: no call of the source, the sink or the shelf that failed was made again.
+    ensures sound { (result ≡ Status.Done) ⊎ (result ≡ Status.SomeRefused) → (S.faults script.new ≡ S.faults script.old)
+        × (K.faults out.new ≡ K.faults out.old) × (K.wants out.new ≡ K.wants out.old) × (F.faults shelf.new ≡ F.faults shelf.old) }
+
+    // What a sink keeps back has gone out before the next line begins, so it has where the shelf failed, and at the end.
+    ensures gone { K.kept out.old ≡ 0 → (result ≡ Status.OutFault) ⊎ (result ≡ Status.NoMemory) ⊎ (K.kept out.new ≡ 0) }
+
     // At most one byte past the limit of a script is read. The source isn't read for a demo, nor where the words are refused.
     ensures taken { TakesAtMost (2 ^ 24 + 1) (S.left script.old) (S.left script.new) }
     ensures unread { (AsksForNoDemo (map string_bytes words.now) → ⊥) → script.new ≡ script.old }
@@ -223,7 +235,8 @@ pub fn run<
         ≡ outside (K.written out.old) (F.files shelf.old) looks.old pairs.old places.old) }
 
     // What was written is a prefix of the whole output. A fault of the shelf stops a line of the form `load`, `save` or `open`
-    // before any of its reply is written; and want of memory stops a `list` so too, unless the sink wanted it.
+    // before any of its reply is written, and leaves the files unchanged. An allocation failure stops a `list` before any of
+    // its reply is written, unless it was the sink's.
     ensures front { result ≡ Status.OutFault → OfScript (map string_bytes words.now) (S.left script.old)
         (λ bytes. RunsFront Anywhere (lines_of bytes)
         (outside (K.written out.old) (F.files shelf.old) looks.old pairs.old places.old)

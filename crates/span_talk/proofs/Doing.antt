@@ -9,7 +9,7 @@ use Rattle.script_syntax.specs.declared.form.Command.{Command}
 use Rattle.span_language.specs.State.{world}
 use Rattle.span_language.specs.Allowance.{no_steps}
 use Rattle.span_language.specs.Means.{Means}
-use Rattle.span_language.specs.Runs.{Outside, is_refused, RunsFront}
+use Rattle.span_language.specs.Runs.{Ending, Outside, RunsFront, is_refused}
 use Rattle.span_language.specs.declared.told.Told.{Told}
 use Rattle.span_language.specs.declared.told.Stop.{Stop}
 use Rattle.span_language.specs.declared.told.Stop.TheVariants as stop
@@ -41,7 +41,7 @@ further lines more number refused st before now at = record {
 }
 
 -- a run that was stopped where no line had begun
-pub stopped_between : (Ends : Option Command → List ℕ → Type 0) (lines left : List (List ℕ)) (before : Outside) (p : Place) → IsStanding p.standing → Ends None [] → StandsAt lines before p
+pub stopped_between : (Ends : Ending) (lines left : List (List ℕ)) (before : Outside) (p : Place) → IsStanding p.standing → Ends None [] p.now.files p.now.files → StandsAt lines before p
     → RunsFront Ends (lines ++ left) before p.now
 stopped_between Ends lines left before p held ends_so at =
     let all = ends lines [] p.number p.refused p.standing before p.now refl held at in

@@ -4,10 +4,9 @@ use Rattle.std.proofs.KnownBytes.{Consumes-trans}
 use Rattle.std.specs.Prelude.{All, Option, None}
 use Rattle.std.specs.Io.KnownBytes.{Consumes}
 use Rattle.std.proofs.lemmas.List.{append-nil}
-use Rattle.script_syntax.specs.declared.form.Command.{Command}
 use Rattle.span_language.specs.State.{nothing, world}
 use Rattle.span_language.specs.Lines.{lines_of}
-use Rattle.span_language.specs.Runs.{Outside, Runs, RunsAll, RunsFront, start}
+use Rattle.span_language.specs.Runs.{Ending, Outside, Runs, RunsAll, RunsFront, start}
 use Rattle.span_run.specs.Held.{Standing, IsStanding}
 use Rattle.span_run.proofs.LinesLemmas.{no_newline}
 use Rattle.span_run.proofs.RunsLemmas.{at_start, ends}
@@ -37,7 +36,7 @@ module _ (bytes : List ℕ) (before : Outside) (kept : List ℕ) (p : Place) (t 
       at = does (t.begun ++ part) t.done before kept_of t.at;
     }
 
-    pub stops_in_line : (Ends : Option Command → List ℕ → Type 0) (after : Outside) (tail : List ℕ) → StopsIn Ends kept_after p after → RunsFront Ends (lines_of (bytes ++ (part ++ 10 ∷ tail))) before after
+    pub stops_in_line : (Ends : Ending) (after : Outside) (tail : List ℕ) → StopsIn Ends kept_after p after → RunsFront Ends (lines_of (bytes ++ (part ++ 10 ∷ tail))) before after
     stops_in_line Ends after tail stops =
         let cut = line_cut bytes t.done t.begun part t.cut (no_newline part plain) in
         let joined : (bytes ++ (part ++ 10 ∷ [])) ++ tail ≡ bytes ++ (part ++ 10 ∷ tail) = append_assoc bytes (part ++ 10 ∷ []) tail ∙ ap (λ l. bytes ++ l) (append_assoc part (10 ∷ []) tail) in
@@ -46,7 +45,7 @@ module _ (bytes : List ℕ) (before : Outside) (kept : List ℕ) (p : Place) (t 
         in subst (λ (l : List (List ℕ)). RunsFront Ends l before after) (sym lines) (stops (t.begun ++ part) t.done (lines_of tail) before kept_of t.at)
 
   -- stopped where no further line had begun
-  pub stops_here : (Ends : Option Command → List ℕ → Type 0) (tail : List ℕ) → IsStanding p.standing → Ends None [] → RunsFront Ends (lines_of (bytes ++ tail)) before p.now
+  pub stops_here : (Ends : Ending) (tail : List ℕ) → IsStanding p.standing → Ends None [] p.now.files p.now.files → RunsFront Ends (lines_of (bytes ++ tail)) before p.now
   stops_here Ends tail held so =
       subst (λ (l : List (List ℕ)). RunsFront Ends l before p.now) (sym (t.cut.lines tail)) (stopped_between Ends t.done (lines_of (t.begun ++ tail)) before p held so t.at)
 
@@ -80,7 +79,7 @@ module _ (bytes : List ℕ) (before : Outside) (kept : List ℕ) (p : Place) (t 
       subst (λ (l : List (List ℕ)). RunsAll l new.refused before new.now) (sym (last_of some))
       (ends (t.done ++ t.begun ∷ []) [] new.number new.refused new.standing before new.now refl held (does t.begun t.done before t.kept_is t.at))
 
-  pub stops_in_last : (Ends : Option Command → List ℕ → Type 0) (after : Outside) → 0 < length kept → StopsIn Ends kept p after → RunsFront Ends (lines_of bytes) before after
+  pub stops_in_last : (Ends : Ending) (after : Outside) → 0 < length kept → StopsIn Ends kept p after → RunsFront Ends (lines_of bytes) before after
   stops_in_last Ends after some stops =
       subst (λ (l : List (List ℕ)). RunsFront Ends l before after) (sym (last_of some)) (stops t.begun t.done [] before t.kept_is t.at)
 
@@ -90,7 +89,7 @@ module _ (piece read rest : List ℕ) (kept : List ℕ) (p : Place) (kept_now : 
   split bytes tail = ap (λ l. bytes ++ (l ++ tail)) is ∙ ap (λ l. bytes ++ l) (append_assoc read rest tail) ∙ sym (append_assoc bytes read (rest ++ tail))
 
   -- stopped where nothing of the rest had begun
-  pub stops_between : (Ends : Option Command → List ℕ → Type 0) → IsStanding now.standing → Ends None [] → StopsWithin Ends piece kept p now.now
+  pub stops_between : (Ends : Ending) → IsStanding now.standing → Ends None [] now.now.files now.now.files → StopsWithin Ends piece kept p now.now
   stops_between Ends held so = λ bytes tail before t.
       subst (λ l. RunsFront Ends (lines_of l) before now.now) (sym (split bytes tail)) (stops_here (bytes ++ read) before kept_now now (hears bytes before t) Ends (rest ++ tail) held so)
 
@@ -101,7 +100,7 @@ module _ (piece read rest : List ℕ) (kept : List ℕ) (p : Place) (kept_now : 
 
   module _ (part left kept_whole : List ℕ) (cut : rest ≡ part ++ 10 ∷ left) (plain : All (λ b. b ≢ 10) part) (kept_is : kept_whole ≡ take 65537 (kept_now ++ part)) where
     -- stopped in the line that ends in the rest
-    pub stops_line : (Ends : Option Command → List ℕ → Type 0) (after : Outside) → StopsIn Ends kept_whole now after → StopsWithin Ends piece kept p after
+    pub stops_line : (Ends : Ending) (after : Outside) → StopsIn Ends kept_whole now after → StopsWithin Ends piece kept p after
     stops_line Ends after stops = λ bytes tail before t.
         let same : bytes ++ (piece ++ tail) ≡ (bytes ++ read) ++ (part ++ 10 ∷ (left ++ tail)) =
         split bytes tail ∙ ap (λ l. (bytes ++ read) ++ (l ++ tail)) cut ∙ ap (λ l. (bytes ++ read) ++ l) (append_assoc part (10 ∷ left) tail)
@@ -116,7 +115,7 @@ module _ (piece read rest : List ℕ) (kept : List ℕ) (p : Place) (kept_now : 
     )
 
 -- a run that was stopped in a piece
-pub stops_sent : (a b c : Option (List ℕ)) (bytes piece : List ℕ) (before : Outside) (kept : List ℕ) (p : Place) (Ends : Option Command → List ℕ → Type 0) (after : Outside)
+pub stops_sent : (a b c : Option (List ℕ)) (bytes piece : List ℕ) (before : Outside) (kept : List ℕ) (p : Place) (Ends : Ending) (after : Outside)
     → Consumes a b bytes → Consumes b c piece → IsTalking bytes before kept p → StopsWithin Ends piece kept p after → OfSent a (λ sent. RunsFront Ends (lines_of sent) before after)
 stops_sent a b c bytes piece before kept p Ends after first second t stops =
     of_sent a c (bytes ++ piece) (λ sent. RunsFront Ends (lines_of sent) before after) (Consumes-trans a b c bytes piece first second)

@@ -1,9 +1,8 @@
 -- Where a conversation stands, between two lines and between two pieces.
 use Rattle.std.specs.Prelude.{◌≡◌, ℕ, ◌≤◌, Bool, List, [], ◌∷◌, ◌++◌, Option, take}
 use Rattle.edge_io.specs.Causes.{Rose}
-use Rattle.script_syntax.specs.declared.form.Command.{Command}
 use Rattle.span_language.specs.Lines.{lines_of}
-use Rattle.span_language.specs.Runs.{Outside, Anywhere, InFileLine, UnlessList, RunsAll, RunsFront}
+use Rattle.span_language.specs.Runs.{Anywhere, Ending, InFileLine, Outside, RunsAll, RunsFront, UnlessList}
 use Rattle.span_language.specs.declared.told.Stop.{Stop}
 use Rattle.span_language.specs.declared.told.Stop.TheVariants as stop
 use Rattle.span_run.specs.Carried.{Outlet}
@@ -50,7 +49,7 @@ abbrev pub Does : List ℕ → Place → Place → Type 0
 Does kept old new = (line : List ℕ) (lines : List (List ℕ)) (before : Outside) → kept ≡ take 65537 line → StandsAt lines before old → StandsAt (lines ++ line ∷ []) before new
 
 -- a run was stopped in such a line
-abbrev pub StopsIn : (Option Command → List ℕ → Type 0) → List ℕ → Place → Outside → Type 0
+abbrev pub StopsIn : Ending → List ℕ → Place → Outside → Type 0
 StopsIn Ends kept old after = (line : List ℕ) (lines more : List (List ℕ)) (before : Outside) → kept ≡ take 65537 line → StandsAt lines before old
     → RunsFront Ends (lines ++ line ∷ more) before after
 
@@ -59,7 +58,7 @@ abbrev pub Hears : List ℕ → List ℕ → Place → List ℕ → Place → Ty
 Hears piece kept old kept_after new = (bytes : List ℕ) (before : Outside) → IsTalking bytes before kept old → IsTalking (bytes ++ piece) before kept_after new
 
 -- a run was stopped in one of them
-abbrev pub StopsWithin : (Option Command → List ℕ → Type 0) → List ℕ → List ℕ → Place → Outside → Type 0
+abbrev pub StopsWithin : Ending → List ℕ → List ℕ → Place → Outside → Type 0
 StopsWithin Ends piece kept old after = (bytes tail : List ℕ) (before : Outside) → IsTalking bytes before kept old
     → RunsFront Ends (lines_of (bytes ++ (piece ++ tail))) before after
 
@@ -68,12 +67,12 @@ abbrev pub Finishes : Bool → List ℕ → Place → Outside → Type 0
 Finishes refused kept old after = (sent : List ℕ) (before : Outside) → IsTalking sent before kept old → RunsAll (lines_of sent) refused before after
 
 -- or a run was stopped in a last line that no newline ends
-abbrev pub StopsAtEnd : (Option Command → List ℕ → Type 0) → List ℕ → Place → Outside → Type 0
+abbrev pub StopsAtEnd : Ending → List ℕ → Place → Outside → Type 0
 StopsAtEnd Ends kept old after = (sent : List ℕ) (before : Outside) → IsTalking sent before kept old → RunsFront Ends (lines_of sent) before after
 
 -- a run was stopped for this reason: the count of the reason rose, from that of the sink or of the shelf before to the one after, and the run
 -- ended as it may for this reason
-pub record IsHalted (Stops : (Option Command → List ℕ → Type 0) → Type 0) (before : Outlet) (old : ℕ) (after : Outlet) (new : ℕ) (why : Stop) : Type 0 where
+pub record IsHalted (Stops : Ending → Type 0) (before : Outlet) (old : ℕ) (after : Outlet) (new : ℕ) (why : Stop) : Type 0 where
   pub out_fault : why ≡ stop.OutFault → Rose before.faults after.faults × Stops Anywhere
   pub shelf_fault : why ≡ stop.ShelfFault → Rose old new × Stops InFileLine
   pub want : why ≡ stop.NoMemory → (wants : ℕ) → wants ≤ before.wants → Stops (UnlessList wants after.wants)

@@ -1,5 +1,5 @@
 //! How a conversation goes on, by a line, by a piece, and to its end.
-ghost use Rattle.std.specs.Prelude.{◌≡◌, ◌+◌, ◌^◌, ◌<◌, ◌≤◌, [], ◌||◌, IfOk, IfErr, OnOk, length};
+ghost use Rattle.std.specs.Prelude.{◌≡◌, ◌+◌, ◌^◌, ◌<◌, ◌≤◌, ◌⊎◌, [], ◌||◌, IfOk, IfErr, MatchResult, OnOk, length};
 ghost use Rattle.std.specs.Io.KnownBytes.{IsAtEnd};
 ghost use Rattle.edge_io.specs.Causes.{Rose};
 ghost use Rattle.span_language.specs.Lines.{lines_of};
@@ -78,6 +78,8 @@ fn end_line<R: Threads + Sync, K: Sink, F: Shelf, G: Gate, P: Ledger, T: Ledger,
         (outside (K.written out.new) (F.files shelf.new) looks.new pairs.new places.new))
         (outlet (K.written out.old) (K.faults out.old) (K.wants out.old)) (F.faults shelf.old)
         (outlet (K.written out.new) (K.faults out.new) (K.wants out.new)) (F.faults shelf.new)) }
+    ensures sound { OnOk result ((K.faults out.new ≡ K.faults out.old) × (K.wants out.new ≡ K.wants out.old) × (F.faults shelf.new ≡ F.faults shelf.old)) }
+    ensures gone { K.kept out.old ≡ 0 → MatchResult result (λ _. K.kept out.new ≡ 0) (λ why. why ≡ Stop.ShelfFault → K.kept out.new ≡ 0) }
 {
     let told = progress.session.line(
         rt,
@@ -129,6 +131,8 @@ fn hear_piece<R: Threads + Sync, K: Sink, F: Shelf, G: Gate, P: Ledger, T: Ledge
         (outside (K.written out.new) (F.files shelf.new) looks.new pairs.new places.new))
         (outlet (K.written out.old) (K.faults out.old) (K.wants out.old)) (F.faults shelf.old)
         (outlet (K.written out.new) (K.faults out.new) (K.wants out.new)) (F.faults shelf.new)) }
+    ensures sound { OnOk result ((K.faults out.new ≡ K.faults out.old) × (K.wants out.new ≡ K.wants out.old) × (F.faults shelf.new ≡ F.faults shelf.old)) }
+    ensures gone { K.kept out.old ≡ 0 → MatchResult result (λ _. K.kept out.new ≡ 0) (λ why. why ≡ Stop.ShelfFault → K.kept out.new ≡ 0) }
 {
     let mut rest = piece;
     'lines: while let Some(parts) = cut_line(rest) {
@@ -199,6 +203,9 @@ fn hear_all<
     ensures served { AreServed (C.left client.old)
         (outside (K.written out.old) (F.files shelf.old) looks.old pairs.old places.old) (C.moments client.old)
         (C.moments client.new) }
+    ensures sound { OnOk result ((C.faults client.new ≡ C.faults client.old) × (K.faults out.new ≡ K.faults out.old) × (K.wants out.new ≡ K.wants out.old)
+        × (F.faults shelf.new ≡ F.faults shelf.old)) }
+    ensures gone { K.kept out.old ≡ 0 → MatchResult result (λ _. K.kept out.new ≡ 0) (λ why. (K.kept out.new ≡ 0) ⊎ (why ≡ End.Stopped Stop.OutFault) ⊎ (why ≡ End.Stopped Stop.NoMemory)) }
 {
     let session = Session::new(alloc);
     let kept = Vec::new(alloc);
@@ -262,6 +269,8 @@ fn finish<R: Threads + Sync, K: Sink, F: Shelf, G: Gate, P: Ledger, T: Ledger, L
         (outside (K.written out.new) (F.files shelf.new) looks.new pairs.new places.new))
         (outlet (K.written out.old) (K.faults out.old) (K.wants out.old)) (F.faults shelf.old)
         (outlet (K.written out.new) (K.faults out.new) (K.wants out.new)) (F.faults shelf.new)) }
+    ensures sound { OnOk result ((K.faults out.new ≡ K.faults out.old) × (K.wants out.new ≡ K.wants out.old) × (F.faults shelf.new ≡ F.faults shelf.old)) }
+    ensures gone { K.kept out.old ≡ 0 → MatchResult result (λ _. K.kept out.new ≡ 0) (λ why. why ≡ Stop.ShelfFault → K.kept out.new ≡ 0) }
 {
     if progress.kept.is_empty() {
         return Ok(progress.refused);
@@ -323,6 +332,9 @@ pub fn hear_script<
     ensures served { AreServed (C.left client.old)
         (outside (K.written out.old) (F.files shelf.old) looks.old pairs.old places.old) (C.moments client.old)
         (C.moments client.new) }
+    ensures sound { OnOk result ((C.faults client.new ≡ C.faults client.old) × (K.faults out.new ≡ K.faults out.old) × (K.wants out.new ≡ K.wants out.old)
+        × (F.faults shelf.new ≡ F.faults shelf.old)) }
+    ensures gone { K.kept out.old ≡ 0 → MatchResult result (λ _. K.kept out.new ≡ 0) (λ why. (K.kept out.new ≡ 0) ⊎ (why ≡ End.Stopped Stop.OutFault) ⊎ (why ≡ End.Stopped Stop.NoMemory)) }
 {
     let mut progress = hear_all(
         rt, alloc, client, workers, out, shelf, gate, pairs, places, looks,

@@ -17,8 +17,8 @@ use std::thread::Threads;
 use work_gate::Gate;
 
 /// Talks with a client: hears its script, does each line when it has come, and writes the reply to it before more is heard. The
-/// end of what the client sends ends the last line and the conversation, and so does the first fault or want of memory. Of a
-/// line no more than 65,537 bytes are kept.
+/// end of what the client sends ends the last line and the conversation. The first fault or allocation failure ends the
+/// conversation too. Of a line no more than 65,537 bytes are kept.
 pub fn talk<
     R: Threads + Sync,
     C: Client<K>,
@@ -74,6 +74,13 @@ pub fn talk<
         (outside (K.written out.old) (F.files shelf.old) looks.old pairs.old places.old)
         (outside (K.written out.new) (F.files shelf.new) looks.new pairs.new places.new)) }
     ensures no_words { result ≡ Status.Usage → ⊥ }
+
+    // A conversation that came to its end had no fault: no call of the client, the sink or the shelf that failed was made again.
+    ensures sound { (result ≡ Status.Done) ⊎ (result ≡ Status.SomeRefused) → (C.faults client.new ≡ C.faults client.old)
+        × (K.faults out.new ≡ K.faults out.old) × (K.wants out.new ≡ K.wants out.old) × (F.faults shelf.new ≡ F.faults shelf.old) }
+
+    // What a sink keeps back has gone out before the next line begins.
+    ensures gone { K.kept out.old ≡ 0 → (result ≡ Status.OutFault) ⊎ (result ≡ Status.NoMemory) ⊎ (K.kept out.new ≡ 0) }
 
     // Each time that the client was heard, the reply to each line that had come had been written, and nothing else, and it was
     // told the number of the next one.

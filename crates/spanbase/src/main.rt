@@ -17,10 +17,7 @@ ghost use Rattle.span_words.specs.Words.{Refused};
 ghost use Rattle.span_language.specs.Scripts.{AsksForNoDemo};
 ghost use Rattle.spanbase.specs.Exit.{exit_of};
 
-mod replies;
-
-use edge_io::{DirShelf, Sink, Source, StdSink, StdSource};
-use replies::ReplyWriter;
+use edge_io::{BufferedSink, DirShelf, Sink, Source, StdSink, StdSource};
 use span_run::{Status, run, usage_text};
 use span_types::Steps;
 use std::alloc::Global;
@@ -126,14 +123,15 @@ fn tell(rt: &HostRuntime, status: Status, words: &[String]) {
     tell_word(rt, status);
 }
 
-/// Runs a script over the files of the current folder, with replies to standard output. Those that were kept back are written
-/// before the status is chosen: output that fails then is a fault of a write as well.
+/// Runs a script over the files of the current folder, with replies to standard output. The lines of a reply are kept back until
+/// there are some kilobytes of them or the reply ends. What a run that was stopped has left is written before the status is
+/// chosen: output that fails then is a fault of a write as well. Output that has failed isn't tried again.
 fn run_over<R: Threads + Sync + Files + AllocGlobal + Print, S: Source>(
     rt: &R,
     words: &[String],
     script: &mut S,
 ) -> Status {
-    let Ok(mut replies) = ReplyWriter::new(rt.alloc(), io::writer(rt)) else {
+    let Ok(mut replies) = BufferedSink::new(rt.alloc(), StdSink::new(io::writer(rt))) else {
         return Status::NoMemory;
     };
     let status = run_script::<_, _, _, Brand, Brand, Brand>(
@@ -141,11 +139,14 @@ fn run_over<R: Threads + Sync + Files + AllocGlobal + Print, S: Source>(
         rt.alloc(),
         words,
         script,
-        &mut StdSink::new(&mut replies),
+        &mut replies,
         Blank::new(1),
         Blank::new(1),
         Blank::new(1),
     );
+    if status == Status::OutFault {
+        return status;
+    }
     match replies.flush() {
         Ok(()) => status,
         Err(_) => Status::OutFault,

@@ -97,11 +97,11 @@ rows_of-added us ms o m t h e =
     rows_of-push us ms (code_of o) m h ∙ ap (λ x. x ++ make (step_of (code_of o)) ∷ []) e ∙ ap (λ u. t ++ make u ∷ []) (step_of-code_of o)
 
 -- ---- digests
-pub coded-none : (us ms : List ℕ) → us ≡ [] → ms ≡ [] → AreCoded us ms 0x243f_6a88_85a3_08d3
+pub coded-none : (us ms : List ℕ) → us ≡ [] → ms ≡ [] → AreCoded us ms 0x1319_8a2e_0370_7344_243f_6a88_85a3_08d3
 unfolding digest_of
 coded-none us ms u m = rw (u, m) (record { as_long = refl; digest_is = refl })
 
-code_of-step_of : (u : ℕ) → code_of (step_of u) ≡ u
+pub code_of-step_of : (u : ℕ) → code_of (step_of u) ≡ u
 code_of-step_of zero = refl
 code_of-step_of (suc q) = refl
 
@@ -116,7 +116,7 @@ coded-push us ms digest u m is =
       digest_is =
           ap (λ d. digest_with d u m) is.digest_is
           ∙ ap (λ k. digest_with (digest_of (rows_of us ms)) k m) (sym (code_of-step_of u))
-          ∙ sym (fold_push add 0x243f_6a88_85a3_08d3 (rows_of us ms) row)
+          ∙ sym (fold_push add 0x1319_8a2e_0370_7344_243f_6a88_85a3_08d3 (rows_of us ms) row)
           ∙ ap digest_of (sym (rows_of-push us ms u m is.as_long));
     }
 

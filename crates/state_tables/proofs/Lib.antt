@@ -1,5 +1,6 @@
 pub mod StateSets
 pub mod CodedRows
+pub mod Bijection
 pub mod Members
 pub mod Reach
 pub mod Shapes
@@ -7,3 +8,8 @@ pub mod Meanings
 pub mod Paths
 pub mod Keeping
 pub mod Moving
+pub mod Branches
+pub mod Marks
+pub mod Used
+pub mod Dropping
+pub mod SearchLemmas

@@ -4,4 +4,4 @@ use Rattle.state_tables.specs.Dictionary.{Dictionary}
 use Rattle.state_tables.specs.declared.tables.Tables.TheInside.{Inside}
 
 abbrev pub view_of : Inside → Dictionary
-view_of t = record { states = t.states; kept = t.kept.keys; numbers = t.numbers.items; room = vec_capacity t.numbers - vec_len t.numbers }
+view_of t = record { states = t.states; kept = t.kept; numbers = t.numbers.items; room = vec_capacity t.numbers - vec_len t.numbers }

@@ -2,8 +2,12 @@ pub mod StateSet
 pub mod Table
 pub mod Coded
 pub mod Digest
+pub mod Branch
 pub mod Same
 pub mod Meaning
+pub mod Search
+pub mod SetView
 pub mod Dictionary
 pub mod Kept
 pub mod Renumbering
+pub mod Dropped

@@ -1,21 +1,16 @@
--- How tables are compared and hashed.
+-- How tables are compared.
 use Rattle.std.proofs.Common.{◌≡◌, ℕ, Bool, true, false, ◌&&◌, nat_eq, refl, ap, ◌∙◌, List, [], ◌∷◌, Option, Some, None}
 use Rattle.std.specs.Option.{option_eq}
 use Rattle.std.specs.Ordering.{on, eq_of_both}
 use Rattle.std.specs.Cmp.Lexicographic.{pointwise}
-use Rattle.std.specs.Hash.{HashWrites, u64}
 use Rattle.std.proofs.lemmas.Bool.{eqb-true}
 use Rattle.state_tables.specs.Table.{Row}
-use Rattle.state_tables.specs.Digest.{digest_of}
 
 abbrev pub row_eq : Row → Row → Bool
 row_eq = eq_of_both (on (λ r. r.unmarked) (option_eq nat_eq)) (on (λ r. r.marked) nat_eq)
 
 abbrev pub table_eq : List Row → List Row → Bool
 table_eq = pointwise row_eq
-
-abbrev pub table_writes : List Row → HashWrites
-table_writes t = u64 (digest_of t)
 
 and-both : (x y : Bool) → (x && y) ≡ true → (x ≡ true) × (y ≡ true)
 and-both true y h = (refl, h)
@@ -45,7 +40,3 @@ table_same (x ∷ xs) (y ∷ ys) h =
     let e : x ≡ y = row-same x y both.0 in
     let es : xs ≡ ys = table_same xs ys both.1 in
     cc
-
--- so each function of them, as what they feed a hasher, is the same
-pub table_respects : {A : Type 0} (f : List Row → A) (xs ys : List Row) → table_eq xs ys ≡ true → f xs ≡ f ys
-table_respects f xs ys h = ap f (table_same xs ys h)

@@ -12,10 +12,10 @@
 //! their tables, and `view.look(id, &mut looks)` shows a node, its length and its table, in constant time: it is the
 //! one way to a node, so who is lent a view pays a step for each.
 //!
-//! A table of q states, at most 128, takes 17 bytes a state and some 70 beside, and a node 4 bytes for the number of
+//! A table of q states, at most 128, takes 17 bytes a state and some 90 beside, and a node 4 bytes for the number of
 //! its table. A composition goes over q rows, and in each over the states that the left row reaches with marks, so it
 //! takes time at most quadratic in q. A table has a digest beside its rows, so `keep` takes expected constant time beside
-//! comparing it with an equal one.
+//! comparing it with an equal one, and never more than a search by the bits of a table, however the tables are chosen.
 //!
 //! The tables are those of M. L. Schmid and N. Schweikardt, *Spanner evaluation over SLP-compressed documents*, PODS
 //! 2021. Equal ones stand once here.
@@ -25,6 +25,7 @@ mod renumbering;
 mod rows;
 pub mod state_set;
 pub mod table;
+mod table_set;
 pub mod tables;
 pub mod view;
 

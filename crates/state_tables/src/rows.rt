@@ -1,17 +1,17 @@
 //! The rows of a table, in 17 bytes a state, and a digest of them.
 
-ghost use Rattle.std.specs.Prelude.{◌≡◌, ◌<◌, ◌++◌, [], ◌∷◌, length, IfSome, IfOk, OnOk};
-ghost use Rattle.std.specs.Hash.FoldHasher.{folded_multiply};
+ghost use Rattle.std.specs.Prelude.{◌≡◌, ℕ, ◌<◌, ◌*◌, ◌^◌, ◌++◌, [], ◌∷◌, length, IfSome, IfOk, OnOk};
+ghost use Rattle.std.specs.Int.{bit_at};
 ghost use Rattle.std.specs.Cmp.Rules.{comparing};
 ghost use Rattle.std.proofs.Common.{rules};
 ghost use Rattle.state_tables.specs.Table.{marked_of, unmarked_of};
-ghost use Rattle.state_tables.specs.Coded.{code_of};
-ghost use Rattle.state_tables.specs.Digest.{digest_with};
-ghost use Rattle.state_tables.specs.Same.{table_eq, table_respects, table_writes};
+ghost use Rattle.state_tables.specs.Coded.{code_of, rows_of};
+ghost use Rattle.state_tables.specs.Digest.{digest_with, high_of, low_of};
+ghost use Rattle.state_tables.specs.Branch.{branch_of, root_of, rows_bit};
+ghost use Rattle.state_tables.specs.Same.{table_eq};
 
 use span_types::NoMemory;
 use std::alloc::Global;
-use std::hash::{Hash, Hasher};
 use std::marker::Model;
 
 /// For each state the one reached with every mark 0, and the set of those reached with some other mark.
@@ -20,8 +20,8 @@ pub(crate) struct Rows {
     // One more than the state, or 0 for none.
     unmarked: Vec<u8>,
     marked: Vec<u128>,
-    // A number made of all rows as they were added, which stands for them in a hash.
-    digest: u64,
+    // Made of all rows as they were added. Equal rows are found by it.
+    digest: u128,
 }
 
 impl Model for Rows {
@@ -48,26 +48,78 @@ fn coded(step: Option<u8>) -> u8
     }
 }
 
-// The digest of no rows, and what is multiplied by (2^64 divided by the golden ratio).
-const NO_ROWS: u64 = 0x243F_6A88_85A3_08D3;
+// The digest of no rows.
+const NO_ROWS: u128 = 0x1319_8A2E_0370_7344_243F_6A88_85A3_08D3;
 
-const MULTIPLIER: u64 = 0x9E37_79B9_7F4A_7C15;
+// Odd numbers without a pattern.
+const ACROSS: u64 = 0x9E37_79B9_7F4A_7C15;
 
-// The two halves of a product of 128 bits, joined, so that each bit of both numbers counts.
-fn folded_product(a: u64, b: u64) -> u64
-    ensures { result ≡ folded_multiply a b }
+const BACK: u64 = 0xD6E8_FEB8_6659_FD93;
+
+const STEP: u64 = 0xA076_1D64_78BD_642F;
+
+fn low_half(number: u128) -> u64
+    ensures { result ≡ low_of number }
 {
-    let product = a as u128 * b as u128;
-    (product & 0xFFFF_FFFF_FFFF_FFFF) as u64 ^ (product >> 64) as u64
+    (number & 0xFFFF_FFFF_FFFF_FFFF) as u64
 }
 
-// The digest of some rows and then one more, by one multiplication.
-fn with_row(digest: u64, unmarked: u8, marked: u128) -> u64
-    ensures { result ≡ digest_with digest unmarked marked }
+fn high_half(number: u128) -> u64
+    ensures { result ≡ high_of number }
 {
-    let low = (marked & 0xFFFF_FFFF_FFFF_FFFF) as u64;
-    let high = (marked >> 64) as u64;
-    folded_product(digest ^ low, high ^ MULTIPLIER).wrapping_add(unmarked as u64)
+    (number >> 64) as u64
+}
+
+// All 128 bits of a product.
+fn product(a: u64, b: u64) -> u128
+    ensures { result ≡ a * b }
+{
+    a as u128 * b as u128
+}
+
+// The digest of some rows and then one more. It takes two multiplications, one after the other. No factor depends on the rows
+// alone, and each step is a bijection of the digest, so no row can erase what the digest says of the rows before it.
+fn with_row(digest: u128, unmarked: u8, marked: u128) -> u128
+    ensures value { result ≡ digest_with digest unmarked marked }
+    ensures digests { (other : ℕ) → other < 2 ^ 128 → digest_with other unmarked marked ≡ result → other ≡ digest }
+    ensures sets { (other : ℕ) → other < 2 ^ 128 → digest_with digest unmarked other ≡ result → other ≡ marked }
+{
+    let across = product(low_half(digest) ^ low_half(marked), ACROSS);
+    let second = high_half(digest).wrapping_add(high_half(across)) ^ high_half(marked);
+    let back = product(second, BACK);
+    let step = (unmarked as u64).wrapping_mul(STEP);
+    let first = low_half(across)
+        .wrapping_add(high_half(back))
+        .wrapping_add(step);
+    low_half(back) as u128 * 0x1_0000_0000_0000_0000 + first as u128
+}
+
+// The bit of a number at this place.
+fn bit(number: u128, place: u8) -> usize
+    requires { place < 128 }
+    ensures { result ≡ bit_at number place }
+{
+    (number >> place & 1) as usize
+}
+
+// A row has 128 bits for the marked states and 8 for the unmarked one.
+const ROW_BITS: usize = 136;
+
+// A bit of the concatenated rows, or 0 past the end.
+fn rows_bit(unmarked: &[u8], marked: &[u128], place: usize) -> usize
+    requires { length unmarked.now ≡ length marked.now }
+    ensures { result ≡ rows_bit (rows_of unmarked.now marked.now) place }
+{
+    let row = place / ROW_BITS;
+    if row >= marked.len() {
+        return 0;
+    }
+    let place = (place % ROW_BITS) as u8;
+    if place < 128 {
+        bit(marked[row], place)
+    } else {
+        bit(unmarked[row] as u128, place - 128)
+    }
 }
 
 impl Rows {
@@ -118,6 +170,27 @@ impl Rows {
         Ok(())
     }
 
+    /// The bucket of the rows, if there are so many.
+    pub(crate) fn root(&self, roots: usize) -> usize
+        requires { 0 < roots }
+        ensures value { result ≡ root_of roots self.now }
+        ensures within { result < roots }
+    {
+        (self.digest & (roots - 1) as u128) as usize
+    }
+
+    /// The bit at this depth of a search tree: first the digest's upper half from its highest bit on, then the rows.
+    pub(crate) fn branch(&self, depth: usize) -> usize
+        ensures value { result ≡ branch_of self.now depth }
+        ensures bit { result < 2 }
+    {
+        if depth < 64 {
+            bit(self.digest, 127 - depth as u8)
+        } else {
+            rows_bit(&self.unmarked, &self.marked, depth - 64)
+        }
+    }
+
     // Whether the rows are the same ones.
     fn has_rows_of(&self, other: &Rows) -> bool
         ensures { result ≡ table_eq self.now other.now }
@@ -138,14 +211,4 @@ impl PartialEq for Rows {
 
 impl Eq for Rows {
     ghost laws = { Prim.search (comparing, rules) depth 9 };
-}
-
-impl Hash for Rows {
-    ghost hash_input = { table_writes };
-
-    ghost respects_eq = { table_respects table_writes };
-
-    fn hash<H: Hasher>(&self, state: &mut H) {
-        state.write_u64(self.digest);
-    }
 }

@@ -7,14 +7,14 @@ ghost use Rattle.marker_dfa.specs.Deterministic.{DeterministicAutomaton, IsDeter
 ghost use Rattle.state_tables.specs.StateSet.{member, single_of};
 ghost use Rattle.state_tables.specs.Table.{IsTableOf, byte_row, compose_of, compose_row, marked_of, reach, reach_by_marks, reached_of, row_at, unmarked_of};
 ghost use Rattle.state_tables.specs.Meaning.{IsTable};
-ghost use Rattle.state_tables.specs.Same.{table_eq, table_respects, table_writes};
+ghost use Rattle.state_tables.specs.Branch.{branch_of, root_of};
+ghost use Rattle.state_tables.specs.Same.{table_eq};
 
 use crate::rows::Rows;
 use crate::state_set::{least, single, without};
 use marker_dfa::Dfa;
 use span_types::NoMemory;
 use std::alloc::Global;
-use std::hash::{Hash, Hasher};
 use std::marker::Model;
 
 /// Which states are reached over a text, from each state (M. L. Schmid and N. Schweikardt, Spanner
@@ -65,6 +65,23 @@ impl Table {
         self.rows.marked(p)
     }
 
+    /// The bucket of the table, if there are so many.
+    pub(crate) fn root(&self, roots: usize) -> usize
+        requires { 0 < roots }
+        ensures value { result ≡ root_of roots self.now }
+        ensures within { result < roots }
+    {
+        self.rows.root(roots)
+    }
+
+    /// The bit at this depth of a search tree. Two tables of q states differ in one of the first 64 + 136·q bits.
+    pub(crate) fn branch(&self, depth: usize) -> usize
+        ensures value { result ≡ branch_of self.now depth }
+        ensures bit { result < 2 }
+    {
+        self.rows.branch(depth)
+    }
+
     // All that is reached from `p`.
     fn reached(&self, p: u8) -> u128
         requires { p < length self.now }
@@ -86,16 +103,6 @@ impl PartialEq for Table {
 
 impl Eq for Table {
     ghost laws = { Prim.search (comparing, rules) depth 9 };
-}
-
-impl Hash for Table {
-    ghost hash_input = { table_writes };
-
-    ghost respects_eq = { table_respects table_writes };
-
-    fn hash<H: Hasher>(&self, state: &mut H) {
-        self.rows.hash(state);
-    }
 }
 
 // What the states of the set reach with any marks.

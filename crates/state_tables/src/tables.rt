@@ -1,17 +1,18 @@
 //! The tables of the nodes, each distinct one kept once.
 
-ghost use Rattle.std.specs.Prelude.{◌≡◌, ℕ, ◌+◌, ◌<◌, ◌≤◌, ◌-◌, ◌++◌, List, [], ◌∷◌, length, IfOk, OnOk, OnErr};
+ghost use Rattle.std.specs.Prelude.{◌≡◌, ℕ, ◌+◌, ◌<◌, ◌≤◌, ◌-◌, ◌++◌, List, [], ◌∷◌, length, map, IfOk, OnOk, OnErr};
 ghost use Rattle.slp_model.specs.declared.Node.{Node};
 ghost use Rattle.slp_model.specs.Kept.{Keeps};
 ghost use Rattle.slp_model.specs.Thin.{IsThinOf, rank};
 ghost use Rattle.marker_dfa.specs.Deterministic.{DeterministicAutomaton, states_of};
 ghost use Rattle.state_tables.specs.Dictionary.{AreTables, GainsTable, IsDictionary, count_of, distinct_of, kept_of, number_of, table_of};
-ghost use Rattle.state_tables.specs.Renumbering.{kept_numbers};
+ghost use Rattle.state_tables.specs.Renumbering.{kept_items};
+ghost use Rattle.state_tables.specs.Dropped.{used_by};
 
 use crate::renumbering::renumber;
 use crate::table::Table;
+use crate::table_set::TableSet;
 use crate::view::View;
-use indexmap::IndexSet;
 use marker_dfa::Dfa;
 use node_store::{Moves, NodeId, Store};
 use span_types::{NoMemory, Steps};
@@ -26,7 +27,7 @@ const MAX_TABLES: usize = (1 << 32) - 1;
 #[derive(Drop)]
 pub struct Tables {
     states: u8,
-    kept: IndexSet<Table>,
+    kept: TableSet,
     numbers: Vec<u32>,
 }
 
@@ -49,7 +50,7 @@ impl Tables {
     {
         Tables {
             states: dfa.states(),
-            kept: IndexSet::new(alloc),
+            kept: TableSet::new(alloc),
             numbers: Vec::new(alloc),
         }
     }
@@ -83,7 +84,7 @@ impl Tables {
         requires { number < distinct_of self.now }
         ensures { result.now ≡ kept_of self.now number }
     {
-        &self.kept.as_slice()[number]
+        self.kept.at(number)
     }
 
     /// The table of the node.
@@ -113,10 +114,7 @@ impl Tables {
         if self.kept.len() >= MAX_TABLES {
             return Err(NoMemory);
         }
-        let Ok((number, _)) = self.kept.insert_full(table) else {
-            return Err(NoMemory);
-        };
-        Ok(number)
+        self.kept.insert(table)
     }
 
     /// Makes room for so many further nodes.
@@ -144,19 +142,23 @@ impl Tables {
         self.numbers.push_reserved(number as u32);
     }
 
-    /// Leaves the tables of the kept nodes alone, each under its node's new id, where the store becomes that of the kept
-    /// nodes. The tables are those of the store's first nodes, or of all. It takes no memory, and time linear in the nodes with
-    /// tables. Each kept table stays under its number, and each number that goes leaves its place to further nodes.
+    /// Removes the nodes that are not kept, as the store does, and each kept table that no kept node has. Every kept node has
+    /// its table under its new id. The kept tables stay in their order and get new numbers, so a number from before is stale.
+    ///
+    /// The tables are those of the store's first nodes, or of all. It allocates nothing, and takes time linear in the nodes
+    /// with tables and the kept tables. The room of the removed nodes serves further ones.
     pub fn renumber(&mut self, moves: &Moves)
         requires { count_of self.old ≤ length moves.now }
-        ensures numbers { self.new.numbers ≡ kept_numbers self.old.numbers moves.now }
+        ensures kept { self.new.kept ≡ kept_items self.old.kept (used_by self.old moves.now) }
+        ensures numbers { self.new.numbers ≡ map (rank (used_by self.old moves.now)) (kept_items self.old.numbers moves.now) }
         ensures count { count_of self.new ≡ rank moves.now (count_of self.old) }
-        ensures each { (i : ℕ) → i < count_of self.old → Keeps moves.now i → number_of self.new (rank moves.now i) ≡ number_of self.old i }
+        ensures each { (i : ℕ) → i < count_of self.old → Keeps moves.now i → table_of self.new (rank moves.now i) ≡ table_of self.old i }
         ensures room { self.new.room + count_of self.new ≡ self.old.room + count_of self.old }
-        ensures same { self.new ≡ record self.old { numbers = self.new.numbers; room = self.new.room } }
+        ensures same { self.new ≡ record self.old { kept = self.new.kept; numbers = self.new.numbers; room = self.new.room } }
         ensures tables { (a : DeterministicAutomaton) (ns ms : List Node) → IsThinOf ns moves.now ms → AreTables a ns self.old → AreTables a ms self.new }
     {
         renumber(&mut self.numbers, moves);
+        self.kept.keep_used(&mut self.numbers);
     }
 
     /// A way to look at the nodes of the store, each of which has a table.

@@ -2,8 +2,8 @@
 ghost use Rattle.std.specs.Prelude.{◌≤◌, ◌<◌, IfOk};
 
 use edge_io::{
-    DirShelf, Failed, MemShelf, MemSink, MemSource, Shelf, ShelfRefusal, Sink, Source, StdSink,
-    StdSource, SureShelf, SureSink, SureSource, WriteRefusal,
+    DirShelf, Failed, MemShelf, MemSink, MemSource, PutRefusal, Shelf, ShelfRefusal, Sink, Source,
+    StdSink, StdSource, SureShelf, SureSink, SureSource, WriteRefusal,
 };
 use std::alloc::{AllocError, Global};
 use std::io;
@@ -78,7 +78,7 @@ fn read_at<F: Shelf>(
     shelf.read_at(name, from, into)
 }
 
-fn put<F: Shelf>(shelf: &mut F, name: &[u8], bytes: &[u8]) -> Result<(), WriteRefusal> {
+fn put<F: Shelf>(shelf: &mut F, name: &[u8], bytes: &[u8]) -> Result<(), PutRefusal> {
     shelf.put(name, bytes)
 }
 
@@ -116,7 +116,7 @@ fn reads_at<F: Shelf>(rt: &impl Abort, shelf: &mut F, rows: &[ReadRow], bytes: &
 }
 
 /// A file's name, the bytes that are put, and what that gives.
-type PutRow = (&'static [u8], &'static [u8], Result<(), WriteRefusal>);
+type PutRow = (&'static [u8], &'static [u8], Result<(), PutRefusal>);
 
 /// What each put gives in turn.
 fn puts<F: Shelf>(rt: &impl Abort, shelf: &mut F, rows: &[PutRow]) {
@@ -149,6 +149,10 @@ fn text_of_write(alloc: Global, refusal: WriteRefusal) -> Result<String, AllocEr
     refusal.to_string(alloc)
 }
 
+fn text_of_put(alloc: Global, refusal: PutRefusal) -> Result<String, AllocError> {
+    refusal.to_string(alloc)
+}
+
 fn text_of_shelf(alloc: Global, refusal: ShelfRefusal) -> Result<String, AllocError> {
     refusal.to_string(alloc)
 }
@@ -158,10 +162,17 @@ const WRITE_TEXTS: [(WriteRefusal, &str); 2] = [
     (WriteRefusal::NoMemory, "no memory"),
 ];
 
-const SHELF_TEXTS: [(ShelfRefusal, &str); 3] = [
+const SHELF_TEXTS: [(ShelfRefusal, &str); 4] = [
     (ShelfRefusal::Failed, "a read failed"),
     (ShelfRefusal::NoMemory, "no memory"),
     (ShelfRefusal::Absent, "no such file"),
+    (ShelfRefusal::Denied, "reading is not permitted"),
+];
+
+const PUT_TEXTS: [(PutRefusal, &str); 3] = [
+    (PutRefusal::Failed, "a write failed"),
+    (PutRefusal::NoMemory, "no memory"),
+    (PutRefusal::Denied, "writing is not permitted"),
 ];
 
 #[test]
@@ -170,6 +181,9 @@ fn texts(rt: HostRuntime) -> Result<(), Fail> {
     assert!(rt; Failed.to_string(alloc)?.as_str() == "a read failed");
     for (refusal, want) in WRITE_TEXTS {
         assert!(rt; text_of_write(alloc, refusal)?.as_str() == want);
+    }
+    for (refusal, want) in PUT_TEXTS {
+        assert!(rt; text_of_put(alloc, refusal)?.as_str() == want);
     }
     for (refusal, want) in SHELF_TEXTS {
         assert!(rt; text_of_shelf(alloc, refusal)?.as_str() == want);
@@ -210,7 +224,7 @@ fn shelf_in_memory(rt: HostRuntime) -> Result<(), Fail> {
     ];
     reads_at(&rt, &mut shelf, &failing, b"\0\0\0\0");
     let rows = [
-        (b"b".as_slice(), b"2".as_slice(), Err(WriteRefusal::Failed)),
+        (b"b".as_slice(), b"2".as_slice(), Err(PutRefusal::Failed)),
         (b"c".as_slice(), b"three".as_slice(), Ok(())),
     ];
     puts(&rt, &mut shelf, &rows);
@@ -257,8 +271,8 @@ const FILES: [(&[u8], Result<usize, ShelfRefusal>); 6] = [
     (b"/dev/zero", Ok(4)),
     (b"no such file", Err(ShelfRefusal::Absent)),
     (b"/dev/null/below", Err(ShelfRefusal::Absent)),
-    (b".", Err(ShelfRefusal::Failed)),
-    (b"\xff", Err(ShelfRefusal::Failed)),
+    (b".", Err(ShelfRefusal::Denied)),
+    (b"\xff", Err(ShelfRefusal::Denied)),
 ];
 
 #[test]
@@ -270,11 +284,7 @@ fn over_folders(rt: HostRuntime) -> Result<(), Fail> {
     }
     let rows = [
         (b"/dev/null".as_slice(), b"abc".as_slice(), Ok(())),
-        (
-            b".".as_slice(),
-            b"abc".as_slice(),
-            Err(WriteRefusal::Failed),
-        ),
+        (b".".as_slice(), b"abc".as_slice(), Err(PutRefusal::Denied)),
     ];
     puts(&rt, &mut shelf, &rows);
     Ok(())

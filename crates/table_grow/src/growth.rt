@@ -58,12 +58,32 @@ fn in_order<G: Gate>(
 /// How many nodes of a height are worth a thread, where each has its share of rows to compose.
 const WORTH: usize = 512;
 
-// In how many pieces at most so many nodes are worked on. Where nothing is remembered yet, each may need a table of its own.
-fn pieces_of(memory: &Memory, workers: u8, count: usize) -> u8 {
-    if memory.len() == 0 {
-        return workers;
+/// How many rows are composed in the time that it takes to start a thread, some 50 microseconds.
+const ROWS_OF_THREAD: usize = 1 << 13;
+
+/// A growth of so few nodes is always halved while nothing is remembered, so that a gate sees two threads on the shortest texts.
+const FEWEST: usize = 8;
+
+// What the tables of so many nodes cost, in rows.
+fn rows_of(dfa: &Dfa, nodes: usize) -> usize {
+    nodes.saturating_mul(ROWS.saturating_add(dfa.states() as usize))
+}
+
+// Whether so many nodes are worked on in pieces while nothing is remembered.
+fn starts_in_pieces(dfa: &Dfa, nodes: usize) -> bool {
+    nodes <= FEWEST || rows_of(dfa, nodes) >= ROWS_OF_THREAD
+}
+
+// In how many pieces at most `count` nodes of one height are worked on, of so many in all heights. While nothing is remembered
+// each node may need a table of its own.
+fn pieces_of(dfa: &Dfa, memory: &Memory, workers: u8, nodes: usize, count: usize) -> u8 {
+    if memory.len() != 0 {
+        return workers.min((count / WORTH).min(64) as u8);
     }
-    workers.min((count / WORTH).min(64) as u8)
+    if nodes <= FEWEST {
+        return workers.min(2);
+    }
+    workers.min((rows_of(dfa, count) / ROWS_OF_THREAD).min(64) as u8)
 }
 
 // Some new nodes, none of which is placed yet and all of whose children are, in pieces.
@@ -126,7 +146,7 @@ fn by_height<R: Threads + Sync, G: Gate>(
     let layers = Layers::new(alloc, store, from, to)?;
     for height in 0..HEIGHTS {
         let ids = layers.of_height(height);
-        let pieces = pieces_of(memory, workers, ids.len());
+        let pieces = pieces_of(dfa, memory, workers, to - from, ids.len());
         place_some(
             rt, alloc, filler, tables, store, dfa, memory, pieces, gate, ids,
         )?;
@@ -170,7 +190,7 @@ fn place_part<R: Threads + Sync, G: Gate>(
     }
 }
 
-/// How many rows of new tables there have to be for each node, so that pieces pay.
+/// How many rows of new tables there have to be for each node, so that pieces pay. What a node costs beside its rows is as much.
 const ROWS: usize = 16;
 
 // Whether so many new tables for so many nodes are worth pieces. Where there are few, pieces would compose the same ones.
@@ -191,8 +211,8 @@ fn part_len(in_pieces: bool) -> usize
     if in_pieces { PLACED_AT_ONCE } else { ASKED }
 }
 
-// All new nodes, some at a time. The next ones are placed in pieces where nothing is remembered yet, or enough of those before
-// have a table that no node had.
+// All new nodes, some at a time. The first ones are placed in pieces if nothing is remembered yet and they cost more than a
+// thread's start, and the next ones if enough of those before have a table that no node had.
 fn place_new<R: Threads + Sync, G: Gate>(
     rt: &R,
     alloc: Global,
@@ -214,7 +234,8 @@ fn place_new<R: Threads + Sync, G: Gate>(
 {
     let mut from = filler.known();
     let mut most = ASKED;
-    let mut in_pieces = memory.len() == 0;
+    let new = store.count() - from;
+    let mut in_pieces = memory.len() == 0 && starts_in_pieces(dfa, new.min(ASKED));
     while from < store.count() {
         let to = from + (store.count() - from).min(most);
         let at_once = if in_pieces { workers } else { 1 };
@@ -232,10 +253,11 @@ fn place_new<R: Threads + Sync, G: Gate>(
 /// Gives every node of the store its table. The tables are those of this automaton and of the first nodes of this store,
 /// and every remembered composition is true of them.
 ///
-/// The nodes without a table are taken some at a time: where nothing is remembered yet, or many of those before have a table
-/// that no node had, by rising height, those of one height in at most `workers` pieces at once, 1 to 64; with one worker, and
-/// elsewhere, in the order of their ids. `gate.pass` is called for each of them before its table is looked up in the memory
-/// or computed. It is one step for each, and takes expected constant time where the composition is remembered.
+/// The nodes without a table are taken some at a time. They are taken by rising height, those of one height in at most `workers`
+/// pieces at once, 1 to 64, if many of those before have a table that no node had, or if nothing is remembered yet and they cost
+/// more than a thread's start, or are at most eight. With one worker, and elsewhere, they are taken in the order of their ids.
+/// `gate.pass` is called for each of them before its table is looked up in the memory or computed. It is one step for each, and
+/// takes expected constant time where the composition is remembered.
 ///
 /// # Errors
 ///

@@ -67,6 +67,15 @@ impl Memory {
         self.cache.len()
     }
 
+    /// Removes all entries, whose numbers are stale once tables are renumbered (`Tables::renumber`). The memory keeps its size,
+    /// and allocates nothing.
+    pub fn forget(&mut self)
+        ensures { self.new ≡ [] }
+    {
+        self.cache.clear();
+        self.front.clear();
+    }
+
     /// The number of the composition, if it is remembered. The memory stays as it is.
     pub(crate) fn recall(&self, left: usize, right: usize) -> Option<usize>
         ensures { IfSome result (λ number. Contains self.now ((left, right), number)) }

@@ -5,8 +5,8 @@ use Rattle.list_all.specs.Places.{pages_at}
 use Rattle.span_enum.specs.Listing.{text_of}
 use Rattle.list_all.proofs.every.pages.Goals as goal
 
-pub in_pieces-requires-clause-can : goal.in_pieces-requires-clause-can
-in_pieces-requires-clause-can g c κs within =
+pub in_worthy_pieces-requires-clause-can : goal.in_worthy_pieces-requires-clause-can
+in_worthy_pieces-requires-clause-can g c κs within =
     let live = roots-live c.args.view.store.now c.args.docs.now c.args.first c.args.count c.in_ok-roots.roots.items c.requires.live c.requires.places c.in_ok-roots.ensures in
     rw c.deref.ensures.value (λ k d lt. record { tables = c.requires.tables; live = live k d lt })
 

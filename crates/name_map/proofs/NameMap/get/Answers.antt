@@ -1,22 +1,25 @@
-use Rattle.std.proofs.Common.{sym, ap, ◌∙◌, Some}
+use Rattle.std.proofs.Common.{Some, sym, ap, ◌∙◌, arith}
 use Rattle.name_map.specs.Named.{value_of}
-use Rattle.name_map.proofs.Entries.{value_at, lookup-value}
+use Rattle.name_map.specs.Kept.{indexed}
+use Rattle.name_map.proofs.SlotLaws.{some_is, read, found, within}
 use Rattle.name_map.proofs.NameMap.get.Goals as goal
 
-pub returns-in-Some-held : goal.returns-in-Some-held
-returns-in-Some-held g c =
-    let es = c.self.inside.slots.map.entries in
-    let n = c.args.name.now in
-    ap value_at (ap (λ o. Some o) (sym c.in-Some-held.is) ∙ c.in-Some.ensures.value) ∙ (lookup-value n es c.self.invariant.0 c.self.invariant.1 ∙ ap (λ ps. value_of ps n) c.self.view_is)
+pub index-requires : goal.index-requires
+index-requires g c =
+    let s = c.self.inside.slots in
+    let f = found (indexed s.index.entries) s.items.items s.empty c.in-Some.slot c.args.name.now c.self.invariant (sym c.in-Some.ensures) in
+    omega (arith, within s.items.items c.in-Some.slot (Some f.0) f.1)
 
-pub returns-in-None-held : goal.returns-in-None-held
-returns-in-None-held g c =
-    let es = c.self.inside.slots.map.entries in
-    let n = c.args.name.now in
-    ap value_at (ap (λ o. Some o) (sym c.in-None-held.is) ∙ c.in-Some.ensures.value) ∙ (lookup-value n es c.self.invariant.0 c.self.invariant.1 ∙ ap (λ ps. value_of ps n) c.self.view_is)
+pub returns-in-Some-index : goal.returns-in-Some-index
+returns-in-Some-index g c =
+    let s = c.self.inside.slots in
+    let f = found (indexed s.index.entries) s.items.items s.empty c.in-Some.slot c.args.name.now c.self.invariant (sym c.in-Some.ensures) in
+    let same = some_is (sym c.in-Some-index.is ∙ some_is (sym (read s.items.items c.in-Some.slot c.index.result.now (within s.items.items c.in-Some.slot (Some f.0) f.1) c.index.ensures) ∙ f.1)) in
+    ap (λ p. Some p.1) same ∙ (sym f.3 ∙ ap (λ ps. value_of ps c.args.name.now) c.self.view_is)
 
-pub returns-in-None : goal.returns-in-None
-returns-in-None g c =
-    let es = c.self.inside.slots.map.entries in
-    let n = c.args.name.now in
-    ap value_at c.in-None.ensures.value ∙ (lookup-value n es c.self.invariant.0 c.self.invariant.1 ∙ ap (λ ps. value_of ps n) c.self.view_is)
+pub returns-in-None-index : goal.returns-in-None-index
+returns-in-None-index g c =
+    let s = c.self.inside.slots in
+    let f = found (indexed s.index.entries) s.items.items s.empty c.in-Some.slot c.args.name.now c.self.invariant (sym c.in-Some.ensures) in
+    let bad : ⊥ = cc (sym c.in-None-index.is ∙ some_is (sym (read s.items.items c.in-Some.slot c.index.result.now (within s.items.items c.in-Some.slot (Some f.0) f.1) c.index.ensures) ∙ f.1)) in
+    absurd bad

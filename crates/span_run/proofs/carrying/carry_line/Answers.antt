@@ -1,23 +1,35 @@
-use Rattle.span_run.proofs.Names.{inl, inr, None, refl, Refused, rules, Some}
-use Rattle.span_run.proofs.Facts.{line_ends, still_ends, well_formed}
+use Rattle.span_run.proofs.Names.{outlet, seen, standing_of}
+use Rattle.span_run.proofs.Facts.{line_done, line_stopped}
 use Rattle.span_run.proofs.carrying.carry_line.Goals as goal
 
-pub carry-requires-clause-well_formed : goal.carry-requires-clause-well_formed
-carry-requires-clause-well_formed g c = let given = well_formed c.args.line.now c.in-Ok.command c.in-Ok.ensures.ok.form in search rules
-
-pub returns-in-Ok : goal.returns-in-Ok
-returns-in-Ok g c =
-    let ended = line_ends c.carry.result _ _ (λ told d. (Some c.in-Ok.command, c.in-Ok.ensures.ok, d)) (λ why s. inr (Some c.in-Ok.command, c.in-Ok.ensures.ok, s)) c.carry.ensures.ends in
-    record { held = c.carry.ensures.held; done = ended.0; stopped = ended.1 }
-
-pub returns-in-Err-Syntax : goal.returns-in-Err-Syntax
-returns-in-Err-Syntax g c =
+pub returns-clause-done : goal.returns-clause-done
+returns-clause-done g c =
+    let k = g.K.Sink in
     let f = g.F.Shelf in
-    let none = c.in-Err-Syntax.ensures.syntax (search (rules, c.in-Err-Syntax.field-0-is)) in
-    let ended = line_ends c.send_refusal.result _ _ (λ told d. (None, none, d)) (λ why s. inr (None, none, s))
-    (still_ends c.args.context.number None c.args.held.now (f.files c.args.shelf.now) (f.faults c.args.shelf.now) c.args.looks.now c.args.pairs.now c.args.places.now _ _ Refused _ c.send_refusal.result c.requires
-    (λ nothing. let bad : ⊥ = cc nothing in bad) (refl, refl, refl) refl refl refl (inl (λ list. list)) c.send_refusal.ensures.told c.send_refusal.ensures.wrote) in
-    record { held = c.requires; done = ended.0; stopped = ended.1 }
+    let a = c.args in
+    let m = c.write_line.new in
+    let n = c.send_out.new in
+    let e = c.send_out.ensures in
+    line_done a.line.now a.context.number
+    (seen (standing_of a.held.now) (f.files a.shelf.now) (f.faults a.shelf.now) a.looks.now a.pairs.now a.places.now)
+    (seen (standing_of m.held) (f.files m.shelf) (f.faults m.shelf) m.looks m.pairs m.places)
+    (outlet (k.written a.out.now) (k.faults a.out.now) (k.wants a.out.now))
+    (outlet (k.written m.out) (k.faults m.out) (k.wants m.out))
+    (outlet (k.written n.out) (k.faults n.out) (k.wants n.out))
+    a.out.now m.out n.out c.in_ok-told.told c.send_out.result e.told e.quiet e.written e.sound c.in_ok-told.ensures.done
 
-pub returns-in-Err-NoMemory-clause-stopped : goal.returns-in-Err-NoMemory-clause-stopped
-returns-in-Err-NoMemory-clause-stopped g c = inl (refl, refl, refl)
+pub returns-clause-stopped : goal.returns-clause-stopped
+returns-clause-stopped g c =
+    let k = g.K.Sink in
+    let f = g.F.Shelf in
+    let a = c.args in
+    let m = c.write_line.new in
+    let n = c.send_out.new in
+    let e = c.send_out.ensures in
+    line_stopped a.line.now a.context.number
+    (seen (standing_of a.held.now) (f.files a.shelf.now) (f.faults a.shelf.now) a.looks.now a.pairs.now a.places.now)
+    (seen (standing_of m.held) (f.files m.shelf) (f.faults m.shelf) m.looks m.pairs m.places)
+    (outlet (k.written a.out.now) (k.faults a.out.now) (k.wants a.out.now))
+    (outlet (k.written m.out) (k.faults m.out) (k.wants m.out))
+    (outlet (k.written n.out) (k.faults n.out) (k.wants n.out))
+    a.out.now m.out n.out c.in_ok-told.told c.send_out.result e.told e.quiet e.written e.later.0 e.later.1 e.fault e.want e.no_shelf c.in_ok-told.ensures.done

@@ -1,5 +1,5 @@
-use Rattle.span_run.proofs.Names.{at}
-use Rattle.span_run.proofs.Facts.{answer_ends, passed, stays_stopped}
+use Rattle.span_run.proofs.Names.{at, refl}
+use Rattle.span_run.proofs.Facts.{answer_ends, each_err, no_shelf_wrote, passed, stays_stopped}
 use Rattle.span_run.proofs.carrying.reply.Goals as goal
 
 pub returns-in_err-answer : goal.returns-in_err-answer
@@ -9,6 +9,7 @@ returns-in_err-answer g c =
     let stopped = c.in_err-answer.ensures.stopped in
     record {
       held = stopped.goes.held;
+      unsent = each_err c.from_residual.result _ (λ _ _. refl);
       ends = passed c.from_residual.result _ _ _ c.from_residual.ensures.1 (stays_stopped
           (at c.args.held.now (f.files c.args.shelf.now) (f.faults c.args.shelf.now) c.args.looks.now c.args.pairs.now c.args.places.now)
           (at n.held (f.files n.shelf) (f.faults n.shelf) n.looks n.pairs n.places) c.args.context.number c.args.command _ _ c.requires.answering stopped);
@@ -21,6 +22,7 @@ returns g c =
     let answers = c.in_ok-answer.ensures.done in
     record {
       held = answers.goes.held;
+      unsent = no_shelf_wrote _ c.send.result _ _ _ c.send.ensures.wrote;
       ends = answer_ends
           (at c.args.held.now (f.files c.args.shelf.now) (f.faults c.args.shelf.now) c.args.looks.now c.args.pairs.now c.args.places.now)
           (at n.held (f.files n.shelf) (f.faults n.shelf) n.looks n.pairs n.places)

@@ -1,7 +1,7 @@
 use Rattle.span_run.proofs.Names.{ap, AreLive-grows, Assigns, IfOk-weaker, IsLoadPaid, IsTurnedAway, IsWithin, List, load_size, Ok, plain, plain-grows, refl}
 use Rattle.span_run.proofs.Names.{state_of, subst, text_at, world, ℕ, ◌∙◌}
 use Rattle.script_syntax.specs.declared.form.Command.TheVariants as form
-use Rattle.span_run.proofs.Facts.{assigned_after, file_begun, file_paid, file_refused_paid, grown_answers, grown_same, grown_stays, grown_stops, if_err_both}
+use Rattle.span_run.proofs.Facts.{assigned_after, file_begun, file_paid, file_refused_paid, grown_answers, grown_same, grown_stays, grown_stops, if_err_both, of_the_file}
 use Rattle.span_run.proofs.Facts.{load_carries, load_denied, passed_on}
 use Rattle.span_run.proofs.files.load_file.Goals as goal
 
@@ -36,7 +36,7 @@ returns-in_ok-answer-in-Ok-clause-done g c = λ looks places.
     assigned_after old (plain l.new.store h.docs) new c.args.number c.args.name text text a.answer.told a.answer.line.items
     (plain-grows h.store l.new.store c.args.pairs.now l.new.pairs l.ensures.grows h.docs c.requires.live) refl a.ensures.ok in
     grown_answers h l.new.store c.give.new.docs c.args.number (form.LoadFile c.args.name c.args.file) a.answer files (f.files l.new.shelf) (f.faults c.args.shelf.now) (f.faults l.new.shelf) looks c.args.pairs.now l.new.pairs places c.requires l.ensures.grows c.give.ensures.live (λ no. no) (λ no. no)
-    (file_paid (world (state_of h) files) c.args.name c.args.file text looks c.args.pairs.now l.new.pairs there paid) l.ensures.files l.ensures.later
+    (file_paid (world (state_of h) files) c.args.name c.args.file text looks c.args.pairs.now l.new.pairs there paid) l.ensures.files c.in-Ok.ensures.sound
     (load_carries (state_of h) new c.args.number c.args.name c.args.file text a.answer.told a.answer.line.items files there assigned)
 
 pub returns-in-Err : goal.returns-in-Err
@@ -51,7 +51,7 @@ returns-in-Err g c =
     let paid : IsLoadPaid files c.args.file c.args.pairs.now l.new.pairs = subst (λ (n : List ℕ). IsLoadPaid files n c.args.pairs.now l.new.pairs) c.bytes.ensures l.ensures.paid in
     record {
       done = λ looks places. IfOk-weaker c.turned_away.result _ _ (λ answer denied. grown_same h l.new.store c.args.number command answer files (f.files l.new.shelf) (f.faults c.args.shelf.now) (f.faults l.new.shelf) looks c.args.pairs.now l.new.pairs places c.requires l.ensures.grows (λ no. no) (λ no. no)
-          (file_refused_paid w c.args.name c.args.file c.args.number c.in-Err.why answer.told answer.line.items looks c.args.pairs.now l.new.pairs turned denied paid) l.ensures.files l.ensures.later
+          (file_refused_paid w c.args.name c.args.file c.args.number c.in-Err.why answer.told answer.line.items looks c.args.pairs.now l.new.pairs turned denied paid) l.ensures.files (c.in-Err.ensures.sound (of_the_file c.args.number c.args.file c.in-Err.why answer.told answer.line.items denied))
           (load_denied w c.args.number c.args.name c.args.file c.in-Err.why answer.told answer.line.items turned denied)) c.turned_away.ensures.ok;
       stopped = λ looks places. if_err_both c.turned_away.result _ _ _ (λ why fault sink. grown_stays h l.new.store h.docs c.args.number command files (f.files l.new.shelf) (f.faults c.args.shelf.now) (f.faults l.new.shelf) looks c.args.pairs.now l.new.pairs places why c.requires l.ensures.grows
           (AreLive-grows h.store l.new.store c.args.pairs.now l.new.pairs l.ensures.grows h.docs c.requires.live)

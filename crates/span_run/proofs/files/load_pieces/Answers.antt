@@ -18,7 +18,7 @@ loop-loader-init g c =
       grows = Grows-none c.args.store.now c.args.pairs.now c.args.pairs.now (omega arith);
       cost = omega (arith, fresh.2);
       files = refl;
-      later = omega arith;
+      sound = refl;
     }
 
 pub returns-in_err-count-clause-paid : goal.returns-in_err-count-clause-paid
@@ -51,8 +51,9 @@ returns-then-count-eq0 g c =
       refused = tt;
       paid = whole_paid files c.args.name.now front c.args.pairs.now c.loop-loader.pairs c.finish.new.pairs within (omega (arith, i.cost)) c.finish.ensures.cost;
       files = c.next_piece.ensures.files ∙ i.files;
-      later = omega (arith, i.later, c.next_piece.ensures.later);
+      later = omega (arith, i.sound, c.in_ok-count.ensures.sound);
       fault = tt;
+      sound = c.in_ok-count.ensures.sound ∙ i.sound;
     }
 
 pub returns-in_err-feed-clause-grows : goal.returns-in_err-feed-clause-grows
@@ -84,5 +85,5 @@ loop-loader-preserved g c =
       grows = Grows-trans _ _ _ _ _ _ i.grows c.feed.ensures.grows;
       cost = omega (arith, ap length all, length-append front piece, i.cost, c.feed.ensures.cost);
       files = c.next_piece.ensures.files ∙ i.files;
-      later = omega (arith, i.later, c.next_piece.ensures.later);
+      sound = c.in_ok-count.ensures.sound ∙ i.sound;
     }

@@ -10,7 +10,7 @@ invariant-loop-loader g l = record {
   grows : Grows l.fn.store l.store l.fn.pairs l.pairs;
   cost : l.pairs + pending_count l.loader ≤ l.fn.pairs + length (fed l.store l.loader);
   files : g.F.Shelf.files l.shelf ≡ g.F.Shelf.files l.fn.shelf;
-  later : g.F.Shelf.faults l.fn.shelf ≤ g.F.Shelf.faults l.shelf;
+  sound : g.F.Shelf.faults l.shelf ≡ g.F.Shelf.faults l.fn.shelf;
 }
 
 abbrev pub decreases-loop-loader : goal.decreases-loop-loader

@@ -1,8 +1,8 @@
-use Rattle.span_run.proofs.Names.{ap, Doc, Holds, IsPut, KeepsOthers, length, length-map, List, plain, rules, saved_text, subst, sym, text_at, ℕ, ◌++◌, ◌∙◌}
+use Rattle.span_run.proofs.Names.{AllowsWrites, ap, arith, CannotWrite, DeniesWrites, Doc, Holds, inr, IsPut, KeepsOthers, length, length-map, List, plain, refl, rules, saved_text, subst, sym, text_at, ℕ, ◌++◌, ◌∙◌}
 use Rattle.span_run.proofs.Names.{◌≡◌}
 use Rattle.script_syntax.specs.declared.form.Command.TheVariants as form
 use Rattle.span_language.specs.declared.told.Stop.TheVariants as stop
-use Rattle.span_run.proofs.Facts.{no_shelf, no_sink, passed_on, saved_answers, saved_stays, stays}
+use Rattle.span_run.proofs.Facts.{no_shelf, no_sink, passed_on, same_shelf, saved_answers, saved_stays, stays}
 use Rattle.span_run.proofs.files.save_file.Goals as goal
 
 pub returns-in_err-image-clause-stopped : goal.returns-in_err-image-clause-stopped
@@ -26,21 +26,32 @@ returns-in-Ok-clause-done g c = λ looks pairs places.
       others = subst (λ (n : List ℕ). KeepsOthers files after n) c.bytes.ensures c.in-Ok.ensures.others;
     } in
     saved_answers h c.args.number c.args.file image.bytes.items image.nodes c.accepted.result files after (f.faults c.args.shelf.now) (f.faults c.put.new.self) looks pairs places c.requires
-    (record { form = c.in_ok-image.ensures.form; means = c.in_ok-image.ensures.documents }) c.accepted.ensures.0 line put c.in-Ok.ensures.cause.later
+    (record { form = c.in_ok-image.ensures.form; means = c.in_ok-image.ensures.documents }) (omega arith) (subst (AllowsWrites files) c.bytes.ensures c.in-Ok.ensures.allowed) c.accepted.ensures.0 line put c.in-Ok.ensures.cause.kept.0
 
 pub returns-in-Err-Failed-clause-stopped : goal.returns-in-Err-Failed-clause-stopped
 returns-in-Err-Failed-clause-stopped g c = λ looks pairs places.
     let f = g.F.Shelf in
-    let files = f.files c.args.shelf.now in
-    let after = f.files c.put.new.self in
-    saved_stays c.args.held.now c.args.number c.args.file files after (f.faults c.args.shelf.now) (f.faults c.put.new.self) looks pairs places stop.ShelfFault c.requires
-    (subst (λ (n : List ℕ). KeepsOthers files after n) c.bytes.ensures c.in-Err-Failed.ensures.others) c.in-Err-Failed.ensures.cause.later
+    saved_stays c.args.held.now c.args.number c.args.file (f.files c.args.shelf.now) (f.files c.put.new.self) (f.faults c.args.shelf.now) (f.faults c.put.new.self) looks pairs places stop.ShelfFault c.requires
+    c.in-Err-Failed.ensures.refused c.in-Err-Failed.ensures.cause.later
     (λ is. c.in-Err-Failed.ensures.cause.failed (search (rules, c.in-Err-Failed.field-0-is))) (λ is. let bad : ⊥ = cc is in bad)
 
-pub returns-clause-stopped : goal.returns-clause-stopped
-returns-clause-stopped g c = λ looks pairs places.
+pub returns-in-Err-NoMemory-clause-stopped : goal.returns-in-Err-NoMemory-clause-stopped
+returns-in-Err-NoMemory-clause-stopped g c = λ looks pairs places.
     let f = g.F.Shelf in
+    saved_stays c.args.held.now c.args.number c.args.file (f.files c.args.shelf.now) (f.files c.put.new.self) (f.faults c.args.shelf.now) (f.faults c.put.new.self) looks pairs places stop.NoMemory c.requires
+    c.in-Err-NoMemory.ensures.refused c.in-Err-NoMemory.ensures.cause.later no_shelf no_sink
+
+pub returns-in-Err-Denied-clause-done : goal.returns-in-Err-Denied-clause-done
+returns-in-Err-Denied-clause-done g c = λ looks pairs places.
+    let h = c.args.held.now in
+    let f = g.F.Shelf in
+    let image = c.in_ok-image.image in
     let files = f.files c.args.shelf.now in
-    let after = f.files c.put.new.self in
-    saved_stays c.args.held.now c.args.number c.args.file files after (f.faults c.args.shelf.now) (f.faults c.put.new.self) looks pairs places stop.NoMemory c.requires
-    (subst (λ (n : List ℕ). KeepsOthers files after n) c.bytes.ensures c.put.ensures.others) c.put.ensures.cause.later no_shelf no_sink
+    let denied : DeniesWrites files c.args.file = subst (DeniesWrites files) c.bytes.ensures (c.in-Err-Denied.ensures.denied (search (rules, c.in-Err-Denied.field-0-is))) in
+    same_shelf h c.args.number (form.SaveFile c.args.file) c.refuse-in-Err-Denied.result files (f.files c.put.new.self) (f.faults c.args.shelf.now) (f.faults c.put.new.self) looks pairs places c.in-Err-Denied.ensures.refused
+    (c.in-Err-Denied.ensures.cause.kept_denied (search (rules, c.in-Err-Denied.field-0-is))).0
+    (c.refuse-in-Err-Denied.ensures.done h (form.SaveFile c.args.file) files (f.faults c.args.shelf.now) looks pairs places (record {
+      held = c.requires;
+      refused = (image.bytes.items, image.nodes, record { form = c.in_ok-image.ensures.form; means = c.in_ok-image.ensures.documents }, inr (omega arith, denied, refl));
+      free = refl;
+    }) refl)

@@ -6,7 +6,7 @@ pub loop-tuple-init : goal.loop-tuple-init
 loop-tuple-init g c = record {
   kept = record { automaton = refl; text = refl };
   so_far = λ all rest are after. goes_starts _ c.args.vars.now c.args.limit rest all c.args.answers.now.after c.args.looks.now _ after;
-  wants_later = omega arith;
+  wants = refl;
 }
 
 pub write_tuple-requires : goal.write_tuple-requires
@@ -21,7 +21,7 @@ loop-tuple-preserved g c =
       kept = to.0;
       so_far = λ all rest are after. page_goes_on c.args.answers.now c.loop-tuple.answers i.kept are (i.so_far all rest are after) (c.loop-tuple.left - 1) c.next.new.looks c.in-Some.tuple c.next.new.self.after (omega (arith, c.if-left-eq0.false))
           to.1 c.in-Some.ensures.answer (kept_looks c.args.answers.now c.loop-tuple.answers c.next.new.looks c.loop-tuple.looks i.kept c.in-Some.ensures.cost) c.in_ok-write_tuple.ensures.wrote;
-      wants_later = omega (arith, i.wants_later, c.in_ok-write_tuple.ensures.wrote.wants_later);
+      wants = c.in_ok-write_tuple.ensures.wrote.sound.1 ∙ i.wants;
     }
 
 pub returns-then-left-eq0-clause-page : goal.returns-then-left-eq0-clause-page

@@ -6,10 +6,10 @@ pub returns-in-Err-Usage-clause-usage : goal.returns-in-Err-Usage-clause-usage
 returns-in-Err-Usage-clause-usage g c = λ _. c.in-Err-Usage.ensures.refused c.in-Err-Usage.field-0-is
 
 pub returns-in-Err-NoMemory-clause-want_front : goal.returns-in-Err-NoMemory-clause-want_front
-returns-in-Err-NoMemory-clause-want_front g c = λ _ workers demo asked. each_some (script_of demo (g.S.Source.left c.args.script.now)) _ (λ bytes. none_ran (UnlessList (g.K.Sink.wants c.args.out.now) (g.K.Sink.wants c.args.out.now)) (lines_of bytes) (outside (g.K.Sink.written c.args.out.now) (g.F.Shelf.files c.args.shelf.now) c.args.looks.now c.args.pairs.now c.args.places.now) (none_written (g.K.Sink.wants c.args.out.now)))
+returns-in-Err-NoMemory-clause-want_front g c = λ _ workers demo asked. each_some (script_of demo (g.S.Source.left c.args.script.now)) _ (λ bytes. none_ran (UnlessList (g.K.Sink.wants c.args.out.now) (g.K.Sink.wants c.args.out.now)) (lines_of bytes) (outside (g.K.Sink.written c.args.out.now) (g.F.Shelf.files c.args.shelf.now) c.args.looks.now c.args.pairs.now c.args.places.now) (none_written (g.K.Sink.wants c.args.out.now) (g.F.Shelf.files c.args.shelf.now)))
 
 pub returns-in-Err-NoMemory-asked_script-clause-want_front : goal.returns-in-Err-NoMemory-asked_script-clause-want_front
-returns-in-Err-NoMemory-asked_script-clause-want_front g c = λ _ workers demo asked. each_some (script_of demo (g.S.Source.left c.args.script.now)) _ (λ bytes. none_ran (UnlessList (g.K.Sink.wants c.args.out.now) (g.K.Sink.wants c.args.out.now)) (lines_of bytes) (outside (g.K.Sink.written c.args.out.now) (g.F.Shelf.files c.args.shelf.now) c.args.looks.now c.args.pairs.now c.args.places.now) (none_written (g.K.Sink.wants c.args.out.now)))
+returns-in-Err-NoMemory-asked_script-clause-want_front g c = λ _ workers demo asked. each_some (script_of demo (g.S.Source.left c.args.script.now)) _ (λ bytes. none_ran (UnlessList (g.K.Sink.wants c.args.out.now) (g.K.Sink.wants c.args.out.now)) (lines_of bytes) (outside (g.K.Sink.written c.args.out.now) (g.F.Shelf.files c.args.shelf.now) c.args.looks.now c.args.pairs.now c.args.places.now) (none_written (g.K.Sink.wants c.args.out.now) (g.F.Shelf.files c.args.shelf.now)))
 
 pub returns-in-Err-OutFault-clause-unread : goal.returns-in-Err-OutFault-clause-unread
 returns-in-Err-OutFault-clause-unread g c = of_demo (map string_bytes c.args.words.now) c.in-Ok.options.workers c.in-Ok.options.demo c.in-Ok.ensures.taken _ c.asked_script.ensures.unread

@@ -1,4 +1,4 @@
-use Rattle.span_run.proofs.Names.{IsStanding, length, lines_of, outside, ◌+◌, ◌≤◌}
+use Rattle.span_run.proofs.Names.{IsStanding, length, lines_of, outside, ◌+◌, ◌≡◌, ◌≤◌}
 use Rattle.span_run.proofs.Facts.{IsAt}
 use Rattle.span_run.proofs.top.run_lines.Given as goal
 
@@ -9,9 +9,10 @@ invariant-loop-rest g l = record {
       (outside (g.K.Sink.written l.out) (g.F.Shelf.files l.shelf) l.looks l.pairs l.places);
   standing : IsStanding l.session;
   few : l.number + length l.rest ≤ 1 + length l.script;
-  later : g.K.Sink.faults l.fn.out ≤ g.K.Sink.faults l.out;
-  wants_later : g.K.Sink.wants l.fn.out ≤ g.K.Sink.wants l.out;
-  shelf_later : g.F.Shelf.faults l.fn.shelf ≤ g.F.Shelf.faults l.shelf;
+  faults : g.K.Sink.faults l.out ≡ g.K.Sink.faults l.fn.out;
+  wants : g.K.Sink.wants l.out ≡ g.K.Sink.wants l.fn.out;
+  shelf_faults : g.F.Shelf.faults l.shelf ≡ g.F.Shelf.faults l.fn.shelf;
+  gone : g.K.Sink.kept l.fn.out ≡ 0 → g.K.Sink.kept l.out ≡ 0;
 }
 
 abbrev pub decreases-loop-rest : goal.decreases-loop-rest

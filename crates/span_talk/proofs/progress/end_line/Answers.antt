@@ -2,7 +2,7 @@ use Rattle.std.proofs.Common.{ℕ, ◌+◌, ◌++◌, ◌∷◌, [], List, Bool,
 use Rattle.std.proofs.lemmas.Result.{err_from_is_err_and}
 use Rattle.span_run.specs.Carried.{IsDone, IsStopped, outlet}
 use Rattle.span_run.specs.Scene.{seen}
-use Rattle.span_run.proofs.RunsLemmas.{IsAt, told_of}
+use Rattle.span_run.proofs.RunsLemmas.{gone_on, gone_still, IsAt, told_of}
 use Rattle.span_talk.proofs.Doing.{does, halts}
 use Rattle.span_talk.proofs.progress.end_line.Goals as goal
 
@@ -37,3 +37,14 @@ returns-clause-done g c =
     λ line lines before kept at.
     subst (λ (b : Bool). IsAt (lines ++ line ∷ []) [] (number + 1) b n.self before (told_of new after)) (sym c.with_refusal-progress.ensures)
     (does a.progress.now.kept.items number old sink new after refused c.in_ok-told.told done line lines before kept at)
+
+pub returns-clause-sound : goal.returns-clause-sound
+returns-clause-sound g c = let d = c.in_ok-told.ensures.done.2 in (d.sink_sound.0, d.sink_sound.1, d.shelf_sound)
+
+pub returns-clause-gone : goal.returns-clause-gone
+returns-clause-gone g c = λ none. gone_on g.K.Sink.kept c.line.new.out c.args.out.now c.in_ok-told.ensures.gone none
+
+pub returns-in_err-told-clause-gone : goal.returns-in_err-told-clause-gone
+returns-in_err-told-clause-gone g c =
+    let p = err_from_is_err_and c.from_residual.result c.from_residual.ensures.1 in
+    rw (p.1, p.2) (λ none is. gone_still g.K.Sink.kept c.line.new.out c.args.out.now (c.in_err-told.ensures.unsent is) none)

@@ -32,3 +32,8 @@ returns-clause-done g c =
     let some = some_by kept.items kept.len (omega (arith, kept.ok.0)) c.if-is_empty.ensures in
     let new = place n.progress.number n.progress.refused n.progress.session (outside (g.K.Sink.written n.out) (g.F.Shelf.files n.shelf) n.looks n.pairs n.places) in
     λ sent before t. ends_with_last sent before kept.items _ t new c.end_line.ensures.standing some c.in_ok-end_line.ensures.done
+
+pub returns-in_err-end_line-clause-gone : goal.returns-in_err-end_line-clause-gone
+returns-in_err-end_line-clause-gone g c =
+    let p = err_from_is_err_and c.from_residual.result c.from_residual.ensures.1 in
+    rw (p.1, p.2) (λ none. c.in_err-end_line.ensures.gone none)

@@ -1,4 +1,4 @@
-use Rattle.std.proofs.Common.{◌++◌, [], arith, ap, length, length-append, take, refl}
+use Rattle.std.proofs.Common.{◌++◌, ◌∙◌, inl, [], arith, ap, length, length-append, take, refl}
 use Rattle.std.proofs.KnownBytes.{Consumes-nil, Consumes-trans, Consumes-kept}
 use Rattle.span_language.specs.Lines.{lines_of}
 use Rattle.span_language.specs.Runs.{outside, RunsFront}
@@ -6,7 +6,7 @@ use Rattle.span_run.specs.Carried.{outlet}
 use Rattle.span_run.proofs.RunsLemmas.{rose_later}
 use Rattle.span_talk.specs.Talk.{AreServed, OfSent, moment}
 use Rattle.span_talk.specs.Progress.{IsHalted}
-use Rattle.span_talk.proofs.Ends.{halted_later, same_stop}
+use Rattle.span_talk.proofs.Ends.{halted_later, kept_or, same_stop}
 use Rattle.span_talk.proofs.Known.{more_served, none_served}
 use Rattle.span_talk.proofs.Talking.{begins, have_run, replied, stops_sent}
 use Rattle.span_talk.proofs.progress.hear_all.Given.{Over}
@@ -25,10 +25,11 @@ pieces-init g c =
       next = omega arith;
       kept = omega (arith, ap length c.new-kept.ensures.items);
       served = none_served (t.left a.client.now) before (t.moments a.client.now);
-      client_later = omega arith;
-      later = omega arith;
-      wants_later = omega arith;
-      shelf_later = omega arith;
+      client_faults = refl;
+      faults = refl;
+      wants = refl;
+      shelf_faults = refl;
+      gone = λ none. none;
     }
 
 pub returns-in-Err-clause-fault : goal.returns-in-Err-clause-fault
@@ -36,7 +37,7 @@ returns-in-Err-clause-fault g c =
     let t = g.C.Client in
     let i = c.pieces.invariant in
     λ _. (
-      rose_later (t.faults c.args.client.now) (t.faults c.pieces.client) (t.faults c.hear.new.self) i.client_later c.in-Err.ensures.cause.failed,
+      rose_later (t.faults c.args.client.now) (t.faults c.pieces.client) (t.faults c.hear.new.self) (omega (arith, i.client_faults)) c.in-Err.ensures.cause.failed,
       (i.so_far.0, Consumes-kept (t.left c.args.client.now) (t.left c.pieces.client) (t.left c.hear.new.self) i.so_far.0 i.so_far.1 c.in-Err.ensures.bytes, have_run i.so_far.0 _ _ _ i.so_far.3 i.standing),
     )
 
@@ -71,7 +72,7 @@ halted g c =
     let k = g.K.Sink in
     let l = c.pieces in
     let i = l.invariant in
-    halted_later _ _ _ (outlet (k.written l.out) (k.faults l.out) (k.wants l.out)) _ _ (g.F.Shelf.faults l.shelf) _ _ i.later i.wants_later i.shelf_later c.in-Err-hear_piece.ensures.stopped
+    halted_later _ _ _ (outlet (k.written l.out) (k.faults l.out) (k.wants l.out)) _ _ (g.F.Shelf.faults l.shelf) _ _ (omega (arith, i.faults)) (omega (arith, i.wants)) (omega (arith, i.shelf_faults)) c.in-Err-hear_piece.ensures.stopped
     (λ Ends stops. stops_sent (t.left c.args.client.now) (t.left l.client) (t.left c.hear.new.self) i.so_far.0 _ _ _ _ Ends _ i.so_far.1 c.in-Ok.ensures.bytes.0 i.so_far.3 stops)
 
 pub returns-in-Err-hear_piece-clause-out_fault : goal.returns-in-Err-hear_piece-clause-out_fault
@@ -103,13 +104,28 @@ pieces-preserved g c =
       next = omega (arith, i.next, o.ensures.next, count);
       kept = o.ensures.kept;
       served = served g (goal.at.pieces-preserved g c).After-hear;
-      client_later = omega (arith, i.client_later, c.hear.ensures.cause.later);
-      later = omega (arith, i.later, c.hear_piece.ensures.later);
-      wants_later = omega (arith, i.wants_later, c.hear_piece.ensures.wants_later);
-      shelf_later = omega (arith, i.shelf_later, c.hear_piece.ensures.shelf_later);
+      client_faults = c.in-Ok.ensures.cause.kept ∙ i.client_faults;
+      faults = o.ensures.sound.0 ∙ i.faults;
+      wants = o.ensures.sound.1 ∙ i.wants;
+      shelf_faults = o.ensures.sound.2 ∙ i.shelf_faults;
+      gone = λ none. o.ensures.gone (i.gone none);
     }
 
 pub returns-clause-too_long : goal.returns-clause-too_long
 returns-clause-too_long g c =
     let i = c.pieces.invariant in
     λ _. (i.so_far.0, i.so_far.1, (omega (arith, i.so_far.2), have_run i.so_far.0 _ _ _ i.so_far.3 i.standing))
+
+pub returns-in-Err-clause-gone : goal.returns-in-Err-clause-gone
+returns-in-Err-clause-gone g c = λ none. inl (c.pieces.invariant.gone none)
+
+pub returns-in-Err-hear_piece-clause-gone : goal.returns-in-Err-hear_piece-clause-gone
+returns-in-Err-hear_piece-clause-gone g c = λ none. kept_or c.in-Err-hear_piece.stop _ (c.in-Err-hear_piece.ensures.gone (c.pieces.invariant.gone none))
+
+pub returns-clause-gone : goal.returns-clause-gone
+returns-clause-gone g c = λ none. inl (c.pieces.invariant.gone none)
+
+pub returns-then-count-eq0-clause-sound : goal.returns-then-count-eq0-clause-sound
+returns-then-count-eq0-clause-sound g c =
+    let i = c.pieces.invariant in
+    (c.in-Ok.ensures.cause.kept ∙ i.client_faults, i.faults, i.wants, i.shelf_faults)

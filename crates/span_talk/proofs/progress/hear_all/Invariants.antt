@@ -15,10 +15,11 @@ invariant-pieces g l = record {
   next : l.progress.number ≤ 1 + l.heard;
   kept : length l.progress.kept.items ≤ 65537;
   served : AreServed (g.C.Client.left l.fn.client) (outside (g.K.Sink.written l.fn.out) (g.F.Shelf.files l.fn.shelf) l.fn.looks l.fn.pairs l.fn.places) (g.C.Client.moments l.fn.client) (g.C.Client.moments l.client);
-  client_later : g.C.Client.faults l.fn.client ≤ g.C.Client.faults l.client;
-  later : g.K.Sink.faults l.fn.out ≤ g.K.Sink.faults l.out;
-  wants_later : g.K.Sink.wants l.fn.out ≤ g.K.Sink.wants l.out;
-  shelf_later : g.F.Shelf.faults l.fn.shelf ≤ g.F.Shelf.faults l.shelf;
+  client_faults : g.C.Client.faults l.client ≡ g.C.Client.faults l.fn.client;
+  faults : g.K.Sink.faults l.out ≡ g.K.Sink.faults l.fn.out;
+  wants : g.K.Sink.wants l.out ≡ g.K.Sink.wants l.fn.out;
+  shelf_faults : g.F.Shelf.faults l.shelf ≡ g.F.Shelf.faults l.fn.shelf;
+  gone : g.K.Sink.kept l.fn.out ≡ 0 → g.K.Sink.kept l.out ≡ 0;
 }
 
 abbrev pub decreases-pieces : goal.decreases-pieces

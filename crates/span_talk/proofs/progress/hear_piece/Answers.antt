@@ -1,21 +1,21 @@
-use Rattle.std.proofs.Common.{◌≢◌, All, arith, rules, ap, length, length-append, ◌∷◌}
+use Rattle.std.proofs.Common.{◌∙◌, ◌≢◌, All, arith, rules, ap, length, length-append, ◌∷◌}
 use Rattle.std.proofs.lemmas.Result.{err_from_is_err_and}
 use Rattle.span_language.specs.Runs.{outside}
 use Rattle.span_run.specs.Carried.{outlet}
 use Rattle.span_talk.specs.Progress.{place}
-use Rattle.span_talk.proofs.Ends.{halted_later, halted_wanting}
+use Rattle.span_talk.proofs.Ends.{halted_later, halted_wanting, kept_on}
 use Rattle.span_talk.proofs.Talking.{hears_line, hears_rest, stops_between, stops_line}
 use Rattle.span_talk.proofs.progress.hear_piece.Goals as goal
 
 pub returns-in_err-keep-clause-stopped : goal.returns-in_err-keep-clause-stopped
 returns-in_err-keep-clause-stopped g c =
     let i = c.lines.invariant in
-    halted_wanting _ _ _ _ _ _ c.from_residual.ensures.1 (λ Ends none. stops_between _ _ _ _ _ _ _ i.so_far.1 i.so_far.2 Ends i.standing none)
+    halted_wanting _ _ _ _ _ _ c.from_residual.ensures.1 (λ Ends none. stops_between _ _ _ _ _ _ _ i.so_far.1 i.so_far.2 Ends i.standing (none _))
 
 pub returns-in_err-keep-2-clause-stopped : goal.returns-in_err-keep-2-clause-stopped
 returns-in_err-keep-2-clause-stopped g c =
     let i = c.lines.invariant in
-    halted_wanting _ _ _ _ _ _ c.from_residual-in_err-keep-2.ensures.1 (λ Ends none. stops_between _ _ _ _ _ _ _ i.so_far.1 i.so_far.2 Ends i.standing none)
+    halted_wanting _ _ _ _ _ _ c.from_residual-in_err-keep-2.ensures.1 (λ Ends none. stops_between _ _ _ _ _ _ _ i.so_far.1 i.so_far.2 Ends i.standing (none _))
 
 pub returns-in_err-end_line-clause-stopped : goal.returns-in_err-end_line-clause-stopped
 returns-in_err-end_line-clause-stopped g c =
@@ -23,7 +23,7 @@ returns-in_err-end_line-clause-stopped g c =
     let l = c.lines in
     let i = l.invariant in
     let p = err_from_is_err_and c.from_residual-in_err-end_line.result c.from_residual-in_err-end_line.ensures.1 in
-    rw (p.1, p.2) (halted_later _ _ _ (outlet (k.written l.out) (k.faults l.out) (k.wants l.out)) _ _ (g.F.Shelf.faults l.shelf) _ _ i.later i.wants_later i.shelf_later c.in_err-end_line.ensures.stopped
+    rw (p.1, p.2) (halted_later _ _ _ (outlet (k.written l.out) (k.faults l.out) (k.wants l.out)) _ _ (g.F.Shelf.faults l.shelf) _ _ (omega (arith, i.faults)) (omega (arith, i.wants)) (omega (arith, i.shelf_faults)) c.in_err-end_line.ensures.stopped
     (λ Ends stops. stops_line _ _ _ _ _ _ _ i.so_far.1 i.so_far.2 _ _ _ c.in-Some.ensures.0 c.in-Some.ensures.1 c.in_ok-keep.ensures.kept Ends _ stops))
 
 pub lines-preserved : goal.lines-preserved
@@ -37,9 +37,10 @@ lines-preserved g c =
       standing = c.end_line.ensures.standing;
       next = omega (arith, i.next, e.next, ap length c.in-Some.ensures.0, length-append c.in-Some.parts.0.now (10 ∷ c.in-Some.parts.1.now));
       kept = omega (arith, ap length e.empty);
-      later = omega (arith, i.later, c.end_line.ensures.later);
-      wants_later = omega (arith, i.wants_later, c.end_line.ensures.wants_later);
-      shelf_later = omega (arith, i.shelf_later, c.end_line.ensures.shelf_later);
+      faults = e.sound.0 ∙ i.faults;
+      wants = e.sound.1 ∙ i.wants;
+      shelf_faults = e.sound.2 ∙ i.shelf_faults;
+      gone = λ none. c.in_ok-end_line.ensures.gone (i.gone none);
     }
 
 pub returns-clause-done : goal.returns-clause-done
@@ -47,3 +48,14 @@ returns-clause-done g c =
     let i = c.lines.invariant in
     let plain : All (λ b. b ≢ 10) c.lines.rest.now = search rules in
     hears_rest _ _ _ _ _ _ _ i.so_far.1 i.so_far.2 c.keep-2.new.kept.items plain c.in_ok-keep-2.ensures.kept
+
+pub returns-in_err-keep-clause-gone : goal.returns-in_err-keep-clause-gone
+returns-in_err-keep-clause-gone g c = λ none. kept_on c.from_residual.result _ (c.lines.invariant.gone none)
+
+pub returns-in_err-keep-2-clause-gone : goal.returns-in_err-keep-2-clause-gone
+returns-in_err-keep-2-clause-gone g c = λ none. kept_on c.from_residual-in_err-keep-2.result _ (c.lines.invariant.gone none)
+
+pub returns-in_err-end_line-clause-gone : goal.returns-in_err-end_line-clause-gone
+returns-in_err-end_line-clause-gone g c =
+    let p = err_from_is_err_and c.from_residual-in_err-end_line.result c.from_residual-in_err-end_line.ensures.1 in
+    rw (p.1, p.2) (λ none. c.in_err-end_line.ensures.gone (c.lines.invariant.gone none))

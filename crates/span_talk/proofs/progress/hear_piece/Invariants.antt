@@ -12,9 +12,10 @@ invariant-lines g l = record {
   standing : IsStanding l.progress.session;
   next : l.progress.number + length l.rest ≤ l.fn.progress.number + length l.piece;
   kept : length l.progress.kept.items ≤ 65537;
-  later : g.K.Sink.faults l.fn.out ≤ g.K.Sink.faults l.out;
-  wants_later : g.K.Sink.wants l.fn.out ≤ g.K.Sink.wants l.out;
-  shelf_later : g.F.Shelf.faults l.fn.shelf ≤ g.F.Shelf.faults l.shelf;
+  faults : g.K.Sink.faults l.out ≡ g.K.Sink.faults l.fn.out;
+  wants : g.K.Sink.wants l.out ≡ g.K.Sink.wants l.fn.out;
+  shelf_faults : g.F.Shelf.faults l.shelf ≡ g.F.Shelf.faults l.fn.shelf;
+  gone : g.K.Sink.kept l.fn.out ≡ 0 → g.K.Sink.kept l.out ≡ 0;
 }
 
 abbrev pub decreases-lines : goal.decreases-lines

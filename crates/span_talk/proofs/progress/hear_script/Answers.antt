@@ -1,10 +1,10 @@
-use Rattle.std.proofs.Common.{arith}
+use Rattle.std.proofs.Common.{◌∙◌, arith}
 use Rattle.span_language.specs.Lines.{lines_of}
 use Rattle.span_language.specs.Runs.{outside, RunsAll, RunsFront}
 use Rattle.span_run.specs.Carried.{outlet}
 use Rattle.span_talk.specs.Talk.{OfSent}
 use Rattle.span_talk.specs.Progress.{IsHalted}
-use Rattle.span_talk.proofs.Ends.{halted_later, same_stop}
+use Rattle.span_talk.proofs.Ends.{halted_later, kept_or, same_stop}
 use Rattle.span_talk.proofs.Known.{each_sent}
 use Rattle.span_talk.proofs.progress.hear_script.Given.{Over}
 use Rattle.span_talk.proofs.progress.hear_script.Goals.{In-Err}
@@ -42,3 +42,15 @@ returns-clause-shelf_fault g c = λ is. (halted g (goal.at.returns-clause-shelf_
 
 pub returns-clause-want : goal.returns-clause-want
 returns-clause-want g c = λ is. (halted g (goal.at.returns-clause-want g c).In-Err).want (same_stop _ _ is) (g.K.Sink.wants c.args.out.now) (omega arith)
+
+pub returns-in-Ok-clause-sound : goal.returns-in-Ok-clause-sound
+returns-in-Ok-clause-sound g c =
+    let first = c.in_ok-progress.ensures.sound in
+    let last = c.in-Ok.ensures.sound in
+    (first.0, last.0 ∙ first.1, last.1 ∙ first.2, last.2 ∙ first.3)
+
+pub returns-in-Ok-clause-gone : goal.returns-in-Ok-clause-gone
+returns-in-Ok-clause-gone g c = λ none. c.in-Ok.ensures.gone (c.in_ok-progress.ensures.gone none)
+
+pub returns-clause-gone : goal.returns-clause-gone
+returns-clause-gone g c = λ none. kept_or c.in-Err.stop _ (c.in-Err.ensures.gone (c.in_ok-progress.ensures.gone none))

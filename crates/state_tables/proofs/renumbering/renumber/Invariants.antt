@@ -4,6 +4,6 @@ use Rattle.state_tables.proofs.renumbering.renumber.Given as goal
 
 abbrev pub invariant-loop-index : goal.invariant-loop-index
 invariant-loop-index l = record {
-  moved : AreMoved l.initial.numbers.items l.moves l.index l.numbers.items l.kept;
+  moved : AreMoved l.initial.numbers.items l.moves 0 l.index l.numbers.items l.kept;
   capacity : vec_capacity l.numbers ≡ vec_capacity l.initial.numbers;
 }

@@ -1,7 +1,14 @@
-use Rattle.std.proofs.Common.{refl}
+use Rattle.std.proofs.Common.{refl, ◌∙◌}
 use Rattle.state_tables.specs.Digest.{digest_with}
+use Rattle.state_tables.proofs.Bijection.{digest-told, set-told}
 use Rattle.state_tables.proofs.rows.with_row.Goals as goal
 
-pub returns : goal.returns
+pub returns-clause-value : goal.returns-clause-value
 unfolding digest_with
-returns c = rw c.folded_product.ensures refl
+returns-clause-value c = simp (c.low_half.ensures, c.low_half-2.ensures, c.low_half-3.ensures, c.low_half-4.ensures, c.high_half.ensures, c.high_half-2.ensures, c.high_half-3.ensures, c.high_half-4.ensures, c.product-across.ensures, c.product-back.ensures) refl
+
+pub returns-clause-digests : goal.returns-clause-digests
+returns-clause-digests c = λ other lt same. digest-told other c.args.digest c.args.unmarked c.args.marked lt c.ranges.digest.fits c.ranges.marked.fits (same ∙ returns-clause-value c)
+
+pub returns-clause-sets : goal.returns-clause-sets
+returns-clause-sets c = λ other lt same. set-told c.args.digest c.args.unmarked other c.args.marked lt c.ranges.marked.fits (same ∙ returns-clause-value c)

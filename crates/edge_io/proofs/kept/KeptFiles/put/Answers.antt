@@ -1,53 +1,36 @@
-use Rattle.std.proofs.Common.{◌≡◌, Some, [], ◌∷◌, ◌++◌, position, sym, ap, subst, ◌∙◌}
-use Rattle.std.proofs.lemmas.List.{map-append}
+use Rattle.std.proofs.Common.{◌≡◌, List, ℕ, Some, false, sym, ap, refl, ◌∙◌}
 use Rattle.std.specs.Str.{bytes_eq}
-use Rattle.std.specs.List.{slice_set}
-use Rattle.std.proofs.lemmas.List.Quantifiers.{position-Some}
-use Rattle.edge_io.specs.Files.{Files, file_of, put_file}
+use Rattle.edge_io.specs.Files.{Entries, entry_of}
 use Rattle.edge_io.specs.Told.{told}
-use Rattle.edge_io.proofs.FileLemmas.{absent, present, file_of-put_same, file_of-put_other}
+use Rattle.edge_io.proofs.FileLemmas.{entry_of-put_same, entry_of-put_other, listed, on_ok}
 use Rattle.edge_io.proofs.kept.KeptFiles.put.Goals as goal
+use Rattle.edge_io.proofs.kept.KeptFiles.put.Goals.{in-Ok, in-Err}
 
-pub returns-in-Some-clause-whole : goal.returns-in-Some-clause-whole
-returns-in-Some-clause-whole c =
-    let files = c.self.inside.files.items in
-    let name = c.args.name.now in
-    let bytes = c.in_ok-bytes.bytes in
-    let d = c.index_mut.result.now in
-    let at : position (λ file. bytes_eq file.0.items name) files ≡ Some c.in-Some.place =
-    ap (λ l. position (λ file. bytes_eq file.0.items name) l) (sym c.deref.ensures.value) ∙ sym c.in-Some.ensures in
-    let found = position-Some (λ file. bytes_eq file.0.items name) files c.in-Some.place d at in
-    let is = present files name c.in-Some.place d found.0 found.1 found.2 in
-    ap (λ file. told (slice_set files c.in-Some.place (file.0, bytes))) c.index_mut.ensures.value
-    ∙ sym (is.1 bytes)
-    ∙ (λ j. put_file (c.self.view_is j) name (c.in_ok-bytes.ensures.items j))
+pub returns-then-is_listed-clause-denied : goal.returns-then-is_listed-clause-denied
+returns-then-is_listed-clause-denied c = λ is.
+    listed c.self.inside.no_writes.items c.deref.result.now c.args.self.now.no_writes c.args.name.now c.is_listed.result _ (ap (λ f. f.no_writes) c.self.view_is) c.deref.ensures.value c.is_listed.ensures c.if-is_listed.true
 
-pub returns-in-Some-clause-done : goal.returns-in-Some-clause-done
-returns-in-Some-clause-done c =
-    let P : Files → Type 0 = λ l. file_of l c.args.name.now ≡ Some c.args.bytes.now in
-    subst P (sym (returns-in-Some-clause-whole c)) (file_of-put_same c.args.self.now c.args.name.now c.args.bytes.now)
+pub returns-clause-allowed : goal.returns-clause-allowed
+returns-clause-allowed c =
+    on_ok _ _
+    (listed c.self.inside.no_writes.items c.deref.result.now c.args.self.now.no_writes c.args.name.now c.is_listed.result false (ap (λ f. f.no_writes) c.self.view_is) c.deref.ensures.value c.is_listed.ensures c.if-is_listed.false)
 
-pub returns-in-Some-clause-others : goal.returns-in-Some-clause-others
-returns-in-Some-clause-others c = λ other apart.
-    ap (λ l. file_of l other) (returns-in-Some-clause-whole c) ∙ file_of-put_other c.args.self.now c.args.name.now c.args.bytes.now other apart
+pub returns-clause-done : goal.returns-clause-done
+returns-clause-done c =
+    elim c.match-put_bytes.branch [
+      | in-Ok w ↦ on_ok _ _ (ap (λ l. entry_of l c.args.name.now) w.in-Ok.ensures.whole ∙ entry_of-put_same (told c.self.inside.files.items) c.args.name.now c.args.bytes.now)
+      | in-Err w ↦ rw w.result-is tt
+    ]
 
-pub returns-in_ok-push-in-None-clause-whole : goal.returns-in_ok-push-in-None-clause-whole
-returns-in_ok-push-in-None-clause-whole c =
-    let files = c.self.inside.files.items in
-    let name = c.args.name.now in
-    let at = ap (λ l. position (λ file. bytes_eq file.0.items name) l) (sym c.deref.ensures.value) ∙ sym c.in-None.ensures in
-    let is = absent files name at in
-    ap told c.in_ok-push-in-None.ensures.items
-    ∙ map-append (λ file. (file.0.items, file.1.items)) files ((c.in_ok-name-in-None.name, c.in_ok-bytes.bytes) ∷ [])
-    ∙ (λ j. told files ++ (c.in_ok-name-in-None.ensures.items j, c.in_ok-bytes.ensures.items j) ∷ [])
-    ∙ sym (is.1 c.args.bytes.now)
-    ∙ ap (λ l. put_file l name c.args.bytes.now) c.self.view_is
-
-pub returns-in_ok-push-in-None-clause-done : goal.returns-in_ok-push-in-None-clause-done
-returns-in_ok-push-in-None-clause-done c =
-    let P : Files → Type 0 = λ l. file_of l c.args.name.now ≡ Some c.args.bytes.now in
-    subst P (sym (returns-in_ok-push-in-None-clause-whole c)) (file_of-put_same c.args.self.now c.args.name.now c.args.bytes.now)
-
-pub returns-in_ok-push-in-None-clause-others : goal.returns-in_ok-push-in-None-clause-others
-returns-in_ok-push-in-None-clause-others c = λ other apart.
-    ap (λ l. file_of l other) (returns-in_ok-push-in-None-clause-whole c) ∙ file_of-put_other c.args.self.now c.args.name.now c.args.bytes.now other apart
+pub returns-clause-others : goal.returns-clause-others
+returns-clause-others c =
+    let same : (entries : Entries) → entries ≡ told c.self.inside.files.items → (other : List ℕ) → entry_of entries other ≡ entry_of c.args.self.now.entries other =
+    λ entries is other. ap (λ l. entry_of l other) is ∙ ap (λ f. entry_of f.entries other) c.self.view_is in (
+      elim c.match-put_bytes.branch [
+        | in-Ok w ↦ λ other apart. ap (λ l. entry_of l other) w.in-Ok.ensures.whole
+            ∙ entry_of-put_other (told c.self.inside.files.items) c.args.name.now c.args.bytes.now other apart ∙ ap (λ f. entry_of f.entries other) c.self.view_is
+        | in-Err w ↦ λ other apart. same _ w.in-Err.ensures.refused other
+      ],
+      ap (λ f. f.no_reads) c.self.view_is,
+      ap (λ f. f.no_writes) c.self.view_is,
+    )

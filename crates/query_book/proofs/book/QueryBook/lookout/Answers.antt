@@ -3,21 +3,14 @@ use Rattle.std.specs.Option.{option_map}
 use Rattle.span_types.specs.Query.{query_of}
 use Rattle.query_book.specs.declared.entry.TabledQuery.{TabledQuery}
 use Rattle.query_book.proofs.Views.{value-by_name}
-use Rattle.query_book.proofs.Covered.{bytes-found, count-found, served-found, short-some, short-none}
-use Rattle.query_book.proofs.book.QueryBook.lookout.Goals.{in-Some, in_default}
+use Rattle.query_book.proofs.Covered.{bytes-found, count-found, served-found, short-live}
 use Rattle.query_book.proofs.book.QueryBook.lookout.Goals as goal
 
 pub returns-in_err-tabled-clause-short : goal.returns-in_err-tabled-clause-short
-returns-in_err-tabled-clause-short c = elim c.match-root.branch [
-  | in-Some w ↦ short-some c.args.store.now c.args.root w.in-Some.id w.len-len.result w.in-Some.is w.len-len.ensures.len w.len-len.ensures.short
-  | in_default w ↦ short-none c.args.store.now c.args.root w.in_default.is
-]
+returns-in_err-tabled-clause-short c = short-live c.args.store.now c.args.root c.count-nodes.ensures.sound c.requires.live
 
 pub returns-clause-short : goal.returns-clause-short
-returns-clause-short c = elim c.match-root.branch [
-  | in-Some w ↦ short-some c.args.store.now c.args.root w.in-Some.id w.len-len.result w.in-Some.is w.len-len.ensures.len w.len-len.ensures.short
-  | in_default w ↦ short-none c.args.store.now c.args.root w.in_default.is
-]
+returns-clause-short c = short-live c.args.store.now c.args.root c.count-nodes.ensures.sound c.requires.live
 
 pub view-requires : goal.view-requires
 view-requires c = count-found c.args.store.now c.args.self.now c.args.name.now c.in_ok-tabled.tabled.now c.requires.covers c.in_ok-tabled.ensures.found

@@ -8,5 +8,5 @@ returns c =
 
 pub invariant_of-self-2 : goal.invariant_of-self-2
 invariant_of-self-2 c =
-    rw (c.push_reserved.ensures.items, c.in_ok-reserve.ensures.items, c.in_ok-push.ensures.items, c.with_row-self-inside.ensures)
+    rw (c.push_reserved.ensures.items, c.in_ok-reserve.ensures.items, c.in_ok-push.ensures.items, c.with_row-self-inside.ensures.value)
     (coded-push c.self.inside.unmarked.items c.self.inside.marked.items c.self.inside.digest c.coded-code.result c.args.marked c.self.invariant)

@@ -1,25 +1,46 @@
-use Rattle.std.proofs.Common.{◌≡◌, ◌-◌, length, get_or, vec_len, vec_capacity, ap, ◌∙◌}
+use Rattle.std.proofs.Common.{◌<◌, length, map, refl, ap, sym, subst, ◌∙◌}
+use Rattle.std.specs.Prelude.{All}
 use Rattle.slp_model.specs.Thin.{rank}
-use Rattle.state_tables.specs.Dictionary.{count_of}
+use Rattle.state_tables.specs.Dictionary.{AreTables, count_of, table_of}
 use Rattle.state_tables.specs.Kept.{view_of}
-use Rattle.state_tables.specs.Renumbering.{kept_numbers}
-use Rattle.state_tables.proofs.Moving.{kept-long, kept-at, IsDictionary-kept, tables-thin}
+use Rattle.state_tables.specs.Renumbering.{kept_items, used_of}
+use Rattle.state_tables.specs.Dropped.{used_by}
+use Rattle.state_tables.proofs.Dropping.{AreDropped, IsDictionary-dropped, count-is, kept-within, table-stays, tables-thin}
 use Rattle.state_tables.proofs.tables.Tables.renumber.Goals as goal
+
+dropped : (c : goal.After-keep_used) → AreDropped (view_of c.self.inside) c.args.moves.now (view_of (record c.self.inside { kept = c.keep_used.new.self; numbers = c.keep_used.new.numbers }))
+dropped c = record {
+  kept = c.keep_used.ensures.tables ∙ ap (λ xs. kept_items c.self.inside.kept (used_of xs (length c.self.inside.kept))) c.renumber.ensures.numbers;
+  numbers = c.keep_used.ensures.numbers ∙ ap (λ xs. map (rank (used_of xs (length c.self.inside.kept))) xs) c.renumber.ensures.numbers;
+  states = refl;
+}
 
 pub invariant_of-self : goal.invariant_of-self
 invariant_of-self c =
-    IsDictionary-kept (view_of c.self.inside) c.args.moves.now c.renumber.new.numbers.items (vec_capacity c.renumber.new.numbers - vec_len c.renumber.new.numbers) c.self.invariant c.renumber.ensures.numbers
+    IsDictionary-dropped (view_of c.self.inside) c.args.moves.now (view_of (record c.self.inside { kept = c.keep_used.new.self; numbers = c.keep_used.new.numbers })) c.self.invariant (dropped c)
+
+pub keep_used-requires-clause-within : goal.keep_used-requires-clause-within
+keep_used-requires-clause-within c =
+    subst (All (λ n. n < length c.self.inside.kept)) (sym c.renumber.ensures.numbers) (kept-within (view_of c.self.inside) c.args.moves.now c.self.invariant)
 
 pub returns-clause-count : goal.returns-clause-count
 returns-clause-count c =
-    ap length c.renumber.ensures.numbers ∙ (kept-long c.self.inside.numbers.items c.args.moves.now ∙ ap (λ d. rank c.args.moves.now (count_of d)) c.self.view_is)
+    count-is (view_of c.self.inside) c.args.moves.now (view_of (record c.self.inside { kept = c.keep_used.new.self; numbers = c.keep_used.new.numbers })) c.self.invariant (dropped c)
+    ∙ ap (λ d. rank c.args.moves.now (count_of d)) c.self.view_is
 
 pub returns-clause-each : goal.returns-clause-each
 returns-clause-each c = λ i lt keeps.
-    let numbers : c.renumber.new.numbers.items ≡ kept_numbers c.args.self.now.numbers c.args.moves.now = c.renumber.ensures.numbers ∙ ap (λ d. kept_numbers d.numbers c.args.moves.now) c.self.view_is in
-    ap (λ xs. get_or xs (rank c.args.moves.now i) 0) numbers ∙ kept-at c.args.self.now.numbers c.args.moves.now i lt keeps
+    let low : i < count_of (view_of c.self.inside) = subst (λ d. i < count_of d) (sym c.self.view_is) lt in
+    table-stays (view_of c.self.inside) c.args.moves.now (view_of (record c.self.inside { kept = c.keep_used.new.self; numbers = c.keep_used.new.numbers })) c.self.invariant (dropped c) i low keeps
+    ∙ ap (λ d. table_of d i) c.self.view_is
+
+pub returns-clause-kept : goal.returns-clause-kept
+returns-clause-kept c = (dropped c).kept ∙ ap (λ d. kept_items d.kept (used_by d c.args.moves.now)) c.self.view_is
+
+pub returns-clause-numbers : goal.returns-clause-numbers
+returns-clause-numbers c = (dropped c).numbers ∙ ap (λ d. map (rank (used_by d c.args.moves.now)) (kept_items d.numbers c.args.moves.now)) c.self.view_is
 
 pub returns-clause-tables : goal.returns-clause-tables
 returns-clause-tables c = λ a ns ms thin are.
-    let numbers : c.renumber.new.numbers.items ≡ kept_numbers c.args.self.now.numbers c.args.moves.now = c.renumber.ensures.numbers ∙ ap (λ d. kept_numbers d.numbers c.args.moves.now) c.self.view_is in
-    tables-thin a ns ms c.args.moves.now c.args.self.now (view_of (record c.self.inside { numbers = c.renumber.new.numbers })) numbers (ap (λ d. d.kept) c.self.view_is) thin.trees are
+    tables-thin (view_of c.self.inside) c.args.moves.now (view_of (record c.self.inside { kept = c.keep_used.new.self; numbers = c.keep_used.new.numbers })) c.self.invariant (dropped c) a ns ms thin.trees
+    (subst (AreTables a ns) (sym c.self.view_is) are)

@@ -1,0 +1,61 @@
+// Calls of the system that a signal may interrupt.
+ghost use Rattle.std.specs.Prelude.{◌≡◌, ◌<◌, ◌≤◌, length};
+ghost use Rattle.std.specs.Io.{ReadsAtMost, WritesAtMost};
+
+use std::io;
+use std::io::{ErrorKind, Read, Write};
+
+/// How often an interrupted call is repeated before it counts as a fault.
+pub const REPEATS: u32 = 1000;
+
+/// Makes a call, and makes it again where a signal interrupted it.
+pub fn repeated<T, C: FnMut() -> io::Result<T>>(mut call: C) -> io::Result<T>
+    requires { C.IsAlwaysCallable call }
+{
+    for _ in 0..REPEATS {
+        match call() {
+            Err(error) if error.kind() == ErrorKind::Interrupted => {}
+            done => return done,
+        }
+    }
+    call()
+}
+
+/// Reads, and reads again where a signal interrupted the call.
+pub fn read_some<F: Read>(file: &mut F, into: &mut [u8]) -> io::Result<usize>
+    ensures { ReadsAtMost result into.new }
+{
+    for _ in 0..REPEATS {
+        match file.read(into) {
+            Err(error) if error.kind() == ErrorKind::Interrupted => {}
+            done => return done,
+        }
+    }
+    file.read(into)
+}
+
+/// Writes, and writes again where a signal interrupted the call.
+fn write_some<F: Write>(file: &mut F, bytes: &[u8]) -> io::Result<usize>
+    ensures { WritesAtMost result bytes.now }
+{
+    for _ in 0..REPEATS {
+        match file.write(bytes) {
+            Err(error) if error.kind() == ErrorKind::Interrupted => {}
+            done => return done,
+        }
+    }
+    file.write(bytes)
+}
+
+/// Writes all the bytes. A call that takes none of them is an error.
+pub fn write_whole<F: Write>(file: &mut F, bytes: &[u8]) -> io::Result<()> {
+    let mut rest = bytes;
+    while !rest.is_empty() {
+        let count = write_some(file, rest)?;
+        if count == 0 {
+            return Err(io::Error::from(ErrorKind::WriteZero));
+        }
+        rest = &rest[count..];
+    }
+    Ok(())
+}

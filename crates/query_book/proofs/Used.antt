@@ -1,0 +1,34 @@
+-- Each table that is left where tables are renumbered is that of a node.
+use Rattle.std.proofs.Common.{◌≡◌, ◌==◌, ◌||◌, ℕ, zero, suc, ◌<◌, Bool, true, false, List, [], ◌∷◌, length, map, get_or, Contains, inl, inr, true≢false, refl, sym, ap, subst, ◌∙◌, arith}
+use Rattle.std.proofs.lemmas.Bool.{cases_eq, ne_eqb}
+use Rattle.std.proofs.lemmas.List.{length-map, get_or-map}
+use Rattle.slp_model.specs.Thin.{rank}
+use Rattle.state_tables.specs.Dictionary.{Dictionary, distinct_of}
+use Rattle.state_tables.specs.Dropped.{used_by}
+use Rattle.state_tables.specs.Renumbering.{is_used, kept_items}
+use Rattle.state_tables.proofs.Marks.{used-of-at}
+use Rattle.state_tables.proofs.Moving.{kept-back}
+use Rattle.query_book.specs.Renumbering.{UsesEachTable}
+
+stands : (ns : List ℕ) (k : ℕ) → is_used ns k ≡ true → Contains ns k
+stands [] k used = absurd (true≢false (sym used))
+stands (n ∷ ns) k used = by (stands ns k)
+  where
+    by : (is_used ns k ≡ true → Contains ns k) → Contains (n ∷ ns) k
+    by rest = elim (cases_eq n k) [
+      | inl e ↦ (0, omega arith, e)
+      | inr ne ↦
+          let c = rest (sym (ap (λ b. b || is_used ns k) (ne_eqb n k ne)) ∙ used) in
+          (suc c.0, omega (arith, c.1), c.2)
+    ]
+
+mapped : (f : ℕ → ℕ) (ns : List ℕ) (n : ℕ) → Contains ns n → Contains (map f ns) (f n)
+mapped f ns n c = (c.0, omega (arith, c.1, length-map ns f), get_or-map f ns c.0 n (f n) c.1 ∙ ap f c.2)
+
+pub used-each : (d e : Dictionary) (keep : List Bool) → e.kept ≡ kept_items d.kept (used_by d keep) → e.numbers ≡ map (rank (used_by d keep)) (kept_items d.numbers keep) → UsesEachTable e
+used-each d e keep kept numbers k low =
+    let used = used_by d keep in
+    let ns = kept_items d.numbers keep in
+    let o = kept-back d.kept used [] k (omega (arith, low, ap length kept)) in
+    let c = stands ns o.place (sym (used-of-at ns (distinct_of d) o.place o.within) ∙ o.kept) in
+    subst (λ xs. Contains xs k) (sym numbers) (subst (λ n. Contains (map (rank used) ns) n) o.rank_is (mapped (rank used) ns o.place c))
