@@ -1,22 +1,21 @@
-"""Standard input, output and files of the system that fail: at each byte, at each write, and in each way that can be had
-without rights of an administrator."""
+"""Standard input, standard output and files that fail: at each byte, at each system call, and in each way that needs no
+rights of an administrator."""
 import contextlib
 import fcntl
 import os
-import shutil
 import subprocess
 import tempfile
 import termios
 import time
-from collections.abc import Callable, Iterator
+from collections.abc import Iterator
+from itertools import pairwise
 from pathlib import Path
 
-from .images import Reader, Refused
+from .files import files
 from .running import Limits, Ran, Report, differs, fault_of, room, run
-from .scripts import SAVED, SCRIPTS, SMALL, Worked
+from .scripts import EACH, ENDED, ENDINGS, SCRIPTS, Worked, ends_of, text_of
 
 PAGE = 4096
-NOBODY = 65534
 STILL = 0.05
 
 
@@ -33,11 +32,16 @@ def stopped(ran: Ran, status: int, whole: bytes, length: int | None = None) -> s
 
 # ---------------------------------------------------------------------------------------------------------------- output
 
-QUIET = Worked(
-    "a script without files",
-    b"text d abab\nquery q .*$x{ab}.*\nlist q d\nnames\nlistall q\ncompact\nshow d 1 3\n",
-    b'ok d 4 "abab"\nok q x\nx=[1,3)\nx=[3,5)\nend\nd 4\nend\ndoc d\nx=[1,3)\nx=[3,5)\nend\ndone\nok\n"ab"\n',
-)
+QUIET_LINES = [
+    ("text d abab", 'ok d 4 "abab"'),
+    ("query q .*$x{ab}.*", "ok q x"),
+    ("list q d", "x=[1,3)\nx=[3,5)\nend"),
+    ("names", "d 4\nend"),
+    ("listall q", "doc d\nx=[1,3)\nx=[3,5)\nend\ndone"),
+    ("compact", "ok"),
+    ("show d 1 3", '"ab"'),
+]
+QUIET = Worked("a script without files", *map(text_of, zip(*QUIET_LINES)))
 
 
 def output_of_each_length(program: Path, report: Report) -> None:
@@ -62,25 +66,54 @@ def pipe_with_room(length: int) -> tuple[int, int, int]:
     return reads, writes, size - length
 
 
+def run_into_pipe(program: Path, script: bytes, folder: Path, length: int) -> Ran:
+    """Runs a script into a pipe with room for so many bytes, which doesn't wait: a write that doesn't fit is a fault."""
+    reads, writes, before = pipe_with_room(length)
+    os.set_blocking(writes, False)
+    ran = run(program, script, folder, stdout=writes)
+    os.close(writes)
+    wrote = os.read(reads, 2 * PAGE)[before:]
+    os.close(reads)
+    return Ran(ran.status, wrote, ran.said, ran.seconds, ran.late)
+
+
+def stopped_past(ran: Ran, whole: bytes, least: int) -> str | None:
+    """What is wrong with a run that must stop with status 4 once it has written so many bytes of the whole output, or more."""
+    fault = stopped(ran, 4, whole)
+    return fault or (f"only {len(ran.wrote)} bytes were written, and not {least}" if len(ran.wrote) < least else None)
+
+
 def full_pipes(program: Path, report: Report) -> None:
-    """Standard output is a pipe with room for so many bytes, which doesn't wait: a write that doesn't fit is a fault. Lines of
-    tuples, which end in ')' or '-', are written together, just before the line after them."""
-    lines = QUIET.wanted.splitlines(keepends=True)
-    kept = [line[-2:-1] in (b")", b"-") for line in lines]
-    ends = [sum(map(len, lines[: at + 1])) for at in range(len(lines)) if not (kept[at] and kept[at + 1])]
-    for length in range(1, len(QUIET.wanted) + 1, 7 if report.quick else 1):
-        reads, writes, before = pipe_with_room(length)
-        os.set_blocking(writes, False)
+    """A pipe with room for each length. The replies of all commands that fit are written."""
+    ends = ends_of(QUIET_LINES)
+    for length in range(1, len(QUIET.wanted), 7 if report.quick else 1):
         with room() as folder:
-            ran = run(program, QUIET.script, folder, stdout=writes)
-        os.close(writes)
-        wrote = os.read(reads, 2 * PAGE)[before:]
-        os.close(reads)
+            ran = run_into_pipe(program, QUIET.script, folder, length)
         report.runs += 1
-        ran = Ran(ran.status, wrote, ran.said, ran.seconds, ran.late)
-        status = 0 if length == len(QUIET.wanted) else 4
-        fits = max((it for it in ends if it <= length), default=0)
-        report.check(f"a full pipe with room for {length} bytes", stopped(ran, status, QUIET.wanted, fits))
+        least = max((it for it in ends if it <= length), default=0)
+        report.check(f"a full pipe with room for {length} bytes", stopped_past(ran, QUIET.wanted, least))
+
+
+def saves_after_a_fault(program: Path, report: Report) -> None:
+    """A `save` after output that failed, with each kind of reply before it. First all replies but the last one fit, and all
+    but the last byte of that. Then nothing fits."""
+    for name, rows in (("every command", EACH), ("replies that end like tuples", ENDINGS)):
+        whole = text_of(reply for _, reply in rows)
+        for place, (before, end) in enumerate(pairwise([0, *ends_of(rows)])):
+            line = rows[place][0]
+            script = text_of([line for line, _ in rows[: place + 1]] + ["save saved"])
+            with room({"f": b"abracadabra"}) as folder:
+                ran = run_into_pipe(program, script, folder, end - 1)
+                fault = stopped_past(ran, whole, before)
+                report.check(f"{name}, {line!r}, and a save", fault or saved_fault(folder))
+            with room() as folder, open("/dev/full", "wb") as full:
+                ran = run(program, text_of([line, "save saved"]), folder, stdout=full.fileno())
+                report.check(f"a full device, {line!r}, and a save", fault_of(ran, 4) or saved_fault(folder))
+            report.runs += 2
+
+
+def saved_fault(folder: Path) -> str | None:
+    return "a file was saved after the fault" if (folder / "saved").exists() else None
 
 
 def waits(pid: int) -> bool:
@@ -121,14 +154,6 @@ def other_outputs(program: Path, report: Report) -> None:
         with room() as folder, open("/dev/full", "wb") as full:
             report.check(name, fault_of(run(program, script, folder, stdout=full.fileno()), status))
         report.runs += 1
-    with room() as folder, open("/dev/full", "wb") as full:
-        # a page before the file is saved, so that lines were kept back
-        script = b"text d aa\nquery q .*$x{a}.*\nlist q d\nsave f\n"
-        fault = fault_of(run(program, script, folder, stdout=full.fileno()), 4)
-        if not fault and (folder / "f").exists():
-            fault = "a file was saved after the fault"
-        report.check("a full device, and a file to save", fault)
-    report.runs += 1
     with room() as folder, open(os.devnull, "rb") as unwritable:
         report.check("an output for reading", fault_of(run(program, QUIET.script, folder, stdout=unwritable.fileno()), 4))
     report.runs += 1
@@ -168,97 +193,14 @@ def bad_inputs(program: Path, report: Report) -> None:
                 report.check(f"input is {name}, words {' '.join(words) or 'none'}", fault_of(ran, status, wanted))
 
 
-# ----------------------------------------------------------------------------------------------------------------- files
-
-
-def saves_of_each_length(program: Path, report: Report) -> None:
-    """A file may have so many bytes: what a failed `save` leaves is a front of the image, over what was there."""
-    with room({"f": b""}) as folder:
-        run(program, SMALL.script, folder)
-        image = (folder / "f").read_bytes()
-    report.check("the saved image", None if len(image) == SAVED else f"it has {len(image)} bytes, and not {SAVED}")
-    try:
-        Reader(image).documents()
-    except Refused as refused:
-        report.check("the saved image", f"it is faulty: {refused.args[0]}")
-    for length in range(34, SAVED + 1, 5 if report.quick else 1):
-        with room({"f": b"old" * 100}) as folder, open(folder / "out", "wb+") as out:
-            # what was written fits first
-            ran = run(program, b"text d abab\nsave f\n", folder, Limits(file=length), stdout=out.fileno())
-            left = (folder / "f").read_bytes()
-            out.seek(0)
-            ran = Ran(ran.status, out.read(), ran.said, ran.seconds, ran.late)
-        report.runs += 1
-        fault = stopped(ran, 0 if length == SAVED else 5, SMALL.wanted, 21 if length == SAVED else 14)
-        if fault is None and left != image[:length]:
-            fault = f"the file has {len(left)} bytes, which aren't the image's first {length}"
-        report.check(f"a saved file of at most {length} bytes", fault)
-
-
-def refused_files(program: Path, report: Report) -> None:
-    """Files that can't be read or written, of each command over files."""
-    first = b"text d abab\n"
-    told = b'ok d 4 "abab"\n'
-    rows: list[tuple[str, bytes, int, bytes]] = []
-    for command in ("load e", "open", "save"):
-        for name in ("place", "/dev/full" if command == "save" else "/proc/self/mem"):
-            rows.append((f"{command} {name}", first + f"{command} {name}\n".encode(), 5, told))
-    rows.append(("save below no folder", first + b"save none/f\n", 5, told))
-    rows.append(("save below a plain file", first + b"save plain/f\n", 5, told))
-    for command, fault in (("load e", b"NoSuchFile"), ("open", b"NoSuchFile")):
-        for name in ("none", "none/f", "plain/f"):
-            script = first + f"{command} {name}\n".encode()
-            rows.append((f"{command} {name}", script, 1, told + b"line 2: %s %s\n" % (fault, name.encode())))
-    rows.append(("load /dev/zero", first + b"load e /dev/zero\n", 1, told + b"line 2: FileTooLong /dev/zero\n"))
-    rows.append(("open /dev/null", first + b"open /dev/null\n", 1, told + b"line 2: BadImage 3\n"))
-    rows.append(("load /dev/null", first + b"load e /dev/null\n", 0, told + b'ok e 0 ""\n'))
-    for name, script, status, wanted in rows:
-        with room({"plain": b"x"}) as folder:
-            (folder / "place").mkdir()
-            ran = run(program, script, folder)
-        report.runs += 1
-        report.check(name, fault_of(ran, status, wanted))
-
-
-def read_only_folders(program: Path, report: Report) -> None:
-    """A folder in which nothing may be made, and files that may not be read or written. As another user, where this runs as
-    an administrator, whom no rights hold."""
-    user = NOBODY if os.getuid() == 0 else None
-    rows: list[tuple[str, bytes, Callable[[Path], None], int, bytes]] = [
-        ("save into a folder that is read-only", b"text d a\nsave g\n", lambda it: it.chmod(0o555), 5, b'ok d 1 "a"\n'),
-        ("save over a file that is read-only", b"text d a\nsave f\n", lambda it: (it / "f").chmod(0o444), 5, b'ok d 1 "a"\n'),
-        ("load of a file without the right", b"load d f\n", lambda it: (it / "f").chmod(0), 5, b""),
-        ("open of a file without the right", b"open f\n", lambda it: (it / "f").chmod(0), 5, b""),
-        ("load in a folder without the right", b"load d p/f\n", lambda it: (it / "p").chmod(0), 5, b""),
-    ]
-    for name, script, forbid, status, wanted in rows:
-        with room({"f": b"before"}) as folder:
-            (folder / "p").mkdir()
-            folder.chmod(0o755)
-            # the other user may not reach the place where the program stands
-            copy = shutil.copy(program, folder / "program")
-            if user is not None:
-                os.chown(folder / "f", user, -1)
-                os.chown(folder / "p", user, -1)
-            forbid(folder)
-            ran = run(Path(copy), script, folder, user=user)
-            folder.chmod(0o755)
-            (folder / "p").chmod(0o755)
-            (folder / "f").chmod(0o644)
-            kept = (folder / "f").read_bytes() == b"before" and not (folder / "g").exists()
-        report.runs += 1
-        report.check(name, fault_of(ran, status, wanted) or (None if kept else "the files are not as before"))
-
-
 def faults(program: Path, report: Report) -> None:
-    for worked in SCRIPTS:
+    for worked in (*SCRIPTS, ENDED):
         with room(worked.files) as folder:
             report.check(worked.name, fault_of(run(program, worked.script, folder), worked.status, worked.wanted))
     output_of_each_length(program, report)
     full_pipes(program, report)
+    saves_after_a_fault(program, report)
     closed_pipes(program, report)
     other_outputs(program, report)
     bad_inputs(program, report)
-    saves_of_each_length(program, report)
-    refused_files(program, report)
-    read_only_folders(program, report)
+    files(program, report)

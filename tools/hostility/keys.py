@@ -1,4 +1,4 @@
-"""Chosen keys: texts whose pairs are searched for having like hashes, beside texts of the same make that are random.
+"""Chosen keys: texts, tables and names that are searched for having like hashes, beside random ones of the same make.
 
 The store of nodes finds a pair by a hash without a key, which anyone can work out. Its index has groups of twelve places;
 a pair that finds its group full goes on to the next one. So pairs whose hashes all lead into one stretch of the groups
@@ -8,7 +8,12 @@ A text for this has each word of two bytes once at its front, so that their numb
 that are searched for. An image may name any two nodes as a pair, and so needs no front. Each text and image must take at most
 ten times as long as the one beside it: the store gives up its index once too many hashes are alike. Names have no such
 bound, and a script has as many lines as it makes names; their times are printed.
+
+A formula decides which tables a text has, and equal tables are found by a digest without a key. One formula here has rows
+whose marked states spell a constant, which would make a factor of a digest zero; another one is given words whose digests
+are searched for. Both must take at most ten times as long as a formula or words beside them.
 """
+import itertools
 import random
 from collections.abc import Iterator
 from pathlib import Path
@@ -30,6 +35,12 @@ NODE_GROWTH, NAME_GROWTH = 4, 2
 BLOCK = 512
 # a stranger's text may make loading slower by this factor
 MOST_SLOWER = 10.0
+# the digest of no rows, and the factors of a table's digest
+NO_ROWS = 0x1319_8A2E_0370_7344_243F_6A88_85A3_08D3
+ACROSS, BACK, STEP = 0x9E37_79B9_7F4A_7C15, 0xD6E8_FEB8_6659_FD93, 0xA076_1D64_78BD_642F
+# the letters of texts whose tables differ, and how many sets of these stand in a row
+LETTERS = "abcdefghijklmnop"
+SETS = 31
 
 
 def folded(state: int, factor: int = FACTOR) -> int:
@@ -131,16 +142,22 @@ def seconds(program: Path, report: Report, name: str, file: bytes, script: bytes
 
 
 def compare(
-    program: Path, report: Report, name: str, searched: bytes, other: bytes, script: bytes | None, limit: float
+    program: Path,
+    report: Report,
+    name: str,
+    searched: bytes,
+    other: bytes,
+    script: bytes | None,
+    limit: float,
+    bounded: bool = True,
 ) -> None:
-    """Times the script over both files, or the files as scripts, which have no bound, and compares. The time is that of the
-    whole run."""
+    """Times the script over both files, or the files as scripts, and compares. The time is that of the whole run."""
     kinds = (("random", other), ("searched", searched))
     took = [seconds(program, report, f"{name}, {kind}", it, script, limit) for kind, it in kinds]
     if took[0] is None or took[1] is None:
         return
     figure = f"{name}: random, searched", f"{took[0]:.2f} s, {took[1]:.2f} s"
-    if script is None:
+    if not bounded:
         report.figure(*figure)
         return
     slower = took[1] / took[0]
@@ -181,12 +198,90 @@ def names_of(count: int) -> tuple[bytes, bytes]:
     return b"".join(b"text %s x\n" % it for it in searched[:count]), b"".join(b"text %s x\n" % it for it in others)
 
 
+def letter_sets() -> list[set[str]]:
+    """Sets of thirteen letters. In a row they make a formula over which most short texts have different tables."""
+    chance = random.Random(3)
+    return [set(chance.sample(LETTERS, 13)) for _ in range(SETS)]
+
+
+def formula_of(sets: list[set[str]]) -> str:
+    return "".join(f"[{''.join(sorted(it))}]" for it in sets)
+
+
+def spelling(constant: int) -> str:
+    """A formula with the sets in a row, and with a state that reaches the states 64 to 127 by marks, each over a letter, and over
+    longer texts just those whose bits the constant has."""
+
+    def mark(variables: tuple[int, ...]) -> int:
+        return sum(3 * 4**it for it in variables)
+
+    few = [it for size in (1, 2, 3) for it in itertools.combinations(range(8), size)]
+    least = sorted(few, key=lambda it: (len(it), -mark(it)))[:63]
+    ways = [tuple(range(8)), *sorted(least, key=mark, reverse=True)]
+    alternatives = [
+        "".join(f"${'abcdefgh'[it]}{{}}" for it in variables) + ("[a-p]*" if constant >> bit & 1 else "[a-p]")
+        for bit, variables in enumerate(ways)
+    ]
+    return f"{formula_of(letter_sets())}|{'z' * 32}({'|'.join(alternatives)})"
+
+
+def question(formula: str, text: str) -> bytes:
+    """A script that asks whether the query has an answer on the text, which it makes of pieces that fit in lines."""
+    pieces = [text[at : at + 65_000] for at in range(0, len(text), 65_000)]
+    lines = [f"query q {formula}", f"text d {pieces[0]}"]
+    for it in pieces[1:]:
+        lines += [f"text e {it}", "let d = concat(d,e)"]
+    return "\n".join([*lines, "test q d", ""]).encode()
+
+
+def spelled(count: int, constant: int) -> tuple[bytes, bytes]:
+    """Questions on so many random letters, with a formula that spells the constant, and with one that differs in a bit."""
+    text = "".join(random.Random(1).choices(LETTERS, k=count))
+    return question(spelling(constant), text), question(spelling(constant ^ 32), text)
+
+
+def digest_of(codes: list[int]) -> int:
+    """The digest of a table without marks, by one more than each state's next one, or 0."""
+    first, second = NO_ROWS & MASK, NO_ROWS >> 64
+    for code in codes:
+        across = first * ACROSS
+        back = (second + (across >> 64) & MASK) * BACK
+        first, second = (across & MASK) + (back >> 64) + code * STEP & MASK, back & MASK
+    return second << 64 | first
+
+
+def word_digest(sets: list[set[str]], word: str) -> int:
+    """The digest of a word's table over the formula of the sets: state p goes to p plus the word's length where the word fits."""
+    fits = [all(it in sets[at + place] for place, it in enumerate(word)) for at in range(SETS - len(word) + 1)]
+    codes = [at + len(word) + 1 if it else 0 for at, it in enumerate(fits)]
+    return digest_of(codes + [0] * (SETS + 1 - len(codes)))
+
+
+def table_words(count: int) -> tuple[bytes, bytes]:
+    """Questions on so many words of eight letters whose tables' digests are searched for, since they lead into one sixteenth of
+    the buckets, and on as many random words."""
+    sets, chance = letter_sets(), random.Random(29)
+
+    def words() -> Iterator[str]:
+        while True:
+            yield "".join(chance.choices(LETTERS, k=8))
+
+    searched = (it for it in words() if word_digest(sets, it) & 15 == 0)
+    formula = formula_of(sets)
+    texts = ["".join(itertools.islice(it, count)) for it in (searched, words())]
+    return question(formula, texts[0]), question(formula, texts[1])
+
+
 def keys(program: Path, report: Report) -> None:
     counts = [4_000] if report.quick else [16_000, 64_000, 256_000]
     for count in counts:
         compare(program, report, f"`load` of {count:,} words of four bytes", *texts(count), b"load d f\n", 60)
     for count in counts:
         compare(program, report, f"`open` of {count:,} pairs", *images_of(count), b"open f\n", 60)
+    for constant in (ACROSS, BACK, MULTIPLIER ^ MASK):
+        scripts = spelled(16 * counts[0], constant)
+        compare(program, report, f"tables whose marks spell {constant:#x}", *scripts, None, 60)
+    compare(program, report, f"tables of {counts[0] // 4:,} words", *table_words(counts[0] // 4), None, 60)
     for count in counts[:2]:
         searched, others = names_of(count)
-        compare(program, report, f"{count:,} documents", searched, others, None, 60)
+        compare(program, report, f"{count:,} documents", searched, others, None, 60, bounded=False)

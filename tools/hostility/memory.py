@@ -2,20 +2,22 @@
 whole run where nothing depended on it, and what was written is a beginning of what the whole run writes.
 
 The allocations are refused one by one where the machine has a C compiler: a library of some lines stands before malloc and
-realloc, and counts. The sizes are tried in steps of a page, once as the program runs, and once with each allocation a mapping
-of its own, so that most of them meet the limit at some size.
+realloc, and counts. It also shows that the answers of a listing take no memory. The sizes are tried in steps of a page, once
+as the program runs, and once with each allocation a mapping of its own, so that most of them meet the limit at some size.
 """
 import os
 import shutil
 import subprocess
+import sys
 import tempfile
 from collections.abc import Sequence
 from pathlib import Path
 
 from .running import Limits, Ran, Report, differs, fault_of, room, run
-from .scripts import SCRIPTS, Worked
+from .scripts import SCRIPTS, Worked, text_of
 
 PAGE = 4096
+MOST_LISTED = 10_000
 MOST_MEMORY = 1 << 30
 # the C library makes each allocation a mapping of its own
 MAPPED = {"GLIBC_TUNABLES": "glibc.malloc.mmap_threshold=1:glibc.malloc.mmap_max=1000000"}
@@ -28,7 +30,7 @@ REFUSES = r"""
 #include <unistd.h>
 
 static unsigned long calls, first, last;
-static int told;
+static int told, counted;
 static void *(*next_malloc)(size_t);
 static void *(*next_realloc)(void *, size_t);
 
@@ -44,8 +46,10 @@ static int is_refused(void) {
         first = number("REFUSED_FROM");
         last = number("REFUSED_TO");
         told = number("REFUSED_TOLD");
+        counted = number("COUNTED_TO");
     }
     unsigned long call = __atomic_add_fetch(&calls, 1, __ATOMIC_SEQ_CST);
+    if (counted && pwrite(counted, &call, sizeof call, 0) != sizeof call) abort();
     if (!first || call < first || call > last) return 0;
     if (write(told, "r", 1) != 1) abort();
     errno = ENOMEM;
@@ -137,10 +141,47 @@ def each_size(program: Path, report: Report, worked: Worked, environment: dict[s
         report.figure(f"{worked.name}: each size of the memory, {kind}", told)
 
 
+def listing(query: str, answers: int) -> Worked:
+    """A script with a listing of so many answers, which are `a` on a text of letters, and its output."""
+    text = "ab" * (MOST_LISTED + 1)
+    spans = [(2 * at + 1, 2 * at + 2) for at in range(answers)]
+    lines = [
+        (f"text d {text}", f'ok d {len(text)} "{text[:32]}"'),
+        ("query q .*$x{a}.*", "ok q x"),
+        ("query r ($y{c})?.*$x{a}.*", "ok r y x"),
+        ("join j q r", "ok j x y"),
+        # a script of the same length for each number
+        (f"list {query} d limit {answers}\n{'#' * (9 - len(str(answers)))}", ""),
+    ]
+    missing = {"q": ("", ""), "r": ("y=-,", ""), "j": ("", ",y=-")}[query]
+    told = [reply for _, reply in lines[:-1]]
+    told += [f"{missing[0]}x=[{first},{end}){missing[1]}" for first, end in spans]
+    return Worked(f"list {query} d limit {answers}", text_of(line for line, _ in lines), text_of([*told, "more"]))
+
+
+def listings(program: Path, report: Report, refuses: Path) -> None:
+    """A listing of 10,000 answers makes as many allocations as one of 10."""
+    for query in "qrj":
+        counts = []
+        for answers in (10, MOST_LISTED):
+            worked = listing(query, answers)
+            with tempfile.TemporaryFile() as counted, room() as folder:
+                environment = {"LD_PRELOAD": str(refuses), "COUNTED_TO": str(counted.fileno())}
+                ran = run(program, worked.script, folder, environment=environment, kept=(counted.fileno(),))
+                counted.seek(0)
+                counts.append(int.from_bytes(counted.read(), sys.byteorder))
+            report.runs += 1
+            report.check(worked.name, fault_of(ran, 0, worked.wanted))
+        fault = None if counts[0] == counts[1] > 0 else f"{counts[1]} allocations, and not the {counts[0]} of 10 answers"
+        report.check(f"the memory of {MOST_LISTED} answers of {query}", fault)
+
+
 def refuse(program: Path, report: Report, scripts: Sequence[Worked]) -> None:
     """Refuses memory in each way on these scripts."""
     with tempfile.TemporaryDirectory(prefix="spanbase-hostile-") as place:
         refuses = library(Path(place))
+        if refuses:
+            listings(program, report, refuses)
         for worked in scripts:
             with room(worked.files) as folder:
                 report.check(worked.name, fault_of(run(program, worked.script, folder), worked.status, worked.wanted))

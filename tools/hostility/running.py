@@ -11,6 +11,8 @@ from collections.abc import Iterator, Sequence
 from dataclasses import dataclass, field
 from pathlib import Path
 
+from .tracing import Watch, follow, trace_me
+
 # what the first line on standard error says of an exit status
 WORDS = {2: "Usage", 3: "ScriptFault", 4: "OutFault", 5: "ShelfFault", 6: "NoMemory", 7: "ScriptTooLong"}
 
@@ -82,9 +84,20 @@ def run(
     environment: dict[str, str] | None = None,
     user: int | None = None,
     kept: Sequence[int] = (),
+    watch: Watch | None = None,
 ) -> Ran:
     """Runs the program in a folder, on a script as bytes, a file or a descriptor. What it writes is kept, unless it is
-    given a descriptor for it. The descriptors in `kept` stay open in it."""
+    given a descriptor for it. The descriptors in `kept` stay open in it. It is followed by `watch`, if that is there."""
+
+    def prepare() -> None:
+        set_limits(limits)
+        if watch:
+            trace_me()
+
+    def stop() -> None:
+        blocked.set()
+        os.kill(ran.pid, signal.SIGKILL)
+
     with contextlib.ExitStack() as stack:
         if isinstance(script, bytes):
             source = stack.enter_context(tempfile.TemporaryFile())
@@ -106,14 +119,17 @@ def run(
             env={**os.environ, **(environment or {})},
             user=user,
             pass_fds=kept,
-            preexec_fn=lambda: set_limits(limits),
+            preexec_fn=prepare,
         )
         # a run that waits for something takes no time of the processor
         blocked = threading.Event()
-        clock = threading.Timer(PATIENCE * limits.seconds + PATIENCE, lambda: (blocked.set(), ran.kill()))
+        clock = threading.Timer(PATIENCE * limits.seconds + PATIENCE, stop)
         clock.start()
         try:
-            ran.wait()
+            if watch:
+                ran.returncode = follow(ran.pid, watch)
+            else:
+                ran.wait()
         finally:
             clock.cancel()
             ran.kill()

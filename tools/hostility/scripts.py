@@ -1,5 +1,8 @@
-"""Two scripts for calls that fail: a small one, and one with every command. What they must write is worked out by hand."""
+"""Scripts for calls that fail: a small one, one with every command, and one whose replies end like tuples. What they must
+write is worked out by hand."""
+from collections.abc import Iterable, Sequence
 from dataclasses import dataclass, field
+from itertools import accumulate
 
 
 @dataclass(frozen=True)
@@ -11,6 +14,16 @@ class Worked:
     wanted: bytes
     status: int = 0
     files: dict[str, bytes] = field(default_factory=dict)
+
+
+def text_of(lines: Iterable[str]) -> bytes:
+    """The lines as a script or an output."""
+    return "".join(f"{line}\n" for line in lines).encode()
+
+
+def ends_of(rows: Sequence[tuple[str, str]]) -> list[int]:
+    """Where the reply of each row ends in the whole output."""
+    return list(accumulate(len(reply) + 1 for _, reply in rows))
 
 
 SMALL = Worked(
@@ -54,9 +67,32 @@ EACH = [
 ]
 WHOLE = Worked(
     "the script of every command",
-    "".join(f"{line}\n" for line, _ in EACH).encode(),
-    "".join(f"{reply}\n" for _, reply in EACH).encode(),
+    text_of(line for line, _ in EACH),
+    text_of(reply for _, reply in EACH),
     1,
     {"f": b"abracadabra"},
 )
 SCRIPTS = (SMALL, WHOLE)
+
+# lines of replies that end in ')' or '-', as those of tuples do, for each kind of reply that can
+ENDINGS = [
+    ("query q- a|$x-{b}", "ok q- x-"),
+    ("query r- a", "ok r-"),
+    ("union u- r- r-", "ok u-"),
+    ("join j- r- r-", "ok j-"),
+    ("project p- q- ()", "ok p-"),
+    ("text d- a", 'ok d- 1 "a"'),
+    ("text e- b", 'ok e- 1 "b"'),
+    ("list q- d-", "x-=-\nend"),
+    ("list q- e- limit 1", "x-=[1,2)\nend"),
+    ("list u- d-", "()\nend"),
+    ("listall q-", "doc d-\nx-=-\nend\ndoc e-\nx-=[1,2)\nend\ndone"),
+    ("names", "d- 1\ne- 1\nend"),
+    ("show n- 1 2", "line 13: NoSuchDocument n-"),
+    ("has n- d- x=-", "line 14: NoSuchQuery n-"),
+    ("back v-", "line 15: NoSuchVersion v-"),
+    ("query q ($x-{a})*", "line 16: NotFunctional x-"),
+    ("load d none-", "line 17: NoSuchFile none-"),
+    ("open (none)", "line 18: NoSuchFile (none)"),
+]
+ENDED = Worked("the replies that end like tuples", text_of(line for line, _ in ENDINGS), text_of(reply for _, reply in ENDINGS), 1)

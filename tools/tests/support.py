@@ -1,16 +1,20 @@
 """What the tests of the tools share."""
+import contextlib
 import importlib.machinery
 import importlib.util
+import io
 import os
 import re
 import subprocess
 import sys
 import tempfile
+from collections.abc import Callable, Iterator, Sequence
 from pathlib import Path
 from types import ModuleType
+from unittest import mock
 
 TOOLS = Path(__file__).resolve().parent.parent
-sys.path.insert(0, str(TOOLS))
+sys.path[:0] = [str(TOOLS), str(TOOLS.parent / "python")]
 
 from program import Reply, replies_of, run_script  # noqa: E402
 
@@ -24,20 +28,62 @@ TIMES = int(os.environ.get("SPANBASE_TIMES", "1"))
 # a span by its first position and its end, counted from 1, or None for a variable that has no span
 Span = tuple[int, int] | None
 Answer = tuple[Span, ...]
+Ran = tuple[int, bytes, str]
+
+
+def environment() -> dict[str, str]:
+    return {**os.environ, "SPANBASE_SHELL": str(SHELL)}
 
 
 def tool(name: str, *words: str | bytes | Path, folder: Path | None = None) -> subprocess.CompletedProcess[bytes]:
     """Runs a tool."""
-    return subprocess.run([TOOLS / name, *words], capture_output=True, cwd=folder, check=False)
+    return subprocess.run([TOOLS / name, *words], capture_output=True, cwd=folder, env=environment(), check=False)
 
 
 def tool_as_module(name: str, folder: Path = TOOLS) -> ModuleType:
-    """A tool, or a script of another folder, as a module, so that its functions can be called thousands of times."""
+    """A script of a folder as a module, so that its functions can be called thousands of times."""
     loader = importlib.machinery.SourceFileLoader(name, str(folder / name))
     module = importlib.util.module_from_spec(importlib.util.spec_from_loader(name, loader))
     sys.modules[name] = module
     loader.exec_module(module)
     return module
+
+
+def ran_here(
+    main: Callable[[Sequence[str]], int], *words: str | bytes | Path, stdin: bytes = b"", folder: Path | None = None
+) -> Ran:
+    """The status of a tool that is run in this process, and what it wrote to standard output and error."""
+    out, told, given = (io.TextIOWrapper(io.BytesIO(it)) for it in (b"", b"", stdin))
+    arguments = [os.fsdecode(word) for word in words]
+    before = os.getcwd()
+    with (
+        mock.patch.dict(os.environ, environment()),
+        mock.patch("sys.stdin", given),
+        contextlib.redirect_stdout(out),
+        contextlib.redirect_stderr(told),
+    ):
+        os.chdir(folder or before)
+        try:
+            status = main(arguments)
+        except SystemExit as ended:
+            status = int(ended.code or 0)
+        finally:
+            os.chdir(before)
+    for stream in (out, told):
+        stream.flush()
+    return status, out.buffer.getvalue(), told.buffer.getvalue().decode(errors="replace")
+
+
+@contextlib.contextmanager
+def folder_with(files: dict[str | bytes, bytes]) -> Iterator[Path]:
+    """A folder with these files."""
+    with tempfile.TemporaryDirectory() as name:
+        for file, content in files.items():
+            path = os.path.join(os.fsencode(name), os.fsencode(file))
+            os.makedirs(os.path.dirname(path), exist_ok=True)
+            with open(path, "wb") as stream:
+                stream.write(content)
+        yield Path(name)
 
 
 def replies(

@@ -1,12 +1,10 @@
-"""spanshell against spanbase, however its lines come, and examples/client.py over it."""
-import json
+"""spanshell against spanbase, however its lines come."""
 import os
 import pty
 import random
 import re
 import select
 import subprocess
-import sys
 import tempfile
 import threading
 import time
@@ -16,7 +14,6 @@ from pathlib import Path
 from support import PROGRAM, SHELL, STAND_IN, TIMES, TOOLS, tool_as_module
 
 cases = tool_as_module("run", TOOLS.parent / "cases")
-client = tool_as_module("client.py", TOOLS.parent / "examples")
 
 # what a test waits for at most, in seconds
 PATIENCE = 60
@@ -176,76 +173,6 @@ class Shell(unittest.TestCase):
         ran = subprocess.run([SHELL], input=b"names\n", capture_output=True, check=False)
         self.assertEqual((ran.returncode, ran.stdout, ran.stderr), (0, b"end\n", b""))
 
-
-@unittest.skipIf(SHELL == STAND_IN, "no shell is given")
-class Client(unittest.TestCase):
-    """The client of examples/."""
-
-    def setUp(self) -> None:
-        room = tempfile.TemporaryDirectory()
-        self.addCleanup(room.cleanup)
-        self.folder = Path(room.name)
-
-    def shell(self, *words: str):
-        shell = client.Shell(SHELL, words, self.folder)
-        self.addCleanup(shell.close)
-        return shell
-
-    def test_replies(self):
-        """Lines by the client have the replies that they have in a script."""
-        commands = [
-            b"text d banana", b"text end a", b"text done b", b"query q .*$x{an*}.*", b"list q d limit 2", b"names",
-            b"listall q limit 1", b"test q d", b"has q d x=[2,3)", b"mark v", b"back v", b"save kept", b"open kept",
-            b"list q done", b"drop done", b"names",
-        ]  # fmt: skip
-        shell = self.shell("--workers", "2")
-        told = [line for command in commands for line in shell.ask(command)]
-        script = subprocess.run([PROGRAM], input=b"\n".join(commands), stdout=subprocess.PIPE, cwd=self.folder, check=True)
-        self.assertEqual(told, script.stdout.splitlines())
-        self.assertEqual((shell.ask(b""), shell.ask(b"# list q d")), ([], []))
-        self.assertEqual(shell.close(), 0)
-
-    def test_refusals(self):
-        shell = self.shell()
-        for number, (line, word, values) in enumerate(
-            [
-                (b"list q d", "NoSuchDocument", ["d"]),
-                (b"names of", "Syntax", []),
-                (b"show d 1 2", "NoSuchDocument", ["d"]),
-                (b"#" * 65537, "Syntax", []),
-            ],
-            1,
-        ):
-            with self.assertRaises(client.Refused) as refused:
-                shell.ask(line)
-            told = refused.exception
-            self.assertEqual((told.number, told.word, told.values), (number, word, values))
-        with self.assertRaises(ValueError):
-            shell.ask(b"names\nnames")
-        self.assertEqual(shell.close(), 1)
-
-    def test_all_pages(self):
-        """All answers, by pages of any size, with their texts; also of wide spans and of bytes that are escaped."""
-        text = bytes(range(11, 256)) + b"ab" * 40 + b"\\\"" * 3
-        (self.folder / "text").write_bytes(text)
-        shell = self.shell()
-        shell.ask(b"load d text")
-        shell.ask(rb"query q .*$x{a}($y{b})?.*")
-        whole = list(shell.rows(b"q", b"d"))
-        starts = [at + 1 for at, byte in enumerate(text) if byte == ord("a")]
-        wanted = []
-        for at in starts:
-            wanted += [(at, (at + 1, at + 2))] if text[at : at + 1] == b"b" else []
-            wanted.append((at, None))
-        self.assertEqual([(row["x"].start, row["y"] and row["y"][:2]) for row in whole], wanted)
-        for page in (1, 2, 7, len(wanted) - 1, len(wanted), 10000):
-            self.assertEqual(list(shell.rows(b"q", b"d", page)), whole)
-        self.assertEqual([row["x"].text for row in shell.rows(b"q", b"d", texts=True)], [b"a"] * len(wanted))
-        self.assertEqual(shell.text(b"d", 1, len(text) + 1), text)
-        for _ in range(7):
-            shell.ask(b"let d = concat(d,d)")
-        self.assertEqual(shell.text(b"d", 2, 128 * len(text)), (text * 128)[1:-1])
-
     def test_ten_thousand_lines(self):
         rng = random.Random(9)
         words = [bytes(rng.choices(b"ab", k=rng.randint(0, 30))) for _ in range(10_000)]
@@ -254,35 +181,6 @@ class Client(unittest.TestCase):
             for number, word in enumerate(words)
             for line in [b"text d%d %s" % (number % 50, word), b"# %d" % number, b"test q d%d" % rng.randint(0, 49)]
         ]
-        script = [b"query q .*$x{aab}.*", *lines][: 10_000 * TIMES]
-        wanted = subprocess.run([PROGRAM], input=b"\n".join(script), stdout=subprocess.PIPE, check=False).stdout
-        shell = self.shell()
-        told = []
-        for line in script:
-            try:
-                told += shell.ask(line)
-            except client.Refused as refused:
-                told.append(str(refused).encode())
-        self.assertEqual(told, wanted.splitlines())
-        ran = subprocess.run([SHELL], input=b"\n".join(script), stdout=subprocess.PIPE, check=False)
-        self.assertEqual(ran.stdout, wanted)
-
-    def test_a_shell_that_ended(self):
-        shell = self.shell("--workers=65")
-        with self.assertRaises(client.ShellEnded):
-            shell.ask(b"names")
-        self.assertEqual(shell.close(), 2)
-
-    def test_the_program(self):
-        (self.folder / "text").write_bytes(b"k=\xff;l;")
-        words = ["--shell", SHELL, "--texts", r"(.*;)?$key{[a-z]+}(=$value{[^;]+})?;.*", "text"]
-        ran = subprocess.run(
-            [sys.executable, TOOLS.parent / "examples/client.py", *words], stdout=subprocess.PIPE, cwd=self.folder, check=True
-        )
-        self.assertEqual(
-            [json.loads(line) for line in ran.stdout.splitlines()],
-            [
-                {"file": "text", "key": [1, 2, "k"], "value": [3, 4, "\udcff"]},
-                {"file": "text", "key": [5, 6, "l"], "value": None},
-            ],
-        )
+        script = b"\n".join([b"query q .*$x{aab}.*", *lines][: 10_000 * TIMES])
+        wrote = [subprocess.run([it], input=script, stdout=subprocess.PIPE, check=False).stdout for it in (PROGRAM, SHELL)]
+        self.assertEqual(wrote[0], wrote[1])

@@ -1,4 +1,4 @@
-"""tools/fasta: what the program makes of its scripts, against the sequences."""
+"""spanbase-fasta: what the program makes of its scripts, against the sequences."""
 import gzip
 import random
 import subprocess
@@ -6,7 +6,9 @@ import tempfile
 import unittest
 from pathlib import Path
 
-from support import PROGRAM, tool
+from support import PROGRAM, ran_here
+
+from spanbase.cli import fasta
 
 
 class Fasta(unittest.TestCase):
@@ -21,8 +23,8 @@ class Fasta(unittest.TestCase):
 
     def documents(self, *words: str, show: int = 0) -> list[str]:
         """What the program says of the documents of the files, with their first letters."""
-        ran = tool("fasta", "out", *words, folder=self.folder)
-        self.assertEqual((ran.returncode, ran.stderr), (0, b""))
+        status, _, told = ran_here(fasta.main, "out", *words, folder=self.folder)
+        self.assertEqual((status, told), (0, ""))
         script = (self.folder / "out/script").read_bytes()
         told = subprocess.run([PROGRAM], input=script, capture_output=True, cwd=self.folder / "out", check=True)
         return [line for line in told.stdout.decode().splitlines() if line.startswith("ok ")][1:]
@@ -57,15 +59,23 @@ class Fasta(unittest.TestCase):
             (self.write("short.fq", b"@r\nACGT\n+\n!!\n"), "short.fq, line 4: the sequence has 4 letters and 2 qualities"),
             (self.write("more.fq", b"@r\nAC\n+\n!!\n!!\n"), "more.fq, line 5: a record of FASTQ begins with @"),
             (self.write("cut.gz", gzip.compress(b">a\n" + bytes(range(65, 91)) * 90)[:-9]), "the packed file is damaged"),
-            ("nowhere", "there is no file nowhere"),
-            (".", ". is no plain file"),
+            ("nowhere", "nowhere: there is no such file"),
+            (".", ".: is a folder"),
         ]
         for file, said in cases:
             with self.subTest(file=file):
-                ran = tool("fasta", "out", file, folder=self.folder)
-                self.assertEqual((ran.returncode, ran.stdout, ran.stderr.count(b"\n")), (2, b"", 1), ran.stderr)
-                self.assertIn(said, ran.stderr.decode())
+                status, out, told = ran_here(fasta.main, "out", file, folder=self.folder)
+                self.assertEqual((status, out, told.count("\n")), (2, b"", 1), told)
+                self.assertIn(said, told)
                 self.assertEqual(list((self.folder / "out").iterdir()), [])
+        (self.folder / "out/mine").write_bytes(b"mine")
+        status, _, told = ran_here(fasta.main, "out", self.write("a.fa", b">a\nA\n"), folder=self.folder)
+        self.assertEqual((status, told), (2, "spanbase-fasta: out has files of others, as mine; give a new folder\n"))
+
+    def test_standard_input(self):
+        packed = gzip.compress(b">a\nAC\n")
+        self.assertEqual(ran_here(fasta.main, "out", "-", stdin=packed, folder=self.folder)[0], 0)
+        self.assertEqual((self.folder / "out/sequences").read_bytes(), b"AC")
 
 
 if __name__ == "__main__":

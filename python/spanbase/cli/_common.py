@@ -1,0 +1,174 @@
+"""What the tools share: their options, their messages and their exit statuses."""
+import argparse
+import os
+import re
+import sys
+from collections.abc import Callable, Iterable, Sequence
+from pathlib import Path
+from typing import NoReturn
+
+from spanbase.formula import FormulaError, Translation, Untranslatable
+
+FOUND, NOT_FOUND, TROUBLE, INTERRUPTED = 0, 1, 2, 130
+LONGEST_NAME = 64
+
+
+class Trouble(Exception):
+    """What went wrong, in one clear line, or more for a place in a text."""
+
+
+class Parser(argparse.ArgumentParser):
+    """A parser of a tool's arguments, which reports errors in one line with status 2."""
+
+    def __init__(self, name: str, description: str | None):
+        super().__init__(
+            prog=f"spanbase-{name}", description=description, formatter_class=argparse.RawDescriptionHelpFormatter
+        )
+        self.add_argument("--version", action="version", version=f"%(prog)s {package_version()}")
+
+    def error(self, message: str) -> NoReturn:
+        self.exit(TROUBLE, f"{self.prog}: {message}; --help lists the options\n")
+
+    def add_program(self) -> None:
+        self.add_argument(
+            "--program", "--shell", dest="program", type=Path, metavar="PATH", help="the spanshell that is run"
+        )
+        self.add_argument("--workers", type=positive, default=1, metavar="N", help="its workers, by default 1")
+        self.add_argument("--states", type=positive, metavar="N", help="the states that a query may have, by default 128")
+
+
+def package_version() -> str:
+    import spanbase
+
+    return str(getattr(spanbase, "__version__", "0"))
+
+
+def positive(text: str) -> int:
+    if not text.isdecimal() or int(text) == 0:
+        raise argparse.ArgumentTypeError(f"{text!r} isn't a number from 1 on")
+    return int(text)
+
+
+def name_of_language(text: str) -> str:
+    if not re.fullmatch(r"[A-Za-z_][A-Za-z0-9_.-]{0,63}", text):
+        raise argparse.ArgumentTypeError(f"{text!r} isn't a name of the language")
+    return text
+
+
+def file_of_language(text: str) -> str:
+    if not re.fullmatch(r"[!-~]{1,255}", text):
+        raise argparse.ArgumentTypeError(f"a file of a script has 1 to 255 bytes of ASCII without spaces, unlike {text!r}")
+    return text
+
+
+def shown(text: str | bytes) -> str:
+    """A text for a message, with what isn't printable escaped."""
+    decoded = text if isinstance(text, str) else os.fsdecode(text)
+    return "".join(it if it.isprintable() else repr(it)[1:-1] for it in decoded)
+
+
+def with_place(text: str, position: int | None, message: str, hint: str | None = None) -> str:
+    """A message about a position of a text, with the line of the text and a caret below it."""
+    if position is None:
+        return message + (f"; {hint}" if hint else "")
+    begin = text.rfind("\n", 0, position) + 1
+    line = text[begin:].split("\n", 1)[0]
+    before = shown(line[: position - begin])
+    lines = [f"{message}, at position {position}:", f"    {shown(line)}", f"    {' ' * len(before)}^"]
+    return "\n".join(lines + ([f"    {hint}"] if hint else []))
+
+
+def translated(translate: Callable[[], Translation], pattern: str) -> Translation:
+    """A translation, with the place and the way out of an error in its message."""
+    try:
+        return translate()
+    except Untranslatable as error:
+        raise Trouble(with_place(pattern, error.position, error.message, error.hint)) from None
+    except FormulaError as error:
+        raise Trouble(with_place(pattern, error.position, f"{error.word}: {error.message}")) from None
+
+
+class Tool:
+    """A tool with its name, which says troubles on standard error and remembers that there were some."""
+
+    def __init__(self, name: str):
+        self.name = name
+        self.troubles = 0
+
+    def say(self, text: str) -> None:
+        sys.stdout.flush()
+        print(f"spanbase-{self.name}: {text}", file=sys.stderr)
+
+    def trouble(self, text: str) -> None:
+        self.troubles += 1
+        self.say(text)
+
+    def run(self, main: Callable[[Sequence[str] | None], int], words: Sequence[str] | None) -> int:
+        """The exit status of the tool. A reader of its output that goes away ends it quietly."""
+        self.troubles = 0
+        try:
+            status = main(words)
+            sys.stdout.flush()
+            return status
+        except BrokenPipeError:
+            os.dup2(os.open(os.devnull, os.O_WRONLY), sys.stdout.fileno())
+            return FOUND
+        except KeyboardInterrupt:
+            return INTERRUPTED
+        except Trouble as trouble:
+            self.trouble(str(trouble))
+        except RecursionError:
+            self.trouble("the groups are nested too deep")
+        except OSError as error:
+            self.trouble(os_trouble(error))
+        return TROUBLE
+
+
+def os_trouble(error: OSError) -> str:
+    name = shown(error.filename) + ": " if isinstance(error.filename, str | bytes) else ""
+    return f"{name}{error.strerror or error}"
+
+
+class OwnFolder:
+    """A folder that a tool fills. One that has files of others is refused, so that none of them is overwritten."""
+
+    def __init__(self, path: Path, tool: str, files: Sequence[str]):
+        self.path = path
+        self.mark = f"# made by spanbase-{tool}\n".encode()
+        self.files = files
+
+    def check(self) -> None:
+        """Raises Trouble where the folder has something that the tool didn't make."""
+        if not self.path.exists():
+            return
+        if not self.path.is_dir():
+            raise Trouble(f"{shown(str(self.path))}: is no folder")
+        found = sorted(os.listdir(self.path))
+        if found and not self.is_own():
+            raise Trouble(f"{self.path} has files of others, as {shown(found[0])}; give a new folder")
+        if others := [name for name in found if name not in self.files and name not in self.saved()]:
+            raise Trouble(f"{self.path} has a file of others, {shown(others[0])}; give a new folder")
+
+    def is_own(self) -> bool:
+        script = self.path / "script"
+        if not script.is_file():
+            return False
+        with open(script, "rb") as file:
+            return file.readline() == self.mark
+
+    def saved(self) -> list[str]:
+        """The images that the script of the folder saves, with the files beside them."""
+        lines = (self.path / "script").read_bytes().splitlines()
+        images = [os.fsdecode(line[5:]) for line in lines if line.startswith(b"save ")]
+        return images + [f"{image}.queries" for image in images]
+
+    def write(self, name: str, pieces: Iterable[bytes]) -> None:
+        """Writes a file as a whole: it is there with all its bytes, or as it was."""
+        self.path.mkdir(parents=True, exist_ok=True)
+        new = self.path / f".{name}.new"
+        try:
+            with open(new, "wb") as file:
+                file.writelines(pieces)
+            os.replace(new, self.path / name)
+        finally:
+            new.unlink(missing_ok=True)

@@ -1,0 +1,134 @@
+"""Turns a regex into a formula of spanbase, or says where and why it has none and what to write instead.
+
+The regex is one of Python's `re`, with POSIX classes such as [[:alpha:]]. A named group becomes a variable. The answers are
+all spans that the regex can match, and not only those that a search would find first. A formula matches a whole text, so the
+tool puts `.*` on both sides of it; with --whole the regex itself must match the whole text.
+
+Standard output has the formula; notes and errors go to standard error. Status 2 says that there is no formula.
+"""
+import argparse
+import sys
+from collections.abc import Callable, Sequence
+
+from spanbase.cli._common import Parser, Tool, Trouble, name_of_language, translated, with_place
+from spanbase.formula import FormulaError, Translation, check, translate, with_gaps_captured
+
+TOOL = Tool("formula")
+
+
+def parser() -> Parser:
+    reader = Parser("formula", __doc__)
+    add = reader.add_argument
+    add("--whole", action="store_true", help="the regex must match the whole text")
+    add("--capture", type=name_of_language, metavar="NAME", help="the variable of the whole match where no group has a name")
+    add("-i", "--ignore-case", action="store_true", help="letters of ASCII match in either case")
+    add("--ascii-properties", action="store_true", help=r"\p{Lu} and the like are the ASCII characters of the property")
+    add("--query", type=name_of_language, metavar="NAME", help="write the line `query NAME FORMULA`")
+    add("--variables", action="store_true", help="write the variables in a second line")
+    add("--for-replace", action="store_true", help="warn where `replace` would take a match that could be longer")
+    add("--try", dest="tried", action="store_true", help="ask the program whether the query has too many states")
+    add("--split", action="store_true", help="with too many states, capture a gap such as .{0,30} to have fewer")
+    add("--quiet", action="store_true", help="no notes and warnings")
+    add("--check", action="store_true", help="the text is a formula: say whether and where it is rejected")
+    reader.add_program()
+    add("text", metavar="REGEX")
+    return reader
+
+
+def accepts(asked: argparse.Namespace) -> Callable[[Translation], bool]:
+    """Whether the program takes the formula, which it rejects where the query has too many states."""
+    import spanbase
+
+    def accepted(found: Translation) -> bool:
+        try:
+            with spanbase.Database(asked.program, workers=asked.workers, states=asked.states) as database:
+                database.formula(found.formula)
+        except spanbase.Refused as refused:
+            if refused.word == "TooManyStates":
+                return False
+            raise Trouble(str(refused)) from None
+        except spanbase.SpanbaseError as error:
+            raise Trouble(str(error)) from None
+        return True
+
+    return accepted
+
+
+def with_few_states(
+    pattern: str, make: Callable[[str], Translation], accepted: Callable[[Translation], bool]
+) -> tuple[str, Translation] | None:
+    """The regex with a gap captured such that the program takes it, and its formula."""
+    for candidate in with_gaps_captured(pattern):
+        try:
+            found = make(candidate)
+        except ValueError:
+            continue
+        if accepted(found):
+            return candidate, found
+    return None
+
+
+def tried(asked: argparse.Namespace, found: Translation, make: Callable[[str], Translation]) -> Translation:
+    """The translation, or with --split one with a gap captured, where the program takes it."""
+    accepted = accepts(asked)
+    if accepted(found):
+        return found
+    better = with_few_states(asked.text, make, accepted)
+    why = "TooManyStates: the query's automaton has too many states"
+    if better is None:
+        raise Trouble(f"{why}; make its repetitions shorter, or search for its parts by queries of their own")
+    if not asked.split:
+        raise Trouble(f"{why}; capture a gap, as --split does: {better[0]}")
+    TOOL.say(f"note: with a gap captured the regex is {better[0]}")
+    return better[1]
+
+
+def remarks(asked: argparse.Namespace, found: Translation) -> list[str]:
+    notes = [f"warning: {text}" for text in found.warnings]
+    if not found.variables:
+        notes.append("note: no group has a name, so an answer has no span; --capture NAME captures the whole match")
+    if asked.for_replace:
+        notes += [
+            f"warning: the end of {name} isn't fixed: `replace` takes its first end, and the longest one with `longest`"
+            for name in found.open_ends
+        ]
+        if len(found.variables) != 1:
+            notes.append(f"warning: `replace` takes a query of one variable, and this one has {len(found.variables)}")
+    return notes
+
+
+def run(words: Sequence[str] | None) -> int:
+    asked = parser().parse_args(words)
+    if asked.check:
+        try:
+            names = check(asked.text)
+        except FormulaError as error:
+            raise Trouble(with_place(asked.text, error.position, f"{error.word}: {error.message}")) from None
+        print(" ".join(["ok", *names]))
+        return 0
+
+    def make(pattern: str) -> Translation:
+        flags = 2 if asked.ignore_case else 0
+        return translate(
+            pattern, flags, whole=asked.whole, capture=asked.capture, ascii_properties=asked.ascii_properties
+        )
+
+    found = translated(lambda: make(asked.text), asked.text)
+    if asked.tried or asked.split:
+        found = tried(asked, found, make)
+    if not asked.quiet:
+        for remark in remarks(asked, found):
+            TOOL.say(remark)
+    formula = found.formula.decode("ascii")
+    print(f"query {asked.query} {formula}" if asked.query else formula)
+    if asked.variables:
+        print(" ".join(found.variables))
+    return 0
+
+
+def main(words: Sequence[str] | None = None) -> int:
+    return TOOL.run(run, words)
+
+
+if __name__ == "__main__":
+    sys.exit(main())

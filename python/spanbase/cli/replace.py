@@ -1,0 +1,221 @@
+"""Replaces what a regex finds in files, or in the documents of an image, as sed does.
+
+At each position the longest match is replaced, from left to right. Where the regex has a named group, its span alone is
+replaced. The regex is matched within lines, and `^` and `$` are the ends of lines; -U lets it match over several lines. In
+TEXT, \\n, \\t, \\r, \\\\ and \\xHH stand for bytes; --literal takes it as it is.
+
+The texts go to standard output, or with -i back into their files. FILE - is standard input, which is also read where no file
+is given. The status is 0 where something was replaced, 1 where nothing was, and 2 where something was wrong.
+"""
+import argparse
+import os
+import re
+import shutil
+import sys
+from collections.abc import Iterator, Sequence
+from pathlib import Path
+
+import spanbase
+from spanbase.cli._common import FOUND, NOT_FOUND, TROUBLE, Parser, Tool, Trouble, os_trouble, shown
+from spanbase.cli._content import Content, Source, file_kind
+from spanbase.cli._search import Pattern, Search, Searched, add_pattern_options, longest, shortest
+
+TOOL = Tool("replace")
+# so many bytes of a text are written at once
+PIECE = 1 << 22
+ESCAPE = re.compile(rb"\\(x[0-9a-fA-F]{2}|.|$)", re.DOTALL)
+NAMED = {b"n": b"\n", b"t": b"\t", b"r": b"\r", b"\\": b"\\"}
+
+
+def parser() -> Parser:
+    reader = Parser("replace", __doc__)
+    add = reader.add_argument
+    add("-i", "--in-place", action="store_true", help="write changed texts back into their files")
+    add("--backup", metavar="SUFFIX", help="with -i: keep each old file under its name and SUFFIX")
+    add("-n", "--dry-run", action="store_true", help="write nothing; print the lines that change, old and new")
+    add("-c", "--count", action="store_true", help="write nothing; print how many places each file has")
+    add("--first", action="store_true", help="replace the shortest match at each position in place of the longest")
+    add("--literal", action="store_true", help="the text has no escapes")
+    add("--ignore-case", action="store_true", help="letters of ASCII match in either case")
+    add("-U", "--multiline", action="store_true", help="matches may go over several lines")
+    add("--formula", action="store_true", help="the pattern is a formula with one variable")
+    add("--image", metavar="IMAGE", help="replace in documents of an image, all or those that are named")
+    add("--save", metavar="IMAGE", help="with --image: write the changed image here")
+    add_pattern_options(reader)
+    add("pattern", metavar="REGEX")
+    add("text", metavar="TEXT")
+    add("files", nargs="*", metavar="FILE")
+    return reader
+
+
+def arguments(words: Sequence[str] | None) -> argparse.Namespace:
+    reader = parser()
+    asked = reader.parse_intermixed_args(words)
+    if asked.split:
+        reader.error("a gap that is captured can't be left out of a replacement, so --split doesn't go with it")
+    if asked.image and asked.in_place:
+        reader.error("-i is about files; --save writes an image")
+    if asked.save and not asked.image:
+        reader.error("--save goes with --image")
+    if asked.in_place and (not asked.files or "-" in asked.files):
+        reader.error("-i needs files")
+    return asked
+
+
+def replacement(text: str, literal: bool) -> bytes:
+    """The bytes of the text that is put in."""
+    given = os.fsencode(text)
+    if literal:
+        return given
+
+    def byte(found: re.Match[bytes]) -> bytes:
+        name = found[1]
+        if len(name) == 3:
+            return bytes.fromhex(name[1:].decode())
+        if name not in NAMED:
+            hint = "a replacement is one text for all places; " if name.isdigit() or name == b"g" else ""
+            raise Trouble(f"\\{shown(name)} has no meaning in the text: {hint}write \\\\ for a backslash, or take --literal")
+        return NAMED[name]
+
+    return ESCAPE.sub(byte, given)
+
+
+# ----------------------------------------------------------------------------------------------------------------- texts
+
+
+def texts(database: spanbase.Database, asked: argparse.Namespace) -> Iterator[Searched]:
+    """The documents in which is replaced, each loaded when it is its turn."""
+    if asked.image:
+        for name in asked.files or database.names():
+            if name in database:
+                yield Searched(os.fsencode(name), Content(database[name]))
+            else:
+                TOOL.trouble(f"{shown(asked.image)} has no document {shown(name)}")
+        return
+    for path in map(os.fsencode, asked.files or ["-"]):
+        try:
+            kind = "stream" if path == b"-" else file_kind(path)
+            if kind == "folder":
+                TOOL.trouble(f"{shown(path)}: is a folder")
+            elif kind == "file":
+                source = Source.of(path)
+                yield Searched(path, Content(database.load("text", path), source))
+            elif asked.in_place:
+                TOOL.trouble(f"{shown(path)}: is no regular file, so it can't be replaced")
+            else:
+                given = sys.stdin.buffer.read() if path == b"-" else Path(os.fsdecode(path)).read_bytes()
+                yield Searched(path, Content(database.text("text", given), None, given))
+        except OSError as error:
+            TOOL.trouble(f"{shown(path)}: {error.strerror or error}")
+
+
+def show_changes(document: Searched, spans: list[tuple[int, int]], by: bytes) -> None:
+    """Prints the lines that change, the old ones with `-` and the new ones with `+`."""
+    out, content = sys.stdout.buffer, document.content
+    at = 0
+    while at < len(spans):
+        start = content.line_start(spans[at][0])
+        end = content.line_end(max(spans[at][1] - 1, spans[at][0]))
+        some = [spans[at]]
+        while at + len(some) < len(spans) and spans[at + len(some)][0] <= end:
+            some.append(spans[at + len(some)])
+            end = max(end, content.line_end(max(some[-1][1] - 1, some[-1][0])))
+        at += len(some)
+        old, new, done = content.read(start, end), b"", start
+        for first, last in some:
+            new += old[done - start : first - start] + by
+            done = last
+        new += old[done - start :]
+        head = document.title + b":%d:" % content.line_number(start)
+        out.writelines(head + b"-" + line + b"\n" for line in old.split(b"\n"))
+        out.writelines(head + b"+" + line + b"\n" for line in new.split(b"\n"))
+
+
+def write_out(document: spanbase.Document) -> None:
+    for at in range(0, document.length, PIECE):
+        sys.stdout.buffer.write(document.bytes(at, min(at + PIECE, document.length)))
+
+
+def write_back(document: Searched, changed: spanbase.Document, backup: str | None) -> None:
+    """Writes a text into the file that it was loaded from, unless that has changed meanwhile."""
+    name, source = document.title, document.content.source
+    if source is None or Source.of(name) != source:
+        TOOL.trouble(f"{shown(name)}: has changed since it was read, so it isn't written")
+        return
+    if backup:
+        shutil.copy2(name, name + os.fsencode(backup))
+    changed.write(name)
+
+
+# ------------------------------------------------------------------------------------------------------------------ main
+
+
+def replace_in(database: spanbase.Database, search: Search, document: Searched, asked: argparse.Namespace, by: bytes) -> bool:
+    """Replaces in one document, and returns whether there was something."""
+    original = document.content.document
+    if asked.dry_run or asked.count:
+        pick = shortest if asked.first else longest
+        spans = [span for (span,) in pick(search.answers(document), empty=True) if span]
+        if asked.count:
+            sys.stdout.buffer.write(document.title + b":%d\n" % len(spans))
+        else:
+            show_changes(document, spans, by)
+        return bool(spans)
+    found = search.query.test(original)
+    if asked.in_place and not found:
+        return False
+    changed = original
+    if found:
+        target = original.name if asked.image else "changed"
+        changed = database.replace(target, search.query, original, by, longest=not asked.first)
+    if asked.in_place:
+        write_back(document, changed, asked.backup)
+    elif not asked.save:
+        write_out(changed)
+    return found
+
+
+def run(words: Sequence[str] | None) -> int:
+    asked = arguments(words)
+    by = replacement(asked.text, asked.literal)
+    pattern = Pattern(asked.pattern, asked.ignore_case, asked.multiline, asked.ascii_properties, asked.formula)
+    try:
+        how = {"workers": asked.workers, "states": asked.states}
+        if asked.image:
+            database = spanbase.Database.open(asked.image, asked.program, **how)
+        else:
+            database = spanbase.Database(asked.program, **how)
+        with database:
+            found = replace_all(database, pattern, asked, by)
+    except spanbase.FileRefused as error:
+        raise Trouble(os_trouble(error)) from None
+    except spanbase.SpanbaseError as error:
+        raise Trouble(str(error)) from None
+    if TOOL.troubles:
+        return TROUBLE
+    return FOUND if found else NOT_FOUND
+
+
+def replace_all(database: spanbase.Database, pattern: Pattern, asked: argparse.Namespace, by: bytes) -> bool:
+    search = pattern.search(database, names=True)
+    if len(search.names) != 1:
+        raise Trouble(f"one part is replaced, so one group has a name at most, and this regex has {len(search.names)}")
+    if asked.first and not asked.formula and pattern.translated(names=True).open_ends:
+        TOOL.say("warning: a match may be longer than what is replaced; leave out --first to replace the longest")
+    found = False
+    for document in texts(database, asked):
+        try:
+            found |= replace_in(database, search, document, asked, by)
+        except spanbase.FileRefused as error:
+            TOOL.trouble(f"{shown(document.title)}: {error.strerror}")
+    if asked.save and not (asked.dry_run or asked.count):
+        database.save(asked.save)
+    return found
+
+
+def main(words: Sequence[str] | None = None) -> int:
+    return TOOL.run(run, words)
+
+
+if __name__ == "__main__":
+    sys.exit(main())

@@ -1,0 +1,213 @@
+"""Regexes as formulas: a translator of the regexes of Python's `re`, and a check of formulas.
+
+A named group becomes a variable. The answers of a formula are all spans that its regex can match, and not only those that
+a search would find first.
+"""
+import re
+from dataclasses import dataclass, field, replace
+from functools import cached_property
+
+from ._check import (
+    LONGEST_FORMULA,
+    MOST_VARIABLES,
+    FormulaError,
+    FormulaReader,
+    check_formula,
+)
+from ._contexts import FREE, NoFormula, formula_of
+from ._ends import open_ends
+from ._nodes import (
+    ALL,
+    NEWLINE,
+    NOTHING,
+    Alt,
+    Capture,
+    Cat,
+    Chars,
+    Condition,
+    Look,
+    Node,
+    Repeat,
+    Side,
+    alt,
+    cat,
+    conditions,
+    is_nullable,
+    restricted,
+    text_of,
+    variables,
+)
+from .errors import SpanbaseError
+from ._regex import AT_LINE, END, MOST_SETS, RegexReader
+
+__all__ = ["FormulaError", "Translation", "Untranslatable", "check", "translate", "with_gaps_captured"]
+
+# a warning comes where more than this part of a limit is used
+WARNED_PART = 0.75
+FLAG_LETTERS = {re.IGNORECASE: "i", re.MULTILINE: "m", re.DOTALL: "s", re.VERBOSE: "x"}
+
+
+class Untranslatable(SpanbaseError, ValueError):
+    """A regex that has no formula: why, at which index of the regex, and what to write instead."""
+
+    def __init__(self, message: str, position: int, hint: str):
+        super().__init__(f"{message}, at position {position}; {hint}")
+        self.message = message
+        self.position = position
+        self.hint = hint
+
+
+@dataclass(frozen=True)
+class Translation:
+    """A formula with its variables in the order of their numbers.
+
+    `warnings` are what a user should know of it.
+    """
+
+    formula: bytes
+    variables: tuple[str, ...]
+    warnings: tuple[str, ...]
+    _tree: Node = field(repr=False, compare=False)
+
+    @cached_property
+    def open_ends(self) -> tuple[str, ...]:
+        """The variables whose end isn't fixed by their beginning: from one position they can have spans of several lengths."""
+        return tuple(open_ends(self._tree))
+
+
+def check(formula: bytes | str) -> tuple[str, ...]:
+    """The variables of a formula in the order of their numbers; raises FormulaError where the program rejects it.
+
+    The program alone knows whether a query has too many states.
+    """
+    given = formula.encode(errors="surrogateescape") if isinstance(formula, str) else formula
+    return tuple(check_formula(given).order)
+
+
+def translate(
+    pattern: str | bytes,
+    flags: int = 0,
+    *,
+    whole: bool = False,
+    capture: str | None = "match",
+    names: bool = True,
+    within_lines: bool = False,
+    lines: str | None = None,
+    ascii_properties: bool = False,
+) -> Translation:
+    """The formula of a regex of Python's `re` with these flags; raises Untranslatable where there is none.
+
+    The regex is found anywhere in a text; with `whole` it must match the whole text. Where it has no named group, the
+    variable `capture` has the span of its whole match, unless that is None. Without `names` the names of groups are ignored.
+    With `within_lines` the regex matches within a line, and no part of it matches a newline. With `lines` the formula has
+    one more variable, of this name, for the line in which the regex matches so. With `ascii_properties`, `\\p{Lu}` and the
+    like stand for the ASCII characters that have the property.
+    """
+    given = pattern.encode(errors="surrogateescape") if isinstance(pattern, str) else pattern
+    reader = RegexReader(given.decode("latin-1"), letters_of(flags), ascii_properties)
+    try:
+        regex = reader.read()
+        if not names:
+            regex = without_names(regex)
+        if lines is not None or within_lines:
+            regex = restricted(regex, ALL - NEWLINE)
+        if capture and not variables(regex):
+            regex = Capture(capture, regex)
+        if within_lines and lines is None and (conditions(regex) or is_nullable(regex)):
+            regex = cat([regex, IN_LINE])
+        node = formula_of(regex, whole) if lines is None else formula_of(line_of(regex, lines), False)
+    except NoFormula as error:
+        raise Untranslatable(error.why, index_in(pattern, given, error.at or 0), error.hint) from None
+    except RecursionError:
+        raise Untranslatable("the groups are nested too deep", 0, "write it with fewer groups") from None
+    formula = text_of(node).encode("ascii")
+    try:
+        checked = check_formula(formula)
+    except FormulaError as error:
+        at = index_in(pattern, given, reader.largest[1])
+        raise Untranslatable(f"its formula has too much: {error.message}", at, HINTS.get(error.word, HINTS[""])) from None
+    warnings = [f"at position {index_in(pattern, given, at)}: {text}" for at, text in reader.warnings]
+    return Translation(formula, tuple(checked.order), (*warnings, *remarks(formula, checked, node)), node)
+
+
+def with_gaps_captured(pattern: str, flags: int = 0, *, capture: str = "match") -> list[str]:
+    """The regex with one of its gaps as a named group, such as `(?P<gap>.{0,30})`, the widest gap first; and last with all.
+
+    Where a query has too many states, a gap that is captured often leaves it few: its span says how far the match is.
+    """
+    given = pattern.encode(errors="surrogateescape")
+    reader = RegexReader(given.decode("latin-1"), letters_of(flags))
+    try:
+        regex = reader.read()
+    except (NoFormula, RecursionError):
+        return []
+    taken = set(variables(regex))
+    names = [name for name in ("gap", *(f"gap{number}" for number in range(2, 20))) if name not in taken]
+    wide = sorted(reader.gaps, key=lambda gap: -gap[2])
+    choices = [[gap] for gap in wide] + ([wide] if 1 < len(wide) <= MOST_VARIABLES - len(taken) else [])
+    found: list[str] = []
+    for chosen in choices:
+        text = given
+        for name, (start, end, _) in sorted(zip(names, chosen), key=lambda pair: -pair[1][0]):
+            text = text[:start] + b"(?P<%s>%s)" % (name.encode(), text[start:end]) + text[end:]
+        if not taken:
+            begun = len(re.match(rb"(\(\?[aimsx]+\))*", text)[0])
+            text = text[:begun] + b"(?P<%s>%s)" % (capture.encode(), text[begun:])
+        found.append(text.decode(errors="surrogateescape"))
+    return found
+
+
+HINTS = {
+    "TooManyVariables": "leave out the names of groups that you don't need",
+    "TooDeep": "leave out groups that change nothing",
+    "": "write a smaller bound, `*` or `+`, or make two regexes of it",
+}
+
+
+def without_names(node: Node) -> Node:
+    """The tree without its captures."""
+    match node:
+        case Capture(_, body):
+            return without_names(body)
+        case Cat(parts):
+            return cat(map(without_names, parts))
+        case Alt(parts):
+            return alt(map(without_names, parts))
+        case Repeat(sign, body):
+            return Repeat(sign, without_names(body))
+        case Look():
+            return replace(node, body=without_names(node.body))
+        case _:
+            return node
+
+
+# what stands behind the last newline of a text is a line only where it isn't empty
+IN_LINE = Condition(((FREE, Side(ALL, False)), (Side(ALL - NEWLINE, False), END)), 0)
+LINE_END = Condition(((FREE, Side(NEWLINE, False)), (Side(ALL - NEWLINE, False), END)), 0)
+
+
+def line_of(regex: Node, name: str) -> Node:
+    """The lines in which the regex matches."""
+    rest = Repeat("*", Chars(ALL - NEWLINE))
+    begin = Condition(((AT_LINE, FREE),), 0)
+    return cat([begin, Capture(name, cat([rest, regex, rest])), LINE_END])
+
+
+def letters_of(flags: int) -> frozenset[str]:
+    return frozenset(letter for flag, letter in FLAG_LETTERS.items() if flags & flag)
+
+
+def index_in(pattern: str | bytes, given: bytes, at: int) -> int:
+    """The index in the pattern as it was given, from that of its bytes."""
+    return at if isinstance(pattern, bytes) else len(given[:at].decode(errors="surrogateescape"))
+
+
+def remarks(formula: bytes, reader: FormulaReader, node: Node) -> list[str]:
+    """What a user should know of a formula."""
+    found = ["no text matches"] if node == NOTHING else []
+    used = [("bytes", len(formula), LONGEST_FORMULA), ("sets of bytes", reader.sets, MOST_SETS)]
+    used.append(("variables", len(reader.order), MOST_VARIABLES))
+    for what, count, limit in used:
+        if count > WARNED_PART * limit:
+            found.append(f"the formula has {count} {what}, and at most {limit} are allowed")
+    return found

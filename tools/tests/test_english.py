@@ -1,0 +1,41 @@
+"""The pages are in plain English, and tools/english finds what isn't."""
+import unittest
+
+from support import tool_as_module
+
+english = tool_as_module("english")
+
+LONG = "word " * 41 + "end."
+
+# a page, and what is found on it, each by its line and a part of what is said
+FOUND = [
+    ("A line that a shelf tells.", ["1: 'shelf'", "1: 'tells'"]),
+    ("Two lines,\nand the call\nwants memory.", ["1: 'wants memory'"]),
+    ("# Growth\n\nIt looks up a name.", ["1: 'Growth'"]),
+    ("| a | refused |\n|---|---|\n| `refused` | dear |", ["1: 'refused'", "3: 'dear'"]),
+    ("- One.\n- It looks at nodes.\n", ["2: 'looks'"]),
+    ("A list takes place in front of `looks`, in place. It stands for a [text](looks.md).", []),
+    ("Good.\n\n```\nit looks at a shelf\n```\n\nIt was refused.", ["7: 'refused'"]),
+    (LONG, ["1: a sentence of 42 words", "1: its sentences have 42.0 words"]),
+    (f"| {LONG} |", ["1: a sentence of 42 words"]),
+    ("**Lead-in.** " + "Word " * 20 + "end. " + "Word " * 18 + "end.", ["1: its sentences have 20.0 words"]),
+    ("One. Two by A. Reader and `code`! `Three`? (Four.) 5 is the last.", []),
+]
+
+
+class English(unittest.TestCase):
+    def test_findings(self) -> None:
+        for page, wanted in FOUND:
+            found = english.findings(page)
+            self.assertEqual(len(found), len(wanted), (page, found))
+            for line, part in zip(found, wanted):
+                self.assertIn(part, line)
+
+    def test_sentences(self) -> None:
+        (block,) = english.blocks_of(FOUND[-1][0])
+        self.assertEqual([english.words_in(it) for it in english.sentences_of(block)], [1, 6, 1, 1, 4])
+
+    def test_pages(self) -> None:
+        for page in english.checked_pages():
+            with self.subTest(page=page.name):
+                self.assertEqual(english.findings(page.read_text()), [])
