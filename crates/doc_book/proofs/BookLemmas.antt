@@ -1,4 +1,4 @@
--- What the map's names and roots say of the documents.
+-- Facts about the map's names and roots, as facts about the documents.
 use Rattle.std.proofs.Common.{◌≡◌, ℕ, zero, suc, Bool, true, false, cond, List, [], ◌∷◌, map, slice_get, Option, Some, refl, ap, ◌∙◌}
 use Rattle.std.specs.Option.{option_map}
 use Rattle.slp_model.specs.declared.NodeId.{NodeId}

@@ -1,4 +1,4 @@
-//! Documents by name, each with the root of its text, in the order in which their names came.
+//! Documents by name, each with the root of its text, in the order in which their names were added.
 //!
 //! ```text
 //! let mut docs = Docs::new(alloc);
@@ -9,11 +9,13 @@
 //! assert_eq!(docs.get(b"d"), Err(Missing::NoSuchDocument));
 //! ```
 //!
-//! A document is a name and a root, so it takes memory for these alone and none for its text, which stands in the node
-//! store. It is a map of the crate `name_map`, which lists documents in the order in which they came and has the costs:
-//! `set`, `get` and `take_out` take expected constant time, amortised, whichever documents come and go; `copy` takes
-//! linear time. `at` and `set_root` take constant time after `settle`, until the next `take_out`, and else up to linear
-//! time, so a caller that goes over all documents calls `settle` first.
+//! A document is a name and a root. It uses memory for these two only: its text is in the node store. `Docs` is a map
+//! of the crate `name_map`, which keeps that order and determines the costs:
+//!
+//! - `set`, `get` and `take_out` take expected constant time, amortised.
+//! - `copy` takes linear time.
+//! - `at` and `set_root` take constant time after `settle`, until the next `take_out`. Otherwise they take up to linear
+//!   time, so a caller that visits all documents calls `settle` first.
 #![tactic(auto)]
 
 ghost use Rattle.std.specs.Prelude.{◌≡◌, ◌<◌, ◌≤◌, [], length, slice_get, ok_or, Some, None, IsSome, IfOk, OnOk, OnErr};
@@ -43,8 +45,8 @@ pub struct Doc {
     pub root: Option<NodeId>,
 }
 
-/// Documents with distinct names, in the order in which the names came. Contracts see them as a
-/// list. A look-up by name takes expected constant time.
+/// Documents with distinct names, in the order in which the names were added. Contracts see them as a list. A lookup by
+/// name takes expected constant time.
 #[derive(Drop)]
 pub struct Docs {
     by_name: NameMap<Option<NodeId>>,
@@ -70,11 +72,12 @@ impl Docs {
         }
     }
 
-    /// Gives the name this root. A present name keeps its place, and a new one goes last. Takes expected constant time.
+    /// Sets the root of the document with this name. An existing name keeps its index, and a new name goes last. Takes
+    /// expected constant time, amortised.
     ///
     /// # Errors
     ///
-    /// `NoMemory` where none was found; the documents are then as before.
+    /// `NoMemory` if allocation fails; the documents are then unchanged.
     pub fn set(&mut self, alloc: Global, name: Name, root: Option<NodeId>) -> Result<(), NoMemory>
         ensures ok { OnOk result (self.new ≡ put self.old name root) }
         ensures err { OnErr result (self.new ≡ self.old) }
@@ -87,7 +90,7 @@ impl Docs {
     ///
     /// # Errors
     ///
-    /// `NoSuchDocument` exactly where there is none.
+    /// `NoSuchDocument` exactly if no document has the name.
     pub fn get(&self, name: &[u8]) -> Result<Option<NodeId>, Missing>
         ensures { result ≡ ok_or (root_of self.now name.now) Missing.NoSuchDocument }
     {
@@ -97,12 +100,12 @@ impl Docs {
         }
     }
 
-    /// Takes the document with this name out, and the rest close up. Takes amortised expected constant time, whichever
-    /// document it is.
+    /// Removes the document with this name. Each later document moves down by one index. Takes expected constant time,
+    /// amortised.
     ///
     /// # Errors
     ///
-    /// `NoSuchDocument` exactly where there is none; the documents are then as before.
+    /// `NoSuchDocument` exactly if no document has the name; the documents are then unchanged.
     pub fn take_out(&mut self, name: &[u8]) -> Result<(), Missing>
         ensures ok { OnOk result (IsSome (root_of self.old name.now)) }
         ensures rest { self.new ≡ taken_out self.old name.now }
@@ -115,15 +118,16 @@ impl Docs {
         }
     }
 
-    /// Makes `at` and `set_root` take constant time until the next `take_out`, and changes no document and no place. Takes
-    /// no memory, and constant time where they do already, else expected time linear in the number of documents.
+    /// Makes `at` and `set_root` take constant time until the next `take_out`. The documents and their indices are
+    /// unchanged. Allocates nothing. Takes constant time if nothing was taken out since the last call, and otherwise
+    /// expected time linear in the number of documents.
     pub fn settle(&mut self)
         ensures { self.new ≡ self.old }
     {
         self.by_name.settle();
     }
 
-    /// How many documents there are.
+    /// The number of documents.
     pub fn count(&self) -> usize
         ensures count { result ≡ length self.now }
         ensures distinct { AreDistinctNames self.now }
@@ -131,8 +135,8 @@ impl Docs {
         self.by_name.count()
     }
 
-    /// The name and the root of the document at this place. Places count from 0. Takes constant time after `settle`, and
-    /// else up to linear time.
+    /// The name and the root of the document at index `place`, counted from 0. Takes constant time after `settle`, and
+    /// otherwise up to linear time.
     pub fn at(&self, place: usize) -> (&Name, Option<NodeId>)
         requires { place < length self.now }
         ensures { slice_get self.now place ≡ Some (record { name = result.0.now; root = result.1 }) }
@@ -141,8 +145,8 @@ impl Docs {
         (name, *root)
     }
 
-    /// Gives the document at this place another root. Takes no memory, and constant time after `settle`, else up to
-    /// linear time.
+    /// Sets the root of the document at index `place`. Allocates nothing. Takes constant time after `settle`, and
+    /// otherwise up to linear time.
     pub fn set_root(&mut self, place: usize, root: Option<NodeId>)
         requires { place < length self.old }
         ensures { self.new ≡ with_root self.old place root }
@@ -150,11 +154,11 @@ impl Docs {
         *self.by_name.value_mut(place) = root;
     }
 
-    /// The same names and roots in the same order. Takes time and memory linear in their number.
+    /// A copy with the same names and roots in the same order. Takes time and memory linear in the number of documents.
     ///
     /// # Errors
     ///
-    /// `NoMemory` where none was found.
+    /// `NoMemory` if allocation fails.
     pub fn copy(&self, alloc: Global) -> Result<Docs, NoMemory>
         ensures { IfOk result (λ copy. copy ≡ self.now) }
     {

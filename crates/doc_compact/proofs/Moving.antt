@@ -1,4 +1,4 @@
--- Roots under their new numbers, place by place.
+-- Roots under their new numbers, index by index.
 use Rattle.std.proofs.Common.{◌≡◌, ℕ, zero, suc, ◌<◌, ◌≤◌, Bool, List, [], ◌∷◌, length, slice_get, Option, Some, refl, ap, subst, arith}
 use Rattle.std.specs.Prelude.{unwrap_or}
 use Rattle.std.specs.Option.{option_map}
@@ -9,7 +9,7 @@ use Rattle.doc_versions.specs.Versions.{docs_at}
 use Rattle.name_map.specs.Named.{Named, with_value}
 use Rattle.doc_compact.specs.Compacted.{AreKeptRoots, AreKeptVersions, IsKeptRoot, moved_docs, moved_versions}
 
--- the first n documents, and the first n versions, with new numbers
+-- the documents with new numbers for the first n, and the same for versions
 abbrev pub docs_first : List Bool → ℕ → List Doc → List Doc
 docs_first keep zero ds = ds
 docs_first keep (suc n) [] = []
@@ -25,13 +25,13 @@ length-docs_first keep zero ds = refl
 length-docs_first keep (suc n) [] = refl
 length-docs_first keep (suc n) (d ∷ ds) = ap suc (length-docs_first keep n ds)
 
--- the document at the place is as before
+-- the document at the index is unchanged
 pub next-doc : (keep : List Bool) (n : ℕ) (ds : List Doc) → slice_get (docs_first keep n ds) n ≡ slice_get ds n
 next-doc keep zero ds = refl
 next-doc keep (suc n) [] = refl
 next-doc keep (suc n) (d ∷ ds) = next-doc keep n ds
 
--- and is moved
+-- and then it is moved
 pub docs-step : (keep : List Bool) (n : ℕ) (ds : List Doc) (d : Doc) → slice_get ds n ≡ Some d → with_root (docs_first keep n ds) n (moved keep d.root) ≡ docs_first keep (suc n) ds
 docs-step keep zero [] d at = let bad : ⊥ = cc at in absurd bad
 docs-step keep zero (x ∷ ds) d at = let same : d ≡ x = cc at in ap (λ (y : Doc). let z : Doc = record { name = x.name; root = moved keep y.root } in z ∷ ds) same
@@ -80,7 +80,7 @@ kept-version keep (v ∷ vs) (suc n) lt h = kept-version keep vs n (omega (arith
 pub docs_of : (vs : Named (List Doc)) (n : ℕ) (v : List ℕ × List Doc) → slice_get vs n ≡ Some v → docs_at vs n ≡ v.1
 docs_of vs n v at = ap (λ (o : Option (List ℕ × List Doc)). unwrap_or (option_map (λ w. w.1) o) []) at
 
--- the version at a place has its documents changed once more
+-- the documents of the version at an index change once more
 pub docs_at-with_value : (vs : Named (List Doc)) (n : ℕ) (ds : List Doc) → n < length vs → docs_at (with_value vs n ds) n ≡ ds
 docs_at-with_value [] n ds lt = let bad : ⊥ = omega (arith, lt) in absurd bad
 docs_at-with_value (v ∷ vs) zero ds lt = refl

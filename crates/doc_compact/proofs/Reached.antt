@@ -1,4 +1,4 @@
--- What the first documents, and the first versions, reach.
+-- The nodes that the first documents, and the first versions, reach.
 use Rattle.std.proofs.Common.{◌≡◌, ℕ, zero, suc, ◌⊎◌, inl, inr, Bool, false, List, [], ◌∷◌, ◌++◌, take, slice_get, Option, Some, subst}
 use Rattle.std.specs.Prelude.{◌↔◌, replicate}
 use Rattle.slp_model.specs.declared.NodeId.{NodeId}
@@ -17,7 +17,7 @@ none-kept i zero h = cc
 none-kept zero (suc n) h = cc
 none-kept (suc i) (suc n) h = none-kept i n h
 
--- one after the other
+-- one addition after the other
 pub adds-both : (xs ys zs : List Bool) (P Q R : ℕ → Type 0) → ((j : ℕ) → R j ↔ (P j ⊎ Q j)) → AddsExactly xs ys P → AddsExactly ys zs Q → AddsExactly xs zs R
 adds-both xs ys zs P Q R both first second = λ j. (to j, from j)
   where
@@ -45,7 +45,7 @@ any-cut ns [] ys j h = inr h
 any-cut ns (x ∷ xs) ys j (inl h) = inl (inl h)
 any-cut ns (x ∷ xs) ys j (inr h) = elim (any-cut ns xs ys j h) [ inl left ↦ inl (inr left) | inr right ↦ inr right ]
 
--- some roots and others
+-- two lists of roots together
 pub any-append : (ns : List Node) (xs ys : List (Option NodeId)) (j : ℕ) → AnyReaches ns (xs ++ ys) j ↔ (AnyReaches ns xs j ⊎ AnyReaches ns ys j)
 any-append ns xs ys j = (any-cut ns xs ys j, (λ s. elim s [ inl h ↦ any-left ns xs ys j h | inr h ↦ any-right ns xs ys j h ]))
 

@@ -1,4 +1,4 @@
--- Texts are as before, and each node is reached.
+-- Texts are unchanged, and each node is reached.
 use Rattle.std.proofs.Common.{◌≡◌, ℕ, inl, inr, Bool, List, [], ◌∷◌, ◌++◌, map, Option, Some, None, refl, ap, subst}
 use Rattle.std.specs.Prelude.{◌↔◌}
 use Rattle.slp_model.specs.declared.NodeId.{NodeId}
@@ -63,7 +63,7 @@ module _ (ns : List Node) (keep : List Bool) (ms : List Node) (is : IsThinOf ns 
   roots-versions [] = refl
   roots-versions (v ∷ vs) = roots-docs v.1 (version_roots vs) (version_roots (moved_versions keep vs)) (roots-versions vs)
 
-  -- all of it
+  -- everything together
   pub compacted : (ds : List Doc) (vs : Named (List Doc)) → IsPlanOf ns keep → ((i : ℕ) → Keeps keep i ↔ AnyReaches ns (roots_of ds ++ version_roots vs) i) → ms ≡ thin ns keep
       → IsCompacted ns ds vs keep ms (moved_docs keep ds) (moved_versions keep vs)
   compacted ds vs plan exact thin_is =

@@ -1,4 +1,4 @@
--- What is left of a store that is compacted.
+-- What a compacted store contains.
 use Rattle.std.specs.Prelude.{◌≡◌, ◌<◌, ℕ, Bool, List, [], ◌∷◌, ◌++◌, length, map, Option, Some, None}
 use Rattle.slp_model.specs.declared.NodeId.{NodeId}
 use Rattle.slp_model.specs.declared.Node.{Node}
@@ -9,12 +9,12 @@ use Rattle.edit_expr.specs.Values.{AreLive, plain}
 use Rattle.name_map.specs.Named.{Named}
 use Rattle.doc_compact.specs.Roots.{AreKept, plain_versions, roots_of, version_roots}
 
--- the root is none or kept
+-- the root is `None`, or its node is kept
 abbrev pub IsKeptRoot : List Bool → Option NodeId → Type 0
 IsKeptRoot keep None = Unit {0}
 IsKeptRoot keep (Some id) = Keeps keep id.index
 
--- the same of each document, and of those of each version
+-- the same for each document, and for each document of each version
 abbrev pub AreKeptRoots : List Bool → List Doc → Type 0
 AreKeptRoots keep [] = Unit {0}
 AreKeptRoots keep (d ∷ ds) = IsKeptRoot keep d.root × AreKeptRoots keep ds
@@ -23,15 +23,15 @@ abbrev pub AreKeptVersions : List Bool → Named (List Doc) → Type 0
 AreKeptVersions keep [] = Unit {0}
 AreKeptVersions keep (v ∷ vs) = AreKeptRoots keep v.1 × AreKeptVersions keep vs
 
--- the documents with their roots under new numbers, and those of each version
+-- the documents with their roots under new numbers, and the same for each version
 abbrev pub moved_docs : List Bool → List Doc → List Doc
 moved_docs keep ds = map (λ d. record { name = d.name; root = moved keep d.root }) ds
 
 abbrev pub moved_versions : List Bool → Named (List Doc) → Named (List Doc)
 moved_versions keep vs = map (λ v. (v.0, moved_docs keep v.1)) vs
 
--- the nodes of a plan are left, under new numbers, which the roots have now: each text is as before, and each node is reached from a document,
--- or from one of a version
+-- the store has exactly the kept nodes, under the new numbers, which the roots now have; each text is unchanged, and
+-- each node is reached from a document or from a document of a version
 pub record IsCompacted (ns : List Node) (ds : List Doc) (vs : Named (List Doc)) (keep : List Bool) (ms : List Node) (es : List Doc) (ws : Named (List Doc)) : Type 0 where
   pub plan : IsPlanOf ns keep
   pub thin_is : ms ≡ thin ns keep

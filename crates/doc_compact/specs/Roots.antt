@@ -21,7 +21,7 @@ abbrev pub plain_versions : List Node → Named (List Doc) → Named (List Docum
 plain_versions ns [] = []
 plain_versions ns (v ∷ vs) = (v.0, plain ns v.1) ∷ plain_versions ns vs
 
--- the documents of each version are in the store
+-- the roots of the documents of each version are in the store
 abbrev pub AreKept : List Node → Named (List Doc) → Type 0
 AreKept ns [] = Unit {0}
 AreKept ns (v ∷ vs) = AreLive ns v.1 × AreKept ns vs

@@ -1,14 +1,15 @@
-//! The documents and their versions in a store that is compacted: the nodes that none of them reaches go, and each document
-//! has its text as before.
+//! Compacts the node store of documents and their versions: drops the nodes that no document or version reaches. Every
+//! text is unchanged.
 //!
 //! ```text
 //! let moves = compact(alloc, &mut store, &mut docs, &mut versions)?;
 //! ```
 //!
-//! It is a mark and a sweep (McCarthy, "Recursive functions of symbolic expressions and their computation by machine, part I",
-//! 1960): a plan marks what the roots reach, the marked nodes make a thin store, and the roots are given their new numbers. All
-//! memory is taken before anything changes, so that a refusal leaves all as it was. The time is linear in the number of nodes
-//! and of documents in all versions, and the memory is that of the thin store and a few bytes for each node of the old one.
+//! It is mark and sweep (McCarthy, "Recursive functions of symbolic expressions and their computation by machine, part
+//! I", 1960). A plan marks the nodes that the roots reach, the compacted store is built from the marked nodes, and each
+//! root gets its node's new number. All memory is allocated before anything changes, so an error changes nothing. The
+//! time is linear in the number of nodes and in the number of documents of all versions. The memory is that of the
+//! compacted store, and a few bytes for each node of the old store.
 #![tactic(auto)]
 
 ghost use Rattle.std.specs.Prelude.{◌≡◌, ◌↔◌, ◌++◌, ◌<◌, ℕ, length, OnErr, OnOk, IfOk};
@@ -27,7 +28,7 @@ use span_types::NoMemory;
 use std::alloc::Global;
 use store_compact::Plan;
 
-/// Keeps what the documents reach.
+/// Marks the nodes that the documents reach.
 fn keep_docs(plan: &mut Plan, store: &Store, docs: &Docs) -> Result<(), NoMemory>
     requires plan { IsPlanOf store.now plan.old }
     requires live { AreLive store.now docs.now }
@@ -41,7 +42,7 @@ fn keep_docs(plan: &mut Plan, store: &Store, docs: &Docs) -> Result<(), NoMemory
     Ok(())
 }
 
-/// Keeps what the documents of the versions reach.
+/// Marks the nodes that the documents of the versions reach.
 fn keep_versions(plan: &mut Plan, store: &Store, versions: &Versions) -> Result<(), NoMemory>
     requires plan { IsPlanOf store.now plan.old }
     requires kept { AreKept store.now versions.now }
@@ -55,7 +56,7 @@ fn keep_versions(plan: &mut Plan, store: &Store, versions: &Versions) -> Result<
     Ok(())
 }
 
-/// The plan that keeps what documents and versions reach.
+/// The plan that keeps exactly the nodes that documents and versions reach.
 fn plan_of(alloc: Global, store: &Store, docs: &Docs, versions: &Versions) -> Result<Plan, NoMemory>
     requires live { AreLive store.now docs.now }
     requires kept { AreKept store.now versions.now }
@@ -68,7 +69,7 @@ fn plan_of(alloc: Global, store: &Store, docs: &Docs, versions: &Versions) -> Re
     Ok(plan)
 }
 
-/// The root under its new number.
+/// The root with its node's new number.
 fn moved_root(moves: &Moves, root: Option<NodeId>) -> Option<NodeId>
     requires { IsKeptRoot moves.now root }
     ensures { result ≡ moved moves.now root }
@@ -79,7 +80,7 @@ fn moved_root(moves: &Moves, root: Option<NodeId>) -> Option<NodeId>
     }
 }
 
-/// Gives the documents' roots their new numbers.
+/// Moves the documents' roots to the new node numbers.
 fn move_docs(docs: &mut Docs, moves: &Moves)
     requires { AreKeptRoots moves.now docs.old }
     ensures { docs.new ≡ moved_docs moves.now docs.old }
@@ -90,7 +91,7 @@ fn move_docs(docs: &mut Docs, moves: &Moves)
     }
 }
 
-/// Gives the roots of one version their new numbers.
+/// Moves the roots of the version at this index to the new node numbers.
 fn move_version(versions: &mut Versions, place: usize, moves: &Moves)
     requires place { place < length versions.old }
     requires kept { AreKeptRoots moves.now (docs_at versions.old place) }
@@ -102,7 +103,7 @@ fn move_version(versions: &mut Versions, place: usize, moves: &Moves)
     }
 }
 
-/// Gives the versions' roots their new numbers.
+/// Moves the roots of all versions to the new node numbers.
 fn move_versions(versions: &mut Versions, moves: &Moves)
     requires { AreKeptVersions moves.now versions.old }
     ensures { versions.new ≡ moved_versions moves.now versions.old }
@@ -112,12 +113,13 @@ fn move_versions(versions: &mut Versions, moves: &Moves)
     }
 }
 
-/// Compacts the store: what no document and no document of a version reaches is dropped, and what stays has new numbers, which
-/// the answer tells. Each document and each version has its texts as before. After a refusal all is as it was.
+/// Compacts the store: drops the nodes that neither a document nor a document of a version reaches, and renumbers the
+/// rest. Returns the new numbers. The text of each document is unchanged, also in each version. Takes time linear in
+/// the number of nodes and in the number of documents of all versions.
 ///
 /// # Errors
 ///
-/// `NoMemory` where none was found for the thin store.
+/// `NoMemory` if allocation fails. The store, the documents and the versions are then unchanged.
 pub fn compact(
     alloc: Global,
     store: &mut Store,

@@ -6,10 +6,10 @@ use Rattle.doc_book.specs.declared.Doc.{Doc}
 use Rattle.doc_book.specs.Docs.{with_root}
 use Rattle.name_map.specs.Named.{Named, with_value}
 
--- the documents of the version at this place
+-- the documents of the version at this index
 abbrev pub docs_at : Named (List Doc) → ℕ → List Doc
 docs_at versions place = unwrap_or (option_map (λ v. v.1) (slice_get versions place)) []
 
--- the document at place doc of the version at this place has the root
+-- the document at index doc of the version at this index gets the root
 abbrev pub with_version_root : Named (List Doc) → ℕ → ℕ → Option NodeId → Named (List Doc)
 with_version_root versions place doc root = with_value versions place (with_root (docs_at versions place) doc root)

@@ -1,4 +1,4 @@
-//! Versions of the documents: a version keeps, under a name, the documents as they were when it was marked.
+//! Named versions of the documents: a version keeps the documents as they were when it was marked.
 //!
 //! ```text
 //! let mut versions = Versions::new(alloc);
@@ -8,13 +8,15 @@
 //! versions.unmark(b"v")?;
 //! ```
 //!
-//! A version is a list of names and roots, so it takes memory linear in the number of documents and none for their
-//! texts: nodes never change, and each text is shared with the documents. `mark` and `back` copy that list in linear
-//! time. `unmark` and a look-up by name take expected constant time, amortised for `unmark`. `at` and `set_root` take
-//! constant time after `settle`, until the next `unmark`, and else up to linear time.
+//! A version is a list of names and roots. It uses memory linear in the number of documents, and none for their texts:
+//! nodes never change, and a version shares them with the documents. Costs:
 //!
-//! Texts that are shared like this are *persistent* data structures (Driscoll, Sarnak, Sleator and Tarjan, "Making data
-//! structures persistent", 1989), by copying of roots.
+//! - `mark` and `back` copy the list, in linear time.
+//! - `unmark` and a lookup by name take expected constant time, amortised for `unmark`.
+//! - `at` and `set_root` take constant time after `settle`, until the next `unmark`, and otherwise up to linear time.
+//!
+//! Texts shared in this way are *persistent* data structures, kept by copying their roots (Driscoll, Sarnak, Sleator
+//! and Tarjan, "Making data structures persistent", 1989).
 #![tactic(auto)]
 
 ghost use Rattle.std.specs.Prelude.{◌≡◌, ◌↔◌, ◌<◌, ℕ, List, [], false, length, slice_get, Some, None, IfOk, OnOk, OnErr, IsErrOf, ok_or};
@@ -30,14 +32,14 @@ use std::alloc::Global;
 use std::marker::Model;
 use thiserror::Error;
 
-/// Why a call on versions is refused.
+/// Why a call on versions failed.
 #[derive(Clone, Copy, Debug, PartialEq, Eq, Drop, Error)]
 pub enum VersionRefusal {
     /// No version has the name.
     #[error("no version has this name")]
     NoSuchVersion,
 
-    /// No memory was found.
+    /// Allocation failed.
     #[error("no memory")]
     NoMemory,
 }
@@ -52,7 +54,7 @@ impl From<NoMemory> for VersionRefusal {
     }
 }
 
-/// Versions with distinct names, in the order in which the names came. Contracts see them as a list of pairs of a
+/// Versions with distinct names, in the order in which the names were added. Contracts see them as a list of pairs of a
 /// name's bytes and the documents.
 #[derive(Drop)]
 pub struct Versions {
@@ -79,12 +81,12 @@ impl Versions {
         }
     }
 
-    /// Keeps the documents under the name. A present name keeps its place, and its former documents go; a new name
-    /// goes last. Takes time linear in the number of documents.
+    /// Keeps a copy of the documents under this name. An existing name keeps its index, and its old documents are
+    /// dropped. A new name goes last. Takes time linear in the number of documents.
     ///
     /// # Errors
     ///
-    /// `NoMemory` where none was found; the versions are then as before.
+    /// `NoMemory` if allocation fails; the versions are then unchanged.
     pub fn mark(&mut self, alloc: Global, name: Name, docs: &Docs) -> Result<(), NoMemory>
         ensures ok { OnOk result (self.new ≡ put self.old name docs.now) }
         ensures kept { OnOk result (value_of self.new name ≡ Some docs.now) }
@@ -95,11 +97,11 @@ impl Versions {
         self.by_name.set(alloc, name, copy)
     }
 
-    /// The documents that the version with this name keeps. Takes time linear in their number.
+    /// A copy of the documents that the version with this name keeps. Takes time linear in their number.
     ///
     /// # Errors
     ///
-    /// `NoSuchVersion` exactly where no version has the name, and `NoMemory`.
+    /// `NoSuchVersion` exactly if no version has the name, or `NoMemory` if allocation fails.
     pub fn back(&self, alloc: Global, name: &[u8]) -> Result<Docs, VersionRefusal>
         ensures ok { IfOk result (λ docs. value_of self.now name.now ≡ Some docs) }
         ensures missing { IsErrOf result VersionRefusal.NoSuchVersion ↔ (value_of self.now name.now ≡ None) }
@@ -110,12 +112,12 @@ impl Versions {
         }
     }
 
-    /// Takes the version with this name out, and the rest close up. Takes amortised expected constant time, whichever
-    /// version it is.
+    /// Removes the version with this name. Each later version moves down by one index. Takes expected constant time,
+    /// amortised.
     ///
     /// # Errors
     ///
-    /// `NoSuchVersion` exactly where no version has the name; the versions are then as before.
+    /// `NoSuchVersion` exactly if no version has the name; the versions are then unchanged.
     pub fn unmark(&mut self, name: &[u8]) -> Result<(), VersionRefusal>
         ensures result { result ≡ ok_or (option_map (λ _. tt) (value_of self.old name.now)) VersionRefusal.NoSuchVersion }
         ensures rest { self.new ≡ taken_out self.old name.now }
@@ -127,15 +129,16 @@ impl Versions {
         }
     }
 
-    /// Makes `at` and `set_root` take constant time until the next `unmark`, and changes no version and no place. Takes no
-    /// memory, and constant time where they do already, else expected time linear in the number of versions.
+    /// Makes `at` and `set_root` take constant time until the next `unmark`. The versions and their indices are
+    /// unchanged. Allocates nothing. Takes constant time if nothing was unmarked since the last call, and otherwise
+    /// expected time linear in the number of versions.
     pub fn settle(&mut self)
         ensures { self.new ≡ self.old }
     {
         self.by_name.settle();
     }
 
-    /// How many versions there are.
+    /// The number of versions.
     pub fn count(&self) -> usize
         ensures count { result ≡ length self.now }
         ensures distinct { AreDistinctNames self.now }
@@ -143,8 +146,8 @@ impl Versions {
         self.by_name.count()
     }
 
-    /// The name and the documents of the version at this place. Places count from 0. Takes constant time after `settle`,
-    /// and else up to linear time.
+    /// The name and the documents of the version at index `place`, counted from 0. Takes constant time after `settle`,
+    /// and otherwise up to linear time.
     pub fn at(&self, place: usize) -> (&Name, &Docs)
         requires { place < length self.now }
         ensures { slice_get self.now place ≡ Some (result.0.now, result.1.now) }
@@ -152,8 +155,8 @@ impl Versions {
         self.by_name.at(place)
     }
 
-    /// Gives the document at place `doc` of the version at this place another root. Takes no memory, and constant time
-    /// after `settle`, else up to linear time.
+    /// Sets the root of the document at index `doc` in the version at index `place`. Allocates nothing. Takes constant
+    /// time after `settle`, and otherwise up to linear time.
     pub fn set_root(&mut self, place: usize, doc: usize, root: Option<NodeId>)
         requires place { place < length self.old }
         requires doc { doc < length (docs_at self.old place) }

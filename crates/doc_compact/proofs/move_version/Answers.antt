@@ -10,7 +10,7 @@ use Rattle.doc_compact.proofs.move_version.Goals as goal
 pub loop-doc-init : goal.loop-doc-init
 loop-doc-init c = sym (with_value-own c.args.versions.now c.args.place)
 
--- the documents of the version, of which the first are moved
+-- the documents of the version, the first of which are moved
 pub docs-now : (keep : List Bool) (vs now : Named (List Doc)) (place n : ℕ) (v : List ℕ × List Doc) → place < length vs → now ≡ with_value vs place (docs_first keep n (docs_at vs place)) → slice_get now place ≡ Some v
     → v.1 ≡ docs_first keep n (docs_at vs place)
 docs-now keep vs now place n v lt is at = sym (docs_of now place v at) ∙ (ap (λ (l : Named (List Doc)). docs_at l place) is ∙ docs_at-with_value vs place (docs_first keep n (docs_at vs place)) lt)
@@ -18,7 +18,7 @@ docs-now keep vs now place n v lt is at = sym (docs_of now place v at) ∙ (ap (
 pub at-requires-in-loop-doc : goal.at-requires-in-loop-doc
 at-requires-in-loop-doc c = omega (arith, c.requires.place, ap length c.loop-doc.invariant, length-with_value c.args.versions.now c.args.place (docs_first c.args.moves.now c.loop-doc.doc (docs_at c.args.versions.now c.args.place)))
 
--- the place is one of the version's documents
+-- the index is one of the version's documents
 inside : (keep : List Bool) (vs : Named (List Doc)) (place n end : ℕ) (v : List ℕ × List Doc) (ds : List Doc) → n < end → end ≡ length v.1 → slice_get vs place ≡ Some v → ds ≡ docs_first keep n (docs_at vs place) → n < length ds
 inside keep vs place n end v ds lt long at is = omega (arith, lt, long, ap length (docs_of vs place v at), ap length is, length-docs_first keep n (docs_at vs place))
 
@@ -30,7 +30,7 @@ at-root-requires c =
     inside keep vs c.args.place n c.count-doc-end.result (c.at.result.0.now, c.at.result.1.now) c.at-in-loop-doc.result.1.now c.loop-doc-test.true c.count-doc-end.ensures.count c.at.ensures
     (docs-now keep vs c.loop-doc.versions c.args.place n (c.at-in-loop-doc.result.0.now, c.at-in-loop-doc.result.1.now) c.requires.place c.loop-doc.invariant c.at-in-loop-doc.ensures)
 
--- the document there is as before
+-- the document at that index is unchanged
 same-doc : (keep : List Bool) (vs : Named (List Doc)) (place n : ℕ) (ds : List Doc) (d : Doc) → ds ≡ docs_first keep n (docs_at vs place) → slice_get ds n ≡ Some d → slice_get (docs_at vs place) n ≡ Some d
 same-doc keep vs place n ds d is at = sym (next-doc keep n (docs_at vs place)) ∙ (ap (λ (l : List Doc). slice_get l n) (sym is) ∙ at)
 
