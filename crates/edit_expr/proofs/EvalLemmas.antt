@@ -1,4 +1,4 @@
--- What evaluation on texts and evaluation on roots have to do with each other.
+-- The relation between evaluation on texts and evaluation on roots.
 use Rattle.std.proofs.Common.{◌≡◌, ℕ, ◌+◌, ◌*◌, ◌^◌, ◌≤◌, ◌<◌, max, List, [], ◌∷◌, length, Option, Some, None, Ok, Err, refl, ap, ◌∙◌, arith}
 use Rattle.std.proofs.lemmas.Bool.{le-leb, lt-leb}
 use Rattle.slp_model.specs.declared.NodeId.{NodeId}

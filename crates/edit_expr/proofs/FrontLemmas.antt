@@ -1,4 +1,4 @@
--- What the word at the front of a text tells of the expression that is written there.
+-- What the first word of a text implies for the expression that the text starts with.
 use Rattle.std.proofs.Common.{◌≡◌, ◌⊎◌, inl, inr, ℕ, ◌-◌, ◌≤◌, Bool, true, false, cond, List, [], ◌∷◌, ◌++◌, Option, Some, refl, sym, ap, subst, ◌∙◌, arith, codes}
 use Rattle.std.specs.List.{find}
 use Rattle.std.specs.Str.{bytes_eq}
@@ -41,7 +41,7 @@ found word (j ∷ ks) k e =
 pub named_is : (word : List ℕ) (k : Operation) → operation_named word ≡ Some k → word ≡ word_of k
 named_is word k e = sym ((bytes_eq-Decides (word_of k) word).0 (found word (op.Concat ∷ op.Extract ∷ op.Delete ∷ op.Insert ∷ op.Copy ∷ []) k e))
 
--- a document, or an operation with its parts
+-- a document, or an operation with its operands
 pub data Front (depth : ℕ) (others : List (List ℕ)) (text : List ℕ) : Type 0 where
   document : (name rest : List ℕ) → is_name name ≡ true → trimmed text ≡ name ++ rest → AreTokens others rest → Front depth others text
   operation : (k : Operation) (a b : List ℕ) → trimmed text ≡ word_of k ++ a → trimmed a ≡ 40 ∷ b → 1 ≤ depth → IsInside k (depth - 1) (codes ")" ∷ others) b → Front depth others text
@@ -59,7 +59,7 @@ front_of (Insert' p l q r k) depth others text fits (a, word, (b, sign, t)) =
 front_of (Copy' p of i j k) depth others text fits (a, word, (b, sign, t)) =
     operation op.Copy a b word sign (omega (arith, fits.1)) (of, i, j, k, (fits.0.0, omega (arith, fits.1)), fits.0.1, fits.0.2, fits.0.3, t)
 
--- the longest word at the front is `word`, and `rest` is behind it
+-- the longest word at the start is `word`, and `rest` comes after it
 module _ (e : Expr) (depth : ℕ) (others : List (List ℕ)) (text word rest : List ℕ) (fits : Fits depth e) (closing : IsClosing others) (written : AreTokens (tokens e others) text)
     (cut : trimmed text ≡ word ++ rest) (letters : AreLetters word) (end : IsWordEnd rest) where
   same_name : (name a : List ℕ) → is_name name ≡ true → trimmed text ≡ name ++ a → AreTokens others a → (word ≡ name) × (rest ≡ a)
@@ -68,7 +68,7 @@ module _ (e : Expr) (depth : ℕ) (others : List (List ℕ)) (text word rest : L
   same_call : (k : Operation) (a b : List ℕ) → trimmed text ≡ word_of k ++ a → trimmed a ≡ 40 ∷ b → (word ≡ word_of k) × (rest ≡ a)
   same_call k a b is sign = word_same word (word_of k) rest a letters (word_letters k) end (sign_end 40 a b refl sign) (sym cut ∙ is)
 
-  -- where no bracket opens behind the word, it is a document
+  -- if no bracket opens after the word, it is a document
   pub document_there : ((r : List ℕ) → trimmed rest ≡ 40 ∷ r → ⊥) → (is_name word ≡ true) × AreTokens others rest
   document_there shut = by (front_of e depth others text fits written)
     where
@@ -76,7 +76,7 @@ module _ (e : Expr) (depth : ℕ) (others : List (List ℕ)) (text word rest : L
       by (document name a h is t) = let same = same_name name a h is t in (ap is_name same.0 ∙ h, subst (AreTokens others) (sym same.1) t)
       by (operation k a b is sign some inside) = absurd (shut b (ap trimmed (same_call k a b is sign).1 ∙ sign))
 
-  -- where one opens, it is an operation
+  -- if one opens, it is an operation
   pub operation_there : (behind : List ℕ) → trimmed rest ≡ 40 ∷ behind → (k : Operation) × (operation_named word ≡ Some k) × (1 ≤ depth) × IsInside k (depth - 1) (codes ")" ∷ others) behind
   operation_there behind opened = by (front_of e depth others text fits written)
     where
@@ -87,7 +87,7 @@ module _ (e : Expr) (depth : ℕ) (others : List (List ℕ)) (text word rest : L
           let at : b ≡ behind = tails 40 40 b behind (sym sign ∙ (ap trimmed (sym same.1) ∙ opened)) in
           (k, ap operation_named same.0 ∙ named_itself k, some, subst (IsInside k (depth - 1) (codes ")" ∷ others)) at inside)
 
--- the operation that the word names is that of the expression
+-- the operation with this keyword is that of the expression
 pub inside_of : (depth : ℕ) (others : List (List ℕ)) (word behind : List ℕ) (j : Operation) → Some j ≡ operation_named word
     → (k : Operation) × (operation_named word ≡ Some k) × (1 ≤ depth) × IsInside k (depth - 1) (codes ")" ∷ others) behind → IsInside j (depth - 1) (codes ")" ∷ others) behind
 inside_of depth others word behind j is (k, named, some, inside) =

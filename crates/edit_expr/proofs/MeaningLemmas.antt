@@ -1,4 +1,4 @@
--- A text writes one expression at most.
+-- A text is the notation of at most one expression.
 use Rattle.std.proofs.Common.{◌≡◌, ℕ, ◌+◌, ◌<◌, ◌^◌, max, List, [], ◌∷◌, ◌++◌, Option, Some, None, refl, sym, ap, subst, ◌∙◌, inl, inr, codes}
 use Rattle.std.specs.Fmt.{decimal}
 use Rattle.std.proofs.lemmas.Fmt.{decimal_injective}
@@ -26,7 +26,7 @@ abbrev IsKind : List ℕ → List ℕ → Option Operation → Type 0
 IsKind word rest None = (r : List ℕ) → trimmed rest ≡ 40 ∷ r → ⊥
 IsKind word rest (Some k) = (word ≡ word_of k) × (b : List ℕ) × (trimmed rest ≡ 40 ∷ b)
 
--- the word at the front of a text, which is that of an operation exactly where a bracket opens behind it
+-- the first word of a text, which is the keyword of an operation exactly if a bracket opens after it
 record Start (k : Option Operation) (text : List ℕ) : Type 0 where
   word : List ℕ
   rest : List ℕ
@@ -59,7 +59,7 @@ same_kind k j text x y = by k j x.is y.is
     by (Some k) None a b = absurd (b a.1 (ap trimmed (sym same.1) ∙ a.2))
     by (Some k) (Some j) a b = sym (named_itself k) ∙ (ap operation_named (sym a.0 ∙ (same.0 ∙ b.0)) ∙ named_itself j)
 
--- one text that both lists of tokens write
+-- one text that is both lists of tokens
 abbrev Both : List (List ℕ) → List (List ℕ) → Type 0
 Both o o2 = (rest : List ℕ) × AreTokens o rest × AreTokens o2 rest
 
@@ -80,14 +80,14 @@ after_number n m o o2 text hn hm c c2 x y = by (after_sign 44 (decimal n ∷ o) 
         let same = word_same (decimal n) (decimal m) a b (decimal_letters n hn) (decimal_letters m hm) (closing_end o a c t) (closing_end o2 b c2 u) (sym w ∙ v) in
         (decimal_injective n m hn hm same.0, (a, t, subst (AreTokens o2) (sym same.1) u))
 
--- one meaning, and one text behind both
+-- one meaning, and one text after both
 record Same (e f : Expr) (o o2 : List (List ℕ)) : Type 0 where
   meaning : HaveOneMeaning e f
   rest : List ℕ
   left : AreTokens o rest
   right : AreTokens o2 rest
 
--- what stands between the brackets of two expressions that a text writes
+-- what is between the brackets of two expressions that one text is the notation of
 abbrev inside : Expr → List (List ℕ) → List (List ℕ)
 inside (Doc name) o = o
 inside (Concat' p l q r) o = tokens l (codes "," ∷ tokens r (codes ")" ∷ o))

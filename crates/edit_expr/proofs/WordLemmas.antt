@@ -1,4 +1,4 @@
--- One text has one word at its front, and what may follow an expression ends a word.
+-- A text has exactly one first word, and what may follow an expression ends a word.
 use Rattle.std.proofs.Common.{◌≡◌, inl, inr, ℕ, suc, ◌<◌, ◌^◌, ◌==◌, ◌&&◌, ◌||◌, Bool, true, false, nat_le, List, [], ◌∷◌, ◌++◌, refl, sym, ap, subst, ◌∙◌, arith, slice_get}
 use Rattle.std.specs.Prelude.{All, if◌then◌else◌, length}
 use Rattle.std.specs.List.{list_all}
@@ -32,7 +32,7 @@ heads a b xs ys e = cc
 pub tails : (a b : ℕ) (xs ys : List ℕ) → a ∷ xs ≡ b ∷ ys → xs ≡ ys
 tails a b xs ys e = cc
 
--- bytes of a word alone
+-- only bytes of a word
 abbrev pub AreLetters : List ℕ → Type 0
 AreLetters w = list_all is_later_byte w ≡ true
 
@@ -64,7 +64,7 @@ decimal_letters n h = digits_letters (decimal n) (decimal_is_IsNumeral n h).0.1
 ends : (b : ℕ) (x xs : List ℕ) → IsWordEnd x → x ≡ b ∷ xs → is_later_byte b ≡ true → ⊥
 ends b x xs end e later = let is : is_later_byte b ≡ false = subst IsWordEnd e end in let bad : ⊥ = cc (is, later) in bad
 
--- two words at the front of one text
+-- two first words of one text
 pub word_same : (w v x y : List ℕ) → AreLetters w → AreLetters v → IsWordEnd x → IsWordEnd y → w ++ x ≡ v ++ y → (w ≡ v) × (x ≡ y)
 word_same [] [] x y hw hv ex ey e = (refl, e)
 word_same [] (b ∷ v) x y hw hv ex ey e = absurd (ends b x (v ++ y) ex e (both (is_later_byte b) (list_all is_later_byte v) hv).0)
@@ -83,7 +83,7 @@ spaced_end (b ∷ bs) h = by (b == 32) refl h
     by true e h = let is : b ≡ 32 = (Decides-eqb b 32).0 e in ap is_later_byte is
     by false e h = h
 
--- a sign ends a word, also behind spaces
+-- a sign ends a word, also after spaces
 pub sign_end : (s : ℕ) (text rest : List ℕ) → is_later_byte s ≡ false → trimmed text ≡ s ∷ rest → IsWordEnd text
 sign_end s text rest h e = spaced_end text (subst IsWordEnd (sym e) h)
 

@@ -1,4 +1,4 @@
--- How many pair calls an expression costs at most.
+-- The maximum number of node constructions for an expression.
 use Rattle.std.specs.Prelude.{ℕ, ◌+◌, ◌*◌}
 use Rattle.span_types.specs.Fibonacci.{height_limit}
 use Rattle.edit_expr.specs.declared.expr.Expr.{Expr}

@@ -15,7 +15,7 @@ Document = List ℕ × List ℕ
 abbrev pub Outcome : Type 0
 Outcome = Result (List ℕ) EditRefusal
 
--- the value of the next step, where there is a text so far
+-- the value of the next step, if there is a text so far
 abbrev pub onward : Outcome → (List ℕ → Outcome) → Outcome
 onward (Ok text) next = next text
 onward (Err why) next = Err why
@@ -25,15 +25,15 @@ abbrev pub named : List Document → List ℕ → Outcome
 named [] name = Err (NoSuchDocument name)
 named (d ∷ ds) name = cond (is_same name d.0) (Ok d.1) (named ds name)
 
--- the text, which is to have at most 2^48 bytes
+-- the text, or a refusal if it has more than 2^48 bytes
 abbrev pub fitting : List ℕ → Outcome
 fitting text = cond (nat_le (length text) (2 ^ 48)) (Ok text) (Err (TooLong (length text)))
 
--- the outcome where this is a range of n bytes, and else the refusal
+-- the outcome if this is a range of n bytes, and otherwise the refusal
 abbrev pub ranged : ℕ → ℕ → ℕ → Outcome → Outcome
 ranged i j n next = cond (is_range i j n) next (Err (OutOfRange i j n))
 
--- the second text behind the first
+-- the first text followed by the second
 abbrev pub joined : List ℕ → List ℕ → Outcome
 joined d e = fitting (d ++ e)
 
@@ -49,7 +49,7 @@ deleted d i j = ranged i j (length d) (Ok (take (i - 1) d ++ drop (j - 1) d))
 abbrev pub inserted : List ℕ → List ℕ → ℕ → Outcome
 inserted d e k = ranged k k (length d) (fitting (take (k - 1) d ++ (e ++ drop (k - 1) d)))
 
--- bytes i to j-1 of d once more, before byte k of d
+-- d with a copy of its bytes i to j-1 inserted before byte k
 abbrev pub copied : List ℕ → ℕ → ℕ → ℕ → Outcome
 copied d i j k = onward (extracted d i j) (λ e. inserted d e k)
 
@@ -67,7 +67,7 @@ abbrev pub size : Outcome → ℕ
 size (Ok text) = length text
 size (Err why) = 0
 
--- n where there is a text so far, and else 0
+-- n if there is a text so far, and otherwise 0
 abbrev pub reached : Outcome → ℕ → ℕ
 reached (Ok text) n = n
 reached (Err why) n = 0
@@ -81,7 +81,7 @@ greatest docs (Delete' p of i j) = max (greatest docs of) (size (eval docs (Dele
 greatest docs (Insert' p l q r k) = max (greatest docs l) (reached (eval docs l) (max (greatest docs r) (size (eval docs (Insert' p l q r k)))))
 greatest docs (Copy' p of i j k) = max (greatest docs of) (size (eval docs (Copy' p of i j k)))
 
--- how many operations there are
+-- the number of operations
 abbrev pub operations : Expr → ℕ
 operations (Doc name) = 0
 operations (Concat' p l q r) = operations l + operations r + 1

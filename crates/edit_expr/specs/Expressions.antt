@@ -1,16 +1,16 @@
--- How editing expressions are written.
+-- The syntax of editing expressions.
 use Rattle.std.specs.Prelude.{◌≡◌, ℕ, ◌≤◌, ◌<◌, ◌+◌, ◌^◌, ◌==◌, max, true, List, [], ◌∷◌, ◌++◌, codes, if◌then◌else◌}
 use Rattle.std.specs.Fmt.{decimal}
 use Rattle.span_types.specs.Names.{is_name}
 use Rattle.edit_expr.specs.declared.expr.Expr.{Expr}
 use Rattle.edit_expr.specs.declared.expr.Expr.TheVariants.{Doc, Concat', Extract', Delete', Insert', Copy'}
 
--- the text without the spaces at its front
+-- the text without its leading spaces
 abbrev pub trimmed : List ℕ → List ℕ
 trimmed [] = []
 trimmed (b ∷ bs) = if b == 32 then trimmed bs else b ∷ bs
 
--- the text is these tokens in their order, with any number of spaces before each and behind the last
+-- the text is these tokens in their order, with any number of spaces before each and after the last
 abbrev pub AreTokens : List (List ℕ) → List ℕ → Type 0
 AreTokens [] text = trimmed text ≡ []
 AreTokens (token ∷ tokens) text = (rest : List ℕ) × (trimmed text ≡ token ++ rest) × AreTokens tokens rest
@@ -42,7 +42,7 @@ nesting (Delete' p of i j) = nesting of + 1
 nesting (Insert' p l q r k) = max (nesting l) (nesting r) + 1
 nesting (Copy' p of i j k) = nesting of + 1
 
--- the text writes the expression
+-- the text is the notation of the expression
 pub record ExprReads (text : List ℕ) (expr : Expr) : Type 0 where
   pub writable : IsWritable expr
   pub written : AreTokens (tokens expr []) text

@@ -1,17 +1,17 @@
--- What holds of the definitions.
+-- Theorems about the definitions.
 use Rattle.std.specs.Prelude.{◌≡◌, ℕ, List, [], codes, Ok, Err}
 use Rattle.edit_expr.specs.declared.expr.Expr.{Expr}
 use Rattle.edit_expr.specs.declared.refusal.EditRefusal.TheVariants.{OutOfRange}
 use Rattle.edit_expr.specs.Eval.{Document, copied, deleted, eval, extracted, greatest, inserted, operations}
 use Rattle.edit_expr.specs.Expressions.{ExprReads}
 
--- two expressions that only differ in where their parts are kept in memory
+-- two expressions that are equal except for the memory addresses of their parts
 pub record HaveOneMeaning (e f : Expr) : Type 0 where
   pub values : (docs : List Document) → eval docs e ≡ eval docs f
   pub sizes : (docs : List Document) → greatest docs e ≡ greatest docs f
   pub counts : operations e ≡ operations f
 
--- a text writes one expression at most
+-- a text is the notation of at most one expression
 abbrev pub OneExpression : Type 0
 OneExpression = (text : List ℕ) (e f : Expr) → ExprReads text e → ExprReads text f → HaveOneMeaning e f
 

@@ -1,4 +1,4 @@
--- What the reader of expressions knows at the front of a text.
+-- The parser's statements about the start of a text.
 use Rattle.std.specs.Prelude.{◌≡◌, ◌⊎◌, ℕ, ◌≤◌, ◌<◌, ◌^◌, false, List, [], ◌∷◌, codes, slice_get, Option}
 use Rattle.std.specs.List.{find}
 use Rattle.std.specs.Str.{bytes_eq}
@@ -10,7 +10,7 @@ use Rattle.edit_expr.specs.declared.operation.Operation.{Operation}
 use Rattle.edit_expr.specs.declared.operation.Operation.TheVariants.{Concat, Extract, Delete, Insert, Copy}
 use Rattle.edit_expr.specs.Expressions.{AreTokens, IsWritable, nesting, tokens}
 
--- the word of an operation
+-- the keyword of an operation
 abbrev pub word_of : Operation → List ℕ
 word_of Concat = codes "concat"
 word_of Extract = codes "extract"
@@ -18,15 +18,15 @@ word_of Delete = codes "delete"
 word_of Insert = codes "insert"
 word_of Copy = codes "copy"
 
--- the operation with this word
+-- the operation with this keyword
 abbrev pub operation_named : List ℕ → Option Operation
 operation_named word = find (λ o. bytes_eq (word_of o) word) (Concat ∷ Extract ∷ Delete ∷ Insert ∷ Copy ∷ [])
 
--- the text goes on with no byte of a word
+-- the text does not continue with a byte of a word
 abbrev pub IsWordEnd : List ℕ → Type 0
 IsWordEnd text = option_map_or is_later_byte (slice_get text 0) false ≡ false
 
--- before `rest` the text is tokens, which are what `front` puts before others
+-- the text is tokens followed by `rest`; `front` prepends these tokens to others
 abbrev pub Begins : (List (List ℕ) → List (List ℕ)) → List ℕ → List ℕ → Type 0
 Begins front text rest = (others : List (List ℕ)) → AreTokens others rest → AreTokens (front others) text
 
@@ -35,15 +35,15 @@ abbrev pub IsClosing : List (List ℕ) → Type 0
 IsClosing [] = Unit {0}
 IsClosing (token ∷ tokens) = (token ≡ codes ",") ⊎ (token ≡ codes ")")
 
--- an expression that can be written with at most this nesting
+-- an expression that can be written, nested at most this deep
 abbrev pub Fits : ℕ → Expr → Type 0
 Fits depth e = IsWritable e × (nesting e ≤ depth)
 
--- in the text the word of the operation and `(` stand before `inside`
+-- the text is the keyword of the operation, `(` and then `inside`
 abbrev pub Opens : Operation → List ℕ → List ℕ → Type 0
 Opens operation text inside = Begins (λ others. word_of operation ∷ codes "(" ∷ others) text inside
 
--- the text is the parts of the operation, each of at most this nesting and with `,` between each two, and others
+-- the text is the operands of the operation, each nested at most this deep and separated by `,`, and then others
 abbrev pub IsInside : Operation → ℕ → List (List ℕ) → List ℕ → Type 0
 IsInside Concat depth others text = (l : Expr) × (r : Expr) × Fits depth l × Fits depth r
     × AreTokens (tokens l (codes "," ∷ tokens r others)) text

@@ -1,4 +1,4 @@
--- Roots in a store that stand for texts.
+-- Roots in a store, and the texts that they derive.
 use Rattle.std.specs.Prelude.{◌≡◌, ◌⊎◌, ℕ, List, [], ◌∷◌, map, Option, Result, Ok, Err}
 use Rattle.slp_model.specs.declared.NodeId.{NodeId}
 use Rattle.slp_model.specs.declared.Node.{Node}
@@ -22,7 +22,7 @@ abbrev pub AreLive : List Node → List Doc → Type 0
 AreLive ns [] = Unit {0}
 AreLive ns (d ∷ ds) = IsLive ns d.root × AreLive ns ds
 
--- the answer is a live root of the outcome's text, the outcome's refusal, or want of memory
+-- the answer is a live root of the outcome's text, the outcome's refusal, or allocation failure
 abbrev pub IsValue : List Node → Result (Option NodeId) EditRefusal → Outcome → Type 0
 IsValue ns (Ok root) outcome = IsLive ns root × (outcome ≡ Ok (text_at ns root))
 IsValue ns (Err why) outcome = (why ≡ NoMemory) ⊎ (outcome ≡ Err why)

@@ -1,4 +1,4 @@
-//! The operations on roots.
+//! The editing operations, on roots in a store.
 ghost use Rattle.std.specs.Prelude.{◌≡◌, ◌≤◌, ◌+◌, ◌*◌, ◌^◌, ℕ, length};
 ghost use Rattle.slp_model.specs.Tree.{root_height};
 ghost use Rattle.slp_model.specs.Nodes.{root_tree, Grows, IsLive};
@@ -15,10 +15,10 @@ use slp_split::{extract, split};
 use span_types::Steps;
 use std::sync::ledger::Ledger;
 
-/// The most bytes that a text has.
+/// The maximum length of a text, in bytes.
 const LONGEST: u64 = 1 << 48;
 
-/// The length of a root's text.
+/// The length of a root's text, in bytes, at most 2^48.
 pub(crate) fn root_len(store: &Store, root: Option<NodeId>) -> u64
     requires { IsLive store.now root }
     ensures len { result ≡ length (text_at store.now root) }
@@ -39,7 +39,7 @@ pub(crate) fn is_within(first: u64, last: u64, len: u64) -> bool
     1 <= first && first <= last && last <= len + 1
 }
 
-/// The second text behind the first. It is refused exactly where it is too long.
+/// The first text followed by the second. Returns `TooLong` exactly if the result would have more than 2^48 bytes.
 pub(crate) fn join<L: Ledger>(
     store: &mut Store,
     left: Option<NodeId>,
@@ -62,7 +62,7 @@ pub(crate) fn join<L: Ledger>(
     Ok(root)
 }
 
-/// Bytes `i` to `j - 1`. It is refused exactly where this is no range.
+/// Bytes `i` to `j - 1`. Returns `OutOfRange` exactly if this is not a range of the text.
 pub(crate) fn cut_out<L: Ledger>(
     store: &mut Store,
     root: Option<NodeId>,
@@ -87,7 +87,7 @@ pub(crate) fn cut_out<L: Ledger>(
     Ok(part)
 }
 
-/// The text without bytes `i` to `j - 1`. It is refused exactly where this is no range.
+/// The text without bytes `i` to `j - 1`. Returns `OutOfRange` exactly if this is not a range of the text.
 pub(crate) fn delete<L: Ledger>(
     store: &mut Store,
     root: Option<NodeId>,
@@ -114,8 +114,8 @@ pub(crate) fn delete<L: Ledger>(
     Ok(whole)
 }
 
-/// The first `k - 1` bytes, then the part, then the rest. It is refused where `k` is no place of
-/// the text, and else where it is too long.
+/// The first `k - 1` bytes, then the part, then the rest. Returns `OutOfRange` if `k` is not a position of the text,
+/// and otherwise `TooLong` if the result would have more than 2^48 bytes.
 pub(crate) fn insert<L: Ledger>(
     store: &mut Store,
     root: Option<NodeId>,
@@ -148,7 +148,8 @@ pub(crate) fn insert<L: Ledger>(
     Ok(whole)
 }
 
-/// The text with bytes `i` to `j - 1` once more, before byte `k`.
+/// The text with a copy of bytes `i` to `j - 1` inserted before byte `k`. Checks the range first, then the position,
+/// then the length.
 pub(crate) fn copy<L: Ledger>(
     store: &mut Store,
     root: Option<NodeId>,

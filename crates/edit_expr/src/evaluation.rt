@@ -1,4 +1,4 @@
-//! The values of expressions.
+//! The evaluation of expressions.
 ghost use Rattle.std.specs.Prelude.{◌≡◌, ◌≤◌, ◌+◌, ◌*◌, ℕ};
 ghost use Rattle.slp_model.specs.Nodes.{Grows};
 ghost use Rattle.span_types.specs.Fibonacci.{height_limit};
@@ -16,24 +16,25 @@ use span_types::{Name, Steps};
 use std::alloc::Global;
 use std::sync::ledger::Ledger;
 
-/// The root of the value of an expression, in which a name stands for its document's text.
+/// Evaluates an expression, and returns the root of its value. A name stands for the text of the document with this
+/// name.
 ///
-/// Parts are evaluated from left to right and inner ones first, and the first refusal is the answer.
+/// Operands are evaluated from left to right, and before their operation. The first error ends the evaluation.
 ///
-/// At most 48·m·(H(N) + 1) pairs are made for m operations. N is the greatest length of a value that is met, operands
-/// and results included, and H(N) is the greatest height of a balanced tree of N bytes. Memory is taken for new nodes
-/// alone, and the recursion is as deep as the expression is nested.
+/// An expression of m operations takes at most 48·m·(H(N) + 1) node constructions. N is the length of the longest value
+/// that the evaluation meets, operands and results included. H(N) is the greatest height of a balanced tree of N bytes.
+/// Memory is allocated for new nodes only, and the recursion is as deep as the nesting of the expression.
 ///
 /// # Errors
 ///
-/// The first of these that is met, after which the store may have more nodes:
+/// The first of these that the evaluation meets. The store may then have more nodes.
 ///
-/// - `NoSuchDocument` where no document has a name of the expression;
-/// - `OutOfRange` where a range or a place isn't in its text: not 1 ≤ I ≤ J ≤ n + 1, or not 1 ≤ K ≤ n + 1, told as a
-///   range from K to K. `copy` looks at its range before its place;
-/// - `TooLong` with the length where a concatenation, an insertion or a copy would have more than 2^48 bytes, behind
-///   the ranges of the same operation;
-/// - `NoMemory` where memory for a node or a name wasn't found.
+/// - `NoSuchDocument` if no document has a name that the expression uses.
+/// - `OutOfRange` if a range or a position isn't in its text of n bytes: not 1 ≤ I ≤ J ≤ n + 1, or not 1 ≤ K ≤ n + 1.
+///   The error for a position K has the range from K to K. `copy` checks its range before its position.
+/// - `TooLong` with the length if a concatenation, an insertion or a copy would have more than 2^48 bytes. An operation
+///   checks its ranges and positions first.
+/// - `NoMemory` if allocation fails.
 pub fn eval<L: Ledger>(
     alloc: Global,
     expr: &Expr,
@@ -49,7 +50,7 @@ pub fn eval<L: Ledger>(
     value(alloc, expr, docs, store, pairs)
 }
 
-// The same, with a cost that adds up over the parts.
+// Evaluates an expression. The bound on its cost is the sum of the bounds of its operations.
 fn value<L: Ledger>(
     alloc: Global,
     expr: &Expr,

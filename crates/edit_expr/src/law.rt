@@ -1,12 +1,12 @@
-//! Laws of the definitions, each as the contract of a function that does nothing.
+//! Theorems about the definitions, each as the contract of a function that does nothing.
 ghost use Rattle.edit_expr.specs.Laws.{EditRows, OneExpression};
 
-/// A text writes one expression at most, so its value is the text's.
+/// A text is the notation of at most one expression, so its value is determined by the text.
 pub fn one_expression()
     ensures { OneExpression }
 {}
 
-/// The operations at some texts and places.
+/// The values of the operations for some texts and positions.
 pub fn edit_rows()
     ensures { EditRows }
 {}

@@ -1,15 +1,17 @@
-//! Editing expressions over documents: how they are written, and their values as roots in a store.
+//! Editing expressions over documents: their syntax, and their evaluation to roots in a node store.
 //!
 //! ```text
 //! let expr = read(alloc, b"insert(delete(a,2,5),b,1)")?;   // Syntax where the text is no expression
 //! let root = eval(alloc, &expr, &docs, &mut store, &mut pairs)?;
 //! ```
 //!
-//! Where `a` is `abracadabra` and `b` is `X`, the value is `Xacadabra`: bytes 2 to 4 go, and then `X` is put in at
-//! place 1. No text is expanded: an operation is a few cuts and joins of trees, so an edit of a text of n bytes makes
-//! pairs by the height of its tree and not by n, and what is unchanged stays shared. For m operations on texts of at
-//! most N bytes that are at most 48·m·(H(N)+1) pair calls, with H(N) the greatest height of a tree of N bytes. `read`
-//! is linear in the text.
+//! If `a` is `abracadabra` and `b` is `X`, the value is `Xacadabra`: bytes 2 to 4 are deleted, and then `X` is inserted
+//! at position 1.
+//!
+//! No text is decompressed. An operation splits and joins a few trees, so an edit of a text of n bytes takes O(log n)
+//! node constructions, and the unchanged parts stay shared. An expression of m operations on texts of at most N bytes
+//! takes at most 48·m·(H(N)+1) node constructions, where H(N) is the greatest height of a balanced tree of N bytes.
+//! `read` takes time linear in the text.
 //!
 //! The operations are those of complex document editing: M. L. Schmid and N. Schweikardt, *Query Evaluation over
 //! SLP-Represented Document Databases with Complex Document Editing*, PODS 2022.

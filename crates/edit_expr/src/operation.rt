@@ -1,9 +1,9 @@
-//! The words of the operations.
+//! The keywords of the operations.
 ghost use Rattle.std.specs.Prelude.{◌≡◌};
 ghost use Rattle.std.specs.Str.{bytes_eq};
 ghost use Rattle.edit_expr.specs.Operations.{operation_named, word_of as text_of};
 
-/// An operation on texts.
+/// An editing operation on texts.
 #[derive(Clone, Copy, Debug, PartialEq, Eq)]
 pub(crate) enum Operation {
     Concat,
@@ -39,7 +39,7 @@ fn is_spelled(operation: Operation, word: &[u8]) -> bool
     word_of(operation) == word
 }
 
-/// The operation with this word.
+/// The operation with this keyword.
 pub(crate) fn operation_of(word: &[u8]) -> Option<Operation>
     ensures { result ≡ operation_named word.now }
 {

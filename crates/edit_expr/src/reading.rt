@@ -1,4 +1,4 @@
-//! Expressions, read from the front of a text.
+//! The parser of editing expressions.
 ghost use Rattle.std.specs.Prelude.{◌≡◌, ◌⊎◌, ◌<◌, ◌≤◌, ◌+◌, ◌^◌, ◌∷◌, ◌++◌, List, ℕ, IfOk, IfErr, MatchResult, codes, true, false};
 ghost use Rattle.std.specs.Fmt.{decimal};
 ghost use Rattle.span_types.specs.Names.{is_name};
@@ -13,41 +13,40 @@ use span_types::{Name, NameRefusal};
 use std::alloc::Global;
 use thiserror::Error;
 
-/// The greatest nesting of an expression.
+/// The maximum nesting depth of an expression.
 const MAX_NESTING: u8 = 64;
 
-/// Why a text gives no expression.
+/// Why a text is not parsed as an expression.
 #[derive(Clone, Copy, Debug, PartialEq, Eq, Error)]
 pub enum ExprRefusal {
-    /// The text writes no expression, or one of nesting over 64.
+    /// The text is no expression, or one nested more than 64 deep.
     #[error("not an editing expression")]
     Syntax,
-    /// No memory was found.
+    /// Allocation failed.
     #[error("no memory")]
     NoMemory,
 }
 
-// What stands at the front of a text, and the text behind it.
+// A parsed prefix of a text, and the rest of the text.
 #[derive(Drop)]
 struct Front<'a> {
     expr: Expr,
     rest: &'a [u8],
 }
 
-/// The expression that a text writes, which is at most one.
+/// Parses an editing expression.
 ///
-/// It is a name, or `concat(E,E)`, `extract(E,I,J)`, `delete(E,I,J)`, `insert(E,E,K)` or
-/// `copy(E,I,J,K)` with expressions E and numbers below 2^64, nested at most 64 deep. Any number of
-/// spaces may stand before and behind each word, number and sign. A name that `(` does not follow
-/// is a document, also where it is the word of an operation.
+/// An expression is a name, or `concat(E,E)`, `extract(E,I,J)`, `delete(E,I,J)`, `insert(E,E,K)` or `copy(E,I,J,K)`,
+/// where each E is an expression and I, J and K are numbers below 2^64. It is nested at most 64 deep. Any number of
+/// spaces may come before and after each word, number and sign. A name that is not followed by `(` is a document, even
+/// if it is the keyword of an operation.
 ///
-/// It takes time linear in the text, memory for the expression alone, and a recursion as deep as
-/// the nesting.
+/// Takes time linear in the text, allocates memory for the expression only, and recurses as deep as the nesting.
 ///
 /// # Errors
 ///
-/// - `Syntax` exactly where no expression nested at most 64 deep is written so.
-/// - `NoMemory` where memory for the expression wasn't found.
+/// - `Syntax` exactly if the text is not an expression nested at most 64 deep.
+/// - `NoMemory` if allocation fails.
 pub fn read(alloc: Global, text: &[u8]) -> Result<Expr, ExprRefusal>
     ensures ok { IfOk result (λ expr. ExprReads text.now expr) }
     ensures syntax { IfErr result (λ why. why ≡ ExprRefusal.Syntax → (expr : Expr) → ExprReads text.now expr → ⊥) }
@@ -59,7 +58,7 @@ pub fn read(alloc: Global, text: &[u8]) -> Result<Expr, ExprRefusal>
     Ok(front.expr)
 }
 
-// An expression of at most this nesting.
+// Parses an expression nested at most `depth` deep.
 #[cycle(exprs)]
 fn expression(alloc: Global, text: &[u8], depth: u8) -> Result<Front<'_>, ExprRefusal>
     ensures ok { IfOk result (λ front. Fits depth front.expr × Begins (tokens front.expr) text.now front.rest.now) }
@@ -99,7 +98,7 @@ fn document(alloc: Global, word: &[u8]) -> Result<Expr, ExprRefusal>
     }
 }
 
-// The operation whose parts, of at most this nesting, are what stands between `(` and `)`.
+// Parses the operands of an operation, between `(` and `)`, each nested at most `depth` deep.
 #[cycle(exprs)]
 fn arguments(
     alloc: Global,
@@ -148,7 +147,7 @@ fn arguments(
     }
 }
 
-// Two expressions with a comma between them.
+// Parses two expressions with a comma between them.
 #[cycle(exprs)]
 fn two(alloc: Global, text: &[u8], depth: u8) -> Result<(Box<Expr>, Box<Expr>, &[u8]), ExprRefusal>
     ensures ok { IfOk result (λ p. Fits depth p.0.value × Fits depth p.1.value
@@ -169,7 +168,7 @@ fn two(alloc: Global, text: &[u8], depth: u8) -> Result<(Box<Expr>, Box<Expr>, &
     ))
 }
 
-// An expression and two numbers, with commas between them.
+// Parses an expression and two numbers, with commas between them.
 #[cycle(exprs)]
 fn range(alloc: Global, text: &[u8], depth: u8) -> Result<(Box<Expr>, u64, u64, &[u8]), ExprRefusal>
     ensures ok { IfOk result (λ p. Fits depth p.0.value × (p.1 < 2 ^ 64) × (p.2 < 2 ^ 64)

@@ -4,20 +4,20 @@ ghost use Rattle.std.specs.Prelude.{◌≡◌};
 use span_types::{Name, NoMemory};
 use thiserror::Error;
 
-/// Why an expression has no value. Lengths and places are in bytes.
+/// Why the evaluation of an expression failed. Lengths and positions are in bytes.
 #[derive(Debug, PartialEq, Eq, Drop, Error)]
 pub enum EditRefusal {
     /// No document has the name.
     #[error("no document is named {name}")]
     NoSuchDocument { name: Name },
-    /// The places `first` and `last` are not in order, or not in a text of `len` bytes: it is not
-    /// so that 1 ≤ `first` ≤ `last` ≤ `len` + 1.
+    /// The range from `first` to `last` is not in a text of `len` bytes: it is not the case that 1 ≤ `first` ≤ `last` ≤
+    /// `len` + 1.
     #[error("the range {first} to {last} is not within {len} bytes")]
     OutOfRange { first: u64, last: u64, len: u64 },
-    /// The result would have `len` bytes, which is over 2^48.
+    /// The result would have `len` bytes, which is more than 2^48.
     #[error("a text of {len} bytes is too long")]
     TooLong { len: u64 },
-    /// No memory was found.
+    /// Allocation failed.
     #[error("no memory")]
     NoMemory,
 }

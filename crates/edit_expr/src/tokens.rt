@@ -1,4 +1,4 @@
-//! Tokens at the front of a text, behind spaces.
+//! Tokens at the start of a text, after spaces.
 ghost use Rattle.std.specs.Prelude.{◌≡◌, ◌<◌, ◌^◌, ◌∷◌, ◌++◌, All, List, ℕ, IfSome, MatchOption, codes, length, true};
 ghost use Rattle.std.specs.Fmt.{decimal};
 ghost use Rattle.span_types.specs.Names.{is_later_byte};
@@ -7,7 +7,7 @@ ghost use Rattle.edit_expr.specs.Operations.{Begins, IsClosing, IsWordEnd};
 
 use line_parts::number;
 
-/// The text without the spaces at its front.
+/// The text without its leading spaces.
 pub(crate) fn trim(text: &[u8]) -> &[u8]
     ensures { result.now ≡ trimmed text.now }
 {
@@ -18,7 +18,7 @@ pub(crate) fn trim(text: &[u8]) -> &[u8]
     left
 }
 
-/// What is behind the sign, if it is the next token.
+/// The text after the sign, if the sign is the next token.
 pub(crate) fn sign_at(text: &[u8], sign: u8) -> Option<&[u8]>
     ensures { MatchOption result ((rest : List ℕ) → trimmed text.now ≡ sign ∷ rest → ⊥) (λ rest. trimmed text.now ≡ sign ∷ rest.now) }
 {
@@ -29,14 +29,14 @@ pub(crate) fn sign_at(text: &[u8], sign: u8) -> Option<&[u8]>
     Some(rest)
 }
 
-// Whether the byte may stand in a word, behind its first byte.
+// Whether the byte may be in a word, after its first byte.
 fn is_in_word(b: u8) -> bool
     ensures { result ≡ is_later_byte b }
 {
     matches!(b, b'A'..=b'Z' | b'a'..=b'z' | b'_' | b'0'..=b'9' | b'.' | b'-')
 }
 
-/// The longest word that comes next, perhaps of no bytes, and what is behind it.
+/// The longest word that comes next, which may be empty, and the text after it.
 pub(crate) fn word_at(text: &[u8]) -> (&[u8], &[u8])
     ensures cut { trimmed text.now ≡ result.0.now ++ result.1.now }
     ensures letters { All (λ b. is_later_byte b ≡ true) result.0.now }
@@ -49,7 +49,7 @@ pub(crate) fn word_at(text: &[u8]) -> (&[u8], &[u8])
     }
 }
 
-/// The number behind a comma, if these tokens come next, and what is behind it.
+/// The number after a comma, if these tokens come next, and the text after it.
 pub(crate) fn number_at(text: &[u8]) -> Option<(u64, &[u8])>
     ensures number { IfSome result (λ p. (p.0 < 2 ^ 64) × Begins (λ others. codes "," ∷ decimal p.0 ∷ others) text.now p.1.now) }
     ensures exact { (n : ℕ) (others : List (List ℕ)) → n < 2 ^ 64 → IsClosing others

@@ -24,7 +24,7 @@ split-requires-clause-to g c =
       length-root_text (root_tree c.args.store.now c.args.root),
     )
 
--- the rest: the part and what is behind the place
+-- the rest: the part and what is after the position
 
 pub concat-requires-clause-short : goal.concat-requires-clause-short
 concat-requires-clause-short g c =
@@ -54,7 +54,7 @@ returns-in_err-rest-clause-cost g c n h m =
     (omega (arith, part, c.root_len-more.ensures.low n m)) (omega (arith, c.in_ok-front.ensures.high, low)) in
     omega (arith, c.split.ensures.cost, low, c.concat.ensures.cost, rest)
 
--- the whole: the front and the rest
+-- the whole: the prefix and the rest
 
 pub concat-requires-2-clause-short : goal.concat-requires-2-clause-short
 concat-requires-2-clause-short g c =

@@ -109,7 +109,7 @@ expression-returns-clause-ok t c =
           others (c.in-Some-sign_at.rest.now, c.in-Some-sign_at.ensures, w),
     )
 
--- the parts of `concat`, `extract` and `delete`
+-- the operands of `concat`, `extract` and `delete`
 
 opens_with : (k j : Operation) (whole text : List ℕ) → k ≡ j → Opens k whole text → Opens j whole text
 opens_with k j whole text is opens = subst (λ (o : Operation). Opens o whole text) is opens
@@ -141,7 +141,7 @@ arguments-returns-in_ok-from-in-Delete-clause-ok t c =
           (ok.3 (codes ")" ∷ others) w),
     )
 
--- the parts of `insert`
+-- the operands of `insert`
 
 pub arguments-returns-in_default-clause-exact : goal.arguments-returns-in_default-clause-exact
 arguments-returns-in_default-clause-exact t c = λ others closing inside.
@@ -166,7 +166,7 @@ arguments-returns-in-Some-clause-ok t c =
           (ok.2 parts (c.in-Some.ensures.number.1 (codes ")" ∷ others) w)),
     )
 
--- the parts of `copy`
+-- the operands of `copy`
 
 pub arguments-returns-in_default-number_at-clause-exact : goal.arguments-returns-in_default-number_at-clause-exact
 arguments-returns-in_default-number_at-clause-exact t c = λ others closing inside.

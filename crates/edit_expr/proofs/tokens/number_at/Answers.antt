@@ -5,7 +5,7 @@ use Rattle.edit_expr.specs.Operations.{IsClosing, IsWordEnd}
 use Rattle.edit_expr.proofs.WordLemmas.{AreLetters, closing_end, decimal_letters, letters_of, tails, word_same}
 use Rattle.edit_expr.proofs.tokens.number_at.Goals as goal
 
--- the word behind the comma is the number's
+-- the word after the comma is that of the number
 the_word : (n : ℕ) (others : List (List ℕ)) (text a b behind word rest : List ℕ) → n < 2 ^ 64 → IsClosing others
     → trimmed text ≡ 44 ∷ a → trimmed a ≡ decimal n ++ b → AreTokens others b
     → trimmed text ≡ 44 ∷ behind → trimmed behind ≡ word ++ rest → AreLetters word → IsWordEnd rest → (word ≡ decimal n) × (rest ≡ b)
