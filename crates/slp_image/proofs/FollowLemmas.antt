@@ -51,7 +51,7 @@ records-push : (ms : List Node) (n : Node) → records_bytes (ms ++ n ∷ []) �
 records-push [] n = append-nil (node_bytes n)
 records-push (m ∷ ms) n = ap (λ bs. node_bytes m ++ bs) (records-push ms n) ∙ sym (append_assoc (node_bytes m) (records_bytes ms) (node_bytes n))
 
--- one node on: it is kept, and its record is written
+-- one node further: it is kept, and its record is written
 pub records-kept : (ns : List Node) (ks : List Bool) (k : ℕ) (n : Node) (old mid new : List ℕ) → slice_get ns k ≡ Some n → Keeps ks k → mid ≡ old ++ records_bytes (thin_to ns ks k) → new ≡ mid ++ node_bytes (renumbered (rank ks) n) → new ≡ old ++ records_bytes (thin_to ns ks (k + 1))
 records-kept ns ks k n old mid new at keep before e =
     let m : Node = renumbered (rank ks) n in
@@ -60,6 +60,6 @@ records-kept ns ks k n old mid new at keep before e =
     let bytes : records_bytes (thin_to ns ks (k + 1)) ≡ records_bytes (thin_to ns ks k) ++ node_bytes m = ap records_bytes more ∙ records-push (thin_to ns ks k) m in
     e ∙ (ap (λ bs. bs ++ node_bytes m) before ∙ (append_assoc old (records_bytes (thin_to ns ks k)) (node_bytes m) ∙ ap (λ bs. old ++ bs) (sym bytes)))
 
--- or it isn't kept
+-- or it isn't kept, and nothing is written
 pub records-same : (ns : List Node) (ks : List Bool) (k : ℕ) (old new : List ℕ) → get_or ks k false ≡ false → new ≡ old ++ records_bytes (thin_to ns ks k) → new ≡ old ++ records_bytes (thin_to ns ks (k + 1))
 records-same ns ks k old new none before = before ∙ ap (λ ms. old ++ records_bytes ms) (kept-same ns ks k none)

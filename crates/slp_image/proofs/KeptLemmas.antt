@@ -31,7 +31,7 @@ live-at ns [] place d a h = cc
 live-at ns (x ∷ xs) zero d a h = let e : x ≡ d = cc in subst (λ (y : Doc). IsLive ns y.root) e a.0
 live-at ns (x ∷ xs) (suc place) d a h = live-at ns xs place d a.1 h
 
--- one document on
+-- one document further
 pub exactly-next : (ns : List Node) (old new : List Bool) (ds : List Doc) (k : ℕ) (d : Doc) → KeepsExactly ns old (roots (take k ds)) → slice_get ds k ≡ Some d → AddsExactly old new (RootReaches ns d.root) → KeepsExactly ns new (roots (take (k + 1) ds))
 exactly-next ns old new ds k d a at b =
     let one : suc k ≡ k + 1 = omega arith in
@@ -151,7 +151,7 @@ all-next f count ds apart named placed (suc k) le =
     subst (λ (xs : List Document). AllNext count [] xs) (sym more)
     (next-push count [] (saved f (take k ds)) (saved_doc f w.0) (all-next f count ds apart named placed k (omega (arith, le))) (named k w.0 w.1, new, placed k w.0 w.1))
 
--- what was written, as a whole
+-- everything that was written
 pub record IsWhole (ns : List Node) (ds : List Doc) (bytes : List ℕ) (nodes : ℕ) : Type 0 where
   pub records : List Node
   pub documents : List Document
@@ -199,7 +199,7 @@ whole-from ns ks ms ds nodes a b c d live names exact t sound apart count short 
     next = subst (λ (xs : List Document). AllNext (length ms) [] xs) all
         (all-next (rank ks) (length ms) ds names (λ i e at. s.named i e (slice_get_within ds i e at) at) (λ i e at. place-within ns ks ms t e.root (kept i e at)) (length ds) (omega arith))
 
--- and what is said of it
+-- and what holds of it
 pub whole-form : (ns : List Node) (ds : List Doc) (bytes : List ℕ) (nodes : ℕ) → IsWhole ns ds bytes nodes → SaveForm bytes
 whole-form ns ds bytes nodes w = subst SaveForm (sym w.bytes_are) (record {
   after = body_bytes w.records w.documents;

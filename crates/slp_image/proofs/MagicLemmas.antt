@@ -8,7 +8,7 @@ use Rattle.slp_image.specs.declared.refusal.ImageRefusal.TheVariants.{Cut, Magic
 use Rattle.slp_image.specs.Fields.{◌>>=◌, Field}
 use Rattle.slp_image.specs.Image.{image, image_of, is_magic, version_at, version_of}
 
--- what is read where the bytes are long enough or not, and begin so
+-- what is read, if the bytes are long enough or not, and begin so
 abbrev front_as : Bool → List ℕ → List ℕ → Field (List ℕ)
 front_as short magic rest = if short then Err Cut else Ok (magic, rest)
 

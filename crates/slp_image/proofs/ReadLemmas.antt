@@ -1,4 +1,4 @@
--- The whole of an image, from its parts.
+-- The meaning of a whole image, from its parts.
 use Rattle.std.proofs.Common.{◌≡◌, ◌≢◌, ℕ, ◌<◌, false, List, [], ◌∷◌, map, length, Option, Some, None, option_map, Result, Ok, Err, refl, ap, sym, ◌∙◌, arith, eqb, IfOk}
 use Rattle.std.proofs.lemmas.Bool.{ne_eqb}
 use Rattle.std.proofs.lemmas.List.{length-map}
@@ -35,7 +35,7 @@ live-filed ns ids h (f ∷ fs) (d ∷ ds) k = (live-root ns ids h f.root d.root 
 live-filed ns ids h [] (d ∷ ds) k = absurd k
 live-filed ns ids h (f ∷ fs) [] k = absurd k
 
--- and have the trees of the file
+-- and have the trees of the image
 tree-root : (ns records : List Node) (ids : List NodeId) → trees records ≡ entry_trees ns ids → (f : Option ℕ) (r : Option NodeId) → IsFiled ids f r → root_tree ns r ≡ option_map (λ i. tree records i) f
 tree-root ns records ids h None None k = refl
 tree-root ns records ids h (Some i) (Some id) k = ap Some (sym (tree-entry records (entry_trees ns ids) h i ∙ entry-at ns ids i id k))

@@ -1,4 +1,4 @@
--- The worked images compute.
+-- The meaning of the example images, by computation.
 use Rattle.std.proofs.Common.{◌≡◌, ◌+◌, ◌-◌, ◌^◌, [], ◌∷◌, ◌++◌, take, drop, slice_set, Err, refl}
 use Rattle.slp_image.specs.declared.refusal.ImageRefusal.TheVariants.{Magic, Version, Cut, Kind, Child, Balance, Length, Root, Name, RepeatName, Rest, Count}
 use Rattle.slp_model.specs.Nodes.{tree, trees}

@@ -13,12 +13,12 @@ use Rattle.slp_image.specs.Image.{Added, Outcome, records_onto}
 use Rattle.slp_image.specs.Documents.{Fails}
 use Rattle.slp_image.specs.Reads.{IsRecord, IsReading, AreRecords, cost_of}
 
--- where the first part fails, all fails
+-- if the first part fails, everything fails
 pub fails-bind : {A B : Type 0} (e : ImageRefusal) (read : Result A ImageRefusal) (f : A → Result B ImageRefusal) → Fails e read → Fails e (read >>= f)
 fails-bind NoMemory read f h = tt
 fails-bind e read f h = ap (λ r. r >>= f) h
 
--- a refusal of what is the same
+-- a refusal of an equal value
 pub fails-same : {A : Type 0} (e : ImageRefusal) (read other : Result A ImageRefusal) → read ≡ other → Fails e other → Fails e read
 fails-same {A} e read other s h = subst (λ (r : Result A ImageRefusal). Fails e r) (sym s) h
 
@@ -29,7 +29,7 @@ module _ {M : Type 0} (step : List M → List ℕ → Field (Added M)) where
   abbrev pub step_then : ℕ → List M → ℕ → Field (Added M) → Outcome (List M × List ℕ)
   step_then n ms cost read = elim read as (λ _. Outcome (List M × List ℕ)) [ Ok x ↦ records_onto step n (ms ++ x.0.entry ∷ []) (cost + x.0.cost) x.1 | Err why ↦ record { cost = cost; answer = Err why } ]
 
-  -- the cost only rises
+  -- the cost never decreases
   pub cost-rises : (n : ℕ) (ms : List M) (cost : ℕ) (bytes : List ℕ) → cost ≤ (records_onto step n ms cost bytes).cost
   cost-rises zero ms cost bytes = omega arith
   cost-rises (suc n) ms cost bytes = by (step ms bytes) (λ m c b. cost-rises n m c b)
@@ -38,11 +38,11 @@ module _ {M : Type 0} (step : List M → List ℕ → Field (Added M)) where
       by (Ok x) more = omega (arith, more (ms ++ x.0.entry ∷ []) (cost + x.0.cost) x.1)
       by (Err e) more = omega arith
 
-  -- one record on
+  -- one record further
   pub goes-on : (n : ℕ) (ms : List M) (cost : ℕ) (bytes rest : List ℕ) (x : Added M) → step ms bytes ≡ Ok (x, rest) → records_onto step (suc n) ms cost bytes ≡ records_onto step n (ms ++ x.entry ∷ []) (cost + x.cost) rest
   goes-on n ms cost bytes rest x h = ap (λ read. step_then n ms cost read) h
 
-  -- a record costs no more than all
+  -- a record costs at most as much as all
   pub step-cost : (n : ℕ) (ms : List M) (cost : ℕ) (bytes : List ℕ) → cost + cost_of (step ms bytes) ≤ (records_onto step (suc n) ms cost bytes).cost
   step-cost n ms cost bytes = by (step ms bytes)
     where
@@ -50,7 +50,7 @@ module _ {M : Type 0} (step : List M → List ℕ → Field (Added M)) where
       by (Ok x) = cost-rises n (ms ++ x.0.entry ∷ []) (cost + x.0.cost) x.1
       by (Err e) = omega arith
 
-  -- where a record fails, all fails
+  -- if a record fails, everything fails
   pub ends : (e : ImageRefusal) (n : ℕ) (ms : List M) (cost : ℕ) (bytes : List ℕ) → Fails e (step ms bytes) → Fails e (records_onto step (suc n) ms cost bytes).answer
   ends NoMemory n ms cost bytes h = tt
   ends e n ms cost bytes h = ap (λ read. (step_then n ms cost read).answer) h

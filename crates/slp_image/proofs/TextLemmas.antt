@@ -22,7 +22,7 @@ length-texts ts store ids h =
     let a : length (map text (entry_trees store ids)) ≡ length ts = ap length h in
     omega (arith, a, length-map (entry_trees store ids) text, length-map ids (λ (id : NodeId). tree store id.index))
 
--- the text at a place
+-- the text at an index
 texts-at : (us : List Tree) (i : ℕ) → i < length us → get_or (map text us) i [] ≡ text (get_or us i (Leaf 0))
 texts-at [] i h = absurd (omega (arith, h))
 texts-at (u ∷ us) zero h = refl
@@ -60,7 +60,7 @@ join-long ts own left right bytes after rest l h k short =
     let two : child_at (length ts) after ≡ Ok (right, rest) = ap (λ n. child_at n after) l ∙ k in
     rw (one, two, short) refl
 
--- the test on lengths is that on leaves
+-- the test on lengths is the test on leaves
 pub pair-short : (us : List Tree) (ts : List (List ℕ)) (l r : ℕ) (b : Bool) → map text us ≡ ts → l < length us → r < length us
     → b ≡ nat_le (leaves (get_or us l (Leaf 0)) + leaves (get_or us r (Leaf 0))) (2 ^ 48) → nat_le (length (at ts l) + length (at ts r)) (2 ^ 48) ≡ b
 pair-short us ts l r b h lt rt e =

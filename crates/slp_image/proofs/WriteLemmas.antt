@@ -1,4 +1,4 @@
--- What was written is read again.
+-- What was written can be read again.
 use Rattle.std.proofs.Common.{◌≡◌, ℕ, suc, ◌+◌, ◌-◌, ◌<◌, ◌^◌, true, false, List, [], ◌∷◌, ◌++◌, length, drop, Ok, refl, ap, sym, ◌∙◌, arith, append_assoc, append-nil, length-append, ltb, Option, Some, None}
 use Rattle.std.proofs.lemmas.Bool.{le-ltb, lt-ltb}
 use Rattle.std.proofs.Math.Seq.{take-append_seam}
@@ -43,7 +43,7 @@ record-again ns (Pair l r) rest k m =
     let three : near_pair ns l.index r.index rest ≡ Ok (added (Pair l r), rest) = rw (m.2, m.3) refl in
     one ∙ (ap (λ bs. node_pair ns bs) whole ∙ (two ∙ three))
 
--- all records that may follow are read again, and cost one for each pair
+-- all records that may follow are read again, at a cost of one for each pair
 pub records-again : (more ns : List Node) (cost : ℕ) (rest : List ℕ) → AllFollow ns more → (records_onto node_at (length more) ns cost (records_bytes more ++ rest)).answer ≡ Ok (ns ++ more, rest)
 records-again [] ns cost rest h = ap (λ (ms : List Node). Ok (ms, rest)) (sym (append-nil ns))
 records-again (n ∷ more) ns cost rest h =

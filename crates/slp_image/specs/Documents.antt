@@ -8,7 +8,7 @@ use Rattle.slp_image.specs.declared.refusal.ImageRefusal.{ImageRefusal}
 use Rattle.slp_image.specs.declared.refusal.ImageRefusal.TheVariants.{NoMemory}
 use Rattle.slp_image.specs.Image.{Contents, Meaning, contents, node_at, version_at}
 
--- the names and texts of documents in a store
+-- the names and texts of the documents in a store
 abbrev pub plain : List Node → List Doc → List (List ℕ × List ℕ)
 plain ns ds = map (λ d. (d.name, root_text (root_tree ns d.root))) ds
 
@@ -21,15 +21,15 @@ abbrev pub AreLive : List Node → List Doc → Type 0
 AreLive ns [] = Unit {0}
 AreLive ns (d ∷ ds) = IsLive ns d.root × AreLive ns ds
 
--- the names and trees of the documents of a file of version 1
+-- the names and trees of the documents of an image of version 1
 abbrev pub filed : Contents Node → List (List ℕ × Option Tree)
 filed x = map (λ d. (d.name, option_map (λ i. tree x.records i) d.root)) x.documents
 
--- in version 1 each document's tree is that of its root in the file
+-- in version 1 each document's tree is that of its root in the image
 abbrev pub HaveTrees : List ℕ → List Node → List Doc → Type 0
 HaveTrees bytes ns ds = (after : List ℕ) (x : Contents Node) → version_at bytes ≡ Ok (1, after) → (contents node_at after).answer ≡ Ok x → rooted ns ds ≡ filed x
 
--- what was read is refused for this reason, unless memory ran out
+-- the image is rejected for this reason, unless an allocation failed
 abbrev pub Fails : {Y : Type 0} → ImageRefusal → Result Y ImageRefusal → Type 0
 Fails NoMemory read = Unit {0}
 Fails why read = read ≡ Err why
@@ -40,7 +40,7 @@ pub record AreRead (ns : List Node) (answer : Result Meaning ImageRefusal) (ds :
   pub nodes : ℕ
   pub is : answer ≡ Ok (record { documents = plain ns ds; nodes = nodes })
 
--- the answer of a reader: the documents, the first refusal, or want of memory
+-- the result of a reader: the documents, the first refusal, or allocation failure
 abbrev pub Reads : List Node → Result Meaning ImageRefusal → Result (List Doc) ImageRefusal → Type 0
 Reads ns answer (Ok ds) = AreRead ns answer ds
 Reads ns answer (Err why) = Fails why answer

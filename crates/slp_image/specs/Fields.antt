@@ -1,10 +1,10 @@
--- Fields of an image, read from the front.
+-- Fields of an image, read from the start of its bytes.
 use Rattle.std.specs.Prelude.{ℕ, List, [], ◌∷◌, length, take, drop, Option, Some, None, Result, Ok, Err, nat_lt, if◌then◌else◌}
 use Rattle.byteorder.specs.Endian.{big_number}
 use Rattle.slp_image.specs.declared.refusal.ImageRefusal.{ImageRefusal}
 use Rattle.slp_image.specs.declared.refusal.ImageRefusal.TheVariants.{Magic, Version, Cut, Kind, Child, Balance, Length, Root, Name, RepeatName, Rest, Count, NoMemory}
 
--- the number of a refusal; want of memory has none
+-- the number of a refusal, if it is not allocation failure
 abbrev pub kind_of : ImageRefusal → Option ℕ
 kind_of Magic = Some 1
 kind_of Version = Some 2
@@ -20,7 +20,7 @@ kind_of Rest = Some 11
 kind_of Count = Some 12
 kind_of NoMemory = None
 
--- the first fault is the answer
+-- the first fault is the result
 infixl 10 ◌>>=◌
 abbrev pub ◌>>=◌ : {A B : Type 0} → Result A ImageRefusal → (A → Result B ImageRefusal) → Result B ImageRefusal
 (Ok x) >>= f = f x
@@ -38,7 +38,7 @@ byte_at (b ∷ rest) = Ok (b, rest)
 abbrev pub number_at : List ℕ → Field ℕ
 number_at bytes = if nat_lt (length bytes) 8 then Err Cut else Ok (big_number 8 (take 8 bytes), drop 8 bytes)
 
--- n bytes
+-- the first n bytes
 abbrev pub bytes_at : ℕ → List ℕ → Field (List ℕ)
 bytes_at n bytes = if nat_lt (length bytes) n then Err Cut else Ok (take n bytes, drop n bytes)
 

@@ -13,12 +13,12 @@ use Rattle.slp_image.specs.Fields.{◌>>=◌, Field, byte_at, number_at, bytes_a
 use Rattle.slp_image.specs.declared.refusal.ImageRefusal.{ImageRefusal}
 use Rattle.slp_image.specs.declared.refusal.ImageRefusal.TheVariants.{Magic, Version, Kind, Balance, Length, Root, Name, RepeatName, Rest, Count}
 
--- one more record: what is kept of it, and its cost
+-- one more record: the value kept for it, and its cost
 pub record Added (M : Type 0) : Type 0 where
   pub entry : M
   pub cost : ℕ
 
--- VERSION 1: a record is a node, and ns are the nodes so far
+-- VERSION 1: the value kept for a record is its node, and ns are the nodes so far
 
 -- a pair of two of them, whose heights are to differ by at most one and whose lengths sum to at most 2^48
 abbrev pub near_pair : List Node → ℕ → ℕ → List ℕ → Field (Added Node)
@@ -33,7 +33,7 @@ node_pair ns bytes = do
   right ← child_at (length ns) left.1
   near_pair ns left.0 right.0 right.1
 
--- a byte, of which this is kept
+-- a byte, for which this value is kept
 unfoldable pub byte_record : {M : Type 0} → (ℕ → M) → List ℕ → Field (Added M)
 byte_record keep bytes = do
   b ← byte_at bytes
@@ -44,7 +44,7 @@ node_at ns bytes = do
   kind ← byte_at bytes
   if kind.0 == 0 then byte_record Byte kind.1 else if kind.0 == 1 then node_pair ns kind.1 else Err Kind
 
--- VERSION 2: of a record its text is kept, and ts are the texts so far
+-- VERSION 2: the value kept for a record is its text, and ts are the texts so far
 
 abbrev pub at : List (List ℕ) → ℕ → List ℕ
 at ts i = get_or ts i []
@@ -68,12 +68,12 @@ text_at ts bytes = do
 
 -- BOTH VERSIONS
 
--- an answer, and the cost up to it
+-- a result, and the cost up to it
 pub record Outcome (A : Type 0) : Type 0 where
   pub cost : ℕ
   pub answer : Result A ImageRefusal
 
--- n more records, after those in ms, which cost so much
+-- n more records, after those in ms, which had this cost
 abbrev pub records_onto : {M : Type 0} → (List M → List ℕ → Field (Added M)) → ℕ → List M → ℕ → List ℕ → Outcome (List M × List ℕ)
 records_onto step zero ms cost bytes = record { cost = cost; answer = Ok (ms, bytes) }
 records_onto step (suc n) ms cost bytes = elim (step ms bytes) [
@@ -98,7 +98,7 @@ name_at names bytes = do
   name ← bytes_at size.0 size.1
   if is_name name.0 then (if is_among names name.0 then Err RepeatName else Ok name) else Err Name
 
--- a root, where there are so many records
+-- a root, if there are n records
 unfoldable pub root_at : ℕ → List ℕ → Field (Option ℕ)
 root_at count bytes = do
   root ← number_at bytes
@@ -146,11 +146,11 @@ version_of bytes = do
   version ← byte_at bytes
   if (version.0 == 1) || (version.0 == 2) then Ok version else Err Version
 
--- whether these are the bytes with which each image begins
+-- whether these are the magic bytes of an image
 abbrev pub is_magic : List ℕ → Bool
 is_magic bytes = pointwise nat_eq bytes (83 ∷ (76 ∷ (80 ∷ (73 ∷ []))))
 
--- the magic, and the version after it
+-- the magic bytes, and the version after them
 unfoldable pub version_at : List ℕ → Field ℕ
 version_at bytes = do
   magic ← bytes_at 4 bytes

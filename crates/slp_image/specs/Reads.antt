@@ -11,7 +11,7 @@ use Rattle.slp_image.specs.Image.{Added, Outcome, Document, Contents, records_on
 use Rattle.slp_image.specs.Documents.{Fails, AreLive, plain, rooted, filed}
 use Rattle.slp_image.specs.declared.refusal.ImageRefusal.{ImageRefusal}
 
--- what a function returned, seen by view, is what reading gives, unless memory ran out
+-- the result of a function, through view, is the result of reading, unless an allocation failed
 abbrev pub Gives : {X Y : Type 0} → (X → Y) → Result X ImageRefusal → Result Y ImageRefusal → Type 0
 Gives view (Ok x) read = read ≡ Ok (view x)
 Gives view (Err e) read = Fails e read
@@ -34,7 +34,7 @@ abbrev pub ReadsByte : {X : Type 0} → (X → List ℕ) → List ℕ → List T
 ReadsByte view bytes old new (Ok x) = IsByte bytes (view x) old new
 ReadsByte view bytes old new (Err e) = Fails e (byte_at bytes)
 
--- a record after ms was read up to rest, and the trees then show it too
+-- a record after ms was read up to rest, and the trees now have it too
 pub record IsRecord (M : Type 0) (Shows : List M → List Tree → Type 0) (ms : List M) (read : Field (Added M)) (rest : List ℕ) (new : List Tree) : Type 0 where
   pub added : Added M
   pub is : read ≡ Ok (added, rest)
@@ -48,7 +48,8 @@ abbrev pub cost_of : {M : Type 0} → Field (Added M) → ℕ
 cost_of (Ok x) = x.0.cost
 cost_of (Err e) = 0
 
--- In the middle of the records: some were read, which the entries show, so much was paid at most, and what is said of the rest is said of all.
+-- In the middle of the records: some were read and are among the entries, the cost is at most this, and what holds of
+-- the rest holds of all.
 pub record IsReading (M : Type 0) (Shows : List M → List Tree → Type 0) (step : List M → List ℕ → Field (Added M)) (old store : List Node) (ids : List NodeId) (before after left : ℕ) (rest : List ℕ) (total : Outcome (List M × List ℕ)) : Type 0 where
   pub grows : Grows old store before after
   pub live : AreEntries store ids
@@ -75,7 +76,7 @@ IsFiled ids (Some i) (Some id) = slice_get ids i ≡ Some id
 IsFiled ids None (Some id) = ⊥
 IsFiled ids (Some i) None = ⊥
 
--- the documents, one by one
+-- the documents, read one after the other
 abbrev pub AreFiled : List NodeId → List Document → List Doc → Type 0
 AreFiled ids [] [] = Unit {0}
 AreFiled ids (f ∷ fs) (d ∷ ds) = (d.name ≡ f.name) × IsFiled ids f.root d.root × AreFiled ids fs ds
@@ -92,7 +93,7 @@ abbrev pub ReadsRoot : {X : Type 0} → (X → Option NodeId × List ℕ) → Li
 ReadsRoot view ids bytes (Ok x) = IsRoot ids bytes (view x).1 (view x).0
 ReadsRoot view ids bytes (Err e) = Fails e (root_at (length ids) bytes)
 
--- a document was read up to rest, whatever documents with these names came before, and is put last
+-- a document was read up to rest, whatever documents with these names came before, and is added last
 pub record IsDocument (ids : List NodeId) (bytes rest : List ℕ) (old new : List Doc) : Type 0 where
   pub document : Document
   pub doc : Doc
@@ -105,7 +106,7 @@ abbrev pub ReadsDocument : {X : Type 0} → (X → List ℕ) → List NodeId →
 ReadsDocument view ids bytes old new (Ok x) = IsDocument ids bytes (view x) old new
 ReadsDocument view ids bytes old new (Err e) = (ds : List Document) → names_of ds ≡ map (λ d. d.name) old → Fails e (document_at (length ids) ds bytes)
 
--- In the middle of the documents: some were read, and what is said of the rest is said of all.
+-- In the middle of the documents: some were read, and what holds of the rest holds of all.
 pub record IsFiling (ids : List NodeId) (docs : List Doc) (left : ℕ) (rest : List ℕ) (total : Field (List Document)) : Type 0 where
   pub documents : List Document
   pub shown : AreFiled ids documents docs

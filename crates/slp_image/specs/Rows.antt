@@ -1,4 +1,4 @@
--- Worked images, and what they mean.
+-- Example images, and what they mean.
 use Rattle.std.specs.Prelude.{◌≡◌, ◌+◌, ◌-◌, ◌^◌, ℕ, List, [], ◌∷◌, ◌++◌, take, drop, slice_set, Ok, Err}
 use Rattle.byteorder.specs.Endian.{big_bytes}
 use Rattle.slp_image.specs.declared.refusal.ImageRefusal.TheVariants.{Magic, Version, Cut, Kind, Child, Balance, Length, Root, Name, RepeatName, Rest, Count}
@@ -34,7 +34,7 @@ stair = a_byte 97 ++ (a_pair 0 0 ++ (a_pair 1 0 ++ (a_pair 2 0 ++ (a_pair 3 0 ++
 abbrev pub run : ℕ → ℕ → ℕ → List ℕ
 run version child count = file version 4 (ab ++ a_run child count) 3
 
--- the one document `d` with this text, read at this cost from so many nodes
+-- the one document `d` with this text, read at this cost from n nodes
 abbrev pub one : ℕ → List ℕ → ℕ → Outcome Meaning
 one cost content nodes = record { cost = cost; answer = Ok (record { documents = (100 ∷ [], content) ∷ []; nodes = nodes }) }
 

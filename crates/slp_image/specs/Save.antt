@@ -12,7 +12,7 @@ pub record IsReached (ns : List Node) (roots : List (Option ℕ)) (j : ℕ) : Ty
   pub there : slice_get roots place ≡ Some (Some root)
   pub below : Reaches ns root j
 
--- no two nodes are equal, and each is reached from a document
+-- no two nodes are equal, and each is reachable from a document
 pub record SaveForm (bytes : List ℕ) : Type 0 where
   pub after : List ℕ
   pub version : version_at bytes ≡ Ok (1, after)
@@ -25,7 +25,7 @@ pub record SaveForm (bytes : List ℕ) : Type 0 where
 abbrev pub roots_of : List Doc → List (Option ℕ)
 roots_of ds = map (λ d. option_map (λ id. id.index) d.root) ds
 
--- P holds of exactly n numbers, which can be counted from 0
+-- P holds of exactly n numbers, which can be enumerated from 0
 pub record IsCount (P : ℕ → Type 0) (n : ℕ) : Type 0 where
   pub count : ℕ → ℕ
   pub within : (i : ℕ) → P i → count i < n

@@ -1,4 +1,4 @@
--- The documents of a thin store.
+-- The documents of a compacted store.
 use Rattle.std.specs.Prelude.{◌≡◌, ℕ, ◌<◌, true, Bool, List, ◌++◌, map, slice_get, take, Option, Some, None, option_map}
 use Rattle.span_types.specs.Names.{is_name}
 use Rattle.slp_model.specs.declared.NodeId.{NodeId}
@@ -11,7 +11,7 @@ use Rattle.slp_image.specs.Written.{documents_bytes}
 abbrev pub roots : List Doc → List (Option NodeId)
 roots ds = map (λ d. d.root) ds
 
--- the root is none or kept
+-- the root is `None`, or its node is kept
 abbrev pub KeepsRoot : List Bool → Option NodeId → Type 0
 KeepsRoot keep None = Unit {0}
 KeepsRoot keep (Some id) = Keeps keep id.index
@@ -19,11 +19,11 @@ KeepsRoot keep (Some id) = Keeps keep id.index
 abbrev pub KeepsRoots : List Bool → List Doc → Type 0
 KeepsRoots keep ds = (place : ℕ) (d : Doc) → slice_get ds place ≡ Some d → KeepsRoot keep d.root
 
--- the documents, with other numbers for their roots
+-- the documents, with new numbers for their roots
 abbrev pub saved : (ℕ → ℕ) → List Doc → List Document
 saved f ds = map (λ d. record { name = d.name; root = option_map (λ id. f id.index) d.root }) ds
 
--- the names of the first k documents are names, and these were written
+-- the names of the first k documents are valid, and these documents were written
 pub record AreSaved (f : ℕ → ℕ) (ds : List Doc) (k : ℕ) (old new : List ℕ) : Type 0 where
   pub named : (i : ℕ) (d : Doc) → i < k → slice_get ds i ≡ Some d → is_name d.name ≡ true
   pub bytes : new ≡ old ++ documents_bytes (saved f (take k ds))

@@ -37,7 +37,7 @@ abbrev pub AllFollow : List Node → List Node → Type 0
 AllFollow ns [] = Unit {0}
 AllFollow ns (n ∷ more) = (length ns < 2 ^ 64) × MayFollow ns n × AllFollow (ns ++ n ∷ []) more
 
--- d may be the next document after those with the names, where there are so many records
+-- d may be the next document after those with these names, if there are n records
 abbrev pub IsPlace : ℕ → Option ℕ → Type 0
 IsPlace count None = Unit {0}
 IsPlace count (Some i) = i < count

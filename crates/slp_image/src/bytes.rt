@@ -13,14 +13,14 @@ use doc_book::Docs;
 use node_store::{Moves, Node, NodeId, Store};
 use span_types::{Name, NoMemory};
 
-// A byte after the others.
+// Appends a byte.
 fn push_byte(out: &mut Vec<u8>, b: u8) -> Result<(), NoMemory>
     ensures { OnOk result (out.new.items ≡ out.old.items ++ b ∷ []) }
 {
     out.push(b).map_err(|_| NoMemory)
 }
 
-/// A number of eight bytes after the others.
+/// Appends a number as eight bytes, big-endian.
 pub(crate) fn push_number(out: &mut Vec<u8>, n: u64) -> Result<(), NoMemory>
     ensures { OnOk result (out.new.items ≡ out.old.items ++ big_bytes 8 n) }
 {
@@ -30,7 +30,7 @@ pub(crate) fn push_number(out: &mut Vec<u8>, n: u64) -> Result<(), NoMemory>
     Ok(())
 }
 
-// A record of version 1 after the others.
+// Appends a record of version 1.
 fn push_node(out: &mut Vec<u8>, node: Node) -> Result<(), NoMemory>
     ensures { OnOk result (out.new.items ≡ out.old.items ++ node_bytes node) }
 {
@@ -48,7 +48,7 @@ fn push_node(out: &mut Vec<u8>, node: Node) -> Result<(), NoMemory>
     }
 }
 
-/// The records of the kept nodes of the store, in their order and under their new numbers, after the others.
+/// Appends the records of the store's kept nodes, in their order and with their new numbers.
 pub(crate) fn push_nodes(out: &mut Vec<u8>, store: &Store, moves: &Moves) -> Result<(), NoMemory>
     requires plan { IsPlanOf store.now moves.now }
     ensures bytes { OnOk result (out.new.items ≡ out.old.items ++ records_bytes (thin store.now moves.now)) }
@@ -65,7 +65,8 @@ pub(crate) fn push_nodes(out: &mut Vec<u8>, store: &Store, moves: &Moves) -> Res
     Ok(())
 }
 
-// A document: its name after the name's length, and the number of its root, or eight bytes ff.
+// Appends a document: the length of its name, the name, and the number of its root. Eight bytes 0xFF stand for the
+// empty text.
 fn push_document(out: &mut Vec<u8>, name: &Name, root: Option<u64>) -> Result<(), NoMemory>
     ensures bytes { OnOk result (out.new.items ≡ out.old.items ++ document_bytes (record { name = name.now; root = root })) }
     ensures named { OnOk result (is_name name.now ≡ true) }
@@ -87,7 +88,7 @@ fn number_of(root: Option<NodeId>, moves: &Moves) -> Option<u64>
     }
 }
 
-/// All documents, with the new numbers of their roots.
+/// Appends all documents, with the new numbers of their roots.
 pub(crate) fn push_documents(out: &mut Vec<u8>, docs: &Docs, moves: &Moves) -> Result<(), NoMemory>
     requires { KeepsRoots moves.now docs.now }
     ensures { OnOk result (AreSaved (rank moves.now) docs.now (length docs.now) out.old.items out.new.items) }

@@ -18,7 +18,7 @@ fn is_present(docs: &Docs, name: &[u8]) -> bool
     docs.get(name).is_ok()
 }
 
-// A name that no earlier document has.
+// Reads a name that no earlier document has.
 #[tactic(auto, unfolding(crate::specs::Image::name_at))]
 fn name<'a>(alloc: Global, bytes: &'a [u8], docs: &Docs) -> Result<(Name, &'a [u8]), ImageRefusal>
     ensures read { Gives (λ x. (x.0, x.1.now)) result (name_at (map (λ d. d.name) docs.now) bytes.now) }
@@ -38,7 +38,7 @@ fn name<'a>(alloc: Global, bytes: &'a [u8], docs: &Docs) -> Result<(Name, &'a [u
     }
 }
 
-// The root of a document: eight bytes ff stand for the empty text.
+// Reads the root of a document. Eight bytes 0xFF stand for the empty text.
 fn root<'a>(bytes: &'a [u8], roots: &Roots) -> Result<(Option<NodeId>, &'a [u8]), ImageRefusal>
     ensures { ReadsRoot (λ x. (x.0, x.1.now)) roots.now bytes.now result }
 {
@@ -52,7 +52,7 @@ fn root<'a>(bytes: &'a [u8], roots: &Roots) -> Result<(Option<NodeId>, &'a [u8])
     Ok((Some(roots.root(place as usize)), rest))
 }
 
-// A document, after those before it.
+// Reads a document and adds it to those before it.
 fn document<'a>(
     alloc: Global,
     bytes: &'a [u8],
@@ -67,7 +67,7 @@ fn document<'a>(
     Ok(rest)
 }
 
-/// All documents, after which no bytes are left.
+/// Reads all documents. No bytes may be left after the last.
 pub(crate) fn documents(alloc: Global, bytes: &[u8], roots: &Roots) -> Result<Docs, ImageRefusal>
     ensures { ReadsDocuments roots.now bytes.now result }
 {

@@ -1,4 +1,4 @@
-//! Fields, read from the front.
+//! The fields of an image, read from the start of its bytes.
 ghost use Rattle.std.specs.Prelude.{◌≡◌, ◌^◌, ◌<◌, IfOk};
 ghost use Rattle.slp_image.specs.Fields.{byte_at, number_at, bytes_at, child_at};
 ghost use Rattle.slp_image.specs.Image.{is_magic, version_of, version_at};
@@ -10,7 +10,7 @@ use byteorder::{BigEndian, ByteOrder};
 // Each image begins with these bytes.
 const MAGIC: [u8; 4] = *b"SLPI";
 
-/// A byte, and the bytes after it.
+/// Reads a byte. Returns it and the bytes after it.
 pub(crate) fn byte(bytes: &[u8]) -> Result<(u8, &[u8]), ImageRefusal>
     ensures { Gives (λ x. (x.0, x.1.now)) result (byte_at bytes.now) }
 {
@@ -20,7 +20,7 @@ pub(crate) fn byte(bytes: &[u8]) -> Result<(u8, &[u8]), ImageRefusal>
     }
 }
 
-/// A number of eight bytes.
+/// Reads a number of eight bytes, big-endian. Returns it and the bytes after it.
 pub(crate) fn number(bytes: &[u8]) -> Result<(u64, &[u8]), ImageRefusal>
     ensures read { Gives (λ x. (x.0, x.1.now)) result (number_at bytes.now) }
     ensures fits { IfOk result (λ x. x.0 < 2 ^ 64) }
@@ -32,7 +32,7 @@ pub(crate) fn number(bytes: &[u8]) -> Result<(u64, &[u8]), ImageRefusal>
     Ok((BigEndian::read_u64(front), rest))
 }
 
-/// So many bytes.
+/// Reads `len` bytes. Returns them and the bytes after them.
 pub(crate) fn slice(bytes: &[u8], len: usize) -> Result<(&[u8], &[u8]), ImageRefusal>
     ensures { Gives (λ x. (x.0.now, x.1.now)) result (bytes_at len bytes.now) }
 {
@@ -42,7 +42,7 @@ pub(crate) fn slice(bytes: &[u8], len: usize) -> Result<(&[u8], &[u8]), ImageRef
     Ok(bytes.split_at(len))
 }
 
-/// The number of an earlier record.
+/// Reads the number of a record before record `own`. Returns it and the bytes after it.
 #[tactic(auto, unfolding(crate::specs::Fields::child_at))]
 pub(crate) fn child(bytes: &[u8], own: usize) -> Result<(usize, &[u8]), ImageRefusal>
     ensures read { Gives (λ x. (x.0, x.1.now)) result (child_at own bytes.now) }
@@ -55,7 +55,7 @@ pub(crate) fn child(bytes: &[u8], own: usize) -> Result<(usize, &[u8]), ImageRef
     Ok((place as usize, rest))
 }
 
-// The version, after the magic.
+// Reads the version, which follows the magic bytes.
 #[tactic(auto, unfolding(crate::specs::Image::version_of))]
 fn version_byte(bytes: &[u8]) -> Result<(u8, &[u8]), ImageRefusal>
     ensures { Gives (λ x. (x.0, x.1.now)) result (version_of bytes.now) }
@@ -67,14 +67,14 @@ fn version_byte(bytes: &[u8]) -> Result<(u8, &[u8]), ImageRefusal>
     Ok((version, rest))
 }
 
-/// Whether these four bytes are those with which each image begins.
+/// Whether the bytes are the four magic bytes `SLPI`.
 pub(crate) fn is_magic(bytes: &[u8]) -> bool
     ensures { result ≡ is_magic bytes.now }
 {
     bytes == MAGIC.as_slice()
 }
 
-/// The version, which is 1 or 2.
+/// Reads the magic bytes and the version, which is 1 or 2.
 #[tactic(auto, unfolding(crate::specs::Image::version_at))]
 pub(crate) fn version(bytes: &[u8]) -> Result<(u8, &[u8]), ImageRefusal>
     ensures { Gives (λ x. (x.0, x.1.now)) result (version_at bytes.now) }

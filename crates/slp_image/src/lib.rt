@@ -1,4 +1,4 @@
-//! Images: documents and their shared nodes as bytes.
+//! Images: a binary format for documents and their shared nodes.
 //!
 //! ```text
 //! let image = write(alloc, &docs, &store)?;                // image.bytes, of image.nodes nodes
@@ -6,17 +6,18 @@
 //! read(alloc, b"SLPI\x03", &mut store, &mut pairs);        // Err(ImageRefusal::Version)
 //! ```
 //!
-//! An image is as long as the grammar of its documents and not as their texts: each node below a root stands in it
-//! once, as 2 bytes for a byte and 17 for a pair. Version 1 is what `write` makes, with balanced pairs; version 2
-//! also has runs, and its pairs need not be balanced, so any straight-line grammar can be given so. Bytes from
-//! anywhere may be read: what is wrong first is told, and a count is never believed before its records have come.
+//! The size of an image is that of the documents' grammar, not that of their texts. Each node below a root is stored
+//! once: 2 bytes for a byte, and 17 bytes for a pair. `write` writes version 1, whose pairs are balanced. Version 2
+//! also has runs, and its pairs need not be balanced, so it can hold any straight-line grammar. `read` accepts bytes
+//! from any source: it reports the first error, and allocates for records only as they come, whatever their count says.
 //!
-//! Reading takes one pair call for a pair of version 1, at most 205 for one of version 2, and at most 206·(d-1) for a
-//! run whose count has d binary digits. `write` takes time linear in the nodes of the store and in the documents, and
-//! the memory of the image and 10 bytes for each node of the store.
+//! Reading takes one node construction for a pair of version 1, at most 205 for a pair of version 2, and at most
+//! 206·(d-1) for a run whose count has d binary digits. `write` takes time linear in the number of nodes in the store
+//! and of documents. It allocates the image and 10 bytes for each node of the store.
 //!
-//! The grammars of version 2 are balanced by joins, as in W. Rytter, *Application of Lempel–Ziv factorization to the
-//! approximation of grammar-based compression*, Theoretical Computer Science 302, 2003.
+//! The grammars of version 2 are balanced while they are read, by concatenations of balanced trees (W. Rytter,
+//! *Application of Lempel–Ziv factorization to the approximation of grammar-based compression*, Theoretical Computer
+//! Science 302, 2003).
 #![tactic(auto)]
 
 mod bytes;

@@ -27,7 +27,8 @@ fn are_near(roots: &Roots, store: &Store, left: usize, right: usize) -> bool
     g <= h + 1 && h <= g + 1
 }
 
-// Whether two nodes are so low that they have at most 2^48 bytes: a node of height h has at most 2^h.
+// Whether the heights of two nodes imply that they have at most 2^48 bytes together: a node of height h has at most 2^h
+// bytes.
 #[tactic(auto, using(crate::proofs::NodeLemmas::low_short))]
 fn are_low(store: &Store, a: NodeId, b: NodeId) -> bool
     requires a { a.index < length store.now }
@@ -37,7 +38,8 @@ fn are_low(store: &Store, a: NodeId, b: NodeId) -> bool
     store.height(a) < 48 && store.height(b) < 48
 }
 
-/// Whether the lengths of two entries sum to at most 2^48. Of most their heights tell it, which are near at hand.
+/// Whether the lengths of two entries sum to at most 2^48. The heights are tested first: they are fast to read and
+/// usually decide it.
 pub(crate) fn are_short(roots: &Roots, store: &Store, left: usize, right: usize) -> bool
     requires live { AreEntries store.now roots.now }
     requires left { left < length roots.now }
@@ -52,7 +54,7 @@ pub(crate) fn are_short(roots: &Roots, store: &Store, left: usize, right: usize)
     store.len(a) + store.len(b) <= 1 << 48
 }
 
-/// A byte's record, after its kind.
+/// Reads a byte's record, after its kind, and adds its node.
 pub(crate) fn byte_entry<'a>(
     bytes: &'a [u8],
     roots: &mut Roots,
@@ -68,7 +70,7 @@ pub(crate) fn byte_entry<'a>(
     Ok(rest)
 }
 
-// A pair's record, after its kind.
+// Reads a pair's record, after its kind, and adds its node.
 fn pair_entry<'a, L: Ledger>(
     bytes: &'a [u8],
     roots: &mut Roots,
@@ -94,7 +96,7 @@ fn pair_entry<'a, L: Ledger>(
     Ok(rest)
 }
 
-// A record.
+// Reads a record and adds its node.
 fn node_entry<'a, L: Ledger>(
     bytes: &'a [u8],
     roots: &mut Roots,
@@ -117,7 +119,7 @@ fn node_entry<'a, L: Ledger>(
     Err(ImageRefusal::Kind)
 }
 
-/// So many records. Each pair takes one step.
+/// Reads `count` records and adds their nodes. Each pair takes one node construction.
 pub(crate) fn node_entries<'a, L: Ledger>(
     bytes: &'a [u8],
     count: u64,

@@ -1,4 +1,4 @@
-//! Documents, read from the bytes of an image.
+//! The reader of images.
 ghost use Rattle.std.specs.Prelude.{◌≡◌, ◌+◌, ◌++◌, ◌≤◌, ℕ, List, false, length, take, IfOk};
 ghost use Rattle.slp_model.specs.Nodes.{Grows};
 ghost use Rattle.slp_image.specs.Image.{image, contents, is_magic, node_at, text_at};
@@ -17,7 +17,7 @@ use span_types::Steps;
 use std::alloc::Global;
 use std::sync::ledger::Ledger;
 
-// What follows the version, in version 1.
+// Reads what follows the version, in version 1.
 fn read_nodes<L: Ledger>(
     alloc: Global,
     bytes: &[u8],
@@ -34,7 +34,7 @@ fn read_nodes<L: Ledger>(
     documents(alloc, rest, &roots)
 }
 
-// What follows the version, in version 2.
+// Reads what follows the version, in version 2.
 fn read_texts<L: Ledger>(
     alloc: Global,
     bytes: &[u8],
@@ -51,17 +51,16 @@ fn read_texts<L: Ledger>(
     documents(alloc, rest, &roots)
 }
 
-/// The documents of an image of version 1 or 2, whose nodes are added to the store.
+/// Reads the documents of an image of version 1 or 2, and adds its nodes to the store.
 ///
-/// In version 1 each document's tree is that of its root in the image. In version 2 texts are
-/// balanced as they come. Each pair of version 1 is one pair call. A pair of version 2 takes at
-/// most 205, and a run whose count has d binary digits at most 206·(d-1). Memory is taken for
-/// records and documents as they come, and never on the word of a count.
+/// In version 1 each document's tree is that of its root in the image. In version 2 the trees are balanced while they
+/// are read. Each pair of version 1 takes one node construction. A pair of version 2 takes at most 205, and a run whose
+/// count has d binary digits takes at most 206·(d-1). Memory is allocated as records and documents come, and never
+/// because of a count alone.
 ///
 /// # Errors
 ///
-/// The first fault from the front, field by field, or `NoMemory`. The store may then have more
-/// nodes.
+/// The first error in the order of the fields, or `NoMemory` if allocation fails. The store may then have more nodes.
 pub fn read<L: Ledger>(
     alloc: Global,
     bytes: &[u8],
@@ -80,8 +79,8 @@ pub fn read<L: Ledger>(
     read_texts(alloc, rest, store, pairs)
 }
 
-/// Whether the first bytes of a file, at least four, are those of an image. Where they aren't, it doesn't matter what follows them:
-/// they mean the same with it and without it, so a reader may stop here. Takes constant time.
+/// Whether the first bytes of a file, at least four, are those of an image. If they are not, the bytes after them don't
+/// change what `read` returns, so a caller needn't read them. Takes constant time.
 pub fn begins_image(front: &[u8]) -> bool
     requires { 4 ≤ length front.now }
     ensures value { result ≡ is_magic (take 4 front.now) }

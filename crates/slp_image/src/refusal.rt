@@ -1,4 +1,4 @@
-//! Why bytes are no image.
+//! Why bytes are rejected as an image.
 ghost use Rattle.std.specs.Prelude.{◌≡◌};
 ghost use Rattle.slp_image.specs.declared.refusal.ImageRefusal.TheVariants as refusals;
 ghost use Rattle.slp_image.specs.Fields.{kind_of};
@@ -6,7 +6,8 @@ ghost use Rattle.slp_image.specs.Fields.{kind_of};
 use span_types::NoMemory;
 use thiserror::Error;
 
-/// Why bytes are no image: the first fault from the front. Each kind has a number, from 1 to 12.
+/// Why bytes are rejected as an image: the first error in the order of the fields. Each kind has a number, from 1 to
+/// 12.
 #[derive(Clone, Copy, Debug, PartialEq, Eq, Error)]
 pub enum ImageRefusal {
     /// 1: the bytes don't begin with `SLPI`.
@@ -15,25 +16,25 @@ pub enum ImageRefusal {
     /// 2: the version is neither 1 nor 2.
     #[error("no known version")]
     Version,
-    /// 3: a field isn't whole.
+    /// 3: the bytes end within a field.
     #[error("the image is cut")]
     Cut,
-    /// 4: a record has no kind of its version.
+    /// 4: a record's kind doesn't exist in this version.
     #[error("no known kind of record")]
     Kind,
-    /// 5: a record names a record that doesn't come before it.
+    /// 5: a record refers to a record that doesn't come before it.
     #[error("a child that does not come before its record")]
     Child,
-    /// 6: the heights of the two parts of a pair of version 1 differ by more than 1.
+    /// 6: the heights of the two children of a pair of version 1 differ by more than 1.
     #[error("a pair that is not balanced")]
     Balance,
     /// 7: a text would have more than 2^48 bytes.
     #[error("a text that is too long")]
     Length,
-    /// 8: a root names no record.
+    /// 8: a root refers to no record.
     #[error("a root that is no record")]
     Root,
-    /// 9: a document's name isn't a name.
+    /// 9: a document's name isn't a valid name.
     #[error("a document whose name is no name")]
     Name,
     /// 10: an earlier document has the name.
@@ -42,16 +43,16 @@ pub enum ImageRefusal {
     /// 11: bytes follow the last document.
     #[error("bytes after the last document")]
     Rest,
-    /// 12: a run of no copies, in version 2.
+    /// 12: a run has no copies, in version 2.
     #[error("a run of no copies")]
     Count,
-    /// No memory was found.
+    /// Allocation failed.
     #[error("no memory")]
     NoMemory,
 }
 
 impl ImageRefusal {
-    /// The number of the kind, from 1 to 12. Want of memory has none.
+    /// The number of the kind, from 1 to 12, or `None` for `NoMemory`.
     pub fn kind(&self) -> Option<u8>
         ensures { result ≡ kind_of self.now }
     {

@@ -1,4 +1,4 @@
-//! Records of version 2: bytes, pairs and runs, which are balanced as they come.
+//! Records of version 2: bytes, pairs and runs, which are balanced while they are read.
 ghost use Rattle.std.specs.Prelude.{◌≡◌, ℕ, ◌+◌, ◌*◌, ◌^◌, ◌<◌, ◌≤◌, List, [], length, map, get_or, nat_le};
 ghost use Rattle.slp_model.specs.Tree.{Leaf, leaves, text};
 ghost use Rattle.slp_model.specs.Nodes.{Grows};
@@ -14,7 +14,7 @@ use slp_rebalance::Roots;
 use span_types::Steps;
 use std::sync::ledger::Ledger;
 
-// A pair's record, after its kind.
+// Reads a pair's record, after its kind, and adds the concatenation of its children.
 fn join_entry<'a, L: Ledger>(
     bytes: &'a [u8],
     roots: &mut Roots,
@@ -37,7 +37,7 @@ fn join_entry<'a, L: Ledger>(
     Ok(rest)
 }
 
-// Whether so many copies of an entry have at most 2^48 bytes.
+// Whether `times` copies of the entry at index `place` have at most 2^48 bytes.
 fn is_short_run(roots: &Roots, store: &Store, place: usize, times: u64) -> bool
     requires live { AreEntries store.now roots.now }
     requires place { place < length roots.now }
@@ -49,7 +49,7 @@ fn is_short_run(roots: &Roots, store: &Store, place: usize, times: u64) -> bool
     }
 }
 
-// A run's record, after its kind.
+// Reads a run's record, after its kind, and adds the repetition of its child.
 fn run_entry<'a, L: Ledger>(
     bytes: &'a [u8],
     roots: &mut Roots,
@@ -75,7 +75,7 @@ fn run_entry<'a, L: Ledger>(
     Ok(rest)
 }
 
-// A record.
+// Reads a record and adds its text.
 fn text_entry<'a, L: Ledger>(
     bytes: &'a [u8],
     roots: &mut Roots,
@@ -101,8 +101,8 @@ fn text_entry<'a, L: Ledger>(
     Err(ImageRefusal::Kind)
 }
 
-/// So many records. Each pair takes at most 205 steps, and a run whose count has d binary digits at
-/// most 206·(d-1).
+/// Reads `count` records and adds their texts. A pair takes at most 205 node constructions, and a run whose count has d
+/// binary digits takes at most 206·(d-1).
 pub(crate) fn text_entries<'a, L: Ledger>(
     bytes: &'a [u8],
     count: u64,

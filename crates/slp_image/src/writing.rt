@@ -1,4 +1,4 @@
-//! Documents, written as an image.
+//! The writer of images.
 ghost use Rattle.std.specs.Prelude.{◌≡◌, ◌∷◌, ◌++◌, [], Ok, IfOk, OnOk};
 ghost use Rattle.byteorder.specs.Endian.{big_bytes};
 ghost use Rattle.slp_image.specs.Image.{image};
@@ -15,27 +15,27 @@ use span_types::NoMemory;
 use std::alloc::Global;
 use store_compact::Plan;
 
-/// An image, written.
+/// A written image.
 #[derive(Drop)]
 pub struct Image {
     /// Its bytes.
     pub bytes: Vec<u8>,
-    /// How many nodes it has.
+    /// The number of its nodes.
     pub nodes: u64,
 }
 
-// The magic and the version.
+// The magic bytes and the version.
 const FRONT: [u8; 5] = *b"SLPI\x01";
 
-// A number has so many bytes.
+// The length of a number, in bytes.
 const NUMBER: usize = 8;
 
-// The record of a pair, and that of a document whose name has the 64 bytes that a name may have.
+// The length of a pair's record, and that of a document whose name has the maximum of 64 bytes.
 const MOST_OF_NODE: usize = 1 + 2 * NUMBER;
 
 const MOST_OF_DOCUMENT: usize = 1 + 64 + NUMBER;
 
-// The magic, the version and the count of nodes.
+// Appends the magic bytes, the version and the count of nodes.
 fn push_front(out: &mut Vec<u8>, nodes: u64) -> Result<(), NoMemory>
     ensures { OnOk result (out.new.items ≡ out.old.items ++ ((83 ∷ (76 ∷ (80 ∷ (73 ∷ (1 ∷ []))))) ++ big_bytes 8 nodes)) }
 {
@@ -43,7 +43,7 @@ fn push_front(out: &mut Vec<u8>, nodes: u64) -> Result<(), NoMemory>
     push_number(out, nodes)
 }
 
-// An image of so many nodes and documents has at most so many bytes.
+// The maximum length of an image of this many nodes and documents, in bytes.
 fn most_bytes(nodes: usize, docs: usize) -> usize {
     let records = nodes.saturating_mul(MOST_OF_NODE);
     let documents = docs.saturating_mul(MOST_OF_DOCUMENT);
@@ -66,13 +66,12 @@ fn plan_of(alloc: Global, docs: &Docs, store: &Store) -> Result<Plan, NoMemory>
     Ok(plan)
 }
 
-/// An image of version 1 of the documents, in their order. It has the nodes at and below their
-/// roots, each once, in the order of the store. Takes time linear in the nodes of the store and in
-/// the documents.
+/// Writes the documents, in their order, as an image of version 1. The image has the nodes at and below their roots,
+/// each once, in the order of the store. Takes time linear in the number of nodes in the store and of documents.
 ///
 /// # Errors
 ///
-/// `NoMemory`.
+/// `NoMemory` if allocation fails.
 pub fn write(alloc: Global, docs: &Docs, store: &Store) -> Result<Image, NoMemory>
     requires { AreLive store.now docs.now }
     ensures form { IfOk result (λ saved. SaveForm saved.bytes.items) }

@@ -17,7 +17,7 @@ push_nodes-requires c = record { plan = subst (λ (ks : List Bool). IsPlanOf c.a
 pub push_documents-requires : goal.push_documents-requires
 push_documents-requires c = subst (λ (ks : List Bool). KeepsRoots ks c.args.docs.now) (sym c.in_ok-moves.ensures.moves) (roots-kept c.args.store.now c.in_ok-plan.plan c.args.docs.now c.in_ok-plan.ensures.kept)
 
--- what is written of the nodes: the thin store
+-- what is written of the nodes: the compacted store
 thin-of : (c : goal.After-drop-plan-inside-2) → IsThinOf c.args.store.now c.in_ok-plan.plan (thin c.args.store.now c.in_ok-plan.plan)
 thin-of c = subst (λ (ks : List Bool). IsThinOf c.args.store.now ks (thin c.args.store.now ks)) c.in_ok-moves.ensures.moves c.in_ok-push_nodes.ensures.thin
 
