@@ -1,4 +1,4 @@
--- Pages and roots in a row.
+-- Lists of pages and of roots.
 use Rattle.std.proofs.Common.{◌≡◌, ℕ, zero, suc, ◌+◌, ◌≤◌, inl, inr, refl, sym, ap, subst, ◌∙◌, arith, List, [], ◌∷◌, ◌++◌, length, Option, Some, All}
 use Rattle.std.specs.Prelude.{slice_get}
 use Rattle.std.specs.List.{AllByRecursion}
@@ -12,7 +12,7 @@ use Rattle.doc_book.specs.declared.Doc.{Doc}
 use Rattle.list_all.specs.Page.{Page, IsPageOf}
 use Rattle.list_all.specs.Every.{AreEach, ArePages, AreRoots}
 
--- ---- what stands where
+-- ---- elements by index
 some-is : {X : Type 0} (x y : X) → Some x ≡ Some y → x ≡ y
 some-is x y e = cc e
 

@@ -1,4 +1,4 @@
--- Pages that several places share.
+-- Pages that several documents share.
 use Rattle.std.proofs.Common.{◌≡◌, ℕ, zero, suc, ◌+◌, ◌<◌, refl, sym, subst, arith, List, [], ◌∷◌, ◌++◌, map, length, get_or, Option, Some, All}
 use Rattle.std.specs.Prelude.{slice_get}
 use Rattle.std.proofs.lemmas.Option.{slice_get_within, get_or_from_slice_get}
@@ -7,7 +7,7 @@ use Rattle.list_all.specs.Page.{Page}
 use Rattle.list_all.specs.Every.{AreEach}
 use Rattle.list_all.specs.Places.{no_page, pages_at, HasPage, HaveEach}
 
--- ---- what stands where
+-- ---- elements by index
 pub get-front : {X : Type 0} (xs ys : List X) (k : ℕ) (x : X) → slice_get xs k ≡ Some x → slice_get (xs ++ ys) k ≡ Some x
 get-front [] ys k x h = cc
 get-front (y ∷ xs) ys zero x h = h
@@ -24,7 +24,7 @@ module _ (P : Option NodeId → Page → Type 0) where
   page-at (q ∷ rs) (p ∷ ps) zero r h e = let same : q ≡ r = cc e in (p, refl, subst (λ x. P x p) same h.0)
   page-at (q ∷ rs) (p ∷ ps) (suc k) r h e = let rest = page-at rs ps k r h.1 e in (rest.0, rest.1, rest.2)
 
-  -- ---- more pages are found
+  -- ---- one more page is found
   module _ (found more : List Page) (kept : (k : ℕ) (p : Page) → slice_get found k ≡ Some p → slice_get more k ≡ Some p) where
     have-kept : (rs : List (Option NodeId)) (ks : List ℕ) → HaveEach P found rs ks → HaveEach P more rs ks
     have-kept [] [] h = h

@@ -1,4 +1,4 @@
--- The answers that were taken so far.
+-- The answers taken so far.
 use Rattle.std.proofs.Common.{◌≡◌, ℕ, ◌+◌, ◌*◌, ◌≤◌, arith, true, false, refl, sym, ap, subst, ◌∙◌, List, [], ◌∷◌, ◌++◌, length, Option, Some, None}
 use Rattle.std.specs.Prelude.{MatchOption}
 use Rattle.std.specs.Option.{is_some}
@@ -11,7 +11,7 @@ use Rattle.span_enum.specs.Pages.{IsListed}
 use Rattle.span_enum.proofs.Pages.{after-none, listed-start, listed-next, page-whole, page-full}
 use Rattle.list_all.specs.Page.{IsPageOf}
 
--- of the answers of the listing `from`, before the first one, those given were taken, and now it is `to`
+-- the iterator `from` had returned no answer; the given answers were taken from it, and now it is `to`
 pub record AreTaken (from to : Listing) (given : List Tuple) : Type 0 where
   pub automaton : to.automaton ≡ from.automaton
   pub text : to.text ≡ from.text
@@ -48,7 +48,7 @@ module _ (from to : Listing) (given : List Tuple) (h : AreTaken from to given) w
   taken-page n None none is = taken-all n none (omega (arith, is))
   taken-page n (Some u) first is = taken-full n u first is
 
--- ---- looks
+-- ---- table lookups
 pub looks-next : (before now after count more each : ℕ) → now ≤ before + count * each → after ≤ now + each → more ≡ count + 1 → after ≤ before + more * each
 looks-next before now after count more each paid le is = rw is (omega (arith, paid, le))
 

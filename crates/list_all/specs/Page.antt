@@ -9,6 +9,6 @@ pub record Page : Type 0 where
   pub tuples : List Tuple
   pub more : Bool
 
--- of the automaton's answers on the text the first n, and whether there are more
+-- the first n of the automaton's answers on the text, and whether there are more
 abbrev pub IsPageOf : DeterministicAutomaton → List ℕ → ℕ → Page → Type 0
 IsPageOf a s n p = (all : List Tuple) → AreAnswersOf a s all → IsPage all None n p.tuples p.more

@@ -1,4 +1,4 @@
-//! The pages of many documents, in pieces.
+//! The pages of many documents, found by several threads.
 ghost use Rattle.std.specs.Prelude.{◌≡◌, ◌+◌, ◌<◌, ◌≤◌, ◌^◌, All, length, take, IfOk};
 ghost use Rattle.std.specs.List.{AllByRecursion};
 ghost use Rattle.std.specs.Thread.{IsSync};
@@ -20,7 +20,7 @@ use std::alloc::Global;
 use std::thread::Threads;
 use work_gate::{Gate, halves};
 
-/// The roots of the documents at the places from `first` on.
+/// The roots of `count` documents, from index `first` on.
 fn roots_of(
     alloc: Global,
     docs: &Docs,
@@ -39,7 +39,7 @@ fn roots_of(
     Ok(roots)
 }
 
-/// The pages of the roots in order, on this thread, one for equal roots. The first root's place is `at`.
+/// Finds the pages of the roots in order, on this thread. Equal roots share one page. The first root has index `at`.
 fn one_piece<F: FindPage, G: Gate>(
     alloc: Global,
     finder: &F,
@@ -62,7 +62,7 @@ fn one_piece<F: FindPage, G: Gate>(
     Ok(Shared { found, places })
 }
 
-/// The pages of the roots in order, found in at most `workers` pieces.
+/// Finds the pages of the roots in order, in at most `workers` pieces that run at once.
 fn in_pieces<R: Threads + Sync, F: FindPage, G: Gate>(
     rt: &R,
     alloc: Global,
@@ -109,16 +109,17 @@ fn in_pieces<R: Threads + Sync, F: FindPage, G: Gate>(
     joined(first?, second?)
 }
 
-/// What a page costs beside its answers, in answers.
+/// The cost of a page apart from its answers. The unit is the cost of one answer.
 const PAGE: usize = 2;
 
-/// How many answers are found in the time that it takes to start a thread, at least.
+/// The minimum number of answers that are found in the time that it takes to start a thread.
 const ANSWERS_OF_THREAD: usize = 256;
 
-/// So few roots are always halved, so that a gate sees two threads.
+/// With two or more workers, lists of at most this many roots are always cut in two, so that a gate observes two
+/// threads.
 const FEWEST: usize = 2;
 
-// What the page found last cost, in answers.
+// The cost of the page that was found last. The unit is the cost of one answer.
 fn last_cost(found: &[OnePage]) -> usize {
     match found.last() {
         Some(page) => page.tuples().len().saturating_add(PAGE),
@@ -126,7 +127,7 @@ fn last_cost(found: &[OnePage]) -> usize {
     }
 }
 
-/// The pages of the first roots in order, on this thread, until they cost what a thread's start costs.
+/// Finds the pages of the first roots in order, on this thread, until they have cost as much as the start of a thread.
 fn first_piece<F: FindPage, G: Gate>(
     alloc: Global,
     finder: &F,
@@ -158,13 +159,13 @@ fn first_piece<F: FindPage, G: Gate>(
     Ok(Shared { found, places })
 }
 
-// In how many pieces at most the pages of so many further roots are found, if each costs as much as the last one found.
+// The maximum number of pieces for `rest` further roots, if each page costs as much as the last one found.
 fn pieces_of(found: &[OnePage], rest: usize, workers: u8) -> u8 {
     let cost = rest.saturating_mul(last_cost(found));
     workers.min((cost / ANSWERS_OF_THREAD).min(64) as u8)
 }
 
-/// The pages of the roots in order, found in as many pieces as are worth a thread's start, and at most `workers`.
+/// Finds the pages of the roots in order, in as many pieces as are worth the start of a thread, and at most `workers`.
 fn in_worthy_pieces<R: Threads + Sync, F: FindPage, G: Gate>(
     rt: &R,
     alloc: Global,
@@ -188,18 +189,20 @@ fn in_worthy_pieces<R: Threads + Sync, F: FindPage, G: Gate>(
     joined(first, second)
 }
 
-/// The page of each of the documents at the places from `first` on: the first `limit` answers of the automaton on its text,
-/// and whether there are more. It is the same for every number of workers.
+/// Finds the page of each of `count` documents from index `first` on: the first `limit` answers of the automaton on its
+/// text, and whether there are more. The result doesn't depend on the number of workers. `limit` is 1 to 10,000, and
+/// `workers` is 1 to 64.
 ///
-/// Documents with one root share one page in a piece: it is found once, and takes memory once.
-/// The view's tables are those of the automaton, and the documents' roots are its nodes or none. Two places are halved. More are
-/// worked on by one thread until they have cost as much as a thread's start, and the rest is cut into at most `workers` pieces, 1
-/// to 64, which run at once: as many as are worth that, if each page costs as much as the last one found. `gate.pass` is called
-/// with each place before its page. The limit is 1 to 10,000.
+/// The view's tables are those of the automaton, and each root is a node of the view or `None`. With one worker there
+/// is one piece. Otherwise two documents are cut into two pieces, and for more one thread begins. When its pages have
+/// cost as much as the start of a thread, the rest is cut into at most `workers` pieces, which run at once. There are
+/// only as many pieces as are worth a thread each, if each page costs as much as the last one found. `gate.pass` is
+/// called with the index of each document before its page is found. Within a piece, documents with equal roots share
+/// one page, which is found and stored once.
 ///
 /// # Errors
 ///
-/// `NoMemory` where none was found, in whatever piece.
+/// `NoMemory` if allocation fails in any piece.
 pub fn pages<R: Threads + Sync, G: Gate>(
     rt: &R,
     alloc: Global,

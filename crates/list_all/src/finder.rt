@@ -1,4 +1,4 @@
-//! What finds the page of a text.
+//! Finding the page of one text.
 ghost use Rattle.std.specs.Prelude.{◌≡◌, ◌<◌, Option, IfOk};
 ghost use Rattle.slp_model.specs.declared.NodeId.{NodeId};
 ghost use Rattle.span_enum.specs.Listing.{IsReady, text_of};
@@ -14,7 +14,7 @@ use std::alloc::Global;
 use std::marker::Brand;
 use std::sync::ledger::{Blank, Ledger};
 
-/// Finds the page of a root's text, on any thread.
+/// Finds the page of a root's text. It can be called from any thread.
 pub(crate) trait FindPage: Sync {
     ghost can_find: { Self → Option NodeId → Type 0 };
 
@@ -25,7 +25,7 @@ pub(crate) trait FindPage: Sync {
         ensures { IfOk result (is_page self.now root) };
 }
 
-/// The first `limit` answers of an automaton on a text with tables, and whether there are more.
+/// Finds the first `limit` answers of an automaton on a text whose nodes have tables, and whether there are more.
 #[derive(Clone, Copy)]
 pub(crate) struct Finder<'a> {
     pub(crate) view: View<'a>,
@@ -43,7 +43,7 @@ impl<'a> FindPage for Finder<'a> {
     }
 }
 
-/// The page with a counter of its own.
+/// Finds the page of a root's text, with a counter of its own.
 fn counted<L: Ledger>(
     alloc: Global,
     view: View<'_>,

@@ -1,11 +1,11 @@
-//! Pages that were found.
+//! The pages found.
 ghost use Rattle.std.specs.Prelude.{◌≡◌, ◌<◌, Some, map, length, slice_get};
 
 use crate::shared::Shared;
 use span_types::Tuple;
 use std::marker::Model;
 
-/// The first answers of an automaton on a text, and whether it has more. Contracts see it as these two.
+/// The first answers of an automaton on a text, and whether there are more. Contracts see a page as these two values.
 #[derive(Drop)]
 pub struct OnePage {
     pub(crate) tuples: Vec<Tuple>,
@@ -28,7 +28,7 @@ impl OnePage {
         &self.tuples
     }
 
-    /// Whether there are answers after these.
+    /// Whether there are more answers after these.
     pub fn more(&self) -> bool
         ensures { result ≡ self.now.more }
     {
@@ -36,7 +36,7 @@ impl OnePage {
     }
 }
 
-/// A page for each of some documents, in their order. Contracts see it as the list of the pages.
+/// The pages of several documents, in their order. Contracts see them as a list of pages.
 #[derive(Drop)]
 pub struct Pages {
     pub(crate) shared: Shared,
@@ -55,14 +55,14 @@ impl Model for Pages {
 }
 
 impl Pages {
-    /// How many pages there are.
+    /// The number of pages.
     pub fn count(&self) -> usize
         ensures { result ≡ length self.now }
     {
         self.shared.places.len()
     }
 
-    /// The page at this place.
+    /// The page at index `place`, counted from 0.
     fn page(&self, place: usize) -> &OnePage
         requires { place < length self.now }
         ensures { slice_get self.now place ≡ Some result.now }
@@ -70,7 +70,7 @@ impl Pages {
         &self.shared.found[self.shared.places[place]]
     }
 
-    /// The answers of the page at this place, in mark order. Places count from 0.
+    /// The answers of the page at index `place`, in mark order. Indices count from 0.
     pub fn tuples(&self, place: usize) -> &[Tuple]
         requires { place < length self.now }
         ensures { slice_get (map (λ p. p.tuples) self.now) place ≡ Some result.now }
@@ -78,7 +78,7 @@ impl Pages {
         self.page(place).tuples()
     }
 
-    /// Whether there are answers after those of the page at this place.
+    /// Whether there are more answers after those of the page at index `place`, counted from 0.
     pub fn more(&self, place: usize) -> bool
         requires { place < length self.now }
         ensures { slice_get (map (λ p. p.more) self.now) place ≡ Some result }

@@ -1,7 +1,8 @@
-//! A page of each document: the first answers of an automaton on every document's text, with workers.
+//! The first page of answers of an automaton on each of many documents, found by several threads.
 //!
-//! [`page`] gives the first answers on one text, and whether there are more. [`pages`] does so for a row of documents, whose
-//! places it cuts into pieces that run at once. The result depends neither on the number of workers nor on the gate:
+//! [`page`] returns the first answers on one text, and whether there are more. [`pages`] does so for consecutive
+//! documents, which it cuts into pieces that run at once. The result depends neither on the number of workers nor on
+//! the gate:
 //!
 //! ```text
 //! let (view, dfa) = book.parts(b"q", &store)?;
@@ -11,9 +12,10 @@
 //! }
 //! ```
 //!
-//! A page of a answers of k variables on a text of n bytes makes at most (a+2)·B(k, n) looks at a node and its table, with
-//! B(k, n) = 4·(2k+1)·(H(n)+3), and the answers are found in the tables of the text's nodes (M. L. Schmid and N. Schweikardt,
-//! Spanner evaluation over SLP-compressed documents, PODS 2021).
+//! A page of `a` answers of k variables on a text of n bytes takes at most (a+2)·B(k, n) table lookups, with B(k, n) =
+//! 4·(2k+1)·(H(n)+3), where H(n) is the greatest height of a balanced tree of n bytes. The answers are found in the
+//! tables of the text's nodes (M. L. Schmid and N. Schweikardt, *Spanner Evaluation over SLP-Compressed Documents*,
+//! PODS 2021).
 #![tactic(auto)]
 
 mod every;

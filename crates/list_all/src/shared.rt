@@ -1,4 +1,5 @@
-//! Pages that several places share: texts of equal roots have equal pages, so one is found for them all.
+//! Pages that several documents share: equal roots have equal texts and equal pages, so each distinct root's page is
+//! found once.
 ghost use Rattle.std.specs.Prelude.{◌≡◌, ◌+◌, ◌<◌, ◌++◌, ℕ, All, Some, map, length, slice_get, IfOk, OnOk};
 ghost use Rattle.list_all.specs.Every.{AreEach};
 ghost use Rattle.list_all.specs.Page.{Page};
@@ -11,14 +12,14 @@ use node_store::NodeId;
 use span_types::NoMemory;
 use std::alloc::Global;
 
-/// The pages that were found, and for each root in order the place of its page among them.
+/// The pages found, and for each root, in order, the index of its page in them.
 #[derive(Drop)]
 pub(crate) struct Shared {
     pub(crate) found: Vec<OnePage>,
     pub(crate) places: Vec<usize>,
 }
 
-/// The place of the root's page among those found. The page is found now where the root is not among those seen.
+/// The index of the root's page in `found`. If the root isn't in `seen`, its page is found now and put last.
 pub(crate) fn place_of<F: FindPage>(
     alloc: Global,
     finder: &F,
@@ -43,7 +44,7 @@ pub(crate) fn place_of<F: FindPage>(
     Ok(place)
 }
 
-/// The pages of the first roots and then those of the second.
+/// The pages of the first roots followed by those of the second.
 pub(crate) fn joined(first: Shared, second: Shared) -> Result<Shared, NoMemory>
     requires { All (λ k. k < length second.found.items) second.places.items }
     ensures found { IfOk result (λ all. all.found.items ≡ first.found.items ++ second.found.items) }

@@ -13,14 +13,15 @@ use state_tables::View;
 use std::alloc::Global;
 use std::sync::ledger::Ledger;
 
-/// The first `limit` answers of the automaton on the root's text, and whether there are more.
+/// Finds the first `limit` answers of the automaton on the root's text, and whether there are more.
 ///
-/// The view's tables are those of the automaton, and the root is one of its nodes or none. A page of a answers of k variables
-/// on a text of n bytes makes at most (a+2)·B(k, n) looks, and takes memory for these answers alone.
+/// The view's tables are those of the automaton, and the root is a node of the view or `None`. A page of `a` answers of
+/// k variables on a text of n bytes takes at most (a+2)·B(k, n) table lookups, which `looks` counts. Memory is
+/// allocated for these answers only.
 ///
 /// # Errors
 ///
-/// `NoMemory` where none was found.
+/// `NoMemory` if allocation fails.
 pub fn page<L: Ledger>(
     alloc: Global,
     view: View<'_>,
@@ -38,7 +39,7 @@ pub fn page<L: Ledger>(
     first_answers(alloc, &mut answers, limit, looks)
 }
 
-/// The first `limit` answers of those that none was taken of, and whether there are more.
+/// Takes the first `limit` answers of an iterator that hasn't returned any, and tests whether there are more.
 fn first_answers<L: Ledger>(
     alloc: Global,
     answers: &mut Answers<'_>,
