@@ -21,7 +21,7 @@ lacks va vb n wide f = by (has_name va n) refl
     by true e = let bad : true ≡ false = sym (wide e) ∙ f in absurd (cc)
     by false e = e
 
--- an assignment of a query gives nothing to other names
+-- an assignment of a query has no spans for other names
 outside : (q : Query) (s : List ℕ) (r : Assignment) → Rel q s r → (n : List ℕ) → has_name (names_of q) n ≡ false → r n ≡ None
 outside (Leaf f names) s r h n e = h.read n ∙ named-none names h.tuple n e
 outside (Union a b) s r (inl h) n e = outside a s r h n (lacks (names_of a) (both_names (names_of a) (names_of b)) n (left-names (names_of a) (names_of b) n) e)
@@ -43,7 +43,7 @@ named-own (m ∷ names) r n h = by (same_name m n) refl h (named-own names r n)
     by true e g rest = ap r (same-is m n e)
     by false e g rest = rest g
 
--- an assignment that gives nothing to other names is its tuple, read by the names
+-- an assignment without spans for other names is its tuple, read by the names
 own : (names : List (List ℕ)) (r : Assignment) → ((n : List ℕ) → has_name names n ≡ false → r n ≡ None) → r ≡ named names (map r names)
 own names r out = λ i n. each n (has_name names n) refl i
   where
@@ -51,7 +51,7 @@ own names r out = λ i n. each n (has_name names n) refl i
     each n true e = sym (named-own names r n e)
     each n false e = out n e ∙ sym (named-none names (map r names) n e)
 
--- a text that an automaton over bytes accepts has bytes alone
+-- a text that an automaton over bytes accepts consists of bytes
 path-bytes : (d : DeterministicAutomaton) → ReadsBytes d → (g : ℕ → ℕ) (p : ℕ) (s : List ℕ) (q r : ℕ) → path (next_of d) (word_from g p s) q ≡ Some r → AreBytes s
 path-bytes d reads g p [] q r e = tt
 path-bytes d reads g p (b ∷ s) q r e = by (next_of d q (g p) b) refl e (λ x k. path-bytes d reads g (suc p) s x r k)

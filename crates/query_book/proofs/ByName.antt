@@ -1,4 +1,4 @@
--- What is said of a projection by name.
+-- Statements about a projection by name.
 use Rattle.std.proofs.Common.{◌≡◌, ℕ, List, Some, Result, Ok, Err, IfOk, subst}
 use Rattle.span_types.specs.Query.{Query}
 use Rattle.query_book.specs.Named.{Named, value_of}

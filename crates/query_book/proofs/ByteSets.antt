@@ -60,7 +60,7 @@ within (x ∷ c) (suc b) h = omega (arith, within c b h)
 pub steps-bytes : (f : FormulaTree) → HasByteSets f → (o m b p : ℕ) → Steps f o m b p → b < 256
 steps-bytes f h o m b p s = omega (arith, within s.members b s.is_member, set-size f 1 p s.members h s.has_set)
 
--- where each step of the occurrences reads a byte, so does each of the automaton
+-- if each step of the occurrences reads a byte, so does each step of the automaton
 pub reads-by : (n : ℕ) (Step : ℕ → ℕ → ℕ → ℕ → Type 0) (End : ℕ → ℕ → Type 0) (d : DeterministicAutomaton) → ((o m b p : ℕ) → Step o m b p → b < 256) → IsAutomatonOf n Step End d → ReadsBytes d
 reads-by n Step End d bytes is q m b r e =
     let x = at-place is.subsets q (omega (arith, is.states, step-within d q m b r e)) in

@@ -1,4 +1,4 @@
--- What a covered store says of the query of a name.
+-- What holds of a query by name if all nodes of the store have tables.
 use Rattle.std.proofs.Common.{◌≡◌, ℕ, ◌<◌, ◌≤◌, Bool, true, false, cond, List, [], ◌∷◌, length, Option, Some, None, All, sym, ap, subst, ◌∙◌, arith}
 use Rattle.std.specs.Prelude.{unwrap_or}
 use Rattle.std.specs.Option.{option_map}
@@ -20,7 +20,7 @@ use Rattle.query_book.proofs.Views.{value-by_name}
 some_is : {X : Type 0} {x y : X} → Some x ≡ Some y → x ≡ y
 some_is {X} {x} p = ap (λ o. unwrap_or o x) p
 
--- what holds of all queries holds of that of the name
+-- what holds of all queries holds of the one with the name
 pub all-found : (P : TabledQuery → Type 0) (es : List Entry) (name : List ℕ) (t : TabledQuery) → AllByRecursion (λ e. P e.tabled) es → tabled_of es name ≡ Some t → P t
 all-found P [] name t h q = let bad : ⊥ = cc in absurd bad
 all-found P (x ∷ xs) name t h q = by (is_same name x.name) q (all-found P xs name t h.1)

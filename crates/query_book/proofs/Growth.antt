@@ -1,4 +1,4 @@
--- What the map's queries say as their tables grow.
+-- Facts about the map's queries while their tables are computed.
 use Rattle.std.proofs.Common.{◌≡◌, inl, ℕ, zero, suc, ◌+◌, List, [], ◌∷◌, length, slice_get, Some, None, refl, sym, ap, subst, ◌∙◌, arith}
 use Rattle.std.specs.Prelude.{unwrap_or}
 use Rattle.std.specs.Option.{option_map}
@@ -15,7 +15,7 @@ use Rattle.query_book.specs.Growing.{MayGrow, Grows, ChangesAt, ChangesFirst}
 some_is : {X : Type 0} {x y : X} → Some x ≡ Some y → x ≡ y
 some_is {X} {x} p = ap (λ o. unwrap_or o x) p
 
--- what stays may grow
+-- an unchanged query is one that may have got tables
 stays : (ns : List Node) (v : TabledQuery) → IsSound v → IsServed ns v → MayGrow ns v v
 stays ns v s t = record { query = refl; sound = s; served = t; count = inl refl }
 
@@ -29,7 +29,7 @@ served-at ns [] i v h at = let bad : ⊥ = cc in absurd bad
 served-at ns (p ∷ ps) zero v h at = subst (IsServed ns) (some_is at) h.0
 served-at ns (p ∷ ps) (suc i) v h at = served-at ns ps i v h.1 at
 
--- how many tables all the queries have
+-- the number of tables of all queries
 abbrev pub total : Named TabledQuery → ℕ
 total ps = sum_of (covered_of (entries_of ps))
 
@@ -46,7 +46,7 @@ changes-length R (suc n) [] qs h = ap length h
 changes-length R (suc n) (p ∷ ps) [] h = absurd h
 changes-length R (suc n) (p ∷ ps) (q ∷ qs) h = ap suc (changes-length R n ps qs h.2)
 
--- the first place is changed
+-- the first index is changed
 first-step : (R : TabledQuery → TabledQuery → Type 0) (ps rs : Named TabledQuery) → ChangesAt R 0 ps rs → ChangesFirst R 1 ps rs
 first-step R [] rs c = c.set
 first-step R (p ∷ ps) rs c = subst (ChangesFirst R 1 (p ∷ ps)) (sym c.set) (refl, subst (λ v. R v c.after) (sym (some_is c.there)) c.allowed, refl)
@@ -73,7 +73,7 @@ all-stay : (ns : List Node) (ps : Named TabledQuery) → AreSound ps → Serves 
 all-stay ns [] k s = refl
 all-stay ns (p ∷ ps) k s = (refl, stays ns p.1 k.0 s.0, all-stay ns ps k.1 s.1)
 
--- those that stay may grow too
+-- those that are unchanged may have got tables too
 pub changes-all : (ns : List Node) (n : ℕ) (ps qs : Named TabledQuery) → AreSound ps → Serves ns (entries_of ps) → ChangesFirst (MayGrow ns) n ps qs → ChangesFirst (MayGrow ns) (length ps) ps qs
 changes-all ns zero ps qs k s h = subst (ChangesFirst (MayGrow ns) (length ps) ps) (sym h) (all-stay ns ps k s)
 changes-all ns (suc n) [] qs k s h = h

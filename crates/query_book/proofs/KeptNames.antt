@@ -55,7 +55,7 @@ keeps (z ∷ ys) x y h lack = by (same_name z x) refl (same_name z y) refl h (λ
     by false e true f g rec = ap (λ b. b || has_name (without ys x) y) f
     by false e false f g rec = ap (λ b. b || has_name (without ys x) y) f ∙ rec g
 
--- a name that isn't among the others isn't a variable, or is the one that was taken out
+-- a name that isn't among the others isn't a variable, or is the one that was removed
 narrow : (vars xs : List Name) (x : Name) → HasOther (without vars x) xs → HasOther vars xs ⊎ Contains xs x
 narrow vars [] x h = absurd h
 narrow vars (y ∷ xs) x (inl lack) = by (has_name vars y) refl (same_name x y) refl
@@ -71,7 +71,7 @@ narrow vars (y ∷ xs) x (inr (inr h)) = by (narrow vars xs x h)
     by (inl o) = inl (inr (inr o))
     by (inr c) = inr (suc c.0, omega (arith, c.1), c.2)
 
--- different variables are at most as many as the variables
+-- distinct names of variables are no more than the variables
 room : (xs vars : List Name) → (HasOther vars xs → ⊥) → length xs ≤ length vars
 room [] vars h = omega arith
 room (x ∷ xs) vars h = by (has_name vars x) refl (room xs (without vars x) still)
@@ -95,7 +95,7 @@ no-ninth vars names name few there kept eight new = omega (arith, few, eight, ro
     all (inr (inl c)) = new c
     all (inr (inr o)) = kept o
 
--- one more variable that isn't there
+-- one more variable, which isn't in the list
 pushed : (vars names : List Name) (name : Name) → HasOther vars (names ++ name ∷ []) → HasOther vars names ⊎ ((Contains vars name → ⊥) ⊎ Contains names name)
 pushed vars [] name (inl lack) = inr (inl lack)
 pushed vars [] name (inr (inl c)) = absurd (omega (arith, c.1))

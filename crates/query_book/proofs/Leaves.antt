@@ -22,7 +22,7 @@ use Rattle.span_algebra.proofs.SetLaws.{reaches-by}
 use Rattle.span_algebra.proofs.TreeCounts.{position-parts}
 use Rattle.query_book.specs.Answers.{IsAnswer, Defines}
 
--- no name stands twice
+-- no name occurs twice
 abbrev pub AreApart : List (List ℕ) → Type 0
 AreApart [] = Unit {0}
 AreApart (n ∷ ns) = (has_name ns n ≡ false) × AreApart ns
@@ -39,7 +39,7 @@ pub apart : (ns : List (List ℕ)) → AllPairs (λ a b. a ≢ b) ns → AreApar
 apart [] h = tt
 apart (n ∷ ns) h = (lacks n ns (λ k d lt. h 0 (suc k) d (omega arith) (omega (arith, lt))), apart ns (λ i j d a b. h (suc i) (suc j) d (omega (arith, a)) (omega (arith, b))))
 
--- a tuple is told by what it gives to distinct names
+-- a tuple is determined by its spans for distinct names
 pub named-tells : (ns : List (List ℕ)) (t u : List (Option Span)) → AreApart ns → length t ≡ length ns → length u ≡ length ns → ((n : List ℕ) → named ns t n ≡ named ns u n) → t ≡ u
 named-tells [] [] [] a lt lu h = refl
 named-tells [] [] (y ∷ u) a lt lu h = absurd (omega (arith, lu))

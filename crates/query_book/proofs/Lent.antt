@@ -1,4 +1,4 @@
--- The answers of an automaton that is lent.
+-- The answers of a returned automaton.
 use Rattle.std.proofs.Common.{◌≤◌, ℕ, List, length}
 use Rattle.span_types.specs.Query.{Query}
 use Rattle.span_types.specs.Rel.{IsAnswersOf}

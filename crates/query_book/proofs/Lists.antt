@@ -1,4 +1,4 @@
--- The answers of a query make a list.
+-- The answers of a query form a list.
 use Rattle.std.proofs.Common.{◌≡◌, ℕ, ◌<◌, ◌≤◌, sym, subst, ◌∙◌, List, length, Option, Some, None, All}
 use Rattle.span_types.specs.Query.{Query}
 use Rattle.span_types.specs.Rel.{IsAnswersOf}

@@ -1,4 +1,4 @@
--- What is made of compiled queries is compiled.
+-- Operations on compiled queries return compiled queries.
 use Rattle.std.proofs.Common.{◌≡◌, inl, inr, ℕ, suc, ◌+◌, ◌<◌, ◌≤◌, List, sym, ap, subst, ◌∙◌, arith}
 use Rattle.span_types.specs.Query.{Query, Union, Join, Project, query_of}
 use Rattle.span_types.specs.VarList.{AreVars}
@@ -37,7 +37,7 @@ module _ (l r c : Compiled) (is_l : IsCompiled l) (is_r : IsCompiled r) (parts :
   parts_are : c.parts ≡ suc (parts_of p + parts_of q)
   parts_are = omega (arith, parts, is_l.parts, is_r.parts)
 
-  -- what is said of the names that are kept is said of the queries' names
+  -- what holds of the kept names holds of the queries' names
   by_names : (P : List (List ℕ) → List (List ℕ) → List (List ℕ) → Type 0) → P l.vars r.vars c.vars → P (names_of p) (names_of q) both
   by_names P h = subst (P (names_of p) (names_of q)) names_are (subst (λ (v : List (List ℕ)). P (names_of p) v c.vars) is_r.names (subst (λ (v : List (List ℕ)). P v r.vars c.vars) is_l.names h))
 

@@ -1,4 +1,4 @@
--- What the map's queries say where their tables are renumbered.
+-- Facts about the map's queries when their tables are renumbered.
 use Rattle.std.proofs.Common.{◌≡◌, ℕ, zero, suc, ◌<◌, ◌≤◌, Bool, List, [], ◌∷◌, length, get_or, slice_get, Some, Contains, sym, ap, subst, ◌∙◌, arith}
 use Rattle.std.specs.Prelude.{unwrap_or}
 use Rattle.std.specs.Option.{option_map}
@@ -27,8 +27,7 @@ rank-up ks (suc i) zero h = absurd (omega arith)
 rank-up [] (suc i) (suc j) h = omega arith
 rank-up (b ∷ bs) (suc i) (suc j) h = omega (arith, rank-up bs i j (omega arith))
 
--- ---- one query
--- a query that remembers nothing
+-- a query with an empty cache
 pub sound-forgotten : (old new : TabledQuery) → new.query ≡ old.query → new.memory ≡ [] → new.tables.states ≡ old.tables.states → IsSound old → IsSound new
 sound-forgotten old new query memory states s = record {
   compiled = subst IsCompiled (sym query) s.compiled;
@@ -77,7 +76,7 @@ module _ (keep : List Bool) where
   serves-after ns ms thin (p ∷ ps) [] h s = absurd h
   serves-after ns ms thin (p ∷ ps) (q ∷ qs) h s = (h.1.served ns ms thin s.0, serves-after ns ms thin ps qs h.2 s.1)
 
-  -- in each no other table is kept
+  -- in each query no other table is kept
   pub used-after : (ps qs : Named TabledQuery) → ChangesFirst (Renumbers keep) (length ps) ps qs → UseEachTable (entries_of qs)
   used-after [] qs h = subst (λ xs. UseEachTable (entries_of xs)) (sym h) tt
   used-after (p ∷ ps) [] h = absurd h

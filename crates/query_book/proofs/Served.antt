@@ -1,4 +1,4 @@
--- What the entries say of the nodes, where the book changes or the nodes grow.
+-- Facts about the entries and the nodes, when the registry changes or nodes are added.
 use Rattle.std.proofs.Common.{◌≡◌, ℕ, Bool, true, false, cond, List, [], ◌∷◌, ◌++◌, sym, subst, arith, length-append}
 use Rattle.slp_model.specs.declared.Node.{Node}
 use Rattle.slp_model.specs.Tree.{text}
@@ -11,7 +11,7 @@ use Rattle.query_book.specs.Named.{is_same}
 use Rattle.query_book.specs.Book.{with_entry, without_entry}
 use Rattle.query_book.specs.Serving.{IsServed, Serves}
 
--- no node, so no table
+-- without nodes there are no tables
 pub served-none : (ns : List Node) (t : TabledQuery) → count_of t.tables ≡ 0 → IsServed ns t
 served-none ns t z = record { covered = omega (arith, z); tables = λ id lt. absurd (omega (arith, z, lt)) }
 

@@ -1,4 +1,4 @@
--- Each table that is left where tables are renumbered is that of a node.
+-- After a renumbering each table is that of a node.
 use Rattle.std.proofs.Common.{◌≡◌, ◌==◌, ◌||◌, ℕ, zero, suc, ◌<◌, Bool, true, false, List, [], ◌∷◌, length, map, get_or, Contains, inl, inr, true≢false, refl, sym, ap, subst, ◌∙◌, arith}
 use Rattle.std.proofs.lemmas.Bool.{cases_eq, ne_eqb}
 use Rattle.std.proofs.lemmas.List.{length-map, get_or-map}

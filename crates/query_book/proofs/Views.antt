@@ -1,4 +1,4 @@
--- What the entries say of the queries.
+-- Facts about the entries and their queries.
 use Rattle.std.proofs.Common.{◌≡◌, ℕ, Bool, true, false, cond, List, [], ◌∷◌, map, Option, Some, refl, sym, ap, ◌∙◌}
 use Rattle.std.specs.Option.{option_map}
 use Rattle.query_book.specs.declared.entry.Entry.{Entry}
@@ -7,7 +7,7 @@ use Rattle.query_book.specs.Named.{Named, is_same, value_of, put, taken_out}
 use Rattle.query_book.specs.Book.{tabled_of, with_entry, without_entry}
 
 module _ {A : Type 0} (g : TabledQuery → A) where
-  -- what g says of each entry's query, by name
+  -- the value of g for each entry's query, by name
   abbrev pub by_name : List Entry → Named A
   by_name es = map (λ e. (e.name, g e.tabled)) es
 

@@ -22,14 +22,14 @@ pub record Defines (q : Query) (a : DeterministicAutomaton) : Type 0 where
   pub variables : a.variables ≡ length (names_of q)
   pub answers : (s : List ℕ) (t : Tuple) → length s ≤ 281474976710656 → IsAnswer q s t ↔ IsMember a s t
 
--- a listing of the query's answers on the text, which stands at the cursor
+-- an iterator over the query's answers on the text, positioned at the cursor
 pub record IsListingOf (s : List ℕ) (cursor : Option Tuple) (listing : Listing) (q : Query) : Type 0 where
   pub text : listing.text ≡ s
   pub after : listing.after ≡ cursor
   pub defines : Defines q listing.automaton
   pub members : (t : Tuple) → IsAnswer q s t ↔ IsMember listing.automaton s t
 
--- the query's answers on the text make a rising list, and so do those after the cursor
+-- the query's answers on the text form an ascending list, and so do those after the cursor
 pub record HasList (s : List ℕ) (cursor : Option Tuple) (q : Query) : Type 0 where
   pub all : List Tuple
   pub rest : List Tuple
@@ -50,7 +50,7 @@ IfNamed queries name P = (q : Query) → value_of queries name ≡ Some q → P 
 abbrev pub HasVariablesOf : Named Query → List ℕ → Tuple → Type 0
 HasVariablesOf queries name t = IfNamed queries name (λ q. length t ≡ length (names_of q))
 
--- the bound on looks for one answer of the query, if there is one, on the text
+-- the bound on table lookups for one answer of the query on the text, if the query exists
 abbrev pub most_looks : Option Query → List ℕ → ℕ
 most_looks None s = 0
 most_looks (Some q) s = looks_limit (length (names_of q)) (length s)

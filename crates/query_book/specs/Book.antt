@@ -1,4 +1,4 @@
--- A book of queries as an ordered list.
+-- A registry of queries as an ordered list.
 use Rattle.std.specs.Prelude.{◌≡◌, ℕ, cond, List, [], ◌∷◌, map, Option, Some, None}
 use Rattle.span_types.specs.Query.{Query, query_of}
 use Rattle.query_book.specs.declared.entry.Entry.{Entry}
@@ -7,11 +7,11 @@ use Rattle.query_book.specs.declared.refusal.BookRefusal.{BookRefusal}
 use Rattle.query_book.specs.declared.refusal.BookRefusal.TheVariants.{NoSuchQuery}
 use Rattle.query_book.specs.Named.{Named, is_same, value_of}
 
--- what contracts see of a book: its entries, in the order in which their names came
+-- what contracts see of a registry: its entries, in the order in which their names were added
 abbrev pub Book : Type 0
 Book = List Entry
 
--- the entry of a name and its query
+-- the entry of this name and this query
 abbrev pub entry : List ℕ × TabledQuery → Entry
 entry p = record { name = p.0; tabled = p.1 }
 
@@ -23,7 +23,7 @@ entries_of ps = map entry ps
 abbrev pub queries_of : Book → Named Query
 queries_of es = map (λ e. (e.name, query_of e.tabled.query.tree)) es
 
--- no query has the name, and the refusal says so
+-- no query has the name, and the refusal is that
 pub record IsMissing (queries : Named Query) (name : List ℕ) (why : BookRefusal) : Type 0 where
   pub none : value_of queries name ≡ None
   pub refusal : why ≡ NoSuchQuery
@@ -33,12 +33,12 @@ abbrev pub tabled_of : Book → List ℕ → Option TabledQuery
 tabled_of [] name = None
 tabled_of (e ∷ es) name = cond (is_same name e.name) (Some e.tabled) (tabled_of es name)
 
--- a present name keeps its place and has the entry, and a new one goes last
+-- an existing name keeps its index and gets the entry, and a new name goes last
 abbrev pub with_entry : Book → Entry → Book
 with_entry [] x = x ∷ []
 with_entry (e ∷ es) x = cond (is_same x.name e.name) (x ∷ es) (e ∷ with_entry es x)
 
--- the entries without that of this name
+-- the entries without the one with this name
 abbrev pub without_entry : Book → List ℕ → Book
 without_entry [] name = []
 without_entry (e ∷ es) name = cond (is_same name e.name) es (e ∷ without_entry es name)

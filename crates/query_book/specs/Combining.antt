@@ -18,13 +18,13 @@ parts_of (Union a b) = suc (parts_of a + parts_of b)
 parts_of (Join a b) = suc (parts_of a + parts_of b)
 parts_of (Project a names) = suc (parts_of a)
 
--- a query within the limits: 128 parts, eight variables and 128 reached sets
+-- a query within the limits: 128 parts, eight variables and 128 reachable sets of states
 pub record IsAccepted (q : Query) : Type 0 where
   pub few_parts : parts_of q ≤ 128
   pub few_names : length (names_of q) ≤ 8
   pub few : TreeCountIsAbove 128 q → ⊥
 
--- the first limit that a query passes
+-- the first limit that a query exceeds
 abbrev pub IsPast : Query → CombineRefusal → Type 0
 IsPast q (NoSuchQuery name) = ⊥
 IsPast q (QueryTooLarge parts) = (parts ≡ parts_of q) × (128 < parts)
@@ -33,11 +33,11 @@ IsPast q TooManyVariables = (parts_of q ≤ 128) × (8 < length (names_of q))
 IsPast q TooManyStates = (parts_of q ≤ 128) × (length (names_of q) ≤ 8) × TreeCountIsAbove 128 q
 IsPast q NoMemory = Unit {0}
 
--- P holds of the tree over the queries of two names, which are there
+-- both names have queries, and P holds of the tree over them
 abbrev pub HasPair : (Query → Query → Query) → Named Query → List ℕ → List ℕ → (Query → Type 0) → Type 0
 HasPair Tree queries left right P = IsNamed queries left (λ p. IsNamed queries right (λ q. P (Tree p q)))
 
--- no query has the name, and the refusal says so; memory may run out at any time
+-- no query has the name, and the refusal is that; an allocation may fail at any time
 abbrev pub IsAbsent : Named Query → List ℕ → CombineRefusal → Type 0
 IsAbsent queries wanted (NoSuchQuery name) = (name ≡ wanted) × (value_of queries wanted ≡ None)
 IsAbsent queries wanted (QueryTooLarge parts) = ⊥
@@ -46,7 +46,8 @@ IsAbsent queries wanted TooManyVariables = ⊥
 IsAbsent queries wanted TooManyStates = ⊥
 IsAbsent queries wanted NoMemory = Unit {0}
 
--- why the tree over the queries of two names isn't registered: the left is absent, or the right, or the tree is past a limit
+-- why the tree over the queries of two names isn't registered: the left query doesn't exist, or the right one doesn't,
+-- or the tree exceeds a limit
 abbrev pub IsPairRefused : (Query → Query → Query) → Named Query → List ℕ → List ℕ → CombineRefusal → Type 0
 IsPairRefused Tree queries left right why = IsAbsent queries left why ⊎ IsNamed queries left (λ p. IsAbsent queries right why ⊎ IsNamed queries right (λ q. IsPast (Tree p q) why))
 
@@ -63,11 +64,11 @@ IsProjectionPast q keep TooManyVariables = ⊥
 IsProjectionPast q keep TooManyStates = HasProjection q keep (λ p. IsPast p TooManyStates)
 IsProjectionPast q keep NoMemory = Unit {0}
 
--- the same by name: the source is absent, or its projection is past a limit
+-- the same by name: the source doesn't exist, or its projection exceeds a limit
 abbrev pub IsProjectRefused : Named Query → List ℕ → List ℕ → CombineRefusal → Type 0
 IsProjectRefused queries source keep why = IsAbsent queries source why ⊎ IsNamed queries source (λ q. IsProjectionPast q keep why)
 
--- a refusal of the algebra, as one of the book
+-- a refusal of the algebra, as one of the registry
 abbrev pub refusal_of : AlgebraRefusal → CombineRefusal
 refusal_of algebra.TooManyVariables = TooManyVariables
 refusal_of algebra.TooManyStates = TooManyStates

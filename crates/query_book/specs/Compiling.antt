@@ -1,4 +1,4 @@
--- Queries made ready for texts.
+-- Compiled queries.
 use Rattle.std.specs.Prelude.{◌≡◌, ℕ, ◌<◌, ◌≤◌, List, length, Some}
 use Rattle.span_types.specs.FormulaTree.{FormulaTree, Set, Empty, Cat, Alt, Star, Plus, Opt, Capture, var_bound}
 use Rattle.span_types.specs.Query.{query_of}
@@ -15,7 +15,7 @@ use Rattle.query_book.specs.declared.compiled.Compiled.{Compiled}
 use Rattle.query_book.specs.declared.refusal.QueryRefusal.{QueryRefusal}
 use Rattle.query_book.specs.declared.refusal.QueryRefusal.TheVariants.{Formula, TooManyStates, NoMemory}
 
--- each byte set has a truth value for each byte and for nothing else
+-- each byte set has a truth value for each byte, and nothing else
 abbrev pub HasByteSets : FormulaTree → Type 0
 HasByteSets (Set members) = length members ≡ 256
 HasByteSets Empty = Unit {0}
@@ -36,7 +36,7 @@ pub record IsRead (f : FormulaTree) (names : List (List ℕ)) : Type 0 where
   pub numbers : var_bound f ≡ length names
   pub bytes : HasByteSets f
 
--- its states are the reached sets of the formula's position automaton, and it accepts what that accepts
+-- its states are the reachable sets of states of the formula's position automaton, and it accepts what that accepts
 pub record IsFormulaAutomaton (f : FormulaTree) (d : DeterministicAutomaton) : Type 0 where
   pub automaton : Automaton
   pub positions : IsPositionAutomaton f automaton
@@ -52,7 +52,7 @@ pub record IsCompiled (c : Compiled) : Type 0 where
   pub tree : IsTreeAutomaton (query_of c.tree) c.dfa
   pub bytes : ReadsBytes c.dfa
 
--- made of the query that a text gives
+-- the compiled query of a text
 pub record IsCompiledOf (s : List ℕ) (c : Compiled) : Type 0 where
   pub compiled : IsCompiled c
   pub query : IsQueryOf s (query_of c.tree)

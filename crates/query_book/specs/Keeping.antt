@@ -4,17 +4,17 @@ use Rattle.line_parts.specs.NameList.{AreNames, with_commas}
 use Rattle.query_book.specs.declared.refusal.CombineRefusal.{CombineRefusal}
 use Rattle.query_book.specs.declared.refusal.CombineRefusal.TheVariants.{NoSuchQuery, QueryTooLarge, OtherVariables, TooManyVariables, TooManyStates, NoMemory}
 
--- VARS: `()` for no names, else the names with a comma between each two
+-- VARS: `()` for no names, otherwise the names separated by commas
 abbrev pub IsVarsText : List ℕ → List (List ℕ) → Type 0
 IsVarsText text [] = text ≡ codes "()"
 IsVarsText text (name ∷ names) = AreNames (name ∷ names) × (text ≡ with_commas name names)
 
--- a name of the list isn't a variable or stands twice
+-- a name of the list isn't a variable or occurs twice
 abbrev pub HasOther : List (List ℕ) → List (List ℕ) → Type 0
 HasOther vars [] = ⊥
 HasOther vars (name ∷ names) = (Contains vars name → ⊥) ⊎ (Contains names name ⊎ HasOther vars names)
 
--- why a name isn't put behind others
+-- why a name isn't appended to others
 abbrev pub IsOther : List (List ℕ) → List (List ℕ) → List ℕ → CombineRefusal → Type 0
 IsOther vars names name why = (why ≡ NoMemory) ⊎ ((why ≡ OtherVariables) × ((Contains vars name → ⊥) ⊎ Contains names name))
 

@@ -7,7 +7,7 @@ use Rattle.query_book.specs.declared.entry.TabledQuery.{TabledQuery}
 use Rattle.query_book.specs.Compiling.{IsCompiled}
 use Rattle.query_book.specs.Named.{Named}
 
--- the query, its tables and their compositions fit together
+-- the query, its tables and their compositions are consistent
 pub record IsSound (t : TabledQuery) : Type 0 where
   pub compiled : IsCompiled t.query
   pub states : t.tables.states ≡ states_of t.query.dfa

@@ -1,11 +1,11 @@
--- How an entry begins.
+-- New entries.
 use Rattle.std.specs.Prelude.{◌≡◌, ℕ, List}
 use Rattle.state_tables.specs.Dictionary.{count_of}
 use Rattle.query_book.specs.declared.compiled.Compiled.{Compiled}
 use Rattle.query_book.specs.declared.entry.Entry.{Entry}
 use Rattle.query_book.specs.Kept.{IsSound}
 
--- an entry of this query with tables of no node
+-- an entry of this query, without tables
 pub record IsFresh (name : List ℕ) (query : Compiled) (e : Entry) : Type 0 where
   pub sound : IsSound e.tabled
   pub name_is : e.name ≡ name

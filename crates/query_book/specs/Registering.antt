@@ -1,4 +1,4 @@
--- What the text of a query says.
+-- What the text of a query means.
 use Rattle.std.specs.Prelude.{◌≡◌, ℕ, List}
 use Rattle.span_types.specs.FormulaTree.{FormulaTree}
 use Rattle.span_types.specs.Query.{Query, Leaf}
@@ -7,7 +7,7 @@ use Rattle.formula_syntax.specs.declared.refusal.FormulaRefusal as formula
 use Rattle.query_book.specs.Occurrences.{CountIsAbove}
 use Rattle.query_book.specs.declared.refusal.QueryRefusal as refusal
 
--- the text gives a formula with at most 128 reached sets, and the query is its Leaf
+-- the text is a formula with at most 128 reachable sets, and the query is its Leaf
 pub record IsQueryOf (s : List ℕ) (q : Query) : Type 0 where
   pub formula : FormulaTree
   pub names : List (List ℕ)
@@ -15,14 +15,14 @@ pub record IsQueryOf (s : List ℕ) (q : Query) : Type 0 where
   pub few : CountIsAbove 128 formula → ⊥
   pub query : q ≡ Leaf formula names
 
--- the text gives a formula with more than 128 reached sets
+-- the text is a formula with more than 128 reachable sets
 pub record IsTooLarge (s : List ℕ) : Type 0 where
   pub formula : FormulaTree
   pub names : List (List ℕ)
   pub outcome : FormulaOf s (Formula formula names)
   pub many : CountIsAbove 128 formula
 
--- the text gives this refusal, which isn't want of memory
+-- the text is rejected for this reason, which isn't allocation failure
 abbrev pub Refuses : List ℕ → formula.FormulaRefusal → Type 0
 Refuses s (formula.TheVariants.TooLong len) = FormulaOf s (TooLong len)
 Refuses s formula.TheVariants.BadText = FormulaOf s BadText
@@ -32,7 +32,7 @@ Refuses s formula.TheVariants.TooManyVariables = FormulaOf s TooManyVariables
 Refuses s (formula.TheVariants.NotFunctional name) = FormulaOf s (NotFunctional name)
 Refuses s formula.TheVariants.NoMemory = ⊥
 
--- why the text gives no query, or memory ran out
+-- why the text is no query, or an allocation failed
 abbrev pub IsRefused : List ℕ → refusal.QueryRefusal → Type 0
 IsRefused s (refusal.TheVariants.Formula why) = Refuses s why
 IsRefused s refusal.TheVariants.TooManyStates = IsTooLarge s

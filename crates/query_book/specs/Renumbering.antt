@@ -1,4 +1,4 @@
--- What happens to a book where its store becomes that of the kept nodes.
+-- How a registry changes when its store is compacted to the kept nodes.
 use Rattle.std.specs.Prelude.{◌≡◌, ℕ, ◌<◌, ◌≤◌, Bool, List, length, map, Contains}
 use Rattle.std.specs.List.{AllByRecursion}
 use Rattle.slp_model.specs.declared.Node.{Node}
@@ -12,13 +12,13 @@ use Rattle.query_book.specs.Book.{Book}
 use Rattle.query_book.specs.Kept.{IsSound}
 use Rattle.query_book.specs.Serving.{IsServed, Serves}
 
--- the nodes of which it is said which are kept have their tables, or their first ones do
+-- the nodes that the plan covers have their tables, or the first of them do
 pub record IsPlanFor (keep : List Bool) (es : Book) : Type 0 where
   pub nodes : List Node
   pub plan : IsPlanOf nodes keep
   pub serves : Serves nodes es
 
--- of each number, how many are kept of so many first nodes
+-- for each number of first nodes, how many of them are kept
 abbrev pub ranked : List Bool → Named ℕ → Named ℕ
 ranked keep ps = map (λ p. (p.0, rank keep p.1)) ps
 
@@ -30,7 +30,7 @@ UsesEachTable d = (number : ℕ) → number < distinct_of d → Contains d.numbe
 abbrev pub UseEachTable : Book → Type 0
 UseEachTable es = AllByRecursion (λ e. UsesEachTable e.tabled.tables) es
 
--- the query stays, exactly the kept ones of the nodes that had tables have them, and no other table is kept
+-- the query is unchanged, its tables are exactly those of the kept nodes that had tables, and no other table is kept
 pub record Renumbers (keep : List Bool) (old new : TabledQuery) : Type 0 where
   pub query : new.query ≡ old.query
   pub sound : IsSound new
@@ -38,6 +38,6 @@ pub record Renumbers (keep : List Bool) (old new : TabledQuery) : Type 0 where
   pub used : UsesEachTable new.tables
   pub served : (ns ms : List Node) → IsThinOf ns keep ms → IsServed ns old → IsServed ms new
 
--- in each query it is said of all nodes with tables whether they are kept
+-- in each query the plan covers all nodes with tables
 abbrev pub AreWithin : List Bool → List Entry → Type 0
 AreWithin keep es = AllByRecursion (λ e. count_of e.tabled.tables ≤ length keep) es

@@ -1,4 +1,4 @@
--- What a book's tables say of the nodes of a store.
+-- Which nodes of a store have tables in a registry.
 use Rattle.std.specs.Prelude.{◌≡◌, ◌⊎◌, ℕ, ◌+◌, ◌≤◌, List, [], ◌∷◌, length, map}
 use Rattle.std.specs.List.{AllByRecursion}
 use Rattle.slp_model.specs.declared.Node.{Node}
@@ -16,7 +16,7 @@ pub record IsServed (ns : List Node) (t : TabledQuery) : Type 0 where
 abbrev pub Serves : List Node → Book → Type 0
 Serves ns es = AllByRecursion (λ e. IsServed ns e.tabled) es
 
--- how many nodes have tables in each query, by name
+-- the number of nodes with tables in each query, by name
 abbrev pub covered_of : Book → Named ℕ
 covered_of es = map (λ e. (e.name, count_of e.tabled.tables)) es
 
@@ -34,7 +34,7 @@ pub record Covers (ns : List Node) (es : Book) : Type 0 where
   pub serves : Serves ns es
   pub all : covered_of es ≡ all_at (length ns) (covered_of es)
 
--- each number is as before or n
+-- each number is unchanged or n
 abbrev pub ArePartlyAt : ℕ → Named ℕ → Named ℕ → Type 0
 ArePartlyAt n [] [] = Unit {0}
 ArePartlyAt n [] (q ∷ qs) = ⊥

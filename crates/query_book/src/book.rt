@@ -1,4 +1,4 @@
-//! Queries by name.
+//! The registry of queries.
 ghost use Rattle.std.specs.Prelude.{◌≡◌, ◌+◌, ◌≤◌, List, [], length, OnOk, OnErr, IfOk, IfErr, IsSome, Some, MatchResult};
 ghost use Rattle.std.specs.Option.{option_map};
 ghost use Rattle.span_types.specs.Query.{Query, query_of};
@@ -27,7 +27,8 @@ use std::sync::ledger::Ledger;
 use std::thread::Threads;
 use work_gate::Gate;
 
-/// Queries with distinct names, in the order in which the names came. A look-up by name takes expected constant time.
+/// A registry of queries with distinct names, in the order in which the names were added. A lookup by name takes
+/// expected constant time.
 #[derive(Drop)]
 pub struct QueryBook {
     by_name: NameMap<TabledQuery>,
@@ -61,13 +62,13 @@ impl QueryBook {
         }
     }
 
-    /// Registers the query of a formula text. A present name keeps its place and has the new query, and a new name goes
-    /// last. No node has a table of it yet. After a refusal the book is as before.
+    /// Compiles a formula and registers it as a query under this name. An existing name keeps its index and gets the
+    /// new query, and a new name goes last. The query has no tables yet. After an error the registry is unchanged.
     ///
     /// # Errors
     ///
-    /// The first refusal of the text, `TooManyStates` exactly where its automaton would have more than 128 states, and
-    /// `NoMemory`.
+    /// The first error of the text, `TooManyStates` exactly if the formula's automaton would have more than 128 states,
+    /// or `NoMemory` if allocation fails.
     pub fn add(&mut self, alloc: Global, name: Name, text: &[u8]) -> Result<(), QueryRefusal>
         ensures ok { OnOk result ((q : Query) × IsQueryOf text.now q × (queries_of self.new ≡ put (queries_of self.old) name q)) }
         ensures covered { OnOk result (covered_of self.new ≡ put (covered_of self.old) name 0) }
@@ -81,12 +82,12 @@ impl QueryBook {
         Ok(())
     }
 
-    /// Takes the query with this name out, and the rest close up. Takes amortised expected constant time, whichever query
-    /// it is.
+    /// Removes the query with this name. Each later query moves down by one index. Takes expected constant time,
+    /// amortised.
     ///
     /// # Errors
     ///
-    /// `NoSuchQuery` exactly where no query has the name; the book is then as before.
+    /// `NoSuchQuery` exactly if no query has the name; the registry is then unchanged.
     pub fn remove(&mut self, name: &[u8]) -> Result<(), BookRefusal>
         ensures ok { OnOk result (IsSome (value_of (queries_of self.old) name.now)) }
         ensures rest { queries_of self.new ≡ taken_out (queries_of self.old) name.now }
@@ -99,24 +100,24 @@ impl QueryBook {
         self.take(name)
     }
 
-    /// The names of the query's variables, by number.
+    /// The names of the query's variables, in the order of their numbers.
     ///
     /// # Errors
     ///
-    /// `NoSuchQuery` exactly where no query has the name.
+    /// `NoSuchQuery` exactly if no query has the name.
     pub fn vars(&self, name: &[u8]) -> Result<&Vars, BookRefusal>
         ensures { MatchResult result (λ vars. option_map names_of (value_of (queries_of self.now) name.now) ≡ Some vars.now) (IsMissing (queries_of self.now) name.now) }
     {
         Ok(&self.tabled(name)?.query.vars)
     }
 
-    /// Gives each node of the store that has no table in some query its table. The store is the one used before, grown.
-    /// Each table that is given is one step. The work on the nodes of one height runs in at most `workers` pieces at
-    /// once, 1 to 64.
+    /// Computes the missing tables, so that each node of the store has a table in each query. The store must be the one
+    /// that was used before, possibly with more nodes. `places` counts the computed tables. The work on the nodes of
+    /// one height runs in at most `workers` pieces at once, 1 to 64.
     ///
     /// # Errors
     ///
-    /// `NoMemory` where none was found. Some queries have all tables then, and the others those that they had.
+    /// `NoMemory` if allocation fails. Some queries may then have all tables, and the others have those that they had.
     pub fn grow_all<R: Threads + Sync, G: Gate, L: Ledger>(
         &mut self,
         rt: &R,
@@ -140,9 +141,9 @@ impl QueryBook {
         grow_entries(rt, alloc, &mut self.by_name, store, workers, gate, places)
     }
 
-    /// Leaves in each query the tables of the kept nodes alone, under their nodes' new ids, where the store becomes that of
-    /// the kept nodes. The old store is the one used before, grown. A query keeps no other table, and remembers no
-    /// composition. It takes no memory, and time linear in the tables.
+    /// Renumbers the tables when the store is compacted: each query keeps exactly the tables of the kept nodes, under
+    /// the nodes' new ids. The old store must be the one that was used before, possibly with more nodes. The cache of
+    /// compositions is cleared. Allocates nothing. Takes time linear in the number of tables.
     pub fn renumber(&mut self, moves: &Moves)
         requires { IsPlanFor moves.now self.old }
         ensures queries { queries_of self.new ≡ queries_of self.old }
@@ -166,7 +167,7 @@ impl QueryBook {
         }
     }
 
-    /// Gives the name this query, of which no node has a table yet.
+    /// Registers a query under this name, without tables.
     pub(crate) fn register(
         &mut self,
         alloc: Global,
@@ -185,7 +186,7 @@ impl QueryBook {
         Ok(())
     }
 
-    /// Takes the entry with this name out.
+    /// Removes the entry with this name.
     fn take(&mut self, name: &[u8]) -> Result<(), BookRefusal>
         ensures ok { OnOk result (IsSome (tabled_of self.old name.now)) }
         ensures rest { self.new ≡ without_entry self.old name.now }
@@ -201,7 +202,7 @@ impl QueryBook {
         }
     }
 
-    /// Gives the entry's name this entry.
+    /// Sets the entry under its name.
     fn put(&mut self, alloc: Global, entry: Entry) -> Result<(), NoMemory>
         requires { IsSound entry.tabled }
         ensures ok { OnOk result (self.new ≡ with_entry self.old entry) }

@@ -1,4 +1,4 @@
-//! Queries made of others.
+//! Union, join and projection of compiled queries.
 ghost use Rattle.std.specs.Prelude.{◌≡◌, IfErr, IfOk};
 ghost use Rattle.line_parts.specs.NameList.{IsNameList};
 ghost use Rattle.span_types.specs.Query.{Join, Union, query_of};
@@ -13,14 +13,14 @@ use span_types::{NoMemory, QueryTree};
 use std::alloc::Global;
 use std::boxed::Box;
 
-/// The most leaves and operations of a query.
+/// The maximum number of leaves and operations of a query.
 const MAX_PARTS: u64 = 128;
 
 /// The union of two queries.
 ///
 /// # Errors
 ///
-/// The first limit that it passes, and `NoMemory`.
+/// The first limit that the result exceeds, or `NoMemory` if allocation fails.
 pub(crate) fn united(
     alloc: Global,
     left: &Compiled,
@@ -53,7 +53,7 @@ pub(crate) fn united(
 ///
 /// # Errors
 ///
-/// The first limit that it passes, and `NoMemory`.
+/// The first limit that the result exceeds, or `NoMemory` if allocation fails.
 pub(crate) fn joined(
     alloc: Global,
     left: &Compiled,
@@ -83,12 +83,13 @@ pub(crate) fn joined(
     })
 }
 
-/// The projection of a query to the names of a text, which is a list of names.
+/// The projection of a query to the variables that `keep` lists.
 ///
 /// # Errors
 ///
-/// `OtherVariables` exactly where it isn't too large and one of them isn't a variable or stands twice, the first limit
-/// that it passes, and `NoMemory`.
+/// `QueryTooLarge` if the result would have more than 128 leaves and operations. Otherwise `OtherVariables` exactly if
+/// a name isn't a variable or occurs twice. Then `TooManyStates` if the automaton would have more than 128 states.
+/// `NoMemory` if allocation fails.
 pub(crate) fn projected(
     alloc: Global,
     source: &Compiled,

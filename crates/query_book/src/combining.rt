@@ -1,4 +1,4 @@
-//! The algebra of queries by name.
+//! The algebra of registered queries.
 ghost use Rattle.std.specs.Prelude.{◌≡◌, List, IfErr, IfOk, OnErr, OnOk, Some};
 ghost use Rattle.line_parts.specs.NameList.{IsName, IsNameList};
 ghost use Rattle.span_types.specs.Query.{Join, Union, query_of};
@@ -19,16 +19,19 @@ use span_types::Name;
 use std::alloc::Global;
 
 impl QueryBook {
-    /// Registers the union of two queries, which are copied: its answers are those of either side, where a name that a
-    /// side lacks has no span. A present name keeps its place and has the new query, and a new name goes last. No node
-    /// has a table of it yet. After a refusal the book is as before.
+    /// Registers the union of two queries, as a copy. Its answers are those of the left and of the right query; a
+    /// variable that a query lacks has no span in its answers. An existing name keeps its index and gets the new query,
+    /// and a new name goes last. The query has no tables yet. After an error the registry is unchanged.
     ///
     /// # Errors
     ///
-    /// The first of these: `NoSuchQuery` exactly where no query has the left name, and then for the right one;
-    /// `QueryTooLarge` exactly where the tree would have more than 128 leaves and operations; `TooManyVariables`
-    /// exactly where it would have more than eight variables; `TooManyStates` exactly where its automaton would have
-    /// more than 128 states; and `NoMemory`.
+    /// The first of these:
+    ///
+    /// - `NoSuchQuery` exactly if no query has the left name, or else if none has the right name
+    /// - `QueryTooLarge` exactly if the tree would have more than 128 leaves and operations
+    /// - `TooManyVariables` exactly if it would have more than eight variables
+    /// - `TooManyStates` exactly if the automaton would have more than 128 states
+    /// - `NoMemory` if allocation fails
     pub fn union(
         &mut self,
         alloc: Global,
@@ -50,17 +53,20 @@ impl QueryBook {
         Ok(())
     }
 
-    /// Registers the join of two queries, which are copied: its answers are the unions of an answer of each side, where
-    /// the two agree on every name of both, and a name without a span agrees only with one without a span. A present
-    /// name keeps its place and has the new query, and a new name goes last. No node has a table of it yet. After a
-    /// refusal the book is as before.
+    /// Registers the natural join of two queries, as a copy. Its answers combine an answer of each query, if the two
+    /// agree on every common variable. A variable without a span agrees only with one without a span. An existing name
+    /// keeps its index and gets the new query, and a new name goes last. The query has no tables yet. After an error
+    /// the registry is unchanged.
     ///
     /// # Errors
     ///
-    /// The first of these: `NoSuchQuery` exactly where no query has the left name, and then for the right one;
-    /// `QueryTooLarge` exactly where the tree would have more than 128 leaves and operations; `TooManyVariables`
-    /// exactly where it would have more than eight variables; `TooManyStates` exactly where its automaton would have
-    /// more than 128 states; and `NoMemory`.
+    /// The first of these:
+    ///
+    /// - `NoSuchQuery` exactly if no query has the left name, or else if none has the right name
+    /// - `QueryTooLarge` exactly if the tree would have more than 128 leaves and operations
+    /// - `TooManyVariables` exactly if it would have more than eight variables
+    /// - `TooManyStates` exactly if the automaton would have more than 128 states
+    /// - `NoMemory` if allocation fails
     pub fn join(
         &mut self,
         alloc: Global,
@@ -82,17 +88,20 @@ impl QueryBook {
         Ok(())
     }
 
-    /// Registers the projection of a query, which is copied, to the names of a text: its answers are the restrictions
-    /// of the query's answers to these names, which are its variables in this order. The text is `()`, or one or more
-    /// names with a comma between each two. A present name keeps its place and has the new query, and a new name goes
-    /// last. No node has a table of it yet. After a refusal the book is as before.
+    /// Registers the projection of a query, as a copy. Its answers are those of the source, restricted to the variables
+    /// that `keep` lists, which are its variables in this order. `keep` is `()`, or one or more names separated by
+    /// commas. An existing name keeps its index and gets the new query, and a new name goes last. The query has no
+    /// tables yet. After an error the registry is unchanged.
     ///
     /// # Errors
     ///
-    /// The first of these: `NoSuchQuery` exactly where no query has the source's name; `QueryTooLarge` exactly where
-    /// the tree would have more than 128 leaves and operations; `OtherVariables` exactly where a name of the text isn't
-    /// a variable of the source or stands twice; `TooManyStates` exactly where its automaton would have more than 128
-    /// states; and `NoMemory`.
+    /// The first of these:
+    ///
+    /// - `NoSuchQuery` exactly if no query has the source's name
+    /// - `QueryTooLarge` exactly if the tree would have more than 128 leaves and operations
+    /// - `OtherVariables` exactly if a name in `keep` isn't a variable of the source or occurs twice
+    /// - `TooManyStates` exactly if the automaton would have more than 128 states
+    /// - `NoMemory` if allocation fails
     pub fn project(
         &mut self,
         alloc: Global,
@@ -114,7 +123,7 @@ impl QueryBook {
         Ok(())
     }
 
-    /// The union of two queries by name.
+    /// The union of the queries with these names.
     fn union_of(&self, alloc: Global, left: &[u8], right: &[u8]) -> Result<Compiled, CombineRefusal>
         requires left { IsName left.now }
         requires right { IsName right.now }
@@ -127,7 +136,7 @@ impl QueryBook {
         united(alloc, left, right)
     }
 
-    /// The join of two queries by name.
+    /// The join of the queries with these names.
     fn join_of(&self, alloc: Global, left: &[u8], right: &[u8]) -> Result<Compiled, CombineRefusal>
         requires left { IsName left.now }
         requires right { IsName right.now }
@@ -140,7 +149,7 @@ impl QueryBook {
         joined(alloc, left, right)
     }
 
-    /// The projection of a query by name.
+    /// The projection of the query with this name.
     fn projection_of(
         &self,
         alloc: Global,

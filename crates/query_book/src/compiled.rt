@@ -1,4 +1,4 @@
-//! A query made ready for texts.
+//! Compiled queries.
 ghost use Rattle.std.specs.Prelude.{◌≡◌, MatchResult, IfOk, IfErr};
 ghost use Rattle.span_types.specs.FormulaTree.{tree_of};
 ghost use Rattle.span_types.specs.Query.{Leaf, query_of};
@@ -15,7 +15,7 @@ use marker_nfa::of_formula;
 use span_types::{Formula, QueryTree, Vars};
 use std::alloc::Global;
 
-/// A query with the number of its leaves and operations, the names of its variables and its automaton.
+/// A query, the number of its leaves and operations, the names of its variables, and its automaton.
 #[derive(Drop)]
 pub struct Compiled {
     pub(crate) tree: QueryTree,
@@ -24,12 +24,12 @@ pub struct Compiled {
     pub(crate) dfa: Dfa,
 }
 
-/// The query of a formula text.
+/// Compiles the text of a formula.
 ///
 /// # Errors
 ///
-/// The first refusal of the text, `TooManyStates` exactly where its automaton would have more than 128 states, and
-/// `NoMemory`.
+/// The first error of the text, `TooManyStates` exactly if the formula's automaton would have more than 128 states, or
+/// `NoMemory` if allocation fails.
 pub(crate) fn compile(alloc: Global, text: &[u8]) -> Result<Compiled, QueryRefusal>
     ensures { MatchResult result (IsCompiledOf text.now) (IsRefused text.now) }
 {
@@ -40,7 +40,7 @@ pub(crate) fn compile(alloc: Global, text: &[u8]) -> Result<Compiled, QueryRefus
     }
 }
 
-/// The query of a formula with the names of its variables.
+/// Compiles a formula with the names of its variables.
 fn compile_leaf(alloc: Global, formula: Formula, vars: Vars) -> Result<Compiled, QueryRefusal>
     requires { IsRead (tree_of formula) vars }
     ensures leaf { IfOk result (λ c. query_of c.tree ≡ Leaf (tree_of formula) vars) }

@@ -1,4 +1,4 @@
-//! What a book keeps of a query.
+//! The entries of the registry.
 ghost use Rattle.std.specs.Prelude.{◌≡◌, ◌+◌, ◌≤◌, IfOk, OnOk};
 ghost use Rattle.state_tables.specs.Dictionary.{count_of};
 ghost use Rattle.query_book.specs.Compiling.{IsCompiled};
@@ -17,10 +17,10 @@ use std::thread::Threads;
 use table_grow::{Memory, grow};
 use work_gate::Gate;
 
-/// How many compositions are remembered for each query.
+/// The size of each query's cache of compositions, in compositions.
 const REMEMBERED: usize = 4096;
 
-/// A query with its tables of the first nodes of a store, and compositions of these tables.
+/// A query, its tables for the first nodes of a store, and a cache of compositions of these tables.
 #[derive(Drop)]
 pub struct TabledQuery {
     pub(crate) query: Compiled,
@@ -28,14 +28,14 @@ pub struct TabledQuery {
     pub(crate) memory: Memory,
 }
 
-/// A query with tables under its name.
+/// A query with its tables, and its name.
 #[derive(Drop)]
 pub struct Entry {
     pub(crate) name: Name,
     pub(crate) tabled: TabledQuery,
 }
 
-/// An entry with tables of no node.
+/// An entry without tables.
 pub(crate) fn fresh_entry(alloc: Global, name: Name, query: Compiled) -> Result<Entry, NoMemory>
     requires { IsCompiled query }
     ensures { IfOk result (IsFresh name query) }
@@ -50,7 +50,7 @@ pub(crate) fn fresh_entry(alloc: Global, name: Name, query: Compiled) -> Result<
     Ok(Entry { name, tabled })
 }
 
-/// Gives each node of the store that has no table in the query its table.
+/// Computes the query's missing tables, so that each node of the store has one.
 pub(crate) fn grow_query<R: Threads + Sync, G: Gate, L: Ledger>(
     rt: &R,
     alloc: Global,

@@ -1,4 +1,4 @@
-//! The tables of all queries, query by query.
+//! Table computation for all queries, one query after the other.
 ghost use Rattle.std.specs.Prelude.{◌≡◌, ◌+◌, ◌<◌, ◌≤◌, length, OnOk};
 ghost use Rattle.query_book.specs.Book.{entries_of};
 ghost use Rattle.query_book.specs.Growing.{ChangesAt, ChangesFirst, Grows, MayGrow};
@@ -14,8 +14,8 @@ use std::sync::ledger::Ledger;
 use std::thread::Threads;
 use work_gate::Gate;
 
-/// Gives each node of the store that has no table in some query its table. After a refusal some queries have all tables,
-/// and the others those that they had.
+/// Computes the missing tables of all queries. If allocation fails, some queries may have all tables, and the others
+/// have those that they had.
 pub(crate) fn grow_entries<R: Threads + Sync, G: Gate, L: Ledger>(
     rt: &R,
     alloc: Global,
@@ -39,7 +39,7 @@ pub(crate) fn grow_entries<R: Threads + Sync, G: Gate, L: Ledger>(
     Ok(())
 }
 
-/// The same for the query at one place.
+/// Does the same for the query at index `place`.
 fn grow_at<R: Threads + Sync, G: Gate, L: Ledger>(
     rt: &R,
     alloc: Global,

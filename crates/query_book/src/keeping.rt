@@ -1,4 +1,4 @@
-//! The variables that a projection keeps.
+//! The list of variables that a projection keeps.
 ghost use Rattle.std.specs.Prelude.{◌≡◌, ◌↔◌, ◌∷◌, ◌++◌, [], Contains, IfErr, IfOk, IsTrue, OnOk};
 ghost use Rattle.span_types.specs.VarList.{AreVars};
 ghost use Rattle.line_parts.specs.NameList.{AreListed, IsName, IsNameList};
@@ -9,11 +9,11 @@ use line_parts::{cut_at, is_same};
 use span_types::{Name, NameRefusal, NoMemory, Vars, VarsRefusal};
 use std::alloc::Global;
 
-/// The names of a text, which is `()` or one or more names with a comma between each two.
+/// Reads the names in `keep`, which is `()` or one or more names separated by commas.
 ///
 /// # Errors
 ///
-/// `OtherVariables` exactly where one of them isn't a variable or stands twice, and `NoMemory`.
+/// `OtherVariables` exactly if a name isn't one of `vars` or occurs twice, or `NoMemory` if allocation fails.
 pub(crate) fn kept_names(alloc: Global, vars: &Vars, keep: &[u8]) -> Result<Vars, CombineRefusal>
     requires { IsNameList keep.now }
     ensures names { IfOk result (IsVarsText keep.now) }
@@ -26,7 +26,7 @@ pub(crate) fn kept_names(alloc: Global, vars: &Vars, keep: &[u8]) -> Result<Vars
     listed_names(alloc, vars, keep)
 }
 
-/// The names of a text, with a comma between each two.
+/// Reads one or more names, separated by commas.
 fn listed_names(alloc: Global, vars: &Vars, keep: &[u8]) -> Result<Vars, CombineRefusal>
     requires { AreListed keep.now }
     ensures names { IfOk result (IsVarsText keep.now) }
@@ -43,7 +43,7 @@ fn listed_names(alloc: Global, vars: &Vars, keep: &[u8]) -> Result<Vars, Combine
     Ok(names)
 }
 
-/// Puts the name of a variable last, unless it is there.
+/// Appends the name of a variable. Returns `OtherVariables` if it isn't one of `vars`, or if `names` already has it.
 fn keep_name(
     alloc: Global,
     vars: &Vars,
@@ -61,13 +61,13 @@ fn keep_name(
     let name = name_of(alloc, name)?;
     match names.number_of(name) {
         Ok(_) => Ok(()),
-        // Different variables are at most as many as the variables.
+        // Distinct names of variables are no more than the variables.
         Err(VarsRefusal::Full) => unreachable!(),
         Err(VarsRefusal::NoMemory) => Err(CombineRefusal::NoMemory),
     }
 }
 
-/// Whether a name stands in a list.
+/// Whether a list contains a name.
 fn has_name(names: &Vars, name: &[u8]) -> bool
     ensures there { IsTrue result ↔ Contains names.now name.now }
     ensures vars { AreVars names.now }
@@ -80,7 +80,7 @@ fn has_name(names: &Vars, name: &[u8]) -> bool
     false
 }
 
-/// The name with these bytes, which are one.
+/// The name with these bytes, which must be a valid name.
 pub(crate) fn name_of(alloc: Global, name: &[u8]) -> Result<Name, NoMemory>
     requires { IsName name.now }
     ensures { IfOk result (λ n. n ≡ name.now) }

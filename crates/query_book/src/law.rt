@@ -1,7 +1,7 @@
-//! Laws of the definitions.
+//! Theorems about the definitions.
 ghost use Rattle.query_book.specs.Laws.{StaysTrue};
 
-/// A book's tables stay true where nodes are added to the store.
+/// The tables of a registry stay valid when nodes are added to the store.
 pub fn stays_true()
     ensures { StaysTrue }
 {}

@@ -1,5 +1,5 @@
-//! Queries by name, in the order in which their names came, each with its automaton and its tables for a store's
-//! nodes.
+//! A registry of queries, in the order in which their names were added. Each query has its automaton, and its tables
+//! for the nodes of a store.
 //!
 //! ```text
 //! book.add(alloc, name, b".*$x{ab}.*")?;                   // `name` is called "q"
@@ -8,17 +8,18 @@
 //! book.remove(b"q")?;                                      // Err(BookRefusal::NoSuchQuery) where there is no q
 //! ```
 //!
-//! A query is compiled once, and its tables serve every text of the store. Where the store has grown, `grow_all` gives
-//! the new nodes their tables, one step for each query and node. `union`, `join` and `project` make queries of copies.
+//! A query is compiled once, and its tables serve every text in the store. After nodes were added to the store,
+//! `grow_all` computes one table for each query and new node. `union`, `join` and `project` copy their operands.
 //!
-//! On a text of n bytes `test` and `has` make at most B(k, n) looks at a node and its table for k variables, with
-//! B(k, n) = 4·(2k+1)·(H(n)+3), and take no memory. A look-up by name takes expected constant time, and so does `remove`,
-//! amortised, whichever queries come and go. A query takes memory for its automaton, for its distinct tables, for a
-//! number for each node, and for up to 4,096 compositions that are remembered. `renumber` drops the tables that no node
-//! has any more.
+//! `test` and `has` of a query with k variables on a text of n bytes take at most B(k, n) table lookups, with B(k, n) =
+//! 4·(2k+1)·(H(n)+3), where H(n) is the greatest height of a balanced tree of n bytes. They allocate nothing. A lookup
+//! by name takes expected constant time, and so does `remove`, amortised. The memory of a query is that of its
+//! automaton, its distinct tables, a number for each node, and a cache of up to 4,096 compositions. `renumber` drops
+//! the tables that no node uses any more.
 //!
 //! Queries are the regex formulas and the algebra of R. Fagin, B. Kimelfeld, F. Reiss and S. Vansummeren, *Document
-//! Spanners*, JACM 2015, asked as in M. L. Schmid and N. Schweikardt, PODS 2021.
+//! Spanners*, JACM 2015. They are evaluated as in M. L. Schmid and N. Schweikardt, *Spanner Evaluation over
+//! SLP-Compressed Documents*, PODS 2021.
 #![tactic(auto)]
 
 mod book;

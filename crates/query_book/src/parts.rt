@@ -1,4 +1,4 @@
-//! The parts of a query, for callers that walk by themselves.
+//! A query's view and automaton, for callers that evaluate it themselves.
 ghost use Rattle.std.specs.Prelude.{◌≡◌, IfOk, IfErr};
 ghost use Rattle.state_tables.specs.Dictionary.{AreTables};
 ghost use Rattle.marker_dfa.specs.Deterministic.{IsDeterministic};
@@ -14,14 +14,14 @@ use node_store::Store;
 use state_tables::View;
 
 impl QueryBook {
-    /// A view of the store's nodes with their tables in the query of this name, and the query's automaton, which has the
-    /// query's variables and on each text of at most 2^48 bytes the query's answers.
+    /// The view of the store's nodes with their tables in the query with this name, and the query's automaton. The
+    /// automaton has the query's variables, and on each text of at most 2^48 bytes it has the query's answers.
     ///
-    /// Each node of the store has its table. It takes no memory and expected constant time.
+    /// Each node of the store must have its table. Allocates nothing. Takes expected constant time.
     ///
     /// # Errors
     ///
-    /// `NoSuchQuery` exactly where no query has the name.
+    /// `NoSuchQuery` exactly if no query has the name.
     pub fn parts<'a>(
         &'a self,
         name: &[u8],

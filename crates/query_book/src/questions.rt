@@ -1,4 +1,4 @@
-//! Questions to the queries of a book.
+//! Evaluation of registered queries.
 ghost use Rattle.std.specs.Prelude.{◌≡◌, ◌↔◌, ◌+◌, ◌*◌, ◌<◌, ◌≤◌, None, Some, All, length, IfOk, IfErr, IsTrue, IsErrOf};
 ghost use Rattle.slp_model.specs.Nodes.{IsLive};
 ghost use Rattle.marker_dfa.specs.Deterministic.{IsDeterministic};
@@ -19,14 +19,14 @@ use std::alloc::Global;
 use std::sync::ledger::Ledger;
 
 impl QueryBook {
-    /// The answers of the query with this name on the root's text, before the first one.
+    /// An iterator over the answers of the query with this name on the root's text, before the first one.
     ///
-    /// Each node of the store has its table, and the root is one of the nodes or none. It makes at most B(k, n) looks, for k
-    /// variables and a text of n bytes.
+    /// Each node of the store must have its table, and the root is one of the nodes or `None`. For k variables and a
+    /// text of n bytes it takes at most B(k, n) table lookups, which `looks` counts.
     ///
     /// # Errors
     ///
-    /// `NoSuchQuery` exactly where no query has the name, and `NoMemory`.
+    /// `NoSuchQuery` exactly if no query has the name, or `NoMemory` if allocation fails.
     pub fn start<'a, L: Ledger>(
         &'a self,
         alloc: Global,
@@ -49,15 +49,16 @@ impl QueryBook {
         }
     }
 
-    /// The answers of the query with this name on the root's text, before the first one that comes strictly after the tuple,
-    /// which needn't be an answer and may lie past the text.
+    /// An iterator over the answers of the query with this name on the root's text, before the first one that comes
+    /// strictly after the tuple. The tuple needn't be an answer, and its spans may lie beyond the text.
     ///
-    /// Each node of the store has its table, the root is one of the nodes or none, and the tuple has as many variables as the
-    /// query. It makes at most 2·B(k, n) looks, for k variables and a text of n bytes.
+    /// Each node of the store must have its table, and the root is one of the nodes or `None`. The tuple must have as
+    /// many variables as the query. For k variables and a text of n bytes it takes at most 2·B(k, n) table lookups,
+    /// which `looks` counts.
     ///
     /// # Errors
     ///
-    /// `NoSuchQuery` exactly where no query has the name, and `NoMemory`.
+    /// `NoSuchQuery` exactly if no query has the name, or `NoMemory` if allocation fails.
     pub fn seek<'a, L: Ledger>(
         &'a self,
         alloc: Global,
@@ -83,14 +84,14 @@ impl QueryBook {
         }
     }
 
-    /// Whether the query with this name has an answer on the root's text. Takes no memory.
+    /// Whether the query with this name has an answer on the root's text. Allocates nothing.
     ///
-    /// Each node of the store has its table, and the root is one of the nodes or none. It makes at most B(k, n) looks, for k
-    /// variables and a text of n bytes.
+    /// Each node of the store must have its table, and the root is one of the nodes or `None`. For k variables and a
+    /// text of n bytes it takes at most B(k, n) table lookups, which `looks` counts.
     ///
     /// # Errors
     ///
-    /// `NoSuchQuery` exactly where no query has the name.
+    /// `NoSuchQuery` exactly if no query has the name.
     pub fn test<L: Ledger>(
         &self,
         name: &[u8],
@@ -108,14 +109,15 @@ impl QueryBook {
         Ok(nonempty(view, dfa, root, looks))
     }
 
-    /// Whether the tuple is an answer of the query with this name on the root's text. Takes no memory.
+    /// Whether the tuple is an answer of the query with this name on the root's text. Allocates nothing.
     ///
-    /// Each node of the store has its table, the root is one of the nodes or none, and the tuple has as many variables as the
-    /// query. It makes at most B(k, n) looks, for k variables and a text of n bytes.
+    /// Each node of the store must have its table, and the root is one of the nodes or `None`. The tuple must have as
+    /// many variables as the query. For k variables and a text of n bytes it takes at most B(k, n) table lookups, which
+    /// `looks` counts.
     ///
     /// # Errors
     ///
-    /// `NoSuchQuery` exactly where no query has the name.
+    /// `NoSuchQuery` exactly if no query has the name.
     pub fn has<L: Ledger>(
         &self,
         name: &[u8],
@@ -135,8 +137,8 @@ impl QueryBook {
         Ok(has(view, dfa, root, tuple, looks))
     }
 
-    /// A view of the store's nodes with their tables in the query of this name, and the query's automaton. It reads no node
-    /// and no table.
+    /// The view of the store's nodes with their tables in the query with this name, and the query's automaton. Reads no
+    /// node and no table.
     fn lookout<'a>(
         &'a self,
         name: &[u8],

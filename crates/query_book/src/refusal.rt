@@ -1,4 +1,4 @@
-//! Why a query is not registered, and why a call by name gives nothing.
+//! Why a query was not registered, and why a call by name failed.
 ghost use Rattle.std.specs.Prelude.{◌≡◌};
 
 use formula_syntax::FormulaRefusal;
@@ -9,7 +9,7 @@ use thiserror::Error;
 /// Why a text was not registered as a query.
 #[derive(Debug, Drop, Error)]
 pub enum QueryRefusal {
-    /// The text gives no formula, for one of the causes of `FormulaRefusal` other than want of memory.
+    /// The text is no formula, for one of the causes of `FormulaRefusal` other than allocation failure.
     #[error("{0}")]
     Formula(FormulaRefusal),
 
@@ -17,7 +17,7 @@ pub enum QueryRefusal {
     #[error("too many states")]
     TooManyStates,
 
-    /// No memory was found.
+    /// Allocation failed.
     #[error("no memory")]
     NoMemory,
 }
@@ -32,34 +32,34 @@ impl From<NoMemory> for QueryRefusal {
     }
 }
 
-/// Why a call by name gave nothing.
+/// Why a call by name failed.
 #[derive(Clone, Copy, Debug, PartialEq, Eq, Drop, Error)]
 pub enum BookRefusal {
     /// No query has the name.
     #[error("no query has this name")]
     NoSuchQuery,
 
-    /// No memory was found.
+    /// Allocation failed.
     #[error("no memory")]
     NoMemory,
 }
 
-/// Why no query was made of others.
+/// Why an operation on queries failed.
 #[derive(Debug, Drop, Error)]
 pub enum CombineRefusal {
     /// No query has this name.
     #[error("no query is named {name}")]
     NoSuchQuery { name: Name },
 
-    /// The tree would have `parts` leaves and operations, which is over 128.
+    /// The tree would have `parts` leaves and operations, which is more than 128.
     #[error("a query of {parts} parts is too large")]
     QueryTooLarge { parts: u64 },
 
-    /// A name to keep isn't a variable of the query, or stands twice.
+    /// A name to keep isn't a variable of the query, or it occurs twice.
     #[error("other variables")]
     OtherVariables,
 
-    /// The operands have more than eight variables together.
+    /// The operands together have more than eight variables.
     #[error("too many variables")]
     TooManyVariables,
 
@@ -67,7 +67,7 @@ pub enum CombineRefusal {
     #[error("too many states")]
     TooManyStates,
 
-    /// No memory was found.
+    /// Allocation failed.
     #[error("no memory")]
     NoMemory,
 }

@@ -1,4 +1,4 @@
-//! The tables of the kept nodes alone, query by query.
+//! Renumbering of the tables after a compaction, one query after the other.
 ghost use Rattle.std.specs.Prelude.{◌<◌, ◌≤◌, length};
 ghost use Rattle.state_tables.specs.Dictionary.{count_of};
 ghost use Rattle.query_book.specs.Book.{entries_of};
@@ -10,7 +10,7 @@ use crate::entry::TabledQuery;
 use name_map::NameMap;
 use node_store::Moves;
 
-/// Leaves in each query the tables of the kept nodes alone, under their new numbers.
+/// Keeps in each query exactly the tables of the kept nodes, under the nodes' new numbers.
 pub(crate) fn renumber_entries(by_name: &mut NameMap<TabledQuery>, moves: &Moves)
     requires kept { AreSound by_name.old }
     requires within { AreWithin moves.now (entries_of by_name.old) }
@@ -21,7 +21,7 @@ pub(crate) fn renumber_entries(by_name: &mut NameMap<TabledQuery>, moves: &Moves
     }
 }
 
-/// The same for the query at one place.
+/// Does the same for the query at index `place`.
 fn renumber_at(by_name: &mut NameMap<TabledQuery>, place: usize, moves: &Moves)
     requires place { place < length by_name.old }
     requires kept { AreSound by_name.old }
@@ -32,13 +32,13 @@ fn renumber_at(by_name: &mut NameMap<TabledQuery>, place: usize, moves: &Moves)
     renumber_query(tabled, moves);
 }
 
-/// The same for a query.
+/// Does the same for a query.
 fn renumber_query(tabled: &mut TabledQuery, moves: &Moves)
     requires sound { IsSound tabled.old }
     requires within { count_of tabled.old.tables ≤ length moves.now }
     ensures { Renumbers moves.now tabled.old tabled.new }
 {
     tabled.tables.renumber(moves);
-    // Its numbers are those from before.
+    // The cached compositions have the old numbers of the tables.
     tabled.memory.forget();
 }

@@ -5,7 +5,7 @@ use Rattle.query_book.specs.Growing.{ChangesFirst, MayGrow, Grows}
 use Rattle.query_book.proofs.Growth.{changes-length, changes-step, changes-map, changes-all, sound-after, served-after}
 use Rattle.query_book.proofs.growing.grow_entries.Goals as goal
 
--- a query with all tables is one that may have grown
+-- a query with all tables is one that may have got tables
 may : (ns : List Node) (v w : TabledQuery) → Grows ns v w → MayGrow ns v w
 may ns v w h = h.may
 

@@ -3,7 +3,7 @@ use Rattle.query_book.specs.Growing.{ChangesFirst, Grows}
 use Rattle.query_book.proofs.Growth.{total}
 use Rattle.query_book.proofs.growing.grow_entries.Given as goal
 
--- each of the first queries has all tables, and each table was one step
+-- each of the first queries has all tables, and each table was counted once
 abbrev pub invariant-loop-place : goal.invariant-loop-place
 invariant-loop-place g l = record {
   changed : ChangesFirst (Grows l.store) l.place l.initial.by_name l.by_name;
