@@ -1,4 +1,4 @@
--- An accepted command has one reply and leaves one world.
+-- An accepted command has exactly one reply and one resulting world.
 use Rattle.std.proofs.Common.{◌≡◌, ℕ, List, Option, Some, None, length, refl, sym, ◌∙◌, ap, subst}
 use Rattle.span_language.proofs.Names.{AreListed, Command, Documents, Does, Files, given_text, HasAnswer, HasDocuments, HasProjection, IsAccepted, IsAnswer}
 use Rattle.span_language.proofs.Names.{IsListReply, IsRegistered, IsSettled, IsYesOrNo, Join, LetDoc, load_size, LoadFile, names_of, Nothing, open_size, opened_text}
@@ -22,7 +22,7 @@ no_save None file settled = settled tt
 no_save (Some all) file settled = settled file refl
 
 module _ (old : World) (r s : List ℕ) (n m : World) where
-  -- the document is given a text
+  -- a text is assigned to the document
   given : (name t u : List ℕ) → t ≡ u → (r ≡ given_text name t) × HasDocuments old n (put old.state.documents name t)
       → (s ≡ given_text name u) × HasDocuments old m (put old.state.documents name u) → Same r s n m
   given name t u e h k =

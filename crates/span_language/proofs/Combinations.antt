@@ -1,4 +1,4 @@
--- A query that is made of others is one, or has one first refusal.
+-- An operation on queries has exactly one result, or exactly one first refusal.
 use Rattle.std.proofs.Common.{◌≡◌, ◌⊎◌, ℕ, List, None, sym, ◌∙◌, ap, subst, inl, inr, arith}
 use Rattle.span_language.proofs.Names.{CombineRefusal, HasOther, HasPair, HasProjection, IsAbsent, IsAccepted, IsCombineRefusal, IsNamed, IsPairRefused, IsPast}
 use Rattle.span_language.proofs.Names.{IsProjectionPast, IsProjectRefused, IsUncombined, IsVarsText, Named, names_of, NoSuchQuery, Project, Query, QueryTooLarge}
@@ -7,11 +7,11 @@ use Rattle.query_book.specs.declared.refusal.CombineRefusal.TheVariants as combi
 use Rattle.span_language.proofs.Texts.{one_names}
 use Rattle.span_language.proofs.Values.{one_value, no_value}
 
--- replies to two refusals are one
+-- two replies to a refusal are equal
 abbrev One : (CombineRefusal → Type 0) → Type 0
 One P = (r s : CombineRefusal) (why other : Refusal) → P r → P s → IsCombineRefusal r why → IsCombineRefusal s other → why ≡ other
 
--- there is no reply to a refusal
+-- a refusal is no accepted reply
 abbrev Never : (CombineRefusal → Type 0) → Type 0
 Never P = (r : CombineRefusal) (why : Refusal) → P r → IsCombineRefusal r why → ⊥
 
@@ -31,7 +31,7 @@ module _ (queries : Named Query) (name : List ℕ) where
   abbrev Stage : (Query → CombineRefusal → Type 0) → CombineRefusal → Type 0
   Stage P r = IsAbsent queries name r ⊎ IsNamed queries name (λ q. P q r)
 
-  -- two facts of the query of a name are of one query
+  -- two facts about the query with a name are about the same query
   pub one_named : (P R : Query → Type 0) (S : Type 0) → IsNamed queries name P → IsNamed queries name R → ((q : Query) → P q → R q → S) → S
   one_named P R S h k both = both h.query h.holds (subst R (one_value (value_of queries name) k.query h.query k.there h.there) k.holds)
 
@@ -64,7 +64,7 @@ module _ (q : Query) (keep : List ℕ) where
   pub one_projection : (P R : Query → Type 0) (S : Type 0) → HasProjection q keep P → HasProjection q keep R → ((p : Query) → P p → R p → S) → S
   one_projection P R S (ns, text, kept, h) (ms, text2, kept2, k) both = both (Project q ns) h (subst (λ z. R (Project q z)) (one_names keep ms ns text2 text) k)
 
-  -- the names of a text stand all among the variables, or not
+  -- the names of a text are all among the variables, or they are not
   one_side : (names more : List (List ℕ)) → IsVarsText keep names → HasOther (names_of q) names → IsVarsText keep more → (HasOther (names_of q) more → ⊥) → ⊥
   one_side names more text other text2 kept = kept (subst (HasOther (names_of q)) (one_names keep names more text text2) other)
 

@@ -1,4 +1,4 @@
--- An expression has one value, or one first refusal.
+-- An expression has exactly one value, or exactly one first refusal.
 use Rattle.std.proofs.Common.{◌≡◌, ℕ, List, sym, ◌∙◌, subst}
 use Rattle.span_language.proofs.Names.{Documents, EditRefusal, Err, eval, Expr, ExprReads, IsEditRefusal, Ok, one_expression, Refusal, Result}
 use Rattle.edit_expr.specs.declared.refusal.EditRefusal.TheVariants as edit
@@ -9,7 +9,7 @@ same_refusal edit.NoMemory why other h k = absurd h
 same_refusal _ why other h k = h ∙ sym k
 
 module _ (docs : Documents) (text : List ℕ) where
-  -- the value of the other expression that the text writes
+  -- the value of the other expression with the same notation
   as_first : (e f : Expr) (r : Result (List ℕ) EditRefusal) → ExprReads text e → ExprReads text f → eval docs f ≡ r → eval docs e ≡ r
   as_first e f r h k is = (one_expression text e f h k).values docs ∙ is
 

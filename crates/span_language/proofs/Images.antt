@@ -1,9 +1,9 @@
--- An image holds one list of documents, or has one first fault.
+-- An image has exactly one list of documents, or exactly one first fault.
 use Rattle.std.proofs.Common.{◌≡◌, ℕ, List, Some, sym, ap, subst}
 use Rattle.span_language.proofs.Names.{Documents, Err, image, ImageRefusal, IsFaulty, kind_of, Meaning, Ok}
 use Rattle.span_language.proofs.Values.{not_both, one_err, one_ok, one_value}
 
--- the bytes hold these documents, with so many nodes
+-- the bytes have these documents, with this number of nodes
 abbrev pub Has : List ℕ → Documents → ℕ → Type 0
 Has bytes documents nodes = (image bytes).answer ≡ Ok (record { documents = documents; nodes = nodes })
 

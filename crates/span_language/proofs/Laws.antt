@@ -1,4 +1,4 @@
--- The laws of the language.
+-- Proofs of the theorems about the language.
 use Rattle.std.proofs.Common.{◌≡◌, ℕ, List, Some, None}
 use Rattle.span_language.proofs.Names.{ChangesNothing, Quiet, Refused, Step, World}
 

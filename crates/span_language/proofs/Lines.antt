@@ -1,11 +1,11 @@
--- A line has one reply, unless it is a `save`.
+-- A line has exactly one reply, unless it is a `save`.
 use Rattle.std.proofs.Common.{◌≡◌, ◌⊎◌, ℕ, List, Option, Some, None, refl, sym, ◌∙◌, ap, subst, inl, inr}
 use Rattle.span_language.proofs.Names.{Accepted, Carried, Carries, Command, Does, HasOneReply, IsRefused, IsSettled, IsSettledLine, LineText, Means, one_command_of}
 use Rattle.span_language.proofs.Names.{Quiet, refusal_text, Refused, SaveFile, Saves, Step, Told, World}
 use Rattle.span_language.proofs.Accepted.{one_done}
 use Rattle.span_language.proofs.Refused.{one_refusal, refused_once}
 
--- one telling, one reply and one world
+-- equal outcomes, equal replies and equal worlds
 abbrev pub IsOne : Told → Told → List ℕ → List ℕ → World → World → Type 0
 IsOne told told2 r s n m = (told ≡ told2) × (r ≡ s) × (n ≡ m)
 

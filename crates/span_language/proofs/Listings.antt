@@ -1,4 +1,4 @@
--- A listing has one reply, and the spans that are chosen are one list.
+-- A listing has exactly one reply, and the chosen spans are exactly one list.
 use Rattle.std.proofs.Common.{◌≡◌, ℕ, Bool, List, [], ◌∷◌, ◌++◌, Option, None, sym, ◌∙◌, ap, subst}
 use Rattle.span_language.proofs.Names.{AreListed, chosen, doc_line, Documents, IsAnswersOf, IsChosenOf, IsListReply, IsPage, IsPageOf, names_of, one-page}
 use Rattle.span_language.proofs.Names.{one-query-list, page_text, Query, Span, Tuple}

@@ -1,4 +1,4 @@
--- The words of the definitions and of the layers below that the proofs name, each passed on from where it is declared.
+-- Names from the definitions and from the layers below that the proofs use, each re-exported from its declaration.
 pub use Rattle.edge_io.specs.Files.{Files}
 pub use Rattle.edit_expr.proofs.MeaningLemmas.{one_expression}
 pub use Rattle.edit_expr.specs.Eval.{eval}

@@ -1,4 +1,4 @@
--- A list of lines has one output, unless a `save` is among them.
+-- A list of lines has exactly one output, unless a `save` is among them.
 use Rattle.std.proofs.Common.{◌≡◌, ◌||◌, ℕ, ◌+◌, List, [], ◌∷◌, ◌++◌, Option, Some, None, sym, ◌∙◌, ap, subst}
 use Rattle.span_language.proofs.Names.{Accepted, Adds, AreSettled, Carries, Command, Does, Files, HasOneOutput, is_refused, IsSettled, IsSettledLine, Nothing, Quiet}
 use Rattle.span_language.proofs.Names.{Refused, Runs, SaveFile, Step, Sum, Told, World}
@@ -22,7 +22,7 @@ step_keeps old number line told r n settled (None, means, h) = ap (λ (w : World
 step_of : (old : World) (number : ℕ) (line : List ℕ) (sum : Sum) (new : World) → (h : Adds old number line sum new) → Step old number line h.told sum.output new
 step_of old number line sum new h = (h.meaning, h.means, h.carried)
 
--- what is one of two sums, and of the worlds that they lead to
+-- what is equal in two sums, and in the resulting worlds
 abbrev IsOneSum : Sum → Sum → World → World → Type 0
 IsOneSum sum sum2 n m = (sum.refused ≡ sum2.refused) × (sum.output ≡ sum2.output) × (n ≡ m)
 

@@ -1,10 +1,10 @@
--- A question is asked of one query and one text, or has one first refusal.
+-- A question has exactly one query and one text, or exactly one first refusal.
 use Rattle.std.proofs.Common.{◌≡◌, ℕ, List, subst, arith}
 use Rattle.span_language.proofs.Names.{IsAsked, IsReplacing, IsUnasked, IsUnreplaced, IsYesOrNo, Query, Refusal, value_of, World}
 use Rattle.span_language.proofs.Values.{one_value}
 
 module _ (old : World) (query name : List ℕ) where
-  -- two facts of what a question names are of one query and one text
+  -- two facts about the inputs of a question are about the same query and the same text
   pub both_asked : (q p : Query) (s t : List ℕ) (P R : Query → List ℕ → Type 0) (S : Type 0) → IsAsked old query name q s → IsAsked old query name p t
       → P q s → R p t → (P q s → R q s → S) → S
   both_asked q p s t P R S h k a b both =

@@ -1,4 +1,4 @@
--- What the texts of a query, of a tuple and of kept variables say is one.
+-- The text of a query, of a tuple and of kept variables has exactly one meaning.
 use Rattle.std.proofs.Common.{◌≡◌, ℕ, List, [], ◌∷◌, Option, Some, None, refl, sym, ◌∙◌, ap, subst, inl, inr, codes}
 use Rattle.span_language.proofs.Names.{AreNames, CountIsAbove, Formula, FormulaOf, FormulaTree, from_test, has-outcome, is-outcome, IsCursorOf, IsCursorRefused}
 use Rattle.span_language.proofs.Names.{IsName, IsQueryOf, IsTextRefused, IsVarsText, Leaf, name_no_comma, names_of, no_cut, NoByte, not_true, one_cut, one_tuple_of}
@@ -36,7 +36,7 @@ pub one_cursor : (q : Query) (after : Option (List ℕ)) (c d : Option Tuple) �
 one_cursor q None c d h k = h ∙ sym k
 one_cursor q (Some word) c d (t, h, e) (u, k, f) = e ∙ ap Some (one_tuple q word t u h k) ∙ sym f
 
--- the text has other names than its own, or is none
+-- the text has names other than its own, or is no such text
 pub cursor_once : (q : Query) (after : Option (List ℕ)) (c : Option Tuple) (r : Refusal) → IsCursorOf q after c → IsCursorRefused q after r → ⊥
 cursor_once q None c r h k = k
 cursor_once q (Some word) c r (t, h, e) (inl k) = k.0 (names_of q, t, h)
@@ -60,7 +60,7 @@ one_query s q p h k =
     let same = same_formulas h.formula k.formula h.names k.names (one_outcome s (Formula h.formula h.names) (Formula k.formula k.names) h.outcome k.outcome) in
     h.query ∙ (λ i. Leaf (same.0 i) (same.1 i)) ∙ sym k.query
 
--- the refusal that an outcome is; that of a formula is of its reached sets
+-- the refusal in an outcome; that of a formula is about its reachable sets
 abbrev Tells : Outcome → Refusal → Type 0
 Tells (formula.TooLong len) r = r ≡ why.FormulaTooLong len
 Tells formula.BadText r = r ≡ why.BadFormula
@@ -74,7 +74,7 @@ tells_one : (o : Outcome) (r s : Refusal) → Tells o r → Tells o s → r ≡ 
 tells_one (Formula f names) r s h k = h.1 ∙ sym k.1
 tells_one _ r s h k = h ∙ sym k
 
--- the refusal of a text is told by each outcome of it
+-- each outcome of a text determines its refusal
 tells : (s : List ℕ) (p : Outcome) (r : Refusal) → FormulaOf s p → IsTextRefused s r → Tells p r
 tells s p r of h = by r h
   where

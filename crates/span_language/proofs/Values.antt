@@ -1,4 +1,4 @@
--- A name or a file has one value, and a result is one.
+-- A name or a file has exactly one value, and results are unique.
 use Rattle.std.proofs.Common.{◌≡◌, ◌<◌, ◌≤◌, ℕ, List, Option, Some, None, refl, arith}
 use Rattle.span_language.proofs.Names.{Command, Err, Files, IsFileRefused, IsOfFile, IsSettled, IsWithin, Ok, Refusal, Result}
 
@@ -20,7 +20,7 @@ one_err r x y h k = cc (h, k)
 pub not_both : {A E : Type 0} (r : Result A E) (x : A) (y : E) → r ≡ Ok x → r ≡ Err y → ⊥
 not_both r x y h k = let bad : ⊥ = cc (h, k) in bad
 
--- files are told where a settled command asks for one
+-- files are observable if a deterministic command uses one
 pub are_told : (files : Option Files) (command : Command) → IsOfFile command → IsSettled files command → files ≡ None → ⊥
 are_told None command of settled e = settled of
 are_told (Some all) command of settled e = no_value (Some all) all refl e

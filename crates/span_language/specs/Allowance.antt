@@ -1,4 +1,4 @@
--- How many looks and pair calls a line may cost.
+-- The maximum number of table lookups and node constructions of a line.
 use Rattle.std.specs.Prelude.{◌≡◌, ◌⊎◌, ℕ, ◌+◌, ◌*◌, ◌≤◌, List, length, min}
 use Rattle.span_types.specs.Fibonacci.{height_limit, looks_limit}
 use Rattle.span_types.specs.Query.{Query}
@@ -28,27 +28,27 @@ no_steps = record { looks = 0; pairs = 0 }
 abbrev pub both_of : Allowance → Allowance → Allowance
 both_of a b = record { looks = a.looks + b.looks; pairs = a.pairs + b.pairs }
 
--- the pair calls of loading n bytes
+-- the maximum number of node constructions for loading n bytes
 abbrev pub load_limit : ℕ → ℕ
 load_limit n = n + 4 * (height_limit n + 1)
 
--- the pair calls of so many operations on texts of at most n bytes
+-- the maximum number of node constructions for this many operations on texts of at most n bytes
 abbrev pub edit_limit : ℕ → ℕ → ℕ
 edit_limit count n = 48 * count * (height_limit n + 1)
 
--- the looks for one answer of a query on a text
+-- the maximum number of table lookups for one answer of a query on a text
 abbrev pub answer_limit : Query → List ℕ → ℕ
 answer_limit q text = looks_limit (length (names_of q)) (length text)
 
--- the looks for so many answers, and no pair calls
+-- the maximum number of table lookups for this many answers, and no node constructions
 abbrev pub answers_steps : ℕ → Query → List ℕ → Allowance
 answers_steps count q text = record { looks = count * answer_limit q text; pairs = 0 }
 
--- the steps of replacing c chosen spans of a text of n bytes
+-- the maximum number of steps for replacing c chosen spans of a text of n bytes
 abbrev pub replace_steps : ℕ → ℕ → Allowance
 replace_steps c n = record { looks = 3 * (c + 1) * looks_limit 1 n; pairs = 1770 * (c + 1) }
 
--- nothing where the command is refused
+-- nothing if the command is refused
 abbrev pub IsFree : (Refusal → Type 0) → Allowance → Type 0
 IsFree Refuses a = (why : Refusal) × Refuses why × (a ≡ no_steps)
 
@@ -72,7 +72,7 @@ IsAllowed old (form.ReplaceDoc name query source by) a = IsFree (IsUnreplaced ol
     × (a ≡ replace_steps (min (length spans) most_spans) (length text)))
 IsAllowed old _ a = a ≡ no_steps
 
--- the counters of looks and pair calls
+-- the counters of table lookups and node constructions
 pub record Counters : Type 0 where
   pub looks : ℕ
   pub pairs : ℕ
@@ -80,15 +80,15 @@ pub record Counters : Type 0 where
 abbrev pub counters : ℕ → ℕ → Counters
 counters looks pairs = record { looks = looks; pairs = pairs }
 
--- the counters rose by no more than the allowance
+-- the counters increased by at most the allowance
 pub record IsPaid (a : Allowance) (before after : Counters) : Type 0 where
   pub looks : after.looks ≤ before.looks + a.looks
   pub pairs : after.pairs ≤ before.pairs + a.pairs
 
--- the counters rose by no more than the allowance of the command
+-- the counters increased by at most the allowance of the command
 abbrev pub PaysFor : World → Command → Counters → Counters → Type 0
 PaysFor old command before after = (a : Allowance) × IsAllowed old command a × IsPaid a before after
 
--- the same of a command that may have been stopped before it was begun
+-- the same for a command that may have been stopped before it began
 abbrev pub PaysForPart : World → Command → Counters → Counters → Type 0
 PaysForPart old command before after = (a : Allowance) × ((a ≡ no_steps) ⊎ IsAllowed old command a) × IsPaid a before after

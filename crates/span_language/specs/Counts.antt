@@ -1,4 +1,5 @@
--- How many queries an accepted command registers and whether it compacts, and what that says of nodes and of tables placed.
+-- The number of queries that an accepted command registers, whether it compacts, and the resulting bounds on nodes and
+-- computed tables.
 use Rattle.std.specs.Prelude.{◌≡◌, ◌⊎◌, ℕ, ◌+◌, ◌*◌, ◌≤◌, length}
 use Rattle.script_syntax.specs.declared.form.Command.{Command}
 use Rattle.script_syntax.specs.declared.form.Command.TheVariants as form
@@ -15,22 +16,23 @@ Registers (form.JoinQuery name left right) = Unit {0}
 Registers (form.ProjectQuery name source keep) = Unit {0}
 Registers _ = ⊥
 
--- the command drops the nodes that nothing reaches
+-- the command drops the unreachable nodes
 abbrev pub Compacts : Command → Type 0
 Compacts form.Compact = Unit {0}
 Compacts _ = ⊥
 
--- one where the command was accepted and is of the kind, else none
+-- one if the command was accepted and is of the kind, otherwise none
 abbrev pub IsOnce : Type 0 → Told → ℕ → Type 0
 IsOnce kind Accepted count = (kind × (count ≡ 1)) ⊎ ((kind → ⊥) × (count ≡ 0))
 IsOnce kind _ count = count ≡ 0
 
--- the tables that a line placed, where there are n nodes at most and so many were dropped: with those that the queries had they are no
--- more than the queries have now, where a query that was registered anew or taken out counts with one of each node
+-- the number of tables that a line computed, if there are at most n nodes and this many were dropped: together with the
+-- tables that the queries had, they are at most the tables that the queries have now, where a query that was replaced
+-- or removed counts one table for each node
 abbrev pub Places : ℕ → ℕ → ℕ → Named ℕ → Named ℕ → ℕ → ℕ → Type 0
 Places count dropped nodes old new before after = (n : ℕ) → nodes ≤ n
     → after + sum_of old + n * length new ≤ before + sum_of new + (n + dropped) * length old + n * count
 
--- the tables that a line placed in which the run was stopped: each query has at most one of each node
+-- the number of tables computed by a line in which the run was stopped: each query has at most one for each node
 abbrev pub PlacesPart : ℕ → ℕ → Named ℕ → ℕ → ℕ → Type 0
 PlacesPart few nodes old before after = (n : ℕ) → few ≤ n → nodes ≤ n → after + sum_of old ≤ before + n * length old

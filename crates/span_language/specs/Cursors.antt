@@ -7,16 +7,16 @@ use Rattle.span_cursor.specs.Tuples.{HasOtherNames, IsTupleText, TupleText}
 use Rattle.report_text.specs.declared.refusal.Refusal.{Refusal}
 use Rattle.report_text.specs.declared.refusal.Refusal.TheVariants.{BadTuple, OtherVariables}
 
--- the first refusal of a word as a tuple of the query's variables
+-- why a word is rejected as a tuple of the query's variables: the first reason
 abbrev pub IsTupleRefused : Query → List ℕ → Refusal → Type 0
 IsTupleRefused q word why = ((IsTupleText word → ⊥) × (why ≡ BadTuple)) ⊎ (HasOtherNames word (names_of q) × (why ≡ OtherVariables))
 
--- the cursor that a word gives: the tuple that it is, and without a word none
+-- the cursor of a word: the tuple that it is, and none without a word
 abbrev pub IsCursorOf : Query → Option (List ℕ) → Option Tuple → Type 0
 IsCursorOf q None cursor = cursor ≡ None
 IsCursorOf q (Some word) cursor = (tuple : Tuple) × TupleText word (names_of q) tuple × (cursor ≡ Some tuple)
 
--- the first refusal of a word as a cursor
+-- why a word is rejected as a cursor: the first reason
 abbrev pub IsCursorRefused : Query → Option (List ℕ) → Refusal → Type 0
 IsCursorRefused q None why = ⊥
 IsCursorRefused q (Some word) why = IsTupleRefused q word why

@@ -1,4 +1,4 @@
--- Laws of the language.
+-- Theorems about the language.
 use Rattle.std.specs.Prelude.{◌≡◌, ◌⊎◌, ◌≤◌, ℕ, List, [], ◌∷◌, Option, Some, None, length}
 use Rattle.edge_io.specs.Files.{AllowsWrites, Files}
 use Rattle.script_syntax.specs.Syntax.{LineText}
@@ -12,21 +12,22 @@ use Rattle.span_language.specs.Runs.{Runs, Sum}
 use Rattle.span_language.specs.declared.told.Told.{Told}
 use Rattle.span_language.specs.declared.told.Told.TheVariants.{Quiet, Accepted, Refused}
 
--- a refused line, and one that asks for nothing, changes nothing
+-- a refused line changes nothing, and neither does a line without a command
 pub record ChangesNothing : Type 0 where
   pub refused : (old : World) (number : ℕ) (line reply : List ℕ) (new : World) → Step old number line Refused reply new → new ≡ old
   pub quiet : (old : World) (number : ℕ) (line reply : List ℕ) (new : World) → Step old number line Quiet reply new → new ≡ old
 
--- the command chooses nothing: it is no `save`, and where no files are told it asks for none
+-- the command is deterministic: it is no `save`, and if the files are not observable it uses none
 abbrev pub IsSettled : Option Files → Command → Type 0
 IsSettled (Some files) command = (file : List ℕ) → IsSave file command → ⊥
 IsSettled None command = IsOfFile command → ⊥
 
--- the line is such a command, or none
+-- the line has such a command, or none
 abbrev pub IsSettledLine : Option Files → List ℕ → Type 0
 IsSettledLine files line = (command : Command) → LineText line command → IsSettled files command
 
--- an accepted `save` keeps the state and the other files; it chooses an image of the documents that `open` takes, whose nodes the reply tells
+-- an accepted `save` changes neither the state nor the other files; it writes some image of the documents that `open`
+-- accepts, and its reply has the number of the image's nodes
 pub record Saves (old : World) (file : List ℕ) (reply : List ℕ) (new : World) : Type 0 where
   pub state : new.state ≡ old.state
   pub bytes : List ℕ
@@ -37,7 +38,8 @@ pub record Saves (old : World) (file : List ℕ) (reply : List ℕ) (new : World
   pub put : IsPut old.files file bytes new.files
   pub replied : reply ≡ saved_text (length old.state.documents) nodes
 
--- what a line is told, its reply and the world that it leaves are one, unless it is a `save`, which may choose the bytes of its file
+-- the outcome of a line, its reply and the resulting world are determined, except for `save`, which may choose the
+-- bytes of its file
 pub record HasOneReply : Type 0 where
   pub one : (old : World) (number : ℕ) (line : List ℕ) (told told2 : Told) (reply reply2 : List ℕ) (new new2 : World) → IsSettledLine old.files line
       → Step old number line told reply new → Step old number line told2 reply2 new2 → (told ≡ told2) × (reply ≡ reply2) × (new ≡ new2)
@@ -49,7 +51,7 @@ abbrev pub AreSettled : Option Files → List (List ℕ) → Type 0
 AreSettled files [] = Unit {0}
 AreSettled files (line ∷ lines) = IsSettledLine files line × AreSettled files lines
 
--- of lines that are settled, whether one is refused, the output and the world that is left are one
+-- for deterministic lines, the output, the resulting world, and whether a line is refused are determined
 abbrev pub HasOneOutput : Type 0
 HasOneOutput = (old : World) (number : ℕ) (lines : List (List ℕ)) (sum sum2 : Sum) (new new2 : World) → AreSettled old.files lines
     → Runs old number lines sum new → Runs old number lines sum2 new2 → (sum.refused ≡ sum2.refused) × (sum.output ≡ sum2.output) × (new ≡ new2)

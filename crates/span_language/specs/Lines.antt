@@ -1,12 +1,12 @@
 -- The lines of a script.
 use Rattle.std.specs.Prelude.{ℕ, ◌==◌, List, [], ◌∷◌, if◌then◌else◌}
 
--- the byte stands first in the first line, or makes a line where there is none
+-- the byte becomes the first of the first line, or a line of its own if there is none
 abbrev pub onto_first : ℕ → List (List ℕ) → List (List ℕ)
 onto_first b [] = (b ∷ []) ∷ []
 onto_first b (line ∷ lines) = (b ∷ line) ∷ lines
 
--- each newline ends a line, and what stands after the last one is a line unless it is empty
+-- each newline ends a line, and the bytes after the last newline are a line unless there are none
 abbrev pub lines_of : List ℕ → List (List ℕ)
 lines_of [] = []
 lines_of (b ∷ rest) = if b == 10 then [] ∷ lines_of rest else onto_first b (lines_of rest)

@@ -13,7 +13,7 @@ use Rattle.span_language.specs.Cursors.{IsCursorOf}
 abbrev pub tuple_line : List (List ℕ) → Tuple → List ℕ
 tuple_line names t = tuple_text names t ++ 10 ∷ []
 
--- the line `more` where answers are left, else `end`
+-- the line `more` if answers are left, otherwise `end`
 abbrev pub last_line : Bool → List ℕ
 last_line true = codes "more" ++ 10 ∷ []
 last_line false = codes "end" ++ 10 ∷ []
@@ -22,7 +22,7 @@ last_line false = codes "end" ++ 10 ∷ []
 abbrev pub page_text : List (List ℕ) → List Tuple → Bool → List ℕ
 page_text names page more = flat_map (tuple_line names) page ++ last_line more
 
--- the same of the first n of a list of tuples
+-- the same for the first n of a list of tuples
 abbrev pub first_page_text : List (List ℕ) → ℕ → List Tuple → List ℕ
 first_page_text names n ts = page_text names (take n ts) (nat_lt n (length ts))
 
@@ -48,7 +48,8 @@ doc_line name = codes "doc " ++ (name ++ 10 ∷ [])
 abbrev pub done_line : List ℕ
 done_line = codes "done" ++ 10 ∷ []
 
--- the reply has for each document, in order, its line and the page of at most n answers on its text; and last `done`
+-- the reply has, for each document in order, its line and the page of at most n answers on its text; its last line is
+-- `done`
 abbrev pub AreListed : Query → ℕ → Documents → List ℕ → Type 0
 AreListed q n [] reply = reply ≡ done_line
 AreListed q n (d ∷ ds) reply = (page : List Tuple) × (more : Bool) × (rest : List ℕ) × IsPageOf q d.1 None n page more × AreListed q n ds rest

@@ -1,4 +1,4 @@
--- What a line means: a command, or none.
+-- The meaning of a line: a command, or none.
 use Rattle.std.specs.Prelude.{◌≡◌, ℕ, List, Option, Some, None}
 use Rattle.script_syntax.specs.Syntax.{LineText}
 use Rattle.script_syntax.specs.declared.form.Command.{Command}
@@ -21,20 +21,20 @@ abbrev pub Of : (Command → Type 0) → Option Command → Type 0
 Of Kind (Some command) = Kind command
 Of Kind None = ⊥
 
--- there is a reply: every command but Nothing has one, and what is no command has a refusal
+-- there is a reply: every command except Nothing has one, and a line that is no command has a refusal
 abbrev pub Replies : Option Command → Type 0
 Replies meaning = meaning ≡ Some Nothing → ⊥
 
--- what a line of this meaning replies and leaves: what is no command is refused
+-- the reply and the effect of a line with this meaning; a line that is no command is refused
 abbrev pub Carried : World → ℕ → Option Command → Told → List ℕ → World → Type 0
 Carried old number (Some command) told reply new = Carries old number command told reply new
 Carried old number None told reply new = (told ≡ Refused) × (reply ≡ refusal_text number Syntax) × (new ≡ old)
 
--- what it may cost
+-- its maximum cost
 abbrev pub IsAllowance : World → Option Command → Allowance → Type 0
 IsAllowance old (Some command) a = IsAllowed old command a
 IsAllowance old None a = a ≡ no_steps
 
--- the line, in this world, has this reply and leaves that world
+-- the line, in the first world, has this reply and results in the second world
 abbrev pub Step : World → ℕ → List ℕ → Told → List ℕ → World → Type 0
 Step old number line told reply new = (meaning : Option Command) × Means line meaning × Carried old number meaning told reply new

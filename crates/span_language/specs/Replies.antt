@@ -21,7 +21,7 @@ yes_text = codes "yes" ++ 10 ∷ []
 abbrev pub no_text : List ℕ
 no_text = codes "no" ++ 10 ∷ []
 
--- the reply to a text that was given a name: its length and its first 32 bytes
+-- the reply when a text was assigned to a name: its length and its first 32 bytes
 abbrev pub given_text : List ℕ → List ℕ → List ℕ
 given_text name text = doc_text name (length text) (take 32 text)
 
@@ -33,7 +33,7 @@ entry_text doc = name_text doc.0 (length doc.1)
 abbrev pub names_text : Documents → List ℕ
 names_text docs = flat_map entry_text docs ++ (codes "end" ++ 10 ∷ [])
 
--- bytes i to j-1 of a text, or the first of the two refusals
+-- bytes i to j-1 of a text, or the first of the two possible refusals
 abbrev pub shown_range : List ℕ → ℕ → ℕ → Result (List ℕ) Refusal
 shown_range text i j = cond (is_range i j (length text))
     (cond (nat_le (j - i) 4096) (Ok (content text i j)) (Err (RangeTooWide (j - i))))

@@ -1,4 +1,4 @@
--- What a list of lines does.
+-- The effect of a list of lines.
 use Rattle.std.specs.Prelude.{◌≡◌, ◌⊎◌, ℕ, ◌+◌, ◌-◌, ◌*◌, ◌≤◌, ◌||◌, Bool, true, false, List, [], ◌∷◌, ◌++◌, Option, None, length, take}
 use Rattle.std.specs.Io.KnownBytes.{Appends}
 use Rattle.edge_io.specs.Files.{Files}
@@ -17,8 +17,8 @@ is_refused Quiet = false
 is_refused Accepted = false
 is_refused Refused = true
 
--- what lines add up to: whether one was refused, their output, what they may cost together, how many queries they register, and
--- how many accepted `compact` lines there are
+-- the sum over lines: whether one was refused, their output, their maximum cost together, the number of queries that
+-- they register, and the number of accepted `compact` lines
 pub record Sum : Type 0 where
   pub refused : Bool
   pub output : List ℕ
@@ -38,7 +38,7 @@ both a b = record {
   compactions = a.compactions + b.compactions;
 }
 
--- what one line adds, which was told so
+-- what one line with this outcome adds
 pub record Adds (old : World) (number : ℕ) (line : List ℕ) (sum : Sum) (new : World) : Type 0 where
   pub meaning : Option Command
   pub told : Told
@@ -49,13 +49,14 @@ pub record Adds (old : World) (number : ℕ) (line : List ℕ) (sum : Sum) (new 
   pub compacts : IsOnce (Of Compacts meaning) told sum.compactions
   pub refused_is : sum.refused ≡ is_refused told
 
--- from a world on, the lines, numbered from here on, add up to this and lead to that world
+-- from the first world, these lines, numbered from this number on, have this sum and result in the second world
 abbrev pub Runs : World → ℕ → List (List ℕ) → Sum → World → Type 0
 Runs old number [] sum new = (sum ≡ no_lines) × (new ≡ old)
 Runs old number (line ∷ lines) sum new = (one rest : Sum) × (mid : World)
     × Adds old number line one mid × Runs mid (number + 1) lines rest new × (sum ≡ both one rest)
 
--- what is told of the outside at a moment: the bytes written, the files, the counters of looks and pair calls, and that of tables placed
+-- what is observable of the environment at one moment: the bytes written, the files, and the counters of table lookups,
+-- node constructions and computed tables
 pub record Outside : Type 0 where
   pub written : Option (List ℕ)
   pub files : Option Files
@@ -69,8 +70,8 @@ outside written files looks pairs places = record { written = written; files = f
 abbrev pub start : Outside → World
 start before = world nothing before.files
 
--- each query has at most one table of each node that there was: of the 256 bytes, which are made anew after each compaction, and of
--- the pairs that were made
+-- each query has at most one table for each node that ever existed: for the 256 bytes, which are made again after each
+-- compaction, and for the pairs that were made
 abbrev pub PlacesFew : Sum → Outside → Outside → Type 0
 PlacesFew sum before after = after.places ≤ before.places + sum.queries * (256 * (1 + sum.compactions) + (after.counters.pairs - before.counters.pairs))
 
@@ -84,23 +85,25 @@ pub record RunsAll (lines : List (List ℕ)) (refused : Bool) (before after : Ou
   pub paid : IsPaid sum.cost before.counters after.counters
   pub placed : PlacesFew sum before after
 
--- a line of this meaning was stopped: nothing was written of its reply and the told files are as before, or it was done, with these files,
--- and a front of its reply was written
+-- a line with this meaning was stopped: either nothing of its reply was written and the observable files are unchanged,
+-- or it was executed, with these files, and a prefix of its reply was written
 abbrev pub IsFront : World → ℕ → Option Command → List ℕ → Option Files → Type 0
 IsFront old number meaning part files = ((part ≡ []) × (files ≡ old.files))
     ⊎ ((told : Told) × (reply : List ℕ) × (new : World) × (n : ℕ) × Carried old number meaning told reply new × (part ≡ take n reply) × (files ≡ new.files))
 
--- the next line, in which the run was stopped: what was written of its reply, what it may cost, and the told files
+-- the next line, in which the run was stopped: the written part of its reply, its maximum cost, and the observable
+-- files
 pub record IsNext (old : World) (number : ℕ) (line : List ℕ) (meaning : Option Command) (part : List ℕ) (cost : Allowance) (files : Option Files) : Type 0 where
   pub means : Means line meaning
   pub front : IsFront old number meaning part files
   pub allowed : (cost ≡ no_steps) ⊎ IsAllowance old meaning cost
 
--- where a run ends early, by the meaning of the line, what was written of its reply, and the told files before and after it
+-- the conditions for an early end of a run, by the meaning of the line, the written part of its reply, and the
+-- observable files before and after it
 abbrev pub Ending : Type 1
 Ending = Option Command → List ℕ → Option Files → Option Files → Type 0
 
--- of the lines that are left none was begun, or the next one was stopped, in a way that Ends says
+-- none of the remaining lines was begun, or the next one was stopped in a way that Ends allows
 abbrev pub IsPart : Ending → World → ℕ → List (List ℕ) → List ℕ → Allowance → Option Files → Type 0
 IsPart Ends old number left part cost files = ((part ≡ []) × (cost ≡ no_steps) × (files ≡ old.files) × Ends None [] old.files files)
     ⊎ ((line : List ℕ) × (lines : List (List ℕ)) × (meaning : Option Command) × (left ≡ line ∷ lines)
@@ -110,15 +113,17 @@ IsPart Ends old number left part cost files = ((part ≡ []) × (cost ≡ no_ste
 abbrev pub Anywhere : Ending
 Anywhere meaning part before after = Unit {0}
 
--- in a line of the form `load`, `save` or `open`, of whose reply nothing was written, and which left the told files as they were
+-- in a line of the form `load`, `save` or `open`: nothing of its reply was written, and the observable files are
+-- unchanged
 abbrev pub InFileLine : Ending
 InFileLine meaning part before after = Of IsOfFile meaning × (part ≡ []) × (after ≡ before)
 
--- where it is in a line of the form `list`, a count rose, or nothing of its reply was written
+-- if it is in a line of the form `list`, a count increased, or nothing of its reply was written
 abbrev pub UnlessList : ℕ → ℕ → Ending
 UnlessList wants_before wants_after meaning part before after = Of IsList meaning → Rose wants_before wants_after ⊎ (part ≡ [])
 
--- the run ended early: the first lines ran and their output was written, then perhaps a front of the next one's reply
+-- the run ended early: the first lines ran and their output was written, and then possibly a prefix of the next line's
+-- reply
 pub record RunsFront (Ends : Ending) (lines : List (List ℕ)) (before after : Outside) : Type 0 where
   pub done : List (List ℕ)
   pub left : List (List ℕ)

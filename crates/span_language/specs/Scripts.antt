@@ -1,17 +1,18 @@
--- The script that the words of the command line ask for.
+-- The script that the command-line arguments select.
 use Rattle.std.specs.Prelude.{ℕ, List, Option, Some, None, IfSome}
 use Rattle.text_gen.specs.Demo.{demo_text}
 use Rattle.span_words.specs.Words.{Words}
 
--- the script of a demo, whatever the source has left; and else what it has left, where it tells
+-- the script of a demo, whatever the source has left; otherwise the bytes that the source has left, if they are
+-- observable
 abbrev pub script_of : Option ℕ → Option (List ℕ) → Option (List ℕ)
 script_of (Some number) left = Some (demo_text number)
 script_of None left = left
 
--- what holds of the script that the words ask for, where they are taken
+-- the property holds of the script that the arguments select, if they are accepted
 abbrev pub OfScript : List (List ℕ) → Option (List ℕ) → (List ℕ → Type 0) → Type 0
 OfScript words left Holds = (workers : ℕ) (demo : Option ℕ) → Words words workers demo → IfSome (script_of demo left) Holds
 
--- the words are taken, and ask for no demo
+-- the arguments are accepted, and select no demo
 abbrev pub AsksForNoDemo : List (List ℕ) → Type 0
 AsksForNoDemo words = (workers : ℕ) × Words words workers None

@@ -1,4 +1,4 @@
--- The plain state that the lines of a script change.
+-- The state that the lines of a script change.
 use Rattle.std.specs.Prelude.{ℕ, List, [], Option, refl}
 pub use Rattle.name_map.specs.Named.{Named, is_same, value_of, put, taken_out}
 use Rattle.span_types.specs.Query.{Query}
@@ -6,11 +6,11 @@ use Rattle.std.specs.Coded.{Coded, code_by, coded_ℕ, coded_list, coded×}
 use Rattle.span_types.specs.Codes.{query_code}
 use Rattle.edge_io.specs.Files.{Files}
 
--- documents by their texts
+-- documents with their texts
 abbrev pub Documents : Type 0
 Documents = Named (List ℕ)
 
--- what a session holds
+-- the state of a session
 pub record State : Type 0 where
   pub documents : Documents
   pub queries : Named Query
@@ -19,13 +19,13 @@ pub record State : Type 0 where
 abbrev documents_code : Coded Documents
 documents_code = coded_list (coded× (coded_list coded_ℕ) (coded_list coded_ℕ))
 
--- a state is stored as its three lists
+-- a state is encoded as its three lists
 abbrev pub state_code : Coded State
 state_code = code_by (Documents × (Named Query × Named Documents))
     (coded× documents_code (coded× (coded_list (coded× (coded_list coded_ℕ) query_code)) (coded_list (coded× (coded_list coded_ℕ) documents_code))))
     (λ s. (s.documents, (s.queries, s.versions))) (λ p. record { documents = p.0; queries = p.1.0; versions = p.1.1 }) (λ _. refl)
 
--- the state, and the files where they are told
+-- the state, and the files if they are observable
 pub record World : Type 0 where
   pub state : State
   pub files : Option Files

@@ -1,4 +1,4 @@
--- What a line does.
+-- The effect of a line.
 use Rattle.std.specs.Prelude.{◌≡◌, ◌⊎◌, ◌<◌, ℕ, List, [], Option, Some, None, Ok, Err, IfSome, take, length, ◌≤◌, ◌^◌}
 use Rattle.std.specs.Io.KnownBytes.{Appends, Keeps}
 use Rattle.edge_io.specs.Files.{AllowsReads, AllowsWrites, DeniesReads, DeniesWrites, Files, Holds, KeepsOthers, LacksFile}
@@ -37,43 +37,43 @@ use Rattle.span_language.specs.Replies.{ok_text, yes_text, no_text, given_text, 
 use Rattle.span_language.specs.declared.told.Told.{Told}
 use Rattle.span_language.specs.declared.told.Told.TheVariants.{Quiet, Accepted, Refused}
 
--- the file is there and open for reading, with these bytes, which are no more than the limit
+-- the file exists, may be read, and has these bytes, which are at most the limit
 pub record IsWithin (files : Option Files) (name : List ℕ) (limit : ℕ) (bytes : List ℕ) : Type 0 where
   pub held : Holds files name bytes
   pub readable : AllowsReads files name
   pub short : length bytes ≤ limit
 
--- the file is there and open for reading, and has more bytes than the limit
+-- the file exists, may be read, and has more bytes than the limit
 pub record IsOversized (files : Option Files) (name : List ℕ) (limit : ℕ) : Type 0 where
   pub bytes : List ℕ
   pub held : Holds files name bytes
   pub readable : AllowsReads files name
   pub long : limit < length bytes
 
--- the first refusal of a file that is to be read: it isn't there, is closed for reading, or has more bytes than the limit
+-- why a file is not read, the first reason: it doesn't exist, may not be read, or has more bytes than the limit
 abbrev pub IsFileRefused : Option Files → List ℕ → ℕ → Refusal → Type 0
 IsFileRefused files name limit why = (LacksFile files name × (why ≡ NoSuchFile name))
     ⊎ (DeniesReads files name × (why ≡ CannotRead name))
     ⊎ (IsOversized files name limit × (why ≡ FileTooLong name))
 
--- the most bytes of a file of `load`, and of one of `open` and `save`
+-- the maximum length of a file for `load`, and of one for `open` and `save`, in bytes
 abbrev pub load_size : ℕ
 load_size = 2 ^ 32
 
 abbrev pub open_size : ℕ
 open_size = 2 ^ 30
 
--- these bytes may be saved as an image of the documents with so many nodes
+-- these bytes are a valid image of the documents for `save`, with this number of nodes
 pub record IsSaved (documents : Documents) (bytes : List ℕ) (nodes : ℕ) : Type 0 where
   pub form : SaveForm bytes
   pub means : (image bytes).answer ≡ Ok (record { documents = documents; nodes = nodes })
 
--- the first refusal of a `save`: the image that is chosen is too long, or else the file is closed for writing
+-- why a `save` is refused, the first reason: the image is too long, or the file may not be written
 abbrev pub IsSaveRefused : Option Files → Documents → List ℕ → Refusal → Type 0
 IsSaveRefused files documents name why = (bytes : List ℕ) × (nodes : ℕ) × IsSaved documents bytes nodes
     × (((open_size < length bytes) × (why ≡ FileTooLong name)) ⊎ ((length bytes ≤ open_size) × DeniesWrites files name × (why ≡ CannotWrite name)))
 
--- the file has these bytes now, and the others are as before
+-- the file now has these bytes, and the others are unchanged
 pub record IsPut (old : Option Files) (name bytes : List ℕ) (new : Option Files) : Type 0 where
   pub held : Holds new name bytes
   pub others : KeepsOthers old new name
@@ -95,7 +95,7 @@ IsTextRefused text (NotFunctional name) = FormulaOf text (formula.NotFunctional 
 IsTextRefused text TooManyStates = IsTooLarge text
 IsTextRefused text _ = ⊥
 
--- why no query was made of others, as a reply has it
+-- why an operation on queries failed, as the reply reports it
 abbrev pub IsCombineRefusal : CombineRefusal → Refusal → Type 0
 IsCombineRefusal (combine.NoSuchQuery name) why = why ≡ NoSuchQuery name
 IsCombineRefusal (combine.QueryTooLarge parts) why = why ≡ QueryTooLarge parts
@@ -104,32 +104,34 @@ IsCombineRefusal combine.TooManyVariables why = why ≡ TooManyVariables
 IsCombineRefusal combine.TooManyStates why = why ≡ TooManyStates
 IsCombineRefusal combine.NoMemory why = ⊥
 
--- the first refusal of a query that is made of others
+-- why an operation on queries is refused: the first reason
 abbrev pub IsUncombined : (CombineRefusal → Type 0) → Refusal → Type 0
 IsUncombined Refuses why = (refusal : CombineRefusal) × Refuses refusal × IsCombineRefusal refusal why
 
--- the query and the text that a question names
+-- the query and the text of a question
 pub record IsAsked (old : World) (query name : List ℕ) (q : Query) (text : List ℕ) : Type 0 where
   pub document : value_of old.state.documents name ≡ Some text
   pub registered : value_of old.state.queries query ≡ Some q
 
--- the first refusal of a question: the document isn't there, or the query
+-- why a question is refused, the first reason: the document doesn't exist, or the query doesn't
 abbrev pub IsUnasked : World → List ℕ → List ℕ → Refusal → Type 0
 IsUnasked old query name why = ((value_of old.state.documents name ≡ None) × (why ≡ NoSuchDocument name))
     ⊎ ((text : List ℕ) × (value_of old.state.documents name ≡ Some text) × (value_of old.state.queries query ≡ None) × (why ≡ NoSuchQuery query))
 
--- `yes` where the fact holds, and `no` where it doesn't
+-- `yes` if the fact holds, and `no` if it doesn't
 abbrev pub IsYesOrNo : Type 0 → List ℕ → Type 0
 IsYesOrNo fact reply = (fact × (reply ≡ yes_text)) ⊎ ((fact → ⊥) × (reply ≡ no_text))
 
--- what a replacement is asked of: the text in which the spans of a query of one variable are replaced, and the text that is put there
+-- the inputs of a replacement: the text, the query of one variable whose spans are replaced, and the text that replaces
+-- them
 pub record IsReplacing (old : World) (query source by : List ℕ) (q : Query) (text other : List ℕ) : Type 0 where
   pub document : value_of old.state.documents source ≡ Some text
   pub put_there : value_of old.state.documents by ≡ Some other
   pub registered : value_of old.state.queries query ≡ Some q
   pub one : length (names_of q) ≡ 1
 
--- the first refusal of what a replacement is asked of: a document isn't there, or the query, or it hasn't one variable
+-- why the inputs of a replacement are refused, the first reason: a document doesn't exist, the query doesn't exist, or
+-- it hasn't exactly one variable
 abbrev pub IsUnreplaced : World → List ℕ → List ℕ → List ℕ → Refusal → Type 0
 IsUnreplaced old query source by why = ((value_of old.state.documents source ≡ None) × (why ≡ NoSuchDocument source))
     ⊎ ((text : List ℕ) × (value_of old.state.documents source ≡ Some text) × (value_of old.state.documents by ≡ None) × (why ≡ NoSuchDocument by))
@@ -138,13 +140,13 @@ IsUnreplaced old query source by why = ((value_of old.state.documents source ≡
     ⊎ ((text other : List ℕ) × (q : Query) × (value_of old.state.documents source ≡ Some text) × (value_of old.state.documents by ≡ Some other)
     × (value_of old.state.queries query ≡ Some q) × (length (names_of q) ≡ 1 → ⊥) × (why ≡ NotOneVariable (length (names_of q))))
 
--- the spans that are chosen of a query's answers on a text
+-- the spans chosen from a query's answers on a text
 pub record IsChosenOf (q : Query) (s : List ℕ) (spans : List Span) : Type 0 where
   pub all : List Tuple
   pub answers : IsAnswersOf q s all
   pub is : spans ≡ chosen all
 
--- the most spans that are replaced
+-- the maximum number of replaced spans
 abbrev pub most_spans : ℕ
 most_spans = 32768
 
@@ -152,7 +154,7 @@ most_spans = 32768
 abbrev pub HasQueries : World → World → Named Query → Type 0
 HasQueries old new queries = new ≡ world (with_queries old.state queries) old.files
 
--- the query is given the name, and the reply has its variables
+-- the query is registered under the name, and the reply has its variables
 abbrev pub IsRegistered : World → World → List ℕ → Query → List ℕ → Type 0
 IsRegistered old new name q reply = (reply ≡ query_text name (names_of q)) × HasQueries old new (put old.state.queries name q)
 
@@ -164,7 +166,7 @@ HasDocuments old new documents = new ≡ world (with_documents old.state documen
 abbrev pub HasVersions : World → World → Named Documents → Type 0
 HasVersions old new versions = new ≡ world (with_versions old.state versions) old.files
 
--- an accepted command has this reply and leaves this world: one equation for each command
+-- an accepted command has this reply and results in this world: one equation for each command
 abbrev pub Does : World → Command → List ℕ → World → Type 0
 Does old (Text name bytes) reply new = (reply ≡ given_text name bytes) × HasDocuments old new (put old.state.documents name bytes)
 Does old (LoadFile name file) reply new = (bytes : List ℕ) × IsWithin old.files file load_size bytes × (reply ≡ given_text name bytes)
@@ -200,7 +202,7 @@ Does old (form.BackDocs name) reply new = (documents : Documents) × (value_of o
 Does old form.Compact reply new = (reply ≡ ok_text) × (new ≡ old)
 Does old Nothing reply new = ⊥
 
--- the first refusal of a command
+-- why a command is refused: the first reason
 abbrev pub IsRefused : World → Command → Refusal → Type 0
 IsRefused old Nothing why = ⊥
 IsRefused old (Text name bytes) why = ⊥
@@ -233,13 +235,13 @@ IsRefused old (form.UnmarkDocs name) why = (value_of old.state.versions name ≡
 IsRefused old (form.BackDocs name) why = (value_of old.state.versions name ≡ None) × (why ≡ NoSuchVersion name)
 IsRefused old form.Compact why = ⊥
 
--- a command that was read, in this world, has this reply and leaves that world
+-- a parsed command, in the first world, has this reply and results in the second world
 abbrev pub Carries : World → ℕ → Command → Told → List ℕ → World → Type 0
 Carries old number command Quiet reply new = (command ≡ Nothing) × (reply ≡ []) × (new ≡ old)
 Carries old number command Accepted reply new = Does old command reply new
 Carries old number command Refused reply new = (why : Refusal) × IsRefused old command why × (reply ≡ refusal_text number why) × (new ≡ old)
 
--- the bytes of a text line, which the line's own length bounds
+-- the bytes of a `text` line are at most as many as those of the line
 abbrev pub IsShort : Command → Type 0
 IsShort (Text name bytes) = length bytes ≤ 2 ^ 16
 IsShort _ = Unit {0}
@@ -260,20 +262,20 @@ IsList _ = ⊥
 abbrev pub IsSave : List ℕ → Command → Type 0
 IsSave file command = command ≡ SaveFile file
 
--- told bytes grow by a front of these
+-- the observable bytes are extended by a prefix of these
 abbrev pub AppendsFront : Option (List ℕ) → Option (List ℕ) → List ℕ → Type 0
 AppendsFront before after reply = (n : ℕ) × Appends before after (take n reply)
 
--- the whole of an allowed reply was written
+-- an allowed reply was written completely
 abbrev pub Finishes : (Told → List ℕ → World → Type 0) → Told → Option (List ℕ) → Option (List ℕ) → World → Type 0
 Finishes Allows told before after new = (reply : List ℕ) × Allows told reply new × Appends before after reply
 
--- nothing was written, and the state and the told files are as before
+-- nothing was written, and the state and the observable files are unchanged
 pub record Leaves (old : World) (before after : Option (List ℕ)) (new : World) : Type 0 where
   pub written : Keeps before after
   pub world : new ≡ old
 
--- nothing was written and all is as before, or a front of an allowed reply was written
+-- nothing was written and everything is unchanged, or a prefix of an allowed reply was written
 abbrev pub Halts : (Told → List ℕ → World → Type 0) → World → Option (List ℕ) → Option (List ℕ) → World → Type 0
 Halts Allows old before after new = Leaves old before after new
     ⊎ ((told : Told) × (reply : List ℕ) × Allows told reply new × AppendsFront before after reply)

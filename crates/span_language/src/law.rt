@@ -1,18 +1,18 @@
-//! Laws of the language, each as the contract of a call.
+//! Theorems about the language, each as the contract of a function that does nothing.
 ghost use Rattle.span_language.specs.Laws.{ChangesNothing, HasOneOutput, HasOneReply};
 
-/// A refused line changes nothing, and neither does one that asks for nothing.
+/// A rejected line changes nothing, and neither does a line without a command.
 pub fn refusals()
     ensures { ChangesNothing }
 {}
 
-/// A line has one reply and leaves one world, but for a `save`, which may choose the bytes of its file. Where no files are told, a
-/// line that asks for one isn't spoken of.
+/// A line has exactly one reply and one resulting world. The exception is `save`, which may write any valid image of
+/// the documents. Lines that use files are covered only if the files are observable.
 pub fn replies()
     ensures { HasOneReply }
 {}
 
-/// Such lines together have one output and leave one world.
+/// A list of such lines has exactly one output and one resulting world.
 pub fn outputs()
     ensures { HasOneOutput }
 {}

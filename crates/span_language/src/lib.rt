@@ -1,8 +1,8 @@
-//! What a script means, on plain byte strings: the plain state of named texts, queries and versions, what a line
-//! replies and changes (`Step`), what it may cost (`IsAllowed`), and what a list of lines gives (`Runs`).
+//! The meaning of a script, defined on plain byte strings: the state of named texts, queries and versions, the reply
+//! and the effect of a line (`Step`), its maximum cost (`IsAllowed`), and the effect of a list of lines (`Runs`).
 //!
-//! The top call is proved against these definitions, and they name no tree, no automaton and no table. The crate's code
-//! is the types of what came of a line:
+//! The top call is proved against these definitions, which mention no tree, no automaton and no table. The crate's code
+//! is the types for the outcome of a line:
 //!
 //! ```text
 //! match told {                                             // what `Session::line` of span_run gave
@@ -12,11 +12,13 @@
 //! }
 //! ```
 //!
-//! The allowance of a line counts looks at tables and pair calls: n + 4·(H(n)+1) pair calls for `text` with n bytes,
-//! or (a+3)·B(k, n) looks for a `list` that writes a answers. The crate's own code takes neither time nor memory.
+//! The allowance of a line is its maximum number of table lookups and node constructions: n + 4·(H(n)+1) node
+//! constructions for a `text` of n bytes, or (a+3)·B(k, n) table lookups for a `list` that writes `a` answers. The
+//! crate's own code takes neither time nor memory.
 //!
-//! What a query answers is defined as in R. Fagin, B. Kimelfeld, F. Reiss and S. Vansummeren, *Document Spanners*,
-//! JACM 2015, and editing as in M. L. Schmid and N. Schweikardt, PODS 2022.
+//! The answers of a query are defined as in R. Fagin, B. Kimelfeld, F. Reiss and S. Vansummeren, *Document Spanners*,
+//! JACM 2015, and editing as in M. L. Schmid and N. Schweikardt, *Query Evaluation over SLP-Represented Document
+//! Databases with Complex Document Editing*, PODS 2022.
 #![tactic(auto)]
 
 pub mod law;

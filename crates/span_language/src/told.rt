@@ -1,27 +1,27 @@
-//! What came of a line, and why a run stops in one.
+//! The outcome of a line, and why a run stops in a line.
 ghost use Rattle.std.specs.Prelude.{◌≡◌};
 
 use span_types::NoMemory;
 
-/// What came of a line.
+/// The outcome of a line.
 #[derive(Clone, Copy, Debug, PartialEq, Eq)]
 pub enum Told {
-    /// The line asks for nothing and has no reply.
+    /// The line has no command and no reply.
     Quiet,
-    /// The command was done.
+    /// The command was executed.
     Accepted,
-    /// The reply is a refusal, and nothing changed.
+    /// The line was rejected: its reply is an error, and nothing changed.
     Refused,
 }
 
-/// Why a line, and with it the run, was stopped.
+/// Why a line, and the run with it, was stopped.
 #[derive(Clone, Copy, Debug, PartialEq, Eq)]
 pub enum Stop {
-    /// The sink failed.
+    /// Writing to the sink failed.
     OutFault,
-    /// The shelf failed.
+    /// A call to the file store failed.
     ShelfFault,
-    /// No memory was found.
+    /// Allocation failed.
     NoMemory,
 }
 
