@@ -1,4 +1,4 @@
-//! The answers of a formula on a text, without the language.
+//! The answers of a formula on a text, without the script language.
 ghost use Rattle.std.specs.Prelude.{◌≡◌, ◌<◌, ◌≤◌, ◌^◌, List, length, IfOk};
 ghost use Rattle.slp_model.specs.declared.Node.{Node};
 ghost use Rattle.query_book.specs.Serving.{Serves};
@@ -14,16 +14,16 @@ use std::thread::Threads;
 use thiserror::Error;
 use work_gate::OpenGate;
 
-/// Why there is no listing.
+/// Why a listing failed.
 #[derive(Debug, Drop, Error)]
 pub enum Trouble {
-    /// The formula is refused.
+    /// The formula was rejected.
     #[error("the formula is refused: {0}")]
     Formula(QueryRefusal),
-    /// The book has no such query.
+    /// The registry has no such query.
     #[error("there is no such query")]
     Query(BookRefusal),
-    /// No memory was found.
+    /// Allocation failed.
     #[error("no memory")]
     NoMemory,
 }
@@ -38,7 +38,7 @@ impl From<NoMemory> for Trouble {
     }
 }
 
-/// A book with the query `q` of a formula.
+/// A registry with a formula as the query `q`.
 fn book_of(alloc: Global, formula: &[u8]) -> Result<QueryBook, Trouble>
     ensures { IfOk result (λ book. (ns : List Node) → Serves ns book) }
 {
@@ -50,11 +50,11 @@ fn book_of(alloc: Global, formula: &[u8]) -> Result<QueryBook, Trouble>
     }
 }
 
-/// The first answers of a formula on a text, at most `limit` of them, and whether there are more.
+/// Finds the first answers of a formula on a text, at most `limit` of them, and whether there are more.
 ///
 /// # Errors
 ///
-/// `Formula` where the formula is refused, and `NoMemory`.
+/// `Formula` if the formula is rejected, or `NoMemory` if allocation fails.
 pub fn first_answers<R: Threads + Sync, L: Ledger>(
     rt: &R,
     alloc: Global,

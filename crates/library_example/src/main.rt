@@ -1,12 +1,13 @@
-//! The crates as a library: a text and a listing without the language, and a session over a sink and a shelf of one's own.
+//! An example that uses the crates as a library: a listing without the script language, and a session with its own sink
+//! and file store.
 //!
 //! ```text
 //! rt try        # the listing, and what the session replied
 //! ```
 //!
-//! It is no part of the database: docs/LIBRARY.md walks through it. `listing` loads a text and lists the answers of a
-//! formula, and `outside` has a sink that counts the lines of replies and a shelf of files that stand in the program. It
-//! takes little time and memory.
+//! It is not part of the database; docs/LIBRARY.md explains it. `listing` loads a text and lists the answers of a
+//! formula. `outside` has a sink that counts the lines of the replies, and a file store whose files are constants of
+//! the program. The example takes little time and memory.
 #![tactic(auto)]
 
 mod listing;
@@ -27,7 +28,8 @@ use std::sync::ledger::{Blank, Ledger};
 use std::thread::Threads;
 use work_gate::OpenGate;
 
-/// What the session is asked. The shelf has a file `motd` and takes none, so the last line is refused.
+/// The lines of the session. The file store has the file `motd` and doesn't accept any file, so the last line is
+/// refused.
 const LINES: [&[u8]; 6] = [
     b"load d motd",
     b"query q (.*\\n)?$word{[A-Z][a-z]*}[^a-z].*",
@@ -37,7 +39,7 @@ const LINES: [&[u8]; 6] = [
     b"save copy",
 ];
 
-/// Does the lines in a new session, until one is stopped, and gives what it replied.
+/// Executes the lines in a new session until one is stopped, and returns the replies.
 fn answered<R: Threads + Sync, P: Ledger, T: Ledger, L: Ledger>(
     rt: &R,
     alloc: Global,

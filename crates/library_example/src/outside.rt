@@ -1,4 +1,4 @@
-//! A sink and a shelf of one's own.
+//! A sink and a file store.
 ghost use Rattle.std.specs.Prelude.{None};
 
 use edge_io::{PutRefusal, Shelf, ShelfRefusal, Sink, WriteRefusal};
@@ -27,7 +27,7 @@ impl Replies {
         &self.text
     }
 
-    /// How many lines there are.
+    /// The number of lines.
     pub fn lines(&self) -> u64 {
         self.lines
     }
@@ -57,7 +57,7 @@ impl Sink for Replies {
     }
 }
 
-/// The bytes of a file that stands in the program.
+/// The bytes of a file, which is a constant of the program.
 fn file_called(name: &[u8]) -> Option<&'static [u8]> {
     if name == b"motd".as_slice() {
         Some(b"Hello, World.\nMind the gap.\n")
@@ -76,7 +76,7 @@ fn bytes_from(bytes: &[u8], from: u64) -> &[u8] {
     }
 }
 
-/// A shelf of the files that stand in the program. It takes none: each name is closed for writing.
+/// A file store whose files are constants of the program. It accepts no file: each name is closed for writing.
 #[derive(Drop)]
 pub struct Shipped;
 
@@ -107,7 +107,7 @@ impl Shelf for Shipped {
         Err(PutRefusal::Denied)
     }
 
-    // Nothing is ever begun.
+    // No file is ever begun, as each name is closed for writing.
     fn append(&mut self, _bytes: &[u8]) -> Result<(), PutRefusal> {
         unreachable!()
     }

@@ -1,4 +1,4 @@
--- How pieces are cut into lines.
+-- Cutting pieces into lines.
 use Rattle.std.proofs.Common.{◌≡◌, ℕ, zero, suc, ◌-◌, ◌≤◌, ◌<◌, Bool, true, false, List, [], ◌∷◌, ◌++◌, length, take, refl, sym, ◌∙◌, ap, subst, arith, append_assoc}
 use Rattle.std.specs.Prelude.{◌==◌, if◌then◌else◌, min}
 use Rattle.std.proofs.lemmas.Bool.Decides.{nat_tests}
@@ -23,13 +23,13 @@ pub plain_both : (p q : List ℕ) → NoNewline p → NoNewline q → NoNewline 
 plain_both [] q a b = b
 plain_both (x ∷ p) q a b = (a.0, plain_both p q a.1 b)
 
--- what is kept of a line stays so by further bytes
+-- the stored bytes of a line are unchanged by further bytes
 pub kept_goes_on : (n : ℕ) (xs ys : List ℕ) → take n (take n xs ++ ys) ≡ take n (xs ++ ys)
 kept_goes_on zero xs ys = refl
 kept_goes_on (suc n) [] ys = refl
 kept_goes_on (suc n) (x ∷ xs) ys = ap (λ l. x ∷ l) (kept_goes_on n xs ys)
 
--- what is kept is all, where it is less than may be kept
+-- the stored bytes are all bytes, if they are fewer than the maximum
 pub short_take : (n : ℕ) (xs : List ℕ) → length (take n xs) < n → take n xs ≡ xs
 short_take zero xs h = absurd (omega (arith, h))
 short_take (suc n) [] h = refl
@@ -66,7 +66,7 @@ pub nothing_cut : IsCut [] [] []
 nothing_cut = record { lines = λ tail. refl; whole = λ tail. refl; plain = tt }
 
 module _ (bytes : List ℕ) (done : List (List ℕ)) (begun p : List ℕ) (cut : IsCut bytes done begun) (plain : NoNewline p) where
-  -- a piece that ends in a newline ends the line that has begun
+  -- a piece that ends with a newline ends the line that has begun
   pub line_cut : IsCut (bytes ++ (p ++ 10 ∷ [])) (done ++ (begun ++ p) ∷ []) []
   line_cut = record {
     lines = λ tail. ap lines_of (joined tail) ∙ cut.lines (p ++ 10 ∷ tail) ∙ ap (λ l. done ++ lines_of l) (sym (append_assoc begun p (10 ∷ tail)))
@@ -82,7 +82,7 @@ module _ (bytes : List ℕ) (done : List (List ℕ)) (begun p : List ℕ) (cut :
       joined : (tail : List ℕ) → (bytes ++ (p ++ 10 ∷ [])) ++ tail ≡ bytes ++ (p ++ 10 ∷ tail)
       joined tail = append_assoc bytes (p ++ 10 ∷ []) tail ∙ ap (λ l. bytes ++ l) (append_assoc p (10 ∷ []) tail)
 
-  -- and one without a newline belongs to it
+  -- a piece without a newline belongs to it
   pub part_cut : IsCut (bytes ++ p) done (begun ++ p)
   part_cut = record {
     lines = λ tail. ap lines_of (append_assoc bytes p tail) ∙ cut.lines (p ++ tail) ∙ ap (λ l. done ++ lines_of l) (sym (append_assoc begun p tail));
@@ -90,7 +90,7 @@ module _ (bytes : List ℕ) (done : List (List ℕ)) (begun p : List ℕ) (cut :
     plain = plain_both begun p cut.plain plain;
   }
 
--- the whole lines are those that are done
+-- the complete lines are those that are executed
 pub whole_is : (bytes : List ℕ) (done : List (List ℕ)) (begun : List ℕ) → IsCut bytes done begun → whole_lines bytes ≡ done
 whole_is bytes done begun cut =
     ap whole_lines (sym (append-nil bytes)) ∙ cut.whole [] ∙ ap (λ l. done ++ whole_lines l) (append-nil begun) ∙ ap (λ l. done ++ l) (whole_none begun cut.plain) ∙ append-nil done

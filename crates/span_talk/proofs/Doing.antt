@@ -1,4 +1,4 @@
--- A line of which at most 65,537 bytes are kept is done as the line itself.
+-- Executing the stored bytes of a line, at most 65,537, has the effect of executing the line.
 use Rattle.std.proofs.Common.{◌≡◌, ℕ, ◌+◌, Bool, List, [], ◌∷◌, ◌++◌, take, refl, sym, ◌∙◌, ap, subst, arith, inl, inr}
 use Rattle.std.specs.Prelude.{◌||◌, Option, Some, None}
 use Rattle.std.specs.Io.KnownBytes.{Appends}
@@ -24,7 +24,7 @@ pub means_kept : (line : List ℕ) (meaning : Option Command) → Means (take 65
 means_kept line None h = λ command text. h command (subst (λ (l : List ℕ). LineText l command) (sym (take_all 65537 line (omega (arith, text.short)))) text)
 means_kept line (Some command) h = subst (λ (l : List ℕ). LineText l command) (short_take 65537 line (omega (arith, h.short))) h
 
--- the lines that follow may be told before they are done
+-- the lines that follow may be known before they are executed
 pub further : (lines more : List (List ℕ)) (number : ℕ) (refused : Bool) (st : Standing) (before now : Outside) → IsAt lines [] number refused st before now → IsAt (lines ++ more) more number refused st before now
 further lines more number refused st before now at = record {
   done = at.done;
@@ -40,7 +40,7 @@ further lines more number refused st before now at = record {
   grown = at.grown;
 }
 
--- a run that was stopped where no line had begun
+-- a run that was stopped when no line had begun
 pub stopped_between : (Ends : Ending) (lines left : List (List ℕ)) (before : Outside) (p : Place) → IsStanding p.standing → Ends None [] p.now.files p.now.files → StandsAt lines before p
     → RunsFront Ends (lines ++ left) before p.now
 stopped_between Ends lines left before p held ends_so at =

@@ -25,7 +25,7 @@ halted_later P Q first before after start old new why later wants_later shelf_la
   want = λ is wants few. so (UnlessList wants after.wants) (h.want is wants (omega (arith, few, wants_later)));
 }
 
--- the memory ran out where no line had begun
+-- an allocation failed when no line had begun
 pub halted_wanting : {T : Type 0} (r : Result T Stop) (Stops : Ending → Type 0) (before after : Outlet) (old new : ℕ) → IsErrAnd r (λ e. e ≡ stop.NoMemory)
     → ((Ends : Ending) → ((files : Option Files) → Ends None [] files files) → Stops Ends) → IfErr r (IsHalted Stops before old after new)
 halted_wanting r Stops before after old new none so = passed_on r (IsHalted Stops before old after new) none (record {
@@ -34,12 +34,12 @@ halted_wanting r Stops before after old new none so = passed_on r (IsHalted Stop
   want = λ _ wants few. so (UnlessList wants after.wants) (λ files list. absurd list);
 })
 
--- what a sink keeps back after a part that does nothing with it
+-- the buffered output of a sink after a part that doesn't use it
 pub kept_on : {T : Type 0} (r : Result T Stop) (Kept : Type 0) → Kept → MatchResult r (λ _. Kept) (λ why. why ≡ stop.ShelfFault → Kept)
 kept_on (Ok _) Kept kept = kept
 kept_on (Err _) Kept kept = λ _. kept
 
--- what stopped a line, where what a sink keeps back is known after a fault of the shelf
+-- what stopped a line, if the buffered output of the sink is known after a failure of the file store
 pub kept_or : (why : Stop) (Kept : Type 0) → (why ≡ stop.ShelfFault → Kept) → Kept ⊎ (Stopped why ≡ Stopped stop.OutFault) ⊎ (Stopped why ≡ Stopped stop.NoMemory)
 kept_or stop.OutFault Kept so = inr (inl refl)
 kept_or stop.ShelfFault Kept so = inl (so refl)

@@ -1,4 +1,4 @@
--- What a client tells.
+-- What is observable of a client.
 use Rattle.std.proofs.Common.{ℕ, List, [], ◌∷◌, ◌++◌, sym, ◌∙◌, ap, subst, append_assoc}
 use Rattle.std.specs.Prelude.{Option, Some, None}
 use Rattle.std.specs.List.{AllByRecursion}
@@ -7,7 +7,7 @@ use Rattle.std.proofs.lemmas.List.{append-nil}
 use Rattle.span_language.specs.Runs.{Outside}
 use Rattle.span_talk.specs.Talk.{AreServed, IsServed, Moment, Notes, OfSent}
 
--- what holds of the bytes that were heard, whatever follows, holds of all that is sent
+-- what holds of the bytes that were read, whatever follows, holds of all bytes that are sent
 pub of_sent : (old new : Option (List ℕ)) (heard : List ℕ) (Holds : List ℕ → Type 0) → Consumes old new heard → ((tail : List ℕ) → Holds (heard ++ tail)) → OfSent old Holds
 of_sent None new heard Holds consumed h = (heard ++ [], h [])
 of_sent (Some a) None heard Holds consumed h = absurd consumed

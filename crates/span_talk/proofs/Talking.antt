@@ -1,4 +1,4 @@
--- A conversation goes on by a line, and by a part of one.
+-- The steps of a conversation: a line, and a part of one.
 use Rattle.std.proofs.Common.{◌≡◌, ◌≢◌, ℕ, ◌+◌, ◌<◌, false, List, [], ◌∷◌, ◌++◌, length, take, refl, sym, ◌∙◌, ap, subst, arith, append_assoc}
 use Rattle.std.proofs.KnownBytes.{Consumes-trans}
 use Rattle.std.specs.Prelude.{All, Option, None}
@@ -44,12 +44,12 @@ module _ (bytes : List ℕ) (before : Outside) (kept : List ℕ) (p : Place) (t 
         sym (ap lines_of joined) ∙ cut.lines tail ∙ append_assoc t.done ((t.begun ++ part) ∷ []) (lines_of tail)
         in subst (λ (l : List (List ℕ)). RunsFront Ends l before after) (sym lines) (stops (t.begun ++ part) t.done (lines_of tail) before kept_of t.at)
 
-  -- stopped where no further line had begun
+  -- stopped when no further line had begun
   pub stops_here : (Ends : Ending) (tail : List ℕ) → IsStanding p.standing → Ends None [] p.now.files p.now.files → RunsFront Ends (lines_of (bytes ++ tail)) before p.now
   stops_here Ends tail held so =
       subst (λ (l : List (List ℕ)). RunsFront Ends l before p.now) (sym (t.cut.lines tail)) (stopped_between Ends t.done (lines_of (t.begun ++ tail)) before p held so t.at)
 
-  -- the replies to the whole lines were written, and the number is that of the next one
+  -- the replies to the complete lines were written, and the number is that of the next line
   pub replied : AreReplied (whole_lines bytes) before p.now.written × (p.number ≡ 1 + length (whole_lines bytes))
   replied =
       let same : whole_lines bytes ≡ t.at.done = whole_is bytes t.done t.begun t.cut ∙ t.at.cut ∙ append-nil t.at.done in (
@@ -65,7 +65,7 @@ module _ (bytes : List ℕ) (before : Outside) (kept : List ℕ) (p : Place) (t 
   pub have_run : IsStanding p.standing → HaveRun (whole_lines bytes) before p.now
   have_run held = (p.refused, subst (λ (l : List (List ℕ)). RunsAll l p.refused before p.now) (sym (whole_is bytes t.done t.begun t.cut)) (ends t.done [] p.number p.refused p.standing before p.now refl held t.at))
 
-  -- the end of the bytes, where no line has begun, and where one has
+  -- the end of the bytes, if no line has begun, and if one has
   pub ends_so : IsStanding p.standing → kept ≡ [] → RunsAll (lines_of bytes) p.refused before p.now
   ends_so held none =
       let begun : t.begun ≡ [] = none_kept 65537 t.begun (omega arith) (sym t.kept_is ∙ none) in
@@ -88,7 +88,7 @@ module _ (piece read rest : List ℕ) (kept : List ℕ) (p : Place) (kept_now : 
   split : (bytes tail : List ℕ) → bytes ++ (piece ++ tail) ≡ (bytes ++ read) ++ (rest ++ tail)
   split bytes tail = ap (λ l. bytes ++ (l ++ tail)) is ∙ ap (λ l. bytes ++ l) (append_assoc read rest tail) ∙ sym (append_assoc bytes read (rest ++ tail))
 
-  -- stopped where nothing of the rest had begun
+  -- stopped when nothing of the rest had begun
   pub stops_between : (Ends : Ending) → IsStanding now.standing → Ends None [] now.now.files now.now.files → StopsWithin Ends piece kept p now.now
   stops_between Ends held so = λ bytes tail before t.
       subst (λ l. RunsFront Ends (lines_of l) before now.now) (sym (split bytes tail)) (stops_here (bytes ++ read) before kept_now now (hears bytes before t) Ends (rest ++ tail) held so)
@@ -106,7 +106,7 @@ module _ (piece read rest : List ℕ) (kept : List ℕ) (p : Place) (kept_now : 
         split bytes tail ∙ ap (λ l. (bytes ++ read) ++ (l ++ tail)) cut ∙ ap (λ l. (bytes ++ read) ++ l) (append_assoc part (10 ∷ left) tail)
         in subst (λ l. RunsFront Ends (lines_of l) before after) (sym same) (stops_in_line (bytes ++ read) before kept_now now (hears bytes before t) part kept_whole plain kept_is Ends after (left ++ tail) stops)
 
-    -- that line is done
+    -- that line is executed
     pub hears_line : (new : Place) (empty : List ℕ) → empty ≡ [] → Does kept_whole now new → (more : List ℕ) × (piece ≡ more ++ left) × Hears more kept p empty new
     hears_line new empty none does = (
       read ++ (part ++ 10 ∷ []),

@@ -1,4 +1,4 @@
--- Where a conversation stands, between two lines and between two pieces.
+-- The state of a conversation between two lines and between two pieces.
 use Rattle.std.specs.Prelude.{◌≡◌, ℕ, ◌≤◌, Bool, List, [], ◌∷◌, ◌++◌, Option, take}
 use Rattle.edge_io.specs.Causes.{Rose}
 use Rattle.span_language.specs.Lines.{lines_of}
@@ -12,7 +12,7 @@ use Rattle.span_run.proofs.RunsLemmas.{IsAt}
 use Rattle.span_talk.specs.Talk.{whole_lines}
 use Rattle.span_talk.specs.declared.progress.Progress.{Progress}
 
--- the number of the next line, whether one was refused, what the session shows, and what is told of the outside
+-- the number of the next line, whether one was refused, the session's model, and what is observable of the environment
 pub record Place : Type 0 where
   pub number : ℕ
   pub refused : Bool
@@ -22,11 +22,11 @@ pub record Place : Type 0 where
 abbrev pub place : ℕ → Bool → Standing → Outside → Place
 place number refused standing now = record { number = number; refused = refused; standing = standing; now = now }
 
--- where a conversation stands, with this told of the outside
+-- the state of a conversation, with this observable of the environment
 abbrev pub stands : Progress → Outside → Place
 stands p now = place p.number p.refused p.session now
 
--- these lines ran, and led here
+-- these lines ran, and resulted in this state
 abbrev pub StandsAt : List (List ℕ) → Outside → Place → Type 0
 StandsAt lines before p = IsAt lines [] p.number p.refused p.standing before p.now
 
@@ -36,7 +36,7 @@ pub record IsCut (bytes : List ℕ) (done : List (List ℕ)) (begun : List ℕ) 
   pub whole : (tail : List ℕ) → whole_lines (bytes ++ tail) ≡ done ++ whole_lines (begun ++ tail)
   pub plain : NoNewline begun
 
--- the whole lines of these bytes ran, and of the line that has begun this is kept
+-- the complete lines of these bytes ran, and these bytes are stored of the line that has begun
 pub record IsTalking (bytes : List ℕ) (before : Outside) (kept : List ℕ) (p : Place) : Type 0 where
   pub done : List (List ℕ)
   pub begun : List ℕ
@@ -44,7 +44,7 @@ pub record IsTalking (bytes : List ℕ) (before : Outside) (kept : List ℕ) (p 
   pub kept_is : kept ≡ take 65537 begun
   pub at : StandsAt done before p
 
--- a line of which this is kept was done
+-- a line with these stored bytes was executed
 abbrev pub Does : List ℕ → Place → Place → Type 0
 Does kept old new = (line : List ℕ) (lines : List (List ℕ)) (before : Outside) → kept ≡ take 65537 line → StandsAt lines before old → StandsAt (lines ++ line ∷ []) before new
 
@@ -53,7 +53,7 @@ abbrev pub StopsIn : Ending → List ℕ → Place → Outside → Type 0
 StopsIn Ends kept old after = (line : List ℕ) (lines more : List (List ℕ)) (before : Outside) → kept ≡ take 65537 line → StandsAt lines before old
     → RunsFront Ends (lines ++ line ∷ more) before after
 
--- the lines that these bytes end were done
+-- the lines that end in these bytes were executed
 abbrev pub Hears : List ℕ → List ℕ → Place → List ℕ → Place → Type 0
 Hears piece kept old kept_after new = (bytes : List ℕ) (before : Outside) → IsTalking bytes before kept old → IsTalking (bytes ++ piece) before kept_after new
 
@@ -66,12 +66,12 @@ StopsWithin Ends piece kept old after = (bytes tail : List ℕ) (before : Outsid
 abbrev pub Finishes : Bool → List ℕ → Place → Outside → Type 0
 Finishes refused kept old after = (sent : List ℕ) (before : Outside) → IsTalking sent before kept old → RunsAll (lines_of sent) refused before after
 
--- or a run was stopped in a last line that no newline ends
+-- or a run was stopped in a last line without a newline
 abbrev pub StopsAtEnd : Ending → List ℕ → Place → Outside → Type 0
 StopsAtEnd Ends kept old after = (sent : List ℕ) (before : Outside) → IsTalking sent before kept old → RunsFront Ends (lines_of sent) before after
 
--- a run was stopped for this reason: the count of the reason rose, from that of the sink or of the shelf before to the one after, and the run
--- ended as it may for this reason
+-- a run was stopped for this reason: the reason's count increased, of the sink or of the file store, and the run ended
+-- as it may for this reason
 pub record IsHalted (Stops : Ending → Type 0) (before : Outlet) (old : ℕ) (after : Outlet) (new : ℕ) (why : Stop) : Type 0 where
   pub out_fault : why ≡ stop.OutFault → Rose before.faults after.faults × Stops Anywhere
   pub shelf_fault : why ≡ stop.ShelfFault → Rose old new × Stops InFileLine

@@ -1,26 +1,27 @@
--- A conversation: lines that come when they are sent, each with its reply before more is heard.
+-- A conversation: lines are executed as they come, and each reply is written before more is read.
 use Rattle.std.specs.Prelude.{◌≡◌, ℕ, ◌+◌, ◌==◌, Bool, List, [], ◌∷◌, ◌++◌, Option, Some, None, if◌then◌else◌, length}
 use Rattle.std.specs.List.{AllByRecursion}
 use Rattle.std.specs.Io.KnownBytes.{Appends, Consumes}
 use Rattle.span_language.specs.State.{World}
 use Rattle.span_language.specs.Runs.{Outside, Runs, RunsAll, Sum, start}
 
--- the byte stands first in the first line, where there is one
+-- the byte becomes the first of the first line, if there is one
 abbrev pub onto_whole : ℕ → List (List ℕ) → List (List ℕ)
 onto_whole b [] = []
 onto_whole b (line ∷ lines) = (b ∷ line) ∷ lines
 
--- the lines that a newline ends
+-- the lines that end with a newline
 abbrev pub whole_lines : List ℕ → List (List ℕ)
 whole_lines [] = []
 whole_lines (b ∷ rest) = if b == 10 then [] ∷ whole_lines rest else onto_whole b (whole_lines rest)
 
--- what holds of all bytes that the client sends, where it tells them, and else of some bytes
+-- the property holds of all bytes that the client sends, if they are observable, and otherwise of some bytes
 abbrev pub OfSent : Option (List ℕ) → (List ℕ → Type 0) → Type 0
 OfSent None Holds = (sent : List ℕ) × Holds sent
 OfSent (Some sent) Holds = Holds sent
 
--- what holds of the bytes that were heard, by what was left before and after, where the client tells that
+-- the property holds of the bytes that were read, which are those left before without those left after, if they are
+-- observable
 abbrev pub OfHeard : Option (List ℕ) → Option (List ℕ) → (List ℕ → Type 0) → Type 0
 OfHeard old new Holds = (heard : List ℕ) × Consumes old new heard × Holds heard
 
@@ -28,8 +29,8 @@ OfHeard old new Holds = (heard : List ℕ) × Consumes old new heard × Holds he
 abbrev pub HaveRun : List (List ℕ) → Outside → Outside → Type 0
 HaveRun lines before after = (refused : Bool) × RunsAll lines refused before after
 
--- a moment at which the client was heard: what it had left to send, what had been written for it, and the number of the line that it was
--- told to come next
+-- a moment at which the client was called: what it had left to send, what had been written for it, and the number of
+-- the next line, which it was passed
 pub record Moment : Type 0 where
   pub left : Option (List ℕ)
   pub written : Option (List ℕ)
@@ -38,7 +39,7 @@ pub record Moment : Type 0 where
 abbrev pub moment : Option (List ℕ) → Option (List ℕ) → ℕ → Moment
 moment left written number = record { left = left; written = written; number = number }
 
--- where moments are told, they are those of before and this one
+-- if moments are observable, they are the earlier ones and this one
 abbrev pub Notes : Option (List Moment) → Option (List Moment) → Moment → Type 0
 Notes None new m = Unit {0}
 Notes (Some old) None m = ⊥
@@ -51,12 +52,12 @@ pub record AreReplied (lines : List (List ℕ)) (before : Outside) (written : Op
   pub ran : Runs (start before) 1 lines sum mid
   pub wrote : Appends before.written written sum.output
 
--- the reply to each whole line that had come by this moment had been written, and the number was that of the line that came next
+-- the replies to all complete lines by this moment had been written, and the number was that of the next line
 abbrev pub IsServed : Option (List ℕ) → Outside → Moment → Type 0
 IsServed sent before m = OfHeard sent m.left
     (λ heard. AreReplied (whole_lines heard) before m.written × (m.number ≡ 1 + length (whole_lines heard)))
 
--- so it was at each further moment that is told
+-- the same at each further observable moment
 abbrev pub AreServed : Option (List ℕ) → Outside → Option (List Moment) → Option (List Moment) → Type 0
 AreServed sent before None new = Unit {0}
 AreServed sent before (Some old) None = ⊥

@@ -11,21 +11,23 @@ use itoa::Buffer;
 use std::io::Write;
 use std::marker::Model;
 
-/// Who sends lines, and has their replies from a sink.
+/// A client sends lines, and reads their replies from a sink.
 ///
-/// A client counts its faults, and a call answers `Failed` only where this count rose in it.
+/// A client counts its failures. A call returns `Failed` only if it increased this count.
 pub trait Client<K: Sink> {
-    /// The bytes that are left to be sent, where the client tells them.
+    /// The bytes that the client has yet to send, if they are observable.
     ghost left: { Self → Option (List ℕ) };
 
-    /// How often it has failed.
+    /// The number of its failures.
     ghost faults: { Self → ℕ };
 
-    /// What was left, what had been written and which number was told each time that it was heard, where the client tells that.
+    /// For each earlier call to `hear`, if this is observable: the bytes left to send, the bytes written, and the line
+    /// number passed.
     ghost moments: { Self → Option (List Moment) };
 
-    /// Waits for the next bytes, reads them to the front of `into`, which isn't empty, and answers how many, as
-    /// `Source::read` does. `number` is that of the line that comes next, and `said` what replies are written to.
+    /// Waits for the next bytes, writes them to the start of `into`, which isn't empty, and returns their number, like
+    /// `Source::read`. `number` is the number of the line that comes next, and `said` is the sink with the replies so
+    /// far.
     fn hear(&mut self, number: u64, said: &K, into: &mut [u8]) -> Result<usize, Failed>
         requires { 0 < length into.old }
         ensures bound { ReadsAtMost result into.new }
@@ -34,8 +36,8 @@ pub trait Client<K: Sink> {
         ensures moment { Notes (moments self.old) (moments self.new) (moment (left self.old) (K.written said.now) number) };
 }
 
-/// A client whose bytes come from a source. It is prompted for each line where there is something to prompt it on, as a
-/// terminal. Prompts that can't be written are left out.
+/// A client whose bytes come from a source. It writes a prompt for each line to `prompts`, if there is one, such as a
+/// terminal. A failure to write a prompt is ignored.
 #[derive(Drop)]
 pub struct Listener<S: Source, W: Write> {
     source: S,
@@ -52,7 +54,7 @@ impl<S: Source, W: Write> Model for Listener<S, W> {
 }
 
 impl<S: Source, W: Write> Listener<S, W> {
-    /// A client whose bytes come from this source.
+    /// A client whose bytes come from this source, with a writer for prompts or none.
     pub fn new(source: S, prompts: Option<W>) -> Listener<S, W>
         ensures { result ≡ record { left = S.left source; faults = S.faults source } }
     {
@@ -64,7 +66,7 @@ impl<S: Source, W: Write> Listener<S, W> {
     }
 }
 
-/// Prompts for the line of this number, as `3> `.
+/// Writes the prompt for the line with this number, such as `3> `.
 fn prompt<W: Write>(prompts: &mut W, number: u64) {
     let mut buffer = Buffer::new();
     let _ = prompts.write_all(buffer.format(number).as_bytes());

@@ -1,5 +1,4 @@
-//! A conversation in the script language: lines come from a client when it sends them, and the reply to each is written
-//! before more is heard.
+//! A conversation in the script language: a client sends lines, and each reply is written before more is read.
 //!
 //! ```text
 //! let mut client = Listener::new(source, None);            // a source of bytes, without prompts
@@ -8,16 +7,16 @@
 //! );
 //! ```
 //!
-//! However the bytes are cut into pieces, the lines are those of the whole script, and what is written is what `run` of
-//! span_run writes for it. Each time that a client is heard, the replies to all lines that have come whole stand
-//! written, and nothing else: that is told by the client's moments, which contracts see where it tells them.
+//! The bytes may come in pieces of any size: the lines are those of the whole script, and the output is what `run` of
+//! span_run writes for it. Each time the client is called, exactly the replies to all complete lines so far have been
+//! written. Contracts state this by the client's moments, if they are observable.
 //!
-//! A line takes the time that span_language allows for it, and a piece time linear in its bytes beside that. Of a line
-//! no more than 65,537 bytes are kept, so memory doesn't grow with a script, but with its texts and queries. A script
-//! may have 2^62 bytes.
+//! A line takes the time that span_language allows for it, and reading takes time linear in the number of bytes. At
+//! most 65,537 bytes of a line are stored, so the memory grows with the texts and queries, and not with the length of
+//! the script. A script has at most 2^62 bytes.
 //!
-//! So it is a read-eval-print loop, as of L. P. Deutsch and E. Berkeley, *The LISP implementation for the PDP-1
-//! computer*, 1964.
+//! It is a read-eval-print loop (L. P. Deutsch and E. Berkeley, *The LISP Implementation for the PDP-1 Computer*,
+//! 1964).
 #![tactic(auto)]
 
 mod client;

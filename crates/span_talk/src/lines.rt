@@ -1,12 +1,12 @@
-//! The parts of a line in the pieces that come.
+//! Cutting the incoming pieces into lines.
 ghost use Rattle.std.specs.Prelude.{◌≡◌, ◌≢◌, ◌≤◌, ◌∷◌, ◌++◌, All, MatchOption, OnOk, length, take};
 
 use span_types::NoMemory;
 
-/// The most bytes that are kept of a line: one more than a line may have.
+/// The maximum number of bytes that are stored of a line: one more than a line may have.
 const MOST_KEPT: usize = 65_537;
 
-/// The bytes before the first newline and those after it, if there is one.
+/// The bytes before the first newline and the bytes after it, or `None` without a newline.
 pub fn cut_line(text: &[u8]) -> Option<(&[u8], &[u8])>
     ensures { MatchOption result (All (λ b. b ≢ 10) text.now)
         (λ p. (text.now ≡ p.0.now ++ 10 ∷ p.1.now) × All (λ b. b ≢ 10) p.0.now) }
@@ -15,7 +15,7 @@ pub fn cut_line(text: &[u8]) -> Option<(&[u8], &[u8])>
     Some((&text[..place], &text[place + 1..]))
 }
 
-/// Keeps further bytes of a line, up to 65,537 in all.
+/// Appends bytes of a line to the stored ones, up to 65,537 in total. The rest is dropped.
 pub fn keep(kept: &mut Vec<u8>, part: &[u8]) -> Result<(), NoMemory>
     requires { length kept.old.items ≤ 65537 }
     ensures kept { OnOk result (kept.new.items ≡ take 65537 (kept.old.items ++ part.now)) }

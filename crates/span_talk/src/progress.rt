@@ -1,4 +1,4 @@
-//! How a conversation goes on, by a line, by a piece, and to its end.
+//! The steps of a conversation: a line, a piece, and the whole script.
 ghost use Rattle.std.specs.Prelude.{◌≡◌, ◌+◌, ◌^◌, ◌<◌, ◌≤◌, ◌⊎◌, [], ◌||◌, IfOk, IfErr, MatchResult, OnOk, length};
 ghost use Rattle.std.specs.Io.KnownBytes.{IsAtEnd};
 ghost use Rattle.edge_io.specs.Causes.{Rose};
@@ -22,7 +22,7 @@ use work_gate::Gate;
 /// The most bytes of a script.
 const MAX_SCRIPT: u64 = 1 << 62;
 
-/// What the lines so far have left, and what is kept of the one that has begun.
+/// The state after the lines so far, and the stored bytes of the line that has begun.
 #[derive(Drop)]
 pub struct Progress {
     pub session: Session,
@@ -33,7 +33,7 @@ pub struct Progress {
     pub refused: bool,
 }
 
-/// Why a conversation ended before its script did.
+/// Why a conversation ended before its script.
 #[derive(Clone, Copy, Debug, PartialEq, Eq)]
 pub enum End {
     Fault,
@@ -41,14 +41,14 @@ pub enum End {
     Stopped(Stop),
 }
 
-/// Whether a line was refused, in this one or before.
+/// Whether this line or one before it was refused.
 fn with_refusal(before: bool, told: Told) -> bool
     ensures { result ≡ (before || is_refused told) }
 {
     before || matches!(told, Told::Refused)
 }
 
-/// Does the line that has begun, and begins the next one.
+/// Executes the line that has begun, and begins the next one.
 fn end_line<R: Threads + Sync, K: Sink, F: Shelf, G: Gate, P: Ledger, T: Ledger, L: Ledger>(
     rt: &R,
     progress: &mut Progress,
@@ -99,7 +99,7 @@ fn end_line<R: Threads + Sync, K: Sink, F: Shelf, G: Gate, P: Ledger, T: Ledger,
     Ok(())
 }
 
-/// Does the lines that end in a piece, and keeps what follows them.
+/// Executes the lines that end in a piece, and stores the bytes after them.
 fn hear_piece<R: Threads + Sync, K: Sink, F: Shelf, G: Gate, P: Ledger, T: Ledger, L: Ledger>(
     rt: &R,
     progress: &mut Progress,
@@ -146,7 +146,7 @@ fn hear_piece<R: Threads + Sync, K: Sink, F: Shelf, G: Gate, P: Ledger, T: Ledge
     Ok(())
 }
 
-/// Hears a client to the end of its script, and does each line when its newline has come.
+/// Reads from a client to the end of its script, and executes each line when its newline has come.
 fn hear_all<
     R: Threads + Sync,
     C: Client<K>,
@@ -245,7 +245,7 @@ fn hear_all<
     Err(End::TooLong)
 }
 
-/// Does a last line that no newline ends, where there is one, and answers whether any line was refused.
+/// Executes a last line without a newline, if there is one. Returns whether any line was refused.
 fn finish<R: Threads + Sync, K: Sink, F: Shelf, G: Gate, P: Ledger, T: Ledger, L: Ledger>(
     rt: &R,
     progress: &mut Progress,
@@ -281,7 +281,7 @@ fn finish<R: Threads + Sync, K: Sink, F: Shelf, G: Gate, P: Ledger, T: Ledger, L
     Ok(progress.refused)
 }
 
-/// Hears a client to the end of its script and does all lines, and answers whether one was refused.
+/// Reads from a client to the end of its script and executes all lines. Returns whether one was refused.
 pub fn hear_script<
     R: Threads + Sync,
     C: Client<K>,

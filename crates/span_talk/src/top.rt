@@ -16,9 +16,10 @@ use std::sync::ledger::Ledger;
 use std::thread::Threads;
 use work_gate::Gate;
 
-/// Talks with a client: hears its script, does each line when it has come, and writes the reply to it before more is heard. The
-/// end of what the client sends ends the last line and the conversation. The first fault or allocation failure ends the
-/// conversation too. Of a line no more than 65,537 bytes are kept.
+/// Runs a conversation with a client: executes each line of its script when it has come, and writes its reply before
+/// reading on. The end of the client's bytes ends the last line and the conversation. The first failure of the client,
+/// the sink or the file store, and an allocation failure, end the conversation too. At most 65,537 bytes of a line are
+/// stored. `workers` is 1 to 64.
 pub fn talk<
     R: Threads + Sync,
     C: Client<K>,
@@ -50,7 +51,7 @@ pub fn talk<
         (outside (K.written out.new) (F.files shelf.new) looks.new pairs.new places.new)) }
     ensures at_end { (result ≡ Status.Done) ⊎ (result ≡ Status.SomeRefused) → IsAtEnd (C.left client.new) }
 
-    // The client failed, or has sent 2^62 bytes: the lines that had come were done, and the one that had begun wasn't.
+    // The client failed, or it sent 2^62 bytes: the complete lines were executed, and the incomplete one wasn't.
     ensures script_fault { result ≡ Status.ScriptFault → Rose (C.faults client.old) (C.faults client.new)
         × OfHeard (C.left client.old) (C.left client.new)
         (λ heard. HaveRun (whole_lines heard) (outside (K.written out.old) (F.files shelf.old) looks.old pairs.old places.old)
@@ -75,15 +76,16 @@ pub fn talk<
         (outside (K.written out.new) (F.files shelf.new) looks.new pairs.new places.new)) }
     ensures no_words { result ≡ Status.Usage → ⊥ }
 
-    // A conversation that came to its end had no fault: no call of the client, the sink or the shelf that failed was made again.
+    // A conversation that came to its end had no failure: no failed call of the client, the sink or the file store was
+    // retried.
     ensures sound { (result ≡ Status.Done) ⊎ (result ≡ Status.SomeRefused) → (C.faults client.new ≡ C.faults client.old)
         × (K.faults out.new ≡ K.faults out.old) × (K.wants out.new ≡ K.wants out.old) × (F.faults shelf.new ≡ F.faults shelf.old) }
 
-    // What a sink keeps back has gone out before the next line begins.
+    // All buffered output has been sent before the next line begins.
     ensures gone { K.kept out.old ≡ 0 → (result ≡ Status.OutFault) ⊎ (result ≡ Status.NoMemory) ⊎ (K.kept out.new ≡ 0) }
 
-    // Each time that the client was heard, the reply to each line that had come had been written, and nothing else, and it was
-    // told the number of the next one.
+    // Each time the client was called, exactly the replies to all complete lines had been written, and it was passed
+    // the number of the next line.
     ensures served { AreServed (C.left client.old)
         (outside (K.written out.old) (F.files shelf.old) looks.old pairs.old places.old) (C.moments client.old)
         (C.moments client.new) }

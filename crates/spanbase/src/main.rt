@@ -6,9 +6,10 @@
 //! spanbase --demo 46                                       # a script of its own
 //! ```
 //!
-//! `main` reads the words, lends the source, the sink and the folder of files to `span_run::run`, and turns its status
-//! into the program's exit status: 0 where every line was done, 1 where one was refused, and 2 to 7 where the run was
-//! stopped, with the word of the status on standard error. The cost of a run is that of its lines.
+//! `main` reads the command-line arguments, and calls `span_run::run` with standard input, standard output and the
+//! files of the current folder. Its exit status is 0 if every line was accepted, and 1 if a line was refused. It is 2
+//! to 7 if the run was stopped; then the name of the status is written to standard error. The cost of a run is that of
+//! its lines.
 #![tactic(auto)]
 
 ghost use Rattle.std.specs.Prelude.{◌≡◌, ◌<◌, ◌⊎◌, ◌^◌, IfSome, length, map, string_bytes};
@@ -30,7 +31,7 @@ use std::thread::Threads;
 use std::{env, io};
 use work_gate::OpenGate;
 
-/// The words after the program's name, or how the run ends without them: a word that is no text is a faulty command line.
+/// The arguments after the program's name. An argument that is not valid text is a usage error.
 fn words_of(rt: &(impl Env + AllocGlobal)) -> Result<Vec<String>, Status> {
     match env::args(rt) {
         Ok(args) => match args.skip(1).collect(rt.alloc()) {
@@ -42,7 +43,7 @@ fn words_of(rt: &(impl Env + AllocGlobal)) -> Result<Vec<String>, Status> {
     }
 }
 
-/// The word and the number of a status.
+/// The name and the number of a status.
 fn name_of(status: Status) -> (&'static str, u8)
     ensures { result.1 ≡ exit_of status }
 {
@@ -58,7 +59,7 @@ fn name_of(status: Status) -> (&'static str, u8)
     }
 }
 
-/// Runs a script, with a counter on each of three ledgers, over the files of the current folder.
+/// Runs a script over the files of the current folder, with a counter on each of three ledgers.
 fn run_script<
     R: Threads + Sync + Files + AllocGlobal,
     S: Source,
@@ -104,7 +105,7 @@ fn run_script<
     )
 }
 
-/// Tells the word of a status on standard error, where the lines weren't done to the end.
+/// Writes the name of a status to standard error, if the run was stopped.
 fn tell_word(rt: &HostRuntime, status: Status) {
     let (word, number) = name_of(status);
     if number >= 2 {
@@ -112,7 +113,7 @@ fn tell_word(rt: &HostRuntime, status: Status) {
     }
 }
 
-/// Tells on standard error how a run ended: for refused words also why they are refused.
+/// Writes to standard error how a run ended. For rejected arguments it also writes why they are rejected.
 fn tell(rt: &HostRuntime, status: Status, words: &[String]) {
     if status == Status::Usage {
         if let Ok(text) = usage_text(rt.alloc(), words) {
@@ -123,9 +124,10 @@ fn tell(rt: &HostRuntime, status: Status, words: &[String]) {
     tell_word(rt, status);
 }
 
-/// Runs a script over the files of the current folder, with replies to standard output. The lines of a reply are kept back until
-/// there are some kilobytes of them or the reply ends. What a run that was stopped has left is written before the status is
-/// chosen: output that fails then is a fault of a write as well. Output that has failed isn't tried again.
+/// Runs a script over the files of the current folder, with replies to standard output. The lines of a reply are
+/// buffered up to some kilobytes or the end of the reply. If the run was stopped, the buffered output is written before
+/// the status is chosen, so a failure of that write also counts as a write failure. Output is not retried after a
+/// failure.
 fn run_over<R: Threads + Sync + Files + AllocGlobal + Print, S: Source>(
     rt: &R,
     words: &[String],

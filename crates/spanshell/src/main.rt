@@ -1,5 +1,5 @@
-//! Reads a script from standard input line by line, and writes the reply to each line to standard output before it
-//! reads on.
+//! Reads a script from standard input line by line, and writes the reply to each line to standard output before reading
+//! on.
 //!
 //! ```text
 //! $ printf 'text d abc\nshow d 1 3\n' | spanshell
@@ -7,9 +7,9 @@
 //! "ab"
 //! ```
 //!
-//! The words are those of spanbase, `--workers N` and `--demo N`, and so are the exit statuses. At a terminal the number
-//! of the next line is shown on standard error. What is done with the lines is `talk` of span_talk; this crate takes the
-//! words, and lends it standard input and output and the files of the current folder.
+//! The arguments are those of spanbase, `--workers N` and `--demo N`, and so are the exit statuses. At a terminal, the
+//! number of the next line is shown on standard error. The lines are executed by `talk` of span_talk; this crate reads
+//! the arguments, and passes it standard input, standard output and the files of the current folder.
 #![tactic(auto)]
 
 ghost use Rattle.std.specs.Prelude.{◌≡◌, ◌≤◌, ◌<◌, IfErr, IfOk, map, string_bytes};
@@ -33,7 +33,7 @@ use std::{env, io};
 use text_gen::demo;
 use work_gate::OpenGate;
 
-/// The words after the program's name, or how the run ends without them: a word that is no text is a faulty command line.
+/// The arguments after the program's name. An argument that is not valid text is a usage error.
 fn words_of(rt: &(impl Env + AllocGlobal)) -> Result<Vec<String>, Status> {
     match env::args(rt) {
         Ok(args) => match args.skip(1).collect(rt.alloc()) {
@@ -45,7 +45,7 @@ fn words_of(rt: &(impl Env + AllocGlobal)) -> Result<Vec<String>, Status> {
     }
 }
 
-/// What the words ask for, or how the run ends without that.
+/// Parses the arguments. Returns the options, or the status with which the run ends.
 fn options_of(alloc: Global, words: &[String]) -> Result<Options, Status>
     ensures taken { IfOk result (λ options. Words (map string_bytes words.now) options.workers options.demo) }
     ensures usage { IfErr result (λ status. status ≡ Status.Usage → Refused (map string_bytes words.now)) }
@@ -57,7 +57,7 @@ fn options_of(alloc: Global, words: &[String]) -> Result<Options, Status>
     }
 }
 
-/// The word and the number of a status.
+/// The name and the number of a status.
 fn name_of(status: Status) -> (&'static str, u8)
     ensures { result.1 ≡ exit_of status }
 {
@@ -73,7 +73,7 @@ fn name_of(status: Status) -> (&'static str, u8)
     }
 }
 
-/// Talks with a client, with a counter on each of three ledgers, over the files of the current folder.
+/// Runs a conversation with a client over the files of the current folder, with a counter on each of three ledgers.
 fn talk_with<
     R: Threads + Sync + Files + AllocGlobal,
     C: Client<K>,
@@ -116,7 +116,8 @@ fn talk_with<
     )
 }
 
-/// Talks with who sends the bytes of a source, by so many workers, and writes the replies to standard output.
+/// Runs a conversation with the sender of a source's bytes, with `workers` workers, and writes the replies to standard
+/// output.
 fn talk_over<R: Threads + Sync + Files + AllocGlobal + Print, S: Source + Drop>(
     rt: &R,
     source: S,
@@ -139,7 +140,7 @@ fn talk_over<R: Threads + Sync + Files + AllocGlobal + Print, S: Source + Drop>(
     )
 }
 
-/// What prompts are written to: standard error, where it and standard input are a terminal.
+/// The writer for prompts: standard error, if it and standard input are a terminal, and otherwise none.
 fn prompts_of(rt: &HostRuntime) -> Option<Stderr> {
     if rt.stdin().is_terminal() && rt.stderr().is_terminal() {
         Some(rt.stderr())
@@ -148,7 +149,7 @@ fn prompts_of(rt: &HostRuntime) -> Option<Stderr> {
     }
 }
 
-/// Tells the word of a status on standard error, where the lines weren't done to the end.
+/// Writes the name of a status to standard error, if the conversation was stopped.
 fn tell_word(rt: &HostRuntime, status: Status) {
     let (word, number) = name_of(status);
     if number >= 2 {
@@ -156,7 +157,7 @@ fn tell_word(rt: &HostRuntime, status: Status) {
     }
 }
 
-/// Tells on standard error how a run ended: for refused words also why they are refused.
+/// Writes to standard error how a conversation ended. For rejected arguments it also writes why they are rejected.
 fn tell(rt: &HostRuntime, status: Status, words: &[String]) {
     if status == Status::Usage {
         if let Ok(text) = usage_text(rt.alloc(), words) {

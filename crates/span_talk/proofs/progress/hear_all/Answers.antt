@@ -41,7 +41,7 @@ returns-in-Err-clause-fault g c =
       (i.so_far.0, Consumes-kept (t.left c.args.client.now) (t.left c.pieces.client) (t.left c.hear.new.self) i.so_far.0 i.so_far.1 c.in-Err.ensures.bytes, have_run i.so_far.0 _ _ _ i.so_far.3 i.standing),
     )
 
--- the replies to all lines that had come when the client was heard had been written
+-- the replies to all complete lines had been written when the client was called
 served : (g : Over) (c : After-hear g)
     → AreServed (g.C.Client.left c.args.client.now) (outside (g.K.Sink.written c.args.out.now) (g.F.Shelf.files c.args.shelf.now) c.args.looks.now c.args.pairs.now c.args.places.now) (g.C.Client.moments c.args.client.now) (g.C.Client.moments c.hear.new.self)
 served g c =
