@@ -1,4 +1,4 @@
--- What the parts of a command say of the whole.
+-- Facts about a whole command, from its parts.
 use Rattle.span_run.proofs.Names.{[], Accepted, ap, append_assoc, arith, Assigns, at_drop_all, Carries, codes, Command, Counters, counters, Doc, Documents}
 use Rattle.span_run.proofs.Names.{drop, edit_limit, entry_text, Err, eval, Expr, ExprReads, Files, flat_map, greatest, height_limit, inl, inr, IsDenied, IsPaid}
 use Rattle.span_run.proofs.Names.{IsShown, IsUpTo, length, List, load_limit, Named, names_text, no_steps, Node, NodeId, None, NoSuchDocument, Ok, ok_or}
@@ -17,7 +17,7 @@ pub assigned_after : (old mid new : Documents) (number : ℕ) (name x y : List �
 assigned_after old mid new number name x y told reply same is h =
     subst (λ (s : Documents). Assigns s number name (Ok y) told reply new) same (subst (λ (t : List ℕ). Assigns mid number name (Ok t) told reply new) is h)
 
--- the same of any outcome that is this text
+-- the same for any outcome that is this text
 pub assigned_value : (old mid new : Documents) (number : ℕ) (name x : List ℕ) (o : Outcome) (told : Told) (reply : List ℕ) → mid ≡ old → o ≡ Ok x
     → Assigns mid number name (Ok x) told reply new → Assigns old number name o told reply new
 assigned_value old mid new number name x o told reply same is h =
@@ -30,7 +30,7 @@ assigned_refusal old new number name o why told reply same (inl none) h =
 assigned_refusal old new number name o why told reply same (inr is) h =
     subst (λ (t : Outcome). Assigns old number name t told reply new) (sym is) (h, same)
 
--- other documents beside the same queries, versions and files
+-- other documents, with the same queries, versions and files
 pub only_documents : (st : State) (old new : Documents) (files : Option Files) → new ≡ old → world (with_documents st new) files ≡ world (with_documents st old) files
 only_documents st old new files same = ap (λ (d : Documents). world (with_documents st d) files) same
 
@@ -84,7 +84,7 @@ pub none_of_err : (o : Option (Option NodeId)) (f e : Missing) → Err f ≡ ok_
 none_of_err None f e p = refl
 none_of_err (Some x) f e p = let bad : ⊥ = cc p in absurd bad
 
--- the lines of the documents from a place on, and the end
+-- the lines of the documents from an index on, and the end
 abbrev pub names_rest : List Node → List Doc → ℕ → List ℕ
 names_rest ns ds place = names_text (plain ns (drop place ds))
 
@@ -100,7 +100,7 @@ names_next {a} {b} {whole} ns ds place d e h = subst (λ (l : List ℕ). IsUpTo 
 pub names_end : {a b : Outlet} {whole : List ℕ} (ns : List Node) (ds : List Doc) (place : ℕ) → length ds ≤ place → IsUpTo a b (names_rest ns ds place) whole → IsUpTo a b (codes "end" ++ 10 ∷ []) whole
 names_end {a} {b} {whole} ns ds place past h = subst (λ (l : List ℕ). IsUpTo a b l whole) (at_drop_all (λ (es : List Doc). names_text (plain ns es)) ds place past) h
 
--- ---- what commands do with versions
+-- ---- the commands on versions
 only_versions : (st : State) (old new : Named Documents) (files : Option Files) → new ≡ old → world (with_versions st new) files ≡ world (with_versions st old) files
 only_versions st old new files same = ap (λ (v : Named Documents). world (with_versions st v) files) same
 

@@ -14,14 +14,14 @@ use Rattle.query_book.proofs.Covered.{bytes-found}
 use Rattle.span_run.specs.Every.{IsRegistered}
 use Rattle.span_run.proofs.Written.{sent_all}
 
--- a line's limit is one that a line can give, and so is its list of names
+-- the limit and the list of names of a line are ones that a line can have
 pub well_formed : (line : List ℕ) (command : Command) → Reads line command → IsWellFormed command
 well_formed line (form.ListAll q k) (name, None, e, text) = (omega (arith, e), omega (arith, e))
 well_formed line (form.ListAll q k) (name, Some n, (low, high, e), text) = (omega (arith, low, e), omega (arith, high, e))
 well_formed line (form.ProjectQuery n q k) (name, source, names, text) = names
 well_formed line _ h = tt
 
--- ---- the documents from a place on
+-- ---- the documents from an index on
 module _ (a : DeterministicAutomaton) (ns : List Node) (names : List (List ℕ)) (n : ℕ) where
   pub rest_next : (ds : List Doc) (ls : List (List Tuple)) (place : ℕ) (d : Doc) (p : Page) → AreAnswered a ns ds ls → slice_get ds place ≡ Some d → IsPageOf a (text_of ns d.root) n p
       → rest_text names n ds ls place ≡ (doc_line d.name ++ page_text names p.tuples p.more) ++ rest_text names n ds ls (suc place)
@@ -62,7 +62,7 @@ module _ (a : DeterministicAutomaton) (ns : List Node) (names : List (List ℕ))
 pub rest_end : {x y : Outlet} {whole : List ℕ} (names : List (List ℕ)) (n : ℕ) (ds : List Doc) (ls : List (List Tuple)) (place : ℕ) → length ds ≤ place → IsUpTo x y (rest_text names n ds ls place) whole → IsUpTo x y done_line whole
 rest_end {x} {y} {whole} names n ds ls place past h = subst (λ (es : List Doc). IsUpTo x y (every_text names n es (drop place ls)) whole) (drop_all place ds past) h
 
--- ---- what a page has, and what there is
+-- ---- the answers of a page, and all answers
 take_at : (n : ℕ) (xs : List Tuple) (k : ℕ) (t : Tuple) → slice_get (take n xs) k ≡ Some t → slice_get xs k ≡ Some t
 take_at zero xs k t e = let bad : ⊥ = cc e in absurd bad
 take_at (suc n) [] k t e = let bad : ⊥ = cc e in absurd bad
@@ -108,7 +108,7 @@ pub registered : (queries : Named Query) (bytes name : List ℕ) (names : List (
 registered queries bytes name names is same =
     let q = query_of (value_of queries bytes) names is in record { query = q.0; there = ap (λ (m : List ℕ). value_of queries m) (sym same) ∙ q.1 }
 
--- ---- lengths that were looked at
+-- ---- lengths that were read
 pub short_next : (ns : List Node) (ds : List Doc) (place len : ℕ) (x : Doc) → ((k : ℕ) (d : Doc) → k < place → slice_get ds k ≡ Some d → length (text_at ns d.root) ≤ 2 ^ 48) → slice_get ds place ≡ Some x → len ≡ length (text_at ns x.root) → len ≤ 2 ^ 48
     → (k : ℕ) (d : Doc) → k < place + 1 → slice_get ds k ≡ Some d → length (text_at ns d.root) ≤ 2 ^ 48
 short_next ns ds place len x h at is short k d lt e = by (nat_lt k place) refl

@@ -1,4 +1,4 @@
--- What the parts of a listing of the answers on every document write.
+-- The output of the parts of a listing on every document.
 use Rattle.span_run.proofs.Names.{ap, AreAnswered, AreListed, AreLive, AreShort, AreTables, arith, Bool, count_of, DeterministicAutomaton, Dictionary, Doc}
 use Rattle.span_run.proofs.Names.{doc_line, every_text, HasAnswersOf, IsDeterministic, IsNamed, IsPageOf, IsUpTo, length, List, ListsEvery, map, Named}
 use Rattle.span_run.proofs.Names.{names_of, Node, option_map, Outlet, Page, page_text, plain, Query, rest_text, slice_get, Some, subst, suc, sym, text_of}
@@ -7,7 +7,7 @@ use Rattle.span_run.proofs.BookLemmas.{names_known}
 use Rattle.list_all.specs.Every.{ArePages}
 use Rattle.span_run.proofs.EveryLemmas.{answered_at, listed, lists_exist, page_at, page_sizes, rest_next}
 
--- ---- a batch: the page of a place that was found
+-- ---- a batch: the page at one index
 module _ (a : DeterministicAutomaton) (ns : List Node) (ds : List Doc) (first count n : ℕ) (pages : List Page) (are : ArePages a ns ds first count n pages)
     (place : ℕ) (d : Doc) (tuples : List Tuple) (more : Bool) (at : slice_get ds (first + place) ≡ Some d)
     (tuples_are : slice_get (map (λ (p : Page). p.tuples) pages) place ≡ Some tuples) (more_is : slice_get (map (λ (p : Page). p.more) pages) place ≡ Some more) where
@@ -40,7 +40,7 @@ module _ (a : DeterministicAutomaton) (queries : Named Query) (bytes : List ℕ)
     pub lists_are : (lists : List (List Tuple)) × AreAnswered a viewed ds lists
     lists_are = lists_exist a viewed t auto tables count ds (subst (λ (ns : List Node). AreLive ns ds) (sym is) live) (subst (λ (ns : List Node). AreShort ns ds) (sym is) short)
 
-    -- the whole of the reply
+    -- the whole reply
     pub lists_every : (Writes : List ℕ → Type 0) (name : List ℕ) (n : ℕ) → bytes ≡ name → ((lists : List (List Tuple)) → AreAnswered a viewed ds lists → Writes (every_text names n ds lists)) → ListsEvery Writes queries name (plain store ds) n
     lists_every Writes name n same writes =
         let ls = lists_are in

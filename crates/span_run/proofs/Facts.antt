@@ -1,4 +1,4 @@
--- The lemmas of this crate that the answers of its functions cite, each passed on from the file that proves it.
+-- The lemmas of this crate that the proofs of its functions use, each re-exported from the file that proves it.
 pub use Rattle.span_run.proofs.LinesLemmas.{empty_of, lines_cut, lines_one, no_newline}
 pub use Rattle.span_run.proofs.Written.{last, more_of_piece, part, passed, sent_on, starts, stops, waits}
 pub use Rattle.span_run.proofs.ListLemmas.{goes_starts, kept_looks, kept_size, looks_more, moved, page_ends, page_goes_on, page_has_more, page_stops}

@@ -1,4 +1,4 @@
--- What loading a file does.
+-- The effect of loading a file.
 use Rattle.span_run.proofs.Names.{ap, arith, Assigns, BadImage, CannotRead, Carries, counters, Documents, Err, Files, FileTooLong, image, inl, inr, IsFileDenied, IsLoadPaid}
 use Rattle.span_run.proofs.Names.{IsOfTheFile, IsTurnedAway, IsWithin, length, List, load_limit, load_size, Meaning, MeansFile, no_steps, NoSuchFile, Ok, open_size, Opens, Option}
 use Rattle.span_run.proofs.Names.{PaysFor, PaysForPart, put, refl, refusal_text, Refused, Result, Some, State, subst, sym, Told, with_documents, World, world}
@@ -25,13 +25,13 @@ load_denied w number name file turned.Denied told reply why h = rw h.0 (CannotRe
 load_denied w number name file turned.TooLong told reply why h = rw h.0 (FileTooLong file, inr (inr (why, refl)), h.1, refl)
 load_denied w number name file _ told reply why h = absurd h
 
--- only what is of the file itself has a reply
+-- only a refusal about the file itself has a reply
 pub of_the_file : (number : ℕ) (file : List ℕ) (why : FileRefusal) (told : Told) (reply : List ℕ) → IsFileDenied number file why told reply → IsOfTheFile why
 of_the_file number file turned.Failed told reply h = h
 of_the_file number file turned.NoMemory told reply h = h
 of_the_file number file _ told reply h = tt
 
--- loading a file: nothing was asked for, or no more than its bytes allow
+-- loading a file: no node constructions, or at most the maximum for its length
 pub file_paid : (old : World) (name file bytes : List ℕ) (looks p q : ℕ) → IsWithin old.files file load_size bytes → IsLoadPaid old.files file p q → PaysFor old (form.LoadFile name file) (counters looks p) (counters looks q)
 file_paid old name file bytes looks p q there (inl same) = (record { looks = 0; pairs = load_limit (length bytes) }, inr (bytes, there, refl), record { looks = omega arith; pairs = omega (arith, same) })
 file_paid old name file bytes looks p q there (inr (all, within, paid)) = (record { looks = 0; pairs = load_limit (length all) }, inr (all, within, refl), record { looks = omega arith; pairs = omega (arith, paid) })
@@ -74,7 +74,7 @@ open_refused_paid old file number turned.Denied told reply looks p closed denied
 open_refused_paid old file number turned.TooLong told reply looks p long denied = (no_steps, inl (FileTooLong file, inr (inr (long, refl)), refl), none_paid looks p p refl)
 open_refused_paid old file number _ told reply looks p h denied = absurd denied
 
--- the reply to a faulty image
+-- the reply to bytes that are no valid image
 pub opens_refused : (old new : Documents) (number : ℕ) (o : Result Meaning ImageRefusal) (why : ImageRefusal) (told : Told) (reply : List ℕ) → new ≡ old → Fails why o → told ≡ Refused
     → ((kind : ℕ) × (kind_of why ≡ Some kind) × (reply ≡ refusal_text number (BadImage kind))) → Opens old number o told reply new
 opens_refused old new number o why told reply same fails is (kind, known, written) =

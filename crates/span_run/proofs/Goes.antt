@@ -1,4 +1,4 @@
--- What commands that grow the store, or that give tables, or that do neither, say of what is held.
+-- Facts about the session's state, for commands that add nodes, compute tables, or do neither.
 use Rattle.span_run.proofs.Names.{Accepted, Answer, Answers, ap, AreKept, AreLive, AreLive-grows, ArePartlyAt, arith, at, Carries, Command, Compacts, counters}
 use Rattle.span_run.proofs.Names.{covered_of, Doc, Documents, Entry, Err, Files, Goes, Grows, Grows-length, Grows-none, Held, IfErr, IfOk, inl, inr, IsAllowed}
 use Rattle.span_run.proofs.Names.{IsErrAnd, IsHeld, IsOfFile, IsOnce, IsPut, IsSaved, length, List, Named, no_steps, Node}
@@ -12,7 +12,7 @@ use Rattle.span_run.proofs.PlacesLemmas.{none_placed, none_placed_part}
 use Rattle.span_run.proofs.BookLemmas.{covered-within, grown_placed, grown_placed_part, serves-grows}
 use Rattle.span_run.proofs.CarryLemmas.{none_paid, not_begun, part_of_paid}
 
--- a call found no memory, and that is passed on
+-- an allocation failed in a call, and the error is propagated
 pub passed_on : {T : Type 0} (r : Result T Stop) (P : Stop → Type 0) → IsErrAnd r (λ e. e ≡ stop.NoMemory) → P stop.NoMemory → IfErr r P
 passed_on (Ok x) P h p = tt
 passed_on (Err e) P h p = subst P (sym h) p
@@ -21,7 +21,7 @@ pub if_err_both : {T E : Type 0} (r : Result T E) (P Q S : E → Type 0) → ((x
 if_err_both (Ok x) P Q S f h k = tt
 if_err_both (Err e) P Q S f h k = f e h k
 
--- of another kind
+-- a command of another kind
 pub never : (kind : Type 0) → (kind → ⊥) → (told : Told) → IsOnce kind told 0
 never kind other Quiet = refl
 never kind other Accepted = inr (other, refl)
@@ -36,7 +36,7 @@ refused_never kind told refused = subst (λ (t : Told). IsOnce kind t 0) (sym re
 not_one : {P : Type 0} → ◌≡◌ {A = ℕ} 0 1 → P
 not_one is = let bad : ⊥ = cc is in absurd bad
 
--- no query is registered, and no node dropped
+-- no query is registered, and no node is dropped
 pub none_tallied : (registers compacts : Type 0) (told : Told) (old new : Scene) → IsOnce registers told 0 → IsOnce compacts told 0 → nodes_of old.standing ≤ nodes_of new.standing → pairs_of new.standing + old.pairs ≤ pairs_of old.standing + new.pairs
     → Places 0 0 (nodes_of new.standing) old.standing.covered new.standing.covered old.places new.places → Tallies registers compacts told old new
 none_tallied registers compacts told old new none kept nodes pairs placed = record {
@@ -53,7 +53,7 @@ none_tallied registers compacts told old new none kept nodes pairs placed = reco
   placed = placed;
 }
 
--- ---- the store grew, and the documents are others
+-- ---- the store has more nodes, and the documents changed
 pub grown_goes : (h : Held) (store : List Node) (docs : List Doc) (command : Command) (files after : Option Files) (faults more looks p q places : ℕ) → IsHeld h → Grows h.store store p q → AreLive store docs
     → PaysForPart (world_at (at h files faults looks p places)) command (counters looks p) (counters looks q) → faults ≤ more
     → Goes (at h files faults looks p places) command (at (record h { store = store; docs = docs }) after more looks q places)
@@ -69,7 +69,7 @@ grown_goes h store docs command files after faults more looks p q places is grow
       faults = later;
     }
 
--- other documents in a grown store are another state alone
+-- other documents in a store with more nodes only change the state
 pub grown_state : (h : Held) (store : List Node) (docs : List Doc) (p q : ℕ) → IsHeld h → Grows h.store store p q → state_of (record h { store = store; docs = docs }) ≡ with_documents (state_of h) (plain store docs)
 grown_state h store docs p q is grows = ap (λ (v : Named Documents). record { documents = plain store docs; queries = queries_of h.book; versions = v }) (plain_versions-grows h.store store p q grows h.versions is.kept)
 
@@ -87,7 +87,7 @@ grown_answers h store docs number command answer files after faults more looks p
       (Grows-length h.store store p q grows) (Grows-pairs h.store store p q grows) (none_placed (length store) (covered_of h.book) places);
 }
 
--- the store alone grew
+-- only the store has more nodes
 pub grown_same : (h : Held) (store : List Node) (number : ℕ) (command : Command) (answer : Answer) (files after : Option Files) (faults more looks p q places : ℕ) → IsHeld h → Grows h.store store p q
     → (Registers command → ⊥) → (Compacts command → ⊥) → PaysFor (world (state_of h) files) command (counters looks p) (counters looks q) → after ≡ files → more ≡ faults
     → Carries (world (state_of h) files) number command answer.told answer.line.items (world (state_of h) files)
@@ -100,7 +100,7 @@ grown_same h store number command answer files after faults more looks p q place
 same_world : {st su : State} {f g : Option Files} → st ≡ su → f ≡ g → world st f ≡ world su g
 same_world same files = λ i. world (same i) (files i)
 
--- and the documents stand for the same texts
+-- and the documents have the same texts
 pub grown_stays : (h : Held) (store : List Node) (docs : List Doc) (number : ℕ) (command : Command) (files after : Option Files) (faults more looks p q places : ℕ) (why : Stop) → IsHeld h → Grows h.store store p q → AreLive store docs
     → plain store docs ≡ plain h.store h.docs → PaysForPart (world (state_of h) files) command (counters looks p) (counters looks q) → after ≡ files → faults ≤ more
     → (why ≡ stop.ShelfFault → IsOfFile command × Rose faults more) → (why ≡ stop.OutFault → ⊥)
@@ -124,7 +124,7 @@ pub grown_stops : (h : Held) (store : List Node) (docs : List Doc) (number : ℕ
 grown_stops h store docs number command files after faults more looks p q places is grows live texts begun same later =
     grown_stays h store docs number command files after faults more looks p q places stop.NoMemory is grows live texts begun same later no_shelf no_sink
 
--- ---- the documents alone are others
+-- ---- only the documents changed
 pub free_answers : (h : Held) (docs : List Doc) (number : ℕ) (command : Command) (answer : Answer) (files : Option Files) (faults looks pairs places : ℕ) → IsHeld h → AreLive h.store docs
     → (Registers command → ⊥) → (Compacts command → ⊥) → IsAllowed (world (state_of h) files) command no_steps
     → Carries (world (state_of h) files) number command answer.told answer.line.items (world (with_documents (state_of h) (plain h.store docs)) files)
@@ -138,7 +138,7 @@ pub stays : (h : Held) (number : ℕ) (command : Command) (files : Option Files)
 stays h number command files faults looks pairs places is =
     grown_stops h h.store h.docs number command files files faults faults looks pairs pairs places is (Grows-none h.store pairs pairs (omega arith)) is.live refl (not_begun (world (state_of h) files) command looks pairs) refl (omega arith)
 
--- ---- the store is as it was, and so are the counters
+-- ---- the store and the counters are unchanged
 still_goes : (h : Held) (docs : List Doc) (versions : Named (List Doc)) (book : List Entry) (command : Command) (files after : Option Files) (faults more looks pairs places : ℕ) → IsHeld h
     → IsHeld (record h { docs = docs; versions = versions; book = book }) → faults ≤ more
     → Goes (at h files faults looks pairs places) command (at (record h { docs = docs; versions = versions; book = book }) after more looks pairs places)
@@ -152,7 +152,7 @@ still_goes h docs versions book command files after faults more looks pairs plac
   faults = later;
 }
 
--- ---- the queries are others
+-- ---- the queries changed
 pub booked_answers : (h : Held) (book : List Entry) (number : ℕ) (command : Command) (answer : Answer) (files : Option Files) (faults looks pairs places count : ℕ) → IsHeld h → Serves h.store book
     → IsAllowed (world (state_of h) files) command no_steps → IsOnce (Registers command) answer.told count → IsOnce (Compacts command) answer.told 0
     → Places count 0 (length h.store) (covered_of h.book) (covered_of book) places places
@@ -195,14 +195,14 @@ pub refused_answers : (h : Held) (number : ℕ) (command : Command) (answer : An
 refused_answers h number command answer files faults looks pairs places is refused free carries =
     booked_answers h h.book number command answer files faults looks pairs places 0 is is.serves free (refused_never (Registers command) answer.told refused) (refused_never (Compacts command) answer.told refused) (none_placed (length h.store) (covered_of h.book) places) carries
 
--- the same answers over a shelf that is as it was
+-- the same answers over an unchanged file store
 pub same_shelf : (h : Held) (number : ℕ) (command : Command) (r : Result Answer Stop) (files after : Option Files) (faults more looks pairs places : ℕ) → after ≡ files → more ≡ faults
     → IfOk r (Answers (at h files faults looks pairs places) number command (at h files faults looks pairs places)) → IfOk r (Answers (at h files faults looks pairs places) number command (at h after more looks pairs places))
 same_shelf h number command r files after faults more looks pairs places same sound answers =
     subst (λ (f : Option Files). IfOk r (Answers (at h files faults looks pairs places) number command (at h f more looks pairs places))) (sym same)
     (subst (λ (n : ℕ). IfOk r (Answers (at h files faults looks pairs places) number command (at h files n looks pairs places))) (sym sound) answers)
 
--- ---- files are others
+-- ---- the files changed
 pub saved_answers : (h : Held) (number : ℕ) (file bytes : List ℕ) (nodes : ℕ) (answer : Answer) (files after : Option Files) (faults more looks pairs places : ℕ) → IsHeld h → IsSaved (plain h.store h.docs) bytes nodes
     → length bytes ≤ open_size → AllowsWrites files file → answer.told ≡ Accepted → answer.line.items ≡ saved_text (length (plain h.store h.docs)) nodes → IsPut files file bytes after → more ≡ faults
     → Answers (at h files faults looks pairs places) number (form.SaveFile file) (at h after more looks pairs places) answer
@@ -224,7 +224,7 @@ saved_stays h number file files after faults more looks pairs places why is same
   sink = sink;
 }
 
--- ---- the versions are others, and perhaps the documents
+-- ---- the versions changed, and possibly the documents
 pub marked_answers : (h : Held) (docs : List Doc) (versions : Named (List Doc)) (number : ℕ) (command : Command) (answer : Answer) (files : Option Files) (faults looks pairs places : ℕ) → IsHeld h → AreLive h.store docs → AreKept h.store versions
     → (Registers command → ⊥) → (Compacts command → ⊥) → IsAllowed (world (state_of h) files) command no_steps
     → Carries (world (state_of h) files) number command answer.told answer.line.items (world (state_of (record h { docs = docs; versions = versions })) files)
@@ -238,7 +238,7 @@ marked_answers h docs versions number command answer files faults looks pairs pl
       (omega arith) (omega arith) (none_placed (length h.store) (covered_of h.book) places);
 }
 
--- ---- the queries were given tables, and then the store grew, and the documents are others
+-- ---- tables were computed, then the store got nodes and the documents changed
 moved_goes : (h : Held) (store : List Node) (docs : List Doc) (book : List Entry) (command : Command) (files : Option Files) (faults looks more p q r s : ℕ) → IsHeld h → Grows h.store store p q → AreLive store docs → Serves h.store book
     → ArePartlyAt (length h.store) (covered_of h.book) (covered_of book) → s + sum_of (covered_of h.book) ≡ r + sum_of (covered_of book)
     → PaysForPart (world (state_of h) files) command (counters looks p) (counters more q)
@@ -284,7 +284,7 @@ moved_stops h store docs book number command files faults looks more p q r s is 
   sink = no_sink;
 }
 
--- ---- the queries were given tables, and nothing else
+-- ---- only tables were computed
 pub placed_goes : (h : Held) (book : List Entry) (command : Command) (files : Option Files) (faults looks more pairs p q : ℕ) → IsHeld h → Serves h.store book
     → ArePartlyAt (length h.store) (covered_of h.book) (covered_of book) → q + sum_of (covered_of h.book) ≡ p + sum_of (covered_of book)
     → PaysForPart (world (state_of h) files) command (counters looks pairs) (counters more pairs)
@@ -316,7 +316,7 @@ pub placed_stops : (h : Held) (book : List Entry) (number : ℕ) (command : Comm
 placed_stops h book number command files faults looks more pairs p q is serves same partly steps begun =
     moved_stops h h.store h.docs book number command files faults looks more pairs pairs p q is (Grows-none h.store pairs pairs (omega arith)) is.live serves same partly steps refl begun
 
--- and there was no memory for all of them
+-- and the allocation of some of them failed
 pub unplaced : (h : Held) (book : List Entry) (number : ℕ) (command : Command) (files : Option Files) (faults looks pairs p q : ℕ) → IsHeld h → Serves h.store book → queries_of book ≡ queries_of h.book
     → ArePartlyAt (length h.store) (covered_of h.book) (covered_of book) → q + sum_of (covered_of h.book) ≡ p + sum_of (covered_of book)
     → Stays (at h files faults looks pairs p) number command (at (record h { book = book }) files faults looks pairs q) stop.NoMemory

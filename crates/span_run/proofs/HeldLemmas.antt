@@ -1,4 +1,4 @@
--- Documents in a store, and the plain documents that they stand for.
+-- Documents in a store, and the plain documents that they represent.
 use Rattle.span_run.proofs.Names.{[], ap, AreKept, AreLive, AreLive-grows, arith, Bool, cond, Doc, false, Grows, is_same, IsLive, length, List, min, Named}
 use Rattle.span_run.proofs.Names.{Node, NodeId, Option, option_map, pair_weight, plain, plain-grows, plain_versions, put, refl, root_leaves, root_tree, Some}
 use Rattle.span_run.proofs.Names.{subst, sum_by-append, take, take_min, taken_out, text_at, true, value_of, ℕ, ◌++◌, ◌+◌, ◌-◌, ◌∙◌, ◌∷◌, ◌≡◌, ◌≤◌}
@@ -47,7 +47,7 @@ live_root ns (d ∷ ds) name root h e = at (is_same name d.name) (λ f. live_roo
     at true rest f = let same : d.root ≡ root = cc f in subst (IsLive ns) same h.0
     at false rest f = rest f
 
--- the lesser of a length and 32 bytes, as the program counts it
+-- the minimum of a length and 32 bytes, as the program computes it
 pub head_of-text : (xs head : List ℕ) (n k : ℕ) → n ≡ length xs → k ≡ min n 32 → head ≡ take (k + 1 - 1) xs → head ≡ take 32 xs
 head_of-text xs head n k is least taken =
     let few : k + 1 - 1 ≡ min 32 (length xs) = omega (arith, is, least) in
@@ -57,7 +57,7 @@ pair_count-append : (xs ys : List Node) → pair_count (xs ++ ys) ≡ pair_count
 unfolding pair_count
 pair_count-append xs ys = sum_by-append pair_weight xs ys
 
--- the pairs that a store grew by were asked for
+-- each new pair of a store was counted
 pub Grows-pairs : (old new : List Node) (p q : ℕ) → Grows old new p q → pair_count new + p ≤ pair_count old + q
 Grows-pairs old new p q g = omega (arith, ap pair_count g.added, pair_count-append old g.more, g.paid)
 
@@ -66,7 +66,7 @@ pub AreKept-grows : (old new : List Node) (p q : ℕ) → Grows old new p q → 
 AreKept-grows old new p q g [] h = tt
 AreKept-grows old new p q g (v ∷ vs) h = (AreLive-grows old new p q g v.1 h.0, AreKept-grows old new p q g vs h.1)
 
--- old texts stay where the store grows
+-- old texts are unchanged when the store gets nodes
 pub plain_versions-grows : (old new : List Node) (p q : ℕ) → Grows old new p q → (vs : Named (List Doc)) → AreKept old vs → plain_versions new vs ≡ plain_versions old vs
 plain_versions-grows old new p q g [] h = refl
 plain_versions-grows old new p q g (v ∷ vs) h =

@@ -1,4 +1,4 @@
--- A listing of answers in progress.
+-- Listings of answers in progress.
 use Rattle.span_run.proofs.Names.{[], after-first, ap, append_assoc, AreAnswersOf, arith, Bool, false, first-after, first_page_text, flat_map, IsAfter, IsCut}
 use Rattle.span_run.proofs.Names.{IsFirstMember, IsSent, IsUpTo, last_line, le-ltb, length, List, Listing, looks_limit, lt-ltb, ltb-false, ltb-true, nat_lt}
 use Rattle.span_run.proofs.Names.{NoMemberLeft, none-after, Option, Outlet, refl, Result, Some, Stop, subst, suc, sym, take, Told, true, Tuple, tuple_line}
@@ -25,7 +25,7 @@ page_next names n t ts =
     ap (λ (b : Bool). flat_map (tuple_line names) (t ∷ take n ts) ++ last_line b) (lt_suc n (length ts))
     ∙ append_assoc (tuple_line names t) (flat_map (tuple_line names) (take n ts)) (last_line (nat_lt n (length ts)))
 
--- ---- the listing that a step leaves
+-- ---- the iterator after a step
 pub record Keeps (a b : Listing) : Type 0 where
   pub automaton : b.automaton ≡ a.automaton
   pub text : b.text ≡ a.text
@@ -42,7 +42,7 @@ kept_looks a b x y k h = rw (k.automaton, k.text) at h
 pub kept_size : (a b : Listing) (cursor : Option Tuple) (t : Tuple) → Keeps a b → IsFirstMember b.automaton b.text cursor t → length t ≡ a.automaton.variables
 kept_size a b cursor t k h = h.member.size ∙ ap (λ x. x.variables) k.automaton
 
--- what is left of a page when `left` more tuples may come, and of the looks for it
+-- the rest of a page when `left` more tuples may come, and its table lookups
 pub record Goes (a b : Outlet) (names : List (List ℕ)) (limit : ℕ) (first all : List Tuple) (cursor : Option Tuple) (left before looks each : ℕ) : Type 0 where
   pub rest : List Tuple
   pub after : IsAfter all cursor rest
@@ -58,13 +58,13 @@ goes_starts a names limit first all cursor looks each h = record {
   paid = omega arith;
 }
 
--- the answers of a listing that began as another, which kept its automaton and text
+-- the answers of an iterator after a step, which keeps its automaton and text
 module _ {a b : Outlet} {names : List (List ℕ)} {limit : ℕ} {first all : List Tuple} {cursor : Option Tuple} {left before looks each : ℕ} (old listing : Listing) (kept : Keeps old listing)
     (are : AreAnswersOf old.automaton old.text all) (h : Goes a b names limit first all cursor left before looks each) where
   here : AreAnswersOf listing.automaton listing.text all
   here = kept_answers old listing all kept are
 
-  -- an answer was found, and its line stands before what is left
+  -- an answer was found, and its line comes before the rest
   found : (next : ℕ) (u : Tuple) → left ≡ suc next → IsFirstMember listing.automaton listing.text cursor u
       → (more : List Tuple) × IsAfter all (Some u) more × IsUpTo a b (tuple_line names u ++ first_page_text names next more) (first_page_text names limit first)
       × (looks + suc (length (take next more)) * each ≤ before + length (take limit first) * each)
@@ -88,7 +88,7 @@ module _ {a b : Outlet} {names : List (List ℕ)} {limit : ℕ} {first all : Lis
         paid = omega (arith, k.3, le);
       }
 
-  -- the looks of one more answer
+  -- the table lookups of one more answer
   pub looks_more : (more : ℕ) → more ≤ looks + each → more ≤ before + (length (take limit first) + 1) * each
   looks_more more le = omega (arith, h.paid, le)
 
@@ -98,7 +98,7 @@ module _ {a b : Outlet} {names : List (List ℕ)} {limit : ℕ} {first all : Lis
       let k = found next u is f in
       stops (tuple_line names u) (first_page_text names next k.0) (tuple_line names u) k.2 refl stopped
 
-  -- only the last line is left
+  -- only the last line is left to write
   last_of : (c : Outlet) (more : Bool) (r : Result Told Stop) → first_page_text names left h.rest ≡ last_line more → Wrote r b (last_line more) c → Wrote r a (first_page_text names limit first) c
   last_of c more r is wrote = last r c (last_line more) (last_line more) (subst (λ (l : List ℕ). IsUpTo a b l (first_page_text names limit first)) is h.so_far) refl wrote
 

@@ -1,4 +1,4 @@
--- A listing of a query's answers, as a line.
+-- Listings of answers, as lines.
 use Rattle.span_run.proofs.Names.{Accepted, ap, ArePartlyAt, at, Carries, counters, covered_of, Ends, Entry, Files, Held, IfOk, inl, inr, IsHeld, length, List}
 use Rattle.span_run.proofs.Names.{ListsEvery, Named, no_steps, Option, Outlet, plain, queries_of, Query, refl, Result, scene, seen, Serves, Some, standing_of}
 use Rattle.span_run.proofs.Names.{State, state_of, Stop, subst, sum_of, sym, Tells, Told, value_of, WantsFor, world, Wrote, ℕ, ◌+◌, ◌≡◌}

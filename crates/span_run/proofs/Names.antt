@@ -1,4 +1,5 @@
--- The words of std and of the layers below that the proofs of this crate name, each passed on from where it is declared.
+-- Names from std and from the layers below that the proofs of this crate use, each re-exported from its declaration.
+-- that the proofs of this crate name, each passed on from where it is declared.
 pub use Rattle.doc_book.specs.declared.Doc.{Doc}
 pub use Rattle.doc_compact.proofs.Reached.{live-at}
 pub use Rattle.edge_io.specs.Causes.{Rose}

@@ -1,4 +1,4 @@
--- What listing the answers of a query does.
+-- The effect of listing the answers of a query.
 use Rattle.span_run.proofs.Names.{Accepted, answers_steps, ap, AreAnswersOf, arith, Carries, counters, first_page_text, HasCursor, HasList, IfNamed, inl, inr}
 use Rattle.span_run.proofs.Names.{IsAfter, IsAllowed, IsCursorFor, IsListingOf, IsListReply, IsNamed, IsRefused, IsUnreadCursor, IsWordRefusal, length, List}
 use Rattle.span_run.proofs.Names.{Listing, Lists, looks_limit, most_looks, Named, names_of, nat_lt, no_steps, None, NoSuchDocument, Option, option_map}
@@ -37,7 +37,7 @@ module _ (Writes : List ℕ → Type 0) (queries : Named Query) (name text : Lis
     paid = paid;
   }
 
-  -- of the page of a listing's answers some was written
+  -- a part of the page was written
   pub lists_page : (mid : ℕ) (listing : Listing) (names : List (List ℕ)) → IsNamed queries name (IsListingOf text cursor listing) → option_map names_of (value_of queries name) ≡ Some names
       → mid ≤ before + 2 * most_looks (value_of queries name) text
       → ((all rest : List Tuple) → AreAnswersOf listing.automaton listing.text all → IsAfter all listing.after rest
@@ -60,7 +60,7 @@ module _ (Writes : List ℕ → Type 0) (queries : Named Query) (name text : Lis
       subst (λ (b : ℕ). after ≤ mid + (length (take n l.rest) + 1) * b) each (written l.all l.rest are rest).1 in
       lists q named.there l wrote (omega (arith, most, page))
 
-  -- of the page nothing was written
+  -- nothing of the page was written
   pub lists_none : HasCursor queries name cursor → after ≤ before + 2 * most_looks (value_of queries name) text → ((reply : List ℕ) → Writes reply) → Lists Writes queries name text cursor n before after
   lists_none h begun writes =
       let l = list h.query h.there in
@@ -91,7 +91,7 @@ module _ (w : World) (number : ℕ) (query name text : List ℕ) (word : Option 
     reply_is = refl;
   }
 
-  -- a reply that was told is one of the line's, and was written
+  -- the returned reply is one of the line's, and was written
   pub list_carries : (Writes : List ℕ → Type 0) (told : Told) (before after : ℕ) → Tells Writes number w.state.queries query word text n told before after
       → (reply : List ℕ) × Carries w number (form.List query name word n) told reply w × Writes reply
   list_carries Writes Quiet before after h = absurd h

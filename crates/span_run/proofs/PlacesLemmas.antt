@@ -1,7 +1,7 @@
 -- Each query has at most one table of each node.
 use Rattle.span_run.proofs.Names.{[], AllByRecursion, arith, IsStanding, length, Named, nodes_of, Places, PlacesPart, Standing, sum_of, ℕ, ◌*◌, ◌+◌, ◌∷◌, ◌≤◌}
 
--- what was placed so far, where so many queries were registered and so many nodes dropped
+-- the bound on the tables computed so far, when this many queries were registered and this many nodes were dropped
 abbrev pub PlacesSoFar : ℕ → ℕ → Standing → ℕ → ℕ → Type 0
 PlacesSoFar queries dropped st before now = (n : ℕ) → nodes_of st ≤ n → now + n * length st.covered ≤ before + sum_of st.covered + (n + dropped) * queries
 
@@ -17,7 +17,7 @@ places_go_on queries dropped count fell old new before now after grown so_far st
     let next = step n le in
     omega (arith, here, next)
 
--- and so the tables placed are no more than one of each node for each query
+-- and so the computed tables are at most one for each node and query
 pub places_few : (queries dropped : ℕ) (st : Standing) (before now n : ℕ) → IsStanding st → nodes_of st ≤ n → PlacesSoFar queries dropped st before now → now ≤ before + queries * (n + dropped)
 places_few queries dropped st before now n is le so_far =
     let here = so_far n le in
@@ -31,7 +31,7 @@ places_few_part queries dropped old new before now after n few le so_far step =
     let next = step n few le in
     omega (arith, here, next)
 
--- nothing was placed, and no query came or went
+-- no table was computed, and no query was added or removed
 pub none_placed : (nodes : ℕ) (covered : Named ℕ) (places : ℕ) → Places 0 0 nodes covered covered places places
 none_placed nodes covered places = λ n le. omega arith
 

@@ -1,4 +1,4 @@
--- What registering and asking queries does.
+-- The effect of registering and evaluating queries.
 use Rattle.span_run.proofs.Names.{Accepted, answers_steps, ap, arith, BadTuple, Bool, Carries, Command, counters, Doc, false, Files, HasAnswer, HasVariablesOf}
 use Rattle.span_run.proofs.Names.{Held, Holds, inl, inr, IsAnswer, IsAnswered, IsHeld, IsJudged, IsNamed, IsRefused, IsRefusedFreely, IsReplied, IsReplyPaid}
 use Rattle.span_run.proofs.Names.{IsSome, IsTextRefusal, IsTextRefused, IsTrue, IsTupleOf, IsUnread, IsWordPaid, IsWordRefusal, IsYesOrNo, length, List}
@@ -16,7 +16,7 @@ use Rattle.span_run.specs.declared.words.Unread.TheVariants as unread
 use Rattle.span_run.proofs.HeldLemmas.{value_of-plain}
 use Rattle.span_run.proofs.BookLemmas.{some_value}
 
--- other queries beside the same documents, versions and files
+-- other queries, with the same documents, versions and files
 pub only_queries : (st : State) (old new : Named Query) (files : Option Files) → new ≡ old → world (with_queries st new) files ≡ world (with_queries st old) files
 only_queries st old new files same = ap (λ (q : Named Query). world (with_queries st q) files) same
 
@@ -27,7 +27,7 @@ unquery_carries st new number name told reply files there taken accepted written
     subst (λ (t : Told). Carries (world st files) number (form.Unquery name) t reply (world (with_queries st new) files)) (sym accepted)
     (q.0, q.1, written, only_queries st (taken_out st.queries name) new files taken)
 
--- the answer of a question, as a reply
+-- the answer to a question, as a reply
 pub answered : (Holds : Query → Type 0) (number : ℕ) (queries : Named Query) (bytes name : List ℕ) (b : Bool) (told : Told) (reply : List ℕ) → bytes ≡ name → IsNamed queries bytes (λ q. IsTrue b ↔ Holds q)
     → told ≡ Accepted → (b ≡ true → reply ≡ yes_text) → (b ≡ false → reply ≡ no_text) → IsAnswered Holds number queries name told reply
 answered Holds number queries bytes name b told reply is named accepted true_line false_line = rw accepted (named.query, ap (λ (n : List ℕ). value_of queries n) (sym is) ∙ named.there, decided b named.holds true_line false_line)
@@ -49,7 +49,7 @@ test_carries w number query name text Quiet reply there h = absurd h
 test_carries w number query name text Accepted reply there (q, registered, answer) = (q, text, record { document = there; registered = registered }, answer, refl)
 test_carries w number query name text Refused reply there (none, written) = (NoSuchQuery query, inr (text, there, none, refl), written, refl)
 
--- the looks of a test: those of one answer where there is such a query, else none
+-- the table lookups of a test: those for one answer if the query exists, otherwise none
 test_paid : (w : World) (query name text : List ℕ) (looks more pairs : ℕ) → value_of w.state.documents name ≡ Some text → more ≤ looks + most_looks (value_of w.state.queries query) text
     → PaysFor w (form.Nonempty query name) (counters looks pairs) (counters more pairs)
 test_paid w query name text looks more pairs there cost = at (value_of w.state.queries query) refl cost
@@ -58,14 +58,14 @@ test_paid w query name text looks more pairs there cost = at (value_of w.state.q
     at (Some q) is paid = (answers_steps 1 q text, inr (q, text, record { document = there; registered = is }, refl), record { looks = omega (arith, paid); pairs = omega arith })
     at None is paid = (no_steps, inl (NoSuchQuery query, inr (text, there, is, refl), refl), record { looks = omega (arith, paid); pairs = omega arith })
 
--- a text that gives no query
+-- a text that is no query
 pub text_refused : (text : List ℕ) (kept : Refusal) (why : QueryRefusal) → IsUnregistered text why → IsTextRefusal why kept → IsTextRefused text kept
 text_refused text kept (query.Formula formula.NoMemory) h e = absurd e
 text_refused text kept (query.Formula _) h e = subst (IsTextRefused text) (sym e) h
 text_refused text kept query.TooManyStates h e = subst (IsTextRefused text) (sym e) h
 text_refused text kept query.NoMemory h e = absurd e
 
--- ---- what asking for a tuple does
+-- ---- the effect of testing a tuple
 pub has_variables : (queries : Named Query) (name word : List ℕ) (tuple : Tuple) → IsTupleOf queries name word tuple → HasVariablesOf queries name tuple
 has_variables queries name word tuple h q there =
     let both : Some h.query ≡ Some q = sym h.there ∙ there in
@@ -100,7 +100,7 @@ has_carries w number query name word text Quiet reply there h = absurd h
 has_carries w number query name word text Accepted reply there (tuple, q, registered, is, answer) = (q, text, tuple, record { document = there; registered = registered }, is, answer, refl)
 has_carries w number query name word text Refused reply there (u, why, not_read, is, written) = (why, has_refused w query name word text there u why not_read is, written, refl)
 
--- the looks for a word: those of one answer where it is a tuple, else none
+-- the table lookups for a word: those for one answer if it is a tuple, otherwise none
 has_paid : (w : World) (query name word text : List ℕ) (looks more pairs : ℕ) → value_of w.state.documents name ≡ Some text → IsWordPaid w.state.queries query word text looks more
     → PaysFor w (form.Has query name word) (counters looks pairs) (counters more pairs)
 has_paid w query name word text looks more pairs there (inl (u, not_read, same)) =

@@ -4,7 +4,7 @@ use Rattle.span_run.proofs.Names.{length, length-append, length-drop, length-rep
 use Rattle.std.proofs.lemmas.List.{take-append-drop}
 use Rattle.span_run.proofs.Names.{replicate, same_Some, Some, subst, sym, take, take-add, take_all, ℕ, ◌*◌, ◌++◌, ◌+◌, ◌<◌, ◌∙◌, ◌∷◌, ◌≡◌, ◌≤◌}
 
--- where bytes stand behind a place, the file has them
+-- bytes after a position are bytes of the file
 bytes_behind : (files : Option Files) (name : List ℕ) (from count : ℕ) (into : List ℕ) → 0 < count → count ≤ length into
     → IfSome files (λ all. HasPiece all name from (take count into)) → (bytes : List ℕ) × Holds files name bytes × (from + count ≤ length bytes)
 bytes_behind None name from count into some bound h = (replicate (from + count) 0, tt, omega (arith, length-replicate {A = ℕ} (from + count) 0))
@@ -12,7 +12,7 @@ bytes_behind (Some all) name from count into some bound (bytes, there, is) =
     let taken = length-take-le count into bound in
     (bytes, there, omega (arith, some, taken, ap length is.front, length-take (length (take count into)) (drop from bytes), length-drop from bytes))
 
--- where bytes stand behind a limit, the file is too long
+-- if there are bytes after a limit, the file is too long
 pub past_limit : (files : Option Files) (name : List ℕ) (from count limit : ℕ) (into : List ℕ) → 0 < count → limit < from + count → count ≤ length into → AllowsReads files name
     → IfSome files (λ all. HasPiece all name from (take count into)) → IsOversized files name limit
 past_limit files name from count limit into some over bound readable h =
@@ -53,14 +53,14 @@ is_next files name limit at piece within h front size so_far =
     let here = subst (λ (n : ℕ). IfSome files (λ all. HasPiece all name n piece)) (sym size) h in
     (one_piece files name limit front piece so_far here, λ none. no_piece files name limit front piece none (omega (arith, size, within)) so_far here)
 
--- what was read is no more than the file has
+-- what was read is at most the file's length
 front_within : (files : Option Files) (name : List ℕ) (limit : ℕ) (front : List ℕ) → length front ≤ limit → IsFileFront files name limit front
     → (bytes : List ℕ) × IsWithin files name limit bytes × (length front ≤ length bytes)
 front_within None name limit front short so_far = (front, record { held = tt; readable = tt; short = short }, omega arith)
 front_within (Some all) name limit front short so_far =
     (so_far.file, record { held = so_far.there; readable = so_far.readable; short = so_far.short }, omega (arith, ap length so_far.begins, length-take (length front) so_far.file))
 
--- where it doesn't matter what follows the front of a file, the file means what the front means
+-- if the bytes after a prefix of a file don't matter, the file has the meaning of the prefix
 pub front_means : (files : Option Files) (name front : List ℕ) → length front ≤ open_size → IsFileFront files name open_size front → ((rest : List ℕ) → image (front ++ rest) ≡ image front) → MeansFile files name front
 front_means None name front short so_far settled = record { all = front; within = record { held = tt; readable = tt; short = short }; same = refl }
 front_means (Some all) name front short so_far settled = record {
@@ -72,7 +72,7 @@ front_means (Some all) name front short so_far settled = record {
 pub whole_means : (files : Option Files) (name bytes : List ℕ) → IsWithin files name open_size bytes → MeansFile files name bytes
 whole_means files name bytes within = record { all = bytes; within = within; same = refl }
 
--- what loading the front of a file may cost
+-- the maximum cost of loading a prefix of a file
 pub front_paid : (files : Option Files) (name front : List ℕ) (before after : ℕ) → length front ≤ load_size → IsFileFront files name load_size front → after ≤ before + length front → IsLoadPaid files name before after
 front_paid files name front before after short so_far paid =
     let within = front_within files name load_size front short so_far in

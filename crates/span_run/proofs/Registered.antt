@@ -1,4 +1,4 @@
--- What registering a query does.
+-- The effect of registering a query.
 use Rattle.span_run.proofs.Names.{[], Accepted, Answer, Answers, ap, at, Carries, command_of, Compacts, covered_of, Does, Entry, Err, Files, HasPair, Held}
 use Rattle.span_run.proofs.Names.{IfErr, inr, IsAccepted, IsAllowed, IsErr, IsErrAnd, IsHeld, IsMade, IsMadeIn, IsOfFile, IsOk, IsRefused, IsRegistered, IsSome}
 use Rattle.span_run.proofs.Names.{IsUnmade, Join, length, List, MatchOption, MatchResult, Named, names_of, no_steps, None, Ok, OnErr, OnOk, Option, Project}
@@ -12,7 +12,7 @@ use Rattle.span_run.proofs.BookLemmas.{covered-within, put_placed}
 use Rattle.span_run.proofs.QueryLemmas.{only_queries}
 use Rattle.span_run.proofs.Goes.{booked_answers, booked_stops, never, once_accepted}
 
--- what came of a call on the book, as an outcome tells it
+-- the result of a call to the registry, as an outcome
 pub outcome : {T E Z : Type 0} (made : Result T E) (out : Result (Option Refusal) Z) (M C N : Type 0) (R : E → Type 0) (Says : E → Refusal → Type 0) (U : Refusal → Type 0)
     → OnOk made M → OnOk made C → IfErr made R → OnErr made N → ((e : E) (why : Refusal) → R e → Says e why → U why)
     → MatchResult out (λ refused. MatchOption refused (IsOk made) (λ why. IsErrAnd made (λ e. Says e why))) (λ _. IsErr made)
@@ -24,7 +24,7 @@ outcome (Err e) (Ok None) M C N R Says U m c r n u told = let bad : ⊥ = cc tol
 outcome (Err e) (Ok (Some why)) M C N R Says U m c r n u told = (u e why r told, n)
 outcome (Err e) (Err z) M C N R Says U m c r n u told = n
 
--- the query of the name
+-- the query with the name
 pub made_value : (old new : Named Query) (name kept : List ℕ) (q : Query) → new ≡ put old name q → kept ≡ name → value_of new kept ≡ Some q
 made_value old new name kept q is same = ap (λ (qs : Named Query). value_of qs kept) is ∙ ap (λ (n : List ℕ). value_of (put old name q) n) same ∙ value_of-put old name q
 
@@ -44,7 +44,7 @@ pair_does Tree st files new name left right m = record {
   };
 }
 
--- the query that was made, and what registering it does
+-- the query that was made, and the effect of registering it
 pub made_query : (st : State) (files : Option Files) (new : Named Query) (name : List ℕ) (r : Recipe) → IsMade st.queries r (λ q. new ≡ put st.queries name q)
     → (q : Query) × (new ≡ put st.queries name q) × Does (world st files) (command_of name r) (query_text name (names_of q)) (world (with_queries st new) files)
 made_query st files new name (recipe.Formula text) (q, of, is) = (q, is, (q, of, registered_is st files new name q is))
@@ -61,7 +61,7 @@ made_there old new name kept r made same =
     let q = made_query (record { documents = []; queries = old; versions = [] }) None new name r made in
     subst (λ (o : Option Query). IsSome o) (sym (made_value old new name kept q.0 q.1 same)) (search rules)
 
--- what kind of command it is that registers a query, and when it is refused
+-- the commands that register a query, and when they are refused
 pub kinds : (w : World) (name : List ℕ) (r : Recipe) → Registers (command_of name r) × (Compacts (command_of name r) → ⊥) × (IsOfFile (command_of name r) → ⊥) × IsAllowed w (command_of name r) no_steps
     × ((why : Refusal) → IsUnmade w.state.queries r why → IsRefused w (command_of name r) why)
 kinds w name (recipe.Formula text) = (tt, (λ no. no), (λ no. no), refl, (λ _ h. h))

@@ -1,4 +1,4 @@
--- What a replacement does.
+-- The effect of a replacement.
 use Rattle.span_run.proofs.Names.{ap, ArePartlyAt, AreSources, arith, at, Carries, Chooses, counters, covered_of, Documents, Entry, Files, Held, inl, inr}
 use Rattle.span_run.proofs.Names.{IsChosenOf, IsHeld, IsReplacing, length, List, looks_limit, min, most_spans, Named, names_of, NotOneVariable, Option}
 use Rattle.span_run.proofs.Names.{option_map, PaysFor, put, queries_of, Query, refl, refusal_text, Refused, replace_steps, replaced, ReplaceRefusal, Replaces}
@@ -29,7 +29,7 @@ module _ (st : State) (files : Option Files) (number : ℕ) (name query source b
   replace_paid looks more p r looked paired =
       (replace_steps (min (length spans) most_spans) (length text), inr (q, text, other, spans, asked, chosen, refl), record { looks = looked; pairs = paired })
 
--- what a replacement works on, seen by its texts
+-- the inputs of a replacement, as texts
 pub is_replacing : (h : Held) (files : Option Files) (query source by : List ℕ) (s : Sources) → AreSources h query source by s → (q : Query) → value_of (queries_of h.book) query ≡ Some q
     → IsReplacing (world (state_of h) files) query source by q (text_at h.store s.root) (text_at h.store s.other)
 is_replacing h files query source by s a q there = record {
@@ -39,13 +39,13 @@ is_replacing h files query source by s a q there = record {
   one = subst (λ (p : Query). length (names_of p) ≡ 1) (same_Some a.variable.query q (sym a.variable.there ∙ there)) a.variable.one;
 }
 
--- a choice, seen with the queries as they were before they were given tables
+-- a choice of spans, for the queries as they were before their tables were computed
 pub chosen_before : (old new : Named Query) (name asked text : List ℕ) (result : Result (List Span) ReplaceRefusal) (before after : ℕ) → new ≡ old → name ≡ asked
     → Chooses new name text result before after → Chooses old asked text result before after
 chosen_before old new name asked text result before after same is h =
     subst (λ (n : List ℕ). Chooses old n text result before after) is (subst (λ (qs : Named Query). Chooses qs name text result before after) same h)
 
--- the memory ran out while the spans were chosen, or for the reply
+-- an allocation failed while the spans were chosen, or for the reply
 pub choose_stops : (h : Held) (book : List Entry) (number : ℕ) (files : Option Files) (faults looks more pairs p q : ℕ) (name query source by : List ℕ) (s : Sources) (result : Result (List Span) ReplaceRefusal) → IsHeld h → Serves h.store book
     → queries_of book ≡ queries_of h.book → ArePartlyAt (length h.store) (covered_of h.book) (covered_of book) → q + sum_of (covered_of h.book) ≡ p + sum_of (covered_of book)
     → AreSources h query source by s → Chooses (queries_of book) s.query (text_at h.store s.root) result looks more
@@ -59,7 +59,7 @@ choose_stops h book number files faults looks more pairs p q name query source b
     (part_of_paid (world (state_of h) files) (form.ReplaceDoc name query source by) (counters looks pairs) (counters more pairs)
     (replace_paid (state_of h) files number name query source by chosen.of text other chosen.spans replacing chosen.chosen looks more pairs pairs chosen.cost (omega (arith, chosen.cost))))
 
--- a query has another number of variables than one
+-- a query whose number of variables is not one
 pub not_one : (w : World) (query source by text other : List ℕ) (names : List (List ℕ)) (count : ℕ) → value_of w.state.documents source ≡ Some text → value_of w.state.documents by ≡ Some other → option_map names_of (value_of w.state.queries query) ≡ Some names
     → count ≡ length names → (count ≡ 1 → ⊥)
     → (s t : List ℕ) × (q : Query) × (value_of w.state.documents source ≡ Some s) × (value_of w.state.documents by ≡ Some t) × (value_of w.state.queries query ≡ Some q) × (length (names_of q) ≡ 1 → ⊥) × (NotOneVariable count ≡ NotOneVariable (length (names_of q)))

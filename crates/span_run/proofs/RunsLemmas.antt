@@ -1,4 +1,4 @@
--- A run goes on by one line.
+-- One step of a run: a line.
 use Rattle.span_run.proofs.Names.{[], Adds, Allowance, Anywhere, ap, append-nil, append_assoc, Appends, Appends-kept, Appends-nil, Appends-trans, arith, Bool}
 use Rattle.span_run.proofs.Names.{both, both_of, Carried, Command, Counters, Ending, false, Files, Halts, IfSome, InFileLine, inl, inr, is_refused, IsDone, IsFront, IsList}
 use Rattle.span_run.proofs.Names.{IsPaid, IsStanding, IsStopped, Leaves, length, length-append, List, Means, Named, no_lines, no_steps, nodes_of, None, nothing}
@@ -10,11 +10,12 @@ use Rattle.slp_model.specs.Nodes.{pair_count}
 use Rattle.span_language.specs.declared.told.Stop.TheVariants as stop
 use Rattle.span_run.proofs.PlacesLemmas.{PlacesSoFar, places_go_on, places_few, places_few_part}
 
--- what a scene and a sink tell
+-- what is observable of a state and a sink
 abbrev pub told_of : Scene → Outlet → Outside
 told_of s out = outside out.written s.files s.looks s.pairs s.places
 
--- where a run stands: these lines are left, this is the next one's number, and what the first lines gave was written
+-- the state of a run: these lines are left, this is the next one's number, and the output of the first lines was
+-- written
 pub record IsAt (lines left : List (List ℕ)) (number : ℕ) (refused : Bool) (st : Standing) (before now : Outside) : Type 0 where
   pub done : List (List ℕ)
   pub cut : lines ≡ done ++ left
@@ -104,7 +105,7 @@ at_start lines before st is none new = record {
   grown = omega (arith, ap pair_count new);
 }
 
--- what a sink keeps back is none, also after a line that left it as it was
+-- nothing is buffered in the sink, also after a line that left it unchanged
 pub gone_still : {K : Type 0} (kept : K → ℕ) (next now : K) → next ≡ now → kept now ≡ 0 → kept next ≡ 0
 gone_still kept next now same none = ap kept same ∙ none
 
@@ -112,11 +113,11 @@ pub gone_on : {K Q : Type 0} (kept : K → ℕ) (next now : K) → (Q × (next �
 gone_on kept next now (inl same) none = gone_still kept next now same.1 none
 gone_on kept next now (inr gone) none = gone
 
--- a count that rose in the last part of a run rose in the run
+-- a count that increased in the last part of a run increased in the run
 pub rose_later : (a b c : ℕ) → a ≤ b → Rose b c → Rose a c
 rose_later a b c le rose = omega (arith, le, rose)
 
--- the bound on tables, by the nodes that there were
+-- the bound on the number of tables, by the number of nodes that ever existed
 few_of : (sum : Sum) (before after : Outside) (nodes : ℕ) → nodes ≤ 256 * (1 + sum.compactions) + (after.counters.pairs - before.counters.pairs) → after.places ≤ before.places + sum.queries * nodes → PlacesFew sum before after
 few_of sum before after nodes grown few =
     let products : sum.queries * nodes ≤ sum.queries * (256 * (1 + sum.compactions) + (after.counters.pairs - before.counters.pairs)) = mul-le-mul_left sum.queries grown in
@@ -188,19 +189,19 @@ module _ (lines left rest : List (List ℕ)) (line : List ℕ) (number : ℕ) (r
             (places_few_part at.sum.queries at.dropped old.standing new.standing before.places old.places new.places n (omega (arith, held.few)) few at.placed s.passes.placed);
       }
 
-  -- a fault of the sink may stop it anywhere
+  -- a failure of the sink may stop it anywhere
   pub stops_anywhere : IsStanding old.standing → IsStanding new.standing → IsStopped line number old sink new after stop.OutFault → Rose sink.faults after.faults × RunsFront Anywhere lines before (told_of new after)
   stops_anywhere held stands (inl (other, same, kept)) = let bad : ⊥ = cc other in absurd bad
   stops_anywhere held stands (inr (meaning, means, s)) = ((s.fault refl).1, stops Anywhere stop.OutFault meaning held stands means s s.halts tt)
 
-  -- a fault of the shelf stops a line of a file, of which nothing was written
+  -- a failure of the file store stops a line that uses files, of which nothing was written
   pub stops_in_file : IsStanding old.standing → IsStanding new.standing → IsStopped line number old sink new after stop.ShelfFault → Rose old.faults new.faults × RunsFront InFileLine lines before (told_of new after)
   stops_in_file held stands (inl (other, same, kept)) = let bad : ⊥ = cc other in absurd bad
   stops_in_file held stands (inr (meaning, means, s)) =
       let file = s.shelf_fault refl in
       (file.1, stops InFileLine stop.ShelfFault meaning held stands means s (inl file.2) (file.0, refl, ap (λ (w : World). w.files) file.2.world))
 
-  -- want of memory, where a line of the form `list` was stopped before any of it was written unless a count rose
+  -- an allocation failure: a line of the form `list` was stopped before any of it was written, unless a count increased
   pub stops_wanting : (wants : ℕ) → wants ≤ sink.wants → IsStanding old.standing → IsStanding new.standing → IsStopped line number old sink new after stop.NoMemory → RunsFront (UnlessList wants after.wants) lines before (told_of new after)
   stops_wanting wants later held stands (inl (unread, same, kept)) =
       subst (λ (s : Scene). RunsFront (UnlessList wants after.wants) lines before (told_of s after)) (sym same)

@@ -1,4 +1,4 @@
--- How a line ends: its reply was written, or a front of it, or it was stopped before.
+-- How a line ends: its reply was written, or a prefix of it, or it was stopped before.
 use Rattle.span_run.proofs.Names.{[], Allowance, Answer, Answers, ap, Appends-nil, ArePartlyAt, arith, at, Carried, Carries, Command, Compacts, counters_in}
 use Rattle.span_run.proofs.Names.{covered_of, Done, Ends, Entry, Err, Files, Goes, Held, IfErr, IfOk, inl, inr, IsAllowance, IsAnswering, IsHeld, IsList}
 use Rattle.span_run.proofs.Names.{IsOnce, IsPaid, IsRefused, IsRefusedFreely, Keeps-refl, Leaves, length, List, MatchResult, no_steps, Of, Ok, Option, Outlet}
@@ -25,7 +25,7 @@ passes_of old new command before after goes later wants_later = record {
   wants_later = wants_later;
 }
 
--- a line whose reply was written, or a front of it
+-- a line whose reply was written, or a prefix of it
 pub written_ends : (number : ℕ) (meaning : Option Command) (old new : Scene) (before after : Outlet) (told : Told) (reply : List ℕ) (r : Result Told Stop)
     → (before.faults ≤ after.faults → before.wants ≤ after.wants → Passes meaning old before new after) → new.faults ≡ old.faults → Replies meaning → Carried (world_in old) number meaning told reply (world_in new)
     → ((a : Allowance) × IsAllowance (world_in old) meaning a × IsPaid a (counters_in old) (counters_in new)) → Tallies (Of Registers meaning) (Of Compacts meaning) told old new
@@ -59,7 +59,7 @@ lists_none : (command : Command) → IsAnswering command → IsList command → 
 lists_none (form.List q n w k) answering list = answering
 lists_none _ answering list = list
 
--- an answer that was sent, or wasn't
+-- an answer that was written, or wasn't
 pub answer_ends : (old new : Site) (number : ℕ) (command : Command) (answer : Answer) (before after : Outlet) (r : Result Told Stop) → IsAnswering command → Answers old number command new answer
     → IfOk r (λ t. t ≡ answer.told) → Wrote r before answer.line.items after → Ends number (Some command) (scene old) before (scene new) after r
 answer_ends old new number command answer before after r answering a is wrote =
@@ -86,7 +86,7 @@ stays_stopped old new number command before why answering s = record {
   want = λ is. inl (lists_none command answering);
 }
 
--- a command that was stopped before it wrote anything, since there was no memory for all tables
+-- a command that was stopped before it wrote anything, since the allocation of some tables failed
 pub unplaced_stops : (h : Held) (book : List Entry) (number : ℕ) (command : Command) (files : Option Files) (faults looks pairs p q : ℕ) (before : Outlet) → IsHeld h → Serves h.store book → queries_of book ≡ queries_of h.book
     → ArePartlyAt (length h.store) (covered_of h.book) (covered_of book) → q + sum_of (covered_of h.book) ≡ p + sum_of (covered_of book)
     → Stopped number (Some command) (seen (standing_of h) files faults looks pairs p) before (seen (standing_of (record h { book = book })) files faults looks pairs q) before stop.NoMemory
@@ -101,7 +101,7 @@ unplaced_stops h book number command files faults looks pairs p q before is serv
       want = λ e. inr (inr left);
     }
 
--- ---- nothing was done to what is held
+-- ---- the session's state is unchanged
 passes_by : (meaning : Option Command) (h : Held) (files : Option Files) (faults looks pairs places : ℕ) (before after : Outlet) → IsHeld h → before.faults ≤ after.faults → before.wants ≤ after.wants
     → Passes meaning (seen (standing_of h) files faults looks pairs places) before (seen (standing_of h) files faults looks pairs places) after
 passes_by meaning h files faults looks pairs places before after is later wants_later = record {
@@ -131,7 +131,7 @@ quiet_done number h files faults looks pairs places before is = record {
   tallies = calm_tallied (Registers form.Nothing) (Compacts form.Nothing) Quiet h files faults looks pairs places refl refl;
 }
 
--- a line that only replies, and for nothing
+-- a line that only replies, at no cost
 pub still_ends : (number : ℕ) (meaning : Option Command) (h : Held) (files : Option Files) (faults looks pairs places : ℕ) (before after : Outlet) (told : Told) (reply : List ℕ) (r : Result Told Stop) → IsHeld h → Replies meaning
     → Carried (world (state_of h) files) number meaning told reply (world (state_of h) files) → IsAllowance (world (state_of h) files) meaning no_steps → IsOnce (Of Registers meaning) told 0 → IsOnce (Of Compacts meaning) told 0
     → (Of IsList meaning → ⊥) ⊎ WantsFor r before after → IfOk r (λ t. t ≡ told) → Wrote r before reply after
@@ -142,7 +142,7 @@ still_ends number meaning h files faults looks pairs places before after told re
     (no_steps, free, none_paid looks pairs pairs refl) (calm_tallied (Of Registers meaning) (Of Compacts meaning) told h files faults looks pairs places none kept)
     (elim wants [ inl other ↦ inl other | inr want ↦ inr (want, refl) ]) is_told wrote
 
--- ---- what a refused command says of the whole
+-- ---- facts about a whole line, from a refused command
 pub refused_here : (h : Held) (number : ℕ) (command : Command) (why : Refusal) (answer : Answer) (files : Option Files) (faults looks pairs places : ℕ) → IsRefusedFreely h files command why
     → answer.told ≡ Refused → answer.line.items ≡ refusal_text number why → Answers (at h files faults looks pairs places) number command (at h files faults looks pairs places) answer
 refused_here h number command why answer files faults looks pairs places is told written =
@@ -150,16 +150,16 @@ refused_here h number command why answer files faults looks pairs places is told
     refused_answers h number command answer files faults looks pairs places is.held told is.free
     (subst (λ (t : Told). Carries w number command t answer.line.items w) (sym told) (why, is.refused, written, refl))
 
--- what is refused has a reply
+-- a refused line has a reply
 pub refused_replies : (w : World) (command : Command) (why : Refusal) → IsRefused w command why → Some command ≡ Some form.Nothing → ⊥
 refused_replies w command why refused is = let same : command ≡ form.Nothing = cc is in subst (λ (c : Command). IsRefused w c why) same refused
 
--- what ends a command ends the line that it is
+-- the end of a command is the end of its line
 pub line_ends : {T E : Type 0} {P : T → Type 0} {Q : E → Type 0} (r : Result T E) (D : T → Type 0) (S : E → Type 0) → ((x : T) → P x → D x) → ((e : E) → Q e → S e) → MatchResult r P Q → IfOk r D × IfErr r S
 line_ends (Ok x) D S done stopped h = (done x h, tt)
 line_ends (Err e) D S done stopped h = (tt, stopped e h)
 
--- ---- which commands have one value as their reply
+-- ---- the commands whose reply is one value
 pub is_answering : (command : Command) → (command ≡ form.Nothing → ⊥) → (command ≡ form.Names → ⊥) → ((q n : List ℕ) (w : Option (List ℕ)) (k : ℕ) → command ≡ form.List q n w k → ⊥) → ((q : List ℕ) (k : ℕ) → command ≡ form.ListAll q k → ⊥) → IsAnswering command
 is_answering form.Nothing nothing names list all = nothing refl
 is_answering form.Names nothing names list all = names refl

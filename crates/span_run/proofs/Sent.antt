@@ -1,18 +1,18 @@
--- A line whose reply was written, and then was to go out.
+-- A line whose reply was written, and then flushed.
 use Rattle.span_run.proofs.Names.{Appends, Appends-kept, AppendsFront, arith, Carried, Carries, Command, Done, Ends, Err, HasNoFault, IfErr, IfOk, inl, inr, IsDone}
 use Rattle.span_run.proofs.Names.{IsGone, IsOfFile, IsRefused, IsStopped, Keeps, length, List, Means, Ok, Option, Outlet, Passes, Quiet, Replies, Result, Rose, Scene}
 use Rattle.span_run.proofs.Names.{Accepted, Refused, refl, Some, None, Stop, Stopped, subst, sym, take, take_all, Told, World, world_in, Wrote, ℕ, ◌∙◌, ◌≡◌, ◌≤◌, ◌⊎◌}
 use Rattle.script_syntax.specs.declared.form.Command.TheVariants as form
 use Rattle.span_language.specs.declared.told.Stop.TheVariants as stop
 
--- only a line that asks for nothing has no reply
+-- only a line without a command has no reply
 pub quiet_never : (P : Type 0) (number : ℕ) (command : Command) (old new : Scene) (before after : Outlet) (r : Result Told Stop) → (command ≡ form.Nothing → ⊥) → Ends number (Some command) old before new after r
     → IfOk r (λ told. told ≡ Quiet → P)
 quiet_never P number command old new before after (Ok told) other d =
     λ is. absurd (other (subst (λ (t : Told). Done number (Some command) old before new after t) is d).finishes.1.0)
 quiet_never P number command old new before after (Err why) other s = tt
 
--- only a line of a file is stopped by the shelf
+-- only a line that uses files is stopped by a failure of the file store
 pub shelf_never : (P : Type 0) (number : ℕ) (command : Command) (old new : Scene) (before after : Outlet) (r : Result Told Stop) → (IsOfFile command → ⊥) → Ends number (Some command) old before new after r
     → IfErr r (λ why. why ≡ stop.ShelfFault → P)
 shelf_never P number command old new before after (Ok told) other d = tt
@@ -28,7 +28,7 @@ pub refused_loud : (P : Type 0) (r : Result Told Stop) → IfOk r (λ told. told
 refused_loud P (Ok told) is = λ quiet. let bad : ⊥ = cc (is, quiet) in absurd bad
 refused_loud P (Err why) is = tt
 
--- writing a reply asks nothing of the shelf
+-- writing a reply doesn't use the file store
 pub no_shelf_wrote : (P : Type 0) (r : Result Told Stop) (before after : Outlet) (piece : List ℕ) → Wrote r before piece after → IfErr r (λ why. why ≡ stop.ShelfFault → P)
 no_shelf_wrote P (Ok told) before after piece sent = tt
 no_shelf_wrote P (Err why) before after piece cut = λ is. absurd (cut.no_shelf is)
@@ -54,7 +54,7 @@ module _ (number : ℕ) (meaning : Option Command) (old new : Scene) (before mid
       by Accepted loud h = h
       by Refused loud h = h.1
 
-  -- all of it went out
+  -- all of it was sent
   pub sent_done : HasNoFault mid after → Done number meaning old before new mid told → Done number meaning old before new after told
   sent_done sound d = record {
     passes = passes_on (omega (arith, sound.0)) (omega (arith, sound.1)) d.passes;
@@ -65,7 +65,7 @@ module _ (number : ℕ) (meaning : Option Command) (old new : Scene) (before mid
     tallies = d.tallies;
   }
 
-  -- or not
+  -- or the flush failed
   pub unsent_stopped : (why : Stop) → (told ≡ Quiet → ⊥) → mid.faults ≤ after.faults → mid.wants ≤ after.wants → (why ≡ stop.OutFault → Rose mid.faults after.faults)
       → (why ≡ stop.NoMemory → Rose mid.wants after.wants) → (why ≡ stop.ShelfFault → ⊥) → Done number meaning old before new mid told → Stopped number meaning old before new after why
   unsent_stopped why spoken later wants_later fault want shelf d =
@@ -81,7 +81,7 @@ module _ (number : ℕ) (meaning : Option Command) (old new : Scene) (before mid
         want = λ is. inr (inl (let rose = want is in omega (arith, rose, d.sink_sound.1)));
       }
 
--- what holds of a line that was written holds of it once it was sent
+-- what holds of a line after its reply was written holds after the flush
 module _ {K : Type 0} (line : List ℕ) (number : ℕ) (old new : Scene) (before mid after : Outlet) (first second third : K) (told : Told) (r : Result Told Stop)
     (same : IfOk r (λ t. t ≡ told)) (quiet : told ≡ Quiet → (r ≡ Ok Quiet) × (third ≡ second)) (kept : Keeps mid.written after.written) where
   pub line_gone : (gone : ℕ) → (told ≡ Quiet → second ≡ first) → IsGone r (told ≡ Quiet) gone → IfOk r (λ t. ((t ≡ Quiet) × (third ≡ first)) ⊎ (gone ≡ 0))

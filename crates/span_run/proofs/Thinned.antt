@@ -1,4 +1,4 @@
--- What is held when the nodes that nothing reaches are gone.
+-- The state after a compaction.
 use Rattle.span_run.proofs.Names.{[], Accepted, AllByRecursion, Answer, Answers, ap, arith, at, Bool, Carries, Compacts, covered_of, Doc, Entry, false, Files}
 use Rattle.span_run.proofs.Names.{Held, inl, inr, IsHeld, length, List, map, Named, no_steps, Node, ok_text, Option, pair_weight, Places, queries_of, refl}
 use Rattle.span_run.proofs.Names.{Registers, Serves, State, state_of, subst, suc, sum_by-cons, sum_of, sym, Told, true, world, zero, ℕ, ◌*◌, ◌+◌, ◌-◌, ◌∙◌, ◌∷◌}
@@ -15,7 +15,7 @@ use Rattle.span_run.proofs.CarryLemmas.{none_paid, not_begun}
 use Rattle.span_run.proofs.Goes.{never, once_accepted}
 use Rattle.span_run.proofs.PlacesLemmas.{none_placed_part}
 
--- of the nodes before a place no more are dropped than of all
+-- the number of dropped nodes before an index is at most that of all dropped nodes
 rank-gap : (keep : List Bool) (i n : ℕ) → i ≤ n → n ≤ length keep → i + rank keep n ≤ n + rank keep i
 rank-gap keep zero zero le long = omega arith
 rank-gap keep (suc i) zero le long = let bad : ⊥ = omega (arith, le) in absurd bad
@@ -39,7 +39,7 @@ pairs-none : pair_count [] ≡ 0
 unfolding pair_count
 pairs-none = refl
 
--- no more of the kept nodes are pairs than before
+-- the number of pairs among the kept nodes is at most the number before
 pairs-kept : (f : ℕ → ℕ) (ns : List Node) (keep : List Bool) → pair_count (map (renumbered f) (kept_of ns keep)) ≤ pair_count ns
 pairs-kept f [] keep = omega arith
 pairs-kept f (n ∷ ns) [] = omega (arith, pairs-none)
@@ -50,7 +50,7 @@ pairs-few : (ns : List Node) → pair_count ns ≤ length ns
 pairs-few [] = omega (arith, pairs-none)
 pairs-few (n ∷ ns) = omega (arith, pairs-few ns, pair-more n ns, small-weight n)
 
--- each query has the tables of its nodes that are kept, and lost no more than were dropped
+-- each query has the tables of its kept nodes, and lost at most as many as nodes were dropped
 sum-moved : (keep : List Bool) (n : ℕ) (covered : Named ℕ) → n ≤ length keep → AllByRecursion (λ p. p.1 ≤ n) covered
     → sum_of covered ≤ sum_of (ranked keep covered) + (n - rank keep n) * length covered
 sum-moved keep n [] long h = omega arith

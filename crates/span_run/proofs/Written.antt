@@ -1,10 +1,10 @@
--- What a sink holds after several writes.
+-- The contents of a sink after several writes.
 use Rattle.span_run.proofs.Names.{[], ap, append-nil, append_assoc, Appends, Appends-nil, Appends-trans, AppendsFront, arith, drop, Err, IsCut, IsErrAnd}
 use Rattle.span_run.proofs.Names.{IsSent, IsUpTo, length, List, MatchResult, min, Ok, Option, Outlet, refl, Result, Stop, subst, sym, take, take-add}
 use Rattle.span_run.proofs.Names.{take-append-add, take-append-le, take-append_seam, take_min, Wrote, ℕ, ◌++◌, ◌+◌, ◌∙◌, ◌≡◌, ◌≤◌}
 use Rattle.span_language.specs.declared.told.Stop.TheVariants as stop
 
--- what a call sent_all with that passes on another's error
+-- the contract of a call that propagates another call's error
 pub passed : {T E : Type 0} (r : Result T E) (P : T → Type 0) (Q : E → Type 0) (e : E) → IsErrAnd r (λ x. x ≡ e) → Q e → MatchResult r P Q
 passed (Ok x) P Q e h q = absurd h
 passed (Err y) P Q e h q = subst Q (sym h) q
@@ -13,7 +13,7 @@ pub more_of_piece : (a b c : Option (List ℕ)) (piece : List ℕ) (done n : ℕ
 more_of_piece a b c piece done n first second =
     subst (λ (l : List ℕ). Appends a c l) (sym (take-add done n piece)) (Appends-trans a b c (take done piece) (take n (drop done piece)) first second)
 
--- a front of a piece, behind the pieces before it, is a front of the whole
+-- a prefix of a piece, after the pieces before it, is a prefix of the whole
 front_of_whole : (a b c : Option (List ℕ)) (before piece after whole : List ℕ) → whole ≡ before ++ piece ++ after
     → Appends a b before → AppendsFront b c piece → AppendsFront a c whole
 front_of_whole a b c before piece after whole is first (n, second) =
@@ -75,6 +75,6 @@ last {T} {a} {b} {whole} r c piece line h is wrote = by r wrote
     by (Ok x) sent = sent_all (sent_on piece [] line all is sent)
     by (Err why) stopped = stops piece [] line all is stopped
 
--- a part of the whole was written up to what is left of it
+-- the whole was written except what is left
 pub part : {a b c : Outlet} {left mid whole : List ℕ} → IsUpTo a b mid whole → IsUpTo b c left mid → IsUpTo a c left whole
 part {a} {b} {c} {left} {mid} {whole} h p = sent_on p.done left p.done (subst (λ (l : List ℕ). IsUpTo a b l whole) p.cut h) refl p.sent

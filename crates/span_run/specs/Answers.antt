@@ -1,4 +1,4 @@
--- What a command does, and what it costs.
+-- The effect and the cost of a command.
 use Rattle.std.specs.Prelude.{◌≡◌, ◌⊎◌, ℕ, ◌+◌, ◌≤◌, List, Option, Result, IfErr, IfOk, length}
 use Rattle.edge_io.specs.Causes.{Rose}
 use Rattle.edge_io.specs.Files.{Files}
@@ -19,7 +19,7 @@ use Rattle.span_run.specs.Held.{IsHeld}
 use Rattle.span_run.specs.Site.{Site, at, world_at, counters_at}
 use Rattle.span_run.specs.Scene.{Tallies, scene}
 
--- what holds however a command ends: the invariant, and what was paid at most
+-- what holds however a command ends: the invariant, and the maximum cost
 pub record Goes (old : Site) (command : Command) (new : Site) : Type 0 where
   pub held : IsHeld new.held
   pub nodes : (length old.held.store ≤ length new.held.store) ⊎ Compacts command
@@ -29,7 +29,7 @@ pub record Goes (old : Site) (command : Command) (new : Site) : Type 0 where
   pub placed : PlacesPart (length old.held.store) (length new.held.store) (covered_of old.held.book) old.places new.places
   pub faults : old.faults ≤ new.faults
 
--- the command has this answer here, and leaves that site: the shelf had no fault
+-- the command has this answer in the first state, and results in the second: the file store had no failure
 pub record Answers (old : Site) (number : ℕ) (command : Command) (new : Site) (answer : Answer) : Type 0 where
   pub goes : Goes old command new
   pub sound : new.faults ≡ old.faults
@@ -37,7 +37,8 @@ pub record Answers (old : Site) (number : ℕ) (command : Command) (new : Site) 
   pub paid : PaysFor (world_at old) command (counters_at old) (counters_at new)
   pub tallies : Tallies (Registers command) (Compacts command) answer.told (scene old) (scene new)
 
--- the command was stopped for this reason: the state and the files are as before, or, where it is no command of a file, as an answer allows
+-- the command was stopped for this reason: the state and the files are unchanged, or, for a command without files, as
+-- an answer allows
 pub record Stays (old : Site) (number : ℕ) (command : Command) (new : Site) (why : Stop) : Type 0 where
   pub goes : Goes old command new
   pub world : (world_at new ≡ world_at old)
@@ -45,7 +46,7 @@ pub record Stays (old : Site) (number : ℕ) (command : Command) (new : Site) (w
   pub shelf : why ≡ stop.ShelfFault → IsOfFile command × Rose old.faults new.faults
   pub sink : why ≡ stop.OutFault → ⊥
 
--- the same of a command that needs neither files nor counters
+-- the same for a command that uses neither files nor counters
 abbrev pub AnswersFreely : Held → ℕ → Command → Held → Result Answer Stop → Type 0
 AnswersFreely old number command new result = (files : Option Files) (faults looks pairs places : ℕ)
     → IfOk result (Answers (at old files faults looks pairs places) number command (at new files faults looks pairs places))
@@ -54,7 +55,7 @@ abbrev pub StaysFreely : Held → ℕ → Command → Held → Result Answer Sto
 StaysFreely old number command new result = (files : Option Files) (faults looks pairs places : ℕ)
     → IfErr result (Stays (at old files faults looks pairs places) number command (at new files faults looks pairs places))
 
--- the command's reply is one value: only Nothing has none, and only the listings have many lines
+-- the command's reply is one value: only Nothing has none, and only the listings have several lines
 abbrev pub IsAnswering : Command → Type 0
 IsAnswering form.Nothing = ⊥
 IsAnswering form.Names = ⊥
@@ -62,7 +63,7 @@ IsAnswering (form.List query name after limit) = ⊥
 IsAnswering (form.ListAll query limit) = ⊥
 IsAnswering _ = Unit {0}
 
--- what every line of the form gives: a limit from 1 to 10,000, and a list of names
+-- what holds of every line of the form: its limit is from 1 to 10,000, and its list is a list of names
 abbrev pub IsWellFormed : Command → Type 0
 IsWellFormed (form.ListAll query limit) = (1 ≤ limit) × (limit ≤ 10000)
 IsWellFormed (form.ProjectQuery name source keep) = IsNameList keep

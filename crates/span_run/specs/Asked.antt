@@ -8,7 +8,7 @@ use Rattle.span_language.specs.Step.{IsYesOrNo}
 use Rattle.span_language.specs.declared.told.Told.{Told}
 use Rattle.span_language.specs.declared.told.Told.TheVariants.{Quiet, Accepted, Refused}
 
--- the reply says whether the fact holds of the query of this name, or that there is no such query
+-- the reply states whether the fact holds of the query with this name, or that no query has the name
 abbrev pub IsAnswered : (Query → Type 0) → ℕ → Named Query → List ℕ → Told → List ℕ → Type 0
 IsAnswered Holds number queries name Quiet reply = ⊥
 IsAnswered Holds number queries name Accepted reply = (q : Query) × (value_of queries name ≡ Some q) × IsYesOrNo (Holds q) reply

@@ -1,4 +1,4 @@
--- What a line of a meaning does to a session and to the outside.
+-- The effect of a line with a meaning on a session and on the environment.
 use Rattle.std.specs.Prelude.{◌≡◌, ◌⊎◌, ℕ, ◌+◌, ◌≤◌, List, Option}
 use Rattle.edge_io.specs.Causes.{Rose}
 use Rattle.script_syntax.specs.declared.form.Command.{Command}
@@ -12,7 +12,8 @@ use Rattle.span_language.specs.declared.told.Stop.TheVariants as stop
 use Rattle.span_run.specs.Held.{nodes_of, pairs_of}
 use Rattle.span_run.specs.Scene.{Scene, Tallies, world_in, counters_in}
 
--- a sink: what it was given, where it tells, how often it failed, and how often it found no memory
+-- a sink: the bytes written to it, if they are observable, and the numbers of its failures and of its allocation
+-- failures
 pub record Outlet : Type 0 where
   pub written : Option (List ℕ)
   pub faults : ℕ
@@ -21,7 +22,7 @@ pub record Outlet : Type 0 where
 abbrev pub outlet : Option (List ℕ) → ℕ → ℕ → Outlet
 outlet written faults wants = record { written = written; faults = faults; wants = wants }
 
--- what holds however it ends
+-- what holds however the line ends
 pub record Passes (meaning : Option Command) (old : Scene) (before : Outlet) (new : Scene) (after : Outlet) : Type 0 where
   pub more_nodes : (nodes_of old.standing ≤ nodes_of new.standing) ⊎ Of Compacts meaning
   pub more_pairs : pairs_of new.standing + old.pairs ≤ pairs_of old.standing + new.pairs
@@ -32,11 +33,11 @@ pub record Passes (meaning : Option Command) (old : Scene) (before : Outlet) (ne
   pub later : before.faults ≤ after.faults
   pub wants_later : before.wants ≤ after.wants
 
--- the sink neither failed nor found no memory
+-- the sink had neither a failure nor an allocation failure
 abbrev pub HasNoFault : Outlet → Outlet → Type 0
 HasNoFault before after = (after.faults ≡ before.faults) × (after.wants ≡ before.wants)
 
--- it was done, and told this: the shelf and the sink had no fault
+-- the line was executed with this outcome: the file store and the sink had no failure
 pub record Done (number : ℕ) (meaning : Option Command) (old : Scene) (before : Outlet) (new : Scene) (after : Outlet) (told : Told) : Type 0 where
   pub passes : Passes meaning old before new after
   pub shelf_sound : new.faults ≡ old.faults
@@ -45,7 +46,7 @@ pub record Done (number : ℕ) (meaning : Option Command) (old : Scene) (before 
   pub paid : (a : Allowance) × IsAllowance (world_in old) meaning a × IsPaid a (counters_in old) (counters_in new)
   pub tallies : Tallies (Of Registers meaning) (Of Compacts meaning) told old new
 
--- it was stopped for this reason
+-- the line was stopped for this reason
 pub record Stopped (number : ℕ) (meaning : Option Command) (old : Scene) (before : Outlet) (new : Scene) (after : Outlet) (why : Stop) : Type 0 where
   pub passes : Passes meaning old before new after
   pub halts : Halts (Carried (world_in old) number meaning) (world_in old) before.written after.written (world_in new)
@@ -53,11 +54,12 @@ pub record Stopped (number : ℕ) (meaning : Option Command) (old : Scene) (befo
   pub shelf_fault : why ≡ stop.ShelfFault → Of IsOfFile meaning × Rose old.faults new.faults × Leaves (world_in old) before.written after.written (world_in new)
   pub want : why ≡ stop.NoMemory → (Of IsList meaning → ⊥) ⊎ (Rose before.wants after.wants ⊎ Leaves (world_in old) before.written after.written (world_in new))
 
--- the line was done, by what it means, and told this
+-- the line was executed, by its meaning, with this outcome
 abbrev pub IsDone : List ℕ → ℕ → Scene → Outlet → Scene → Outlet → Told → Type 0
 IsDone line number old before new after told = (meaning : Option Command) × Means line meaning × Done number meaning old before new after told
 
--- the line was stopped for this reason: where the memory ran out while it was read nothing was touched, and else by what it means
+-- the line was stopped for this reason: if an allocation failed while it was parsed nothing changed, and otherwise by
+-- its meaning
 abbrev pub IsStopped : List ℕ → ℕ → Scene → Outlet → Scene → Outlet → Stop → Type 0
 IsStopped line number old before new after why = ((why ≡ stop.NoMemory) × (new ≡ old) × (after ≡ before))
     ⊎ ((meaning : Option Command) × Means line meaning × Stopped number meaning old before new after why)

@@ -1,4 +1,4 @@
--- How what a session shows is stored.
+-- How the model of a session is encoded.
 use Rattle.std.specs.Prelude.{◌≡◌, ◌⊎◌, ℕ, List, Option, refl}
 use Rattle.std.proofs.Common.{inl, inr}
 use Rattle.std.specs.Coded.{Coded, code_by, coded_ℕ, coded_list, coded_option, coded×, coded⊎}
@@ -26,7 +26,7 @@ node_of-parts (Pair l r) = refl
 abbrev node_code : Coded Node
 node_code = code_by (ℕ ⊎ (NodeId × NodeId)) (coded⊎ coded_ℕ (coded× id_code id_code)) parts_of node_of node_of-parts
 
--- it is stored as its four parts
+-- it is encoded as its four parts
 abbrev pub standing_code : Coded Standing
 standing_code = code_by (State × (List Node × (List (Option NodeId) × Named ℕ)))
     (coded× state_code (coded× (coded_list node_code) (coded× (coded_list (coded_option id_code)) (coded_list (coded× (coded_list coded_ℕ) coded_ℕ)))))

@@ -1,4 +1,4 @@
--- What a session holds, and what it shows of that.
+-- The state of a session, and its model.
 use Rattle.std.specs.Prelude.{ℕ, ◌++◌, ◌+◌, ◌<◌, ◌≤◌, List, length, Option}
 use Rattle.std.specs.List.{AllByRecursion}
 use Rattle.slp_model.specs.declared.NodeId.{NodeId}
@@ -12,18 +12,19 @@ use Rattle.query_book.specs.Serving.{Serves, covered_of}
 use Rattle.span_language.specs.State.{State, Named}
 use Rattle.span_run.specs.declared.held.Held.{Held}
 
--- the plain state that it stands for
+-- the plain state that it represents
 abbrev pub state_of : Held → State
 state_of h = record { documents = plain h.store h.docs; queries = queries_of h.book; versions = plain_versions h.store h.versions }
 
--- what holds of it between commands: its documents and those of its versions are in its store, and its tables are those of its nodes
+-- the invariant between commands: the roots of the documents and of the versions are in the store, and the tables are
+-- those of its nodes
 pub record IsHeld (h : Held) : Type 0 where
   pub live : AreLive h.store h.docs
   pub kept : AreKept h.store h.versions
   pub serves : Serves h.store h.book
 
--- what a session shows: its plain state, the nodes of its store, the roots of its documents and of those of its versions, and of how many
--- nodes each query has the table
+-- the model of a session: its plain state, the nodes of its store, the roots of its documents and of its versions, and
+-- for each query the number of nodes that have tables
 pub record Standing : Type 0 where
   pub state : State
   pub store : List Node
@@ -33,18 +34,18 @@ pub record Standing : Type 0 where
 abbrev pub standing_of : Held → Standing
 standing_of h = record { state = state_of h; store = h.store; roots = roots_of h.docs ++ version_roots h.versions; covered = covered_of h.book }
 
--- how many nodes there are, and how many of these are pairs
+-- the number of nodes, and the number of those that are pairs
 abbrev pub nodes_of : Standing → ℕ
 nodes_of s = length s.store
 
 abbrev pub pairs_of : Standing → ℕ
 pairs_of s = pair_count s.store
 
--- what holds of every session: beside pairs a store has at most the 256 bytes, and a table is that of a node
+-- what holds of every session: a store has at most 256 nodes that are no pairs, and each table is that of a node
 pub record IsStanding (s : Standing) : Type 0 where
   pub few : nodes_of s ≤ 256 + pairs_of s
   pub within : AllByRecursion (λ p. p.1 ≤ nodes_of s) s.covered
 
--- each node is reached from a document, or from one of a version
+-- each node is reachable from a document, or from a document of a version
 abbrev pub IsCompact : Standing → Type 0
 IsCompact s = (j : ℕ) → j < nodes_of s → AnyReaches s.store s.roots j

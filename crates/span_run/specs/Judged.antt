@@ -1,4 +1,4 @@
--- Replies to whether a tuple is an answer.
+-- Replies to the question whether a tuple is an answer.
 use Rattle.std.specs.Prelude.{◌≡◌, ◌⊎◌, ℕ, ◌+◌, ◌≤◌, List, Option, Some, None}
 use Rattle.span_types.specs.Query.{Query}
 use Rattle.span_types.specs.Rel.{names_of}
@@ -17,13 +17,14 @@ use Rattle.span_run.specs.declared.words.Unread.{Unread}
 use Rattle.span_language.specs.declared.told.Told.{Told}
 use Rattle.span_language.specs.declared.told.Told.TheVariants.{Quiet, Accepted, Refused}
 
--- the reply says whether the word is an answer of the query of this name on the text, or why it is no tuple of its variables
+-- the reply states whether the word is an answer of the query with this name on the text, or why it is no tuple of the
+-- query's variables
 abbrev pub IsJudged : ℕ → Named Query → List ℕ → List ℕ → List ℕ → Told → List ℕ → Type 0
 IsJudged number queries name word text Quiet reply = ⊥
 IsJudged number queries name word text Accepted reply = (tuple : Tuple) × (q : Query) × (value_of queries name ≡ Some q) × TupleText word (names_of q) tuple × IsYesOrNo (IsAnswer q text tuple) reply
 IsJudged number queries name word text Refused reply = (unread : Unread) × (why : Refusal) × IsUnread queries name word unread × IsWordRefusal name unread why × (reply ≡ refusal_text number why)
 
--- the looks for a word: none where it is no tuple of the query's variables, else at most those for one answer
+-- the table lookups for a word: none if it is no tuple of the query's variables, otherwise at most those for one answer
 abbrev pub IsWordPaid : Named Query → List ℕ → List ℕ → List ℕ → ℕ → ℕ → Type 0
 IsWordPaid queries name word text before after = ((unread : Unread) × IsUnread queries name word unread × (after ≡ before))
     ⊎ ((tuple : Tuple) × IsTupleOf queries name word tuple × (after ≤ before + most_looks (value_of queries name) text))
@@ -38,7 +39,7 @@ abbrev pub IsReplied : ℕ → Named Query → List ℕ → Option (List ℕ) �
 IsReplied number queries query None text told reply = IsAnswered (λ q. HasAnswer q text) number queries query told reply
 IsReplied number queries query (Some word) text told reply = IsJudged number queries query word text told reply
 
--- and its looks
+-- and its table lookups
 abbrev pub IsReplyPaid : Named Query → List ℕ → Option (List ℕ) → List ℕ → ℕ → ℕ → Type 0
 IsReplyPaid queries query None text before after = after ≤ before + most_looks (value_of queries query) text
 IsReplyPaid queries query (Some word) text before after = IsWordPaid queries query word text before after

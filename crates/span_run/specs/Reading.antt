@@ -10,18 +10,18 @@ use Rattle.span_language.specs.Allowance.{load_limit}
 use Rattle.span_run.specs.declared.reading.FileRefusal.{FileRefusal}
 use Rattle.span_run.specs.declared.reading.FileRefusal.TheVariants.{Absent, Denied, TooLong, Failed, NoMemory}
 
--- at most so many bytes are taken from what is left
+-- at most this many bytes are taken from what is left
 abbrev pub TakesAtMost : ℕ → Option (List ℕ) → Option (List ℕ) → Type 0
 TakesAtMost n old new = (taken : List ℕ) × Consumes old new taken × (length taken ≤ n)
 
--- a shelf's refusal, as the reader of a file gives it
+-- a refusal of the file store, as the reader of a file returns it
 abbrev pub of_shelf : ShelfRefusal → FileRefusal
 of_shelf shelf.Failed = Failed
 of_shelf shelf.NoMemory = NoMemory
 of_shelf shelf.Absent = Absent
 of_shelf shelf.Denied = Denied
 
--- what a refusal of a file says
+-- what the refusal of a file means
 abbrev pub IsTurnedAway : Option Files → List ℕ → ℕ → FileRefusal → Type 0
 IsTurnedAway files name limit Absent = LacksFile files name
 IsTurnedAway files name limit Denied = DeniesReads files name
@@ -29,17 +29,18 @@ IsTurnedAway files name limit TooLong = IsOversized files name limit
 IsTurnedAway files name limit Failed = Unit {0}
 IsTurnedAway files name limit NoMemory = Unit {0}
 
--- the refusal is of the file itself, neither a fault nor want of memory
+-- the refusal is about the file itself: it is neither a failure of the file store nor of an allocation
 abbrev pub IsOfTheFile : FileRefusal → Type 0
 IsOfTheFile Failed = ⊥
 IsOfTheFile NoMemory = ⊥
 IsOfTheFile _ = Unit {0}
 
--- the shelf's count of faults stood, but where the file was not read for a fault or want of memory
+-- the file store's count of failures is unchanged, unless the file was not read because of a failure or an allocation
+-- failure
 abbrev pub IsSound : {T : Type 0} → Result T FileRefusal → ℕ → ℕ → Type 0
 IsSound result before after = MatchResult result (λ _. after ≡ before) (λ why. IsOfTheFile why → after ≡ before)
 
--- the file of this name is open for reading, has at most so many bytes, and begins with these
+-- the file with this name may be read, has at most this many bytes, and begins with these
 pub record IsFrontOf (all : Files) (name : List ℕ) (limit : ℕ) (front : List ℕ) : Type 0 where
   pub file : List ℕ
   pub there : file_of all name ≡ Some file
@@ -47,21 +48,22 @@ pub record IsFrontOf (all : Files) (name : List ℕ) (limit : ℕ) (front : List
   pub short : length file ≤ limit
   pub begins : front ≡ take (length front) file
 
--- where the files are told
+-- if the files are observable
 abbrev pub IsFileFront : Option Files → List ℕ → ℕ → List ℕ → Type 0
 IsFileFront files name limit front = IfSome files (λ all. IsFrontOf all name limit front)
 
--- the file, which is within the limit of `open`, means as an image what these bytes mean
+-- the file, which is within the limit of `open`, has the same meaning as an image as these bytes
 pub record MeansFile (files : Option Files) (name bytes : List ℕ) : Type 0 where
   pub all : List ℕ
   pub within : IsWithin files name open_size all
   pub same : image all ≡ image bytes
 
--- what was read of a file behind a front of so many bytes: the file begins with both, and where nothing was read the front is all of it
+-- what was read of a file after a prefix of this length: the file begins with both, and if nothing was read the prefix
+-- is the whole file
 abbrev pub IsNextPiece : Option Files → List ℕ → ℕ → ℕ → List ℕ → Type 0
 IsNextPiece files name limit at piece = (front : List ℕ) → length front ≡ at → IsFileFront files name limit front
     → IsFileFront files name limit (front ++ piece) × (length piece ≡ 0 → IsWithin files name limit front)
 
--- the pair calls of loading a file: none, or at most those that its bytes may cost
+-- the node constructions of loading a file: none, or at most the maximum for its length
 abbrev pub IsLoadPaid : Option Files → List ℕ → ℕ → ℕ → Type 0
 IsLoadPaid files name before after = (after ≡ before) ⊎ ((bytes : List ℕ) × IsWithin files name load_size bytes × (after ≤ before + load_limit (length bytes)))

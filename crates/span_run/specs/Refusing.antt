@@ -1,4 +1,4 @@
--- What a refused command does: it replies, and nothing else.
+-- The effect of a refused command: its reply, and nothing else.
 use Rattle.std.specs.Prelude.{◌≡◌, ℕ, Option, Some, Result, IfOk}
 use Rattle.edge_io.specs.Files.{Files}
 use Rattle.script_syntax.specs.declared.form.Command.{Command}
@@ -17,23 +17,23 @@ use Rattle.span_run.specs.Scene.{seen}
 use Rattle.span_run.specs.Site.{at}
 use Rattle.span_run.specs.Written.{Ends}
 
--- the command is refused for this reason, and that may cost nothing
+-- the command is refused for this reason, at no cost
 pub record IsRefusedFreely (h : Held) (files : Option Files) (command : Command) (why : Refusal) : Type 0 where
   pub held : IsHeld h
   pub refused : IsRefused (world (state_of h) files) command why
   pub free : IsAllowed (world (state_of h) files) command no_steps
 
--- the answer to a command that is refused for this reason, where what is held is as before
+-- the answer to a command that is refused for this reason, in an unchanged session
 abbrev pub RefusesFreely : Held → ℕ → Refusal → Result Answer Stop → Type 0
 RefusesFreely held number why result = (old : Held) (command : Command) (files : Option Files) (faults looks pairs places : ℕ)
     → IsRefusedFreely old files command why → held ≡ old
     → IfOk result (Answers (at old files faults looks pairs places) number command (at held files faults looks pairs places))
 
--- or there was no memory for it
+-- or its allocation failed
 abbrev pub KeepsFreely : Held → ℕ → Result Answer Stop → Type 0
 KeepsFreely held number result = (old : Held) (command : Command) → IsHeld old → held ≡ old → StaysFreely old number command held result
 
--- the answer was written, or not the whole of it
+-- the answer was written, completely or in part
 abbrev pub TurnsAway : Held → ℕ → Refusal → Outlet → Outlet → Result Told Stop → Type 0
 TurnsAway held number why before after result = (command : Command) (files : Option Files) (faults looks pairs places : ℕ) → IsRefusedFreely held files command why
     → Ends number (Some command) (seen (standing_of held) files faults looks pairs places) before (seen (standing_of held) files faults looks pairs places) after result

@@ -1,4 +1,4 @@
--- What queries are made of, by the commands that register them.
+-- How queries are made by the commands that register them.
 use Rattle.std.specs.Prelude.{◌≡◌, ℕ, List, MatchOption, MatchResult, Option, Result}
 use Rattle.line_parts.specs.NameList.{IsNameList}
 use Rattle.query_book.specs.Answers.{IsNamed}
@@ -24,7 +24,7 @@ command_of name (recipe.Union left right) = form.UnionQuery name left right
 command_of name (recipe.Join left right) = form.JoinQuery name left right
 command_of name (recipe.Project source keep) = form.ProjectQuery name source keep
 
--- what is kept of a query is a list of names
+-- the variables that a projection keeps are a list of names
 abbrev pub KeepsNames : Recipe → Type 0
 KeepsNames (recipe.Project source keep) = IsNameList keep
 KeepsNames _ = Unit {0}
@@ -47,6 +47,6 @@ IsUnmade queries (recipe.Project source keep) why = IsUncombined (IsProjectRefus
 abbrev pub IsMadeIn : List Entry → List ℕ → Recipe → List Entry → Type 0
 IsMadeIn old name recipe new = IsMade (queries_of old) recipe (λ q. queries_of new ≡ put (queries_of old) name q) × (covered_of new ≡ put (covered_of old) name 0)
 
--- the query is registered, or the refusal is told, or there was no memory
+-- the query is registered, or the refusal is returned, or an allocation failed
 abbrev pub IsOutcome : List Entry → List ℕ → Recipe → List Entry → Result (Option Refusal) NoMemory → Type 0
 IsOutcome old name recipe new result = MatchResult result (λ refused. MatchOption refused (IsMadeIn old name recipe new) (λ why. IsUnmade (queries_of old) recipe why × (new ≡ old))) (λ _. new ≡ old)

@@ -1,4 +1,4 @@
--- A site as callers of a session see it.
+-- A state between commands, as callers of a session see it.
 use Rattle.std.specs.Prelude.{◌≡◌, ℕ, Bool, List, ◌+◌, ◌*◌, ◌≤◌, Option}
 use Rattle.edge_io.specs.Files.{Files}
 use Rattle.slp_model.specs.Thin.{IsThinOf}
@@ -10,7 +10,8 @@ use Rattle.span_language.specs.declared.told.Told.{Told}
 use Rattle.span_run.specs.Held.{IsCompact, Standing, nodes_of, pairs_of, standing_of}
 use Rattle.span_run.specs.Site.{Site}
 
--- what the session shows, the files where they are told, how often the shelf failed, and the counters
+-- the model of the session, the files if they are observable, the number of failures of the file store, and the
+-- counters
 pub record Scene : Type 0 where
   pub standing : Standing
   pub files : Option Files
@@ -32,15 +33,15 @@ world_in s = world s.standing.state s.files
 abbrev pub counters_in : Scene → Counters
 counters_in s = counters s.looks s.pairs
 
--- the store has the nodes that are kept, and of these each query has the tables that it had
+-- the store has the kept nodes, and each query has the tables that it had for these
 pub record KeepsTables (old new : Standing) : Type 0 where
   pub keep : List Bool
   pub thin : IsThinOf old.store keep new.store
   pub covered : new.covered ≡ ranked keep old.covered
 
--- what a line says of nodes, pairs and tables, where such a line may register a query, or compact: only an accepted line that compacts
--- drops nodes, and beside pairs no more than the 256 bytes; then each node that is left is reached from a document or a version, and no table
--- of one is lost
+-- the effect of a line on nodes, pairs and tables, if it may register a query or compact. Only an accepted line that
+-- compacts drops nodes, and apart from pairs it drops at most the 256 bytes. Each node that is left is then reachable
+-- from a document or a version, and keeps its tables.
 pub record Tallies (registers compacts : Type 0) (told : Told) (old new : Scene) : Type 0 where
   pub queries : ℕ
   pub registered : IsOnce registers told queries

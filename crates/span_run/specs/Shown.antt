@@ -1,4 +1,4 @@
--- Replies about texts: to a text that was given a name, to an expression, and to a range that was asked for.
+-- Replies about texts: after an assignment to a name, for an expression, and for a range.
 use Rattle.std.specs.Prelude.{◌≡◌, ℕ, List, length, Some, Result, Ok, Err}
 use Rattle.edit_expr.specs.Eval.{Outcome}
 use Rattle.edit_expr.specs.declared.refusal.EditRefusal.{EditRefusal}
@@ -20,15 +20,15 @@ use Rattle.span_language.specs.Replies.{given_text, IsEditRefusal}
 use Rattle.span_language.specs.declared.told.Told.{Told}
 use Rattle.span_language.specs.declared.told.Told.TheVariants.{Accepted, Refused}
 
--- the reply tells the name and the text
+-- the reply has the name and describes the text
 abbrev pub IsGiven : List ℕ → List ℕ → Told → List ℕ → Type 0
 IsGiven name text told reply = (told ≡ Accepted) × (reply ≡ given_text name text)
 
--- the reply gives the refusal of an expression
+-- the reply is the refusal of an expression
 abbrev pub IsDenied : ℕ → EditRefusal → Told → List ℕ → Type 0
 IsDenied number refusal told reply = (told ≡ Refused) × (why : Refusal) × IsEditRefusal refusal why × (reply ≡ refusal_text number why)
 
--- the reply gives the refusal of a file
+-- the reply is the refusal of a file
 abbrev pub IsFileDenied : ℕ → List ℕ → FileRefusal → Told → List ℕ → Type 0
 IsFileDenied number file Absent told reply = (told ≡ Refused) × (reply ≡ refusal_text number (NoSuchFile file))
 IsFileDenied number file Denied told reply = (told ≡ Refused) × (reply ≡ refusal_text number (CannotRead file))
@@ -36,22 +36,22 @@ IsFileDenied number file TooLong told reply = (told ≡ Refused) × (reply ≡ r
 IsFileDenied number file Failed told reply = ⊥
 IsFileDenied number file NoMemory told reply = ⊥
 
--- the document has the value of an expression, or the reply gives its refusal
+-- the document has the value of an expression, or the reply is its refusal
 abbrev pub Assigns : Documents → ℕ → List ℕ → Outcome → Told → List ℕ → Documents → Type 0
 Assigns old number name (Ok text) told reply new = IsGiven name text told reply × (new ≡ put old name text)
 Assigns old number name (Err refusal) told reply new = IsDenied number refusal told reply × (new ≡ old)
 
--- the reply shows the bytes, or gives the refusal
+-- the reply has the bytes, or is the refusal
 abbrev pub IsShown : ℕ → Result (List ℕ) Refusal → Told → List ℕ → Type 0
 IsShown number (Ok bytes) told reply = (told ≡ Accepted) × (reply ≡ shown_text bytes)
 IsShown number (Err why) told reply = (told ≡ Refused) × (reply ≡ refusal_text number why)
 
--- the documents are those of an image, or the reply gives its fault
+-- the documents are those of an image, or the reply has its fault
 abbrev pub Opens : Documents → ℕ → Result Meaning ImageRefusal → Told → List ℕ → Documents → Type 0
 Opens old number (Ok m) told reply new = (told ≡ Accepted) × (reply ≡ opened_text (length m.documents)) × (new ≡ m.documents)
 Opens old number (Err why) told reply new = (told ≡ Refused) × (kind : ℕ) × (kind_of why ≡ Some kind) × (reply ≡ refusal_text number (BadImage kind)) × (new ≡ old)
 
--- the refusal of a formula's text, as a reply has it
+-- the reply's refusal for a formula's text
 abbrev pub IsFormulaRefusal : FormulaRefusal → Refusal → Type 0
 IsFormulaRefusal (formula.TooLong len) why = why ≡ refusal.FormulaTooLong len
 IsFormulaRefusal formula.BadText why = why ≡ refusal.BadFormula
@@ -61,7 +61,7 @@ IsFormulaRefusal formula.TooManyVariables why = why ≡ refusal.TooManyVariables
 IsFormulaRefusal (formula.NotFunctional name) why = why ≡ refusal.NotFunctional name
 IsFormulaRefusal formula.NoMemory why = ⊥
 
--- and of a query's text
+-- and for a query's text
 abbrev pub IsTextRefusal : QueryRefusal → Refusal → Type 0
 IsTextRefusal (query.Formula f) why = IsFormulaRefusal f why
 IsTextRefusal query.TooManyStates why = why ≡ refusal.TooManyStates

@@ -1,4 +1,4 @@
--- Where a run stands between commands.
+-- The state of a run between commands.
 use Rattle.std.specs.Prelude.{ℕ, Option}
 use Rattle.edge_io.specs.Files.{Files}
 use Rattle.span_language.specs.State.{World, world}
@@ -6,7 +6,8 @@ use Rattle.span_language.specs.Allowance.{Counters, counters}
 use Rattle.span_run.specs.declared.held.Held.{Held}
 use Rattle.span_run.specs.Held.{state_of}
 
--- what is held, the files where they are told, how often the shelf failed, and the counters of looks, pair calls and tables placed
+-- the session's state, the files if they are observable, the number of failures of the file store, and the counters of
+-- table lookups, node constructions and computed tables
 pub record Site : Type 0 where
   pub held : Held
   pub files : Option Files

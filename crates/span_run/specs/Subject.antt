@@ -1,4 +1,4 @@
--- What queries are asked on.
+-- The text that a query is evaluated on.
 use Rattle.std.specs.Prelude.{List, Option}
 use Rattle.slp_model.specs.declared.NodeId.{NodeId}
 use Rattle.slp_model.specs.declared.Node.{Node}
@@ -6,7 +6,7 @@ use Rattle.slp_model.specs.Nodes.{IsLive}
 use Rattle.query_book.specs.declared.entry.Entry.{Entry}
 use Rattle.query_book.specs.Serving.{Covers}
 
--- the root is none or a node of the store, and each query has the tables of all nodes of the store
+-- the root is `None` or a node of the store, and each query has the tables of all nodes of the store
 pub record IsSubject (ns : List Node) (es : List Entry) (root : Option NodeId) : Type 0 where
   pub covers : Covers ns es
   pub live : IsLive ns root

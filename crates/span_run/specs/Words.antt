@@ -11,30 +11,30 @@ use Rattle.span_language.specs.State.{Named, value_of}
 use Rattle.span_run.specs.declared.words.Unread.{Unread}
 use Rattle.span_run.specs.declared.words.Unread.TheVariants as unread
 
--- the word is the tuple, of the variables of the query of this name
+-- the word is the tuple, of the variables of the query with this name
 pub record IsTupleOf (queries : Named Query) (name word : List ℕ) (tuple : Tuple) : Type 0 where
   pub query : Query
   pub there : value_of queries name ≡ Some query
   pub text : TupleText word (names_of query) tuple
 
--- the first reason why the word isn't a tuple of the variables of the query of this name
+-- the first reason why the word isn't a tuple of the variables of the query with this name
 abbrev pub IsUnread : Named Query → List ℕ → List ℕ → Unread → Type 0
 IsUnread queries name word unread.NoSuchQuery = value_of queries name ≡ None
 IsUnread queries name word unread.BadTuple = (q : Query) × (value_of queries name ≡ Some q) × (IsTupleText word → ⊥)
 IsUnread queries name word unread.OtherVariables = (q : Query) × (value_of queries name ≡ Some q) × HasOtherNames word (names_of q)
 
--- the word gives the cursor, for the query of this name
+-- the word is the cursor, for the query with this name
 pub record IsCursorFor (queries : Named Query) (name : List ℕ) (word : Option (List ℕ)) (cursor : Option Tuple) : Type 0 where
   pub query : Query
   pub there : value_of queries name ≡ Some query
   pub gives : IsCursorOf query word cursor
 
--- the first reason why it gives none
+-- the first reason why it is none
 abbrev pub IsUnreadCursor : Named Query → List ℕ → Option (List ℕ) → Unread → Type 0
 IsUnreadCursor queries name None why = (why ≡ unread.NoSuchQuery) × (value_of queries name ≡ None)
 IsUnreadCursor queries name (Some word) why = IsUnread queries name word why
 
--- the refusal of a word, as a reply has it
+-- the reply's refusal for a word
 abbrev pub IsWordRefusal : List ℕ → Unread → Refusal → Type 0
 IsWordRefusal name unread.NoSuchQuery why = why ≡ NoSuchQuery name
 IsWordRefusal name unread.BadTuple why = why ≡ BadTuple

@@ -1,4 +1,4 @@
-//! Replies of one line as values.
+//! Replies as values.
 ghost use Rattle.std.specs.Prelude.{◌≡◌, IfOk};
 ghost use Rattle.report_text.specs.Reply.{refusal_text};
 ghost use Rattle.span_language.specs.Replies.{ok_text};
@@ -8,7 +8,7 @@ use span_language::Told;
 use span_types::NoMemory;
 use std::alloc::Global;
 
-/// What came of a line, and its whole reply.
+/// The outcome of a line, and its whole reply.
 #[derive(Drop)]
 pub struct Answer {
     pub told: Told,

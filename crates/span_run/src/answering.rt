@@ -1,4 +1,4 @@
-//! One match over the commands whose reply is one value.
+//! Dispatch of the commands whose reply is one value.
 ghost use Rattle.std.specs.Prelude.{IfOk, IfErr};
 ghost use Rattle.span_language.specs.Step.{IsShort};
 ghost use Rattle.span_run.specs.Held.{IsHeld};
@@ -23,7 +23,7 @@ use std::sync::ledger::Ledger;
 use std::thread::Threads;
 use work_gate::Gate;
 
-/// Does a command that needs no sink, and answers with its whole reply.
+/// Executes a command that needs no sink, and returns its whole reply.
 pub fn answer<R: Threads + Sync, F: Shelf, G: Gate, P: Ledger, T: Ledger, L: Ledger>(
     context: Context<'_, R, G>,
     held: &mut Held,

@@ -1,4 +1,4 @@
-//! What a line does to what is held, and to the outside.
+//! Execution of a line: its effect on the session and on the environment.
 ghost use Rattle.std.specs.Prelude.{◌≡◌, ◌⊎◌, ℕ, Option, Some, IfOk, IfErr};
 ghost use Rattle.edge_io.specs.Files.{Files};
 ghost use Rattle.script_syntax.specs.declared.form.Command.TheVariants as form;
@@ -25,7 +25,7 @@ use std::sync::ledger::Ledger;
 use std::thread::Threads;
 use work_gate::Gate;
 
-/// Does a command whose reply is one value, and writes it.
+/// Executes a command whose reply is one value, and writes the reply.
 fn reply<R: Threads + Sync, K: Sink, F: Shelf, G: Gate, P: Ledger, T: Ledger, L: Ledger>(
     context: Context<'_, R, G>,
     held: &mut Held,
@@ -52,7 +52,7 @@ fn reply<R: Threads + Sync, K: Sink, F: Shelf, G: Gate, P: Ledger, T: Ledger, L:
     send(answer, out)
 }
 
-/// `names`: each document's line is offered before the next is made.
+/// `names`: writes each document's line before the next one is made.
 fn names<K: Sink>(held: &mut Held, out: &mut K) -> Result<Told, Stop>
     requires { IsHeld held.old }
     ensures held { IsHeld held.new }
@@ -65,7 +65,7 @@ fn names<K: Sink>(held: &mut Held, out: &mut K) -> Result<Told, Stop>
     write_names(held.alloc, &held.store, &held.docs, out)
 }
 
-/// Does a command, and writes its reply.
+/// Executes a command, and writes its reply.
 fn carry<R: Threads + Sync, K: Sink, F: Shelf, G: Gate, P: Ledger, T: Ledger, L: Ledger>(
     context: Context<'_, R, G>,
     held: &mut Held,
@@ -117,7 +117,7 @@ fn carry<R: Threads + Sync, K: Sink, F: Shelf, G: Gate, P: Ledger, T: Ledger, L:
     }
 }
 
-/// Does a line, and writes its reply, of which the sink may keep back some.
+/// Executes a line, and writes its reply. The sink may buffer some of it.
 fn write_line<R: Threads + Sync, K: Sink, F: Shelf, G: Gate, P: Ledger, T: Ledger, L: Ledger>(
     context: Context<'_, R, G>,
     held: &mut Held,
@@ -152,7 +152,7 @@ fn write_line<R: Threads + Sync, K: Sink, F: Shelf, G: Gate, P: Ledger, T: Ledge
     }
 }
 
-/// Does a line, and sends its reply: all that was written has then gone out.
+/// Executes a line, writes its reply, and flushes the sink: everything written has then been sent.
 pub fn carry_line<R: Threads + Sync, K: Sink, F: Shelf, G: Gate, P: Ledger, T: Ledger, L: Ledger>(
     context: Context<'_, R, G>,
     held: &mut Held,

@@ -1,4 +1,4 @@
-//! Compaction, and its reply.
+//! The command `compact`.
 ghost use Rattle.script_syntax.specs.declared.form.Command.TheVariants as form;
 ghost use Rattle.span_run.specs.Answers.{AnswersFreely, StaysFreely};
 ghost use Rattle.span_run.specs.Held.{IsHeld};
@@ -14,7 +14,7 @@ pub fn compact(held: &mut Held, number: u64) -> Result<Answer, Stop>
     ensures stopped { StaysFreely held.old number form.Compact held.new result }
 {
     let line = ok_line(held.alloc)?;
-    // The store's own fact: beside its pairs it has at most the 256 bytes.
+    // States a property of the store: apart from pairs it has at most 256 nodes, one for each byte.
     let _ = held.store.count();
     let moves = doc_compact::compact(
         held.alloc,

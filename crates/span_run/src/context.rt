@@ -1,12 +1,12 @@
-//! What commands are lent beside what a session holds.
+//! What commands use apart from the session's state.
 ghost use Rattle.std.specs.Prelude.{◌≤◌};
 
 use std::alloc::AllocError;
 use std::thread::Threads;
 use work_gate::Gate;
 
-/// What a caller lends: the runtime whose threads compute tables, in at most so many pieces at once, and the gate that each
-/// piece passes.
+/// What the caller provides: the runtime whose threads compute tables, the maximum number of pieces that run at once,
+/// and the gate that each piece passes.
 pub struct Lent<'a, R: Threads + Sync, G: Gate> {
     pub rt: &'a R,
     pub workers: u8,
@@ -23,7 +23,7 @@ impl<'a, R: Threads + Sync, G: Gate> Clone for Lent<'a, R, G> {
 
 impl<'a, R: Threads + Sync, G: Gate> Copy for Lent<'a, R, G> {}
 
-/// What a line is done with: what the caller lends, and the line's number.
+/// The context of a line: what the caller provides, and the line's number.
 pub struct Context<'a, R: Threads + Sync, G: Gate> {
     pub lent: Lent<'a, R, G>,
     pub number: u64,

@@ -1,4 +1,4 @@
-//! What commands do to documents, and their replies.
+//! The commands on documents.
 ghost use Rattle.std.specs.Prelude.{◌≡◌, ◌≤◌, ◌+◌, ◌^◌, length, IfOk, IfErr, OnErr, Option, ℕ};
 ghost use Rattle.slp_model.specs.Nodes.{Grows, IsLive};
 ghost use Rattle.edge_io.specs.Files.{Files};
@@ -32,10 +32,10 @@ use span_types::{ByteList, Name, NoMemory, Steps};
 use std::alloc::Global;
 use std::sync::ledger::Ledger;
 
-/// The most bytes that `show` shows.
+/// The maximum number of bytes that `show` writes.
 const MAX_WIDTH: u64 = 4096;
 
-/// The reply that tells a text's length and head.
+/// The reply with a document's name, and the length and first bytes of its text.
 fn given_line(
     alloc: Global,
     store: &Store,
@@ -52,7 +52,7 @@ fn given_line(
     Ok(Answer::accepted(line))
 }
 
-/// Gives the name this root.
+/// Sets the root of the document with this name.
 pub fn give(
     alloc: Global,
     store: &Store,
@@ -95,7 +95,7 @@ pub fn text<P: Ledger>(
     Ok(answer)
 }
 
-/// The reply to a refused expression.
+/// The reply to an expression whose evaluation failed.
 fn denied(alloc: Global, number: u64, why: EditRefusal) -> Result<Answer, NoMemory>
     ensures { IfOk result (λ answer. IsDenied number why answer.told answer.line.items) }
 {
@@ -109,7 +109,7 @@ fn denied(alloc: Global, number: u64, why: EditRefusal) -> Result<Answer, NoMemo
     Ok(answer)
 }
 
-/// Gives the name the value of an expression.
+/// Sets the document with this name to the value of an expression.
 fn assign<P: Ledger>(
     alloc: Global,
     store: &mut Store,
@@ -186,7 +186,7 @@ pub fn drop_document(held: &mut Held, number: u64, name: Name) -> Result<Answer,
     }
 }
 
-/// The reply that shows bytes i to j-1 of a text, or refuses to.
+/// The reply with bytes i to j-1 of a text, or the refusal.
 fn show_range(
     alloc: Global,
     store: &Store,
@@ -250,7 +250,7 @@ fn entry_line(
     Ok(line)
 }
 
-/// `names`: each document's line is offered before the next is made.
+/// `names`: writes each document's line before the next one is made.
 pub fn write_names<K: Sink>(
     alloc: Global,
     store: &Store,

@@ -1,4 +1,5 @@
-//! The answers of a query on every document are listed, in batches: a batch's lines are written before the next one is found.
+//! The command `listall`: lists the answers of a query on every document. Documents are processed in batches, and a
+//! batch's lines are written before the next batch is computed.
 ghost use Rattle.std.specs.Prelude.{◌≡◌, ◌≤◌, ◌+◌, ◌++◌, ℕ, List, Option, Some, None, true, false, length, slice_get, OnOk, IfOk, IfErr};
 ghost use Rattle.std.specs.List.{flat_map};
 ghost use Rattle.edge_io.specs.Files.{Files};
@@ -36,7 +37,7 @@ use std::sync::ledger::Ledger;
 use std::thread::Threads;
 use work_gate::Gate;
 
-/// Of how many documents the pages are found before their lines are written.
+/// The number of documents in a batch.
 const BATCH: usize = 64;
 
 /// Whether a query has this name.
@@ -50,7 +51,7 @@ fn has_query(book: &QueryBook, query: &Name) -> bool
     }
 }
 
-/// Looks at each text's length: none is longer than the automata speak of.
+/// Reads each text's length. No text is longer than the 2^48 bytes for which the automata are specified.
 fn check_lengths(store: &Store, docs: &Docs)
     requires { AreLive store.now docs.now }
     ensures { AreShort store.now docs.now }
@@ -109,8 +110,8 @@ fn write_document<K: Sink>(
     offer(out, last_of(more))
 }
 
-/// What is listed on every document: the answers of a query with these variables, by its automaton and the tables of all nodes,
-/// and at most so many of each document.
+/// The parameters of a listing on every document: the query's automaton with the tables of all nodes, its variables,
+/// the documents, and the maximum number of answers for each document.
 #[derive(Clone, Copy)]
 struct Survey<'a> {
     alloc: Global,
@@ -121,7 +122,7 @@ struct Survey<'a> {
     limit: u16,
 }
 
-/// Finds the pages of the documents at the places from `first` on, and writes their lines.
+/// Finds the pages of `count` documents from index `first` on, and writes their lines.
 fn list_batch<R: Threads + Sync, K: Sink, G: Gate>(
     context: Context<'_, R, G>,
     survey: Survey<'_>,
@@ -168,7 +169,7 @@ fn list_batch<R: Threads + Sync, K: Sink, G: Gate>(
     Ok(())
 }
 
-/// Writes each document's line and its page, and last `done`.
+/// Writes each document's line and its page, and finally the line `done`.
 fn list_documents<R: Threads + Sync, K: Sink, G: Gate>(
     context: Context<'_, R, G>,
     survey: Survey<'_>,
@@ -191,7 +192,7 @@ fn list_documents<R: Threads + Sync, K: Sink, G: Gate>(
     close(out, b"done\n")
 }
 
-/// Writes the pages of the query of this name on every document.
+/// Writes the pages of the query with this name on every document.
 fn list_query<R: Threads + Sync, K: Sink, G: Gate>(
     context: Context<'_, R, G>,
     alloc: Global,
@@ -232,7 +233,7 @@ fn list_query<R: Threads + Sync, K: Sink, G: Gate>(
     }
 }
 
-/// `listall Q`, and then perhaps `limit NUM`, which is 1 to 10,000. The looks for the pages are not counted.
+/// `listall Q`, optionally with `limit NUM`, which is 1 to 10,000. Its table lookups are not counted.
 pub fn list_all<R: Threads + Sync, K: Sink, G: Gate, T: Ledger>(
     context: Context<'_, R, G>,
     held: &mut Held,

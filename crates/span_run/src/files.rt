@@ -1,4 +1,4 @@
-//! What commands do with files, and their replies.
+//! The commands on files.
 ghost use Rattle.std.specs.Prelude.{◌≡◌, ◌<◌, ◌≤◌, ◌+◌, ◌++◌, [], true, length, take, IfOk, IfErr, List, OnOk, OnErr, Some, ℕ};
 ghost use Rattle.slp_model.specs.Nodes.{Grows, IsLive};
 ghost use Rattle.edge_io.specs.Causes.{Rose};
@@ -32,17 +32,17 @@ use span_types::{ByteList, Name, NoMemory, Steps};
 use std::alloc::Global;
 use std::sync::ledger::Ledger;
 
-/// The most bytes of a file that `load` takes.
+/// The maximum length of a file for `load`, in bytes.
 const MAX_LOAD: u64 = 1 << 32;
 
-/// The most bytes of an image that `open` reads, and that `save` writes.
+/// The maximum length of an image for `open` and `save`, in bytes.
 const MAX_OPEN: u64 = 1 << 30;
 
-/// How many bytes of a file are read at once.
+/// The number of bytes of a file that are read at once.
 const PIECE: usize = 65_536;
 
-/// Reads the next piece of a file of which `at` bytes were read, and answers how many bytes it has: none at the end. The file may
-/// have at most `limit` bytes.
+/// Reads the next piece of a file, from offset `at`, and returns its length, which is 0 at the end. The file may have
+/// at most `limit` bytes.
 fn next_piece<F: Shelf>(
     shelf: &mut F,
     name: &[u8],
@@ -67,7 +67,7 @@ fn next_piece<F: Shelf>(
     Ok(count)
 }
 
-/// Loads a file that was found to be short enough, piece by piece.
+/// Loads a file piece by piece, after its length was checked.
 fn load_pieces<F: Shelf, P: Ledger>(
     alloc: Global,
     store: &mut Store,
@@ -123,7 +123,7 @@ fn load_from<F: Shelf, P: Ledger>(
     Ok(root)
 }
 
-/// The reply to a file that isn't there, can't be read, or is too long.
+/// The reply for a file that doesn't exist, can't be read, or is too long.
 fn turned_away(alloc: Global, number: u64, file: ByteList, why: FileRefusal) -> Result<Answer, Stop>
     ensures ok { IfOk result (λ answer. IsFileDenied number file why answer.told answer.line.items) }
     ensures fault { IfErr result (λ stop. stop ≡ Stop.ShelfFault → why ≡ FileRefusal.Failed) }
@@ -166,7 +166,7 @@ pub fn load_file<F: Shelf, P: Ledger>(
     }
 }
 
-/// Puts a piece behind the bytes.
+/// Appends a piece to the bytes.
 fn push_piece(bytes: &mut Vec<u8>, piece: &[u8]) -> Result<(), NoMemory>
     ensures { OnOk result (bytes.new.items ≡ bytes.old.items ++ piece.now) }
 {
@@ -174,14 +174,14 @@ fn push_piece(bytes: &mut Vec<u8>, piece: &[u8]) -> Result<(), NoMemory>
     Ok(())
 }
 
-/// Whether these first bytes of a file are those of no image, whatever follows them.
+/// Whether a file with these first bytes is no image, whatever follows them.
 fn is_no_image(front: &[u8]) -> bool
     ensures { result ≡ true → (rest : List ℕ) → image (front.now ++ rest) ≡ image front.now }
 {
     front.len() >= 4 && !begins_image(front)
 }
 
-/// Reads a file that was found to be short enough, piece by piece, as far as it matters to an image.
+/// Reads a file piece by piece, after its length was checked. Stops when the first bytes show that it is no image.
 fn read_pieces<F: Shelf>(alloc: Global, name: &[u8], shelf: &mut F) -> Result<Vec<u8>, FileRefusal>
     requires { IsFileFront (F.files shelf.old) name.now open_size [] }
     ensures ok { IfOk result (λ bytes. MeansFile (F.files shelf.old) name.now bytes.items) }
@@ -205,7 +205,8 @@ fn read_pieces<F: Shelf>(alloc: Global, name: &[u8], shelf: &mut F) -> Result<Ve
     }
 }
 
-/// Reads a file of at most 2^30 bytes: whole, or of one that doesn't begin as an image does the first bytes, which mean the same.
+/// Reads a file of at most 2^30 bytes: all of it, or only the first bytes if they show that it is no image. The result
+/// of reading an image is the same.
 fn read_file<F: Shelf>(alloc: Global, name: &[u8], shelf: &mut F) -> Result<Vec<u8>, FileRefusal>
     ensures ok { IfOk result (λ bytes. MeansFile (F.files shelf.old) name.now bytes.items) }
     ensures refused { IfErr result (IsTurnedAway (F.files shelf.old) name.now open_size) }
@@ -219,7 +220,7 @@ fn read_file<F: Shelf>(alloc: Global, name: &[u8], shelf: &mut F) -> Result<Vec<
     Ok(bytes)
 }
 
-/// The reply to a faulty image.
+/// The reply to bytes that are no valid image.
 fn faulty(alloc: Global, number: u64, why: ImageRefusal) -> Result<Answer, NoMemory>
     ensures { IfOk result (λ answer. (answer.told ≡ told.Refused)
         × ((kind : ℕ) × (kind_of why ≡ Some kind) × (answer.line.items ≡ refusal_text number (Refusal.BadImage kind)))) }
@@ -231,7 +232,7 @@ fn faulty(alloc: Global, number: u64, why: ImageRefusal) -> Result<Answer, NoMem
     Ok(answer)
 }
 
-/// Puts the documents of an image in place of all documents.
+/// Replaces all documents by those of an image.
 fn open_image<P: Ledger>(
     alloc: Global,
     store: &mut Store,

@@ -1,4 +1,4 @@
-//! What a session holds.
+//! The state of a session.
 ghost use Rattle.std.specs.Prelude.{◌≡◌, []};
 ghost use Rattle.query_book.specs.Serving.{covered_of};
 ghost use Rattle.span_run.specs.Held.{IsHeld, state_of};
@@ -37,9 +37,9 @@ impl Held {
         }
     }
 
-    /// Makes documents and versions found by their places in constant time, for a command that goes over all of them. Changes
-    /// nothing else, and takes no memory. Takes expected time linear in their number where one was taken out since the last call,
-    /// and else constant time.
+    /// Makes access to documents and versions by index take constant time, for a command that visits all of them.
+    /// Changes nothing else, and allocates nothing. Takes constant time if nothing was removed since the last call, and
+    /// otherwise expected time linear in the number of documents and versions.
     pub fn settle(&mut self)
         ensures { self.new ≡ self.old }
     {

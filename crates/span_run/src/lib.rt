@@ -1,4 +1,4 @@
-//! A script of commands over named texts, from its bytes to the bytes of its replies.
+//! Runs scripts of commands over named texts: from the bytes of a script to the bytes of its replies.
 //!
 //! ```text
 //! let status = run(
@@ -10,14 +10,17 @@
 //! )?;
 //! ```
 //!
-//! The script has at most 2^24 bytes, and is read whole before its first line is done. A refused line changes nothing,
-//! and the run goes on. A fault or an allocation failure ends the run: what was written is then a prefix of the whole
-//! output.
+//! A script has at most 2^24 bytes, and is read completely before its first line is executed. A refused line changes
+//! nothing, and the run goes on. A failure of the source, the sink or the file store, or an allocation failure, ends
+//! the run: what was written is then a prefix of the whole output.
 //!
-//! What a line may cost is said in `span_language`, in looks, pair calls and tables. Memory is taken for the script,
-//! the nodes, the names, the queries with their tables, and what one line needs while it is done.
+//! The maximum cost of a line is defined in `span_language`, in table lookups, node constructions and computed tables.
+//! Memory is allocated for the script, the nodes, the names, the queries with their tables, and the working memory of
+//! one line.
 //!
-//! Queries are evaluated as in M. L. Schmid and N. Schweikardt, PODS 2021, and texts edited as in theirs of PODS 2022.
+//! Queries are evaluated as in M. L. Schmid and N. Schweikardt, *Spanner Evaluation over SLP-Compressed Documents*,
+//! PODS 2021, and texts are edited as in their *Query Evaluation over SLP-Represented Document Databases with Complex
+//! Document Editing*, PODS 2022.
 #![tactic(auto)]
 
 mod answer;

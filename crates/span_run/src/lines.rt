@@ -2,7 +2,7 @@
 ghost use Rattle.std.specs.Prelude.{◌≡◌, ◌≢◌, ◌<◌, ◌∷◌, ◌++◌, All, MatchOption, length};
 ghost use Rattle.span_language.specs.Lines.{lines_of};
 
-/// The bytes before the first newline and those after it, if there is one.
+/// The bytes before the first newline and the bytes after it, or `None` without a newline.
 fn cut_line(text: &[u8]) -> Option<(&[u8], &[u8])>
     ensures { MatchOption result (All (λ b. b ≢ 10) text.now)
         (λ p. (text.now ≡ p.0.now ++ 10 ∷ p.1.now) × All (λ b. b ≢ 10) p.0.now) }

@@ -1,4 +1,4 @@
-//! Answers are listed, each line offered before the next answer is found.
+//! The command `list`: writes each answer's line before the next answer is found.
 ghost use Rattle.std.specs.Prelude.{◌≡◌, ◌≤◌, ◌+◌, ◌*◌, ℕ, List, Option, Some, length, take, IfOk, IfErr};
 ghost use Rattle.edge_io.specs.Causes.{Rose};
 ghost use Rattle.edge_io.specs.Files.{Files};
@@ -36,7 +36,8 @@ use std::sync::ledger::Ledger;
 use std::thread::Threads;
 use work_gate::Gate;
 
-/// Which page of a query's answers is asked for: after which word as a tuple, and how many at most.
+/// The requested page of a query's answers: the tuple after which it begins, if there is one, and its maximum number of
+/// answers.
 #[derive(Drop)]
 pub struct Page {
     pub after: Option<ByteList>,
@@ -56,7 +57,7 @@ pub fn write_tuple<K: Sink>(tuple: &Tuple, vars: &Vars, out: &mut K) -> Result<(
     offer(out, &line[..len + 1])
 }
 
-/// Writes the lines of at most `limit` answers, and then whether there are more. It takes no memory.
+/// Writes the lines of at most `limit` answers, and then whether there are more. It allocates nothing.
 fn write_page<K: Sink, L: Ledger>(
     answers: &mut Answers<'_>,
     vars: &Vars,
@@ -83,7 +84,7 @@ fn write_page<K: Sink, L: Ledger>(
     close(out, b"end\n")
 }
 
-/// The answers of the query of this name from a cursor on.
+/// An iterator over the answers of the query with this name after a cursor, or over all answers without one.
 fn answers_from<'a, L: Ledger>(
     subject: Subject<'a>,
     query: &Name,
@@ -115,7 +116,7 @@ fn answers_from<'a, L: Ledger>(
     }
 }
 
-/// Writes a page of the answers of the query of this name from a cursor on.
+/// Writes a page of the answers of the query with this name, after a cursor or from the start.
 fn list_from<K: Sink, L: Ledger>(
     subject: Subject<'_>,
     query: &Name,
@@ -140,7 +141,8 @@ fn list_from<K: Sink, L: Ledger>(
     }
 }
 
-/// Writes a page of the answers of a query on a root's text, after the cursor that a word gives, or why the word gives none.
+/// Writes a page of the answers of a query on a root's text, after the cursor that `page.after` parses to, or the
+/// reason why it is no cursor.
 fn list_root<K: Sink, L: Ledger>(
     subject: Subject<'_>,
     number: u64,
@@ -163,7 +165,8 @@ fn list_root<K: Sink, L: Ledger>(
     }
 }
 
-/// `list Q NAME`, and then perhaps `after TUPLE` and `limit NUM`: each line is offered before the next answer is searched.
+/// `list Q NAME`, optionally with `after TUPLE` and `limit NUM`. Writes each answer's line before the next answer is
+/// computed.
 pub fn list<R: Threads + Sync, K: Sink, G: Gate, T: Ledger, L: Ledger>(
     context: Context<'_, R, G>,
     held: &mut Held,

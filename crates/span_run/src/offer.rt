@@ -1,4 +1,4 @@
-//! Bytes are offered to a sink until it has taken all of them.
+//! Writing to a sink until it has accepted all bytes.
 ghost use Rattle.std.specs.Prelude.{◌≡◌, ◌≤◌, IfOk, IfErr, Ok, OnOk};
 ghost use Rattle.std.specs.Io.KnownBytes.{Keeps};
 ghost use Rattle.edge_io.specs.Causes.{Rose};
@@ -12,7 +12,7 @@ use report_text::Refusal;
 use span_language::{Stop, Told};
 use std::alloc::Global;
 
-/// Writes a whole piece. A rest that wasn't taken is offered again.
+/// Writes a whole piece. If the sink accepts only a part, the rest is written again.
 pub fn offer<K: Sink>(out: &mut K, piece: &[u8]) -> Result<(), Stop>
     ensures wrote { Wrote result (outlet (K.written out.old) (K.faults out.old) (K.wants out.old)) piece.now
         (outlet (K.written out.new) (K.faults out.new) (K.wants out.new)) }
@@ -40,7 +40,7 @@ pub fn close<K: Sink>(out: &mut K, piece: &[u8]) -> Result<Told, Stop>
     Ok(Told::Accepted)
 }
 
-/// Writes a reply that was made.
+/// Writes a whole reply.
 pub fn send<K: Sink>(answer: Answer, out: &mut K) -> Result<Told, Stop>
     ensures told { IfOk result (λ told. told ≡ answer.told) }
     ensures wrote { Wrote result (outlet (K.written out.old) (K.faults out.old) (K.wants out.old)) answer.line.items
@@ -51,7 +51,7 @@ pub fn send<K: Sink>(answer: Answer, out: &mut K) -> Result<Told, Stop>
     Ok(answer.told)
 }
 
-/// Lets what the sink kept back of a line's reply go out. Where the line has no reply, the sink is not asked.
+/// Flushes the sink after a line's reply. If the line has no reply, the sink is not called.
 pub fn send_out<K: Sink>(told: Told, out: &mut K) -> Result<Told, Stop>
     ensures told { IfOk result (λ same. same ≡ told) }
     ensures quiet { told ≡ Told.Quiet → (result ≡ Ok Told.Quiet) × (out.new ≡ out.old) }

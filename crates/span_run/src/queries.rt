@@ -1,4 +1,4 @@
-//! What commands do with queries, and their replies.
+//! The commands on queries.
 ghost use Rattle.std.specs.Prelude.{◌≡◌, ◌≤◌, IfOk, IfErr, Option, true, false, ◌+◌, ℕ};
 ghost use Rattle.edit_expr.specs.Values.{text_at};
 ghost use Rattle.query_book.specs.Answers.{HasAnswer, HasVariablesOf, IsAnswer, most_looks};
@@ -57,7 +57,7 @@ fn yes_or_no(alloc: Global, yes: bool) -> Result<Answer, NoMemory>
     Ok(Answer::accepted(line))
 }
 
-/// Whether a query has an answer on a root's text, as a reply.
+/// The reply whether a query has an answer on a root's text.
 fn test_root<L: Ledger>(
     subject: Subject<'_>,
     number: u64,
@@ -88,7 +88,7 @@ fn test_root<L: Ledger>(
     }
 }
 
-/// Whether a tuple of a query's variables is an answer on a root's text, as a reply.
+/// The reply whether a tuple of a query's variables is an answer on a root's text.
 fn has_tuple<L: Ledger>(
     subject: Subject<'_>,
     number: u64,
@@ -121,7 +121,7 @@ fn has_tuple<L: Ledger>(
     }
 }
 
-/// Whether a word is an answer of a query on a root's text, as a reply.
+/// The reply whether a word is an answer of a query on a root's text.
 fn has_root<L: Ledger>(
     subject: Subject<'_>,
     number: u64,
@@ -146,7 +146,8 @@ fn has_root<L: Ledger>(
     }
 }
 
-/// What is asked of a query on a root's text, as a reply: whether the word is an answer, and without a word whether there is one.
+/// The reply to a question about a root's text: whether the word is an answer of the query, or without a word, whether
+/// the query has an answer.
 fn ask_root<L: Ledger>(
     subject: Subject<'_>,
     number: u64,
@@ -165,7 +166,7 @@ fn ask_root<L: Ledger>(
     }
 }
 
-/// `has Q NAME TUPLE`, and `test Q NAME` where no tuple is given.
+/// `has Q NAME TUPLE`, or `test Q NAME` without a tuple.
 pub fn ask<R: Threads + Sync, G: Gate, T: Ledger, L: Ledger>(
     context: Context<'_, R, G>,
     held: &mut Held,

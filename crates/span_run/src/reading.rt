@@ -13,7 +13,7 @@ use slp_model::NodeId;
 use span_types::NoMemory;
 use std::alloc::Global;
 
-/// How many bytes of a text a reply shows.
+/// The number of bytes of a text that a reply shows.
 const HEAD: u64 = 32;
 
 /// The length of a root's text, in bytes.
@@ -65,18 +65,18 @@ pub fn head_of(alloc: Global, store: &Store, root: Option<NodeId>) -> Result<Vec
     Ok(head)
 }
 
-/// Why a file was not taken.
+/// Why a file was not read.
 #[derive(Clone, Copy, Debug, PartialEq, Eq)]
 pub enum FileRefusal {
-    /// There is no file of this name.
+    /// No file has this name.
     Absent,
-    /// It can't be read.
+    /// The file can't be read.
     Denied,
-    /// It has more bytes than the limit.
+    /// The file has more bytes than the limit.
     TooLong,
-    /// The shelf failed.
+    /// The file store failed.
     Failed,
-    /// No memory was found.
+    /// Allocation failed.
     NoMemory,
 }
 
@@ -105,7 +105,7 @@ impl From<ShelfRefusal> for FileRefusal {
     }
 }
 
-/// Whether a file has at most so many bytes: asks for the byte behind them.
+/// Checks that a file has at most `limit` bytes, by reading the byte after them.
 pub fn check_size<F: Shelf>(shelf: &mut F, name: &[u8], limit: u64) -> Result<(), FileRefusal>
     ensures ok { OnOk result (IsFileFront (F.files shelf.old) name.now limit []) }
     ensures refused { IfErr result (IsTurnedAway (F.files shelf.old) name.now limit) }

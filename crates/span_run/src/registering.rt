@@ -1,4 +1,4 @@
-//! Queries are registered, and what the commands that do so reply.
+//! The commands that register queries.
 ghost use Rattle.std.specs.Prelude.{◌≡◌, List, IfOk, IsErr, IsErrAnd, IsOk, IsSome, MatchOption, MatchResult, Some};
 ghost use Rattle.query_book.specs.Book.{queries_of};
 ghost use Rattle.query_book.specs.Named.{value_of};
@@ -24,7 +24,7 @@ use span_language::Stop;
 use span_types::{ByteList, Name, NoMemory};
 use std::alloc::Global;
 
-/// What a query is made of: a formula's text, or other queries.
+/// How a query is made: from a formula's text, or from other queries.
 #[derive(Drop)]
 pub enum Recipe {
     Formula { text: ByteList },
@@ -33,7 +33,7 @@ pub enum Recipe {
     Project { source: Name, keep: ByteList },
 }
 
-/// The refusal of a formula's text, as a reply has it.
+/// The reply's refusal for a formula's text.
 fn formula_refusal(why: FormulaRefusal) -> Result<Refusal, NoMemory>
     ensures { IfOk result (IsFormulaRefusal why) }
 {
@@ -48,7 +48,7 @@ fn formula_refusal(why: FormulaRefusal) -> Result<Refusal, NoMemory>
     }
 }
 
-/// The refusal of a query's text, as a reply has it.
+/// The reply's refusal for a query's text.
 fn text_refusal(why: QueryRefusal) -> Result<Refusal, NoMemory>
     ensures { IfOk result (IsTextRefusal why) }
 {
@@ -59,7 +59,7 @@ fn text_refusal(why: QueryRefusal) -> Result<Refusal, NoMemory>
     }
 }
 
-/// The refusal of an operation on queries, as a reply has it.
+/// The reply's refusal for an operation on queries.
 fn combine_refusal(why: CombineRefusal) -> Result<Refusal, NoMemory>
     ensures { IfOk result (IsCombineRefusal why) }
 {
@@ -73,7 +73,7 @@ fn combine_refusal(why: CombineRefusal) -> Result<Refusal, NoMemory>
     }
 }
 
-/// What came of a query's text: nothing to tell, or the refusal.
+/// The outcome of registering a formula: `None` if it was accepted, or the refusal.
 fn read_outcome(made: Result<(), QueryRefusal>) -> Result<Option<Refusal>, NoMemory>
     ensures { MatchResult result (λ refused. MatchOption refused (IsOk made) (λ why. IsErrAnd made (λ e. IsTextRefusal e why))) (λ _. IsErr made) }
 {
@@ -86,7 +86,7 @@ fn read_outcome(made: Result<(), QueryRefusal>) -> Result<Option<Refusal>, NoMem
     }
 }
 
-/// What came of an operation on queries.
+/// The outcome of an operation on queries: `None` if it was accepted, or the refusal.
 fn combine_outcome(made: Result<(), CombineRefusal>) -> Result<Option<Refusal>, NoMemory>
     ensures { MatchResult result (λ refused. MatchOption refused (IsOk made) (λ why. IsErrAnd made (λ e. IsCombineRefusal e why))) (λ _. IsErr made) }
 {
@@ -99,7 +99,7 @@ fn combine_outcome(made: Result<(), CombineRefusal>) -> Result<Option<Refusal>, 
     }
 }
 
-/// Makes a query and registers it. Where that is refused, answers why.
+/// Makes a query and registers it. Returns `None`, or why it is refused.
 fn make(
     alloc: Global,
     book: &mut QueryBook,
@@ -124,7 +124,7 @@ fn make(
     }
 }
 
-/// The reply that tells the variables of a query that is there.
+/// The reply with the variables of a registered query.
 fn registered(alloc: Global, book: &QueryBook, name: &Name) -> Result<Answer, NoMemory>
     requires { IsSome (value_of (queries_of book.now) name.now) }
     ensures told { IfOk result (λ answer. answer.told ≡ told.Accepted) }

@@ -1,4 +1,4 @@
-//! Chosen spans of a query are replaced.
+//! The command `replace`: replaces chosen spans of a query's answers.
 ghost use Rattle.std.specs.Prelude.{◌≡◌, ◌≤◌, ◌+◌, ◌*◌, length, IfOk, IfErr, OnErr, None, Option, ℕ};
 ghost use Rattle.edge_io.specs.Files.{Files};
 ghost use Rattle.edit_expr.specs.Values.{AreLive, plain, text_at};
@@ -34,8 +34,8 @@ use std::sync::ledger::Ledger;
 use std::thread::Threads;
 use work_gate::Gate;
 
-/// What a replacement is asked of: the document that gets the result, the query, the document in which its spans are replaced,
-/// and the one whose text is put there.
+/// The arguments of a replacement: the document that gets the result, the query, the document whose spans are replaced,
+/// and the document whose text replaces them.
 #[derive(Drop)]
 pub struct Replacing {
     pub name: Name,
@@ -44,7 +44,8 @@ pub struct Replacing {
     pub by: Name,
 }
 
-/// What it works on: the query, the root of the text in which its spans are replaced, and of the text that is put there.
+/// The inputs of a replacement: the query, the root of the text whose spans are replaced, and the root of the text that
+/// replaces them.
 #[derive(Drop)]
 pub struct Sources {
     pub query: Name,
@@ -52,7 +53,7 @@ pub struct Sources {
     pub other: Option<NodeId>,
 }
 
-/// What a replacement works on, or the first refusal.
+/// The inputs of a replacement, or the first refusal.
 fn find_sources(held: &Held, query: Name, source: Name, by: Name) -> Result<Sources, Refusal>
     ensures ok { IfOk result (AreSources held.now query source by) }
     ensures err { IfErr result (IsUnreplaced (world (state_of held.now) None) query source by) }
@@ -87,7 +88,7 @@ fn choose<L: Ledger>(
         result looks.old looks.new }
     ensures apart { IfOk result (λ spans. AreApart (length (text_at subject.entry.store.now subject.entry.root)) spans) }
 {
-    // A text is at most so long that the automaton speaks of it.
+    // States a property of the store: a text has at most the 2^48 bytes for which the automaton is specified.
     let _len = root_len(subject.store, subject.root);
     match subject.book.parts(query.bytes(), subject.store) {
         Ok((view, dfa)) => chosen(subject.alloc, view, dfa, subject.root, looks),
@@ -95,7 +96,7 @@ fn choose<L: Ledger>(
     }
 }
 
-/// Gives the name the text in which the spans are replaced.
+/// Sets the document with this name to the text with the spans replaced.
 fn put_in_place<P: Ledger>(
     alloc: Global,
     store: &mut Store,

@@ -1,4 +1,4 @@
-//! A session: named documents over one store, and what a line does to it.
+//! A session: named documents over one store, and the execution of a line.
 ghost use Rattle.std.specs.Prelude.{◌≡◌, ◌≤◌, ◌⊎◌, [], IfOk, IfErr};
 ghost use Rattle.span_language.specs.State.{nothing};
 ghost use Rattle.span_run.specs.Held.{IsStanding, nodes_of};
@@ -17,9 +17,9 @@ use std::sync::ledger::Ledger;
 use std::thread::Threads;
 use work_gate::Gate;
 
-/// Named documents, queries and versions over one store of nodes. Contracts see it as the plain state, where each document is
-/// its text, beside the nodes of the store, the roots of the documents and of those of the versions, and of how many nodes each
-/// query has the table.
+/// Named documents, queries and versions over one store of nodes. Contracts see the documents as their texts. They also
+/// see the store's nodes, the roots of the documents, those of the versions, and for each query the number of nodes
+/// that have tables.
 #[derive(Drop)]
 pub struct Session {
     held: Held,
@@ -41,7 +41,7 @@ impl Model for Session {
 }
 
 impl Session {
-    /// No documents, no queries and no versions, and no node.
+    /// A session without documents, queries, versions and nodes.
     pub fn new(alloc: Global) -> Session
         ensures state { result.state ≡ nothing }
         ensures store { result.store ≡ [] }
@@ -53,23 +53,27 @@ impl Session {
         }
     }
 
-    /// How many nodes the store has.
+    /// The number of nodes in the store.
     pub fn nodes(&self) -> usize
         ensures { result ≡ nodes_of self.now }
     {
         self.held.store.count()
     }
 
-    /// Does the line with this number, and writes its reply. A refused line leaves the state as it was. Where the line is done,
-    /// all that was written has gone out, also what the sink had kept back.
+    /// Executes a line, and writes its reply. `number` is the line's number, for error replies. A refused line leaves
+    /// the state unchanged. When the call returns `Ok`, everything written has been sent, also what the sink had
+    /// buffered before.
     ///
-    /// Nodes get their tables in at most `workers` pieces at once, 1 to 64, and each passes the gate.
+    /// Tables are computed in at most `workers` pieces at once, 1 to 64, and each piece passes the gate.
     ///
     /// # Errors
     ///
-    /// `OutFault` only where the line has a reply and the sink failed in this call. `ShelfFault` only where the line is of the
-    /// form `load`, `save` or `open` and the shelf failed in this call; nothing of the reply is then written. `NoMemory`.
-    /// The state is then that before the line or that after it.
+    /// - `OutFault` only if the line has a reply and the sink failed in this call.
+    /// - `ShelfFault` only if the line is of the form `load`, `save` or `open`, and the file store failed in this call.
+    ///   Nothing of the reply is then written.
+    /// - `NoMemory` if allocation fails.
+    ///
+    /// After an error the state is that before the line or that after it.
     pub fn line<R: Threads + Sync, K: Sink, F: Shelf, G: Gate, P: Ledger, T: Ledger, L: Ledger>(
         &mut self,
         rt: &R,
@@ -113,7 +117,7 @@ impl Session {
             places,
             looks,
         );
-        // The store's own fact: beside its pairs it has at most the 256 bytes.
+        // States a property of the store: apart from pairs it has at most 256 nodes, one for each byte.
         let _ = self.held.store.count();
         told
     }

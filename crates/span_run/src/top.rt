@@ -1,4 +1,4 @@
-//! The top call: words and a script in, replies and a status out.
+//! The top call: runs the script that the command-line arguments select, and returns a status.
 ghost use Rattle.std.specs.Prelude.{◌≡◌, ◌⊎◌, ◌+◌, ◌^◌, ◌<◌, ◌≤◌, ◌||◌, true, false, None, Some, IfOk, IfErr, IfSome, MatchResult, OnOk, length, map, string_bytes};
 ghost use Rattle.edge_io.specs.Causes.{Rose};
 ghost use Rattle.span_words.specs.Words.{Refused};
@@ -20,7 +20,7 @@ use std::thread::Threads;
 use text_gen::demo;
 use work_gate::Gate;
 
-/// The most bytes of a script.
+/// The maximum length of a script, in bytes.
 const MAX_SCRIPT: usize = 1 << 24;
 
 /// How a run ended. The program's exit status is the number of the status.
@@ -28,19 +28,19 @@ const MAX_SCRIPT: usize = 1 << 24;
 /// If a fault or an allocation failure stopped the run, what was written is a prefix of the whole output.
 #[derive(Clone, Copy, Debug, PartialEq, Eq)]
 pub enum Status {
-    /// 0: every line was executed, and none refused.
+    /// 0: every line was executed, and none was refused.
     Done,
-    /// 1: every line was executed, and at least one refused.
+    /// 1: every line was executed, and at least one was refused.
     SomeRefused,
-    /// 2: the words of the command line are refused. Nothing is read or written.
+    /// 2: the command-line arguments were rejected. Nothing is read or written.
     Usage,
     /// 3: the source failed. Nothing is written.
     ScriptFault,
-    /// 4: the sink failed.
+    /// 4: writing to the sink failed.
     OutFault,
-    /// 5: the shelf failed.
+    /// 5: a call to the file store failed.
     ShelfFault,
-    /// 6: no memory was found.
+    /// 6: an allocation failed.
     NoMemory,
     /// 7: the script has more than 2^24 bytes. Nothing is written.
     ScriptTooLong,
@@ -54,7 +54,7 @@ enum NoScript {
     NoMemory,
 }
 
-/// All the bytes of a source, where they are at most 2^24. At most one byte more is taken from it.
+/// Reads all bytes of a source, which may be at most 2^24. At most one byte more is read from it.
 fn read_script<S: Source>(alloc: Global, script: &mut S) -> Result<Vec<u8>, NoScript>
     ensures all { IfOk result (λ bytes. IfSome (S.left script.old) (λ left. bytes.items ≡ left)) }
     ensures short { IfOk result (λ bytes. length bytes.items ≤ 2 ^ 24) }
@@ -81,7 +81,7 @@ fn read_script<S: Source>(alloc: Global, script: &mut S) -> Result<Vec<u8>, NoSc
     Err(NoScript::TooLong)
 }
 
-/// The script that is asked for: that of a demo, for which the source isn't read, or else all the bytes of the source.
+/// The selected script: that of a demo, for which the source isn't read, or all bytes of the source.
 fn asked_script<S: Source>(
     alloc: Global,
     number: Option<u8>,
@@ -105,15 +105,15 @@ fn asked_script<S: Source>(
     }
 }
 
-/// Whether a line was refused, in this one or before.
+/// Whether this line or one before it was refused.
 fn with_refusal(before: bool, told: Told) -> bool
     ensures { result ≡ (before || is_refused told) }
 {
     before || matches!(told, Told::Refused)
 }
 
-/// Does the lines of a script in order, and answers whether one was refused. Where the sink had kept nothing back before, all that was
-/// written has gone out whenever a line begins.
+/// Executes the lines of a script in order, and returns whether one was refused. If the sink had nothing buffered
+/// before, everything written has been sent whenever a line begins.
 fn run_lines<R: Threads + Sync, K: Sink, F: Shelf, G: Gate, P: Ledger, T: Ledger, L: Ledger>(
     lent: Lent<'_, R, G>,
     alloc: Global,
@@ -165,14 +165,15 @@ fn run_lines<R: Threads + Sync, K: Sink, F: Shelf, G: Gate, P: Ledger, T: Ledger
     Ok(refused)
 }
 
-/// Runs a script over named texts: reads the words, then the whole script, then executes its lines in order. Each line of a
-/// reply is offered to the sink, with its newline, before the next one is computed. The first fault or
-/// allocation failure ends the run.
+/// Runs a script over named texts: parses the arguments, reads the whole script, and executes its lines in order. Each
+/// line of a reply is written to the sink, with its newline, before the next one is computed; `listall` computes up to
+/// 64 documents at a time. The first failure of the source, the sink or the file store, or an allocation failure, ends
+/// the run.
 ///
-/// The words are those after the program's own name. They may ask for a number of workers, from 1 to 64, which compute
-/// tables; and for the script of a demo, which is run in place of the source's bytes. The source isn't read then. The
-/// shelf serves files. `pairs` counts the pairs of nodes that were asked for, `places` the tables that nodes were given,
-/// and `looks` looks at tables.
+/// `words` are the command-line arguments after the program's name. They may set the number of workers that compute
+/// tables, from 1 to 64. They may also select the script of a demo, which runs instead of the source's script; the
+/// source isn't read then. `shelf` is the file store. `pairs` counts node constructions, `places` counts computed
+/// tables, and `looks` counts table lookups.
 #[tactic(auto, using(crate::proofs::ScriptLemmas::never_refused))]
 pub fn run<
     R: Threads + Sync,
@@ -214,14 +215,16 @@ pub fn run<
         ⊎ (result ≡ Status.ShelfFault) → OfScript (map string_bytes words.now) (S.left script.old)
         (λ bytes. length bytes ≤ 2 ^ 24) }
 
-    // A run that was done to its end had no fault: no call of the source, the sink or the shelf that failed was made again.
+    // A run that came to its end had no failure: no failed call of the source, the sink or the file store was retried.
     ensures sound { (result ≡ Status.Done) ⊎ (result ≡ Status.SomeRefused) → (S.faults script.new ≡ S.faults script.old)
         × (K.faults out.new ≡ K.faults out.old) × (K.wants out.new ≡ K.wants out.old) × (F.faults shelf.new ≡ F.faults shelf.old) }
 
-    // What a sink keeps back has gone out before the next line begins, so it has where the shelf failed, and at the end.
+    // All buffered output has been sent before the next line begins. So it has been sent if the file store failed, and
+    // at the end of the run.
     ensures gone { K.kept out.old ≡ 0 → (result ≡ Status.OutFault) ⊎ (result ≡ Status.NoMemory) ⊎ (K.kept out.new ≡ 0) }
 
-    // At most one byte past the limit of a script is read. The source isn't read for a demo, nor where the words are refused.
+    // At most one byte beyond the limit of a script is read. The source isn't read for a demo, nor if the arguments are
+    // rejected.
     ensures taken { TakesAtMost (2 ^ 24 + 1) (S.left script.old) (S.left script.new) }
     ensures unread { (AsksForNoDemo (map string_bytes words.now) → ⊥) → script.new ≡ script.old }
 
@@ -234,9 +237,9 @@ pub fn run<
         (F.files shelf.new) looks.new pairs.new places.new
         ≡ outside (K.written out.old) (F.files shelf.old) looks.old pairs.old places.old) }
 
-    // What was written is a prefix of the whole output. A fault of the shelf stops a line of the form `load`, `save` or `open`
-    // before any of its reply is written, and leaves the files unchanged. An allocation failure stops a `list` before any of
-    // its reply is written, unless it was the sink's.
+    // What was written is a prefix of the whole output. A failure of the file store stops a line of the form `load`,
+    // `save` or `open` before any of its reply is written, and leaves the files unchanged. An allocation failure stops
+    // a `list` before any of its reply is written, unless the sink's allocation failed.
     ensures front { result ≡ Status.OutFault → OfScript (map string_bytes words.now) (S.left script.old)
         (λ bytes. RunsFront Anywhere (lines_of bytes)
         (outside (K.written out.old) (F.files shelf.old) looks.old pairs.old places.old)

@@ -1,4 +1,4 @@
-//! What commands do with versions of the documents, and their replies.
+//! The commands on versions of the documents.
 ghost use Rattle.script_syntax.specs.declared.form.Command.TheVariants as form;
 ghost use Rattle.span_run.specs.Answers.{AnswersFreely, StaysFreely};
 ghost use Rattle.span_run.specs.Held.{IsHeld};

@@ -8,18 +8,18 @@ use report_text::Refusal;
 use span_cursor::{TupleRefusal, read};
 use span_types::{ByteList, Name, Tuple};
 
-/// Why a word is no tuple of a query's variables: the first of these that holds.
+/// Why a word is not a tuple of a query's variables. The first reason in this order is returned.
 #[derive(Clone, Copy, Debug, PartialEq, Eq)]
 pub enum Unread {
     /// No query has the name.
     NoSuchQuery,
-    /// The word is not that of a tuple.
+    /// The word is not the notation of a tuple.
     BadTuple,
-    /// The names of the tuple are not those of the query's variables in number order.
+    /// The names in the tuple are not those of the query's variables, in the order of their numbers.
     OtherVariables,
 }
 
-/// The refusal of a word, as a reply has it.
+/// The reply's refusal for a word.
 pub fn word_refusal(why: Unread, query: Name) -> Refusal
     ensures { IsWordRefusal query why result }
 {
@@ -30,7 +30,7 @@ pub fn word_refusal(why: Unread, query: Name) -> Refusal
     }
 }
 
-/// The tuple that a word is, of the variables of the query of this name. Takes no memory.
+/// Parses a word as a tuple of the variables of the query with this name. Allocates nothing.
 pub fn tuple_of(book: &QueryBook, query: &Name, word: &ByteList) -> Result<Tuple, Unread>
     ensures ok { IfOk result (λ tuple. IsTupleOf (queries_of book.now) query.now word.now tuple) }
     ensures err { IfErr result (IsUnread (queries_of book.now) query.now word.now) }
@@ -45,8 +45,8 @@ pub fn tuple_of(book: &QueryBook, query: &Name, word: &ByteList) -> Result<Tuple
     }
 }
 
-/// The cursor that a word gives: the tuple that it is, of the variables of the query of this name, and none without a word.
-/// Takes no memory.
+/// Parses a word as a cursor: a tuple of the variables of the query with this name, or `None` without a word. Allocates
+/// nothing.
 pub fn cursor_of(
     book: &QueryBook,
     query: &Name,

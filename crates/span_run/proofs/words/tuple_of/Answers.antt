@@ -2,7 +2,7 @@ use Rattle.span_run.proofs.Names.{ap, HasOtherNames, IsTupleText, List, Named, n
 use Rattle.span_run.proofs.Facts.{query_of}
 use Rattle.span_run.proofs.words.tuple_of.Goals as goal
 
--- the query whose variables were told
+-- the query whose variables were returned
 of_query : (queries : Named Query) (bytes name : List ℕ) (vars : List (List ℕ)) (P : List (List ℕ) → Type 0) → option_map names_of (value_of queries bytes) ≡ Some vars → bytes ≡ name → P vars
     → (q : Query) × (value_of queries name ≡ Some q) × P (names_of q)
 of_query queries bytes name vars P told same h =
