@@ -5,7 +5,7 @@ use Rattle.marker_dfa.specs.Deterministic.{DeterministicAutomaton}
 use Rattle.state_tables.specs.Dictionary.{Dictionary, count_of}
 use Rattle.span_enum.specs.Listing.{IsReady}
 
--- the tables are those of the automaton, which has one variable, for each node, of which the first is looked at
+-- the tables are those of the automaton, which has one variable, for each node; the first node is tested
 pub record IsOneLetter (a : DeterministicAutomaton) (nodes : List Node) (d : Dictionary) : Type 0 where
   pub one : a.variables ≡ 1
   pub all : count_of d ≡ length nodes

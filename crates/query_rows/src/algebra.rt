@@ -1,4 +1,4 @@
-//! Rows of unions, joins and projections of automata.
+//! Tests of unions, joins and projections of automata.
 ghost use Rattle.std.specs.Prelude.{◌≡◌, IfOk, length};
 
 use crate::formulas::automaton_of;
@@ -17,7 +17,7 @@ struct Side {
     names: Vars,
 }
 
-/// The names of a text's variables. A text that is no formula is told as a want of memory, here and below.
+/// The names of a formula's variables. Here and below, a text that is no formula is reported as an allocation failure.
 fn names_of(alloc: Global, text: &[u8]) -> Result<Vars, NoMemory> {
     match read(alloc, text) {
         Ok((_, names)) => Ok(names),
@@ -25,7 +25,7 @@ fn names_of(alloc: Global, text: &[u8]) -> Result<Vars, NoMemory> {
     }
 }
 
-/// The automaton of a text, and its names.
+/// The automaton of a formula, and the names of its variables.
 fn side_of(alloc: Global, text: &[u8]) -> Result<Side, NoMemory>
     ensures { IfOk result (λ s. length s.names ≡ s.dfa.variables) }
 {
@@ -54,8 +54,8 @@ fn joined(alloc: Global, left: &Side, right: &Side) -> Result<Dfa, AlgebraRefusa
     Ok(dfa)
 }
 
-/// What is seen of an automaton at its start: the numbers of its states and variables, the state after a mark and a byte, and
-/// the greatest end there.
+/// A part of an automaton: the numbers of its states and variables, the state after a mark and a byte from the start,
+/// and the greatest end there.
 type Seen = (u8, u8, Option<u8>, Option<u16>);
 
 fn seen_at(dfa: &Dfa, mark: u16, byte: u8) -> Seen {
@@ -77,7 +77,7 @@ fn either(alloc: Global) -> Result<Side, AlgebraRefusal>
     united(alloc, &left, &right)
 }
 
-/// Where x is lost.
+/// The projection of `either` that drops x.
 fn without_x(alloc: Global) -> Result<Dfa, AlgebraRefusal> {
     let whole = either(alloc)?;
     let keep = names_of(alloc, b"$y{}")?;
@@ -109,14 +109,15 @@ fn projection_to_one(rt: HostRuntime) -> Result<(), Fail> {
     Ok(())
 }
 
-/// The join of two texts, or why there is none.
+/// The join of two formulas, or why there is none.
 fn join_of(alloc: Global, left: &[u8], right: &[u8]) -> Result<Dfa, AlgebraRefusal> {
     let left = side_of(alloc, left)?;
     let right = side_of(alloc, right)?;
     joined(alloc, &left, &right)
 }
 
-/// Two texts, a mark, and what is seen after it and `a` in their join: on one name, of other spans, and without common names.
+/// Two formulas, a mark, and the part of their join that is observed after this mark and `a`: on one name, with other
+/// spans, and without common names.
 const JOINS: &[(&[u8], &[u8], u16, Seen)] = &[
     (b"$x{a}", b"$x{a}", 1, (2, 1, Some(1), Some(2))),
     (b"$x{a}", b"$x{b}", 1, (1, 1, None, None)),
@@ -134,12 +135,12 @@ fn joins(rt: HostRuntime) -> Result<(), Fail> {
     Ok(())
 }
 
-/// The number of states of the join of two texts, or why there is none.
+/// The number of states of the join of two formulas, or why there is none.
 fn states_of_join(alloc: Global, left: &[u8], right: &[u8]) -> Result<u8, AlgebraRefusal> {
     Ok(join_of(alloc, left, right)?.states())
 }
 
-/// Rounds of 20 and 20 bytes, and of 11 and 12, and the states of their joins.
+/// Cycles of 20 and 20 bytes, and of 11 and 12, and the numbers of states of their joins.
 const ROUNDS: &[(&[u8], &[u8], Result<u8, AlgebraRefusal>)] = &[
     (
         b"(aaaaaaaaaaaaaaaaaaaa)*",

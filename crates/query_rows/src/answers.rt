@@ -1,4 +1,4 @@
-//! Rows of answers.
+//! Tests of answers.
 ghost use Rattle.std.specs.Prelude.{◌≡◌, ◌<◌, length};
 ghost use Rattle.query_rows.specs.OneLetter.{IsOneLetter};
 

@@ -1,4 +1,4 @@
-//! Rows of questions to a book of queries.
+//! Tests of the evaluation of registered queries.
 ghost use Rattle.std.specs.Prelude.{◌≡◌, ◌<◌, IfOk, IsTrue, length};
 ghost use Rattle.slp_model.specs.Nodes.{IsLive};
 ghost use Rattle.query_book.specs.Answers.{HasVariablesOf};
@@ -23,7 +23,7 @@ fn first_question(rt: HostRuntime) {
     assert!(rt; told == Ok([true; 3]));
 }
 
-/// What is seen of the queries on the text `aa`.
+/// The results of the queries on the text `aa`.
 fn asked<R: Threads + Sync, L: Ledger>(
     rt: &R,
     alloc: Global,
@@ -86,7 +86,7 @@ fn has_three_tuples<'a, L: Ledger>(
     first && second && third && answers.next(looks) == None
 }
 
-/// The second tuple is found by `has`, and the third one by `seek` after it.
+/// Whether `has` finds the second tuple, and `seek` the third one after it.
 fn has_the_second<'a, L: Ledger>(
     alloc: Global,
     book: &'a QueryBook,
@@ -108,7 +108,7 @@ fn has_the_second<'a, L: Ledger>(
     }
 }
 
-/// Whether the tuple has as many variables as the query of this name.
+/// Whether the tuple has as many variables as the query with this name.
 fn fits(book: &QueryBook, name: &[u8], tuple: &Tuple) -> bool
     ensures { IsTrue result → HasVariablesOf (queries_of book.now) name.now tuple.now }
 {

@@ -1,4 +1,4 @@
-//! Rows of books of queries.
+//! Tests of registries of queries.
 ghost use Rattle.std.specs.Prelude.{◌≤◌, List, IfOk};
 ghost use Rattle.slp_model.specs.declared.Node.{Node};
 ghost use Rattle.query_book.specs.Serving.{Covers, Serves};
@@ -16,7 +16,8 @@ use work_gate::OpenGate;
 /// Queries by their names.
 pub type Queries = &'static [(&'static [u8], &'static [u8])];
 
-/// The name, which is one: another is told as a want of memory, as a text below that is no query.
+/// The name with these bytes. Bytes that are no name are reported as an allocation failure, and so is a text below that
+/// is no query.
 pub fn named(alloc: Global, name: &[u8]) -> Result<Name, NoMemory> {
     match Name::new(alloc, name) {
         Ok(name) => Ok(name),
@@ -34,7 +35,7 @@ fn register(alloc: Global, book: &mut QueryBook, name: &[u8], text: &[u8]) -> Re
     }
 }
 
-/// The book of these queries, without tables.
+/// A registry of these queries, without tables.
 pub fn book_of(alloc: Global, queries: Queries) -> Result<QueryBook, NoMemory>
     ensures { IfOk result (λ book. (ns : List Node) → Serves ns book) }
 {
@@ -45,7 +46,7 @@ pub fn book_of(alloc: Global, queries: Queries) -> Result<QueryBook, NoMemory>
     Ok(book)
 }
 
-/// The same with the tables of all nodes.
+/// A registry of these queries, with the tables of all nodes.
 pub fn grown_book<R: Threads + Sync, L: Ledger>(
     rt: &R,
     alloc: Global,
@@ -63,7 +64,7 @@ pub fn grown_book<R: Threads + Sync, L: Ledger>(
     Ok(book)
 }
 
-/// What `add` says of a text for the query `q`: `ok` or its refusal.
+/// The result of `add` for a text as the query `q`: `ok` or its refusal.
 fn added(alloc: Global, book: &mut QueryBook, text: &[u8]) -> Result<String, NoMemory> {
     let name = named(alloc, b"q")?;
     let said = match book.add(alloc, name, text) {
@@ -73,7 +74,7 @@ fn added(alloc: Global, book: &mut QueryBook, text: &[u8]) -> Result<String, NoM
     Ok(said?)
 }
 
-/// Texts for a query, and what is said of each.
+/// Texts for a query, and the result for each.
 const TEXTS: &[(&[u8], &str)] = &[
     (b"[ab]*a[ab][ab][ab][ab][ab][ab]", "too many states"),
     (b"[ab]*a[ab][ab][ab][ab][ab]", "ok"),
@@ -83,7 +84,7 @@ const TEXTS: &[(&[u8], &str)] = &[
     (b"a)", "not a formula"),
 ];
 
-/// The number of a query's variables, or none where there is no such query.
+/// The number of a query's variables, or `None` if there is no such query.
 fn variables(book: &QueryBook, name: &[u8]) -> Option<u8> {
     match book.vars(name) {
         Ok(vars) => Some(vars.count()),
@@ -91,7 +92,7 @@ fn variables(book: &QueryBook, name: &[u8]) -> Option<u8> {
     }
 }
 
-/// A refused text leaves the query that was there.
+/// A refused text doesn't change the query with the name.
 #[test]
 fn one_query(rt: HostRuntime) -> Result<(), Fail> {
     let mut book = QueryBook::new(rt.alloc());

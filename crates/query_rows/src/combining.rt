@@ -1,4 +1,4 @@
-//! Rows of queries that are made of queries.
+//! Tests of operations on registered queries.
 use crate::books::{Queries, book_of, named};
 use line_parts::is_name_list;
 use query_book::{CombineRefusal, QueryBook};
@@ -7,7 +7,7 @@ use std::alloc::Global;
 use std::process::Abort;
 use std::test::Fail;
 
-/// The names of a query's variables, each with a space behind it.
+/// The names of a query's variables, each followed by a space.
 fn names_in(alloc: Global, book: &QueryBook, name: &[u8]) -> Result<String, NoMemory> {
     let mut names = String::new(alloc);
     if let Ok(vars) = book.vars(name) {
@@ -18,7 +18,7 @@ fn names_in(alloc: Global, book: &QueryBook, name: &[u8]) -> Result<String, NoMe
     Ok(names)
 }
 
-/// What the book says of an operation that makes the query `n`: the names of its variables, or the refusal.
+/// The result of an operation that makes the query `n`: the names of its variables, or the refusal.
 fn said(
     alloc: Global,
     book: &QueryBook,
@@ -30,7 +30,7 @@ fn said(
     }
 }
 
-/// How a query is made of two.
+/// An operation on two queries.
 #[derive(Clone, Copy)]
 enum Pairing {
     Union,
@@ -78,7 +78,7 @@ const OPERANDS: Queries = &[
     (b"marked", b"[ab]*$x{a}[ab][ab][ab][ab][ab][ab]"),
 ];
 
-/// Two names, and what is said of their union, and of their join.
+/// Two names, and the result of both operations on them.
 const PAIRS: &[(&[u8], &[u8], &str)] = &[
     (b"q", b"r", "x z y "),
     (b"r", b"q", "y x z "),
@@ -107,7 +107,7 @@ fn joins(rt: HostRuntime) -> Result<(), Fail> {
     Ok(check_pairs(&rt, rt.alloc(), Pairing::Join)?)
 }
 
-/// A name, the variables to keep, and what is said of the projection.
+/// A name, the variables to keep, and the result of the projection.
 const PROJECTIONS: &[(&[u8], &[u8], &str)] = &[
     (b"q", b"z,x", "z x "),
     (b"q", b"z", "z "),
@@ -127,7 +127,7 @@ fn projections(rt: HostRuntime) -> Result<(), Fail> {
     Ok(())
 }
 
-/// A book whose query `n` is of 127 parts.
+/// A registry whose query `n` has 127 parts.
 fn many_parts(alloc: Global) -> Result<QueryBook, NoMemory> {
     let mut book = book_of(alloc, &[(b"n", b"a")])?;
     for _ in 0..6 {

@@ -1,5 +1,5 @@
-//! Worked rows of queries: the automata of formulas, their algebra, their tables and answers on a text, spans that are
-//! replaced, books of queries, and pages of documents.
+//! Tests of queries: the automata of formulas, their algebra, their tables and answers on a text, replaced spans,
+//! registries of queries, and pages of documents.
 //!
 //! ```text
 //! row    $x{a*}                        2 states, of which the first one ends with the mark 3
@@ -7,9 +7,9 @@
 //! row    abracadabra, with 1, 4 and 64 workers    15 nodes, 15 tables, of which one is distinct
 //! ```
 //!
-//! The crate has tests alone, of `marker_nfa`, `marker_dfa`, `table_grow`, `span_algebra`, `span_enum`, `span_replace`,
-//! `query_book` and `list_all`. They stand apart from these, so that each of them is proved once, and so that all share the
-//! formulas. They take little time and memory.
+//! The crate has only tests, of `marker_nfa`, `marker_dfa`, `table_grow`, `span_algebra`, `span_enum`, `span_replace`,
+//! `query_book` and `list_all`. They are a crate of their own, so that these crates are not proved again when a test
+//! changes, and so that all tests share the formulas. They take little time and memory.
 #![tactic(auto)]
 
 #[cfg(test)]

@@ -1,4 +1,4 @@
-//! Rows of pages of documents, and a gate that shows that two pieces of the places run at once.
+//! Tests of pages of documents, with a gate that shows that two pieces run at once.
 ghost use Rattle.std.specs.Prelude.{◌≡◌, ◌<◌, ◌≤◌, IfOk};
 ghost use Rattle.std.specs.List.{AllByRecursion};
 ghost use Rattle.slp_model.specs.Nodes.{IsLive};
@@ -48,7 +48,7 @@ fn two_letters(alloc: Global, store: &mut Store, first: u8, second: u8) -> Resul
     two_documents(alloc, store, Some(left), Some(right))
 }
 
-/// How many answers the page at this place has, and whether there are more, where there is such a place.
+/// The number of answers of the page at index `place`, and whether there are more, or `None` if there is no such page.
 fn seen_at(pages: &Pages, place: usize) -> Option<(usize, bool)> {
     if place < pages.count() {
         Some((pages.tuples(place).len(), pages.more(place)))
@@ -57,10 +57,10 @@ fn seen_at(pages: &Pages, place: usize) -> Option<(usize, bool)> {
     }
 }
 
-/// What is seen at the first three places.
+/// The results at the first three indices.
 type Seen = [Option<(usize, bool)>; 3];
 
-/// What is seen of the pages of at most one answer of the query on each document.
+/// The results for pages of at most one answer of the query on each document.
 fn seen_of<R: Threads + Sync, G: Gate>(
     rt: &R,
     alloc: Global,
@@ -83,7 +83,7 @@ fn seen_of<R: Threads + Sync, G: Gate>(
     Ok([seen_at(&pages, 0), seen_at(&pages, 1), seen_at(&pages, 2)])
 }
 
-/// The same of the documents of two letters.
+/// The same for the documents of two letters.
 fn listed<R: Threads + Sync, G: Gate, L: Ledger>(
     rt: &R,
     alloc: Global,

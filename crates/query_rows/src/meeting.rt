@@ -1,11 +1,11 @@
-//! A gate that counts who passes, and holds the first of two until the other has come.
+//! A gate that counts the threads that pass, and holds the first of two until the other has come.
 use std::sync::atomic::{AtomicU64, Ordering};
 use work_gate::Gate;
 
-/// How many turns the first of the two waits for the other one.
+/// The maximum number of turns that the first thread waits for the other.
 const TURNS: u32 = 50_000_000;
 
-/// How many passed, how many of the two have come, and how often one waited in vain.
+/// The number of threads that passed, the number of the two that have come, and the number of waits in vain.
 #[derive(Drop)]
 pub struct Meeting {
     two: Option<(usize, usize)>,
@@ -15,7 +15,7 @@ pub struct Meeting {
 }
 
 impl Meeting {
-    /// None is held where there are no two.
+    /// A gate for this pair of numbers. Without a pair no thread is held.
     pub fn new(two: Option<(usize, usize)>) -> Meeting {
         Meeting {
             two,
@@ -25,7 +25,7 @@ impl Meeting {
         }
     }
 
-    /// How many passed, arrived and gave up.
+    /// The numbers of threads that passed, arrived, and gave up.
     pub fn counts(&self) -> (u64, u64, u64) {
         (
             self.passed.load(Ordering::SeqCst),

@@ -37,7 +37,7 @@ impl OneLetter {
         Ok(OneLetter { store, dfa, tables })
     }
 
-    /// What the calls look at.
+    /// The view of the letter's store and tables.
     pub fn view(&self) -> View<'_>
         requires { IsOneLetter self.now.dfa self.now.store self.now.tables }
         ensures store { result.store.now ≡ self.now.store }
@@ -84,7 +84,7 @@ fn tables_of_a<L: Ledger>(
     Ok(tables)
 }
 
-/// Such tables are those of the automaton.
+/// These tables are those of the automaton.
 fn ready(store: &Store, dfa: &Dfa, tables: &Tables)
     requires one { length store.now ≡ 1 }
     requires tree { tree store.now 0 ≡ Leaf 97 }

@@ -1,11 +1,11 @@
-//! Rows of position automata.
+//! Tests of position automata.
 use crate::formulas::nfa_of;
 use marker_nfa::{End, Nfa};
 use span_types::NoMemory;
 use std::alloc::Global;
 use std::test::Fail;
 
-/// An edge: where it begins, its mark, one of its bytes, and where it ends.
+/// An edge: its source state, its mark, one of its bytes, and its target state.
 type EdgeRow = (u16, u16, u8, u16);
 
 fn has_edge(nfa: &Nfa, row: EdgeRow) -> bool {
@@ -32,7 +32,7 @@ fn a_capture_before_a_letter(rt: HostRuntime) -> Result<(), Fail> {
     Ok(())
 }
 
-/// A formula as deep as the longest text.
+/// A formula as nested as the longest text allows.
 #[test]
 fn many_stars(rt: HostRuntime) -> Result<(), Fail> {
     let alloc = rt.alloc();
@@ -43,7 +43,7 @@ fn many_stars(rt: HostRuntime) -> Result<(), Fail> {
     Ok(())
 }
 
-/// The parts of a captured star's automaton make another one.
+/// An automaton made from the parts of the automaton of a captured star.
 fn made_of_parts(alloc: Global) -> Result<Nfa, NoMemory> {
     let made = nfa_of(alloc, b"$x{a*}")?;
     Nfa::of_parts(

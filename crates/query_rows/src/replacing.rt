@@ -1,4 +1,4 @@
-//! Rows of spans that are replaced.
+//! Tests of replaced spans.
 ghost use Rattle.std.specs.Prelude.{◌≡◌, ◌<◌};
 ghost use Rattle.query_rows.specs.OneLetter.{IsOneLetter};
 
@@ -9,13 +9,13 @@ use std::alloc::Global;
 use std::marker::Brand;
 use std::sync::ledger::{Blank, Ledger};
 
-/// The one answer that is a span.
+/// Whether the only chosen span is [1, 2).
 fn is_first(spans: &Chosen) -> bool {
     let taken = spans.spans();
     taken.len() == 1 && taken[0] == Span { start: 1, end: 2 }
 }
 
-/// Whether that one is deleted, which leaves no text.
+/// Whether this span is deleted, which leaves the empty text.
 fn deletes<L: Ledger>(
     alloc: Global,
     letter: &mut OneLetter,

@@ -1,11 +1,11 @@
-//! Rows of the subset construction.
+//! Tests of the subset construction.
 use crate::formulas::dfa_of;
 use marker_dfa::{Dfa, DfaRefusal};
 use std::alloc::{AllocError, Global};
 use std::fmt::Display;
 use std::test::Fail;
 
-/// The state after a mark and a byte, where the automaton has the state before.
+/// The state after a mark and a byte, if the automaton has the given state.
 fn next(dfa: &Dfa, state: u8, mark: u16, byte: u8) -> Option<u8> {
     if state < dfa.states() {
         dfa.next(state, mark, byte)
@@ -14,7 +14,7 @@ fn next(dfa: &Dfa, state: u8, mark: u16, byte: u8) -> Option<u8> {
     }
 }
 
-/// The marks that lead on from a state, and those that end there, where the automaton has it.
+/// The marks of transitions from a state on this byte, and those of its ends, if the automaton has the state.
 fn marks<'a>(dfa: &'a Dfa, state: u8, byte: u8) -> (&'a [u16], &'a [u16]) {
     if state < dfa.states() {
         (dfa.marks(state, byte), dfa.ends(state))
@@ -41,7 +41,7 @@ fn two_states(rt: HostRuntime) -> Result<(), Fail> {
     Ok(())
 }
 
-/// How many states the automaton of a text has, or why there is none.
+/// The number of states of a formula's automaton, or why there is none.
 fn states_of(alloc: Global, text: &[u8]) -> Result<u8, DfaRefusal> {
     Ok(dfa_of(alloc, text)?.states())
 }
@@ -69,7 +69,7 @@ fn texts_of_refusals(rt: HostRuntime) -> Result<(), Fail> {
     Ok(())
 }
 
-/// Whether a refusal is printed as this text.
+/// Whether an error is printed as this text.
 pub fn says<D: Display + Drop>(alloc: Global, why: D, text: &str) -> Result<bool, AllocError> {
     Ok(why.to_string(alloc)?.as_str() == text)
 }

@@ -1,5 +1,5 @@
-//! Rows of tables: a gate that shows that each node passes and that two pieces of a height run at once, and an order of nodes
-//! that isn't that of their ids.
+//! Tests of table computation, with a gate that shows that each node passes and that two pieces of a height run at
+//! once, and with an order of nodes that isn't that of their ids.
 ghost use Rattle.std.specs.Prelude.{◌≡◌, ◌<◌, ◌≤◌, [], IfOk};
 ghost use Rattle.table_grow.specs.Schedule.{IsSchedule};
 
@@ -21,7 +21,7 @@ use work_gate::{Gate, OpenGate};
 /// The formula whose automaton has the tables.
 const LETTERS: &[u8] = b"[abcdr]*";
 
-/// The tables by growth, with nothing remembered before.
+/// Computes the tables of a store, with an empty cache.
 fn grown<R: Threads + Sync, G: Gate, L: Ledger>(
     rt: &R,
     alloc: Global,
@@ -51,7 +51,7 @@ fn grown<R: Threads + Sync, G: Gate, L: Ledger>(
     Ok(tables)
 }
 
-/// What there is after growth: nodes, tables, distinct tables, and compositions that are remembered.
+/// The numbers after table computation: nodes, tables, distinct tables, and cached compositions.
 type Counts = (usize, usize, usize, usize);
 
 fn counted<R: Threads + Sync, G: Gate, L: Ledger>(
@@ -77,7 +77,7 @@ fn counted<R: Threads + Sync, G: Gate, L: Ledger>(
     ))
 }
 
-/// What there is after growth over the nodes of a short text.
+/// The numbers after table computation for the nodes of a short text.
 fn of_text<R: Threads + Sync, G: Gate, L: Ledger>(
     rt: &R,
     alloc: Global,
@@ -100,7 +100,7 @@ fn of_text<R: Threads + Sync, G: Gate, L: Ledger>(
     counted(rt, alloc, &store, size, workers, gate, &mut steps)
 }
 
-/// The sizes of the memory and the numbers of workers.
+/// The sizes of the cache and the numbers of workers.
 const SETTINGS: [(usize, u8); 4] = [(1, 1), (4096, 1), (1, 4), (4096, 64)];
 
 #[test]
@@ -123,10 +123,10 @@ fn one_table_on_any_workers(rt: HostRuntime) -> Result<(), Fail> {
     Ok(())
 }
 
-/// A text of letters and others, so that two tables have four compositions.
+/// A text of letters and other bytes, so that two tables have four compositions.
 const MIXED: &[u8] = b"axxaaxxxaa";
 
-/// How many compositions a memory has room for.
+/// The sizes of a cache, in compositions.
 const ROOMS: [usize; 3] = [1, 2, 3];
 
 #[test]
@@ -195,7 +195,7 @@ fn filled<L: Ledger>(
     Ok(tables)
 }
 
-/// Whether two nodes have the same tables in both.
+/// Whether two nodes have equal tables in both.
 fn are_same(left: &Tables, right: &Tables) -> bool {
     if left.count() != 2 || right.count() != 2 {
         return false;
@@ -217,7 +217,7 @@ fn same<R: Threads + Sync, L: Ledger>(
     Ok(are_same(&filled, &grown))
 }
 
-/// Whether two bytes get the same tables by growth as in an order that isn't that of their ids.
+/// Whether two bytes get the same tables in the usual order as in an order that isn't that of their ids.
 fn agree<R: Threads + Sync, L: Ledger>(
     rt: &R,
     alloc: Global,

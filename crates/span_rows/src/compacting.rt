@@ -1,4 +1,4 @@
-//! A session that is compacted between two pages of a listing.
+//! Tests of a compaction between two pages of a listing.
 ghost use Rattle.std.specs.Prelude.{◌≡◌, ◌<◌};
 
 use edge_io::{MemSink, SureShelf};
@@ -21,7 +21,7 @@ const LINES: [&str; 7] = [
     "list q d after x=[1,2) limit 1",
 ];
 
-/// How many nodes there are after each line.
+/// The number of nodes after each line.
 fn nodes<R: Threads + Sync, P: Ledger, T: Ledger, L: Ledger>(
     rt: &R,
     alloc: Global,

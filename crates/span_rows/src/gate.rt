@@ -1,4 +1,4 @@
-//! Gates that show that `run` hands on the workers that the words ask for.
+//! Tests that `run` uses the number of workers that the arguments set.
 use crate::running::{run_over, words_of};
 use edge_io::{MemSource, SureShelf, SureSink};
 use span_run::Status;
@@ -8,10 +8,11 @@ use std::test::Fail;
 use std::thread::Threads;
 use work_gate::Gate;
 
-/// How many turns one that arrives waits for the next.
+/// The maximum number of turns that a thread waits for another.
 const TURNS: u32 = 50_000_000;
 
-/// Lets so many pass, and holds the next one that arrives until another has arrived, for a stated number of turns.
+/// A gate that lets `passing` threads pass. It holds the next thread until another one arrives, for at most `TURNS`
+/// turns.
 #[derive(Drop)]
 struct Meeting {
     passing: u64,
@@ -33,10 +34,11 @@ impl Gate for Meeting {
     }
 }
 
-/// How a run over the gate ended: its status, how many arrived, and whether the gate gave up.
+/// The outcome of a run over the gate: its status, the number of arrivals, and the number of threads that waited in
+/// vain.
 type Met = (Status, u64, u64);
 
-/// Runs a script with two workers, over a gate that lets so many pass before it holds one.
+/// Runs a script with two workers over a gate that lets `passing` threads pass before it holds one.
 fn met<R: Threads + Sync>(
     rt: &R,
     alloc: Global,
@@ -63,7 +65,8 @@ fn met<R: Threads + Sync>(
     Ok((status, arrived, gate.gave_up.load(Ordering::SeqCst)))
 }
 
-/// Scripts, how many pass before one is held, and how many arrive: first two nodes meet, and then two documents.
+/// Scripts, the number of threads that pass before one is held, and the number of arrivals. In the first script two
+/// nodes meet, in the second two documents.
 const MEETINGS: [(&str, u64, u64); 2] = [
     ("text d abcd\nquery q .*\ntest q d\n", 0, 7),
     ("text a a\ntext b b\nquery q .\ntest q a\nlistall q\n", 2, 4),

@@ -1,4 +1,4 @@
-//! A sink that takes half of each piece, and runs of a script over it.
+//! A sink that accepts half of each piece, and runs of a script over it.
 ghost use Rattle.std.specs.Prelude.{◌≡◌, ◌<◌, ◌≤◌, Some, length, IfOk};
 ghost use Rattle.std.specs.Io.KnownBytes.{Keeps, WriteAppends};
 ghost use Rattle.edge_io.specs.Causes.{HasWriteCause};
@@ -11,7 +11,7 @@ use std::marker::Model;
 use std::thread::Threads;
 use work_gate::OpenGate;
 
-/// A sink into memory that never fails, and takes the first half of each piece, of an odd one with the byte in the middle.
+/// A sink into memory that never fails, and accepts only the first half of each piece, rounded up.
 #[derive(Drop)]
 struct HalfSink {
     inner: SureSink,
@@ -26,7 +26,7 @@ impl Model for HalfSink {
 }
 
 impl HalfSink {
-    /// A sink that has no bytes yet.
+    /// An empty sink.
     fn new(alloc: Global) -> HalfSink {
         HalfSink {
             inner: SureSink::new(alloc),
@@ -69,7 +69,7 @@ impl Sink for HalfSink {
     }
 }
 
-/// Runs a script over such a sink and no files: the status, and what was written.
+/// Runs a script over such a sink and without files. Returns the status and the written bytes.
 pub fn ran_by_halves<R: Threads + Sync>(
     rt: &R,
     alloc: Global,

@@ -1,4 +1,4 @@
-//! Listings of texts of up to 2^48 bytes, which doublings make.
+//! Tests of listings of texts of up to 2^48 bytes, made by doubling.
 
 use crate::running::{Setting, plain, ran, words_of};
 use crate::tests::{ends_with, repeated};
@@ -19,11 +19,11 @@ fn first_page(alloc: Global, last: &str) -> Result<Vec<u8>, AllocError> {
     Ok(script)
 }
 
-/// The last page, and questions about its answer.
+/// The last page, and questions about its answers.
 const LAST_PAGE: &str =
     "list q d after x=[281474976710652,281474976710654)\nhas q d x=[281474976710654,281474976710656)\ntest q d\n";
 
-/// The last of the 2,325 bytes of all replies.
+/// The end of the 2,325 bytes of all replies.
 const PAGES: &str =
     "\nok q x\nx=[2,4)\nx=[4,6)\nmore\nx=[281474976710654,281474976710656)\nend\nyes\nyes\n";
 
@@ -65,7 +65,7 @@ const SMALL_DEMO: &str =
 const LARGE_DEMO: &str =
     "ok b 140737488355327 \"aabababababababababababababababa\"\nok q x\nx=[1,3)\nend\nok c 281474976710655 \"aabababababababababababababababa\"\nok r x y\nx=[3,4),y=[4,5)\nx=[5,6),y=[6,7)\nmore\nx=[7,8),y=[8,9)\nmore\na 140737488355328\nb 140737488355327\nc 281474976710655\nend\n";
 
-/// Words, how many bytes they give, and the last of these.
+/// Arguments, the length of their output in bytes, and the end of the output.
 const DEMOS: [(&[&str], usize, &str); 3] = [
     (&["--demo", "3"], 244, SMALL_DEMO),
     (&["--demo", "46"], 2449, LARGE_DEMO),

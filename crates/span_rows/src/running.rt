@@ -10,7 +10,7 @@ use std::sync::ledger::{Blank, Ledger};
 use std::thread::Threads;
 use work_gate::{Gate, OpenGate};
 
-/// How the objects in memory behave, and the words.
+/// The behaviour of the objects in memory, and the command-line arguments.
 #[derive(Clone, Copy)]
 pub struct Setting<'a> {
     pub words: &'a [String],
@@ -19,7 +19,7 @@ pub struct Setting<'a> {
     pub bad_write: u64,
 }
 
-/// No words, and objects that never fail.
+/// No arguments, and objects that never fail.
 pub fn plain<'a>() -> Setting<'a> {
     Setting {
         words: &[],
@@ -29,7 +29,7 @@ pub fn plain<'a>() -> Setting<'a> {
     }
 }
 
-/// Words of the command line.
+/// Command-line arguments.
 pub fn words_of(alloc: Global, words: &[&str]) -> Result<Vec<String>, AllocError> {
     let mut all = Vec::new(alloc);
     for word in words {
@@ -38,7 +38,7 @@ pub fn words_of(alloc: Global, words: &[&str]) -> Result<Vec<String>, AllocError
     Ok(all)
 }
 
-/// Runs a script over objects in memory without files: the status, and what was written.
+/// Runs a script over objects in memory, without files. Returns the status and the written bytes.
 pub fn ran<R: Threads + Sync>(
     rt: &R,
     alloc: Global,
@@ -49,7 +49,7 @@ pub fn ran<R: Threads + Sync>(
     ran_over(rt, alloc, script, setting, &mut shelf)
 }
 
-/// Runs a script over these files: the status, and what was written.
+/// Runs a script over these files. Returns the status and the written bytes.
 pub fn ran_over<R: Threads + Sync, F: Shelf>(
     rt: &R,
     alloc: Global,

@@ -1,4 +1,4 @@
-//! Files of a session over shelves in memory: what is loaded, saved and opened, and what a failing call leaves.
+//! Tests of files over file stores in memory: loading, saving, opening, and the result of a failing call.
 
 ghost use Rattle.std.specs.Prelude.{None};
 
@@ -10,7 +10,7 @@ use std::test::Fail;
 use std::thread::Threads;
 use work_gate::OpenGate;
 
-/// What a run left: its status, what was written, and the bytes of the file `f`, none where it isn't there.
+/// The result of a run: its status, the written bytes, and the bytes of the file `f`, or none if it doesn't exist.
 #[derive(Drop)]
 struct Remains {
     status: Status,
@@ -18,7 +18,7 @@ struct Remains {
     file: Vec<u8>,
 }
 
-/// A shelf with one file, whose reads give at most `piece` bytes, and which fails at the call with this number.
+/// A file store with one file. Its reads return at most `piece` bytes, and the call with number `bad_call` fails.
 fn shelf_of(
     alloc: Global,
     name: &str,
@@ -31,7 +31,7 @@ fn shelf_of(
     Ok(MemShelf::new(files, piece.max(1), vec![in alloc; bad_call]?))
 }
 
-/// Runs a script over a shelf.
+/// Runs a script over a file store.
 fn remains_over<R: Threads + Sync>(
     rt: &R,
     alloc: Global,
@@ -49,7 +49,7 @@ fn remains_over<R: Threads + Sync>(
     })
 }
 
-/// Runs a script over a shelf with one file.
+/// Runs a script over a file store with one file.
 fn remains_of<R: Threads + Sync>(
     rt: &R,
     alloc: Global,
@@ -66,7 +66,7 @@ fn remains_of<R: Threads + Sync>(
 const SMALL_IMAGE: &[u8] =
     b"SLPI\x01\0\0\0\0\0\0\0\x03\0a\0b\x01\0\0\0\0\0\0\0\0\0\0\0\0\0\0\0\x01\0\0\0\0\0\0\0\x01\x01d\0\0\0\0\0\0\0\x02";
 
-/// An image whose document `d` is a run of 2^47 times `ab`.
+/// An image whose document `d` is a run of 2^47 copies of `ab`.
 const LONG_IMAGE: &[u8] =
     b"SLPI\x02\0\0\0\0\0\0\0\x04\0a\0b\x01\0\0\0\0\0\0\0\0\0\0\0\0\0\0\0\x01\x02\0\0\0\0\0\0\0\x02\0\0\x80\0\0\0\0\0\0\0\0\0\0\0\0\x01\x01d\0\0\0\0\0\0\0\x03";
 
@@ -123,7 +123,7 @@ fn files_are_read(rt: HostRuntime) -> Result<(), Fail> {
     Ok(())
 }
 
-/// The image of 1,024 times `ab`, saved by a session.
+/// The image of 1,024 copies of `ab`, saved by a session.
 fn saved_image<R: Threads + Sync>(rt: &R, alloc: Global) -> Result<Remains, AllocError> {
     let text = "ab".repeat(alloc, 1024)?;
     let script = "load d f\nsave f\n";
@@ -144,7 +144,7 @@ fn an_image_is_saved(rt: HostRuntime) -> Result<(), Fail> {
     Ok(())
 }
 
-/// A shelf whose files have more bytes than `load` takes, by rule. It tells nothing.
+/// A file store whose files have computed bytes, more than `load` accepts. Its files are not observable.
 #[derive(Drop)]
 struct Endless;
 
@@ -188,7 +188,7 @@ fn file_too_long(rt: HostRuntime) -> Result<(), Fail> {
     Ok(())
 }
 
-/// A script for runs in which one call fails, over one file, and objects that move one byte a call.
+/// A script over one file, for runs in which one call fails, and objects that move one byte in each call.
 #[derive(Clone, Copy)]
 struct Faulted {
     name: &'static str,
@@ -196,20 +196,20 @@ struct Faulted {
     script: &'static str,
     output: &'static str,
 
-    /// The first number that no call of the source has: it is called for each byte and once more for the end.
+    /// The number after that of the source's last call. The source is called for each byte, and once more for the end.
     reads: u64,
 
-    /// The first number that no call of the sink has: it is called for each byte.
+    /// The number after that of the sink's last call. The sink is called for each byte.
     writes: u64,
 
-    /// Of calls of the shelf with these numbers: how many bytes are written where one of them fails, and how many `f` has
+    /// For each call of the file store, by its number: the number of bytes written if it fails, and the length of `f`
     /// then. In the last row no call has the number.
     calls: &'static [(u64, u64, usize, usize)],
 }
 
-/// A file is first asked for the byte behind its limit, then for each byte, and last for its end; it is put by one call.
+/// The byte after the limit of a file is read first, then each byte, and last its end. A file is written by one call.
 const FAULTED: [Faulted; 3] = [
-    // Each command over files once, and questions after them.
+    // Each command on files once, and questions after them.
     Faulted {
         name: "f",
         bytes: b"abab",
@@ -224,7 +224,7 @@ const FAULTED: [Faulted; 3] = [
             (89, 89, 52, 79),
         ],
     },
-    // Each command over files but `load`, and listings.
+    // Each command on files except `load`, and listings.
     Faulted {
         name: "g",
         bytes: b"",
@@ -251,7 +251,7 @@ const FAULTED: [Faulted; 3] = [
     },
 ];
 
-/// What a run of the script leaves whose source, sink or shelf fails at the call with this number.
+/// The result of a run of the script, if the call of the source, the sink or the file store with this number fails.
 fn remains_with<R: Threads + Sync>(
     rt: &R,
     alloc: Global,
@@ -328,7 +328,7 @@ fn each_call_of_a_shelf_fails(rt: HostRuntime) -> Result<(), Fail> {
     Ok(())
 }
 
-/// A script over a shelf on which `closed` can't be read and `shut` can't be written: its replies.
+/// A script over a file store in which `closed` can't be read and `shut` can't be written.
 const CLOSED: &str =
     "load d closed\nopen closed\ntext d a\nsave shut\nsave open\nload e missing\nnames\n";
 
@@ -350,7 +350,7 @@ fn names_that_are_closed(rt: HostRuntime) -> Result<(), Fail> {
     Ok(())
 }
 
-/// Runs a script over output that is kept back and whose first write fails: the status, and whether a file `f` is there then.
+/// Runs a script over a buffered sink whose first write fails. Returns the status, and whether a file `f` exists then.
 fn ran_kept_back<R: Threads + Sync>(
     rt: &R,
     alloc: Global,

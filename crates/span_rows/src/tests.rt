@@ -174,7 +174,7 @@ fn rows_by_halves(rt: HostRuntime) -> Result<(), Fail> {
     Ok(())
 }
 
-/// A script that begins with a line and goes on with another, so many times.
+/// A script of a first line, then another line repeated, and then a last text.
 pub fn repeated(
     alloc: Global,
     first: &str,
@@ -194,8 +194,8 @@ pub fn ends_with(written: &[u8], end: &str) -> bool {
     written.ends_with(end.as_bytes())
 }
 
-/// A script that begins with a text and goes on with another so many times, what ends it, the status, the last bytes that are
-/// written, and whether these are all.
+/// A script's first text, the text that is repeated, its number of repetitions, the last text, the status, the end of
+/// the output, and whether this is the whole output.
 type LongRow = (
     &'static str,
     &'static str,
@@ -206,7 +206,7 @@ type LongRow = (
     bool,
 );
 
-/// How a long script ends, and whether the row says what it writes.
+/// The status of a long script, and whether its output is as expected.
 fn told<R: Threads + Sync>(
     rt: &R,
     alloc: Global,
@@ -341,7 +341,7 @@ fn script_of_a_byte_too_many(rt: HostRuntime) -> Result<(), Fail> {
     Ok(())
 }
 
-/// The number of the failing read, that of the failing write, the status, and what was written.
+/// The number of the failing read and that of the failing write, or 0 for none, the status, and the written bytes.
 const FAULTS: [(u64, u64, Status, &str); 3] = [
     (1, 0, Status::ScriptFault, ""),
     (0, 2, Status::OutFault, "ok d 2 \"ab\"\n"),

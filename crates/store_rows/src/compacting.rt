@@ -1,4 +1,4 @@
-//! Rows of stores that are compacted.
+//! Tests of compaction.
 use doc_book::Docs;
 use doc_compact::compact;
 use doc_versions::Versions;
@@ -8,7 +8,7 @@ use std::alloc::Global;
 use std::test::Fail;
 use store_compact::Plan;
 
-/// How many nodes there are before and after, where no document is there.
+/// The numbers of nodes before and after a compaction without documents.
 fn counts(alloc: Global) -> Result<(usize, usize), NoMemory> {
     let mut store = Store::new(alloc);
     store.byte(b'a')?;
@@ -29,7 +29,7 @@ fn nodes_that_nothing_reaches_go(rt: HostRuntime) -> Result<(), Fail> {
     Ok(())
 }
 
-/// How many nodes are left of two bytes of which the second is kept, and whether the first and the second are.
+/// The number of nodes left of two bytes when the second is kept, and whether the first and the second are left.
 fn second_of_two(alloc: Global) -> Result<(usize, bool, bool), NoMemory> {
     let mut store = Store::new(alloc);
     let first = store.byte(b'a')?;

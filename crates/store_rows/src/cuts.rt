@@ -1,4 +1,4 @@
-//! A row of cuts.
+//! Tests of splitting.
 ghost use Rattle.std.specs.Prelude.{◌≡◌, ◌<◌};
 
 use crate::tried::{len, pair, part, parts};

@@ -1,4 +1,4 @@
-//! Rows of documents and versions by name.
+//! Tests of documents and versions by name.
 use crate::tried::says;
 use doc_book::{Docs, Missing};
 use doc_versions::{VersionRefusal, Versions};
@@ -11,7 +11,7 @@ fn named(alloc: Global, name: &[u8]) -> Result<Name, NoMemory> {
     Name::new(alloc, name).map_err(|_| NoMemory)
 }
 
-/// The documents of these names, each of which has in turn the root of this number.
+/// Documents with these names and the roots with these numbers, set in this order.
 fn docs_of(alloc: Global, rows: &[(&[u8], usize)]) -> Result<Docs, NoMemory> {
     let mut docs = Docs::new(alloc);
     for (name, index) in rows {
@@ -20,7 +20,7 @@ fn docs_of(alloc: Global, rows: &[(&[u8], usize)]) -> Result<Docs, NoMemory> {
     Ok(docs)
 }
 
-/// The number of a document's root, where there is the document.
+/// The number of a document's root, or `None` if there is no such document.
 fn root_of(docs: &Docs, name: &[u8]) -> Option<Option<usize>> {
     match docs.get(name) {
         Ok(Some(id)) => Some(Some(id.index)),
@@ -55,7 +55,7 @@ fn documents_by_name(rt: HostRuntime) -> Result<(), Fail> {
     Ok(())
 }
 
-/// Versions of these names, each of which has in turn the document `d` with the root of this number.
+/// Versions with these names, marked in this order, each with a document `d` whose root has this number.
 fn versions_of(alloc: Global, rows: &[(&[u8], usize)]) -> Result<Versions, NoMemory> {
     let mut versions = Versions::new(alloc);
     for (name, index) in rows {
@@ -65,7 +65,7 @@ fn versions_of(alloc: Global, rows: &[(&[u8], usize)]) -> Result<Versions, NoMem
     Ok(versions)
 }
 
-/// The number of the root of the document `d` in a version, where there are both.
+/// The number of the root of the document `d` in a version, or `None` if one of them doesn't exist.
 fn root_in(alloc: Global, versions: &Versions, version: &[u8]) -> Option<Option<usize>> {
     match versions.back(alloc, version) {
         Ok(docs) => root_of(&docs, b"d"),

@@ -1,4 +1,4 @@
-//! Rows of editing expressions.
+//! Tests of editing expressions.
 ghost use Rattle.std.specs.Prelude.{◌≡◌, ◌<◌, IfOk};
 ghost use Rattle.edit_expr.specs.Values.{AreLive};
 
@@ -86,7 +86,7 @@ fn nesting(rt: HostRuntime) -> Result<(), Fail> {
     Ok(())
 }
 
-/// A text whose nesting is this.
+/// The text of an expression nested this deep.
 fn nested(alloc: Global, depth: u8) -> Result<Vec<u8>, AllocError> {
     let mut text = Vec::new(alloc);
     for _ in 0..depth {
@@ -99,7 +99,7 @@ fn nested(alloc: Global, depth: u8) -> Result<Vec<u8>, AllocError> {
     Ok(text)
 }
 
-/// Expressions where `d` is `ab`, and their values.
+/// Expressions with `d` = `ab`, and their values.
 const VALUES: &[(&[u8], &[u8])] = &[
     (b"d", b"ab"),
     (b"concat(d,d)", b"abab"),
@@ -121,7 +121,7 @@ fn values(rt: HostRuntime) -> Result<(), Fail> {
     Ok(())
 }
 
-/// Expressions where `d` is `ab`, and why they have no values.
+/// Expressions with `d` = `ab`, and their errors.
 const REFUSALS: &[(&[u8], &str)] = &[
     (b"nope", "no document is named nope"),
     (b"concat(d,nope)", "no document is named nope"),
@@ -132,7 +132,7 @@ const REFUSALS: &[(&[u8], &str)] = &[
     (b"insert(d,nope,9)", "no document is named nope"),
 ];
 
-/// The text of an expression's refusal, or none where it has a value.
+/// The text of an expression's error, or the empty text if it has a value.
 fn refusal_of(alloc: Global, text: &[u8]) -> Result<String, AllocError> {
     match edited::<Brand>(alloc, text, Blank::new(1)) {
         Ok(_) => Ok(String::new(alloc)),
@@ -209,7 +209,7 @@ fn value_of<L: Ledger>(
     bytes_of(alloc, store, root).map_err(|_| EditRefusal::NoMemory)
 }
 
-/// The bytes of an expression's value, where the document `d` is `ab`.
+/// The bytes of an expression's value, with the document `d` = `ab`.
 fn edited<L: Ledger>(alloc: Global, text: &[u8], blank: Blank) -> Result<Vec<u8>, EditRefusal>
     requires name { blank.name ≡ L.name }
     requires parts { blank.parts ≡ L.parts }
@@ -221,7 +221,7 @@ fn edited<L: Ledger>(alloc: Global, text: &[u8], blank: Blank) -> Result<Vec<u8>
     value_of(alloc, text, &docs, &mut store, &mut pairs)
 }
 
-/// The bytes below a root, of which there are few.
+/// The bytes of a root's text, which must be short.
 fn bytes_of(alloc: Global, store: &Store, root: Option<NodeId>) -> Result<Vec<u8>, AllocError> {
     let mut bytes = Vec::new(alloc);
     let mut open = Vec::new(alloc);

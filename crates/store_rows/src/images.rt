@@ -1,4 +1,4 @@
-//! Rows of images.
+//! Tests of images.
 ghost use Rattle.std.specs.Prelude.{◌≡◌, ◌<◌};
 
 use doc_book::Docs;
@@ -14,11 +14,11 @@ use std::test::Fail;
 const SMALL: [u8; 52] =
     *b"SLPI\x01\0\0\0\0\0\0\0\x03\0a\0b\x01\0\0\0\0\0\0\0\0\0\0\0\0\0\0\0\x01\0\0\0\0\0\0\0\x01\x01d\0\0\0\0\0\0\0\x02";
 
-/// The image of one document `d` with 2^47 times the text `ab`.
+/// The image of one document `d` with 2^47 copies of the text `ab`.
 const RUN: [u8; 69] =
     *b"SLPI\x02\0\0\0\0\0\0\0\x04\0a\0b\x01\0\0\0\0\0\0\0\0\0\0\0\0\0\0\0\x01\x02\0\0\0\0\0\0\0\x02\0\0\x80\0\0\0\0\0\0\0\0\0\0\0\0\x01\x01d\0\0\0\0\0\0\0\x03";
 
-/// The length of the document `d`, or the kind of the refusal, or 0 where neither is there.
+/// The length of the document `d`, or the number of the error's kind, or 0 without either.
 fn outcome(alloc: Global, bytes: &[u8]) -> Result<u64, u8> {
     measured::<Brand>(alloc, bytes, Blank::new(1))
 }
@@ -44,7 +44,7 @@ fn len_of(docs: &Docs, store: &Store) -> Result<u64, u8> {
     }
 }
 
-/// The outcome with another byte at a place, and more bytes at the end.
+/// The outcome with another byte at index `place`, and more bytes at the end.
 fn changed(alloc: Global, bytes: &[u8], place: usize, byte: u8, more: &[u8]) -> Result<u64, u8> {
     let Ok(mut copy) = bytes.to_vec(alloc) else {
         return Err(0);
@@ -58,12 +58,12 @@ fn changed(alloc: Global, bytes: &[u8], place: usize, byte: u8, more: &[u8]) -> 
     outcome(alloc, &copy)
 }
 
-/// A number of eight bytes after the others.
+/// Appends a number as eight bytes, big-endian.
 fn push_number(out: &mut Vec<u8>, number: u64) -> Result<(), AllocError> {
     out.extend_from_slice(&number.to_be_bytes())
 }
 
-/// A record after the others.
+/// Appends a record.
 fn push_record(out: &mut Vec<u8>, node: Node) -> Result<(), AllocError> {
     match node {
         Node::Byte(byte) => out.extend_from_slice(&[0, byte]),
@@ -75,7 +75,7 @@ fn push_record(out: &mut Vec<u8>, node: Node) -> Result<(), AllocError> {
     }
 }
 
-/// An image of these records, whose document `d` is the last.
+/// An image of these records, whose document `d` is the last record.
 fn image_of(alloc: Global, version: u8, nodes: &[Node]) -> Result<Vec<u8>, AllocError> {
     let count = nodes.len() as u64;
     let mut out = b"SLPI".to_vec(alloc)?;
@@ -90,7 +90,7 @@ fn image_of(alloc: Global, version: u8, nodes: &[Node]) -> Result<Vec<u8>, Alloc
     Ok(out)
 }
 
-/// A byte, and so many pairs, each of the record before it with itself.
+/// A byte, and `times` pairs, each of the record before it with itself.
 fn doublings(alloc: Global, times: usize) -> Result<Vec<Node>, AllocError> {
     let mut nodes = vec![in alloc; Node::Byte(b'a')]?;
     for index in 0..times {
@@ -111,7 +111,7 @@ fn copies_of_ab(alloc: Global) -> Result<Vec<Node>, AllocError> {
     Ok(nodes)
 }
 
-/// A byte, and pairs of the record before with the byte.
+/// A byte, and pairs, each of the record before it with the byte.
 fn stair(alloc: Global) -> Result<Vec<Node>, AllocError> {
     let first = NodeId { index: 0 };
     let mut nodes = vec![in alloc; Node::Byte(b'a')]?;
@@ -174,7 +174,7 @@ fn heights_and_lengths(rt: HostRuntime) -> Result<(), Fail> {
     Ok(())
 }
 
-/// The image of what the bytes say.
+/// The image that is written after these bytes were read.
 fn saved<L: Ledger>(alloc: Global, bytes: &[u8], blank: Blank) -> Result<Image, ImageRefusal>
     requires name { blank.name ≡ L.name }
     requires parts { blank.parts ≡ L.parts }

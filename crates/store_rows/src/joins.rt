@@ -1,4 +1,4 @@
-//! A row of joins.
+//! Tests of concatenation.
 ghost use Rattle.std.specs.Prelude.{◌≡◌, ◌<◌};
 
 use crate::tried::{joined, len};
@@ -17,7 +17,7 @@ fn two_bytes_joined(rt: HostRuntime) -> Result<(), Fail> {
     twice::<Brand>(&rt, alloc, Blank::new(1))
 }
 
-/// Two short roots, one after the other.
+/// The concatenation of two short roots.
 fn concatenated<L: Ledger>(
     store: &mut Store,
     left: NodeId,

@@ -1,12 +1,13 @@
-//! Worked rows of documents by name, joins, loaded texts, cuts, ranges, edits, images and compacted stores.
+//! Tests of documents by name, concatenation, loaded texts, splitting, ranges, edits, images and compaction.
 //!
 //! ```text
 //! row    copy(concat(d,d),1,3,5), where d is ab    ababab
 //! row    an image whose magic has another byte     the first fault
 //! ```
 //!
-//! The crate has tests alone, of the crates between `name_map` and `slp_image`, as `node_store`, `pair_loader`, `edit_expr` and
-//! `doc_compact`. They stand apart from these, so that each of them is proved once. They take little time and memory.
+//! The crate has only tests, of the crates between `name_map` and `slp_image`, such as `node_store`, `pair_loader`,
+//! `edit_expr` and `doc_compact`. They are a crate of their own, so that these crates are not proved again when a test
+//! changes. They take little time and memory.
 #![tactic(auto)]
 
 #[cfg(test)]

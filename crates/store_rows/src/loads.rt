@@ -1,4 +1,4 @@
-//! The loader's trees of short texts.
+//! Tests of the loader's trees of short texts.
 ghost use Rattle.std.specs.Prelude.{◌≡◌, ◌<◌};
 
 use node_store::{Node, NodeId, Store};
@@ -9,10 +9,10 @@ use std::marker::Brand;
 use std::sync::ledger::{Blank, Ledger};
 use std::test::Fail;
 
-/// A text's length and its root's height, each 0 where it has no root, and the number of nodes.
+/// A text's length and its root's height, both 0 without a root, and the number of nodes.
 type Shape = (u64, u8, usize);
 
-/// The shape of a text of at most 2^20 bytes that is loaded.
+/// The shape of a loaded text of at most 2^20 bytes.
 fn loaded<L: Ledger>(alloc: Global, text: &[u8], blank: Blank) -> Result<Shape, NoMemory>
     requires name { blank.name ≡ L.name }
     requires parts { blank.parts ≡ L.parts }
@@ -33,7 +33,7 @@ fn shape(alloc: Global, text: &[u8]) -> Result<Shape, NoMemory> {
     loaded::<Brand>(alloc, text, Blank::new(1))
 }
 
-/// A text of 20,000 bytes, of whose words all but the first are found, is the last.
+/// The last text has 20,000 bytes. All its words except the first are found in the loader's table.
 #[test]
 fn trees_of_texts(rt: HostRuntime) -> Result<(), Fail> {
     let alloc = rt.alloc();
@@ -45,14 +45,14 @@ fn trees_of_texts(rt: HostRuntime) -> Result<(), Fail> {
     Ok(())
 }
 
-/// Where the pieces of `abcde` end, and how many nodes there are after each.
+/// The ends of the pieces of `abcde`, and the number of nodes after each piece.
 const PIECES: &[(&[usize], &[usize])] = &[
     (&[1, 2, 3, 4, 5], &[1, 3, 4, 7, 8]),
     (&[5], &[8]),
     (&[2, 2, 5], &[3, 3, 8]),
 ];
 
-/// Whether `abcde` in these pieces has so many nodes after each, and in the end its tree.
+/// Whether loading `abcde` in these pieces makes these numbers of nodes, and its tree at the end.
 fn pieces<L: Ledger>(
     alloc: Global,
     ends: &[usize],
@@ -94,7 +94,7 @@ fn trees_of_pieces(rt: HostRuntime) -> Result<(), Fail> {
     Ok(())
 }
 
-/// The nodes of `abcde`: `Pair(Pair(a, b), Pair(Pair(c, d), e))`, beside the block of `abcd`.
+/// The nodes of `abcde`: `Pair(Pair(a, b), Pair(Pair(c, d), e))`, and the block of `abcd`.
 const ABCDE: [Node; 10] = [
     Node::Byte(b'a'),
     Node::Byte(b'b'),

@@ -1,4 +1,4 @@
-//! Rows of values by name.
+//! Tests of maps from names to values.
 use name_map::NameMap;
 use span_types::{Name, NoMemory};
 use std::alloc::Global;
@@ -10,7 +10,7 @@ fn set(alloc: Global, sizes: &mut NameMap<u8>, name: &[u8], size: u8) -> Result<
     sizes.set(alloc, name, size)
 }
 
-/// The sizes of these names, each set in turn.
+/// A map with these names and sizes, set in this order.
 fn sizes_of(alloc: Global, rows: &[(&[u8], u8)]) -> Result<NameMap<u8>, NoMemory> {
     let mut sizes = NameMap::new(alloc);
     for (name, size) in rows {
@@ -19,7 +19,7 @@ fn sizes_of(alloc: Global, rows: &[(&[u8], u8)]) -> Result<NameMap<u8>, NoMemory
     Ok(sizes)
 }
 
-/// Whether the name and the size stand at a place.
+/// Whether the map has the name and the size at index `place`.
 fn stands_at(sizes: &NameMap<u8>, place: usize, name: &[u8], size: u8) -> bool {
     if place >= sizes.count() {
         return false;
@@ -60,7 +60,7 @@ fn sizes_by_name(rt: HostRuntime) -> Result<(), Fail> {
     Ok(())
 }
 
-/// The first name is taken out and comes again, which puts it last.
+/// A map from which the first name was removed and set again, which puts it last.
 fn b_and_a(rt: &impl Abort, alloc: Global) -> Result<NameMap<u8>, NoMemory> {
     let mut sizes = sizes_of(alloc, &[(b"a", 1), (b"b", 2), (b"a", 3)])?;
     assert!(rt; taken(&mut sizes, b"a") == Some(3));

@@ -1,4 +1,4 @@
-//! Rows of ranges of a text.
+//! Tests of reading ranges of a text.
 ghost use Rattle.std.specs.Prelude.{◌≡◌, ◌<◌};
 ghost use Rattle.slp_model.specs.Nodes.{IsLive};
 
@@ -11,7 +11,7 @@ use std::marker::Brand;
 use std::sync::ledger::{Blank, Ledger};
 use std::test::Fail;
 
-/// Where a range of `abcde` begins and ends, and its bytes.
+/// The start and the end of a range of `abcde`, and its bytes.
 const RANGES: &[(u64, u64, &[u8])] = &[
     (1, 6, b"abcde"),
     (1, 5, b"abcd"),
@@ -21,7 +21,7 @@ const RANGES: &[(u64, u64, &[u8])] = &[
     (6, 6, b""),
 ];
 
-/// The bytes of a range, in a text that has it.
+/// The bytes of a range, which must be in the text.
 fn range_in(
     alloc: Global,
     store: &Store,
@@ -68,7 +68,7 @@ fn ranges(rt: HostRuntime) -> Result<(), Fail> {
     Ok(())
 }
 
-/// The range of a text without bytes.
+/// The range of the empty text.
 #[test]
 fn no_bytes(rt: HostRuntime) -> Result<(), Fail> {
     let store = Store::new(rt.alloc());

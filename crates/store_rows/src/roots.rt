@@ -1,4 +1,4 @@
-//! A row of the trees of records as they come.
+//! Tests of the trees of records, as they are read.
 ghost use Rattle.std.specs.Prelude.{◌≡◌, ◌<◌};
 
 use node_store::Store;
@@ -9,7 +9,7 @@ use std::marker::Brand;
 use std::sync::ledger::{Blank, Ledger};
 use std::test::Fail;
 
-/// How many records there are, and how many nodes: two bytes, their pair, and the second byte three times.
+/// The numbers of records and of nodes, for two bytes, their pair, and the second byte three times.
 fn two_bytes<L: Ledger>(alloc: Global, blank: Blank) -> Result<(usize, usize), NoMemory>
     requires name { blank.name ≡ L.name }
     requires parts { blank.parts ≡ L.parts }

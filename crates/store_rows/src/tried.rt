@@ -1,5 +1,5 @@
-//! Calls whose conditions are looked at when they run, so that a row needs no clauses. One that doesn't hold is told as a want
-//! of memory.
+//! Calls whose preconditions are checked at run time, so that tests need no contracts. A violated precondition is
+//! reported as an allocation failure.
 ghost use Rattle.std.specs.Prelude.{◌<◌, IfOk, length};
 
 use node_store::{NodeId, Store};
@@ -10,7 +10,7 @@ use std::alloc::{AllocError, Global};
 use std::fmt::Display;
 use std::sync::ledger::Ledger;
 
-/// The length of a node's text, and 0 where there is no such node.
+/// The length of a node's text, or 0 if there is no such node.
 pub fn len(store: &Store, id: NodeId) -> u64 {
     if id.index < store.count() {
         store.len(id)
@@ -41,7 +41,7 @@ pub fn pair<L: Ledger>(
     store.pair(left, right, pairs)
 }
 
-/// The join of two short texts.
+/// The concatenation of two short texts.
 pub fn joined<L: Ledger>(
     store: &mut Store,
     left: NodeId,
@@ -58,7 +58,7 @@ pub fn joined<L: Ledger>(
     join(store, left, right, pairs)
 }
 
-/// The two parts of a text that is cut.
+/// The two parts of a text that is split.
 pub fn parts<L: Ledger>(
     store: &mut Store,
     id: NodeId,
@@ -85,7 +85,7 @@ pub fn part<L: Ledger>(
     extract(store, Some(id), from, to, pairs)
 }
 
-/// Whether a refusal is printed as this text.
+/// Whether an error is printed as this text.
 pub fn says<D: Display + Drop>(alloc: Global, why: D, text: &str) -> Result<bool, AllocError> {
     Ok(why.to_string(alloc)?.as_str() == text)
 }

@@ -12,12 +12,12 @@ use std::test::Fail;
 use std::thread::Threads;
 use work_gate::OpenGate;
 
-/// How many newlines there are.
+/// The number of newlines.
 fn newlines(bytes: &[u8]) -> usize {
     bytes.iter().filter(|byte| **byte == b'\n').count()
 }
 
-/// A client of whom it is known how much must be written when so many of its lines have come.
+/// A client that checks the output: after each of its lines, `due` has the number of bytes that must have been written.
 #[derive(Drop)]
 struct Heedful {
     source: MemSource,
@@ -43,7 +43,7 @@ impl Client<SureSink> for Heedful {
     }
 }
 
-/// What prompts are written to: it takes nothing.
+/// A writer for prompts that accepts nothing.
 #[derive(Drop)]
 struct Closed;
 
@@ -88,7 +88,7 @@ fn counted<R: Threads + Sync, C: Client<K>, K: Sink, P: Ledger, T: Ledger, L: Le
     )
 }
 
-/// Talks with a client over files in memory.
+/// Runs a conversation with a client over files in memory.
 fn talked<R: Threads + Sync, C: Client<K>, K: Sink>(
     rt: &R,
     alloc: Global,
@@ -106,7 +106,8 @@ fn talked<R: Threads + Sync, C: Client<K>, K: Sink>(
     )
 }
 
-/// Talks with who sends a script in pieces, where these reads and writes fail: the status, and what was written.
+/// Runs a conversation with a sender of a script in pieces, where these reads and writes fail. Returns the status and
+/// the written bytes.
 fn ran<R: Threads + Sync>(
     rt: &R,
     alloc: Global,
@@ -148,7 +149,8 @@ fn pieces_of_any_size(rt: HostRuntime) -> Result<(), Fail> {
     Ok(())
 }
 
-/// The number of the failing read, that of the failing write, the status, and what was written. A read has 10 bytes.
+/// The number of the failing read and that of the failing write, or 0 for none, the status, and the written bytes. A
+/// read has 10 bytes.
 const FAULTS: [(u64, u64, Status, &str); 5] = [
     (1, 0, Status::ScriptFault, ""),
     (2, 0, Status::ScriptFault, "ok d 2 \"ab\"\n"),
