@@ -56,7 +56,7 @@ fn answered<R: Threads + Sync, P: Ledger, T: Ledger, L: Ledger>(
     let mut looks = Steps::<L>::new(looks);
     let mut session = Session::new(alloc);
     let mut replies = Replies::new(alloc);
-    let mut shelf = Shipped;
+    let mut shelf = Shipped::new();
     let mut number = 1u64;
     for line in LINES {
         let told = session.line(

@@ -76,14 +76,27 @@ fn bytes_from(bytes: &[u8], from: u64) -> &[u8] {
     }
 }
 
-/// A file store whose files are constants of the program. It accepts no file: each name is closed for writing.
+/// A file store whose files are constants of the program. It accepts no file: each name is closed for writing, which a write in
+/// pieces is told at its end.
 #[derive(Drop)]
-pub struct Shipped;
+pub struct Shipped {
+    /// Whether a write in pieces was begun.
+    begun: bool,
+}
+
+impl Shipped {
+    /// A file store to which no write in pieces was begun.
+    pub fn new() -> Shipped {
+        Shipped { begun: false }
+    }
+}
 
 impl Shelf for Shipped {
+    ghost use Rattle.edge_io.specs.Outside.{untold_put};
+
     ghost files = { λ _. None };
 
-    ghost begun = { λ _. None };
+    ghost begun = { λ s. untold_put s.begun };
 
     ghost faults = { λ _. 0 };
 
@@ -100,19 +113,21 @@ impl Shelf for Shipped {
     }
 
     fn put(&mut self, _name: &[u8], _bytes: &[u8]) -> Result<(), PutRefusal> {
+        self.begun = false;
         Err(PutRefusal::Denied)
     }
 
     fn begin(&mut self, _name: &[u8]) -> Result<(), PutRefusal> {
-        Err(PutRefusal::Denied)
+        self.begun = true;
+        Ok(())
     }
 
-    // No file is ever begun, as each name is closed for writing.
     fn append(&mut self, _bytes: &[u8]) -> Result<(), PutRefusal> {
-        unreachable!()
+        Ok(())
     }
 
     fn end(&mut self) -> Result<(), PutRefusal> {
-        unreachable!()
+        self.begun = false;
+        Err(PutRefusal::Denied)
     }
 }

@@ -144,14 +144,20 @@ fn an_image_is_saved(rt: HostRuntime) -> Result<(), Fail> {
     Ok(())
 }
 
-/// A file store whose files have computed bytes, more than `load` accepts. Its files are not observable.
+/// A file store whose files have computed bytes, more than `load` accepts, and which drops what is written. Its files are not
+/// observable.
 #[derive(Drop)]
-struct Endless;
+struct Endless {
+    /// Whether a write in pieces was begun.
+    begun: bool,
+}
 
 impl Shelf for Endless {
+    ghost use Rattle.edge_io.specs.Outside.{untold_put};
+
     ghost files = { λ _. None };
 
-    ghost begun = { λ _. None };
+    ghost begun = { λ s. untold_put s.begun };
 
     ghost faults = { λ _. 0 };
 
@@ -162,19 +168,22 @@ impl Shelf for Endless {
     }
 
     fn put(&mut self, _name: &[u8], _bytes: &[u8]) -> Result<(), PutRefusal> {
+        self.begun = false;
         Ok(())
     }
 
     fn begin(&mut self, _name: &[u8]) -> Result<(), PutRefusal> {
-        Err(PutRefusal::Denied)
+        self.begun = true;
+        Ok(())
     }
 
     fn append(&mut self, _bytes: &[u8]) -> Result<(), PutRefusal> {
-        unreachable!()
+        Ok(())
     }
 
     fn end(&mut self) -> Result<(), PutRefusal> {
-        unreachable!()
+        self.begun = false;
+        Ok(())
     }
 }
 
@@ -182,7 +191,8 @@ impl Shelf for Endless {
 fn file_too_long(rt: HostRuntime) -> Result<(), Fail> {
     let alloc = rt.alloc();
     let script = b"load d big\n".to_vec(alloc)?;
-    let (status, written) = ran_over(&rt, alloc, script, plain(), &mut Endless)?;
+    let mut shelf = Endless { begun: false };
+    let (status, written) = ran_over(&rt, alloc, script, plain(), &mut shelf)?;
     assert_eq!(rt; status, Status::SomeRefused);
     assert_eq!(rt; written.as_slice(), b"line 1: FileTooLong big\n".as_slice());
     Ok(())
