@@ -1,4 +1,4 @@
--- The text of a named document, and the root that stands for it.
+-- The text of a named document, and its root.
 use Rattle.std.proofs.Common.{◌≡◌, ℕ, Bool, true, false, cond, List, [], ◌∷◌, Option, Some, option_map, Result, Ok, Err, ok_or, sym, ap, subst, refl}
 use Rattle.slp_model.specs.declared.NodeId.{NodeId}
 use Rattle.slp_model.specs.declared.Node.{Node}

@@ -26,12 +26,12 @@ module _ (docs : List Document) (e f : Expr) (x : List ℕ) (p q r : ℕ) (left 
       let r : reached (eval docs e) (max (greatest docs f) last) ≡ max (greatest docs f) last = ap (λ o. reached o (max (greatest docs f) last)) left.value in
       (omega (arith, h), omega (arith, r, h))
 
-  -- an operation whose second operand is refused
+  -- an operation whose second operand is rejected
   pub refused_cost : ((n : ℕ) → greatest docs f ≤ n → r ≤ q + total_cost (edit_cost n) f)
       → (n last : ℕ) → max (greatest docs e) (reached (eval docs e) (max (greatest docs f) last)) ≤ n → r ≤ p + (total_cost (edit_cost n) e + total_cost (edit_cost n) f + edit_cost n)
   refused_cost cost n last h = let w = both_most n last h in omega (arith, left.cost n w.0, cost n w.1)
 
-  -- if the second operand has no text, its refusal is the result
+  -- if the second operand has no text, its rejection is the result
   pub second_refused : (F : List ℕ → List ℕ → Outcome) (why : EditRefusal) → (why ≡ NoMemory) ⊎ (eval docs f ≡ Err why)
       → (why ≡ NoMemory) ⊎ (onward (eval docs e) (λ d. onward (eval docs f) (λ b. F d b)) ≡ Err why)
   second_refused F why (inl m) = inl m

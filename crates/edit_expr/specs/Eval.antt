@@ -11,7 +11,7 @@ use Rattle.edit_expr.specs.declared.refusal.EditRefusal.TheVariants.{NoSuchDocum
 abbrev pub Document : Type 0
 Document = List ℕ × List ℕ
 
--- a text, or the first refusal
+-- a text, or the first rejection
 abbrev pub Outcome : Type 0
 Outcome = Result (List ℕ) EditRefusal
 
@@ -25,11 +25,11 @@ abbrev pub named : List Document → List ℕ → Outcome
 named [] name = Err (NoSuchDocument name)
 named (d ∷ ds) name = cond (is_same name d.0) (Ok d.1) (named ds name)
 
--- the text, or a refusal if it has more than 2^48 bytes
+-- the text, or a rejection if it has more than 2^48 bytes
 abbrev pub fitting : List ℕ → Outcome
 fitting text = cond (nat_le (length text) (2 ^ 48)) (Ok text) (Err (TooLong (length text)))
 
--- the outcome if this is a range of n bytes, and otherwise the refusal
+-- the outcome if this is a range of n bytes, and otherwise the rejection
 abbrev pub ranged : ℕ → ℕ → ℕ → Outcome → Outcome
 ranged i j n next = cond (is_range i j n) next (Err (OutOfRange i j n))
 
@@ -53,7 +53,8 @@ inserted d e k = ranged k k (length d) (fitting (take (k - 1) d ++ (e ++ drop (k
 abbrev pub copied : List ℕ → ℕ → ℕ → ℕ → Outcome
 copied d i j k = onward (extracted d i j) (λ e. inserted d e k)
 
--- the value of an expression: from left to right, inner parts first, the first refusal wins
+-- the value of an expression: evaluated from left to right, operands first; the first rejection is the result, the
+-- first rejection wins
 abbrev pub eval : List Document → Expr → Outcome
 eval docs (Doc name) = named docs name
 eval docs (Concat' p l q r) = onward (eval docs l) (λ d. onward (eval docs r) (λ e. joined d e))
@@ -62,7 +63,7 @@ eval docs (Delete' p of i j) = onward (eval docs of) (λ d. deleted d i j)
 eval docs (Insert' p l q r k) = onward (eval docs l) (λ d. onward (eval docs r) (λ e. inserted d e k))
 eval docs (Copy' p of i j k) = onward (eval docs of) (λ d. copied d i j k)
 
--- the length of a text, and 0 for a refusal
+-- the length of a text, and 0 for a rejection
 abbrev pub size : Outcome → ℕ
 size (Ok text) = length text
 size (Err why) = 0

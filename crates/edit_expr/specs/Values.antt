@@ -22,7 +22,8 @@ abbrev pub AreLive : List Node → List Doc → Type 0
 AreLive ns [] = Unit {0}
 AreLive ns (d ∷ ds) = IsLive ns d.root × AreLive ns ds
 
--- the answer is a live root of the outcome's text, the outcome's refusal, or allocation failure
+-- the result is a live root of the outcome's text, the outcome's rejection, or allocation failure, the outcome's
+-- rejection, or allocation failure
 abbrev pub IsValue : List Node → Result (Option NodeId) EditRefusal → Outcome → Type 0
 IsValue ns (Ok root) outcome = IsLive ns root × (outcome ≡ Ok (text_at ns root))
 IsValue ns (Err why) outcome = (why ≡ NoMemory) ⊎ (outcome ≡ Err why)

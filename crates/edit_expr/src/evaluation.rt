@@ -16,8 +16,7 @@ use span_types::{Name, Steps};
 use std::alloc::Global;
 use std::sync::ledger::Ledger;
 
-/// Evaluates an expression, and returns the root of its value. A name stands for the text of the document with this
-/// name.
+/// Evaluates an expression, and returns the root of its value. A name denotes the text of the document with this name.
 ///
 /// Operands are evaluated from left to right, and before their operation. The first error ends the evaluation.
 ///

@@ -1,7 +1,7 @@
 //! Editing expressions over documents: their syntax, and their evaluation to roots in a node store.
 //!
 //! ```text
-//! let expr = read(alloc, b"insert(delete(a,2,5),b,1)")?;   // Syntax where the text is no expression
+//! let expr = read(alloc, b"insert(delete(a,2,5),b,1)")?;   // or Err(ExprRefusal::Syntax)
 //! let root = eval(alloc, &expr, &docs, &mut store, &mut pairs)?;
 //! ```
 //!

@@ -29,7 +29,7 @@ use std::thread::Threads;
 use work_gate::OpenGate;
 
 /// The lines of the session. The file store has the file `motd` and doesn't accept any file, so the last line is
-/// refused.
+/// rejected.
 const LINES: [&[u8]; 6] = [
     b"load d motd",
     b"query q (.*\\n)?$word{[A-Z][a-z]*}[^a-z].*",

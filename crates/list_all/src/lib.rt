@@ -12,8 +12,8 @@
 //! }
 //! ```
 //!
-//! A page of `a` answers of k variables on a text of n bytes takes at most (a+2)·B(k, n) table lookups, with B(k, n) =
-//! 4·(2k+1)·(H(n)+3), where H(n) is the greatest height of a balanced tree of n bytes. The answers are found in the
+//! A page of `a` answers of k variables on a text of n bytes takes at most (a+2)·B(k, n) table lookups. Here B(k, n) =
+//! 4·(2k+1)·(H(n)+3), and H(n) is the greatest height of a balanced tree of n bytes. The answers are found in the
 //! tables of the text's nodes (M. L. Schmid and N. Schweikardt, *Spanner Evaluation over SLP-Compressed Documents*,
 //! PODS 2021).
 #![tactic(auto)]

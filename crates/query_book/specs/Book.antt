@@ -23,7 +23,7 @@ entries_of ps = map entry ps
 abbrev pub queries_of : Book → Named Query
 queries_of es = map (λ e. (e.name, query_of e.tabled.query.tree)) es
 
--- no query has the name, and the refusal is that
+-- no query has the name, and the rejection is that
 pub record IsMissing (queries : Named Query) (name : List ℕ) (why : BookRefusal) : Type 0 where
   pub none : value_of queries name ≡ None
   pub refusal : why ≡ NoSuchQuery

@@ -37,7 +37,7 @@ IsPast q NoMemory = Unit {0}
 abbrev pub HasPair : (Query → Query → Query) → Named Query → List ℕ → List ℕ → (Query → Type 0) → Type 0
 HasPair Tree queries left right P = IsNamed queries left (λ p. IsNamed queries right (λ q. P (Tree p q)))
 
--- no query has the name, and the refusal is that; an allocation may fail at any time
+-- no query has the name, and the rejection is that; an allocation may fail at any time
 abbrev pub IsAbsent : Named Query → List ℕ → CombineRefusal → Type 0
 IsAbsent queries wanted (NoSuchQuery name) = (name ≡ wanted) × (value_of queries wanted ≡ None)
 IsAbsent queries wanted (QueryTooLarge parts) = ⊥
@@ -68,7 +68,7 @@ IsProjectionPast q keep NoMemory = Unit {0}
 abbrev pub IsProjectRefused : Named Query → List ℕ → List ℕ → CombineRefusal → Type 0
 IsProjectRefused queries source keep why = IsAbsent queries source why ⊎ IsNamed queries source (λ q. IsProjectionPast q keep why)
 
--- a refusal of the algebra, as one of the registry
+-- a rejection of the algebra, as one of the registry
 abbrev pub refusal_of : AlgebraRefusal → CombineRefusal
 refusal_of algebra.TooManyVariables = TooManyVariables
 refusal_of algebra.TooManyStates = TooManyStates

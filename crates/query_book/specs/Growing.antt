@@ -8,7 +8,7 @@ use Rattle.query_book.specs.Named.{Named, with_value}
 use Rattle.query_book.specs.Kept.{IsSound}
 use Rattle.query_book.specs.Serving.{IsServed}
 
--- the query is unchanged, and its tables are those of the same nodes as before, or of all nodes
+-- the query is unchanged, and its tables are those of the same nodes, or of all nodes
 pub record MayGrow (ns : List Node) (old new : TabledQuery) : Type 0 where
   pub query : new.query ≡ old.query
   pub sound : IsSound new

@@ -5,17 +5,17 @@
 //! book.add(alloc, name, b".*$x{ab}.*")?;                   // `name` is called "q"
 //! book.grow_all(&rt, alloc, &store, workers, &gate, &mut places)?;
 //! let yes = book.test(b"q", &store, root, &mut looks)?;    // whether q has an answer on the root's text
-//! book.remove(b"q")?;                                      // Err(BookRefusal::NoSuchQuery) where there is no q
+//! book.remove(b"q")?;                                      // or Err(BookRefusal::NoSuchQuery)
 //! ```
 //!
 //! A query is compiled once, and its tables serve every text in the store. After nodes were added to the store,
 //! `grow_all` computes one table for each query and new node. `union`, `join` and `project` copy their operands.
 //!
-//! `test` and `has` of a query with k variables on a text of n bytes take at most B(k, n) table lookups, with B(k, n) =
-//! 4·(2k+1)·(H(n)+3), where H(n) is the greatest height of a balanced tree of n bytes. They allocate nothing. A lookup
-//! by name takes expected constant time, and so does `remove`, amortised. The memory of a query is that of its
-//! automaton, its distinct tables, a number for each node, and a cache of up to 4,096 compositions. `renumber` drops
-//! the tables that no node uses any more.
+//! `test` and `has` of a query with k variables on a text of n bytes take at most B(k, n) table lookups. Here B(k, n) =
+//! 4·(2k+1)·(H(n)+3), and H(n) is the greatest height of a balanced tree of n bytes. They allocate nothing. A lookup by
+//! name takes expected constant time, and so does `remove`, amortised. The memory of a query is that of its automaton,
+//! its distinct tables, a number for each node, and a cache of up to 4,096 compositions. `renumber` drops the tables
+//! that no node uses any more.
 //!
 //! Queries are the regex formulas and the algebra of R. Fagin, B. Kimelfeld, F. Reiss and S. Vansummeren, *Document
 //! Spanners*, JACM 2015. They are evaluated as in M. L. Schmid and N. Schweikardt, *Spanner Evaluation over

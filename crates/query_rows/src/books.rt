@@ -64,7 +64,7 @@ pub fn grown_book<R: Threads + Sync, L: Ledger>(
     Ok(book)
 }
 
-/// The result of `add` for a text as the query `q`: `ok` or its refusal.
+/// The result of `add` for a text as the query `q`: `ok` or its rejection.
 fn added(alloc: Global, book: &mut QueryBook, text: &[u8]) -> Result<String, NoMemory> {
     let name = named(alloc, b"q")?;
     let said = match book.add(alloc, name, text) {
@@ -92,7 +92,7 @@ fn variables(book: &QueryBook, name: &[u8]) -> Option<u8> {
     }
 }
 
-/// A refused text doesn't change the query with the name.
+/// A rejected text doesn't change the query with the name.
 #[test]
 fn one_query(rt: HostRuntime) -> Result<(), Fail> {
     let mut book = QueryBook::new(rt.alloc());

@@ -18,7 +18,7 @@ fn names_in(alloc: Global, book: &QueryBook, name: &[u8]) -> Result<String, NoMe
     Ok(names)
 }
 
-/// The result of an operation that makes the query `n`: the names of its variables, or the refusal.
+/// The result of an operation that makes the query `n`: the names of its variables, or the rejection.
 fn said(
     alloc: Global,
     book: &QueryBook,

@@ -3,7 +3,7 @@
 //!
 //! ```text
 //! row    $x{a*}                        2 states, of which the first one ends with the mark 3
-//! row    the union of q and r, in a book    the variables x, z and y
+//! row    the union of q and r, in a registry    the variables x, z and y
 //! row    abracadabra, with 1, 4 and 64 workers    15 nodes, 15 tables, of which one is distinct
 //! ```
 //!

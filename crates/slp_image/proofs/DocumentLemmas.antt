@@ -14,7 +14,7 @@ use Rattle.slp_image.specs.Image.{Document, is_among, names_of, name_at, root_at
 use Rattle.slp_image.specs.Reads.{IsFiled, AreFiled, IsDocument, IsFiling}
 use Rattle.slp_image.proofs.StepLemmas.{fails-bind}
 
--- a name is found where it is among the names
+-- a name is found if it is among the names
 pub among-found : (ds : List Doc) (name : List ℕ) → is_ok (ok_or (root_of ds name) NoSuchDocument) ≡ is_among (map (λ d. d.name) ds) name
 among-found [] name = refl
 among-found (d ∷ ds) name = by (is_same name d.name) (among-found ds name)

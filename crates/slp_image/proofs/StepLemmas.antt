@@ -18,7 +18,7 @@ pub fails-bind : {A B : Type 0} (e : ImageRefusal) (read : Result A ImageRefusal
 fails-bind NoMemory read f h = tt
 fails-bind e read f h = ap (λ r. r >>= f) h
 
--- a refusal of an equal value
+-- a rejection of an equal value
 pub fails-same : {A : Type 0} (e : ImageRefusal) (read other : Result A ImageRefusal) → read ≡ other → Fails e other → Fails e read
 fails-same {A} e read other s h = subst (λ (r : Result A ImageRefusal). Fails e r) (sym s) h
 

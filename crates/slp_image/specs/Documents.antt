@@ -40,7 +40,7 @@ pub record AreRead (ns : List Node) (answer : Result Meaning ImageRefusal) (ds :
   pub nodes : ℕ
   pub is : answer ≡ Ok (record { documents = plain ns ds; nodes = nodes })
 
--- the result of a reader: the documents, the first refusal, or allocation failure
+-- the result of a reader: the documents, the first rejection, or allocation failure
 abbrev pub Reads : List Node → Result Meaning ImageRefusal → Result (List Doc) ImageRefusal → Type 0
 Reads ns answer (Ok ds) = AreRead ns answer ds
 Reads ns answer (Err why) = Fails why answer

@@ -4,7 +4,7 @@ use Rattle.byteorder.specs.Endian.{big_number}
 use Rattle.slp_image.specs.declared.refusal.ImageRefusal.{ImageRefusal}
 use Rattle.slp_image.specs.declared.refusal.ImageRefusal.TheVariants.{Magic, Version, Cut, Kind, Child, Balance, Length, Root, Name, RepeatName, Rest, Count, NoMemory}
 
--- the number of a refusal, if it is not allocation failure
+-- the number of a rejection, if it is not allocation failure
 abbrev pub kind_of : ImageRefusal → Option ℕ
 kind_of Magic = Some 1
 kind_of Version = Some 2

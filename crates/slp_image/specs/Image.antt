@@ -1,4 +1,4 @@
--- What the bytes of an image mean: its documents, or the first refusal, and the cost up to it.
+-- What the bytes of an image mean: its documents, or the first rejection, and the cost up to it.
 use Rattle.std.specs.Prelude.{ℕ, zero, suc, ◌+◌, ◌*◌, ◌-◌, ◌^◌, ◌==◌, ◌||◌, List, [], ◌∷◌, ◌++◌, length, map, get_or, Option, Some, None, Result, Ok, Err, Bool, false, nat_eq, nat_lt, nat_le, if◌then◌else◌}
 use Rattle.std.specs.Cmp.Lexicographic.{pointwise}
 use Rattle.span_types.specs.Names.{is_name}

@@ -65,8 +65,8 @@ pub(crate) fn push_nodes(out: &mut Vec<u8>, store: &Store, moves: &Moves) -> Res
     Ok(())
 }
 
-// Appends a document: the length of its name, the name, and the number of its root. Eight bytes 0xFF stand for the
-// empty text.
+// Appends a document: the length of its name, the name, and the number of its root. Eight bytes 0xFF denote the empty
+// text.
 fn push_document(out: &mut Vec<u8>, name: &Name, root: Option<u64>) -> Result<(), NoMemory>
     ensures bytes { OnOk result (out.new.items ≡ out.old.items ++ document_bytes (record { name = name.now; root = root })) }
     ensures named { OnOk result (is_name name.now ≡ true) }

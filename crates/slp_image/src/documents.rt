@@ -38,7 +38,7 @@ fn name<'a>(alloc: Global, bytes: &'a [u8], docs: &Docs) -> Result<(Name, &'a [u
     }
 }
 
-// Reads the root of a document. Eight bytes 0xFF stand for the empty text.
+// Reads the root of a document. Eight bytes 0xFF denote the empty text.
 fn root<'a>(bytes: &'a [u8], roots: &Roots) -> Result<(Option<NodeId>, &'a [u8]), ImageRefusal>
     ensures { ReadsRoot (λ x. (x.0, x.1.now)) roots.now bytes.now result }
 {

@@ -1,4 +1,4 @@
--- An operation on queries has exactly one result, or exactly one first refusal.
+-- An operation on queries has exactly one result, or exactly one first rejection.
 use Rattle.std.proofs.Common.{◌≡◌, ◌⊎◌, ℕ, List, None, sym, ◌∙◌, ap, subst, inl, inr, arith}
 use Rattle.span_language.proofs.Names.{CombineRefusal, HasOther, HasPair, HasProjection, IsAbsent, IsAccepted, IsCombineRefusal, IsNamed, IsPairRefused, IsPast}
 use Rattle.span_language.proofs.Names.{IsProjectionPast, IsProjectRefused, IsUncombined, IsVarsText, Named, names_of, NoSuchQuery, Project, Query, QueryTooLarge}
@@ -7,11 +7,11 @@ use Rattle.query_book.specs.declared.refusal.CombineRefusal.TheVariants as combi
 use Rattle.span_language.proofs.Texts.{one_names}
 use Rattle.span_language.proofs.Values.{one_value, no_value}
 
--- two replies to a refusal are equal
+-- two replies to a rejection are equal
 abbrev One : (CombineRefusal → Type 0) → Type 0
 One P = (r s : CombineRefusal) (why other : Refusal) → P r → P s → IsCombineRefusal r why → IsCombineRefusal s other → why ≡ other
 
--- a refusal is no accepted reply
+-- a rejection is no accepted reply
 abbrev Never : (CombineRefusal → Type 0) → Type 0
 Never P = (r : CombineRefusal) (why : Refusal) → P r → IsCombineRefusal r why → ⊥
 
@@ -26,7 +26,7 @@ absent queries name (combine.NoSuchQuery wanted) why h is = (h.1, is ∙ ap NoSu
 absent queries name combine.NoMemory why h is = absurd is
 absent queries name _ why h is = absurd h
 
--- no query has the name, or it has a refusal of its own
+-- no query has the name, or it has a rejection of its own
 module _ (queries : Named Query) (name : List ℕ) where
   abbrev Stage : (Query → CombineRefusal → Type 0) → CombineRefusal → Type 0
   Stage P r = IsAbsent queries name r ⊎ IsNamed queries name (λ q. P q r)

@@ -1,4 +1,4 @@
--- An expression has exactly one value, or exactly one first refusal.
+-- An expression has exactly one value, or exactly one first rejection.
 use Rattle.std.proofs.Common.{◌≡◌, ℕ, List, sym, ◌∙◌, subst}
 use Rattle.span_language.proofs.Names.{Documents, EditRefusal, Err, eval, Expr, ExprReads, IsEditRefusal, Ok, one_expression, Refusal, Result}
 use Rattle.edit_expr.specs.declared.refusal.EditRefusal.TheVariants as edit

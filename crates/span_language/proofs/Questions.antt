@@ -1,4 +1,4 @@
--- A question has exactly one query and one text, or exactly one first refusal.
+-- A question has exactly one query and one text, or exactly one first rejection.
 use Rattle.std.proofs.Common.{◌≡◌, ℕ, List, subst, arith}
 use Rattle.span_language.proofs.Names.{IsAsked, IsReplacing, IsUnasked, IsUnreplaced, IsYesOrNo, Query, Refusal, value_of, World}
 use Rattle.span_language.proofs.Values.{one_value}

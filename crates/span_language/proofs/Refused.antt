@@ -1,4 +1,4 @@
--- A command is either accepted or has exactly one first refusal.
+-- A command is either accepted or has exactly one first rejection.
 use Rattle.std.proofs.Common.{◌≡◌, ◌<◌, ◌≤◌, ◌^◌, ◌⊎◌, ℕ, List, Option, Some, None, length, refl, sym, ◌∙◌, ap, subst, inl, inr, arith}
 use Rattle.span_language.proofs.Names.{BadImage, Command, Does, IsAsked, IsCursorOf, IsCursorRefused, IsRefused, IsRegistered, IsSettled, Join, LetDoc, load_size}
 use Rattle.span_language.proofs.Names.{LoadFile, most_spans, open_size, OpenFile, Query, Refusal, replaced, SaveFile, Show, shown, Span, TooLong, TooManyMatches, Tuple, Union}
@@ -13,7 +13,7 @@ use Rattle.span_language.proofs.Texts.{cursor_once, one_cursor_refusal, one_text
 use Rattle.span_language.proofs.Combinations.{one_pair_refusal, one_project_refusal, pair_once, project_once}
 use Rattle.span_language.proofs.Listings.{one_choice}
 
--- a replacement that is refused: it has too many spans, or its text is too long
+-- a replacement that is rejected: it has too many spans, or its text is too long
 abbrev IsTooMuch : List ℕ → List ℕ → List Span → Refusal → Type 0
 IsTooMuch text other spans why = ((most_spans < length spans) × (why ≡ TooManyMatches))
     ⊎ ((length spans ≤ most_spans) × (2 ^ 48 < length (replaced text spans other)) × (why ≡ TooLong (length (replaced text spans other))))
@@ -81,7 +81,7 @@ one_refusal old (OpenFile file) why other settled h k = opening old file why oth
 one_refusal old (form.ReplaceDoc name query source by) why other settled h k = replacing old name query source by why other h k
 one_refusal old _ why other settled h k = first_of (cc, search)
 
--- an accepted command isn't refused
+-- an accepted command isn't rejected
 pub refused_once : (old : World) (command : Command) (r : List ℕ) (n : World) (why : Refusal) → IsSettled old.files command → Does old command r n → IsRefused old command why → ⊥
 refused_once old (LoadFile name file) r n why settled (b, h, reply, new) k = within_read file load_size old.files b why (are_told old.files (LoadFile name file) tt settled) h k
 refused_once old (LetDoc name expr) r n why settled (e, t, reads, value, reply, new) (inl k) = k.0 e reads

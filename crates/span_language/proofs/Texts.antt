@@ -60,7 +60,7 @@ one_query s q p h k =
     let same = same_formulas h.formula k.formula h.names k.names (one_outcome s (Formula h.formula h.names) (Formula k.formula k.names) h.outcome k.outcome) in
     h.query ∙ (λ i. Leaf (same.0 i) (same.1 i)) ∙ sym k.query
 
--- the refusal in an outcome; that of a formula is about its reachable sets
+-- the rejection in an outcome; that of a formula is about its reachable sets
 abbrev Tells : Outcome → Refusal → Type 0
 Tells (formula.TooLong len) r = r ≡ why.FormulaTooLong len
 Tells formula.BadText r = r ≡ why.BadFormula
@@ -74,7 +74,7 @@ tells_one : (o : Outcome) (r s : Refusal) → Tells o r → Tells o s → r ≡ 
 tells_one (Formula f names) r s h k = h.1 ∙ sym k.1
 tells_one _ r s h k = h ∙ sym k
 
--- each outcome of a text determines its refusal
+-- each outcome of a text determines its rejection
 tells : (s : List ℕ) (p : Outcome) (r : Refusal) → FormulaOf s p → IsTextRefused s r → Tells p r
 tells s p r of h = by r h
   where

@@ -48,7 +48,7 @@ answers_steps count q text = record { looks = count * answer_limit q text; pairs
 abbrev pub replace_steps : ℕ → ℕ → Allowance
 replace_steps c n = record { looks = 3 * (c + 1) * looks_limit 1 n; pairs = 1770 * (c + 1) }
 
--- nothing if the command is refused
+-- nothing if the command is rejected
 abbrev pub IsFree : (Refusal → Type 0) → Allowance → Type 0
 IsFree Refuses a = (why : Refusal) × Refuses why × (a ≡ no_steps)
 

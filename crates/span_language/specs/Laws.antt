@@ -12,7 +12,7 @@ use Rattle.span_language.specs.Runs.{Runs, Sum}
 use Rattle.span_language.specs.declared.told.Told.{Told}
 use Rattle.span_language.specs.declared.told.Told.TheVariants.{Quiet, Accepted, Refused}
 
--- a refused line changes nothing, and neither does a line without a command
+-- a rejected line changes nothing, and neither does a line without a command
 pub record ChangesNothing : Type 0 where
   pub refused : (old : World) (number : ℕ) (line reply : List ℕ) (new : World) → Step old number line Refused reply new → new ≡ old
   pub quiet : (old : World) (number : ℕ) (line reply : List ℕ) (new : World) → Step old number line Quiet reply new → new ≡ old
@@ -51,7 +51,7 @@ abbrev pub AreSettled : Option Files → List (List ℕ) → Type 0
 AreSettled files [] = Unit {0}
 AreSettled files (line ∷ lines) = IsSettledLine files line × AreSettled files lines
 
--- for deterministic lines, the output, the resulting world, and whether a line is refused are determined
+-- for deterministic lines, the output, the resulting world, and whether a line is rejected are determined
 abbrev pub HasOneOutput : Type 0
 HasOneOutput = (old : World) (number : ℕ) (lines : List (List ℕ)) (sum sum2 : Sum) (new new2 : World) → AreSettled old.files lines
     → Runs old number lines sum new → Runs old number lines sum2 new2 → (sum.refused ≡ sum2.refused) × (sum.output ≡ sum2.output) × (new ≡ new2)

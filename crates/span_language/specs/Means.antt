@@ -21,11 +21,11 @@ abbrev pub Of : (Command → Type 0) → Option Command → Type 0
 Of Kind (Some command) = Kind command
 Of Kind None = ⊥
 
--- there is a reply: every command except Nothing has one, and a line that is no command has a refusal
+-- there is a reply: every command except Nothing has one, and a line that is no command has a rejection
 abbrev pub Replies : Option Command → Type 0
 Replies meaning = meaning ≡ Some Nothing → ⊥
 
--- the reply and the effect of a line with this meaning; a line that is no command is refused
+-- the reply and the effect of a line with this meaning; a line that is no command is rejected
 abbrev pub Carried : World → ℕ → Option Command → Told → List ℕ → World → Type 0
 Carried old number (Some command) told reply new = Carries old number command told reply new
 Carried old number None told reply new = (told ≡ Refused) × (reply ≡ refusal_text number Syntax) × (new ≡ old)

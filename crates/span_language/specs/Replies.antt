@@ -33,17 +33,17 @@ entry_text doc = name_text doc.0 (length doc.1)
 abbrev pub names_text : Documents → List ℕ
 names_text docs = flat_map entry_text docs ++ (codes "end" ++ 10 ∷ [])
 
--- bytes i to j-1 of a text, or the first of the two possible refusals
+-- bytes i to j-1 of a text, or the first of the two possible rejections
 abbrev pub shown_range : List ℕ → ℕ → ℕ → Result (List ℕ) Refusal
 shown_range text i j = cond (is_range i j (length text))
     (cond (nat_le (j - i) 4096) (Ok (content text i j)) (Err (RangeTooWide (j - i))))
     (Err (OutOfRange i j (length text)))
 
--- bytes i to j-1 of the document of this name, or the first refusal
+-- bytes i to j-1 of the document of this name, or the first rejection
 abbrev pub shown : Documents → List ℕ → ℕ → ℕ → Result (List ℕ) Refusal
 shown docs name i j = option_map_or (λ text. shown_range text i j) (value_of docs name) (Err (NoSuchDocument name))
 
--- the refusal of an expression, as a reply has it
+-- the reply's rejection for an expression
 abbrev pub IsEditRefusal : EditRefusal → Refusal → Type 0
 IsEditRefusal (edit.NoSuchDocument name) why = why ≡ NoSuchDocument name
 IsEditRefusal (edit.OutOfRange first last len) why = why ≡ OutOfRange first last len

@@ -17,7 +17,7 @@ is_refused Quiet = false
 is_refused Accepted = false
 is_refused Refused = true
 
--- the sum over lines: whether one was refused, their output, their maximum cost together, the number of queries that
+-- the sum over lines: whether one was rejected, their output, their maximum cost together, the number of queries that
 -- they register, and the number of accepted `compact` lines
 pub record Sum : Type 0 where
   pub refused : Bool

@@ -68,7 +68,7 @@ pub record IsSaved (documents : Documents) (bytes : List ℕ) (nodes : ℕ) : Ty
   pub form : SaveForm bytes
   pub means : (image bytes).answer ≡ Ok (record { documents = documents; nodes = nodes })
 
--- why a `save` is refused, the first reason: the image is too long, or the file may not be written
+-- why a `save` is rejected, the first reason: the image is too long, or the file may not be written
 abbrev pub IsSaveRefused : Option Files → Documents → List ℕ → Refusal → Type 0
 IsSaveRefused files documents name why = (bytes : List ℕ) × (nodes : ℕ) × IsSaved documents bytes nodes
     × (((open_size < length bytes) × (why ≡ FileTooLong name)) ⊎ ((length bytes ≤ open_size) × DeniesWrites files name × (why ≡ CannotWrite name)))
@@ -84,7 +84,7 @@ pub record IsFaulty (bytes : List ℕ) (kind : ℕ) : Type 0 where
   pub means : (image bytes).answer ≡ Err refusal
   pub kind_is : kind_of refusal ≡ Some kind
 
--- the first refusal of a query's text
+-- why a query's text is rejected: the first reason
 abbrev pub IsTextRefused : List ℕ → Refusal → Type 0
 IsTextRefused text (FormulaTooLong len) = FormulaOf text (formula.TooLong len)
 IsTextRefused text BadFormula = FormulaOf text formula.BadText
@@ -104,7 +104,7 @@ IsCombineRefusal combine.TooManyVariables why = why ≡ TooManyVariables
 IsCombineRefusal combine.TooManyStates why = why ≡ TooManyStates
 IsCombineRefusal combine.NoMemory why = ⊥
 
--- why an operation on queries is refused: the first reason
+-- why an operation on queries is rejected: the first reason
 abbrev pub IsUncombined : (CombineRefusal → Type 0) → Refusal → Type 0
 IsUncombined Refuses why = (refusal : CombineRefusal) × Refuses refusal × IsCombineRefusal refusal why
 
@@ -113,7 +113,7 @@ pub record IsAsked (old : World) (query name : List ℕ) (q : Query) (text : Lis
   pub document : value_of old.state.documents name ≡ Some text
   pub registered : value_of old.state.queries query ≡ Some q
 
--- why a question is refused, the first reason: the document doesn't exist, or the query doesn't
+-- why a question is rejected, the first reason: the document doesn't exist, or the query doesn't
 abbrev pub IsUnasked : World → List ℕ → List ℕ → Refusal → Type 0
 IsUnasked old query name why = ((value_of old.state.documents name ≡ None) × (why ≡ NoSuchDocument name))
     ⊎ ((text : List ℕ) × (value_of old.state.documents name ≡ Some text) × (value_of old.state.queries query ≡ None) × (why ≡ NoSuchQuery query))
@@ -130,7 +130,7 @@ pub record IsReplacing (old : World) (query source by : List ℕ) (q : Query) (t
   pub registered : value_of old.state.queries query ≡ Some q
   pub one : length (names_of q) ≡ 1
 
--- why the inputs of a replacement are refused, the first reason: a document doesn't exist, the query doesn't exist, or
+-- why the inputs of a replacement are rejected, the first reason: a document doesn't exist, the query doesn't exist, or
 -- it hasn't exactly one variable
 abbrev pub IsUnreplaced : World → List ℕ → List ℕ → List ℕ → Refusal → Type 0
 IsUnreplaced old query source by why = ((value_of old.state.documents source ≡ None) × (why ≡ NoSuchDocument source))
@@ -202,7 +202,7 @@ Does old (form.BackDocs name) reply new = (documents : Documents) × (value_of o
 Does old form.Compact reply new = (reply ≡ ok_text) × (new ≡ old)
 Does old Nothing reply new = ⊥
 
--- why a command is refused: the first reason
+-- why a command is rejected: the first reason
 abbrev pub IsRefused : World → Command → Refusal → Type 0
 IsRefused old Nothing why = ⊥
 IsRefused old (Text name bytes) why = ⊥
@@ -241,7 +241,7 @@ Carries old number command Quiet reply new = (command ≡ Nothing) × (reply ≡
 Carries old number command Accepted reply new = Does old command reply new
 Carries old number command Refused reply new = (why : Refusal) × IsRefused old command why × (reply ≡ refusal_text number why) × (new ≡ old)
 
--- the bytes of a `text` line are at most as many as those of the line
+-- the bytes of a `text` command are at most 2^16, which the length of a line ensures
 abbrev pub IsShort : Command → Type 0
 IsShort (Text name bytes) = length bytes ≤ 2 ^ 16
 IsShort _ = Unit {0}

@@ -25,7 +25,7 @@ load_denied w number name file turned.Denied told reply why h = rw h.0 (CannotRe
 load_denied w number name file turned.TooLong told reply why h = rw h.0 (FileTooLong file, inr (inr (why, refl)), h.1, refl)
 load_denied w number name file _ told reply why h = absurd h
 
--- only a refusal about the file itself has a reply
+-- only a rejection about the file itself has a reply
 pub of_the_file : (number : ℕ) (file : List ℕ) (why : FileRefusal) (told : Told) (reply : List ℕ) → IsFileDenied number file why told reply → IsOfTheFile why
 of_the_file number file turned.Failed told reply h = h
 of_the_file number file turned.NoMemory told reply h = h

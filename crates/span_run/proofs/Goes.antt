@@ -188,7 +188,7 @@ booked_stops h book number command files faults looks pairs places is serves sta
   sink = no_sink;
 }
 
--- a refused command
+-- a rejected command
 pub refused_answers : (h : Held) (number : ℕ) (command : Command) (answer : Answer) (files : Option Files) (faults looks pairs places : ℕ) → IsHeld h → answer.told ≡ Refused → IsAllowed (world (state_of h) files) command no_steps
     → Carries (world (state_of h) files) number command answer.told answer.line.items (world (state_of h) files)
     → Answers (at h files faults looks pairs places) number command (at h files faults looks pairs places) answer

@@ -1,5 +1,4 @@
 -- Names from std and from the layers below that the proofs of this crate use, each re-exported from its declaration.
--- that the proofs of this crate name, each passed on from where it is declared.
 pub use Rattle.doc_book.specs.declared.Doc.{Doc}
 pub use Rattle.doc_compact.proofs.Reached.{live-at}
 pub use Rattle.edge_io.specs.Causes.{Rose}

@@ -61,7 +61,7 @@ made_there old new name kept r made same =
     let q = made_query (record { documents = []; queries = old; versions = [] }) None new name r made in
     subst (λ (o : Option Query). IsSome o) (sym (made_value old new name kept q.0 q.1 same)) (search rules)
 
--- the commands that register a query, and when they are refused
+-- the commands that register a query, and when they are rejected
 pub kinds : (w : World) (name : List ℕ) (r : Recipe) → Registers (command_of name r) × (Compacts (command_of name r) → ⊥) × (IsOfFile (command_of name r) → ⊥) × IsAllowed w (command_of name r) no_steps
     × ((why : Refusal) → IsUnmade w.state.queries r why → IsRefused w (command_of name r) why)
 kinds w name (recipe.Formula text) = (tt, (λ no. no), (λ no. no), refl, (λ _ h. h))

@@ -142,7 +142,7 @@ still_ends number meaning h files faults looks pairs places before after told re
     (no_steps, free, none_paid looks pairs pairs refl) (calm_tallied (Of Registers meaning) (Of Compacts meaning) told h files faults looks pairs places none kept)
     (elim wants [ inl other ↦ inl other | inr want ↦ inr (want, refl) ]) is_told wrote
 
--- ---- facts about a whole line, from a refused command
+-- ---- facts about a whole line, from a rejected command
 pub refused_here : (h : Held) (number : ℕ) (command : Command) (why : Refusal) (answer : Answer) (files : Option Files) (faults looks pairs places : ℕ) → IsRefusedFreely h files command why
     → answer.told ≡ Refused → answer.line.items ≡ refusal_text number why → Answers (at h files faults looks pairs places) number command (at h files faults looks pairs places) answer
 refused_here h number command why answer files faults looks pairs places is told written =
@@ -150,7 +150,7 @@ refused_here h number command why answer files faults looks pairs places is told
     refused_answers h number command answer files faults looks pairs places is.held told is.free
     (subst (λ (t : Told). Carries w number command t answer.line.items w) (sym told) (why, is.refused, written, refl))
 
--- a refused line has a reply
+-- a rejected line has a reply
 pub refused_replies : (w : World) (command : Command) (why : Refusal) → IsRefused w command why → Some command ≡ Some form.Nothing → ⊥
 refused_replies w command why refused is = let same : command ≡ form.Nothing = cc is in subst (λ (c : Command). IsRefused w c why) same refused
 

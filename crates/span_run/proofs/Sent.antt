@@ -23,7 +23,7 @@ pub each_err : {T E : Type 0} (r : Result T E) (Q : E → Type 0) → ((e : E) �
 each_err (Ok x) Q h = tt
 each_err (Err e) Q h = h e
 
--- a refusal is a reply
+-- a rejection is a reply
 pub refused_loud : (P : Type 0) (r : Result Told Stop) → IfOk r (λ told. told ≡ Refused) → IfOk r (λ told. told ≡ Quiet → P)
 refused_loud P (Ok told) is = λ quiet. let bad : ⊥ = cc (is, quiet) in absurd bad
 refused_loud P (Err why) is = tt

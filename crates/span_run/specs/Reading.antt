@@ -14,14 +14,14 @@ use Rattle.span_run.specs.declared.reading.FileRefusal.TheVariants.{Absent, Deni
 abbrev pub TakesAtMost : ℕ → Option (List ℕ) → Option (List ℕ) → Type 0
 TakesAtMost n old new = (taken : List ℕ) × Consumes old new taken × (length taken ≤ n)
 
--- a refusal of the file store, as the reader of a file returns it
+-- a rejection of the file store, as the reader of a file returns it
 abbrev pub of_shelf : ShelfRefusal → FileRefusal
 of_shelf shelf.Failed = Failed
 of_shelf shelf.NoMemory = NoMemory
 of_shelf shelf.Absent = Absent
 of_shelf shelf.Denied = Denied
 
--- what the refusal of a file means
+-- what the rejection of a file means
 abbrev pub IsTurnedAway : Option Files → List ℕ → ℕ → FileRefusal → Type 0
 IsTurnedAway files name limit Absent = LacksFile files name
 IsTurnedAway files name limit Denied = DeniesReads files name
@@ -29,7 +29,7 @@ IsTurnedAway files name limit TooLong = IsOversized files name limit
 IsTurnedAway files name limit Failed = Unit {0}
 IsTurnedAway files name limit NoMemory = Unit {0}
 
--- the refusal is about the file itself: it is neither a failure of the file store nor of an allocation
+-- the rejection is about the file itself: it is neither a failure of the file store nor of an allocation
 abbrev pub IsOfTheFile : FileRefusal → Type 0
 IsOfTheFile Failed = ⊥
 IsOfTheFile NoMemory = ⊥

@@ -1,4 +1,4 @@
--- The effect of a refused command: its reply, and nothing else.
+-- The effect of a rejected command: its reply, and nothing else.
 use Rattle.std.specs.Prelude.{◌≡◌, ℕ, Option, Some, Result, IfOk}
 use Rattle.edge_io.specs.Files.{Files}
 use Rattle.script_syntax.specs.declared.form.Command.{Command}
@@ -17,13 +17,13 @@ use Rattle.span_run.specs.Scene.{seen}
 use Rattle.span_run.specs.Site.{at}
 use Rattle.span_run.specs.Written.{Ends}
 
--- the command is refused for this reason, at no cost
+-- the command is rejected for this reason, at no cost
 pub record IsRefusedFreely (h : Held) (files : Option Files) (command : Command) (why : Refusal) : Type 0 where
   pub held : IsHeld h
   pub refused : IsRefused (world (state_of h) files) command why
   pub free : IsAllowed (world (state_of h) files) command no_steps
 
--- the answer to a command that is refused for this reason, in an unchanged session
+-- the answer to a command that is rejected for this reason, in an unchanged session
 abbrev pub RefusesFreely : Held → ℕ → Refusal → Result Answer Stop → Type 0
 RefusesFreely held number why result = (old : Held) (command : Command) (files : Option Files) (faults looks pairs places : ℕ)
     → IsRefusedFreely old files command why → held ≡ old

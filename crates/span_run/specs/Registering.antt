@@ -47,6 +47,6 @@ IsUnmade queries (recipe.Project source keep) why = IsUncombined (IsProjectRefus
 abbrev pub IsMadeIn : List Entry → List ℕ → Recipe → List Entry → Type 0
 IsMadeIn old name recipe new = IsMade (queries_of old) recipe (λ q. queries_of new ≡ put (queries_of old) name q) × (covered_of new ≡ put (covered_of old) name 0)
 
--- the query is registered, or the refusal is returned, or an allocation failed
+-- the query is registered, or the rejection is returned, or an allocation failed
 abbrev pub IsOutcome : List Entry → List ℕ → Recipe → List Entry → Result (Option Refusal) NoMemory → Type 0
 IsOutcome old name recipe new result = MatchResult result (λ refused. MatchOption refused (IsMadeIn old name recipe new) (λ why. IsUnmade (queries_of old) recipe why × (new ≡ old))) (λ _. new ≡ old)

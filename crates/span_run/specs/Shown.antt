@@ -24,11 +24,11 @@ use Rattle.span_language.specs.declared.told.Told.TheVariants.{Accepted, Refused
 abbrev pub IsGiven : List ℕ → List ℕ → Told → List ℕ → Type 0
 IsGiven name text told reply = (told ≡ Accepted) × (reply ≡ given_text name text)
 
--- the reply is the refusal of an expression
+-- the reply is the rejection of an expression
 abbrev pub IsDenied : ℕ → EditRefusal → Told → List ℕ → Type 0
 IsDenied number refusal told reply = (told ≡ Refused) × (why : Refusal) × IsEditRefusal refusal why × (reply ≡ refusal_text number why)
 
--- the reply is the refusal of a file
+-- the reply is the rejection of a file
 abbrev pub IsFileDenied : ℕ → List ℕ → FileRefusal → Told → List ℕ → Type 0
 IsFileDenied number file Absent told reply = (told ≡ Refused) × (reply ≡ refusal_text number (NoSuchFile file))
 IsFileDenied number file Denied told reply = (told ≡ Refused) × (reply ≡ refusal_text number (CannotRead file))
@@ -36,12 +36,12 @@ IsFileDenied number file TooLong told reply = (told ≡ Refused) × (reply ≡ r
 IsFileDenied number file Failed told reply = ⊥
 IsFileDenied number file NoMemory told reply = ⊥
 
--- the document has the value of an expression, or the reply is its refusal
+-- the document has the value of an expression, or the reply is its rejection
 abbrev pub Assigns : Documents → ℕ → List ℕ → Outcome → Told → List ℕ → Documents → Type 0
 Assigns old number name (Ok text) told reply new = IsGiven name text told reply × (new ≡ put old name text)
 Assigns old number name (Err refusal) told reply new = IsDenied number refusal told reply × (new ≡ old)
 
--- the reply has the bytes, or is the refusal
+-- the reply has the bytes, or is the rejection
 abbrev pub IsShown : ℕ → Result (List ℕ) Refusal → Told → List ℕ → Type 0
 IsShown number (Ok bytes) told reply = (told ≡ Accepted) × (reply ≡ shown_text bytes)
 IsShown number (Err why) told reply = (told ≡ Refused) × (reply ≡ refusal_text number why)
@@ -51,7 +51,7 @@ abbrev pub Opens : Documents → ℕ → Result Meaning ImageRefusal → Told �
 Opens old number (Ok m) told reply new = (told ≡ Accepted) × (reply ≡ opened_text (length m.documents)) × (new ≡ m.documents)
 Opens old number (Err why) told reply new = (told ≡ Refused) × (kind : ℕ) × (kind_of why ≡ Some kind) × (reply ≡ refusal_text number (BadImage kind)) × (new ≡ old)
 
--- the reply's refusal for a formula's text
+-- the reply's rejection for a formula's text
 abbrev pub IsFormulaRefusal : FormulaRefusal → Refusal → Type 0
 IsFormulaRefusal (formula.TooLong len) why = why ≡ refusal.FormulaTooLong len
 IsFormulaRefusal formula.BadText why = why ≡ refusal.BadFormula

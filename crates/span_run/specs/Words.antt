@@ -34,7 +34,7 @@ abbrev pub IsUnreadCursor : Named Query → List ℕ → Option (List ℕ) → U
 IsUnreadCursor queries name None why = (why ≡ unread.NoSuchQuery) × (value_of queries name ≡ None)
 IsUnreadCursor queries name (Some word) why = IsUnread queries name word why
 
--- the reply's refusal for a word
+-- the reply's rejection for a word
 abbrev pub IsWordRefusal : List ℕ → Unread → Refusal → Type 0
 IsWordRefusal name unread.NoSuchQuery why = why ≡ NoSuchQuery name
 IsWordRefusal name unread.BadTuple why = why ≡ BadTuple

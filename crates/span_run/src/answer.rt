@@ -26,7 +26,7 @@ impl Answer {
         }
     }
 
-    /// The reply of a refused line.
+    /// The reply of a rejected line.
     pub fn refused(alloc: Global, number: u64, why: &Refusal) -> Result<Answer, NoMemory>
         ensures { IfOk result (λ answer. (answer.told ≡ Told.Refused) × (answer.line.items ≡ refusal_text number why.now)) }
     {

@@ -6,7 +6,7 @@ use std::thread::Threads;
 use work_gate::Gate;
 
 /// What the caller provides: the runtime whose threads compute tables, the maximum number of pieces that run at once,
-/// and the gate that each piece passes.
+/// and the gate that is passed before the work on each node or document.
 pub struct Lent<'a, R: Threads + Sync, G: Gate> {
     pub rt: &'a R,
     pub workers: u8,

@@ -186,7 +186,7 @@ pub fn drop_document(held: &mut Held, number: u64, name: Name) -> Result<Answer,
     }
 }
 
-/// The reply with bytes i to j-1 of a text, or the refusal.
+/// The reply with bytes i to j-1 of a text, or the rejection.
 fn show_range(
     alloc: Global,
     store: &Store,

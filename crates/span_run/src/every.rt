@@ -233,7 +233,8 @@ fn list_query<R: Threads + Sync, K: Sink, G: Gate>(
     }
 }
 
-/// `listall Q`, optionally with `limit NUM`, which is 1 to 10,000. Its table lookups are not counted.
+/// `listall Q`, optionally with `limit NUM`, which is 1 to 10,000. Its table lookups are not counted, but the tables
+/// that it computes are.
 pub fn list_all<R: Threads + Sync, K: Sink, G: Gate, T: Ledger>(
     context: Context<'_, R, G>,
     held: &mut Held,

@@ -10,7 +10,7 @@
 //! )?;
 //! ```
 //!
-//! A script has at most 2^24 bytes, and is read completely before its first line is executed. A refused line changes
+//! A script has at most 2^24 bytes, and is read completely before its first line is executed. A rejected line changes
 //! nothing, and the run goes on. A failure of the source, the sink or the file store, or an allocation failure, ends
 //! the run: what was written is then a prefix of the whole output.
 //!
@@ -19,7 +19,7 @@
 //! one line.
 //!
 //! Queries are evaluated as in M. L. Schmid and N. Schweikardt, *Spanner Evaluation over SLP-Compressed Documents*,
-//! PODS 2021, and texts are edited as in their *Query Evaluation over SLP-Represented Document Databases with Complex
+//! PODS 2021. Texts are edited as in their *Query Evaluation over SLP-Represented Document Databases with Complex
 //! Document Editing*, PODS 2022.
 #![tactic(auto)]
 

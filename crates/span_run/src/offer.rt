@@ -74,7 +74,7 @@ pub fn send_out<K: Sink>(told: Told, out: &mut K) -> Result<Told, Stop>
     }
 }
 
-/// Writes the reply to a refused line.
+/// Writes the reply to a rejected line.
 pub fn send_refusal<K: Sink>(
     alloc: Global,
     number: u64,

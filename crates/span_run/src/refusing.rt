@@ -1,4 +1,4 @@
-//! Replies to refused commands, which change nothing and cost nothing.
+//! Replies to rejected commands, which change nothing and cost nothing.
 ghost use Rattle.span_run.specs.Carried.{outlet};
 ghost use Rattle.span_run.specs.Refusing.{KeepsFreely, RefusesFreely, TurnsAway};
 
@@ -9,7 +9,7 @@ use edge_io::Sink;
 use report_text::Refusal;
 use span_language::{Stop, Told};
 
-/// The reply to a command that is refused for this reason. The session is unchanged.
+/// The reply to a command that is rejected for this reason. The session is unchanged.
 pub fn refuse(held: &Held, number: u64, why: &Refusal) -> Result<Answer, Stop>
     ensures done { RefusesFreely held.now number why.now result }
     ensures stopped { KeepsFreely held.now number result }
@@ -18,7 +18,7 @@ pub fn refuse(held: &Held, number: u64, why: &Refusal) -> Result<Answer, Stop>
     Ok(answer)
 }
 
-/// Writes the reply to a command that is refused for this reason.
+/// Writes the reply to a command that is rejected for this reason.
 pub fn turn_away<K: Sink>(
     held: &Held,
     number: u64,

@@ -33,7 +33,7 @@ pub enum Recipe {
     Project { source: Name, keep: ByteList },
 }
 
-/// The reply's refusal for a formula's text.
+/// The reply's rejection for a formula's text.
 fn formula_refusal(why: FormulaRefusal) -> Result<Refusal, NoMemory>
     ensures { IfOk result (IsFormulaRefusal why) }
 {
@@ -48,7 +48,7 @@ fn formula_refusal(why: FormulaRefusal) -> Result<Refusal, NoMemory>
     }
 }
 
-/// The reply's refusal for a query's text.
+/// The reply's rejection for a query's text.
 fn text_refusal(why: QueryRefusal) -> Result<Refusal, NoMemory>
     ensures { IfOk result (IsTextRefusal why) }
 {
@@ -59,7 +59,7 @@ fn text_refusal(why: QueryRefusal) -> Result<Refusal, NoMemory>
     }
 }
 
-/// The reply's refusal for an operation on queries.
+/// The reply's rejection for an operation on queries.
 fn combine_refusal(why: CombineRefusal) -> Result<Refusal, NoMemory>
     ensures { IfOk result (IsCombineRefusal why) }
 {
@@ -73,7 +73,7 @@ fn combine_refusal(why: CombineRefusal) -> Result<Refusal, NoMemory>
     }
 }
 
-/// The outcome of registering a formula: `None` if it was accepted, or the refusal.
+/// The outcome of registering a formula: `None` if it was accepted, or the rejection.
 fn read_outcome(made: Result<(), QueryRefusal>) -> Result<Option<Refusal>, NoMemory>
     ensures { MatchResult result (λ refused. MatchOption refused (IsOk made) (λ why. IsErrAnd made (λ e. IsTextRefusal e why))) (λ _. IsErr made) }
 {
@@ -86,7 +86,7 @@ fn read_outcome(made: Result<(), QueryRefusal>) -> Result<Option<Refusal>, NoMem
     }
 }
 
-/// The outcome of an operation on queries: `None` if it was accepted, or the refusal.
+/// The outcome of an operation on queries: `None` if it was accepted, or the rejection.
 fn combine_outcome(made: Result<(), CombineRefusal>) -> Result<Option<Refusal>, NoMemory>
     ensures { MatchResult result (λ refused. MatchOption refused (IsOk made) (λ why. IsErrAnd made (λ e. IsCombineRefusal e why))) (λ _. IsErr made) }
 {
@@ -99,7 +99,7 @@ fn combine_outcome(made: Result<(), CombineRefusal>) -> Result<Option<Refusal>, 
     }
 }
 
-/// Makes a query and registers it. Returns `None`, or why it is refused.
+/// Makes a query and registers it. Returns `None`, or why it is rejected.
 fn make(
     alloc: Global,
     book: &mut QueryBook,

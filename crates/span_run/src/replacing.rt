@@ -53,7 +53,7 @@ pub struct Sources {
     pub other: Option<NodeId>,
 }
 
-/// The inputs of a replacement, or the first refusal.
+/// The inputs of a replacement, or the first rejection.
 fn find_sources(held: &Held, query: Name, source: Name, by: Name) -> Result<Sources, Refusal>
     ensures ok { IfOk result (AreSources held.now query source by) }
     ensures err { IfErr result (IsUnreplaced (world (state_of held.now) None) query source by) }

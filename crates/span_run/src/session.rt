@@ -60,11 +60,12 @@ impl Session {
         self.held.store.count()
     }
 
-    /// Executes a line, and writes its reply. `number` is the line's number, for error replies. A refused line leaves
-    /// the state unchanged. When the call returns `Ok`, everything written has been sent, also what the sink had
-    /// buffered before.
+    /// Executes a line, and writes its reply. `number` is the line's number, for error replies. A rejected line leaves
+    /// the state unchanged. When a line with a command returns `Ok`, everything written has been sent, also what the
+    /// sink had buffered before. A line without a command doesn't use the sink.
     ///
-    /// Tables are computed in at most `workers` pieces at once, 1 to 64, and each piece passes the gate.
+    /// Tables are computed in at most `workers` pieces at once, 1 to 64. The gate is passed before the work on each
+    /// node, and for `listall` before that on each document.
     ///
     /// # Errors
     ///

@@ -28,9 +28,9 @@ const MAX_SCRIPT: usize = 1 << 24;
 /// If a fault or an allocation failure stopped the run, what was written is a prefix of the whole output.
 #[derive(Clone, Copy, Debug, PartialEq, Eq)]
 pub enum Status {
-    /// 0: every line was executed, and none was refused.
+    /// 0: every line was executed, and none was rejected.
     Done,
-    /// 1: every line was executed, and at least one was refused.
+    /// 1: every line was executed, and at least one was rejected.
     SomeRefused,
     /// 2: the command-line arguments were rejected. Nothing is read or written.
     Usage,
@@ -105,14 +105,14 @@ fn asked_script<S: Source>(
     }
 }
 
-/// Whether this line or one before it was refused.
+/// Whether this line or one before it was rejected.
 fn with_refusal(before: bool, told: Told) -> bool
     ensures { result ≡ (before || is_refused told) }
 {
     before || matches!(told, Told::Refused)
 }
 
-/// Executes the lines of a script in order, and returns whether one was refused. If the sink had nothing buffered
+/// Executes the lines of a script in order, and returns whether one was rejected. If the sink had nothing buffered
 /// before, everything written has been sent whenever a line begins.
 fn run_lines<R: Threads + Sync, K: Sink, F: Shelf, G: Gate, P: Ledger, T: Ledger, L: Ledger>(
     lent: Lent<'_, R, G>,
@@ -173,7 +173,7 @@ fn run_lines<R: Threads + Sync, K: Sink, F: Shelf, G: Gate, P: Ledger, T: Ledger
 /// `words` are the command-line arguments after the program's name. They may set the number of workers that compute
 /// tables, from 1 to 64. They may also select the script of a demo, which runs instead of the source's script; the
 /// source isn't read then. `shelf` is the file store. `pairs` counts node constructions, `places` counts computed
-/// tables, and `looks` counts table lookups.
+/// tables, and `looks` counts table lookups, except those of `listall`.
 #[tactic(auto, using(crate::proofs::ScriptLemmas::never_refused))]
 pub fn run<
     R: Threads + Sync,
@@ -219,8 +219,8 @@ pub fn run<
     ensures sound { (result ≡ Status.Done) ⊎ (result ≡ Status.SomeRefused) → (S.faults script.new ≡ S.faults script.old)
         × (K.faults out.new ≡ K.faults out.old) × (K.wants out.new ≡ K.wants out.old) × (F.faults shelf.new ≡ F.faults shelf.old) }
 
-    // All buffered output has been sent before the next line begins. So it has been sent if the file store failed, and
-    // at the end of the run.
+    // If nothing was buffered before, nothing is buffered at the end, unless the sink or an allocation failed. Buffered
+    // output is sent before the next line begins.
     ensures gone { K.kept out.old ≡ 0 → (result ≡ Status.OutFault) ⊎ (result ≡ Status.NoMemory) ⊎ (K.kept out.new ≡ 0) }
 
     // At most one byte beyond the limit of a script is read. The source isn't read for a demo, nor if the arguments are

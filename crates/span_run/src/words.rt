@@ -19,7 +19,7 @@ pub enum Unread {
     OtherVariables,
 }
 
-/// The reply's refusal for a word.
+/// The reply's rejection for a word.
 pub fn word_refusal(why: Unread, query: Name) -> Refusal
     ensures { IsWordRefusal query why result }
 {

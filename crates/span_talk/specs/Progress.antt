@@ -12,7 +12,7 @@ use Rattle.span_run.proofs.RunsLemmas.{IsAt}
 use Rattle.span_talk.specs.Talk.{whole_lines}
 use Rattle.span_talk.specs.declared.progress.Progress.{Progress}
 
--- the number of the next line, whether one was refused, the session's model, and what is observable of the environment
+-- the number of the next line, whether one was rejected, the session's model, and what is observable of the environment
 pub record Place : Type 0 where
   pub number : ℕ
   pub refused : Bool

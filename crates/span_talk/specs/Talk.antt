@@ -25,7 +25,7 @@ OfSent (Some sent) Holds = Holds sent
 abbrev pub OfHeard : Option (List ℕ) → Option (List ℕ) → (List ℕ → Type 0) → Type 0
 OfHeard old new Holds = (heard : List ℕ) × Consumes old new heard × Holds heard
 
--- all these lines ran, refused or not
+-- all these lines ran, rejected or not
 abbrev pub HaveRun : List (List ℕ) → Outside → Outside → Type 0
 HaveRun lines before after = (refused : Bool) × RunsAll lines refused before after
 

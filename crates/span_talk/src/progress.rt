@@ -29,7 +29,7 @@ pub struct Progress {
     pub kept: Vec<u8>,
     /// The number of the line that has begun.
     pub number: u64,
-    /// Whether a line was refused.
+    /// Whether a line was rejected.
     pub refused: bool,
 }
 
@@ -41,7 +41,7 @@ pub enum End {
     Stopped(Stop),
 }
 
-/// Whether this line or one before it was refused.
+/// Whether this line or one before it was rejected.
 fn with_refusal(before: bool, told: Told) -> bool
     ensures { result ≡ (before || is_refused told) }
 {
@@ -245,7 +245,7 @@ fn hear_all<
     Err(End::TooLong)
 }
 
-/// Executes a last line without a newline, if there is one. Returns whether any line was refused.
+/// Executes a last line without a newline, if there is one. Returns whether any line was rejected.
 fn finish<R: Threads + Sync, K: Sink, F: Shelf, G: Gate, P: Ledger, T: Ledger, L: Ledger>(
     rt: &R,
     progress: &mut Progress,
@@ -281,7 +281,7 @@ fn finish<R: Threads + Sync, K: Sink, F: Shelf, G: Gate, P: Ledger, T: Ledger, L
     Ok(progress.refused)
 }
 
-/// Reads from a client to the end of its script and executes all lines. Returns whether one was refused.
+/// Reads from a client to the end of its script and executes all lines. Returns whether one was rejected.
 pub fn hear_script<
     R: Threads + Sync,
     C: Client<K>,

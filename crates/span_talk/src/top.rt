@@ -81,7 +81,8 @@ pub fn talk<
     ensures sound { (result ≡ Status.Done) ⊎ (result ≡ Status.SomeRefused) → (C.faults client.new ≡ C.faults client.old)
         × (K.faults out.new ≡ K.faults out.old) × (K.wants out.new ≡ K.wants out.old) × (F.faults shelf.new ≡ F.faults shelf.old) }
 
-    // All buffered output has been sent before the next line begins.
+    // If nothing was buffered before, nothing is buffered at the end, unless the sink or an allocation failed. Buffered
+    // output is sent before the next line begins.
     ensures gone { K.kept out.old ≡ 0 → (result ≡ Status.OutFault) ⊎ (result ≡ Status.NoMemory) ⊎ (K.kept out.new ≡ 0) }
 
     // Each time the client was called, exactly the replies to all complete lines had been written, and it was passed
