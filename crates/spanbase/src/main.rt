@@ -8,8 +8,8 @@
 //!
 //! `main` reads the command-line arguments, and calls `span_run::run` with standard input, standard output and the
 //! files of the current folder. The exit status is 0 if every line was accepted, and 1 if a line was rejected. It is 2
-//! to 7 if the run was stopped; then the name of the status is written to standard error. The cost of a run is that of
-//! its lines.
+//! to 7 if the run was stopped. Then the name of the status is written to standard error, or for rejected arguments the
+//! usage text. The cost of a run is that of its lines.
 #![tactic(auto)]
 
 ghost use Rattle.std.specs.Prelude.{◌≡◌, ◌<◌, ◌⊎◌, ◌^◌, IfSome, length, map, string_bytes};
