@@ -16,6 +16,10 @@
 //! - `copy` takes linear time.
 //! - `at` and `set_root` take constant time after `settle`, until the next `take_out`. Otherwise they take up to linear
 //!   time, so a caller that visits all documents calls `settle` first.
+//!
+//! Proved: An ordered list of distinct names (`Docs`).
+//!
+//! Tested: Error texts.
 #![tactic(auto)]
 
 ghost use Rattle.std.specs.Prelude.{◌≡◌, ◌<◌, ◌≤◌, [], length, slice_get, ok_or, Some, None, IsSome, IfOk, OnOk, OnErr};

@@ -10,6 +10,11 @@
 //! root gets its node's new number. All memory is allocated before anything changes, so an error changes nothing. The
 //! time is linear in the number of nodes and in the number of documents of all versions. The memory is that of the
 //! compacted store, and a few bytes for each node of the old store.
+//!
+//! Proved: After `compact` a store has exactly what its documents and versions reach, and each text is unchanged. After
+//! a failed allocation everything is unchanged.
+//!
+//! Neither: Time.
 #![tactic(auto)]
 
 ghost use Rattle.std.specs.Prelude.{◌≡◌, ◌↔◌, ◌++◌, ◌<◌, ℕ, length, OnErr, OnOk, IfOk};

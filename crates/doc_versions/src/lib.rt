@@ -17,6 +17,11 @@
 //!
 //! Texts shared in this way are *persistent* data structures, kept by copying their roots (Driscoll, Sarnak, Sleator
 //! and Tarjan, "Making data structures persistent", 1989).
+//!
+//! Proved: An ordered list of versions with distinct names. `back` returns the documents that were marked last, or a
+//! rejection exactly if the version is missing (`Versions`).
+//!
+//! Tested: Error texts.
 #![tactic(auto)]
 
 ghost use Rattle.std.specs.Prelude.{◌≡◌, ◌↔◌, ◌<◌, ℕ, List, [], false, length, slice_get, Some, None, IfOk, OnOk, OnErr, IsErrOf, ok_or};

@@ -15,6 +15,10 @@
 //!
 //! The operations are those of complex document editing: M. L. Schmid and N. Schweikardt, *Query Evaluation over
 //! SLP-Represented Document Databases with Complex Document Editing*, PODS 2022.
+//!
+//! Proved: It reads exactly the expressions (`read`). Value, first rejection and cost (`eval`).
+//!
+//! Tested: Error texts.
 #![tactic(auto)]
 
 mod edits;

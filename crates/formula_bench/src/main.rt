@@ -10,6 +10,8 @@
 //! of 2,048 bytes with eight variables whose marks stand between many occurrences, and two automata of up to 128 states
 //! with eight variables, with products of just 128 states and of more. It takes no input, and memory for the automata of
 //! one line at a time.
+//!
+//! Proved: Only safety and termination.
 #![tactic(auto)]
 
 mod queries;

@@ -13,6 +13,9 @@
 //! A text with a set of markers before each letter is read as by the extended automata of F. Florenzano, C. Riveros, M.
 //! Ugarte, S. Vansummeren and D. Vrgoč, *Constant Delay Algorithms for Regular Document Spanners*, PODS 2018. The
 //! positions of a formula go back to V. Glushkov, *The abstract theory of automata*, 1961.
+//!
+//! Proved: The position automaton of a formula accepts exactly the marked texts of the tuples that fit
+//! (`law::accepts_tuples`).
 #![tactic(auto)]
 
 pub mod law;

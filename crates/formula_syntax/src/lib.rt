@@ -14,6 +14,10 @@
 //! The text is read from left to right, once, with a stack of its open groups: time linear in its length (at most 2,048
 //! bytes), and memory linear in the formula's parts. Formulas are the regex formulas of R. Fagin, B. Kimelfeld, F.
 //! Reiss and S. Vansummeren, *Document Spanners*, JACM 2015.
+//!
+//! Proved: A formula text is read exactly by the grammar, or rejected by the first of six causes (`read`).
+//!
+//! Tested: Error texts.
 #![tactic(auto)]
 
 mod build;

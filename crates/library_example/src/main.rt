@@ -8,6 +8,10 @@
 //! It is not part of the database; docs/LIBRARY.md explains it. `listing` loads a text and lists the answers of a
 //! formula. `outside` has a sink that counts the lines of the replies, and a file store whose files are constants of
 //! the program. The example takes little time and memory.
+//!
+//! Proved: Only safety and termination.
+//!
+//! Tested: Its stored run.
 #![tactic(auto)]
 
 mod listing;

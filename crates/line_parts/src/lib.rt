@@ -9,6 +9,8 @@
 //!
 //! A number is exactly what prints as that number: no sign, no leading zero, below 2^64. Every call takes one pass over
 //! the bytes that it looks at, and no memory: what it gives are parts of what it got.
+//!
+//! Proved: A NUM is exactly what prints as the number (`number`). Arguments and lists of names are cut as specified.
 #![tactic(auto)]
 
 mod list;

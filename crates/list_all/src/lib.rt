@@ -16,6 +16,11 @@
 //! 4·(2k+1)·(H(n)+3), and H(n) is the greatest height of a balanced tree of n bytes. The answers are found in the
 //! tables of the text's nodes (M. L. Schmid and N. Schweikardt, *Spanner Evaluation over SLP-Compressed Documents*,
 //! PODS 2021).
+//!
+//! Proved: For each document the first answers, and whether more follow, for any workers and gate (`pages`). A page of
+//! a answers takes (a+2)·B(k, n) lookups (`page`).
+//!
+//! Tested: Two workers run at once.
 #![tactic(auto)]
 
 mod every;

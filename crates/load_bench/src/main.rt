@@ -7,6 +7,8 @@
 //! It is no part of the database: it shows what `pair_loader` makes of text that repeats itself a little, in bytes,
 //! nodes and nanoseconds. The text is made while it runs, from one seed, so each run loads the same bytes. It takes
 //! memory for one piece and for the nodes.
+//!
+//! Proved: Only safety and termination.
 #![tactic(auto)]
 
 ghost use Rattle.std.specs.Prelude.{◌≡◌, ◌<◌};

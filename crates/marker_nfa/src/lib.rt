@@ -15,6 +15,10 @@
 //! The states are those of V. Glushkov, *The abstract theory of automata*, 1961, made without a hop twice as in A.
 //! Brüggemann-Klein, *Regular expressions into finite automata*, 1993; the marks are those of F. Florenzano et al.,
 //! *Constant Delay Algorithms for Regular Document Spanners*, PODS 2018.
+//!
+//! Proved: The automaton of a formula: exactly its edges and ends, none twice, and what it accepts (`of_formula`).
+//!
+//! Neither: Memory and time.
 #![tactic(auto)]
 
 ghost use Rattle.std.specs.Prelude.{IfOk};

@@ -19,6 +19,10 @@
 //!
 //! `at` and `value_mut` take constant time while no slot is empty, and else time linear in the number of names.
 //! `settle` drops the empty slots, so a caller that goes over all places calls it first.
+//!
+//! Proved: An ordered map of values by distinct names (`NameMap`).
+//!
+//! Neither: Time.
 #![tactic(auto)]
 
 ghost use Rattle.std.specs.Prelude.{◌≡◌, ◌<◌, ℕ, List, [], false, length, slice_get, Some, None, IfNone, IfOk, OnOk, OnErr};

@@ -19,6 +19,14 @@
 //! Nodes that are made once each are hash consing (A. Ershov, *On programming of arithmetic operations*, 1958). That
 //! the trees are balanced is from M. L. Schmid and N. Schweikardt, *Query evaluation over SLP-represented document
 //! databases with complex document editing*, PODS 2022.
+//!
+//! Proved: Equal nodes are one. Nodes are balanced, have at most 2^48 bytes and height at most H, and never change
+//! (`Store`). The compacted store has exactly the kept nodes, in order, each with its tree (`Store::thin`, `Moves`).
+//!
+//! Tested: That colliding hashes go to the search tree, and that texts and images made of them take at most ten times
+//! as long as random ones.
+//!
+//! Neither: Memory per node; time of a search.
 #![tactic(auto)]
 
 ghost use Rattle.std.specs.Prelude.{◌≡◌, ◌+◌, ◌^◌, ◌<◌, ◌≤◌, [], length, slice_get, IfSome, IfOk, IsTrue, OnErr, Some};

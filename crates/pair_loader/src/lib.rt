@@ -15,6 +15,10 @@
 //! A text without repetition takes a node for each byte or so: there is no search for the smallest grammar, which is
 //! hard (M. Charikar et al., *The smallest grammar problem*, 2005). The trees are balanced by construction, as those of
 //! M. L. Schmid and N. Schweikardt, PODS 2022, ask.
+//!
+//! Proved: The tree of the bytes, for any cutting into pieces, and its cost (`load`, `Loader`).
+//!
+//! Tested: That pairs are made while pieces arrive.
 #![tactic(auto)]
 
 ghost use Rattle.std.specs.Prelude.{◌≡◌, ◌+◌, ◌*◌, ◌^◌, ◌≤◌, ◌++◌, length, None, Some, IfOk, OnOk, OnErr, IsErr};

@@ -20,6 +20,11 @@
 //! Queries are the regex formulas and the algebra of R. Fagin, B. Kimelfeld, F. Reiss and S. Vansummeren, *Document
 //! Spanners*, JACM 2015. They are evaluated as in M. L. Schmid and N. Schweikardt, *Spanner Evaluation over
 //! SLP-Compressed Documents*, PODS 2021.
+//!
+//! Proved: An ordered list of names and queries, with the answers of each on the plain text and exact rejections.
+//! Composed queries are registered over copies. Compaction keeps the tables of kept nodes (`QueryBook`).
+//!
+//! Tested: Error texts.
 #![tactic(auto)]
 
 mod book;

@@ -10,6 +10,8 @@
 //! The crate has only tests, of `marker_nfa`, `marker_dfa`, `table_grow`, `span_algebra`, `span_enum`, `span_replace`,
 //! `query_book` and `list_all`. They are a crate of their own, so that these crates are not proved again when a test
 //! changes, and so that all tests share the formulas. They take little time and memory.
+//!
+//! Proved: Only safety and termination of its tests, which are about the crates that concern queries.
 #![tactic(auto)]
 
 #[cfg(test)]

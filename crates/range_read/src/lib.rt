@@ -11,6 +11,8 @@
 //! needed: a place for each level. A byte then takes constant time on average and no memory, so m bytes from the middle
 //! of a text of any length take time in proportion to m and to the height. It is a walk in order over a tree with a
 //! stack of what is still to come (D. Knuth, *The Art of Computer Programming*, volume 1, section 2.3.1).
+//!
+//! Proved: The bytes of a span, in order (`RangeBytes`).
 #![tactic(auto)]
 
 ghost use Rattle.std.specs.Prelude.{◌≡◌, ◌+◌, ◌<◌, ◌≤◌, ◌∷◌, ◌++◌, length, drop, IfOk, vec_len, vec_capacity};

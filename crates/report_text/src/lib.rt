@@ -8,6 +8,8 @@
 //! Each call puts one whole line, with its newline, behind what stands in `out`, or nothing where memory runs out: the
 //! line is made first and appended then. Time and memory are linear in the line, in which a byte of a text takes at
 //! most four. The texts are exactly those of the language, one equation for each.
+//!
+//! Proved: The bytes of each reply.
 #![tactic(auto)]
 
 mod pieces;

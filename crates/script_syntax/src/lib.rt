@@ -11,6 +11,10 @@
 //! byte. Names and numbers are read here; expressions, formulas and tuples are any bytes here, and their own crates
 //! (edit_expr, formula_syntax, span_cursor) read them later. A line has at most 65,536 bytes. It is looked at a few
 //! times, so the time is linear in its length, and memory is taken for copies of the parts that the command keeps.
+//!
+//! Proved: A command comes exactly if the line has its form (`command`).
+//!
+//! Tested: Error texts.
 #![tactic(auto)]
 
 mod arguments;

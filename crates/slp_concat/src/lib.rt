@@ -11,6 +11,8 @@
 //! It is concatenation of height-balanced trees (G. Adelson-Velsky and E. Landis, 1962) on a shared grammar, as in W.
 //! Rytter, *Application of Lempel–Ziv factorization to the approximation of grammar-based compression*, Theoretical
 //! Computer Science 302, 2003.
+//!
+//! Proved: The tree of a join, its text, height and cost (`concat`, `join`).
 #![tactic(auto)]
 
 ghost use Rattle.std.specs.Prelude.{◌≡◌, ◌+◌, ◌^◌, ◌<◌, ◌≤◌, length, IfOk};

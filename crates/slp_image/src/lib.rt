@@ -18,6 +18,11 @@
 //! The grammars of version 2 are balanced while they are read, by concatenations of balanced trees (W. Rytter,
 //! *Application of Lempel–Ziv factorization to the approximation of grammar-based compression*, Theoretical Computer
 //! Science 302, 2003).
+//!
+//! Proved: An image's documents, or the first of twelve faults, and the cost (`read`). What is written is an image of
+//! the documents, with each node reached and distinct (`write`).
+//!
+//! Tested: Error texts.
 #![tactic(auto)]
 
 mod bytes;

@@ -14,6 +14,8 @@
 //! an entry takes the memory of a number.
 //!
 //! Balancing a grammar by joining height-balanced trees is due to W. Rytter, Theoretical Computer Science 302, 2003.
+//!
+//! Proved: The trees of records as they arrive: pairs joined and balanced, and runs, with their cost (`Roots`).
 #![tactic(auto)]
 
 ghost use Rattle.std.specs.Prelude.{◌≡◌, ℕ, ◌+◌, ◌*◌, ◌^◌, ◌<◌, ◌≤◌, [], ◌∷◌, ◌++◌, length, get_or, slice_get, IfOk, OnOk, OnErr, Some};

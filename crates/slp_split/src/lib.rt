@@ -12,6 +12,8 @@
 //!
 //! Splitting balanced trees so goes back to C. Crane, *Linear lists and priority queues as balanced binary trees*,
 //! 1972; on grammars it is M. L. Schmid and N. Schweikardt, PODS 2022.
+//!
+//! Proved: The texts of both parts, their height and cost (`split`, `extract`).
 #![tactic(auto)]
 
 ghost use Rattle.std.specs.Prelude.{◌≡◌, ◌+◌, ◌-◌, ◌*◌, ◌<◌, ◌≤◌, length, take, drop, slice_range, IfOk};

@@ -18,6 +18,13 @@
 //! reaches and no other, each mark of the left with each of the right, and ends at the 129th pair. Both sides are
 //! deterministic, so a mark and a byte lead from a pair to one pair at most. The subset construction ends at the 129th
 //! state.
+//!
+//! Proved: The automata of a union, join and projection: exactly the operation's answers, and exact rejections
+//! (`union`, `join`, `project`). A query's automaton is unique up to the numbers of its states (`law`).
+//!
+//! Tested: Error texts.
+//!
+//! Neither: Memory and time.
 #![tactic(auto)]
 
 mod classes;

@@ -9,6 +9,10 @@
 //! answers go on behind it. Each tuple has one text for its variables, and each text is that of one tuple at most.
 //! Reading takes at most two passes over the text, printing at most 791 bytes, and neither takes memory. Spans are
 //! those of R. Fagin et al., *Document Spanners*, JACM 2015, counted from 1 and open at their end.
+//!
+//! Proved: Tuple texts, read and printed (`read`, `print`).
+//!
+//! Tested: Error texts.
 #![tactic(auto)]
 
 mod entry;

@@ -38,6 +38,11 @@
 //! S. Vansummeren and D. Vrgoc, Constant delay algorithms for regular document spanners, PODS 2018. Some of the states are
 //! known to be quiet: from them the rest is accepted without marks alone. Where the walk comes into one, the answer is
 //! complete, and the nodes ahead aren't passed.
+//!
+//! Proved: The first answer after the cursor, or none; whether there is one; whether a tuple is one; the lookups of
+//! each (`Answers`, `nonempty`, `has`).
+//!
+//! Tested: That `next` allocates nothing.
 #![tactic(auto)]
 
 mod answers;

@@ -20,6 +20,9 @@
 //! The answers of a query are defined as in R. Fagin, B. Kimelfeld, F. Reiss and S. Vansummeren, *Document Spanners*,
 //! JACM 2015. Editing is defined as in M. L. Schmid and N. Schweikardt, *Query Evaluation over SLP-Represented Document
 //! Databases with Complex Document Editing*, PODS 2022.
+//!
+//! Proved: The definitions that `run` cites, and their laws. A rejected line changes nothing (`law::refusals`). A line
+//! has one reply, except for `save` (`law::replies`, `law::outputs`).
 #![tactic(auto)]
 
 pub mod law;

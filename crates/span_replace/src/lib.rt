@@ -15,6 +15,9 @@
 //! The answers are found as in M. L. Schmid and N. Schweikardt, Spanner evaluation over SLP-compressed documents (PODS 2021),
 //! and the text is edited as in their Query evaluation over SLP-represented document databases with complex document editing
 //! (PODS 2022).
+//!
+//! Proved: The chosen spans, or that they are too many (`chosen`). The text in which they are replaced, or its length
+//! if that is too long (`replaced`). The cost of both.
 #![tactic(auto)]
 
 mod choice;

@@ -14,6 +14,8 @@
 //!
 //! The output of a run that is stopped is compared with a prefix of the whole output. The tests are a crate of their
 //! own, so that `span_run` is not proved again when a test changes.
+//!
+//! Proved: Only safety and termination of its tests, which are about span_run.
 #![tactic(auto)]
 
 #[cfg(test)]

@@ -21,6 +21,9 @@
 //! Queries are evaluated as in M. L. Schmid and N. Schweikardt, *Spanner Evaluation over SLP-Compressed Documents*,
 //! PODS 2021. Texts are edited as in their *Query Evaluation over SLP-Represented Document Databases with Complex
 //! Document Editing*, PODS 2022.
+//!
+//! Proved: The main theorem (`run`). What one line replies, changes and costs, and that `compact` leaves only reachable
+//! nodes (`Session::line`).
 #![tactic(auto)]
 
 mod answer;

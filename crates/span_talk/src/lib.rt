@@ -17,6 +17,10 @@
 //!
 //! It is a read-eval-print loop (L. P. Deutsch and E. Berkeley, *The LISP Implementation for the PDP-1 Computer*,
 //! 1964).
+//!
+//! Proved: The same as `run` for lines that arrive in pieces. Each reply is written before more is read (`talk`).
+//!
+//! Tested: The prompt.
 #![tactic(auto)]
 
 mod client;

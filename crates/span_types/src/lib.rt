@@ -15,6 +15,12 @@
 //!
 //! Spans, tuples and formulas with capture variables are those of R. Fagin, B. Kimelfeld, F. Reiss and S. Vansummeren,
 //! *Document Spanners*, JACM 2015. Mark order of tuples is this project's own.
+//!
+//! Proved: A name is exactly a NAME (`Name::new`). Lists of at most eight names (`Vars`). The mark of a tuple at a
+//! position (`mark_at`), mark order (`compare`), the numbers H and B (`height_limit`, `looks_limit`). Laws of marks,
+//! order, answers and the stricter rule of formulas (`law`).
+//!
+//! Tested: Printed texts of its errors.
 #![tactic(auto)]
 
 mod bytes;

@@ -8,6 +8,11 @@
 //!
 //! Words are taken exactly where `clap` takes them for the two options of the program, `--workers 1..64` and `--demo
 //! 1..46`, and a law says that what is taken has one reading. Time and memory are linear in the words.
+//!
+//! Proved: Command-line arguments: exactly what the command takes (`read_words`). The text for rejected arguments
+//! begins with `spanbase: Usage` (`usage_text`).
+//!
+//! Tested: The rest of that text.
 #![tactic(auto)]
 
 mod command;

@@ -10,6 +10,10 @@
 //! The arguments are those of spanbase, `--workers N` and `--demo N`, and so are the exit statuses. At a terminal, the
 //! number of the next line is shown on standard error. The lines are executed by `talk` of span_talk; this crate reads
 //! the arguments, and passes it standard input, standard output and the files of the current folder.
+//!
+//! Proved: The number of each status, and its possible causes.
+//!
+//! Tested: Its stored run; all cases, whole and in pieces; prompts at a terminal.
 #![tactic(auto)]
 
 ghost use Rattle.std.specs.Prelude.{◌≡◌, ◌≤◌, ◌<◌, IfErr, IfOk, map, string_bytes};

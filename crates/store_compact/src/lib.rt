@@ -11,6 +11,10 @@
 //! most 68 high, and that is how deep the search goes. It is the marking of a mark-sweep collector (McCarthy,
 //! "Recursive functions of symbolic expressions and their computation by machine, part I", 1960), and the marks are
 //! exact: nothing is kept beside what the roots reach.
+//!
+//! Proved: Exactly the nodes below the roots are kept (`Plan::keep_root`, `Plan::build`, `Plan::moves`).
+//!
+//! Neither: Time.
 #![tactic(auto)]
 
 ghost use Rattle.std.specs.Prelude.{◌≡◌, ◌<◌, false, length, replicate, IfOk, IsOk};

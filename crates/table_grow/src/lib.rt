@@ -19,6 +19,13 @@
 //!
 //! It is the preparation of M. L. Schmid and N. Schweikardt, *Spanner Evaluation over SLP-Compressed Documents*, PODS
 //! 2021.
+//!
+//! Proved: After `grow` each node has the table of its text, for any cache size, workers and gate. So it has after any
+//! order with children first (`fill`). One step per new node.
+//!
+//! Tested: Each new node passes the gate; two workers run at once; equal compositions are cached.
+//!
+//! Neither: Speed.
 #![tactic(auto)]
 
 pub mod filler;

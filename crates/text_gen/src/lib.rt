@@ -8,6 +8,8 @@
 //! compressed text is for: 55 lines make a document that no disk holds. The script is made in time and memory linear in
 //! its lines, which are at most 55. That n doublings of a text are n rules is the first example of a straight-line
 //! grammar (as in M. Lohrey, *Algorithmics on SLP-compressed strings: a survey*, 2012).
+//!
+//! Proved: The demo script (`demo`).
 #![tactic(auto)]
 
 ghost use Rattle.std.specs.Prelude.{◌≡◌, ◌^◌, ◌≤◌, IfOk, length};

@@ -12,6 +12,12 @@
 //! A gate sees the numbers of the nodes at which work begins and gives nothing back, so no result depends on it.
 //! `OpenGate` does nothing; tests have gates that hold a thread until another has come, and so show that two run at
 //! once.
+//!
+//! Proved: Both pieces return their results (`halves`).
+//!
+//! Tested: Two workers run at once.
+//!
+//! Neither: Speed.
 #![tactic(auto)]
 
 #[cfg(test)]
