@@ -1,7 +1,10 @@
 -- The slots of the map, and the index of their names.
 use Rattle.std.specs.Prelude.{◌≡◌, ℕ, suc, cond, ◌+◌, List, [], ◌∷◌, length, take, slice_get, Option, Some, None, Vec}
 use Rattle.std.specs.Option.{is_some, option_map}
+use Rattle.std.specs.Ordering.{nat_cmp}
+use Rattle.std.specs.Cmp.Lexicographic.{slice_cmp}
 use Rattle.std.specs.Map.{lookup}
+use Rattle.std.specs.BTreeMap.{is_at}
 use Rattle.name_map.specs.Named.{is_same, value_of}
 
 -- x before the others, if there is one
@@ -16,7 +19,7 @@ live (o ∷ os) = before o (live os)
 
 -- the number of a name's slot in the index
 abbrev pub indexed : {Z : Type 0} → List (Vec ℕ Z × ℕ) → List ℕ → Option ℕ
-indexed es name = lookup (λ k. is_same name k.items) es
+indexed es name = lookup (is_at (λ k. slice_cmp nat_cmp name k.items)) es
 
 -- of each name in the slots, which are numbered from i on, the index has the number
 abbrev pub AreIndexed : {A : Type 0} → (List ℕ → Option ℕ) → ℕ → List (Option (List ℕ × A)) → Type 0

@@ -11,11 +11,10 @@
 //! Names keep the order in which they came, whatever values they are given later. Contracts see the map as a list of
 //! pairs in this order.
 //!
-//! The pairs stand in a list of slots, and a hash table has the number of each name's slot. A name that is taken out
-//! leaves an empty slot. When more than half of the slots are empty, they are dropped and the others are numbered anew.
-//! So `set`, `get` and `take_out` take expected constant time, amortised where the map grows or slots are dropped,
-//! whichever names come and go and in whatever order. The hash has no key, so names can be searched for whose hashes
-//! are alike; on these a look-up takes time linear in their number.
+//! The pairs stand in a list of slots, and a B-tree has the number of each name's slot. A name that is taken out leaves
+//! an empty slot. When more than half of the slots are empty, they are dropped and the others are numbered anew. So
+//! `set`, `get` and `take_out` take time logarithmic in the number of names, amortised where the map grows or slots are
+//! dropped, whichever names come and go and in whatever order.
 //!
 //! `at` and `value_mut` take constant time while no slot is empty, and else time linear in the number of names.
 //! `settle` drops the empty slots, so a caller that goes over all places calls it first.
@@ -32,13 +31,13 @@ ghost use Rattle.name_map.specs.Named.{AreDistinctNames, is_same, put, taken_out
 
 use crate::closing::close_up;
 use crate::slots::{Slots, set, slot_named, slot_of, take_out};
-use indexmap::IndexMap;
 use span_types::{Name, NoMemory};
 use std::alloc::Global;
+use std::collections::BTreeMap;
 use std::marker::Model;
 
 /// Values under distinct names, in the order in which the names came. Contracts see them as a list
-/// of pairs of a name's bytes and a value. A look-up by name takes expected constant time.
+/// of pairs of a name's bytes and a value. A look-up by name takes time logarithmic in their number.
 #[derive(Drop)]
 pub struct NameMap<V> {
     slots: Slots<V>,
@@ -65,14 +64,14 @@ impl<V> NameMap<V> {
         NameMap {
             slots: Slots {
                 items: Vec::new(alloc),
-                index: IndexMap::new(alloc),
+                index: BTreeMap::new(alloc),
                 empty: 0,
             },
         }
     }
 
-    /// Gives the name this value. A present name keeps its place, and a new one goes last. Takes expected constant time,
-    /// amortised where the name is new.
+    /// Gives the name this value. A present name keeps its place, and a new one goes last. Takes time logarithmic in the
+    /// number of names, amortised where the name is new.
     ///
     /// # Errors
     ///
@@ -88,7 +87,7 @@ impl<V> NameMap<V> {
         set(&mut self.slots, alloc, name, value)
     }
 
-    /// The value of this name, if it is there. Takes expected constant time.
+    /// The value of this name, if it is there. Takes time logarithmic in the number of names.
     pub fn get(&self, name: &[u8]) -> Option<&V>
         ensures { option_copied result ≡ value_of self.now name.now }
     {
@@ -101,8 +100,8 @@ impl<V> NameMap<V> {
         }
     }
 
-    /// Takes the name out and gives its value, if it is there. The rest close up. Takes amortised expected constant time,
-    /// whichever name it is.
+    /// Takes the name out and gives its value, if it is there. The rest close up. Takes amortised time logarithmic in the
+    /// number of names, whichever name it is.
     pub fn take_out(&mut self, name: &[u8]) -> Option<V>
     where
         V: Drop,
@@ -127,7 +126,7 @@ impl<V> NameMap<V> {
         }
     }
 
-    /// The same names and values in the same order. Takes expected linear time, and linear memory.
+    /// The same names and values in the same order. Takes O(n log n) time and linear memory for n names.
     ///
     /// # Errors
     ///

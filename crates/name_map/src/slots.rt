@@ -5,15 +5,15 @@ ghost use Rattle.name_map.specs.Named.{is_same, put, taken_out, value_of};
 ghost use Rattle.name_map.specs.Kept.{AreSlots, IsSlotOf, indexed, live};
 
 use crate::closing::close_sparse;
-use indexmap::IndexMap;
 use span_types::{Name, NoMemory};
 use std::alloc::Global;
+use std::collections::BTreeMap;
 
 /// Slots, each with a name and its value or empty, and the number of each name's slot.
 #[derive(Drop)]
 pub(crate) struct Slots<V> {
     pub items: Vec<Option<(Name, V)>>,
-    pub index: IndexMap<Vec<u8>, usize>,
+    pub index: BTreeMap<Vec<u8>, usize>,
     /// How many slots are empty.
     pub empty: usize,
 }
@@ -116,7 +116,7 @@ fn empty_slot<V>(slots: &mut Slots<V>, slot: usize, name: &[u8]) -> Option<(Name
     ensures rest { live slots.new.items.items ≡ taken_out (live slots.old.items.items) name.now }
     ensures kept { AreSlots (indexed slots.new.index.entries) slots.new.items.items slots.new.empty }
 {
-    slots.index.swap_remove(name);
+    slots.index.remove(name);
     slots.empty += 1;
     slots.items[slot].take()
 }

@@ -1,4 +1,4 @@
-use Rattle.std.proofs.Common.{rules, ◌≡◌, sym, ap, subst, ◌∙◌, Some, None, arith}
+use Rattle.std.proofs.Common.{sym, ap, subst, ◌∙◌, Some}
 use Rattle.std.proofs.lemmas.List.{take_all}
 use Rattle.name_map.specs.Named.{AreDistinctNames}
 use Rattle.name_map.specs.Kept.{indexed, live}

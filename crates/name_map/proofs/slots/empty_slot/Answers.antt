@@ -31,4 +31,4 @@ returns-clause-rest g c =
 pub returns-clause-kept : goal.returns-clause-kept
 returns-clause-kept g c =
     let s = c.args.slots.now in
-    rw c.take.ensures.after (AreSlots-take (indexed s.index.entries) (indexed c.swap_remove.new.self.entries) s.items.items s.empty c.args.slot c.args.name.now c.requires.kept c.requires.there (indexed-updated c.args.name.now s.index c.swap_remove.new.self None c.swap_remove.ensures.updates))
+    rw c.take.ensures.after (AreSlots-take (indexed s.index.entries) (indexed c.remove.new.self.entries) s.items.items s.empty c.args.slot c.args.name.now c.requires.kept c.requires.there (indexed-updated c.args.name.now s.index c.remove.new.self None c.remove.ensures.updates))
