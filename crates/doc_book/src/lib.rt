@@ -12,8 +12,8 @@
 //! A document is a name and a root. It uses memory for these two only: its text is in the node store. `Docs` is a map
 //! of the crate `name_map`, which keeps that order and determines the costs:
 //!
-//! - `set`, `get` and `take_out` take expected constant time, amortised.
-//! - `copy` takes linear time.
+//! - `set`, `get` and `take_out` take amortised O(log n) time for n documents.
+//! - `copy` takes O(n log n) time.
 //! - `at` and `set_root` take constant time after `settle`, until the next `take_out`. Otherwise they take up to linear
 //!   time, so a caller that visits all documents calls `settle` first.
 //!
@@ -50,7 +50,7 @@ pub struct Doc {
 }
 
 /// Documents with distinct names, in the order in which the names were added. Contracts see them as a list. A lookup by
-/// name takes expected constant time.
+/// name takes time logarithmic in their number.
 #[derive(Drop)]
 pub struct Docs {
     by_name: NameMap<Option<NodeId>>,
@@ -77,7 +77,7 @@ impl Docs {
     }
 
     /// Sets the root of the document with this name. An existing name keeps its index, and a new name goes last. Takes
-    /// expected constant time, amortised.
+    /// amortised O(log n) time for n documents.
     ///
     /// # Errors
     ///
@@ -90,7 +90,7 @@ impl Docs {
         Ok(())
     }
 
-    /// The root of the document with this name. Takes expected constant time.
+    /// The root of the document with this name. Takes time logarithmic in the number of documents.
     ///
     /// # Errors
     ///
@@ -104,8 +104,8 @@ impl Docs {
         }
     }
 
-    /// Removes the document with this name. Each later document moves down by one index. Takes expected constant time,
-    /// amortised.
+    /// Removes the document with this name. Each later document moves down by one index. Takes amortised
+    /// O(log n) time for n documents.
     ///
     /// # Errors
     ///
@@ -124,7 +124,7 @@ impl Docs {
 
     /// Makes `at` and `set_root` take constant time until the next `take_out`. The documents and their indices are
     /// unchanged. Allocates nothing. Takes constant time if nothing was taken out since the last call, and otherwise
-    /// expected time linear in the number of documents.
+    /// O(n log n) time for n documents.
     pub fn settle(&mut self)
         ensures { self.new ≡ self.old }
     {
@@ -158,7 +158,7 @@ impl Docs {
         *self.by_name.value_mut(place) = root;
     }
 
-    /// A copy with the same names and roots in the same order. Takes time and memory linear in the number of documents.
+    /// A copy with the same names and roots in the same order. Takes O(n log n) time and linear memory for n documents.
     ///
     /// # Errors
     ///

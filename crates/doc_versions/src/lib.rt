@@ -11,8 +11,8 @@
 //! A version is a list of names and roots. It uses memory linear in the number of documents, and none for their texts:
 //! nodes never change, and a version shares them with the documents. Costs:
 //!
-//! - `mark` and `back` copy the list, in linear time.
-//! - `unmark` and a lookup by name take expected constant time, amortised for `unmark`.
+//! - `mark` and `back` copy the list, in O(n log n) time for n documents.
+//! - `unmark` and a lookup by name take time logarithmic in the number of versions, amortised for `unmark`.
 //! - `at` and `set_root` take constant time after `settle`, until the next `unmark`, and otherwise up to linear time.
 //!
 //! Texts shared in this way are *persistent* data structures, kept by copying their roots (Driscoll, Sarnak, Sleator
@@ -87,7 +87,7 @@ impl Versions {
     }
 
     /// Keeps a copy of the documents under this name. An existing name keeps its index, and its old documents are
-    /// dropped. A new name goes last. Takes time linear in the number of documents.
+    /// dropped. A new name goes last. Takes O(n log n) time for n documents.
     ///
     /// # Errors
     ///
@@ -102,7 +102,7 @@ impl Versions {
         self.by_name.set(alloc, name, copy)
     }
 
-    /// A copy of the documents that the version with this name keeps. Takes time linear in their number.
+    /// A copy of the documents that the version with this name keeps. Takes O(n log n) time for n documents.
     ///
     /// # Errors
     ///
@@ -117,8 +117,8 @@ impl Versions {
         }
     }
 
-    /// Removes the version with this name. Each later version moves down by one index. Takes expected constant time,
-    /// amortised.
+    /// Removes the version with this name. Each later version moves down by one index. Takes amortised
+    /// O(log n) time for n versions.
     ///
     /// # Errors
     ///
@@ -136,7 +136,7 @@ impl Versions {
 
     /// Makes `at` and `set_root` take constant time until the next `unmark`. The versions and their indices are
     /// unchanged. Allocates nothing. Takes constant time if nothing was unmarked since the last call, and otherwise
-    /// expected time linear in the number of versions.
+    /// O(n log n) time for n versions.
     pub fn settle(&mut self)
         ensures { self.new ≡ self.old }
     {

@@ -28,7 +28,7 @@ use std::thread::Threads;
 use work_gate::Gate;
 
 /// A registry of queries with distinct names, in the order in which the names were added. A lookup by name takes
-/// expected constant time.
+/// time logarithmic in their number.
 #[derive(Drop)]
 pub struct QueryBook {
     by_name: NameMap<TabledQuery>,
@@ -82,8 +82,8 @@ impl QueryBook {
         Ok(())
     }
 
-    /// Removes the query with this name. Each later query moves down by one index. Takes expected constant time,
-    /// amortised.
+    /// Removes the query with this name. Each later query moves down by one index. Takes amortised
+    /// O(log n) time for n queries.
     ///
     /// # Errors
     ///

@@ -13,7 +13,7 @@
 //!
 //! `test` and `has` of a query with k variables on a text of n bytes take at most B(k, n) table lookups. Here B(k, n) =
 //! 4·(2k+1)·(H(n)+3), and H(n) is the greatest height of a balanced tree of n bytes. They allocate nothing. A lookup by
-//! name takes expected constant time, and so does `remove`, amortised. The memory of a query is that of its automaton,
+//! name takes time logarithmic in the number of queries, and so does `remove`, amortised. The memory of a query is that of its automaton,
 //! its distinct tables, a number for each node, and a cache of up to 4,096 compositions. `renumber` drops the tables
 //! that no node uses any more.
 //!

@@ -17,7 +17,7 @@ impl QueryBook {
     /// The view of the store's nodes with their tables in the query with this name, and the query's automaton. The
     /// automaton has the query's variables, and on each text of at most 2^48 bytes it has the query's answers.
     ///
-    /// Each node of the store must have its table. Allocates nothing. Takes expected constant time.
+    /// Each node of the store must have its table. Allocates nothing. Takes time logarithmic in the number of queries.
     ///
     /// # Errors
     ///

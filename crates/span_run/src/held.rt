@@ -39,7 +39,7 @@ impl Held {
 
     /// Makes access to documents and versions by index take constant time, for a command that visits all of them.
     /// Changes nothing else, and allocates nothing. Takes constant time if nothing was removed since the last call, and
-    /// otherwise expected time linear in the number of documents and versions.
+    /// otherwise O(n log n) time for n documents and versions.
     pub fn settle(&mut self)
         ensures { self.new ≡ self.old }
     {
