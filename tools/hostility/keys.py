@@ -1,4 +1,4 @@
-"""Chosen keys: texts, tables and names that are searched for having like hashes, beside random ones of the same make.
+"""Chosen keys: texts, tables and names that are chosen to be slow to search for, beside random ones of the same make.
 
 The store of nodes finds a pair by a hash without a key, which anyone can work out. Its index has groups of twelve places;
 a pair that finds its group full goes on to the next one. So pairs whose hashes all lead into one stretch of the groups
@@ -6,19 +6,24 @@ make long walks, and the walks grow with the pairs.
 
 A text for this has each word of two bytes once at its front, so that their numbers are known, and then words of four bytes
 that are searched for. An image may name any two nodes as a pair, and so needs no front. Each text and image must take at most
-ten times as long as the one beside it: the store gives up its index once too many hashes are alike. Names have no such
-bound, and a script has as many lines as it makes names; their times are printed.
+ten times as long as the one beside it: the store gives up its index once too many hashes are alike.
 
 A formula decides which tables a text has, and equal tables are found by a digest without a key. One formula here has rows
 whose marked states spell a constant, which would make a factor of a digest zero; another one is given words whose digests
 are searched for. Both must take at most ten times as long as a formula or words beside them.
+
+Names are found by a B-tree over their bytes. Its costs depend on the order in which names come, and on how many bytes two of
+them share. So names of the greatest length come in ascending and in descending order, and names that differ in their last
+bytes alone come in any order. Other names are searched for having like hashes in an index without a key. A script makes
+documents of each kind, and an image has them. Each must take at most ten times as long as one of random names as long.
 """
 import itertools
 import random
+import string
 from collections.abc import Iterator
 from pathlib import Path
 
-from .images import image_of, pair
+from .images import byte, image_of, pair
 from .running import Limits, Report, fault_of, room, run
 
 MASK = (1 << 64) - 1
@@ -28,12 +33,14 @@ MULTIPLIER = 0x9E37_79B9_7F4A_7C15
 SPREAD = 0xD134_2543_DE82_EF95
 # a number of eight bytes is fed to the hash, or one byte, which then stands in it three times
 FACTOR, BYTE_FACTOR, THRICE = MULTIPLIER ^ 16, MULTIPLIER ^ 2, 0x010101
-NAME_BYTES = b"abcdefghijklmnopqrstuvwxyz0123456789_.-"
+# the most bytes of a name, and the bytes that may stand behind its first
+NAME_LENGTH = 64
+NAME_BYTES = (string.ascii_letters + string.digits + "_.-").encode()
 # by what a full index of nodes and one of names grow
 NODE_GROWTH, NAME_GROWTH = 4, 2
 # the text is cut into blocks of so many bytes at first
 BLOCK = 512
-# a stranger's text may make loading slower by this factor
+# chosen keys may make a run slower by this factor
 MOST_SLOWER = 10.0
 # the digest of no rows, and the factors of a table's digest
 NO_ROWS = 0x1319_8A2E_0370_7344_243F_6A88_85A3_08D3
@@ -133,11 +140,13 @@ def texts(count: int) -> tuple[bytes, bytes]:
     return front + searched, front + chance.randbytes(4 * count)
 
 
-def seconds(program: Path, report: Report, name: str, file: bytes, script: bytes | None, limit: float) -> float | None:
+def seconds(
+    program: Path, report: Report, name: str, file: bytes, script: bytes | None, limit: float, statuses: tuple[int, ...]
+) -> float | None:
     with room({"f": file}) as folder:
         ran = run(program, file if script is None else script, folder, Limits(seconds=limit))
     report.runs += 1
-    report.check(name, fault_of(ran, ran.status if ran.status in (0, 1) else 0))
+    report.check(name, fault_of(ran, ran.status if ran.status in statuses else 0))
     return None if ran.late else ran.seconds
 
 
@@ -145,25 +154,21 @@ def compare(
     program: Path,
     report: Report,
     name: str,
-    searched: bytes,
+    chosen: bytes,
     other: bytes,
     script: bytes | None,
     limit: float,
-    bounded: bool = True,
+    statuses: tuple[int, ...] = (0, 1),
 ) -> None:
     """Times the script over both files, or the files as scripts, and compares. The time is that of the whole run."""
-    kinds = (("random", other), ("searched", searched))
-    took = [seconds(program, report, f"{name}, {kind}", it, script, limit) for kind, it in kinds]
+    kinds = (("random", other), ("chosen", chosen))
+    took = [seconds(program, report, f"{name}, {kind}", it, script, limit, statuses) for kind, it in kinds]
     if took[0] is None or took[1] is None:
         return
-    figure = f"{name}: random, searched", f"{took[0]:.2f} s, {took[1]:.2f} s"
-    if not bounded:
-        report.figure(*figure)
-        return
     slower = took[1] / took[0]
-    fault = f"the searched one takes {slower:.0f} times as long" if slower > MOST_SLOWER and took[1] > 0.5 else None
+    fault = f"the chosen one takes {slower:.0f} times as long" if slower > MOST_SLOWER and took[1] > 0.5 else None
     report.check(f"{name}: how much slower", fault)
-    report.figure(*figure, f"{MOST_SLOWER:.0f} times")
+    report.figure(f"{name}: random, chosen", f"{took[0]:.2f} s, {took[1]:.2f} s", f"{MOST_SLOWER:.0f} times")
 
 
 def images_of(count: int) -> tuple[bytes, bytes]:
@@ -180,8 +185,8 @@ def images_of(count: int) -> tuple[bytes, bytes]:
     return image_of(1, letters + low + searched, document), image_of(1, letters + low + other, document)
 
 
-def names_of(count: int) -> tuple[bytes, bytes]:
-    """Lines that make so many documents whose names are searched for, and as many whose names are numbers."""
+def searched_names(count: int) -> list[bytes]:
+    """So many different names of eleven bytes whose hashes lead into one stretch of an index of names."""
     bits, searched = stretch_of(count, NAME_GROWTH), []
     before = 0
     while len(searched) < count:
@@ -194,8 +199,36 @@ def names_of(count: int) -> tuple[bytes, bytes]:
             hashed = folded(state ^ it * THRICE, BYTE_FACTOR)
             if leads_into(bits, (hashed ^ (hashed >> 32)) & 0xFFFF_FFFF):
                 searched.append(front + bytes([it]))
-    others = [b"n%09da" % it for it in range(count)]
-    return b"".join(b"text %s x\n" % it for it in searched[:count]), b"".join(b"text %s x\n" % it for it in others)
+    return searched[:count]
+
+
+def random_names(count: int, front: bytes = b"n", length: int = NAME_LENGTH) -> list[bytes]:
+    """So many different names of this length that begin alike and go on at random, in any order."""
+    chance = random.Random(31)
+    found: set[bytes] = set()
+    while len(found) < count:
+        found.add(front + bytes(chance.choices(NAME_BYTES, k=length - len(front))))
+    return chance.sample(sorted(found), count)
+
+
+def chosen_names(count: int) -> Iterator[tuple[str, list[bytes], list[bytes]]]:
+    """So many chosen names of each kind, with as many random names as long."""
+    searched = searched_names(count)
+    yield "searched for", searched, random_names(count, length=len(searched[0]))
+    others = random_names(count)
+    yield "in ascending order", sorted(others), others
+    yield "in descending order", sorted(others, reverse=True), others
+    yield "different in the last three bytes", random_names(count, b"n" * (NAME_LENGTH - 3)), others
+
+
+def script_with(names: list[bytes]) -> bytes:
+    """Lines that make a document of each name."""
+    return b"".join(b"text %s x\n" % it for it in names)
+
+
+def image_with(names: list[bytes]) -> bytes:
+    """An image with a document of each name."""
+    return image_of(1, [byte(ord("x"))], [(it, 0) for it in names])
 
 
 def letter_sets() -> list[set[str]]:
@@ -282,6 +315,8 @@ def keys(program: Path, report: Report) -> None:
         scripts = spelled(16 * counts[0], constant)
         compare(program, report, f"tables whose marks spell {constant:#x}", *scripts, None, 60)
     compare(program, report, f"tables of {counts[0] // 4:,} words", *table_words(counts[0] // 4), None, 60)
-    for count in counts[:2]:
-        searched, others = names_of(count)
-        compare(program, report, f"{count:,} documents", searched, others, None, 60, bounded=False)
+    count = 4_000 if report.quick else 128_000
+    for kind, chosen, others in chosen_names(count):
+        what = f"{count:,} documents with names {kind}"
+        compare(program, report, what, script_with(chosen), script_with(others), None, 60, (0,))
+        compare(program, report, f"`open` of {what}", image_with(chosen), image_with(others), b"open f\n", 60, (0,))
