@@ -33,20 +33,30 @@ module _ (from to : Listing) (given : List Tuple) (h : AreTaken from to given) w
         (listed-next from.automaton from.text all are None to.after given u (h.listed all are) (rw (h.automaton, h.text) at first));
   }
 
-  pub taken-all : (n : ℕ) → NoMemberLeft to.automaton to.text to.after → length given ≤ n → IsPageOf from.automaton from.text n (record { tuples = given; more = false })
-  taken-all n none le = λ all are. page-whole from.automaton from.text all are None to.after given n (h.listed all are) (rw (h.automaton, h.text) at none) le
+  pub taken-all : (all : List Tuple) → AreAnswersOf from.automaton from.text all → (n : ℕ) → NoMemberLeft to.automaton to.text to.after → length given ≤ n
+      → IsPageOf from.automaton from.text n (record { tuples = given; more = false })
+  taken-all all are n none le = record {
+    all = all;
+    answers = are;
+    page = page-whole from.automaton from.text all are None to.after given n (h.listed all are) (rw (h.automaton, h.text) at none) le;
+  }
 
-  pub taken-full : (n : ℕ) (u : Tuple) → IsFirstMember to.automaton to.text to.after u → length given ≡ n → IsPageOf from.automaton from.text n (record { tuples = given; more = true })
-  taken-full n u first is = λ all are.
-      subst (λ (m : ℕ). IsPage all None m given true) is (page-full from.automaton from.text all are None to.after given u (h.listed all are) (rw (h.automaton, h.text) at first))
+  pub taken-full : (all : List Tuple) → AreAnswersOf from.automaton from.text all → (n : ℕ) (u : Tuple) → IsFirstMember to.automaton to.text to.after u → length given ≡ n
+      → IsPageOf from.automaton from.text n (record { tuples = given; more = true })
+  taken-full all are n u first is = record {
+    all = all;
+    answers = are;
+    page = subst (λ (m : ℕ). IsPage all None m given true) is (page-full from.automaton from.text all are None to.after given u (h.listed all are) (rw (h.automaton, h.text) at first));
+  }
 
   pub taken-looks : (x y : ℕ) → x ≤ y + looks_limit to.automaton.variables (length to.text) → x ≤ y + looks_limit from.automaton.variables (length from.text)
   taken-looks x y le = rw (h.automaton, h.text) at le
 
   -- whether the next answer was found, after a full page
-  pub taken-page : (n : ℕ) (o : Option Tuple) → MatchOption o (NoMemberLeft to.automaton to.text to.after) (IsFirstMember to.automaton to.text to.after) → length given ≡ n → IsPageOf from.automaton from.text n (record { tuples = given; more = is_some o })
-  taken-page n None none is = taken-all n none (omega (arith, is))
-  taken-page n (Some u) first is = taken-full n u first is
+  pub taken-page : (all : List Tuple) → AreAnswersOf from.automaton from.text all → (n : ℕ) (o : Option Tuple) → MatchOption o (NoMemberLeft to.automaton to.text to.after) (IsFirstMember to.automaton to.text to.after)
+      → length given ≡ n → IsPageOf from.automaton from.text n (record { tuples = given; more = is_some o })
+  taken-page all are n None none is = taken-all all are n none (omega (arith, is))
+  taken-page all are n (Some u) first is = taken-full all are n u first is
 
 -- ---- table lookups
 pub looks-next : (before now after count more each : ℕ) → now ≤ before + count * each → after ≤ now + each → more ≡ count + 1 → after ≤ before + more * each

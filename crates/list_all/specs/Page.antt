@@ -9,6 +9,8 @@ pub record Page : Type 0 where
   pub tuples : List Tuple
   pub more : Bool
 
--- the first n of the automaton's answers on the text, and whether there are more
-abbrev pub IsPageOf : DeterministicAutomaton → List ℕ → ℕ → Page → Type 0
-IsPageOf a s n p = (all : List Tuple) → AreAnswersOf a s all → IsPage all None n p.tuples p.more
+-- the automaton's answers on the text make a list, of which these are the first n, with whether there are more
+pub record IsPageOf (a : DeterministicAutomaton) (s : List ℕ) (n : ℕ) (p : Page) : Type 0 where
+  pub all : List Tuple
+  pub answers : AreAnswersOf a s all
+  pub page : IsPage all None n p.tuples p.more

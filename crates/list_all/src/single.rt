@@ -1,7 +1,8 @@
 //! The page of one text.
-ghost use Rattle.std.specs.Prelude.{◌≡◌, ◌≤◌, ◌+◌, ◌*◌, ℕ, List, None, length, IfOk};
+ghost use Rattle.std.specs.Prelude.{◌≡◌, ◌≤◌, ◌<◌, ◌+◌, ◌*◌, ◌^◌, ℕ, All, List, None, length, IfOk};
 ghost use Rattle.span_types.specs.Fibonacci.{looks_limit};
 ghost use Rattle.span_enum.specs.Listing.{IsReady, text_of};
+ghost use Rattle.span_enum.specs.Members.{Tuple as ATuple, AreAnswersOf};
 ghost use Rattle.list_all.specs.Page.{IsPageOf};
 
 use crate::found::OnePage;
@@ -35,8 +36,22 @@ pub fn page<L: Ledger>(
     ensures cost { IfOk result (λ p. looks.new ≤ looks.old + (length p.tuples + 2) * looks_limit dfa.now.variables (length (text_of view.entry.store.now root))) }
     ensures most { looks.new ≤ looks.old + (limit + 2) * looks_limit dfa.now.variables (length (text_of view.entry.store.now root)) }
 {
+    let _states = dfa.states();
+    check_text(&view, dfa, root, looks);
     let mut answers = Answers::start(alloc, view, dfa, root, looks)?;
     first_answers(alloc, &mut answers, limit, looks)
+}
+
+/// A lookup of the root shows that its text isn't longer than the automaton's answers are defined for, so they make a list.
+fn check_text<L: Ledger>(view: &View<'_>, dfa: &Dfa, root: Option<NodeId>, looks: &mut Steps<L>)
+    requires { IsReady dfa.now view.now.store.now view.now.tables.now root }
+    ensures short { length (text_of view.now.store.now root) ≤ 2 ^ 48 }
+    ensures bytes { All (λ b. b < 256) (text_of view.now.store.now root) }
+    ensures cost { looks.new ≤ looks.old + 1 }
+{
+    if let Some(id) = root {
+        let _look = view.look(id, looks);
+    }
 }
 
 /// Takes the first `limit` answers of an iterator that hasn't returned any, and tests whether there are more.
@@ -46,7 +61,8 @@ fn first_answers<L: Ledger>(
     limit: u16,
     looks: &mut Steps<L>,
 ) -> Result<OnePage, NoMemory>
-    requires { answers.old.after ≡ None }
+    requires start { answers.old.after ≡ None }
+    requires list { (all : List ATuple) × AreAnswersOf answers.old.automaton answers.old.text all }
     ensures page { IfOk result (IsPageOf answers.old.automaton answers.old.text limit) }
     ensures cost { IfOk result (λ p. looks.new ≤ looks.old + (length p.tuples + 1) * looks_limit answers.old.automaton.variables (length answers.old.text)) }
     ensures most { looks.new ≤ looks.old + (limit + 1) * looks_limit answers.old.automaton.variables (length answers.old.text) }

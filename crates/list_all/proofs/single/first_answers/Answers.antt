@@ -5,7 +5,7 @@ use Rattle.list_all.proofs.single.first_answers.Goals as goal
 
 pub loop-given-init : goal.loop-given-init
 loop-given-init g c = record {
-  taken = rw c.new-tuples.ensures.items (taken-none c.args.answers.now c.requires);
+  taken = rw c.new-tuples.ensures.items (taken-none c.args.answers.now c.requires.start);
   count = ap length c.new-tuples.ensures.items;
   paid = omega arith;
 }
@@ -31,7 +31,7 @@ returns-in_err-push-in-Some-clause-most g c =
 pub returns-in-None-clause-page : goal.returns-in-None-clause-page
 returns-in-None-clause-page g c =
     let at = c.loop-given in
-    taken-all c.args.answers.now at.answers at.tuples.items at.invariant.taken c.args.limit c.in-None.ensures.answer (omega (arith, at.invariant.count, c.loop-given-test.true))
+    taken-all c.args.answers.now at.answers at.tuples.items at.invariant.taken c.requires.list.0 c.requires.list.1 c.args.limit c.in-None.ensures.answer (omega (arith, at.invariant.count, c.loop-given-test.true))
 
 pub returns-in-None-clause-most : goal.returns-in-None-clause-most
 returns-in-None-clause-most g c =
@@ -43,4 +43,4 @@ pub returns-clause-page : goal.returns-clause-page
 returns-clause-page g c =
     let at = c.loop-given in
     rw c.is_some-more.ensures
-    (taken-page c.args.answers.now at.answers at.tuples.items at.invariant.taken c.args.limit c.next-2.result c.next-2.ensures.answer (omega (arith, at.invariant.count, c.loop-given-test.false, at.auto._given-end)))
+    (taken-page c.args.answers.now at.answers at.tuples.items at.invariant.taken c.requires.list.0 c.requires.list.1 c.args.limit c.next-2.result c.next-2.ensures.answer (omega (arith, at.invariant.count, c.loop-given-test.false, at.auto._given-end)))
