@@ -9,6 +9,7 @@ use Rattle.span_run.proofs.BookLemmas.{query_of}
 use Rattle.std.proofs.lemmas.List.Elements.{Contains-get_or}
 use Rattle.script_syntax.specs.declared.form.Command.TheVariants as form
 use Rattle.script_syntax.specs.Syntax.{Reads}
+use Rattle.span_types.proofs.AnswerLaws.{one-rising}
 use Rattle.span_enum.proofs.Exists.{answers-exist}
 use Rattle.query_book.proofs.Covered.{bytes-found}
 use Rattle.span_run.specs.Every.{IsRegistered}
@@ -21,6 +22,14 @@ well_formed line (form.ListAll q k) (name, Some n, (low, high, e), text) = (omeg
 well_formed line (form.ProjectQuery n q k) (name, source, names, text) = names
 well_formed line _ h = tt
 
+-- ---- a page
+one_list : (a : DeterministicAutomaton) (s : List ℕ) (ts us : List Tuple) → AreAnswersOf a s ts → AreAnswersOf a s us → ts ≡ us
+one_list a s ts us f g = one-rising a.variables ts us f.rising g.rising (λ t h. ((f.members t).0 h).size) (λ t h. (g.members t).1 ((f.members t).0 h)) (λ t h. (f.members t).1 ((g.members t).0 h))
+
+-- the automaton has one list of answers, so this one's first answers are the page
+page_of : (a : DeterministicAutomaton) (s : List ℕ) (l : List Tuple) (n : ℕ) (p : Page) → AreAnswersOf a s l → IsPageOf a s n p → IsPage l None n p.tuples p.more
+page_of a s l n p are is = subst (λ (ts : List Tuple). IsPage ts None n p.tuples p.more) (one_list a s is.all l is.answers are) is.page
+
 -- ---- the documents from an index on
 module _ (a : DeterministicAutomaton) (ns : List Node) (names : List (List ℕ)) (n : ℕ) where
   pub rest_next : (ds : List Doc) (ls : List (List Tuple)) (place : ℕ) (d : Doc) (p : Page) → AreAnswered a ns ds ls → slice_get ds place ≡ Some d → IsPageOf a (text_of ns d.root) n p
@@ -31,7 +40,7 @@ module _ (a : DeterministicAutomaton) (ns : List Node) (names : List (List ℕ))
   rest_next (x ∷ ds) (l ∷ ls) zero d p are e is =
       let same : x ≡ d = cc e in
       let here : AreAnswersOf a (text_of ns d.root) l = subst (λ (y : Doc). AreAnswersOf a (text_of ns y.root) l) same are.0 in
-      let page : IsPage l None n p.tuples p.more = is l here in
+      let page : IsPage l None n p.tuples p.more = page_of a (text_of ns d.root) l n p here is in
       let all : l ≡ page.rest = page.after.cut ∙ ap (λ (f : List Tuple). f ++ page.rest) (page.after.start refl) in
       let tuples : take n l ≡ p.tuples = ap (λ (r : List Tuple). take n r) all ∙ sym page.first in
       let more : nat_lt n (length l) ≡ p.more = ap (λ (r : List Tuple). nat_lt n (length r)) all ∙ sym page.more_left in
@@ -72,20 +81,14 @@ take_at (suc n) (x ∷ xs) (suc k) t e = take_at n xs k t e
 contains_at : (xs : List Tuple) (k : ℕ) (t : Tuple) → slice_get xs k ≡ Some t → Contains xs t
 contains_at xs k t e = subst (λ (u : Tuple). Contains xs u) (get_or_from_slice_get xs k t t e) (Contains-get_or xs k t (slice_get_within xs k t e))
 
-pub page_sizes : (a : DeterministicAutomaton) (s : List ℕ) (l : List Tuple) (n : ℕ) (p : Page) → AreAnswersOf a s l → IsPageOf a s n p → (k : ℕ) (t : Tuple) → slice_get p.tuples k ≡ Some t → length t ≡ a.variables
-page_sizes a s l n p are is k t e =
-    let page : IsPage l None n p.tuples p.more = is l are in
-    let all : page.rest ≡ l = sym (page.after.cut ∙ ap (λ (f : List Tuple). f ++ page.rest) (page.after.start refl)) in
+pub page_sizes : (a : DeterministicAutomaton) (s : List ℕ) (n : ℕ) (p : Page) → IsPageOf a s n p → (k : ℕ) (t : Tuple) → slice_get p.tuples k ≡ Some t → length t ≡ a.variables
+page_sizes a s n p is k t e =
+    let page : IsPage is.all None n p.tuples p.more = is.page in
+    let all : page.rest ≡ is.all = sym (page.after.cut ∙ ap (λ (f : List Tuple). f ++ page.rest) (page.after.start refl)) in
     let there : slice_get page.rest k ≡ Some t = take_at n page.rest k t (subst (λ (ts : List Tuple). slice_get ts k ≡ Some t) page.first e) in
-    let in_all : slice_get l k ≡ Some t = subst (λ (ts : List Tuple). slice_get ts k ≡ Some t) all there in
-    let member = (are.members t).0 (contains_at l k t in_all) in
+    let in_all : slice_get is.all k ≡ Some t = subst (λ (ts : List Tuple). slice_get ts k ≡ Some t) all there in
+    let member = (is.answers.members t).0 (contains_at is.all k t in_all) in
     member.size
-
-pub answered_at : (a : DeterministicAutomaton) (ns : List Node) (ds : List Doc) (ls : List (List Tuple)) (place : ℕ) (d : Doc) → AreAnswered a ns ds ls → slice_get ds place ≡ Some d → (l : List Tuple) × AreAnswersOf a (text_of ns d.root) l
-answered_at a ns [] ls place d are e = let bad : ⊥ = cc e in absurd bad
-answered_at a ns (x ∷ ds) [] place d are e = absurd are
-answered_at a ns (x ∷ ds) (l ∷ ls) zero d are e = let same : x ≡ d = cc e in (l, subst (λ (y : Doc). AreAnswersOf a (text_of ns y.root) l) same are.0)
-answered_at a ns (x ∷ ds) (l ∷ ls) (suc place) d are e = answered_at a ns ds ls place d are.1 e
 
 pub lists_exist : (a : DeterministicAutomaton) (ns : List Node) (t : Dictionary) → IsDeterministic a → AreTables a ns t → count_of t ≡ length ns → (ds : List Doc) → AreLive ns ds → AreShort ns ds → (ls : List (List Tuple)) × AreAnswered a ns ds ls
 lists_exist a ns t auto tables count [] live short = ([], tt)

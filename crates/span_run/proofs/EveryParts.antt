@@ -5,7 +5,7 @@ use Rattle.span_run.proofs.Names.{names_of, Node, option_map, Outlet, Page, page
 use Rattle.span_run.proofs.Names.{Tuple, value_of, ℕ, ◌++◌, ◌+◌, ◌∙◌, ◌≡◌}
 use Rattle.span_run.proofs.BookLemmas.{names_known}
 use Rattle.list_all.specs.Every.{ArePages}
-use Rattle.span_run.proofs.EveryLemmas.{answered_at, listed, lists_exist, page_at, page_sizes, rest_next}
+use Rattle.span_run.proofs.EveryLemmas.{listed, lists_exist, page_at, page_sizes, rest_next}
 
 -- ---- a batch: the page at one index
 module _ (a : DeterministicAutomaton) (ns : List Node) (ds : List Doc) (first count n : ℕ) (pages : List Page) (are : ArePages a ns ds first count n pages)
@@ -14,10 +14,8 @@ module _ (a : DeterministicAutomaton) (ns : List Node) (ds : List Doc) (first co
   found : IsPageOf a (text_of ns d.root) n (record { tuples = tuples; more = more })
   found = are.each place d (record { tuples = tuples; more = more }) at (page_at pages place tuples more tuples_are more_is)
 
-  pub found_sizes : (k : ℕ) → k ≡ a.variables → (lists : List (List Tuple)) × AreAnswered a ns ds lists → (i : ℕ) (t : Tuple) → slice_get tuples i ≡ Some t → k ≡ length t
-  found_sizes k is (lists, answered) i t e =
-      let l = answered_at a ns ds lists (first + place) d answered at in
-      is ∙ sym (page_sizes a (text_of ns d.root) l.0 n (record { tuples = tuples; more = more }) l.1 found i t e)
+  pub found_sizes : (k : ℕ) → k ≡ a.variables → (i : ℕ) (t : Tuple) → slice_get tuples i ≡ Some t → k ≡ length t
+  found_sizes k is i t e = is ∙ sym (page_sizes a (text_of ns d.root) n (record { tuples = tuples; more = more }) found i t e)
 
   pub batch_left : {x y : Outlet} {whole : List ℕ} (names : List (List ℕ)) (lists : List (List Tuple)) → AreAnswered a ns ds lists → IsUpTo x y (rest_text names n ds lists (first + place)) whole
       → IsUpTo x y ((doc_line d.name ++ page_text names tuples more) ++ rest_text names n ds lists (first + (place + 1))) whole

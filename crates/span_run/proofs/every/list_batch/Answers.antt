@@ -6,7 +6,7 @@ use Rattle.span_run.proofs.every.list_batch.Goals as goal
 pub write_document-requires : goal.write_document-requires
 write_document-requires g c =
     found_sizes c.args.survey.dfa.now c.args.survey.view.store.now c.args.survey.docs.now c.args.first c.args.count c.args.survey.limit _ c.in_ok-found.ensures c.loop-place.place (record { name = c.at.result.0.now; root = c.at.result.1 }) c.tuples.result.now c.more.result
-    c.at.ensures c.tuples.ensures c.more.ensures (length c.args.survey.vars.now) c.requires.survey.variables c.requires.survey.answered
+    c.at.ensures c.tuples.ensures c.more.ensures (length c.args.survey.vars.now) c.requires.survey.variables
 
 pub returns-in_err-found-clause-stopped : goal.returns-in_err-found-clause-stopped
 returns-in_err-found-clause-stopped g c = passed c.from_residual.result _ _ _ c.from_residual.ensures.1 (λ lists are. waits (starts _ _))
