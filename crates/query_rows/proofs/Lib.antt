@@ -1,2 +1,2 @@
-mod Backwards
+mod Crossed
 mod Documents

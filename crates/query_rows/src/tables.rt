@@ -1,5 +1,5 @@
 //! Tests of table computation, with a gate that shows that each node passes and that two pieces of a height run at
-//! once, and with an order of nodes that isn't that of their ids.
+//! once, and with an order of bytes and pairs that isn't that of their ids.
 ghost use Rattle.std.specs.Prelude.{◌≡◌, ◌<◌, ◌≤◌, [], IfOk};
 ghost use Rattle.table_grow.specs.Schedule.{IsSchedule};
 
@@ -166,42 +166,58 @@ fn two_nodes_meet(rt: HostRuntime) -> Result<(), Fail> {
     Ok(())
 }
 
-/// The two nodes of a store of two bytes, the last one first.
-fn backwards(store: &Store) -> Result<[NodeId; 2], NoMemory>
+/// The nodes of a store of two bytes, two pairs of these and a pair of the pairs, in an order that isn't that of their ids.
+fn crossed(store: &Store) -> Result<[NodeId; 5], NoMemory>
     ensures { IfOk result (λ ids. IsSchedule store.now 0 ids) }
 {
-    if store.count() != 2 {
+    if store.count() != 5 {
         return Err(NoMemory);
     }
     match (
-        store.node(NodeId { index: 0 }),
         store.node(NodeId { index: 1 }),
+        store.node(NodeId { index: 3 }),
     ) {
-        (Node::Byte(_), Node::Byte(_)) => Ok([NodeId { index: 1 }, NodeId { index: 0 }]),
+        (Node::Byte(_), Node::Pair(left, right)) => {
+            if left.index > 1 || right.index > 1 {
+                return Err(NoMemory);
+            }
+            Ok([
+                NodeId { index: 1 },
+                NodeId { index: 0 },
+                NodeId { index: 3 },
+                NodeId { index: 2 },
+                NodeId { index: 4 },
+            ])
+        }
         _ => Err(NoMemory),
     }
 }
 
-/// The tables of two bytes, in an order that isn't that of their ids.
+/// The tables of these nodes, in an order that isn't that of their ids.
 fn filled<L: Ledger>(
     alloc: Global,
     store: &Store,
     dfa: &Dfa,
     places: &mut Steps<L>,
 ) -> Result<Tables, NoMemory> {
-    let schedule = backwards(store)?;
+    let schedule = crossed(store)?;
     let mut tables = Tables::new(alloc, dfa);
     fill(alloc, &mut tables, store, dfa, &schedule, places)?;
     Ok(tables)
 }
 
-/// Whether two nodes have equal tables in both.
+/// Whether all nodes have equal tables in both.
 fn are_same(left: &Tables, right: &Tables) -> bool {
-    if left.count() != 2 || right.count() != 2 {
+    if left.count() != right.count() {
         return false;
     }
-    let (first, second) = (NodeId { index: 0 }, NodeId { index: 1 });
-    left.table(first) == right.table(first) && left.table(second) == right.table(second)
+    for index in 0..left.count() {
+        let id = NodeId { index };
+        if left.table(id) != right.table(id) {
+            return false;
+        }
+    }
+    true
 }
 
 fn same<R: Threads + Sync, L: Ledger>(
@@ -217,7 +233,7 @@ fn same<R: Threads + Sync, L: Ledger>(
     Ok(are_same(&filled, &grown))
 }
 
-/// Whether two bytes get the same tables in the usual order as in an order that isn't that of their ids.
+/// Whether bytes and pairs get the same tables in the usual order as in an order that isn't that of their ids.
 fn agree<R: Threads + Sync, L: Ledger>(
     rt: &R,
     alloc: Global,
@@ -229,8 +245,7 @@ fn agree<R: Threads + Sync, L: Ledger>(
 {
     let mut steps = Steps::<L>::new(blank);
     let mut store = Store::new(alloc);
-    store.byte(b'a')?;
-    store.byte(b'x')?;
+    load(alloc, &mut store, b"axxa", &mut steps)?;
     same(rt, alloc, &store, &mut steps)
 }
 
