@@ -92,8 +92,7 @@ module _ (nodes : List Node) (y : ℕ) (left right : NodeId) (five : length node
   children (b ∷ c ∷ []) after id l r e h =
       let is : at 3 ≡ id = ap (λ (ids : List NodeId). slice_index_or ids 2 id) e in
       let same : Some (Pair left right) ≡ Some (Pair l r) = sym pair ∙ subst (λ (n : NodeId). slice_get nodes n.index ≡ Some (Pair l r)) (sym is) h in
-      let front : at 1 ∷ at 0 ∷ [] ≡ b ∷ c ∷ [] = ap (λ (ids : List NodeId). take 2 ids) e in
-      (
+      let front : at 1 ∷ at 0 ∷ [] ≡ b ∷ c ∷ [] = ap (λ (ids : List NodeId). take 2 ids) e in (
         λ ge. subst (λ (ids : List NodeId). Contains ids l) front (in-two l l.index refl (subst (λ (n : NodeId). n.index < 2) (same-left left right l r same) low)),
         λ ge. subst (λ (ids : List NodeId). Contains ids r) front (in-two r r.index refl (subst (λ (n : NodeId). n.index < 2) (same-right left right l r same) also)),
       )
