@@ -1,4 +1,4 @@
--- The slots of the map, and the index of their names.
+-- The slots of the map, and the index that finds a name's slot.
 use Rattle.std.specs.Prelude.{◌≡◌, ℕ, suc, cond, ◌+◌, List, [], ◌∷◌, length, take, slice_get, Option, Some, None, Vec}
 use Rattle.std.specs.Option.{is_some, option_map}
 use Rattle.std.specs.Ordering.{nat_cmp}
@@ -12,7 +12,7 @@ abbrev pub before : {X : Type 0} → Option X → List X → List X
 before None xs = xs
 before (Some x) xs = x ∷ xs
 
--- what the slots have that are not empty
+-- the pairs in the slots that are not empty
 abbrev pub live : {X : Type 0} → List (Option X) → List X
 live [] = []
 live (o ∷ os) = before o (live os)
@@ -21,7 +21,7 @@ live (o ∷ os) = before o (live os)
 abbrev pub indexed : {Z : Type 0} → List (Vec ℕ Z × ℕ) → List ℕ → Option ℕ
 indexed es name = lookup (is_at (λ k. slice_cmp nat_cmp name k.items)) es
 
--- of each name in the slots, which are numbered from i on, the index has the number
+-- the slots are numbered from i on, and the index has the number of each name's slot
 abbrev pub AreIndexed : {A : Type 0} → (List ℕ → Option ℕ) → ℕ → List (Option (List ℕ × A)) → Type 0
 AreIndexed index i [] = Unit {0}
 AreIndexed index i (None ∷ os) = AreIndexed index (suc i) os
@@ -31,18 +31,18 @@ AreIndexed index i (Some p ∷ os) = (index p.0 ≡ Some i) × AreIndexed index 
 abbrev pub HasNames : {A : Type 0} → (List ℕ → Option ℕ) → List (Option (List ℕ × A)) → Type 0
 HasNames index os = (name : List ℕ) → is_some (index name) ≡ is_some (value_of (live os) name)
 
--- the index has each name's slot, and so many slots are empty
+-- the index has the number of each name's slot and no other names, and `empty` is the number of empty slots
 pub record AreSlots {A : Type 0} (index : List ℕ → Option ℕ) (os : List (Option (List ℕ × A))) (empty : ℕ) : Type 0 where
   pub indexed : AreIndexed index 0 os
   pub names : HasNames index os
   pub count : length (live os) + empty ≡ length os
 
--- the slot of this number has a pair, and so many pairs stand before it
+-- the slot with this number has the pair at index `place`
 pub record IsSlotOf {A : Type 0} (os : List (Option (List ℕ × A))) (place slot : ℕ) : Type 0 where
   pub pair : List ℕ × A
   pub there : slice_get os slot ≡ Some (Some pair)
   pub before_it : length (live (take slot os)) ≡ place
 
--- the name of the slot of this number, which has one, has the number in the index, if it is there
+-- if the slot with this number has a name that the index has, the index has this number for it; other names keep theirs
 abbrev pub IsNumbered : {A : Type 0} → (List ℕ → Option ℕ) → (List ℕ → Option ℕ) → List (Option (List ℕ × A)) → ℕ → Type 0
 IsNumbered {A} old new os slot = (p : List ℕ × A) → slice_get os slot ≡ Some (Some p) → (other : List ℕ) → new other ≡ cond (is_same p.0 other) (option_map (λ _. slot) (old p.0)) (old other)

@@ -3,7 +3,7 @@ use Rattle.std.specs.Prelude.{ℕ, zero, suc, Bool, cond, nat_eq, List, [], ◌�
 use Rattle.std.specs.Cmp.Lexicographic.{pointwise}
 use Rattle.std.specs.List.{IsDistinct}
 
--- values by name, in the order in which the names came
+-- values by name, in the order in which the names were added
 abbrev pub Named : Type 0 → Type 0
 Named A = List (List ℕ × A)
 
@@ -17,17 +17,17 @@ module _ {A : Type 0} where
   value_of [] name = None
   value_of (p ∷ ps) name = cond (is_same name p.0) (Some p.1) (value_of ps name)
 
-  -- a present name keeps its place and has the value, and a new one goes last
+  -- an existing name keeps its index and has the new value, and a new name goes last
   abbrev pub put : Named A → List ℕ → A → Named A
   put [] name value = (name, value) ∷ []
   put (p ∷ ps) name value = cond (is_same name p.0) ((name, value) ∷ ps) (p ∷ put ps name value)
 
-  -- the pair of this name is taken out, and the rest close up
+  -- the list without the pair of this name
   abbrev pub taken_out : Named A → List ℕ → Named A
   taken_out [] name = []
   taken_out (p ∷ ps) name = cond (is_same name p.0) ps (p ∷ taken_out ps name)
 
-  -- the name at this place has the value
+  -- the name at this index has the value
   abbrev pub with_value : Named A → ℕ → A → Named A
   with_value [] place value = []
   with_value (p ∷ ps) zero value = (p.0, value) ∷ ps

@@ -1,4 +1,4 @@
-//! Empty slots are dropped, and the names of the others are numbered anew.
+//! Dropping empty slots, and renumbering the others.
 ghost use Rattle.std.specs.Prelude.{◌≡◌, ◌<◌, length};
 ghost use Rattle.name_map.specs.Named.{AreDistinctNames};
 ghost use Rattle.name_map.specs.Kept.{AreIndexed, AreSlots, HasNames, IsNumbered, indexed, live};
@@ -16,7 +16,7 @@ pub(crate) fn close_sparse<V: Drop>(slots: &mut Slots<V>)
     }
 }
 
-/// Drops the empty slots. Takes no memory, and a look-up for each name.
+/// Drops the empty slots. Allocates nothing. Looks each name up once.
 pub(crate) fn close_up<V: Drop>(slots: &mut Slots<V>)
     requires { AreSlots (indexed slots.old.index.entries) slots.old.items.items slots.old.empty }
     ensures same { live slots.new.items.items ≡ live slots.old.items.items }
@@ -28,7 +28,7 @@ pub(crate) fn close_up<V: Drop>(slots: &mut Slots<V>)
     number_all(slots);
 }
 
-/// Gives each name the number of its slot in the index.
+/// Sets the number of each name in the B-tree to that of its slot.
 fn number_all<V>(slots: &mut Slots<V>)
     requires full { length (live slots.old.items.items) ≡ length slots.old.items.items }
     requires names { HasNames (indexed slots.old.index.entries) slots.old.items.items }
@@ -43,7 +43,7 @@ fn number_all<V>(slots: &mut Slots<V>)
     }
 }
 
-/// Gives the name of this slot the slot's number in the index.
+/// Sets the number of this slot's name in the B-tree to `slot`.
 fn number<V>(slots: &mut Slots<V>, slot: usize)
     requires { slot < length slots.old.items.items }
     ensures items { slots.new.items.items ≡ slots.old.items.items }

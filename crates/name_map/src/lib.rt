@@ -8,16 +8,16 @@
 //! assert_eq!(sizes.take_out(b"d"), Some(5));
 //! ```
 //!
-//! Names keep the order in which they came, whatever values they are given later. Contracts see the map as a list of
-//! pairs in this order.
+//! Names keep the order in which they were added, also if their values change. Contracts see the map as a list of pairs
+//! in this order.
 //!
-//! The pairs stand in a list of slots, and a B-tree has the number of each name's slot. A name that is taken out leaves
-//! an empty slot. When more than half of the slots are empty, they are dropped and the others are numbered anew. So
-//! `set`, `get` and `take_out` take time logarithmic in the number of names, amortised where the map grows or slots are
-//! dropped, whichever names come and go and in whatever order.
+//! The pairs are in a list of slots, and a B-tree maps each name to the number of its slot. Removing a name leaves an
+//! empty slot. When more than half of the slots are empty, they are dropped and the others are renumbered. So `set`,
+//! `get` and `take_out` take O(log n) time for n names, for any names in any order. The bound is amortised if the map
+//! grows or slots are dropped.
 //!
-//! `at` and `value_mut` take constant time while no slot is empty, and else time linear in the number of names.
-//! `settle` drops the empty slots, so a caller that goes over all places calls it first.
+//! `at` and `value_mut` take constant time if no slot is empty, and otherwise up to linear time. `settle` drops the
+//! empty slots, so a caller that visits all indices calls it first.
 //!
 //! Proved: An ordered map of values by distinct names (`NameMap`).
 //!
@@ -36,8 +36,8 @@ use std::alloc::Global;
 use std::collections::BTreeMap;
 use std::marker::Model;
 
-/// Values under distinct names, in the order in which the names came. Contracts see them as a list
-/// of pairs of a name's bytes and a value. A look-up by name takes time logarithmic in their number.
+/// Values under distinct names, in the order in which the names were added. Contracts see them as a list of pairs of a
+/// name's bytes and a value. A lookup by name takes time logarithmic in their number.
 #[derive(Drop)]
 pub struct NameMap<V> {
     slots: Slots<V>,
@@ -57,7 +57,7 @@ impl<V> Model for NameMap<V> {
 impl<V> NameMap<V> {
     ghost use Rattle.name_map.specs.Lending.{lends_value};
 
-    /// No names.
+    /// An empty map.
     pub fn new(alloc: Global) -> NameMap<V>
         ensures { result ≡ [] }
     {
@@ -70,12 +70,12 @@ impl<V> NameMap<V> {
         }
     }
 
-    /// Gives the name this value. A present name keeps its place, and a new one goes last. Takes time logarithmic in the
-    /// number of names, amortised where the name is new.
+    /// Sets the value of this name. An existing name keeps its index, and a new name goes last. Takes O(log n) time for n
+    /// names, amortised if the name is new.
     ///
     /// # Errors
     ///
-    /// `NoMemory` where none was found; the map is then as before.
+    /// `NoMemory` if allocation fails. The map is then unchanged.
     pub fn set(&mut self, alloc: Global, name: Name, value: V) -> Result<(), NoMemory>
     where
         V: Drop,
@@ -87,7 +87,7 @@ impl<V> NameMap<V> {
         set(&mut self.slots, alloc, name, value)
     }
 
-    /// The value of this name, if it is there. Takes time logarithmic in the number of names.
+    /// The value of this name, or `None` if the map doesn't have the name. Takes O(log n) time for n names.
     pub fn get(&self, name: &[u8]) -> Option<&V>
         ensures { option_copied result ≡ value_of self.now name.now }
     {
@@ -100,8 +100,8 @@ impl<V> NameMap<V> {
         }
     }
 
-    /// Takes the name out and gives its value, if it is there. The rest close up. Takes amortised time logarithmic in the
-    /// number of names, whichever name it is.
+    /// Removes the name and returns its value, or `None` if the map doesn't have the name. Each later name moves down by one
+    /// index. Takes amortised O(log n) time for n names.
     pub fn take_out(&mut self, name: &[u8]) -> Option<V>
     where
         V: Drop,
@@ -114,8 +114,8 @@ impl<V> NameMap<V> {
         take_out(&mut self.slots, name)
     }
 
-    /// Makes `at` and `value_mut` take constant time until the next name is taken out, and changes no name, value or
-    /// place. Takes no memory, and constant time where no slot is empty, else a look-up by name for each name.
+    /// Makes `at` and `value_mut` take constant time until the next name is removed. The names, values and indices are
+    /// unchanged. Allocates nothing. Takes constant time if no slot is empty, and otherwise O(n log n) time for n names.
     pub fn settle(&mut self)
     where
         V: Drop,
@@ -126,11 +126,11 @@ impl<V> NameMap<V> {
         }
     }
 
-    /// The same names and values in the same order. Takes O(n log n) time and linear memory for n names.
+    /// A copy with the same names and values in the same order. Takes O(n log n) time and linear memory for n names.
     ///
     /// # Errors
     ///
-    /// `NoMemory` where none was found.
+    /// `NoMemory` if allocation fails.
     pub fn copy(&self, alloc: Global) -> Result<NameMap<V>, NoMemory>
     where
         V: Copy,
@@ -145,7 +145,7 @@ impl<V> NameMap<V> {
         Ok(copy)
     }
 
-    /// How many names there are.
+    /// The number of names.
     pub fn count(&self) -> usize
         ensures count { result ≡ length self.now }
         ensures distinct { AreDistinctNames self.now }
@@ -153,7 +153,7 @@ impl<V> NameMap<V> {
         self.slots.items.len() - self.slots.empty
     }
 
-    /// The name and the value at this place. Places count from 0. Takes constant time after `settle`, and else up to
+    /// The name and the value at index `place`, counted from 0. Takes constant time after `settle`, and otherwise up to
     /// linear time.
     pub fn at(&self, place: usize) -> (&Name, &V)
         requires { place < length self.now }
@@ -166,7 +166,7 @@ impl<V> NameMap<V> {
         }
     }
 
-    /// The value at this place, to be changed. Takes constant time after `settle`, and else up to linear time.
+    /// The value at index `place`, by mutable reference. Takes constant time after `settle`, and otherwise up to linear time.
     pub fn value_mut(&mut self, place: usize) -> &mut V
         requires { place < length self.old }
         ensures* writes_back { sem 𝓛 (lends_value V.row self.entry place result) }

@@ -1,4 +1,4 @@
-//! The slots of the map, in the order in which the names came, and the index of their names.
+//! The slots of the map, in the order in which the names were added, and the B-tree that finds a name's slot.
 ghost use Rattle.std.specs.Prelude.{◌≡◌, ◌<◌, ◌+◌, ℕ, List, ◌∷◌, [], ◌++◌, length, cond, Some, OnOk, OnErr};
 ghost use Rattle.std.specs.Option.{option_map};
 ghost use Rattle.name_map.specs.Named.{is_same, put, taken_out, value_of};
@@ -9,24 +9,24 @@ use span_types::{Name, NoMemory};
 use std::alloc::Global;
 use std::collections::BTreeMap;
 
-/// Slots, each with a name and its value or empty, and the number of each name's slot.
+/// Slots, each empty or with a name and its value, and the number of each name's slot.
 #[derive(Drop)]
 pub(crate) struct Slots<V> {
     pub items: Vec<Option<(Name, V)>>,
     pub index: BTreeMap<Vec<u8>, usize>,
-    /// How many slots are empty.
+    /// The number of empty slots.
     pub empty: usize,
 }
 
-/// The number of the slot with this name.
+/// The number of the slot with this name, if there is one.
 pub(crate) fn slot_named<V>(slots: &Slots<V>, name: &[u8]) -> Option<usize>
     ensures { result ≡ indexed slots.now.index.entries name.now }
 {
     slots.index.get(name).copied()
 }
 
-/// The number of the slot that has the pair at this place. Takes constant time where no slot is empty, and else time
-/// linear in the number of slots.
+/// The number of the slot that has the pair at index `place`. Takes constant time if no slot is empty, and otherwise
+/// time linear in the number of slots.
 pub(crate) fn slot_of<V>(slots: &Slots<V>, place: usize) -> usize
     requires within { place < length (live slots.now.items.items) }
     requires count { length (live slots.now.items.items) + slots.now.empty ≡ length slots.now.items.items }
@@ -47,7 +47,7 @@ pub(crate) fn slot_of<V>(slots: &Slots<V>, place: usize) -> usize
     unreachable!()
 }
 
-/// Gives the name this value, in its slot, or in a new one behind the others.
+/// Sets the value of this name, in the name's slot or in a new last slot.
 pub(crate) fn set<V: Drop>(
     slots: &mut Slots<V>,
     alloc: Global,
@@ -68,7 +68,7 @@ pub(crate) fn set<V: Drop>(
     }
 }
 
-/// Adds a slot behind the others.
+/// Adds a last slot.
 fn push<V: Drop>(slots: &mut Slots<V>, alloc: Global, name: Name, value: V) -> Result<(), NoMemory>
     ensures empty { slots.new.empty ≡ slots.old.empty }
     ensures items { OnOk result (slots.new.items.items ≡ slots.old.items.items ++ Some (name, value) ∷ []) }
@@ -84,12 +84,12 @@ fn push<V: Drop>(slots: &mut Slots<V>, alloc: Global, name: Name, value: V) -> R
     }
     match slots.items.push(Some((name, value))) {
         Ok(()) => Ok(()),
-        // There is room for one more.
+        // `reserve` has made room for one more.
         Err(_) => unreachable!(),
     }
 }
 
-/// Takes the name out and gives its value, if it is there. Where then more than half of the slots are empty, they are
+/// Removes the name and returns its value, if the name is there. If more than half of the slots are empty then, they are
 /// dropped.
 pub(crate) fn take_out<V: Drop>(slots: &mut Slots<V>, name: &[u8]) -> Option<V>
     requires { AreSlots (indexed slots.old.index.entries) slots.old.items.items slots.old.empty }
@@ -108,7 +108,7 @@ pub(crate) fn take_out<V: Drop>(slots: &mut Slots<V>, name: &[u8]) -> Option<V>
     }
 }
 
-/// Takes the name out, whose slot this is, and leaves the slot empty.
+/// Removes the name in this slot, and leaves the slot empty.
 fn empty_slot<V>(slots: &mut Slots<V>, slot: usize, name: &[u8]) -> Option<(Name, V)>
     requires kept { AreSlots (indexed slots.old.index.entries) slots.old.items.items slots.old.empty }
     requires there { indexed slots.old.index.entries name.now ≡ Some slot }
