@@ -1,2 +1,3 @@
 mod Crossed
 mod Documents
+mod Grown

@@ -1,6 +1,10 @@
 //! Tests of table computation, with a gate that shows that each node passes and that two pieces of a height run at
 //! once, and with an order of bytes and pairs that isn't that of their ids.
-ghost use Rattle.std.specs.Prelude.{◌≡◌, ◌<◌, ◌≤◌, [], IfOk};
+ghost use Rattle.std.specs.Prelude.{◌≡◌, ◌<◌, ◌≤◌, [], length, IfOk, OnOk};
+ghost use Rattle.slp_model.specs.Nodes.{Grows};
+ghost use Rattle.marker_dfa.specs.Deterministic.{states_of};
+ghost use Rattle.state_tables.specs.Dictionary.{AreTables, count_of};
+ghost use Rattle.table_grow.specs.Remembering.{AreTrueEntries};
 ghost use Rattle.table_grow.specs.Schedule.{IsSchedule};
 
 use crate::formulas::automaton_of;
@@ -35,6 +39,10 @@ fn grown<R: Threads + Sync, G: Gate, L: Ledger>(
     requires empty { memory.old ≡ [] }
     requires some_workers { 1 ≤ workers }
     requires few_workers { workers ≤ 64 }
+    ensures covered { IfOk result (λ tables. count_of tables ≡ length store.now) }
+    ensures states { IfOk result (λ tables. tables.states ≡ states_of dfa.now) }
+    ensures true_tables { IfOk result (AreTables dfa.now store.now) }
+    ensures true_entries { IfOk result (λ tables. AreTrueEntries tables memory.new) }
 {
     let mut tables = Tables::new(alloc, dfa);
     grow(
@@ -163,6 +171,137 @@ fn two_nodes_meet(rt: HostRuntime) -> Result<(), Fail> {
         &gate,
     )?;
     assert!(rt; found.0 == 7 && gate.counts() == (7, 2, 0));
+    Ok(())
+}
+
+/// A formula with a set for each letter. It tells nearly all texts of letters apart, so nearly each node has its own table.
+const APART: &[u8] = b".*$x{[^a][^b][^c][^d][^e][^f][^g][^h][^i][^j][^k][^l][^m]\
+[^n][^o][^p][^q][^r][^s][^t][^u][^v][^w][^x][^y][^z]}.*";
+
+/// Letters of a linear congruential generator (D. E. Knuth, *The Art of Computer Programming*, volume 2, section 3.2.1).
+fn random_letters(alloc: Global, count: usize) -> Result<Vec<u8>, NoMemory> {
+    let mut letters = Vec::with_capacity(alloc, count)?;
+    let mut state: u32 = 1;
+    for _ in 0..count {
+        state = state.wrapping_mul(1_664_525).wrapping_add(1_013_904_223);
+        letters.push(b'a' + (state >> 24) as u8 % 26)?;
+    }
+    Ok(letters)
+}
+
+/// Adds the nodes of so many letters.
+fn load_letters<L: Ledger>(
+    alloc: Global,
+    store: &mut Store,
+    count: usize,
+    pairs: &mut Steps<L>,
+) -> Result<(), NoMemory>
+    ensures { OnOk result (Grows store.old store.new pairs.old pairs.new) }
+{
+    let letters = random_letters(alloc, count)?;
+    if letters.len() > 100_000 {
+        return Err(NoMemory);
+    }
+    load(alloc, store, &letters, pairs)?;
+    Ok(())
+}
+
+/// The first and the last of the nodes from `from` on that are four letters.
+fn words_from(store: &Store, from: usize) -> Option<(usize, usize)> {
+    let mut found = None;
+    for index in from..store.count() {
+        if store.len(NodeId { index }) == 4 {
+            found = match found {
+                Some((first, _)) => Some((first, index)),
+                None => Some((index, index)),
+            };
+        }
+    }
+    found
+}
+
+/// How many compositions are remembered after a first growth, how many nodes are new in a second one, and the gate's counts then.
+type Growths = (usize, usize, (u64, u64, u64));
+
+/// Before growth asks whether threads pay, it takes so many nodes on one thread.
+const ON_ONE_THREAD: usize = 4096;
+
+/// The second growth, of many nodes.
+fn grown_again<R: Threads + Sync, L: Ledger>(
+    rt: &R,
+    alloc: Global,
+    store: &mut Store,
+    tables: &mut Tables,
+    dfa: &Dfa,
+    memory: &mut Memory,
+    steps: &mut Steps<L>,
+) -> Result<Growths, NoMemory>
+    requires covered { count_of tables.old ≤ length store.old }
+    requires states { tables.old.states ≡ states_of dfa.now }
+    requires true_tables { AreTables dfa.now store.old tables.old }
+    requires true_entries { AreTrueEntries tables.old memory.old }
+{
+    let known = store.count();
+    let remembered = memory.len();
+    load_letters(alloc, store, 16_384, steps)?;
+    let gate = Meeting::new(words_from(store, known.saturating_add(ON_ONE_THREAD)));
+    grow(rt, alloc, tables, store, dfa, memory, 2, &gate, steps)?;
+    let new = store.count().saturating_sub(known);
+    Ok((remembered, new, gate.counts()))
+}
+
+/// Two growths over nodes that nearly all have their own table, on two workers.
+fn two_growths<R: Threads + Sync, L: Ledger>(
+    rt: &R,
+    alloc: Global,
+    blank: Blank,
+) -> Result<Growths, NoMemory>
+    requires name { blank.name ≡ L.name }
+    requires parts { blank.parts ≡ L.parts }
+    requires some { 0 < L.parts }
+{
+    let dfa = automaton_of(alloc, APART)?;
+    let mut steps = Steps::<L>::new(blank);
+    let mut store = Store::new(alloc);
+    load_letters(alloc, &mut store, 1024, &mut steps)?;
+    let mut memory = Memory::new(alloc, 4096)?;
+    let mut tables = grown(
+        rt,
+        alloc,
+        &store,
+        &dfa,
+        &mut memory,
+        2,
+        &OpenGate,
+        &mut steps,
+    )?;
+    grown_again(
+        rt,
+        alloc,
+        &mut store,
+        &mut tables,
+        &dfa,
+        &mut memory,
+        &mut steps,
+    )
+}
+
+/// A growth with compositions remembered still runs on two threads where many nodes have their own table.
+#[test]
+fn two_nodes_meet_in_a_second_growth(rt: HostRuntime) -> Result<(), Fail> {
+    let (remembered, new, counts) = two_growths::<HostRuntime, Brand>(
+        &rt,
+        rt.alloc(),
+        Blank::new(1),
+    )?;
+    assert!(rt; remembered > 0, "{remembered}");
+    assert!(rt;
+        counts == (new as u64, 2, 0),
+        "{new} {} {} {}",
+        counts.0,
+        counts.1,
+        counts.2
+    );
     Ok(())
 }
 
