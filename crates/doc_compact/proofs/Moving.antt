@@ -7,7 +7,8 @@ use Rattle.doc_book.specs.declared.Doc.{Doc}
 use Rattle.doc_book.specs.Docs.{with_root}
 use Rattle.doc_versions.specs.Versions.{docs_at}
 use Rattle.name_map.specs.Named.{Named, with_value}
-use Rattle.doc_compact.specs.Compacted.{AreKeptRoots, AreKeptVersions, IsKeptRoot, moved_docs, moved_versions}
+use Rattle.slp_model.specs.Kept.{IsKeptRoot}
+use Rattle.doc_compact.specs.Compacted.{AreKeptRoots, AreKeptVersions, moved_docs, moved_versions}
 
 -- the documents with new numbers for the first n, and the same for versions
 abbrev pub docs_first : List Bool → ℕ → List Doc → List Doc

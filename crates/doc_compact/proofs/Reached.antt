@@ -7,9 +7,10 @@ use Rattle.slp_model.specs.Nodes.{IsLive}
 use Rattle.slp_model.specs.Kept.{AddsExactly, Keeps, RootReaches}
 use Rattle.slp_model.specs.Thin.{AnyReaches}
 use Rattle.doc_book.specs.declared.Doc.{Doc}
-use Rattle.edit_expr.specs.Values.{AreLive}
+use Rattle.doc_book.specs.Texts.{AreLive}
 use Rattle.name_map.specs.Named.{Named}
-use Rattle.doc_compact.specs.Roots.{AreKept, roots_of, version_roots}
+use Rattle.doc_book.specs.Docs.{roots_of}
+use Rattle.doc_compact.specs.Roots.{AreKept, version_roots}
 
 -- at first nothing is kept
 pub none-kept : (i n : ℕ) → Keeps (replicate n false) i → ⊥

@@ -4,14 +4,15 @@ use Rattle.std.specs.Prelude.{◌↔◌}
 use Rattle.slp_model.specs.declared.NodeId.{NodeId}
 use Rattle.slp_model.specs.declared.Node.{Node}
 use Rattle.slp_model.specs.Tree.{text}
-use Rattle.slp_model.specs.Nodes.{IsLive}
-use Rattle.slp_model.specs.Kept.{Here, IsPlanOf, Keeps, RootReaches}
+use Rattle.slp_model.specs.Nodes.{IsLive, text_of}
+use Rattle.slp_model.specs.Kept.{Here, IsPlanOf, Keeps, RootReaches, IsKeptRoot}
 use Rattle.slp_model.specs.Thin.{AnyReaches, IsThinOf, moved, thin}
 use Rattle.doc_book.specs.declared.Doc.{Doc}
-use Rattle.edit_expr.specs.Values.{AreLive, plain, text_at}
+use Rattle.doc_book.specs.Texts.{AreLive, plain}
 use Rattle.name_map.specs.Named.{Named}
-use Rattle.doc_compact.specs.Roots.{AreKept, plain_versions, roots_of, version_roots}
-use Rattle.doc_compact.specs.Compacted.{AreKeptRoots, AreKeptVersions, IsCompacted, IsKeptRoot, moved_docs, moved_versions}
+use Rattle.doc_book.specs.Docs.{roots_of}
+use Rattle.doc_compact.specs.Roots.{AreKept, plain_versions, version_roots}
+use Rattle.doc_compact.specs.Compacted.{AreKeptRoots, AreKeptVersions, IsCompacted, moved_docs, moved_versions}
 use Rattle.doc_compact.proofs.Reached.{any-append}
 
 -- roots that are marked are kept
@@ -35,7 +36,7 @@ module _ (ns : List Node) (keep : List Bool) (ms : List Node) (is : IsThinOf ns 
   live-root None h = tt
   live-root (Some id) h = is.live id.index h
 
-  text-root : (root : Option NodeId) → IsKeptRoot keep root → text_at ms (moved keep root) ≡ text_at ns root
+  text-root : (root : Option NodeId) → IsKeptRoot keep root → text_of ms (moved keep root) ≡ text_of ns root
   text-root None h = refl
   text-root (Some id) h = ap text (is.trees id.index h)
 

@@ -1,20 +1,15 @@
 -- What a compacted store contains.
-use Rattle.std.specs.Prelude.{◌≡◌, ◌<◌, ℕ, Bool, List, [], ◌∷◌, ◌++◌, length, map, Option, Some, None}
-use Rattle.slp_model.specs.declared.NodeId.{NodeId}
+use Rattle.std.specs.Prelude.{◌≡◌, ◌<◌, ℕ, Bool, List, [], ◌∷◌, ◌++◌, length, map}
 use Rattle.slp_model.specs.declared.Node.{Node}
-use Rattle.slp_model.specs.Kept.{IsPlanOf, Keeps}
+use Rattle.slp_model.specs.Kept.{IsKeptRoot, IsPlanOf}
 use Rattle.slp_model.specs.Thin.{AnyReaches, IsThinOf, moved, thin}
 use Rattle.doc_book.specs.declared.Doc.{Doc}
-use Rattle.edit_expr.specs.Values.{AreLive, plain}
+use Rattle.doc_book.specs.Texts.{AreLive, plain}
 use Rattle.name_map.specs.Named.{Named}
-use Rattle.doc_compact.specs.Roots.{AreKept, plain_versions, roots_of, version_roots}
+use Rattle.doc_book.specs.Docs.{roots_of}
+use Rattle.doc_compact.specs.Roots.{AreKept, plain_versions, version_roots}
 
--- the root is `None`, or its node is kept
-abbrev pub IsKeptRoot : List Bool → Option NodeId → Type 0
-IsKeptRoot keep None = Unit {0}
-IsKeptRoot keep (Some id) = Keeps keep id.index
-
--- the same for each document, and for each document of each version
+-- each document's root is none, or its node is kept, and the same for the documents of each version
 abbrev pub AreKeptRoots : List Bool → List Doc → Type 0
 AreKeptRoots keep [] = Unit {0}
 AreKeptRoots keep (d ∷ ds) = IsKeptRoot keep d.root × AreKeptRoots keep ds

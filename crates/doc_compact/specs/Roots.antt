@@ -1,15 +1,11 @@
--- The roots of documents and of versions, and their plain texts.
-use Rattle.std.specs.Prelude.{List, [], ◌∷◌, ◌++◌, map, Option}
+-- The roots of versions, and their plain texts.
+use Rattle.std.specs.Prelude.{List, [], ◌∷◌, ◌++◌, Option}
 use Rattle.slp_model.specs.declared.NodeId.{NodeId}
 use Rattle.slp_model.specs.declared.Node.{Node}
 use Rattle.doc_book.specs.declared.Doc.{Doc}
-use Rattle.edit_expr.specs.Eval.{Document}
-use Rattle.edit_expr.specs.Values.{AreLive, plain}
+use Rattle.doc_book.specs.Docs.{roots_of}
+use Rattle.doc_book.specs.Texts.{Document, AreLive, plain}
 use Rattle.name_map.specs.Named.{Named}
-
--- the roots of documents
-abbrev pub roots_of : List Doc → List (Option NodeId)
-roots_of ds = map (λ d. d.root) ds
 
 -- the roots of the documents of each version
 abbrev pub version_roots : Named (List Doc) → List (Option NodeId)

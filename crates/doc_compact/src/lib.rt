@@ -18,13 +18,14 @@
 #![tactic(auto)]
 
 ghost use Rattle.std.specs.Prelude.{◌≡◌, ◌↔◌, ◌++◌, ◌<◌, ℕ, length, OnErr, OnOk, IfOk};
-ghost use Rattle.slp_model.specs.Kept.{AddsExactly, IsPlanOf, Keeps};
+ghost use Rattle.slp_model.specs.Kept.{AddsExactly, IsPlanOf, Keeps, IsKeptRoot};
 ghost use Rattle.slp_model.specs.Thin.{AnyReaches, moved};
-ghost use Rattle.edit_expr.specs.Values.{AreLive};
+ghost use Rattle.doc_book.specs.Texts.{AreLive};
 ghost use Rattle.doc_versions.specs.Versions.{docs_at};
 ghost use Rattle.name_map.specs.Named.{with_value};
-ghost use Rattle.doc_compact.specs.Roots.{AreKept, roots_of, version_roots};
-ghost use Rattle.doc_compact.specs.Compacted.{AreKeptRoots, AreKeptVersions, IsCompacted, IsKeptRoot, moved_docs, moved_versions};
+ghost use Rattle.doc_book.specs.Docs.{roots_of};
+ghost use Rattle.doc_compact.specs.Roots.{AreKept, version_roots};
+ghost use Rattle.doc_compact.specs.Compacted.{AreKeptRoots, AreKeptVersions, IsCompacted, moved_docs, moved_versions};
 
 use doc_book::Docs;
 use doc_versions::Versions;

@@ -3,7 +3,8 @@ use Rattle.std.proofs.Common.{◌≡◌, ◌⊎◌, inl, inr, ℕ, ◌+◌, ◌�
 use Rattle.edit_expr.specs.declared.expr.Expr.{Expr}
 use Rattle.edit_expr.specs.declared.refusal.EditRefusal.{EditRefusal}
 use Rattle.edit_expr.specs.declared.refusal.EditRefusal.TheVariants.{NoMemory}
-use Rattle.edit_expr.specs.Eval.{Outcome, Document, eval, greatest, onward, reached}
+use Rattle.doc_book.specs.Texts.{Document}
+use Rattle.edit_expr.specs.Eval.{Outcome, eval, greatest, onward, reached}
 use Rattle.edit_expr.specs.Costs.{edit_cost, total_cost}
 use Rattle.edit_expr.proofs.EvalLemmas.{size-most}
 

@@ -2,14 +2,11 @@
 use Rattle.std.specs.Prelude.{ℕ, ◌+◌, ◌-◌, ◌^◌, max, cond, nat_le, List, [], ◌∷◌, ◌++◌, length, take, drop, slice_range, Result, Ok, Err}
 use Rattle.span_types.specs.Ranges.{is_range}
 use Rattle.doc_book.specs.Docs.{is_same}
+use Rattle.doc_book.specs.Texts.{Document}
 use Rattle.edit_expr.specs.declared.expr.Expr.{Expr}
 use Rattle.edit_expr.specs.declared.expr.Expr.TheVariants.{Doc, Concat', Extract', Delete', Insert', Copy'}
 use Rattle.edit_expr.specs.declared.refusal.EditRefusal.{EditRefusal}
 use Rattle.edit_expr.specs.declared.refusal.EditRefusal.TheVariants.{NoSuchDocument, OutOfRange, TooLong}
-
--- a document: its name and its text
-abbrev pub Document : Type 0
-Document = List ℕ × List ℕ
 
 -- a text, or the first rejection
 abbrev pub Outcome : Type 0

@@ -2,7 +2,8 @@
 use Rattle.std.specs.Prelude.{◌≡◌, ℕ, List, [], codes, Ok, Err}
 use Rattle.edit_expr.specs.declared.expr.Expr.{Expr}
 use Rattle.edit_expr.specs.declared.refusal.EditRefusal.TheVariants.{OutOfRange}
-use Rattle.edit_expr.specs.Eval.{Document, copied, deleted, eval, extracted, greatest, inserted, operations}
+use Rattle.doc_book.specs.Texts.{Document}
+use Rattle.edit_expr.specs.Eval.{copied, deleted, eval, extracted, greatest, inserted, operations}
 use Rattle.edit_expr.specs.Expressions.{ExprReads}
 
 -- two expressions that are equal except for the memory addresses of their parts

@@ -1,11 +1,11 @@
 //! The editing operations, on roots in a store.
 ghost use Rattle.std.specs.Prelude.{◌≡◌, ◌≤◌, ◌+◌, ◌*◌, ◌^◌, ℕ, length};
 ghost use Rattle.slp_model.specs.Tree.{root_height};
-ghost use Rattle.slp_model.specs.Nodes.{root_tree, Grows, IsLive};
+ghost use Rattle.slp_model.specs.Nodes.{root_tree, Grows, IsLive, text_of};
 ghost use Rattle.span_types.specs.Fibonacci.{height_limit};
 ghost use Rattle.span_types.specs.Ranges.{is_range};
 ghost use Rattle.edit_expr.specs.Eval.{copied, deleted, extracted, inserted, joined};
-ghost use Rattle.edit_expr.specs.Values.{IsValue, text_at};
+ghost use Rattle.edit_expr.specs.Values.{IsValue};
 
 use crate::EditRefusal;
 use node_store::Store;
@@ -21,9 +21,9 @@ const LONGEST: u64 = 1 << 48;
 /// The length of a root's text, in bytes, at most 2^48.
 pub(crate) fn root_len(store: &Store, root: Option<NodeId>) -> u64
     requires { IsLive store.now root }
-    ensures len { result ≡ length (text_at store.now root) }
+    ensures len { result ≡ length (text_of store.now root) }
     ensures short { result ≤ 2 ^ 48 }
-    ensures low { (n : ℕ) → length (text_at store.now root) ≤ n → root_height (root_tree store.now root) ≤ height_limit n }
+    ensures low { (n : ℕ) → length (text_of store.now root) ≤ n → root_height (root_tree store.now root) ≤ height_limit n }
 {
     match root {
         Some(id) => store.len(id),
@@ -49,8 +49,8 @@ pub(crate) fn join<L: Ledger>(
     requires left { IsLive store.old left }
     requires right { IsLive store.old right }
     ensures grows { Grows store.old store.new pairs.old pairs.new }
-    ensures value { IsValue store.new result (joined (text_at store.old left) (text_at store.old right)) }
-    ensures cost { (n : ℕ) → length (text_at store.old left) ≤ n → length (text_at store.old right) ≤ n → pairs.new ≤ pairs.old + (3 * height_limit n + 1) }
+    ensures value { IsValue store.new result (joined (text_of store.old left) (text_of store.old right)) }
+    ensures cost { (n : ℕ) → length (text_of store.old left) ≤ n → length (text_of store.old right) ≤ n → pairs.new ≤ pairs.old + (3 * height_limit n + 1) }
 {
     let first = root_len(store, left);
     let second = root_len(store, right);
@@ -72,8 +72,8 @@ pub(crate) fn cut_out<L: Ledger>(
 ) -> Result<Option<NodeId>, EditRefusal>
     requires { IsLive store.old root }
     ensures grows { Grows store.old store.new pairs.old pairs.new }
-    ensures value { IsValue store.new result (extracted (text_at store.old root) i j) }
-    ensures cost { (n : ℕ) → length (text_at store.old root) ≤ n → pairs.new ≤ pairs.old + 20 * height_limit n }
+    ensures value { IsValue store.new result (extracted (text_of store.old root) i j) }
+    ensures cost { (n : ℕ) → length (text_of store.old root) ≤ n → pairs.new ≤ pairs.old + 20 * height_limit n }
 {
     let len = root_len(store, root);
     if !is_within(i, j, len) {
@@ -97,8 +97,8 @@ pub(crate) fn delete<L: Ledger>(
 ) -> Result<Option<NodeId>, EditRefusal>
     requires { IsLive store.old root }
     ensures grows { Grows store.old store.new pairs.old pairs.new }
-    ensures value { IsValue store.new result (deleted (text_at store.old root) i j) }
-    ensures cost { (n : ℕ) → length (text_at store.old root) ≤ n → pairs.new ≤ pairs.old + (23 * height_limit n + 1) }
+    ensures value { IsValue store.new result (deleted (text_of store.old root) i j) }
+    ensures cost { (n : ℕ) → length (text_of store.old root) ≤ n → pairs.new ≤ pairs.old + (23 * height_limit n + 1) }
 {
     let len = root_len(store, root);
     if !is_within(i, j, len) {
@@ -126,8 +126,8 @@ pub(crate) fn insert<L: Ledger>(
     requires root { IsLive store.old root }
     requires part { IsLive store.old part }
     ensures grows { Grows store.old store.new pairs.old pairs.new }
-    ensures value { IsValue store.new result (inserted (text_at store.old root) (text_at store.old part) k) }
-    ensures cost { (n : ℕ) → length (text_at store.old root) ≤ n → length (text_at store.old part) ≤ n → pairs.new ≤ pairs.old + (16 * height_limit n + 5) }
+    ensures value { IsValue store.new result (inserted (text_of store.old root) (text_of store.old part) k) }
+    ensures cost { (n : ℕ) → length (text_of store.old root) ≤ n → length (text_of store.old part) ≤ n → pairs.new ≤ pairs.old + (16 * height_limit n + 5) }
 {
     let len = root_len(store, root);
     if !is_within(k, k, len) {
@@ -160,8 +160,8 @@ pub(crate) fn copy<L: Ledger>(
 ) -> Result<Option<NodeId>, EditRefusal>
     requires { IsLive store.old root }
     ensures grows { Grows store.old store.new pairs.old pairs.new }
-    ensures value { IsValue store.new result (copied (text_at store.old root) i j k) }
-    ensures cost { (n : ℕ) → length (text_at store.old root) ≤ n → pairs.new ≤ pairs.old + (36 * height_limit n + 5) }
+    ensures value { IsValue store.new result (copied (text_of store.old root) i j k) }
+    ensures cost { (n : ℕ) → length (text_of store.old root) ≤ n → pairs.new ≤ pairs.old + (36 * height_limit n + 5) }
 {
     let part = cut_out(store, root, i, j, pairs)?;
     insert(store, root, part, k, pairs)

@@ -4,7 +4,8 @@ ghost use Rattle.slp_model.specs.Nodes.{Grows};
 ghost use Rattle.span_types.specs.Fibonacci.{height_limit};
 ghost use Rattle.edit_expr.specs.Eval.{greatest, named, operations};
 ghost use Rattle.edit_expr.specs.Eval as meaning;
-ghost use Rattle.edit_expr.specs.Values.{AreLive, IsValue, plain};
+ghost use Rattle.doc_book.specs.Texts.{AreLive, plain};
+ghost use Rattle.edit_expr.specs.Values.{IsValue};
 ghost use Rattle.edit_expr.specs.Costs.{edit_cost, total_cost};
 
 use crate::edits::{copy, cut_out, delete, insert, join};

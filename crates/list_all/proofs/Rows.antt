@@ -5,9 +5,8 @@ use Rattle.std.specs.List.{AllByRecursion}
 use Rattle.std.proofs.lemmas.Option.{slice_get-get_or, slice_get_cases}
 use Rattle.slp_model.specs.declared.Node.{Node}
 use Rattle.slp_model.specs.declared.NodeId.{NodeId}
-use Rattle.slp_model.specs.Nodes.{IsLive}
+use Rattle.slp_model.specs.Nodes.{IsLive, text_of}
 use Rattle.marker_dfa.specs.Deterministic.{DeterministicAutomaton}
-use Rattle.span_enum.specs.Listing.{text_of}
 use Rattle.doc_book.specs.declared.Doc.{Doc}
 use Rattle.list_all.specs.Page.{Page, IsPageOf}
 use Rattle.list_all.specs.Every.{AreEach, ArePages, AreRoots}

@@ -1,7 +1,8 @@
 //! Finding the page of one text.
 ghost use Rattle.std.specs.Prelude.{◌≡◌, ◌<◌, Option, IfOk};
 ghost use Rattle.slp_model.specs.declared.NodeId.{NodeId};
-ghost use Rattle.span_enum.specs.Listing.{IsReady, text_of};
+ghost use Rattle.slp_model.specs.Nodes.{text_of};
+ghost use Rattle.span_enum.specs.Listing.{IsReady};
 ghost use Rattle.list_all.specs.Page.{Page, IsPageOf};
 
 use crate::found::OnePage;

@@ -1,7 +1,8 @@
 //! The page of one text.
 ghost use Rattle.std.specs.Prelude.{◌≡◌, ◌≤◌, ◌<◌, ◌+◌, ◌*◌, ◌^◌, ℕ, All, List, None, length, IfOk};
 ghost use Rattle.span_types.specs.Fibonacci.{looks_limit};
-ghost use Rattle.span_enum.specs.Listing.{IsReady, text_of};
+ghost use Rattle.slp_model.specs.Nodes.{text_of};
+ghost use Rattle.span_enum.specs.Listing.{IsReady};
 ghost use Rattle.span_enum.specs.Members.{Tuple as ATuple, AreAnswersOf};
 ghost use Rattle.list_all.specs.Page.{IsPageOf};
 

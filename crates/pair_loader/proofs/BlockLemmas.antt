@@ -5,14 +5,14 @@ use Rattle.std.proofs.lemmas.List.Elements.{All-head, All-tail}
 use Rattle.slp_model.specs.declared.NodeId.{NodeId}
 use Rattle.slp_model.specs.declared.Node.{Node}
 use Rattle.slp_model.specs.Tree.{Tree, Fork, text, leaves, height, root_text, root_leaves}
-use Rattle.slp_model.specs.Nodes.{tree, Grows}
+use Rattle.slp_model.specs.Nodes.{tree, Grows, AreLiveIds}
 use Rattle.slp_model.specs.Join.{IsJoinedRoot}
 use Rattle.slp_model.proofs.TreeLemmas.{length-text, length-root_text}
 use Rattle.slp_model.proofs.NodesLemmas.{tree-grows, Grows-length}
 use Rattle.pair_loader.specs.Blocks.{IsFull}
 use Rattle.pair_loader.specs.Known.{AreKnown}
 use Rattle.pair_loader.proofs.KnownLemmas.{known-grows}
-use Rattle.pair_loader.specs.Pending.{AreRising, stack_of, stack_text, AreLive, IsPending, Kept, unfed, IsLoader, fed, pending_count}
+use Rattle.pair_loader.specs.Pending.{AreRising, stack_of, stack_text, IsPending, Kept, unfed, IsLoader, fed, pending_count}
 
 pub stack_of-push : (ns : List Node) (xs : List NodeId) (x : NodeId) → stack_of ns (xs ++ x ∷ []) ≡ tree ns x.index ∷ stack_of ns xs
 stack_of-push ns xs x = simp (map-append, reverse-append)
@@ -24,13 +24,13 @@ trees_of-grows old new p q g (x ∷ xs) h =
     let b = trees_of-grows old new p q g xs (All-tail (λ id. id.index < length old) x xs h) in
     cc
 
-pub stack_of-grows : (old new : List Node) (p q : ℕ) → Grows old new p q → (xs : List NodeId) → AreLive old xs → stack_of new xs ≡ stack_of old xs
+pub stack_of-grows : (old new : List Node) (p q : ℕ) → Grows old new p q → (xs : List NodeId) → AreLiveIds old xs → stack_of new xs ≡ stack_of old xs
 stack_of-grows old new p q g xs h = ap reverse (trees_of-grows old new p q g xs h.live)
 
-pub live-grows : (old new : List Node) (p q : ℕ) → Grows old new p q → (xs : List NodeId) → AreLive old xs → AreLive new xs
+pub live-grows : (old new : List Node) (p q : ℕ) → Grows old new p q → (xs : List NodeId) → AreLiveIds old xs → AreLiveIds new xs
 live-grows old new p q g xs h = record { live = λ k d m. omega (arith, h.live k d m, Grows-length old new p q g) }
 
-pub live-front : (ns : List Node) (xs ys : List NodeId) → AreLive ns (xs ++ ys) → AreLive ns xs
+pub live-front : (ns : List Node) (xs ys : List NodeId) → AreLiveIds ns (xs ++ ys) → AreLiveIds ns xs
 live-front ns xs ys h = record {
   live = λ k d m.
       let longer : k < length (xs ++ ys) = omega (arith, length-append xs ys) in
@@ -62,15 +62,15 @@ new-loader ns loader is =
 -- the blocks without the last one
 pub record IsPopped (ns : List Node) (blocks front : List NodeId) (top : NodeId) : Type 0 where
   pub stack : stack_of ns blocks ≡ tree ns top.index ∷ stack_of ns front
-  pub live : AreLive ns front
+  pub live : AreLiveIds ns front
   pub long : length (stack_text (stack_of ns blocks)) ≡ length (stack_text (stack_of ns front)) + leaves (tree ns top.index)
 
-pub popped : (ns : List Node) (blocks front : List NodeId) (top : NodeId) → blocks ≡ front ++ top ∷ [] → AreLive ns blocks → IsPopped ns blocks front top
+pub popped : (ns : List Node) (blocks front : List NodeId) (top : NodeId) → blocks ≡ front ++ top ∷ [] → AreLiveIds ns blocks → IsPopped ns blocks front top
 popped ns blocks front top split h =
     let e : stack_of ns blocks ≡ tree ns top.index ∷ stack_of ns front = ap (λ xs. stack_of ns xs) split ∙ stack_of-push ns front top in
     record {
       stack = e;
-      live = live-front ns front (top ∷ []) (subst (λ xs. AreLive ns xs) split h);
+      live = live-front ns front (top ∷ []) (subst (λ xs. AreLiveIds ns xs) split h);
       long = ap (λ w. length (stack_text w)) e ∙ omega (arith, length-append (stack_text (stack_of ns front)) (text (tree ns top.index)), length-text (tree ns top.index));
     }
 

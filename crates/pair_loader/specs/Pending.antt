@@ -1,10 +1,9 @@
 -- The blocks of a loader, and the bytes that it was fed.
-use Rattle.std.specs.Prelude.{ℕ, ◌+◌, ◌<◌, ◌≤◌, ◌^◌, List, [], ◌∷◌, ◌++◌, map, length, reverse, Option, Some, None}
-use Rattle.std.specs.List.{All}
+use Rattle.std.specs.Prelude.{ℕ, ◌+◌, ◌≤◌, ◌^◌, List, [], ◌∷◌, ◌++◌, map, length, reverse, Option, Some, None}
 use Rattle.slp_model.specs.declared.NodeId.{NodeId}
 use Rattle.slp_model.specs.declared.Node.{Node}
 use Rattle.slp_model.specs.Tree.{Tree, text, height}
-use Rattle.slp_model.specs.Nodes.{tree}
+use Rattle.slp_model.specs.Nodes.{tree, AreLiveIds}
 use Rattle.pair_loader.specs.Blocks.{IsFull}
 use Rattle.pair_loader.specs.Known.{Known, AreKnown}
 
@@ -22,13 +21,9 @@ abbrev pub stack_text : List Tree → List ℕ
 stack_text [] = []
 stack_text (a ∷ rest) = stack_text rest ++ text a
 
--- each block is a node of the store
-pub record AreLive (ns : List Node) (blocks : List NodeId) : Type 0 where
-  pub live : All (λ id. id.index < length ns) blocks
-
 -- blocks of the store: full trees, at most one of each height, the lowest one last
 pub record IsPending (ns : List Node) (blocks : List NodeId) : Type 0 where
-  pub live : AreLive ns blocks
+  pub live : AreLiveIds ns blocks
   pub rising : AreRising 0 (stack_of ns blocks)
   pub short : length (stack_text (stack_of ns blocks)) ≤ 2 ^ 48
 

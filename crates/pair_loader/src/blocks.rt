@@ -3,12 +3,12 @@ ghost use Rattle.std.specs.Prelude.{◌≡◌, ◌+◌, ◌*◌, ◌^◌, ◌<�
 ghost use Rattle.span_types.specs.Fibonacci.{height_limit};
 ghost use Rattle.slp_model.specs.Tree as spec;
 ghost use Rattle.slp_model.specs.Tree.{text, leaves};
-ghost use Rattle.slp_model.specs.Nodes.{tree, root_tree, Grows, IsLive};
+ghost use Rattle.slp_model.specs.Nodes.{tree, root_tree, Grows, IsLive, AreLiveIds};
 ghost use Rattle.slp_model.specs.Shape.{shape};
 ghost use Rattle.pair_loader.specs.Blocks.{IsFull, IsBlockAt};
 ghost use Rattle.pair_loader.specs.Known.{AreKnown};
 ghost use Rattle.pair_loader.specs.WordsView.{known_of};
-ghost use Rattle.pair_loader.specs.Pending.{AreRising, stack_of, stack_text, AreLive, IsPending};
+ghost use Rattle.pair_loader.specs.Pending.{AreRising, stack_of, stack_text, IsPending};
 
 use super::levels::block_by_levels;
 use super::words::{WORD_HEIGHT, Words};
@@ -36,14 +36,14 @@ fn push_block<L: Ledger>(
     height: u8,
     pairs: &mut Steps<L>,
 ) -> Result<(), NoMemory>
-    requires blocks { AreLive store.old blocks.old.items }
+    requires blocks { AreLiveIds store.old blocks.old.items }
     requires block { block.index < length store.old }
     requires height { height ≡ spec.height (tree store.old block.index) }
     requires full { IsFull (tree store.old block.index) }
     requires rising { AreRising height (stack_of store.old blocks.old.items) }
     requires short { length (stack_text (stack_of store.old blocks.old.items)) + leaves (tree store.old block.index) ≤ 2 ^ 48 }
     ensures grows { Grows store.old store.new pairs.old pairs.new }
-    ensures live { OnOk result (AreLive store.new blocks.new.items) }
+    ensures live { OnOk result (AreLiveIds store.new blocks.new.items) }
     ensures rising { OnOk result (AreRising 0 (stack_of store.new blocks.new.items)) }
     ensures text { OnOk result (stack_text (stack_of store.new blocks.new.items) ≡ stack_text (stack_of store.old blocks.old.items) ++ text (tree store.old block.index)) }
     ensures cost { OnOk result (pairs.new + vec_len blocks.new ≤ pairs.old + vec_len blocks.old + 1) }

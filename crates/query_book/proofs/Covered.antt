@@ -5,11 +5,10 @@ use Rattle.std.specs.Option.{option_map}
 use Rattle.std.specs.List.{AllByRecursion}
 use Rattle.slp_model.specs.declared.Node.{Node}
 use Rattle.slp_model.specs.declared.NodeId.{NodeId}
-use Rattle.slp_model.specs.Nodes.{tree, IsLive, IsSound}
+use Rattle.slp_model.specs.Nodes.{tree, IsLive, IsSound, text_of}
 use Rattle.slp_model.proofs.TreeLemmas.{length-text}
 use Rattle.state_tables.specs.Dictionary.{AreTables, Dictionary, count_of}
 use Rattle.marker_dfa.specs.Deterministic.{DeterministicAutomaton}
-use Rattle.span_enum.specs.Listing.{text_of}
 use Rattle.query_book.specs.declared.entry.Entry.{Entry}
 use Rattle.query_book.specs.declared.entry.TabledQuery.{TabledQuery}
 use Rattle.query_book.specs.Named.{Named, is_same, value_of}

@@ -1,8 +1,8 @@
 //! Evaluation of registered queries.
 ghost use Rattle.std.specs.Prelude.{◌≡◌, ◌↔◌, ◌+◌, ◌*◌, ◌<◌, ◌≤◌, None, Some, All, length, IfOk, IfErr, IsTrue, IsErrOf};
-ghost use Rattle.slp_model.specs.Nodes.{IsLive};
+ghost use Rattle.slp_model.specs.Nodes.{IsLive, text_of};
 ghost use Rattle.marker_dfa.specs.Deterministic.{IsDeterministic};
-ghost use Rattle.span_enum.specs.Listing.{IsReady, text_of};
+ghost use Rattle.span_enum.specs.Listing.{IsReady};
 ghost use Rattle.query_book.specs.Named.{value_of};
 ghost use Rattle.query_book.specs.Answers.{Defines, HasAnswer, HasList, HasVariablesOf, IfNamed, IsAnswer, IsListingOf, IsNamed, most_looks};
 ghost use Rattle.query_book.specs.Book.{IsMissing, queries_of};

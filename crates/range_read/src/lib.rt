@@ -17,8 +17,8 @@
 
 ghost use Rattle.std.specs.Prelude.{◌≡◌, ◌+◌, ◌<◌, ◌≤◌, ◌∷◌, ◌++◌, length, drop, IfOk, vec_len, vec_capacity};
 ghost use Rattle.span_types.specs.Ranges.{content};
-ghost use Rattle.slp_model.specs.Tree.{text, height, leaves, root_text, root_leaves};
-ghost use Rattle.slp_model.specs.Nodes.{tree, root_tree, IsLive};
+ghost use Rattle.slp_model.specs.Tree.{text, height, leaves, root_leaves};
+ghost use Rattle.slp_model.specs.Nodes.{tree, root_tree, IsLive, text_of};
 ghost use Rattle.range_read.specs.Waiting.{IsTrail, trail_text};
 
 use node_store::{Node, NodeId, Store};
@@ -111,7 +111,7 @@ impl<'a> RangeBytes<'a> {
         requires from { 1 ≤ i }
         requires order { i ≤ j }
         requires within { j ≤ root_leaves (root_tree store.now root) + 1 }
-        ensures { IfOk result (λ bytes. bytes ≡ content (root_text (root_tree store.now root)) i j) }
+        ensures { IfOk result (λ bytes. bytes ≡ content (text_of store.now root) i j) }
     {
         let id = match root {
             Some(id) if i < j => id,

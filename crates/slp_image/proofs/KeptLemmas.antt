@@ -8,18 +8,19 @@ use Rattle.slp_model.specs.declared.NodeId.{NodeId}
 use Rattle.slp_model.specs.declared.Node.{Node}
 use Rattle.slp_model.specs.Nodes.{tree, root_tree, IsSound, IsLive}
 use Rattle.slp_model.specs.Distinct.{AreDistinct}
-use Rattle.slp_model.specs.Kept.{AddsExactly, Keeps, Reaches, RootReaches, Here}
+use Rattle.slp_model.specs.Kept.{AddsExactly, IsKeptRoot, Keeps, Reaches, RootReaches, Here}
 use Rattle.slp_model.specs.Thin.{rank, moved, AnyReaches, KeepsExactly, IsThinOf}
 use Rattle.slp_model.proofs.KeptLemmas.{keeps-next}
 use Rattle.slp_model.proofs.RankLemmas.{rank-apart}
 use Rattle.doc_book.specs.declared.Doc.{Doc}
-use Rattle.doc_book.specs.Docs.{is_same, put, AreDistinctNames}
+use Rattle.doc_book.specs.Docs.{is_same, put, roots_of, AreDistinctNames}
 use Rattle.slp_image.proofs.NextLemmas.{put-next}
 use Rattle.slp_image.specs.Image.{Document, Outcome, Meaning, is_among, names_of, contents, node_at, image}
-use Rattle.slp_image.specs.Documents.{AreLive, plain, rooted, filed, HaveTrees}
+use Rattle.doc_book.specs.Texts.{AreLive, plain}
+use Rattle.slp_image.specs.Documents.{rooted, filed, HaveTrees}
 use Rattle.slp_image.specs.Reads.{AreNodes}
-use Rattle.slp_image.specs.Save.{IsReached, SaveForm, roots_of, IsCount}
-use Rattle.slp_image.specs.Saved.{roots, KeepsRoot, KeepsRoots, AreSaved, saved}
+use Rattle.slp_image.specs.Save.{IsReached, SaveForm, root_indices, IsCount}
+use Rattle.slp_image.specs.Saved.{KeepsRoots, AreSaved, saved}
 use Rattle.slp_image.specs.Written.{AllNext, MayBeNext, IsPlace, records_bytes, documents_bytes}
 use Rattle.slp_image.proofs.FollowLemmas.{all-follow}
 use Rattle.slp_image.proofs.SavedLemmas.{saved_doc, take-next}
@@ -32,22 +33,22 @@ live-at ns (x ∷ xs) zero d a h = let e : x ≡ d = cc in subst (λ (y : Doc). 
 live-at ns (x ∷ xs) (suc place) d a h = live-at ns xs place d a.1 h
 
 -- one document further
-pub exactly-next : (ns : List Node) (old new : List Bool) (ds : List Doc) (k : ℕ) (d : Doc) → KeepsExactly ns old (roots (take k ds)) → slice_get ds k ≡ Some d → AddsExactly old new (RootReaches ns d.root) → KeepsExactly ns new (roots (take (k + 1) ds))
+pub exactly-next : (ns : List Node) (old new : List Bool) (ds : List Doc) (k : ℕ) (d : Doc) → KeepsExactly ns old (roots_of (take k ds)) → slice_get ds k ≡ Some d → AddsExactly old new (RootReaches ns d.root) → KeepsExactly ns new (roots_of (take (k + 1) ds))
 exactly-next ns old new ds k d a at b =
     let one : suc k ≡ k + 1 = omega arith in
-    let more : roots (take k ds) ++ d.root ∷ [] ≡ roots (take (k + 1) ds) = sym (ap (λ n. roots (take n ds)) (sym one) ∙ (ap roots (take-next ds k d at) ∙ map-append (λ (x : Doc). x.root) (take k ds) (d ∷ []))) in
-    subst (λ (rs : List (Option NodeId)). KeepsExactly ns new rs) more (keeps-next ns old new (roots (take k ds)) d.root a b)
+    let more : roots_of (take k ds) ++ d.root ∷ [] ≡ roots_of (take (k + 1) ds) = sym (ap (λ n. roots_of (take n ds)) (sym one) ∙ (ap roots_of (take-next ds k d at) ∙ map-append (λ (x : Doc). x.root) (take k ds) (d ∷ []))) in
+    subst (λ (rs : List (Option NodeId)). KeepsExactly ns new rs) more (keeps-next ns old new (roots_of (take k ds)) d.root a b)
 
 -- the roots are kept
-root-reached : (ns : List Node) (ds : List Doc) (place : ℕ) (d : Doc) (j : ℕ) → slice_get ds place ≡ Some d → RootReaches ns d.root j → AnyReaches ns (roots ds) j
+root-reached : (ns : List Node) (ds : List Doc) (place : ℕ) (d : Doc) (j : ℕ) → slice_get ds place ≡ Some d → RootReaches ns d.root j → AnyReaches ns (roots_of ds) j
 root-reached ns [] place d j at x = cc
 root-reached ns (e ∷ ds) zero d j at x = let s : e ≡ d = cc in inl (subst (λ (y : Doc). RootReaches ns y.root j) (sym s) x)
 root-reached ns (e ∷ ds) (suc place) d j at x = inr (root-reached ns ds place d j at x)
 
-pub roots-kept : (ns : List Node) (ks : List Bool) (ds : List Doc) → KeepsExactly ns ks (roots ds) → KeepsRoots ks ds
+pub roots-kept : (ns : List Node) (ks : List Bool) (ds : List Doc) → KeepsExactly ns ks (roots_of ds) → KeepsRoots ks ds
 roots-kept ns ks ds exact place d at = by d.root (λ j x. (exact j).1 (root-reached ns ds place d j at x))
   where
-    by : (r : Option NodeId) → ((j : ℕ) → RootReaches ns r j → Keeps ks j) → KeepsRoot ks r
+    by : (r : Option NodeId) → ((j : ℕ) → RootReaches ns r j → Keeps ks j) → IsKeptRoot ks r
     by None h = tt
     by (Some id) h = h id.index (Here ns id.index)
 
@@ -72,11 +73,11 @@ reached-any ns (None ∷ rs) zero root j at x = absurd (cc at)
 reached-any ns (Some id ∷ rs) zero root j at x = let e : id.index ≡ root = cc at in inl (subst (λ n. Reaches ns n j) (sym e) x)
 reached-any ns (r ∷ rs) (suc place) root j at x = inr (reached-any ns rs place root j at x)
 
-numbers : (ds : List Doc) → map number (roots ds) ≡ roots_of ds
+numbers : (ds : List Doc) → map number (roots_of ds) ≡ root_indices ds
 numbers [] = refl
 numbers (d ∷ ds) = ap (λ rs. number d.root ∷ rs) (numbers ds)
 
-new-numbers : (ks : List Bool) (ds : List Doc) → map number (map (moved ks) (roots ds)) ≡ map (λ d. d.root) (saved (rank ks) ds)
+new-numbers : (ks : List Bool) (ds : List Doc) → map number (map (moved ks) (roots_of ds)) ≡ map (λ d. d.root) (saved (rank ks) ds)
 new-numbers ks [] = refl
 new-numbers ks (d ∷ ds) = λ j. by d.root j ∷ new-numbers ks ds j
   where
@@ -85,28 +86,28 @@ new-numbers ks (d ∷ ds) = λ j. by d.root j ∷ new-numbers ks ds j
     by (Some id) = refl
 
 -- the kept nodes are the reached ones, and are counted by their ranks
-pub kept-count : (ns : List Node) (ks : List Bool) (ms : List Node) (ds : List Doc) → IsThinOf ns ks ms → KeepsExactly ns ks (roots ds) → IsCount (IsReached ns (roots_of ds)) (length ms)
+pub kept-count : (ns : List Node) (ks : List Bool) (ms : List Node) (ds : List Doc) → IsThinOf ns ks ms → KeepsExactly ns ks (roots_of ds) → IsCount (IsReached ns (root_indices ds)) (length ms)
 kept-count ns ks ms ds t exact = record {
   count = rank ks;
   within = λ i p. t.live i (to i p);
   apart = λ i j p q e. rank-apart ks i j (to i p) (to j q) e;
-  all = λ k lt. let w = t.exact k lt in (w.0, subst (λ (rs : List (Option ℕ)). IsReached ns rs w.0) (numbers ds) (any-reached ns (roots ds) w.0 ((exact w.0).0 w.1)), w.2);
+  all = λ k lt. let w = t.exact k lt in (w.0, subst (λ (rs : List (Option ℕ)). IsReached ns rs w.0) (numbers ds) (any-reached ns (roots_of ds) w.0 ((exact w.0).0 w.1)), w.2);
 }
   where
-    to : (i : ℕ) → IsReached ns (roots_of ds) i → Keeps ks i
-    to i p = let q = subst (λ (rs : List (Option ℕ)). IsReached ns rs i) (sym (numbers ds)) p in (exact i).1 (reached-any ns (roots ds) q.place q.root i q.there q.below)
+    to : (i : ℕ) → IsReached ns (root_indices ds) i → Keeps ks i
+    to i p = let q = subst (λ (rs : List (Option ℕ)). IsReached ns rs i) (sym (numbers ds)) p in (exact i).1 (reached-any ns (roots_of ds) q.place q.root i q.there q.below)
 
 -- the trees of the written documents
 trees-thin : (ns : List Node) (ks : List Bool) (ms : List Node) → IsThinOf ns ks ms → (ds : List Doc) → KeepsRoots ks ds → rooted ns ds ≡ map (λ d. (d.name, option_map (λ i. tree ms i) d.root)) (saved (rank ks) ds)
 trees-thin ns ks ms t [] kept = refl
 trees-thin ns ks ms t (d ∷ ds) kept = λ j. (d.name, by d.root (kept zero d refl) j) ∷ trees-thin ns ks ms t ds (λ place e at. kept (suc place) e at) j
   where
-    by : (r : Option NodeId) → KeepsRoot ks r → root_tree ns r ≡ option_map (λ i. tree ms i) (option_map (λ id. rank ks id.index) r)
+    by : (r : Option NodeId) → IsKeptRoot ks r → root_tree ns r ≡ option_map (λ i. tree ms i) (option_map (λ id. rank ks id.index) r)
     by None k = refl
     by (Some id) k = ap Some (sym (t.trees id.index k))
 
 -- the numbers of roots are below the count
-place-within : (ns : List Node) (ks : List Bool) (ms : List Node) → IsThinOf ns ks ms → (r : Option NodeId) → KeepsRoot ks r → IsPlace (length ms) (option_map (λ id. rank ks id.index) r)
+place-within : (ns : List Node) (ks : List Bool) (ms : List Node) → IsThinOf ns ks ms → (r : Option NodeId) → IsKeptRoot ks r → IsPlace (length ms) (option_map (λ id. rank ks id.index) r)
 place-within ns ks ms t None kept = tt
 place-within ns ks ms t (Some id) kept = t.live id.index kept
 
@@ -166,7 +167,7 @@ pub record IsWhole (ns : List Node) (ds : List Doc) (bytes : List ℕ) (nodes : 
 gather : (f n r c d : List ℕ) → ((([] ++ (f ++ n)) ++ r) ++ c) ++ d ≡ f ++ (n ++ (r ++ (c ++ d)))
 gather f n r c d = append_assoc ((f ++ n) ++ r) c d ∙ (append_assoc (f ++ n) r (c ++ d) ∙ append_assoc f n (r ++ (c ++ d)))
 
-pub whole-from : (ns : List Node) (ks : List Bool) (ms : List Node) (ds : List Doc) (nodes : ℕ) (a b c d : List ℕ) → AreLive ns ds → AreDistinctNames ds → KeepsExactly ns ks (roots ds) → IsThinOf ns ks ms → IsSound ms → AreDistinct ms → nodes ≡ length ms → nodes < 2 ^ 64 → length ds < 2 ^ 64
+pub whole-from : (ns : List Node) (ks : List Bool) (ms : List Node) (ds : List Doc) (nodes : ℕ) (a b c d : List ℕ) → AreLive ns ds → AreDistinctNames ds → KeepsExactly ns ks (roots_of ds) → IsThinOf ns ks ms → IsSound ms → AreDistinct ms → nodes ≡ length ms → nodes < 2 ^ 64 → length ds < 2 ^ 64
     → a ≡ [] ++ (front ++ big_bytes 8 nodes) → b ≡ a ++ records_bytes ms → c ≡ b ++ big_bytes 8 (length ds) → AreSaved (rank ks) ds (length ds) c d → IsWhole ns ds d nodes
 whole-from ns ks ms ds nodes a b c d live names exact t sound apart count short few ea eb ec s = record {
   records = ms;
@@ -174,7 +175,7 @@ whole-from ns ks ms ds nodes a b c d live names exact t sound apart count short 
   bytes_are = s.bytes ∙ ((λ j. ec j ++ documents_bytes (all j)) ∙ ((λ j. (eb j ++ big_bytes 8 (size j)) ++ documents_bytes fs) ∙ ((λ j. ((ea j ++ records_bytes ms) ++ big_bytes 8 (length fs)) ++ documents_bytes fs) ∙ ((λ j. ((([] ++ (front ++ big_bytes 8 (count j))) ++ records_bytes ms) ++ big_bytes 8 (length fs)) ++ documents_bytes fs) ∙ gather front (big_bytes 8 (length ms)) (records_bytes ms) (big_bytes 8 (length fs)) (documents_bytes fs)))));
   count = count;
   accepted = contents-again ms fs fits (omega (arith, size, few)) (all-follow ms sound fits) next;
-  reached = λ j lt. subst (λ (rs : List (Option ℕ)). IsReached ms rs j) (new-numbers ks ds) (any-reached ms (map (moved ks) (roots ds)) j (t.reached (roots ds) exact j lt));
+  reached = λ j lt. subst (λ (rs : List (Option ℕ)). IsReached ms rs j) (new-numbers ks ds) (any-reached ms (map (moved ks) (roots_of ds)) j (t.reached (roots_of ds) exact j lt));
   distinct = apart;
   live = live;
   same = trees-thin ns ks ms t ds kept;

@@ -6,14 +6,15 @@ use Rattle.std.proofs.lemmas.Option.{slice_get_within}
 use Rattle.slp_model.specs.declared.NodeId.{NodeId}
 use Rattle.slp_model.specs.declared.Node.{Node}
 use Rattle.slp_model.specs.Tree.{Tree, text, root_text}
-use Rattle.slp_model.specs.Nodes.{tree, trees, root_tree, IsLive}
+use Rattle.slp_model.specs.Nodes.{tree, trees, root_tree, IsLive, AreLiveIds}
 use Rattle.doc_book.specs.declared.Doc.{Doc}
-use Rattle.slp_rebalance.specs.Entries.{entry_trees, AreEntries}
+use Rattle.slp_rebalance.specs.Entries.{entry_trees}
 use Rattle.slp_rebalance.proofs.EntryLemmas.{entry-at, entry-live}
 use Rattle.slp_image.specs.declared.refusal.ImageRefusal.{ImageRefusal}
 use Rattle.slp_image.specs.declared.refusal.ImageRefusal.TheVariants.{NoMemory}
 use Rattle.slp_image.specs.Fields.{◌>>=◌, Field, number_at}
-use Rattle.slp_image.specs.Documents.{Fails, AreLive, plain, rooted, filed, HaveTrees, Reads}
+use Rattle.doc_book.specs.Texts.{AreLive, plain}
+use Rattle.slp_image.specs.Documents.{Fails, rooted, filed, HaveTrees, Reads}
 use Rattle.slp_image.specs.Image.{Added, Outcome, Document, Contents, at, contents, contents_after, after_count, records_onto, documents_of, node_at, text_at, content_of, meaning, node_text, image, image_of, version_at}
 use Rattle.slp_image.specs.Reads.{IsFiled, AreFiled, HaveThese, AreTexts, AreRecords, ReadsDocuments, AreNodes, ReadsNodes, ReadsTexts}
 use Rattle.slp_image.proofs.StepLemmas.{fails-bind, fails-same}
@@ -24,12 +25,12 @@ ok-is : {A B : Type 0} {x y : A} (r : Result A B) → r ≡ Ok x → r ≡ Ok y 
 ok-is r h k = cc
 
 -- the roots are live
-live-root : (ns : List Node) (ids : List NodeId) → AreEntries ns ids → (f : Option ℕ) (r : Option NodeId) → IsFiled ids f r → IsLive ns r
+live-root : (ns : List Node) (ids : List NodeId) → AreLiveIds ns ids → (f : Option ℕ) (r : Option NodeId) → IsFiled ids f r → IsLive ns r
 live-root ns ids h f None k = tt
 live-root ns ids h (Some i) (Some id) k = entry-live ns ids i id h k
 live-root ns ids h None (Some id) k = absurd k
 
-pub live-filed : (ns : List Node) (ids : List NodeId) → AreEntries ns ids → (fs : List Document) (ds : List Doc) → AreFiled ids fs ds → AreLive ns ds
+pub live-filed : (ns : List Node) (ids : List NodeId) → AreLiveIds ns ids → (fs : List Document) (ds : List Doc) → AreFiled ids fs ds → AreLive ns ds
 live-filed ns ids h [] [] k = tt
 live-filed ns ids h (f ∷ fs) (d ∷ ds) k = (live-root ns ids h f.root d.root k.1, live-filed ns ids h fs ds k.2)
 live-filed ns ids h [] (d ∷ ds) k = absurd k
@@ -87,7 +88,7 @@ module _ {M : Type 0} (total : Outcome (List M × List ℕ)) where
   whole-is ms rest ds h k = rw (h, k) refl
 
 -- version 1 after its records
-pub nodes-read : (ns : List Node) (ids : List NodeId) (total : Outcome (List Node × List ℕ)) (rest : List ℕ) (result : Result (List Doc) ImageRefusal) → AreEntries ns ids → AreRecords Node HaveThese total.answer rest (entry_trees ns ids) → ReadsDocuments ids rest result → ReadsNodes ns (contents_after total).answer result
+pub nodes-read : (ns : List Node) (ids : List NodeId) (total : Outcome (List Node × List ℕ)) (rest : List ℕ) (result : Result (List Doc) ImageRefusal) → AreLiveIds ns ids → AreRecords Node HaveThese total.answer rest (entry_trees ns ids) → ReadsDocuments ids rest result → ReadsNodes ns (contents_after total).answer result
 nodes-read ns ids total rest (Ok ds) live x k =
     let same : documents_of (length x.records) rest ≡ Ok k.documents = ap (λ n. documents_of n rest) (length-records x.records ns ids x.shown) ∙ k.is in
     record { live = live-filed ns ids live k.documents ds k.shown; whole = record { records = x.records; documents = k.documents }; is = whole-is total x.records rest k.documents x.is same; same = trees-filed ns x.records ids x.shown k.documents ds k.shown }
@@ -95,7 +96,7 @@ nodes-read ns ids total rest (Err e) live x k =
     documents-fail total e x.records rest x.is (fails-same e (documents_of (length x.records) rest) (documents_of (length ids) rest) (ap (λ n. documents_of n rest) (length-records x.records ns ids x.shown)) k)
 
 -- version 2
-pub texts-read : (ns : List Node) (ids : List NodeId) (total : Outcome (List (List ℕ) × List ℕ)) (rest : List ℕ) (result : Result (List Doc) ImageRefusal) → AreEntries ns ids → AreRecords (List ℕ) AreTexts total.answer rest (entry_trees ns ids) → ReadsDocuments ids rest result → ReadsTexts ns (contents_after total).answer result
+pub texts-read : (ns : List Node) (ids : List NodeId) (total : Outcome (List (List ℕ) × List ℕ)) (rest : List ℕ) (result : Result (List Doc) ImageRefusal) → AreLiveIds ns ids → AreRecords (List ℕ) AreTexts total.answer rest (entry_trees ns ids) → ReadsDocuments ids rest result → ReadsTexts ns (contents_after total).answer result
 texts-read ns ids total rest (Ok ds) live x k =
     let same : documents_of (length x.records) rest ≡ Ok k.documents = ap (λ n. documents_of n rest) (length-texts x.records ns ids x.shown) ∙ k.is in
     record { live = live-filed ns ids live k.documents ds k.shown; whole = record { records = x.records; documents = k.documents }; is = whole-is total x.records rest k.documents x.is same; same = texts-filed ns x.records ids x.shown k.documents ds k.shown }

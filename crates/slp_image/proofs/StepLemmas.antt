@@ -3,9 +3,9 @@ use Rattle.std.proofs.Common.{◌≡◌, ℕ, zero, suc, ◌+◌, ◌-◌, ◌<�
 use Rattle.slp_model.specs.declared.NodeId.{NodeId}
 use Rattle.slp_model.specs.declared.Node.{Node}
 use Rattle.slp_model.specs.Tree.{Tree}
-use Rattle.slp_model.specs.Nodes.{Grows}
+use Rattle.slp_model.specs.Nodes.{Grows, AreLiveIds}
 use Rattle.slp_model.proofs.NodesLemmas.{Grows-trans, Grows-none}
-use Rattle.slp_rebalance.specs.Entries.{entry_trees, AreEntries}
+use Rattle.slp_rebalance.specs.Entries.{entry_trees}
 use Rattle.slp_image.specs.declared.refusal.ImageRefusal.{ImageRefusal}
 use Rattle.slp_image.specs.declared.refusal.ImageRefusal.TheVariants.{NoMemory}
 use Rattle.slp_image.specs.Fields.{◌>>=◌, Field}
@@ -72,7 +72,7 @@ module _ {M : Type 0} (step : List M → List ℕ → Field (Added M)) where
 
     -- the next state of the loop
     pub reads-on : (old store new : List Node) (ids more : List NodeId) (p q r count i : ℕ) (bytes rest : List ℕ) (total : Outcome (List M × List ℕ)) → i < count
-        → (s : IsReading M Shows step old store ids p q (count - i) bytes total) → Grows store new q r → AreEntries new more → IsRecord M Shows s.records (step s.records bytes) rest (entry_trees new more) → r ≤ q + cost_of (step s.records bytes)
+        → (s : IsReading M Shows step old store ids p q (count - i) bytes total) → Grows store new q r → AreLiveIds new more → IsRecord M Shows s.records (step s.records bytes) rest (entry_trees new more) → r ≤ q + cost_of (step s.records bytes)
         → IsReading M Shows step old new more p r (count - (i + 1)) rest total
     reads-on old store new ids more p q r count i bytes rest total lt s g live x paid =
         let k : count - i ≡ suc (count - (i + 1)) = omega arith in

@@ -1,25 +1,17 @@
 -- Documents in a store, and the documents of an image.
-use Rattle.std.specs.Prelude.{◌≡◌, ℕ, List, [], ◌∷◌, map, Option, option_map, Result, Ok, Err}
+use Rattle.std.specs.Prelude.{◌≡◌, ℕ, List, map, Option, option_map, Result, Ok, Err}
 use Rattle.slp_model.specs.declared.Node.{Node}
-use Rattle.slp_model.specs.Tree.{Tree, root_text}
-use Rattle.slp_model.specs.Nodes.{tree, root_tree, IsLive}
+use Rattle.slp_model.specs.Tree.{Tree}
+use Rattle.slp_model.specs.Nodes.{tree, root_tree}
 use Rattle.doc_book.specs.declared.Doc.{Doc}
+use Rattle.doc_book.specs.Texts.{plain, AreLive}
 use Rattle.slp_image.specs.declared.refusal.ImageRefusal.{ImageRefusal}
 use Rattle.slp_image.specs.declared.refusal.ImageRefusal.TheVariants.{NoMemory}
 use Rattle.slp_image.specs.Image.{Contents, Meaning, contents, node_at, version_at}
 
--- the names and texts of the documents in a store
-abbrev pub plain : List Node → List Doc → List (List ℕ × List ℕ)
-plain ns ds = map (λ d. (d.name, root_text (root_tree ns d.root))) ds
-
--- their names and trees
+-- the names and trees of the documents in a store
 abbrev pub rooted : List Node → List Doc → List (List ℕ × Option Tree)
 rooted ns ds = map (λ d. (d.name, root_tree ns d.root)) ds
-
--- the roots of the documents are live
-abbrev pub AreLive : List Node → List Doc → Type 0
-AreLive ns [] = Unit {0}
-AreLive ns (d ∷ ds) = IsLive ns d.root × AreLive ns ds
 
 -- the names and trees of the documents of an image of version 1
 abbrev pub filed : Contents Node → List (List ℕ × Option Tree)

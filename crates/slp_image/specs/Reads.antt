@@ -3,12 +3,13 @@ use Rattle.std.specs.Prelude.{◌≡◌, ℕ, ◌+◌, ◌≤◌, List, [], ◌�
 use Rattle.slp_model.specs.declared.NodeId.{NodeId}
 use Rattle.slp_model.specs.declared.Node.{Node}
 use Rattle.slp_model.specs.Tree.{Tree, Leaf, text}
-use Rattle.slp_model.specs.Nodes.{trees, Grows}
+use Rattle.slp_model.specs.Nodes.{trees, Grows, AreLiveIds}
 use Rattle.doc_book.specs.declared.Doc.{Doc}
-use Rattle.slp_rebalance.specs.Entries.{entry_trees, AreEntries}
+use Rattle.slp_rebalance.specs.Entries.{entry_trees}
 use Rattle.slp_image.specs.Fields.{Field, byte_at}
 use Rattle.slp_image.specs.Image.{Added, Outcome, Document, Contents, records_onto, names_of, root_at, document_at, documents_onto, documents_of, content_of, at}
-use Rattle.slp_image.specs.Documents.{Fails, AreLive, plain, rooted, filed}
+use Rattle.doc_book.specs.Texts.{AreLive, plain}
+use Rattle.slp_image.specs.Documents.{Fails, rooted, filed}
 use Rattle.slp_image.specs.declared.refusal.ImageRefusal.{ImageRefusal}
 
 -- the result of a function, through view, is the result of reading, unless an allocation failed
@@ -52,7 +53,7 @@ cost_of (Err e) = 0
 -- the rest holds of all.
 pub record IsReading (M : Type 0) (Shows : List M → List Tree → Type 0) (step : List M → List ℕ → Field (Added M)) (old store : List Node) (ids : List NodeId) (before after left : ℕ) (rest : List ℕ) (total : Outcome (List M × List ℕ)) : Type 0 where
   pub grows : Grows old store before after
-  pub live : AreEntries store ids
+  pub live : AreLiveIds store ids
   pub records : List M
   pub cost : ℕ
   pub shown : Shows records (entry_trees store ids)

@@ -21,9 +21,9 @@ pub record SaveForm (bytes : List ℕ) : Type 0 where
   pub reached : (j : ℕ) → j < length read.records → IsReached read.records (map (λ d. d.root) read.documents) j
   pub distinct : (i j : ℕ) (n : Node) → slice_get read.records i ≡ Some n → slice_get read.records j ≡ Some n → i ≡ j
 
--- the roots of documents in a store
-abbrev pub roots_of : List Doc → List (Option ℕ)
-roots_of ds = map (λ d. option_map (λ id. id.index) d.root) ds
+-- the indices of the roots of documents in a store
+abbrev pub root_indices : List Doc → List (Option ℕ)
+root_indices ds = map (λ d. option_map (λ id. id.index) d.root) ds
 
 -- P holds of exactly n numbers, which can be enumerated from 0
 pub record IsCount (P : ℕ → Type 0) (n : ℕ) : Type 0 where

@@ -1,23 +1,14 @@
 -- The documents of a compacted store.
-use Rattle.std.specs.Prelude.{◌≡◌, ℕ, ◌<◌, true, Bool, List, ◌++◌, map, slice_get, take, Option, Some, None, option_map}
+use Rattle.std.specs.Prelude.{◌≡◌, ℕ, ◌<◌, true, Bool, List, ◌++◌, map, slice_get, take, Some, option_map}
 use Rattle.span_types.specs.Names.{is_name}
-use Rattle.slp_model.specs.declared.NodeId.{NodeId}
-use Rattle.slp_model.specs.Kept.{Keeps}
+use Rattle.slp_model.specs.Kept.{IsKeptRoot}
 use Rattle.doc_book.specs.declared.Doc.{Doc}
 use Rattle.slp_image.specs.Image.{Document}
 use Rattle.slp_image.specs.Written.{documents_bytes}
 
--- the roots of the documents, in their order
-abbrev pub roots : List Doc → List (Option NodeId)
-roots ds = map (λ d. d.root) ds
-
--- the root is `None`, or its node is kept
-abbrev pub KeepsRoot : List Bool → Option NodeId → Type 0
-KeepsRoot keep None = Unit {0}
-KeepsRoot keep (Some id) = Keeps keep id.index
-
+-- each document's root is none, or its node is kept
 abbrev pub KeepsRoots : List Bool → List Doc → Type 0
-KeepsRoots keep ds = (place : ℕ) (d : Doc) → slice_get ds place ≡ Some d → KeepsRoot keep d.root
+KeepsRoots keep ds = (place : ℕ) (d : Doc) → slice_get ds place ≡ Some d → IsKeptRoot keep d.root
 
 -- the documents, with new numbers for their roots
 abbrev pub saved : (ℕ → ℕ) → List Doc → List Document

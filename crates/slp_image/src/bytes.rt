@@ -2,10 +2,10 @@
 ghost use Rattle.std.specs.Prelude.{◌≡◌, ◌<◌, ◌^◌, true, [], ◌∷◌, ◌++◌, length, option_map, OnOk};
 ghost use Rattle.byteorder.specs.Endian.{big_bytes};
 ghost use Rattle.slp_model.specs.Distinct.{AreDistinct};
-ghost use Rattle.slp_model.specs.Kept.{IsPlanOf};
+ghost use Rattle.slp_model.specs.Kept.{IsPlanOf, IsKeptRoot};
 ghost use Rattle.slp_model.specs.Thin.{rank, thin, IsThinOf};
 ghost use Rattle.slp_image.specs.Written.{node_bytes, records_bytes, document_bytes};
-ghost use Rattle.slp_image.specs.Saved.{AreSaved, KeepsRoot, KeepsRoots};
+ghost use Rattle.slp_image.specs.Saved.{AreSaved, KeepsRoots};
 ghost use Rattle.span_types.specs.Names.{is_name};
 
 use byteorder::{BigEndian, ByteOrder};
@@ -79,7 +79,7 @@ fn push_document(out: &mut Vec<u8>, name: &Name, root: Option<u64>) -> Result<()
 
 // The new number of a root.
 fn number_of(root: Option<NodeId>, moves: &Moves) -> Option<u64>
-    requires { KeepsRoot moves.now root }
+    requires { IsKeptRoot moves.now root }
     ensures { result ≡ option_map (λ id. rank moves.now id.index) root }
 {
     match root {

@@ -2,9 +2,9 @@
 ghost use Rattle.std.specs.Prelude.{◌≡◌, ◌+◌, ◌^◌, ◌<◌, ◌≤◌, true, IsTrue, List, [], length, get_or, nat_le};
 ghost use Rattle.slp_model.specs.declared.Node.{Node};
 ghost use Rattle.slp_model.specs.Tree.{Leaf, leaves, height};
-ghost use Rattle.slp_model.specs.Nodes.{tree, trees, Grows};
+ghost use Rattle.slp_model.specs.Nodes.{tree, trees, Grows, AreLiveIds};
 ghost use Rattle.slp_model.specs.Join.{is_near};
-ghost use Rattle.slp_rebalance.specs.Entries.{entry_trees, AreEntries};
+ghost use Rattle.slp_rebalance.specs.Entries.{entry_trees};
 ghost use Rattle.slp_image.specs.Image.{node_pair, node_at, records_onto};
 ghost use Rattle.slp_image.specs.Reads.{HaveThese, ReadsByte, ReadsRecord, ReadsRecords, cost_of};
 
@@ -17,7 +17,7 @@ use std::sync::ledger::Ledger;
 
 // Whether the heights of two entries differ by at most one.
 fn are_near(roots: &Roots, store: &Store, left: usize, right: usize) -> bool
-    requires live { AreEntries store.now roots.now }
+    requires live { AreLiveIds store.now roots.now }
     requires left { left < length roots.now }
     requires right { right < length roots.now }
     ensures { result ≡ is_near (height (get_or (entry_trees store.now roots.now) left (Leaf 0))) (height (get_or (entry_trees store.now roots.now) right (Leaf 0))) }
@@ -41,7 +41,7 @@ fn are_low(store: &Store, a: NodeId, b: NodeId) -> bool
 /// Whether the lengths of two entries sum to at most 2^48. The heights are tested first: they are fast to read and
 /// usually decide it.
 pub(crate) fn are_short(roots: &Roots, store: &Store, left: usize, right: usize) -> bool
-    requires live { AreEntries store.now roots.now }
+    requires live { AreLiveIds store.now roots.now }
     requires left { left < length roots.now }
     requires right { right < length roots.now }
     ensures { result ≡ nat_le (leaves (get_or (entry_trees store.now roots.now) left (Leaf 0)) + leaves (get_or (entry_trees store.now roots.now) right (Leaf 0))) (2 ^ 48) }
@@ -60,9 +60,9 @@ pub(crate) fn byte_entry<'a>(
     roots: &mut Roots,
     store: &mut Store,
 ) -> Result<&'a [u8], ImageRefusal>
-    requires live { AreEntries store.old roots.old }
+    requires live { AreLiveIds store.old roots.old }
     ensures grows { Grows store.old store.new 0 0 }
-    ensures live { AreEntries store.new roots.new }
+    ensures live { AreLiveIds store.new roots.new }
     ensures read { ReadsByte (λ rest. rest.now) bytes.now (entry_trees store.old roots.old) (entry_trees store.new roots.new) result }
 {
     let (b, rest) = byte(bytes)?;
@@ -77,9 +77,9 @@ fn pair_entry<'a, L: Ledger>(
     store: &mut Store,
     pairs: &mut Steps<L>,
 ) -> Result<&'a [u8], ImageRefusal>
-    requires live { AreEntries store.old roots.old }
+    requires live { AreLiveIds store.old roots.old }
     ensures grows { Grows store.old store.new pairs.old pairs.new }
-    ensures live { AreEntries store.new roots.new }
+    ensures live { AreLiveIds store.new roots.new }
     ensures read { (ns : List Node) → trees ns ≡ entry_trees store.old roots.old → ReadsRecord HaveThese (λ rest. rest.now) ns (node_pair ns bytes.now) (entry_trees store.new roots.new) result }
     ensures cost { (ns : List Node) → trees ns ≡ entry_trees store.old roots.old → pairs.new ≤ pairs.old + cost_of (node_pair ns bytes.now) }
 {
@@ -103,9 +103,9 @@ fn node_entry<'a, L: Ledger>(
     store: &mut Store,
     pairs: &mut Steps<L>,
 ) -> Result<&'a [u8], ImageRefusal>
-    requires live { AreEntries store.old roots.old }
+    requires live { AreLiveIds store.old roots.old }
     ensures grows { Grows store.old store.new pairs.old pairs.new }
-    ensures live { AreEntries store.new roots.new }
+    ensures live { AreLiveIds store.new roots.new }
     ensures read { (ns : List Node) → trees ns ≡ entry_trees store.old roots.old → ReadsRecord HaveThese (λ rest. rest.now) ns (node_at ns bytes.now) (entry_trees store.new roots.new) result }
     ensures cost { (ns : List Node) → trees ns ≡ entry_trees store.old roots.old → pairs.new ≤ pairs.old + cost_of (node_at ns bytes.now) }
 {
@@ -129,7 +129,7 @@ pub(crate) fn node_entries<'a, L: Ledger>(
 ) -> Result<&'a [u8], ImageRefusal>
     requires { roots.old ≡ [] }
     ensures grows { Grows store.old store.new pairs.old pairs.new }
-    ensures live { AreEntries store.new roots.new }
+    ensures live { AreLiveIds store.new roots.new }
     ensures read { ReadsRecords HaveThese (λ rest. rest.now) (records_onto node_at count [] 0 bytes.now).answer (entry_trees store.new roots.new) result }
     ensures cost { pairs.new ≤ pairs.old + (records_onto node_at count [] 0 bytes.now).cost }
 {

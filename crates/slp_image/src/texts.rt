@@ -1,8 +1,8 @@
 //! Records of version 2: bytes, pairs and runs, which are balanced while they are read.
 ghost use Rattle.std.specs.Prelude.{◌≡◌, ℕ, ◌+◌, ◌*◌, ◌^◌, ◌<◌, ◌≤◌, List, [], length, map, get_or, nat_le};
 ghost use Rattle.slp_model.specs.Tree.{Leaf, leaves, text};
-ghost use Rattle.slp_model.specs.Nodes.{Grows};
-ghost use Rattle.slp_rebalance.specs.Entries.{entry_trees, AreEntries};
+ghost use Rattle.slp_model.specs.Nodes.{Grows, AreLiveIds};
+ghost use Rattle.slp_rebalance.specs.Entries.{entry_trees};
 ghost use Rattle.slp_image.specs.Image.{text_pair, text_run, text_at, records_onto};
 ghost use Rattle.slp_image.specs.Reads.{AreTexts, ReadsRecord, ReadsRecords, cost_of};
 
@@ -21,9 +21,9 @@ fn join_entry<'a, L: Ledger>(
     store: &mut Store,
     pairs: &mut Steps<L>,
 ) -> Result<&'a [u8], ImageRefusal>
-    requires live { AreEntries store.old roots.old }
+    requires live { AreLiveIds store.old roots.old }
     ensures grows { Grows store.old store.new pairs.old pairs.new }
-    ensures live { AreEntries store.new roots.new }
+    ensures live { AreLiveIds store.new roots.new }
     ensures read { (ts : List (List ℕ)) → map text (entry_trees store.old roots.old) ≡ ts → ReadsRecord AreTexts (λ rest. rest.now) ts (text_pair ts bytes.now) (entry_trees store.new roots.new) result }
     ensures cost { (ts : List (List ℕ)) → map text (entry_trees store.old roots.old) ≡ ts → pairs.new ≤ pairs.old + cost_of (text_pair ts bytes.now) }
 {
@@ -39,7 +39,7 @@ fn join_entry<'a, L: Ledger>(
 
 // Whether `times` copies of the entry at index `place` have at most 2^48 bytes.
 fn is_short_run(roots: &Roots, store: &Store, place: usize, times: u64) -> bool
-    requires live { AreEntries store.now roots.now }
+    requires live { AreLiveIds store.now roots.now }
     requires place { place < length roots.now }
     ensures { result ≡ nat_le (times * leaves (get_or (entry_trees store.now roots.now) place (Leaf 0))) (2 ^ 48) }
 {
@@ -56,9 +56,9 @@ fn run_entry<'a, L: Ledger>(
     store: &mut Store,
     pairs: &mut Steps<L>,
 ) -> Result<&'a [u8], ImageRefusal>
-    requires live { AreEntries store.old roots.old }
+    requires live { AreLiveIds store.old roots.old }
     ensures grows { Grows store.old store.new pairs.old pairs.new }
-    ensures live { AreEntries store.new roots.new }
+    ensures live { AreLiveIds store.new roots.new }
     ensures read { (ts : List (List ℕ)) → map text (entry_trees store.old roots.old) ≡ ts → ReadsRecord AreTexts (λ rest. rest.now) ts (text_run ts bytes.now) (entry_trees store.new roots.new) result }
     ensures cost { (ts : List (List ℕ)) → map text (entry_trees store.old roots.old) ≡ ts → pairs.new ≤ pairs.old + cost_of (text_run ts bytes.now) }
 {
@@ -82,9 +82,9 @@ fn text_entry<'a, L: Ledger>(
     store: &mut Store,
     pairs: &mut Steps<L>,
 ) -> Result<&'a [u8], ImageRefusal>
-    requires live { AreEntries store.old roots.old }
+    requires live { AreLiveIds store.old roots.old }
     ensures grows { Grows store.old store.new pairs.old pairs.new }
-    ensures live { AreEntries store.new roots.new }
+    ensures live { AreLiveIds store.new roots.new }
     ensures read { (ts : List (List ℕ)) → map text (entry_trees store.old roots.old) ≡ ts → ReadsRecord AreTexts (λ rest. rest.now) ts (text_at ts bytes.now) (entry_trees store.new roots.new) result }
     ensures cost { (ts : List (List ℕ)) → map text (entry_trees store.old roots.old) ≡ ts → pairs.new ≤ pairs.old + cost_of (text_at ts bytes.now) }
 {
@@ -112,7 +112,7 @@ pub(crate) fn text_entries<'a, L: Ledger>(
 ) -> Result<&'a [u8], ImageRefusal>
     requires { roots.old ≡ [] }
     ensures grows { Grows store.old store.new pairs.old pairs.new }
-    ensures live { AreEntries store.new roots.new }
+    ensures live { AreLiveIds store.new roots.new }
     ensures read { ReadsRecords AreTexts (λ rest. rest.now) (records_onto text_at count [] 0 bytes.now).answer (entry_trees store.new roots.new) result }
     ensures cost { pairs.new ≤ pairs.old + (records_onto text_at count [] 0 bytes.now).cost }
 {

@@ -2,11 +2,12 @@
 ghost use Rattle.std.specs.Prelude.{◌≡◌, ◌∷◌, ◌++◌, [], Ok, IfOk, OnOk};
 ghost use Rattle.byteorder.specs.Endian.{big_bytes};
 ghost use Rattle.slp_image.specs.Image.{image};
-ghost use Rattle.slp_image.specs.Documents.{AreLive, HaveTrees, plain};
+ghost use Rattle.doc_book.specs.Docs.{roots_of};
+ghost use Rattle.doc_book.specs.Texts.{AreLive, plain};
+ghost use Rattle.slp_image.specs.Documents.{HaveTrees};
 ghost use Rattle.slp_model.specs.Kept.{IsPlanOf};
 ghost use Rattle.slp_model.specs.Thin.{KeepsExactly};
-ghost use Rattle.slp_image.specs.Saved.{roots};
-ghost use Rattle.slp_image.specs.Save.{SaveForm, IsReached, IsCount, roots_of};
+ghost use Rattle.slp_image.specs.Save.{SaveForm, IsReached, IsCount, root_indices};
 
 use crate::bytes::{push_documents, push_nodes, push_number};
 use doc_book::Docs;
@@ -56,7 +57,7 @@ fn most_bytes(nodes: usize, docs: usize) -> usize {
 fn plan_of(alloc: Global, docs: &Docs, store: &Store) -> Result<Plan, NoMemory>
     requires { AreLive store.now docs.now }
     ensures plan { IfOk result (IsPlanOf store.now) }
-    ensures kept { IfOk result (λ plan. KeepsExactly store.now plan (roots docs.now)) }
+    ensures kept { IfOk result (λ plan. KeepsExactly store.now plan (roots_of docs.now)) }
 {
     let mut plan = Plan::new(alloc, store)?;
     for place in 0..docs.count() {
@@ -77,7 +78,7 @@ pub fn write(alloc: Global, docs: &Docs, store: &Store) -> Result<Image, NoMemor
     ensures form { IfOk result (λ saved. SaveForm saved.bytes.items) }
     ensures documents { IfOk result (λ saved. (image saved.bytes.items).answer ≡ Ok (record { documents = plain store.now docs.now; nodes = saved.nodes })) }
     ensures trees { IfOk result (λ saved. HaveTrees saved.bytes.items store.now docs.now) }
-    ensures nodes { IfOk result (λ saved. IsCount (IsReached store.now (roots_of docs.now)) saved.nodes) }
+    ensures nodes { IfOk result (λ saved. IsCount (IsReached store.now (root_indices docs.now)) saved.nodes) }
 {
     let plan = plan_of(alloc, docs, store)?;
     let (moves, count) = plan.moves(alloc)?;

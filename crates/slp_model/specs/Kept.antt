@@ -19,6 +19,11 @@ RootReaches ns (Some id) j = Reaches ns id.index j
 abbrev pub Keeps : List Bool → ℕ → Type 0
 Keeps keep i = get_or keep i false ≡ true
 
+-- the root is none, or its node is kept
+abbrev pub IsKeptRoot : List Bool → Option NodeId → Type 0
+IsKeptRoot keep None = Unit {0}
+IsKeptRoot keep (Some id) = Keeps keep id.index
+
 -- it is said of each node whether it is kept, and both children of each kept pair are kept
 pub record IsPlanOf (ns : List Node) (keep : List Bool) : Type 0 where
   pub long : length keep ≡ length ns

@@ -1,9 +1,10 @@
 -- Nodes in a list, and the tree below each.
 use Rattle.std.specs.Prelude.{◌≡◌, ℕ, ◌+◌, ◌≤◌, ◌<◌, ◌^◌, List, [], ◌∷◌, ◌++◌, length, get_or, slice_get, sum_by, Option, Some, None}
+use Rattle.std.specs.List.{All}
 use Rattle.slp_model.specs.declared.NodeId.{NodeId}
 use Rattle.slp_model.specs.declared.Node.{Node}
 use Rattle.slp_model.specs.declared.Node.TheVariants.{Byte, Pair}
-use Rattle.slp_model.specs.Tree.{Tree, Leaf, Fork, leaves, IsBalanced}
+use Rattle.slp_model.specs.Tree.{Tree, Leaf, Fork, leaves, root_text, IsBalanced}
 
 -- the tree of a node whose children have these trees
 abbrev pub node_tree : List Tree → Node → Tree
@@ -28,10 +29,18 @@ abbrev pub root_tree : List Node → Option NodeId → Option Tree
 root_tree ns None = None
 root_tree ns (Some id) = Some (tree ns id.index)
 
+-- the text of a root
+abbrev pub text_of : List Node → Option NodeId → List ℕ
+text_of ns root = root_text (root_tree ns root)
+
 -- a root that is none or below the count
 abbrev pub IsLive : List Node → Option NodeId → Type 0
 IsLive ns None = Unit {0}
 IsLive ns (Some id) = id.index < length ns
+
+-- each of these is a node
+pub record AreLiveIds (ns : List Node) (ids : List NodeId) : Type 0 where
+  pub live : All (λ id. id.index < length ns) ids
 
 -- 1 for a pair, and 0 for a byte
 abbrev pub pair_weight : Node → ℕ

@@ -20,9 +20,9 @@
 
 ghost use Rattle.std.specs.Prelude.{◌≡◌, ℕ, ◌+◌, ◌*◌, ◌^◌, ◌<◌, ◌≤◌, [], ◌∷◌, ◌++◌, length, get_or, slice_get, IfOk, OnOk, OnErr, Some};
 ghost use Rattle.slp_model.specs.Tree.{Leaf, text, leaves, height, IsNear};
-ghost use Rattle.slp_model.specs.Nodes.{tree, Grows};
+ghost use Rattle.slp_model.specs.Nodes.{tree, Grows, AreLiveIds};
 ghost use Rattle.slp_model.specs.Join.{join, IsJoined};
-ghost use Rattle.slp_rebalance.specs.Entries.{entry_trees, AreEntries, IsRepeated};
+ghost use Rattle.slp_rebalance.specs.Entries.{entry_trees, IsRepeated};
 ghost use Rattle.slp_rebalance.specs.Copies.{copies, digits_in, run_cost};
 ghost use Rattle.slp_rebalance.specs.Around.{AreAround};
 
@@ -82,9 +82,9 @@ impl Roots {
     ///
     /// `NoMemory`.
     pub fn byte(&mut self, store: &mut Store, b: u8) -> Result<(), NoMemory>
-        requires live { AreEntries store.old self.old }
+        requires live { AreLiveIds store.old self.old }
         ensures grows { Grows store.old store.new 0 0 }
-        ensures live { AreEntries store.new self.new }
+        ensures live { AreLiveIds store.new self.new }
         ensures entries { OnOk result (entry_trees store.new self.new ≡ entry_trees store.old self.old ++ Leaf b ∷ []) }
         ensures err { OnErr result (self.new ≡ self.old) }
     {
@@ -107,12 +107,12 @@ impl Roots {
         right: usize,
         pairs: &mut Steps<L>,
     ) -> Result<(), NoMemory>
-        requires live { AreEntries store.old self.old }
+        requires live { AreLiveIds store.old self.old }
         requires left { left < length self.old }
         requires right { right < length self.old }
         requires short { leaves (get_or (entry_trees store.old self.old) left (Leaf 0)) + leaves (get_or (entry_trees store.old self.old) right (Leaf 0)) ≤ 2 ^ 48 }
         ensures grows { Grows store.old store.new pairs.old pairs.new }
-        ensures live { AreEntries store.new self.new }
+        ensures live { AreLiveIds store.new self.new }
         ensures entries { OnOk result (entry_trees store.new self.new ≡ entry_trees store.old self.old ++ join (get_or (entry_trees store.old self.old) left (Leaf 0)) (get_or (entry_trees store.old self.old) right (Leaf 0)) ∷ []) }
         ensures joined { OnOk result (IsJoined (get_or (entry_trees store.old self.old) left (Leaf 0)) (get_or (entry_trees store.old self.old) right (Leaf 0)) (join (get_or (entry_trees store.old self.old) left (Leaf 0)) (get_or (entry_trees store.old self.old) right (Leaf 0)))) }
         ensures err { OnErr result (self.new ≡ self.old) }
@@ -140,12 +140,12 @@ impl Roots {
         times: u64,
         pairs: &mut Steps<L>,
     ) -> Result<(), NoMemory>
-        requires live { AreEntries store.old self.old }
+        requires live { AreLiveIds store.old self.old }
         requires child { child < length self.old }
         requires some { 1 ≤ times }
         requires short { times * leaves (get_or (entry_trees store.old self.old) child (Leaf 0)) ≤ 2 ^ 48 }
         ensures grows { Grows store.old store.new pairs.old pairs.new }
-        ensures live { AreEntries store.new self.new }
+        ensures live { AreLiveIds store.new self.new }
         ensures entries { OnOk result (IsRepeated (entry_trees store.old self.old) child times (entry_trees store.new self.new)) }
         ensures err { OnErr result (self.new ≡ self.old) }
         ensures cost { (places : ℕ) → times < 2 ^ places → pairs.new ≤ pairs.old + run_cost places times }

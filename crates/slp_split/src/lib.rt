@@ -17,8 +17,8 @@
 #![tactic(auto)]
 
 ghost use Rattle.std.specs.Prelude.{◌≡◌, ◌+◌, ◌-◌, ◌*◌, ◌<◌, ◌≤◌, length, take, drop, slice_range, IfOk};
-ghost use Rattle.slp_model.specs.Tree.{leaves, height, root_text, root_leaves, root_height};
-ghost use Rattle.slp_model.specs.Nodes.{tree, root_tree, Grows, IsLive};
+ghost use Rattle.slp_model.specs.Tree.{leaves, height, root_leaves, root_height};
+ghost use Rattle.slp_model.specs.Nodes.{tree, root_tree, Grows, IsLive, text_of};
 ghost use Rattle.slp_split.specs.Split.{IsSplit, split_cost};
 
 use node_store::{NodeId, Store};
@@ -45,8 +45,8 @@ pub fn split<L: Ledger>(
     requires to { at ≤ root_leaves (root_tree store.old root) + 1 }
     ensures grows { Grows store.old store.new pairs.old pairs.new }
     ensures live { IfOk result (λ r. IsLive store.new r.0 × IsLive store.new r.1) }
-    ensures before { IfOk result (λ r. root_text (root_tree store.new r.0) ≡ take (at - 1) (root_text (root_tree store.old root))) }
-    ensures after { IfOk result (λ r. root_text (root_tree store.new r.1) ≡ drop (at - 1) (root_text (root_tree store.old root))) }
+    ensures before { IfOk result (λ r. text_of store.new r.0 ≡ take (at - 1) (text_of store.old root)) }
+    ensures after { IfOk result (λ r. text_of store.new r.1 ≡ drop (at - 1) (text_of store.old root)) }
     ensures low { IfOk result (λ r. root_height (root_tree store.new r.0) ≤ root_height (root_tree store.old root)) }
     ensures high { IfOk result (λ r. root_height (root_tree store.new r.1) ≤ root_height (root_tree store.old root)) }
     ensures cost { pairs.new ≤ pairs.old + 10 * root_height (root_tree store.old root) }
@@ -78,7 +78,7 @@ pub fn extract<L: Ledger>(
     requires to { j ≤ root_leaves (root_tree store.old root) + 1 }
     ensures grows { Grows store.old store.new pairs.old pairs.new }
     ensures live { IfOk result (λ r. IsLive store.new r) }
-    ensures text { IfOk result (λ r. root_text (root_tree store.new r) ≡ slice_range (root_text (root_tree store.old root)) (i - 1) (j - 1)) }
+    ensures text { IfOk result (λ r. text_of store.new r ≡ slice_range (text_of store.old root) (i - 1) (j - 1)) }
     ensures low { IfOk result (λ r. root_height (root_tree store.new r) ≤ root_height (root_tree store.old root)) }
     ensures cost { pairs.new ≤ pairs.old + 20 * root_height (root_tree store.old root) }
 {

@@ -22,7 +22,7 @@ pub use Rattle.marker_dfa.specs.Deterministic.{DeterministicAutomaton, IsDetermi
 pub use Rattle.marker_nfa.proofs.Mapped.{has_map, map_has}
 pub use Rattle.marker_nfa.specs.Automaton.{IsMarked}
 pub use Rattle.slp_model.proofs.TreeLemmas.{height-by_leaves, height-most, height-within, length-text}
-pub use Rattle.slp_model.specs.Nodes.{IsLive, IsNodeAt, tree}
+pub use Rattle.slp_model.specs.Nodes.{IsLive, IsNodeAt, tree, text_of}
 pub use Rattle.slp_model.specs.Tree.{height, text}
 pub use Rattle.slp_model.specs.declared.Node.{Node}
 pub use Rattle.slp_model.specs.declared.Node.TheVariants.{Byte, Pair}
@@ -57,7 +57,6 @@ pub use Rattle.span_enum.specs.Answering.{IsFoundAfter}
 pub use Rattle.span_enum.specs.Between.{AreAmong, AreBetween}
 pub use Rattle.span_enum.specs.Ends.{Accepted, AcceptsEnd, AcceptsWord, AreFinals, Gives, IsFirstLeft, IsWord, NoneLeft, Wellmarked}
 pub use Rattle.span_enum.specs.Letters.{end_in, reached, step_of}
-pub use Rattle.span_enum.specs.Listing.{text_of}
 pub use Rattle.span_enum.specs.Members.{AreAnswersOf, HasMember, IsFirstMember, IsLeft, IsMember, NoMemberLeft, Tuple}
 pub use Rattle.span_enum.specs.Next.{IsAfter, IsNext, NoneAfter}
 pub use Rattle.span_enum.specs.OverLeft.{IsMarkedLeft, IsPlainLeft}

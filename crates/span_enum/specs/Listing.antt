@@ -2,8 +2,7 @@
 use Rattle.std.specs.Prelude.{◌≡◌, ℕ, List, length, Option, IfSome}
 use Rattle.slp_model.specs.declared.Node.{Node}
 use Rattle.slp_model.specs.declared.NodeId.{NodeId}
-use Rattle.slp_model.specs.Tree.{root_text}
-use Rattle.slp_model.specs.Nodes.{root_tree, IsLive}
+use Rattle.slp_model.specs.Nodes.{IsLive}
 use Rattle.marker_dfa.specs.Deterministic.{DeterministicAutomaton}
 use Rattle.state_tables.specs.Dictionary.{Dictionary, AreTables}
 use Rattle.span_enum.specs.Members.{Tuple}
@@ -13,10 +12,6 @@ pub record Listing : Type 0 where
   pub automaton : DeterministicAutomaton
   pub text : List ℕ
   pub after : Option Tuple
-
--- the text of a root
-abbrev pub text_of : List Node → Option NodeId → List ℕ
-text_of nodes root = root_text (root_tree nodes root)
 
 -- the tables are those of the automaton, and the root is there
 pub record IsReady (a : DeterministicAutomaton) (nodes : List Node) (d : Dictionary) (root : Option NodeId) : Type 0 where

@@ -6,7 +6,7 @@ use Rattle.span_types.specs.Words.{Marked, mark_count}
 use Rattle.span_types.specs.Writes.{write_mark, cut, blanks}
 use Rattle.span_types.specs.Fibonacci.{height_limit}
 use Rattle.slp_model.specs.Tree.{text, height}
-use Rattle.slp_model.specs.Nodes.{tree}
+use Rattle.slp_model.specs.Nodes.{tree, text_of}
 use Rattle.formula_law.specs.Law.{bytes_of}
 use Rattle.marker_dfa.specs.Deterministic.{DeterministicAutomaton, IsDeterministic, states_of}
 use Rattle.state_tables.specs.StateSet.{member}
@@ -15,7 +15,7 @@ use Rattle.state_tables.specs.Table.{marked_of}
 use Rattle.state_tables.specs.Dictionary.{IsLook}
 use Rattle.span_enum.specs.Members.{Tuple}
 use Rattle.span_enum.specs.Letters.{step_of, reached}
-use Rattle.span_enum.specs.Listing.{text_of, IsReady}
+use Rattle.span_enum.specs.Listing.{IsReady}
 use Rattle.span_enum.specs.Ends.{AreFinals}
 use Rattle.span_enum.specs.Tuples.{word_over, write_word, end_mark}
 use Rattle.span_enum.specs.Between.{AreBetween}

@@ -3,10 +3,9 @@ use Rattle.std.proofs.Common.{◌≡◌, ℕ, ◌+◌, ◌*◌, ◌≤◌, ap, a
 use Rattle.slp_model.specs.declared.NodeId.{NodeId}
 use Rattle.slp_model.specs.declared.Node.{Node}
 use Rattle.slp_model.specs.Tree.{Tree, root_text, root_height}
-use Rattle.slp_model.specs.Nodes.{Grows, IsLive}
+use Rattle.slp_model.specs.Nodes.{Grows, IsLive, text_of}
 use Rattle.slp_model.specs.Join.{root_cost}
 use Rattle.slp_model.proofs.NodesLemmas.{root_tree-grows, Grows-length}
-use Rattle.span_enum.specs.Listing.{text_of}
 
 pub live-grows : (old new : List Node) (p q : ℕ) → Grows old new p q → (r : Option NodeId) → IsLive old r → IsLive new r
 live-grows old new p q g None h = tt

@@ -2,9 +2,8 @@
 use Rattle.std.specs.Prelude.{◌≡◌, ℕ, ◌+◌, ◌^◌, ◌<◌, ◌≤◌, List, length, Option, Result, Ok, Err}
 use Rattle.slp_model.specs.declared.Node.{Node}
 use Rattle.slp_model.specs.declared.NodeId.{NodeId}
-use Rattle.slp_model.specs.Nodes.{IsLive}
+use Rattle.slp_model.specs.Nodes.{IsLive, text_of}
 use Rattle.span_types.specs.declared.tuple.Span.{Span}
-use Rattle.span_enum.specs.Listing.{text_of}
 use Rattle.span_replace.specs.declared.refusal.ReplaceRefusal.{ReplaceRefusal}
 use Rattle.span_replace.specs.declared.refusal.ReplaceRefusal.TheVariants.{TooManyMatches, TooLong, NoMemory}
 

@@ -2,7 +2,8 @@
 ghost use Rattle.std.specs.Prelude.{◌≡◌, ℕ, ◌+◌, ◌*◌, ◌<◌, ◌≤◌, min, All, List, [], ◌∷◌, length, Some, None, MatchOption, IfOk};
 ghost use Rattle.span_types.specs.Fibonacci.{looks_limit};
 ghost use Rattle.span_types.specs.Places.{IsSpan, IsSpanOr};
-ghost use Rattle.span_enum.specs.Listing.{text_of, IsReady};
+ghost use Rattle.slp_model.specs.Nodes.{text_of};
+ghost use Rattle.span_enum.specs.Listing.{IsReady};
 ghost use Rattle.span_enum.specs.Members.{Tuple as ATuple, AreAnswersOf, IsFirstMember};
 ghost use Rattle.span_replace.specs.Chosen as meaning;
 ghost use Rattle.span_replace.specs.Cursor.{NoSpanLeft, past};

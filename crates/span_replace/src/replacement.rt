@@ -1,8 +1,7 @@
 //! A text in which spans are replaced.
 ghost use Rattle.std.specs.Prelude.{◌≡◌, ℕ, ◌+◌, ◌-◌, ◌*◌, ◌^◌, ◌<◌, ◌≤◌, List, ◌++◌, length, take, drop, IfOk};
 ghost use Rattle.slp_model.specs.Tree.{root_height};
-ghost use Rattle.slp_model.specs.Nodes.{root_tree, Grows, IsLive};
-ghost use Rattle.span_enum.specs.Listing.{text_of};
+ghost use Rattle.slp_model.specs.Nodes.{root_tree, Grows, IsLive, text_of};
 ghost use Rattle.span_replace.specs.Replaced as meaning;
 ghost use Rattle.span_replace.specs.Replaced.{AreApart};
 ghost use Rattle.span_replace.specs.Outcomes.{IfTooLong, IsReplacement};

@@ -3,7 +3,7 @@ use Rattle.span_run.proofs.Names.{[], Accepted, ap, append_assoc, arith, Assigns
 use Rattle.span_run.proofs.Names.{drop, edit_limit, entry_text, Err, eval, Expr, ExprReads, Files, flat_map, greatest, height_limit, inl, inr, IsDenied, IsPaid}
 use Rattle.span_run.proofs.Names.{IsShown, IsUpTo, length, List, load_limit, Named, names_text, no_steps, Node, NodeId, None, NoSuchDocument, Ok, ok_or}
 use Rattle.span_run.proofs.Names.{ok_text, operations, Option, option_map_or, Outcome, Outlet, PaysFor, PaysForPart, plain, put, refl, Refusal, Result}
-use Rattle.span_run.proofs.Names.{shown_range, slice_get, Some, State, subst, sym, taken_out, text_at, Told, value_of, with_documents, with_versions, World}
+use Rattle.span_run.proofs.Names.{shown_range, slice_get, Some, State, subst, sym, taken_out, text_of, Told, value_of, with_documents, with_versions, World}
 use Rattle.span_run.proofs.Names.{world, ℕ, ◌*◌, ◌++◌, ◌+◌, ◌∙◌, ◌∷◌, ◌≡◌, ◌≤◌, ◌⊎◌}
 use Rattle.report_text.proofs.Vars.{drop_at}
 use Rattle.doc_book.specs.declared.Missing.{Missing}
@@ -89,13 +89,13 @@ abbrev pub names_rest : List Node → List Doc → ℕ → List ℕ
 names_rest ns ds place = names_text (plain ns (drop place ds))
 
 pub names_next : {a b : Outlet} {whole : List ℕ} (ns : List Node) (ds : List Doc) (place : ℕ) (d : Doc) → slice_get ds place ≡ Some d → IsUpTo a b (names_rest ns ds place) whole
-    → IsUpTo a b (entry_text (d.name, text_at ns d.root) ++ names_rest ns ds (place + 1)) whole
+    → IsUpTo a b (entry_text (d.name, text_of ns d.root) ++ names_rest ns ds (place + 1)) whole
 names_next {a} {b} {whole} ns ds place d e h = subst (λ (l : List ℕ). IsUpTo a b l whole) next h
   where
-    next : names_rest ns ds place ≡ entry_text (d.name, text_at ns d.root) ++ names_rest ns ds (place + 1)
+    next : names_rest ns ds place ≡ entry_text (d.name, text_of ns d.root) ++ names_rest ns ds (place + 1)
     next =
         ap (λ (es : List Doc). names_text (plain ns es)) (drop_at ds place d e)
-        ∙ append_assoc (entry_text (d.name, text_at ns d.root)) (flat_map entry_text (plain ns (drop (place + 1) ds))) (codes "end" ++ 10 ∷ [])
+        ∙ append_assoc (entry_text (d.name, text_of ns d.root)) (flat_map entry_text (plain ns (drop (place + 1) ds))) (codes "end" ++ 10 ∷ [])
 
 pub names_end : {a b : Outlet} {whole : List ℕ} (ns : List Node) (ds : List Doc) (place : ℕ) → length ds ≤ place → IsUpTo a b (names_rest ns ds place) whole → IsUpTo a b (codes "end" ++ 10 ∷ []) whole
 names_end {a} {b} {whole} ns ds place past h = subst (λ (l : List ℕ). IsUpTo a b l whole) (at_drop_all (λ (es : List Doc). names_text (plain ns es)) ds place past) h

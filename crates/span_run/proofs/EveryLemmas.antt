@@ -3,8 +3,8 @@ use Rattle.span_run.proofs.Names.{[], after-none, ap, append_assoc, AreAnswered,
 use Rattle.span_run.proofs.Names.{Bool, Command, Contains, count_of, DeterministicAutomaton, Dictionary, Doc, doc_line, done_line, drop, drop_all, every_text}
 use Rattle.span_run.proofs.Names.{false, first_page_text, flat_map, get_or, get_or_from_slice_get, HasAnswersOf, IsDeterministic, IsPage, IsPageOf, IsSent}
 use Rattle.span_run.proofs.Names.{IsUpTo, IsWellFormed, length, List, ltb-false, ltb-true, map, Named, names_of, nat_lt, Node, None, option_map, Outlet, Page}
-use Rattle.span_run.proofs.Names.{page_text, plain, Query, refl, rest_text, slice_get, slice_get-get_or, slice_get_within, Some, subst, suc, sym, take, text_at}
-use Rattle.span_run.proofs.Names.{text_of, true, Tuple, tuple_line, value_of, zero, ℕ, ◌++◌, ◌+◌, ◌<◌, ◌^◌, ◌∙◌, ◌∷◌, ◌≡◌, ◌≤◌}
+use Rattle.span_run.proofs.Names.{page_text, plain, Query, refl, rest_text, slice_get, slice_get-get_or, slice_get_within, Some, subst, suc, sym, take, text_of}
+use Rattle.span_run.proofs.Names.{true, Tuple, tuple_line, value_of, zero, ℕ, ◌++◌, ◌+◌, ◌<◌, ◌^◌, ◌∙◌, ◌∷◌, ◌≡◌, ◌≤◌}
 use Rattle.span_run.proofs.BookLemmas.{query_of}
 use Rattle.std.proofs.lemmas.List.Elements.{Contains-get_or}
 use Rattle.script_syntax.specs.declared.form.Command.TheVariants as form
@@ -112,19 +112,19 @@ registered queries bytes name names is same =
     let q = query_of (value_of queries bytes) names is in record { query = q.0; there = ap (λ (m : List ℕ). value_of queries m) (sym same) ∙ q.1 }
 
 -- ---- lengths that were read
-pub short_next : (ns : List Node) (ds : List Doc) (place len : ℕ) (x : Doc) → ((k : ℕ) (d : Doc) → k < place → slice_get ds k ≡ Some d → length (text_at ns d.root) ≤ 2 ^ 48) → slice_get ds place ≡ Some x → len ≡ length (text_at ns x.root) → len ≤ 2 ^ 48
-    → (k : ℕ) (d : Doc) → k < place + 1 → slice_get ds k ≡ Some d → length (text_at ns d.root) ≤ 2 ^ 48
+pub short_next : (ns : List Node) (ds : List Doc) (place len : ℕ) (x : Doc) → ((k : ℕ) (d : Doc) → k < place → slice_get ds k ≡ Some d → length (text_of ns d.root) ≤ 2 ^ 48) → slice_get ds place ≡ Some x → len ≡ length (text_of ns x.root) → len ≤ 2 ^ 48
+    → (k : ℕ) (d : Doc) → k < place + 1 → slice_get ds k ≡ Some d → length (text_of ns d.root) ≤ 2 ^ 48
 short_next ns ds place len x h at is short k d lt e = by (nat_lt k place) refl
   where
-    by : (b : Bool) → nat_lt k place ≡ b → length (text_at ns d.root) ≤ 2 ^ 48
+    by : (b : Bool) → nat_lt k place ≡ b → length (text_of ns d.root) ≤ 2 ^ 48
     by true low = h k d (ltb-true k place low) e
     by false high =
         let here : k ≡ place = omega (arith, lt, ltb-false k place high) in
         let both : Some x ≡ Some d = sym at ∙ (ap (slice_get ds) (sym here) ∙ e) in
         let same : x ≡ d = cc both in
-        subst (λ (y : Doc). length (text_at ns y.root) ≤ 2 ^ 48) same (subst (λ (m : ℕ). m ≤ 2 ^ 48) is short)
+        subst (λ (y : Doc). length (text_of ns y.root) ≤ 2 ^ 48) same (subst (λ (m : ℕ). m ≤ 2 ^ 48) is short)
 
-pub short_all : (ns : List Node) (ds : List Doc) (place : ℕ) → ((k : ℕ) (d : Doc) → k < place → slice_get ds k ≡ Some d → length (text_at ns d.root) ≤ 2 ^ 48) → length ds ≤ place → AreShort ns ds
+pub short_all : (ns : List Node) (ds : List Doc) (place : ℕ) → ((k : ℕ) (d : Doc) → k < place → slice_get ds k ≡ Some d → length (text_of ns d.root) ≤ 2 ^ 48) → length ds ≤ place → AreShort ns ds
 short_all ns ds place h past k d e = h k d (omega (arith, past, slice_get_within ds k d e)) e
 
 -- ---- the lines of tuples

@@ -5,7 +5,7 @@ pub use Rattle.span_run.proofs.ListLemmas.{goes_starts, kept_looks, kept_size, l
 pub use Rattle.span_run.proofs.EveryLemmas.{registered, rest_end, short_all, short_next, sized_at, tuples_end, tuples_left, well_formed}
 pub use Rattle.span_run.proofs.EveryParts.{batch_left, found_sizes, lists_are, lists_every, variables_are}
 pub use Rattle.span_run.proofs.PageLemmas.{has_cursor, list_free, lists_none, lists_page, named_count, no_word}
-pub use Rattle.span_run.proofs.HeldLemmas.{AreKept-put, AreKept-taken_out, AreLive-put, AreLive-taken_out, head_of-text, length-text_at, live_root, plain-put}
+pub use Rattle.span_run.proofs.HeldLemmas.{AreKept-put, AreKept-taken_out, AreLive-put, AreLive-taken_out, head_of-text, length-text_of, live_root, plain-put}
 pub use Rattle.span_run.proofs.HeldLemmas.{plain-taken_out, plain_versions-put, plain_versions-taken_out, version_kept, version_of-plain}
 pub use Rattle.span_run.proofs.BookLemmas.{covered-within, query_of, some_value, take_placed}
 pub use Rattle.span_run.proofs.QueryLemmas.{answered, asked_carries, asked_paid, document_is, document_lacks, has_variables, judged, judged_unread, no_kind}

@@ -1,13 +1,13 @@
 -- Documents in a store, and the plain documents that they represent.
 use Rattle.span_run.proofs.Names.{[], ap, AreKept, AreLive, AreLive-grows, arith, Bool, cond, Doc, false, Grows, is_same, IsLive, length, List, min, Named}
 use Rattle.span_run.proofs.Names.{Node, NodeId, Option, option_map, pair_weight, plain, plain-grows, plain_versions, put, refl, root_leaves, root_tree, Some}
-use Rattle.span_run.proofs.Names.{subst, sum_by-append, take, take_min, taken_out, text_at, true, value_of, ℕ, ◌++◌, ◌+◌, ◌-◌, ◌∙◌, ◌∷◌, ◌≡◌, ◌≤◌}
+use Rattle.span_run.proofs.Names.{subst, sum_by-append, take, take_min, taken_out, text_of, true, value_of, ℕ, ◌++◌, ◌+◌, ◌-◌, ◌∙◌, ◌∷◌, ◌≡◌, ◌≤◌}
 use Rattle.slp_model.specs.Nodes.{pair_count}
 use Rattle.slp_model.proofs.TreeLemmas.{length-root_text}
 use Rattle.doc_book.specs.Docs as book
 
-pub length-text_at : (ns : List Node) (root : Option NodeId) → length (text_at ns root) ≡ root_leaves (root_tree ns root)
-length-text_at ns root = length-root_text (root_tree ns root)
+pub length-text_of : (ns : List Node) (root : Option NodeId) → length (text_of ns root) ≡ root_leaves (root_tree ns root)
+length-text_of ns root = length-root_text (root_tree ns root)
 
 pub AreLive-put : (ns : List Node) (ds : List Doc) (name : List ℕ) (root : Option NodeId) → AreLive ns ds → IsLive ns root → AreLive ns (book.put ds name root)
 AreLive-put ns [] name root h live = (live, tt)
@@ -15,11 +15,11 @@ AreLive-put ns (d ∷ ds) name root h live =
     elim (is_same name d.name) as (λ b. AreLive ns (cond b (record { name = name; root = root } ∷ ds) (d ∷ book.put ds name root)))
     [ true ↦ (live, h.1) | false ↦ (h.0, AreLive-put ns ds name root h.1 live) ]
 
-pub plain-put : (ns : List Node) (ds : List Doc) (name : List ℕ) (root : Option NodeId) → plain ns (book.put ds name root) ≡ put (plain ns ds) name (text_at ns root)
+pub plain-put : (ns : List Node) (ds : List Doc) (name : List ℕ) (root : Option NodeId) → plain ns (book.put ds name root) ≡ put (plain ns ds) name (text_of ns root)
 plain-put ns [] name root = refl
 plain-put ns (d ∷ ds) name root =
-    elim (is_same name d.name) as (λ b. plain ns (cond b (record { name = name; root = root } ∷ ds) (d ∷ book.put ds name root)) ≡ cond b ((name, text_at ns root) ∷ plain ns ds) ((d.name, text_at ns d.root) ∷ put (plain ns ds) name (text_at ns root)))
-    [ true ↦ refl | false ↦ (λ j. (d.name, text_at ns d.root) ∷ plain-put ns ds name root j) ]
+    elim (is_same name d.name) as (λ b. plain ns (cond b (record { name = name; root = root } ∷ ds) (d ∷ book.put ds name root)) ≡ cond b ((name, text_of ns root) ∷ plain ns ds) ((d.name, text_of ns d.root) ∷ put (plain ns ds) name (text_of ns root)))
+    [ true ↦ refl | false ↦ (λ j. (d.name, text_of ns d.root) ∷ plain-put ns ds name root j) ]
 
 pub AreLive-taken_out : (ns : List Node) (ds : List Doc) (name : List ℕ) → AreLive ns ds → AreLive ns (book.taken_out ds name)
 AreLive-taken_out ns [] name h = tt
@@ -30,13 +30,13 @@ AreLive-taken_out ns (d ∷ ds) name h =
 pub plain-taken_out : (ns : List Node) (ds : List Doc) (name : List ℕ) → plain ns (book.taken_out ds name) ≡ taken_out (plain ns ds) name
 plain-taken_out ns [] name = refl
 plain-taken_out ns (d ∷ ds) name =
-    elim (is_same name d.name) as (λ b. plain ns (cond b ds (d ∷ book.taken_out ds name)) ≡ cond b (plain ns ds) ((d.name, text_at ns d.root) ∷ taken_out (plain ns ds) name))
-    [ true ↦ refl | false ↦ (λ j. (d.name, text_at ns d.root) ∷ plain-taken_out ns ds name j) ]
+    elim (is_same name d.name) as (λ b. plain ns (cond b ds (d ∷ book.taken_out ds name)) ≡ cond b (plain ns ds) ((d.name, text_of ns d.root) ∷ taken_out (plain ns ds) name))
+    [ true ↦ refl | false ↦ (λ j. (d.name, text_of ns d.root) ∷ plain-taken_out ns ds name j) ]
 
-pub value_of-plain : (ns : List Node) (ds : List Doc) (name : List ℕ) → value_of (plain ns ds) name ≡ option_map (text_at ns) (book.root_of ds name)
+pub value_of-plain : (ns : List Node) (ds : List Doc) (name : List ℕ) → value_of (plain ns ds) name ≡ option_map (text_of ns) (book.root_of ds name)
 value_of-plain ns [] name = refl
 value_of-plain ns (d ∷ ds) name =
-    elim (is_same name d.name) as (λ b. cond b (Some (text_at ns d.root)) (value_of (plain ns ds) name) ≡ option_map (text_at ns) (option_map (λ (e : Doc). e.root) (cond b (Some d) (book.doc_of ds name))))
+    elim (is_same name d.name) as (λ b. cond b (Some (text_of ns d.root)) (value_of (plain ns ds) name) ≡ option_map (text_of ns) (option_map (λ (e : Doc). e.root) (cond b (Some d) (book.doc_of ds name))))
     [ true ↦ refl | false ↦ value_of-plain ns ds name ]
 
 pub live_root : (ns : List Node) (ds : List Doc) (name : List ℕ) (root : Option NodeId) → AreLive ns ds → book.root_of ds name ≡ Some root → IsLive ns root

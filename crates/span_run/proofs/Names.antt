@@ -1,4 +1,5 @@
 -- Names from std and from the layers below that the proofs of this crate use, each re-exported from its declaration.
+pub use Rattle.doc_book.specs.Texts.{AreLive, plain}
 pub use Rattle.doc_book.specs.declared.Doc.{Doc}
 pub use Rattle.doc_compact.proofs.Reached.{live-at}
 pub use Rattle.edge_io.specs.Causes.{Rose}
@@ -6,7 +7,6 @@ pub use Rattle.edge_io.specs.Files.{AllowsReads, AllowsWrites, DeniesReads, Deni
 pub use Rattle.edit_expr.proofs.EvalLemmas.{AreLive-grows, plain-grows}
 pub use Rattle.edit_expr.specs.Eval.{eval, greatest, operations, Outcome}
 pub use Rattle.edit_expr.specs.Expressions.{ExprReads}
-pub use Rattle.edit_expr.specs.Values.{AreLive, plain, text_at}
 pub use Rattle.edit_expr.specs.declared.expr.Expr.{Expr}
 pub use Rattle.list_all.specs.Page.{IsPageOf, Page}
 pub use Rattle.marker_dfa.specs.Deterministic.{DeterministicAutomaton, IsDeterministic}
@@ -25,13 +25,13 @@ pub use Rattle.script_syntax.specs.declared.form.Command.{Command}
 pub use Rattle.slp_image.specs.Image.{image, Meaning}
 pub use Rattle.slp_model.proofs.NodesLemmas.{Grows-length, Grows-none, Grows-trans}
 pub use Rattle.slp_model.proofs.ShapeLemmas.{shape-text}
-pub use Rattle.slp_model.specs.Nodes.{Grows, IsLive, pair_weight, root_tree}
+pub use Rattle.slp_model.specs.Nodes.{Grows, IsLive, pair_weight, root_tree, text_of}
 pub use Rattle.slp_model.specs.Tree.{root_leaves, root_text}
 pub use Rattle.slp_model.specs.declared.Node.{Node}
 pub use Rattle.slp_model.specs.declared.NodeId.{NodeId}
 pub use Rattle.span_cursor.specs.Tuples.{HasOtherNames, IsTupleText, TupleText}
 pub use Rattle.span_enum.proofs.Pages.{after-first, after-none, first-after, none-after}
-pub use Rattle.span_enum.specs.Listing.{Listing, text_of}
+pub use Rattle.span_enum.specs.Listing.{Listing}
 pub use Rattle.span_enum.specs.Members.{AreAnswersOf, IsFirstMember, NoMemberLeft, Tuple}
 pub use Rattle.span_language.specs.Allowance.{Allowance, answers_steps, both_of, Counters, counters, edit_limit, IsAllowed, IsPaid, load_limit, no_steps, PaysFor, PaysForPart, replace_steps}
 pub use Rattle.span_language.specs.Counts.{Compacts, IsOnce, Places, PlacesPart, Registers}

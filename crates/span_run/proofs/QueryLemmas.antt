@@ -4,7 +4,7 @@ use Rattle.span_run.proofs.Names.{Held, Holds, inl, inr, IsAnswer, IsAnswered, I
 use Rattle.span_run.proofs.Names.{IsSome, IsTextRefusal, IsTextRefused, IsTrue, IsTupleOf, IsUnread, IsWordPaid, IsWordRefusal, IsYesOrNo, length, List}
 use Rattle.span_run.proofs.Names.{most_looks, Named, names_of, no_steps, no_text, Node, NodeId, None, NoSuchDocument, NoSuchQuery, ok_text, Option, option_map}
 use Rattle.span_run.proofs.Names.{OtherVariables, PaysFor, plain, Query, question_of, Quiet, refl, Refusal, refusal_text, Refused, rules, Some, State, subst}
-use Rattle.span_run.proofs.Names.{sym, taken_out, text_at, Told, true, Tuple, TupleText, Unread, value_of, with_queries, World, world, yes_text, ℕ, ◌+◌, ◌↔◌}
+use Rattle.span_run.proofs.Names.{sym, taken_out, text_of, Told, true, Tuple, TupleText, Unread, value_of, with_queries, World, world, yes_text, ℕ, ◌+◌, ◌↔◌}
 use Rattle.span_run.proofs.Names.{◌∙◌, ◌≡◌, ◌≤◌}
 use Rattle.script_syntax.specs.declared.form.Command.TheVariants as form
 use Rattle.query_book.specs.Registering.{IsRefused as IsUnregistered}
@@ -37,11 +37,11 @@ answered Holds number queries bytes name b told reply is named accepted true_lin
     decided false h t f = inr ((λ held. let no : IsTrue false = h.1 held in search rules), f refl)
 
 -- the text of a document in a store
-pub document_is : (ns : List Node) (ds : List Doc) (name : List ℕ) (root : Option NodeId) → book.root_of ds name ≡ Some root → value_of (plain ns ds) name ≡ Some (text_at ns root)
-document_is ns ds name root there = value_of-plain ns ds name ∙ ap (option_map (text_at ns)) there
+pub document_is : (ns : List Node) (ds : List Doc) (name : List ℕ) (root : Option NodeId) → book.root_of ds name ≡ Some root → value_of (plain ns ds) name ≡ Some (text_of ns root)
+document_is ns ds name root there = value_of-plain ns ds name ∙ ap (option_map (text_of ns)) there
 
 pub document_lacks : (ns : List Node) (ds : List Doc) (name : List ℕ) → book.root_of ds name ≡ None → value_of (plain ns ds) name ≡ None
-document_lacks ns ds name missing = value_of-plain ns ds name ∙ ap (option_map (text_at ns)) missing
+document_lacks ns ds name missing = value_of-plain ns ds name ∙ ap (option_map (text_of ns)) missing
 
 test_carries : (w : World) (number : ℕ) (query name text : List ℕ) (told : Told) (reply : List ℕ) → value_of w.state.documents name ≡ Some text → IsAnswered (λ q. HasAnswer q text) number w.state.queries query told reply
     → Carries w number (form.Nonempty query name) told reply w

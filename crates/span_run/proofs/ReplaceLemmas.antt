@@ -2,7 +2,7 @@
 use Rattle.span_run.proofs.Names.{ap, ArePartlyAt, AreSources, arith, at, Carries, Chooses, counters, covered_of, Documents, Entry, Files, Held, inl, inr}
 use Rattle.span_run.proofs.Names.{IsChosenOf, IsHeld, IsReplacing, length, List, looks_limit, min, most_spans, Named, names_of, NotOneVariable, Option}
 use Rattle.span_run.proofs.Names.{option_map, PaysFor, put, queries_of, Query, refl, refusal_text, Refused, replace_steps, replaced, ReplaceRefusal, Replaces}
-use Rattle.span_run.proofs.Names.{Result, same_Some, Serves, Some, Span, State, state_of, Stays, subst, sum_of, sym, text_at, Told, TooLong, TooManyMatches}
+use Rattle.span_run.proofs.Names.{Result, same_Some, Serves, Some, Span, State, state_of, Stays, subst, sum_of, sym, text_of, Told, TooLong, TooManyMatches}
 use Rattle.span_run.proofs.Names.{value_of, with_documents, World, world, ℕ, ◌*◌, ◌+◌, ◌<◌, ◌∙◌, ◌≡◌, ◌≤◌}
 use Rattle.span_run.proofs.BookLemmas.{query_of}
 use Rattle.script_syntax.specs.declared.form.Command.TheVariants as form
@@ -31,7 +31,7 @@ module _ (st : State) (files : Option Files) (number : ℕ) (name query source b
 
 -- the inputs of a replacement, as texts
 pub is_replacing : (h : Held) (files : Option Files) (query source by : List ℕ) (s : Sources) → AreSources h query source by s → (q : Query) → value_of (queries_of h.book) query ≡ Some q
-    → IsReplacing (world (state_of h) files) query source by q (text_at h.store s.root) (text_at h.store s.other)
+    → IsReplacing (world (state_of h) files) query source by q (text_of h.store s.root) (text_of h.store s.other)
 is_replacing h files query source by s a q there = record {
   document = document_is h.store h.docs source s.root a.root;
   put_there = document_is h.store h.docs by s.other a.other;
@@ -48,11 +48,11 @@ chosen_before old new name asked text result before after same is h =
 -- an allocation failed while the spans were chosen, or for the reply
 pub choose_stops : (h : Held) (book : List Entry) (number : ℕ) (files : Option Files) (faults looks more pairs p q : ℕ) (name query source by : List ℕ) (s : Sources) (result : Result (List Span) ReplaceRefusal) → IsHeld h → Serves h.store book
     → queries_of book ≡ queries_of h.book → ArePartlyAt (length h.store) (covered_of h.book) (covered_of book) → q + sum_of (covered_of h.book) ≡ p + sum_of (covered_of book)
-    → AreSources h query source by s → Chooses (queries_of book) s.query (text_at h.store s.root) result looks more
+    → AreSources h query source by s → Chooses (queries_of book) s.query (text_of h.store s.root) result looks more
     → Stays (at h files faults looks pairs p) number (form.ReplaceDoc name query source by) (at (record h { book = book }) files faults more pairs q) stop.NoMemory
 choose_stops h book number files faults looks more pairs p q name query source by s result is serves same partly steps sources choice =
-    let text = text_at h.store s.root in
-    let other = text_at h.store s.other in
+    let text = text_of h.store s.root in
+    let other = text_of h.store s.other in
     let chosen = chosen_before (queries_of h.book) (queries_of book) s.query query text result looks more same sources.name choice in
     let replacing = is_replacing h files query source by s sources chosen.of chosen.there in
     placed_stops h book number (form.ReplaceDoc name query source by) files faults looks more pairs p q is serves same partly steps

@@ -3,11 +3,11 @@ use Rattle.std.specs.Prelude.{◌≡◌, ℕ, ◌≤◌, ◌^◌, List, [], ◌�
 use Rattle.slp_model.specs.declared.Node.{Node}
 use Rattle.marker_dfa.specs.Deterministic.{DeterministicAutomaton}
 use Rattle.state_tables.specs.Dictionary.{AreTables, Dictionary}
-use Rattle.span_enum.specs.Listing.{text_of}
+use Rattle.slp_model.specs.Nodes.{text_of}
 use Rattle.span_enum.specs.Members.{Tuple, AreAnswersOf}
 use Rattle.span_types.specs.Query.{Query}
 use Rattle.doc_book.specs.declared.Doc.{Doc}
-use Rattle.edit_expr.specs.Values.{AreLive, text_at}
+use Rattle.doc_book.specs.Texts.{AreLive}
 use Rattle.span_language.specs.Listed.{AreListed, doc_line, done_line, first_page_text}
 use Rattle.span_language.specs.State.{Documents, Named, value_of}
 
@@ -18,7 +18,7 @@ pub record IsRegistered (queries : Named Query) (name : List ℕ) : Type 0 where
 
 -- no text is longer than the maximum
 abbrev pub AreShort : List Node → List Doc → Type 0
-AreShort ns ds = (place : ℕ) (d : Doc) → slice_get ds place ≡ Some d → length (text_at ns d.root) ≤ 2 ^ 48
+AreShort ns ds = (place : ℕ) (d : Doc) → slice_get ds place ≡ Some d → length (text_of ns d.root) ≤ 2 ^ 48
 
 -- for each document the list of the automaton's answers on its text
 abbrev pub AreAnswered : DeterministicAutomaton → List Node → List Doc → List (List Tuple) → Type 0

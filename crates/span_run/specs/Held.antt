@@ -5,8 +5,9 @@ use Rattle.slp_model.specs.declared.NodeId.{NodeId}
 use Rattle.slp_model.specs.declared.Node.{Node}
 use Rattle.slp_model.specs.Nodes.{pair_count}
 use Rattle.slp_model.specs.Thin.{AnyReaches}
-use Rattle.edit_expr.specs.Values.{AreLive, plain}
-pub use Rattle.doc_compact.specs.Roots.{AreKept, plain_versions, roots_of, version_roots}
+use Rattle.doc_book.specs.Texts.{AreLive, plain}
+pub use Rattle.doc_book.specs.Docs.{roots_of}
+pub use Rattle.doc_compact.specs.Roots.{AreKept, plain_versions, version_roots}
 use Rattle.query_book.specs.Book.{queries_of}
 use Rattle.query_book.specs.Serving.{Serves, covered_of}
 use Rattle.span_language.specs.State.{State, Named}

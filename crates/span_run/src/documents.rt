@@ -1,10 +1,10 @@
 //! The commands on documents.
 ghost use Rattle.std.specs.Prelude.{◌≡◌, ◌≤◌, ◌+◌, ◌^◌, length, IfOk, IfErr, OnErr, Option, ℕ};
-ghost use Rattle.slp_model.specs.Nodes.{Grows, IsLive};
+ghost use Rattle.slp_model.specs.Nodes.{Grows, IsLive, text_of};
 ghost use Rattle.edge_io.specs.Files.{Files};
 ghost use Rattle.edit_expr.specs.Eval as meaning;
 ghost use Rattle.edit_expr.specs.Eval.{greatest, operations};
-ghost use Rattle.edit_expr.specs.Values.{AreLive, plain, text_at};
+ghost use Rattle.doc_book.specs.Texts.{AreLive, plain};
 ghost use Rattle.script_syntax.specs.declared.form.Command.TheVariants as form;
 ghost use Rattle.span_language.specs.Allowance.{edit_limit};
 ghost use Rattle.span_language.specs.Replies.{entry_text, names_text, shown_range};
@@ -43,7 +43,7 @@ fn given_line(
     root: Option<NodeId>,
 ) -> Result<Answer, NoMemory>
     requires { IsLive store.now root }
-    ensures { IfOk result (λ answer. IsGiven name.now (text_at store.now root) answer.told answer.line.items) }
+    ensures { IfOk result (λ answer. IsGiven name.now (text_of store.now root) answer.told answer.line.items) }
 {
     let head = head_of(alloc, store, root)?;
     let len = root_len(store, root);
@@ -65,7 +65,7 @@ pub fn give(
     requires live { AreLive store.now docs.old }
     ensures live { AreLive store.now docs.new }
     ensures ok { IfOk result (λ answer. Assigns (plain store.now docs.old) number name
-        (Ok (text_at store.now root)) answer.told answer.line.items (plain store.now docs.new)) }
+        (Ok (text_of store.now root)) answer.told answer.line.items (plain store.now docs.new)) }
     ensures err { OnErr result (docs.new ≡ docs.old) }
 {
     let answer = given_line(alloc, store, &name, root)?;
@@ -196,7 +196,7 @@ fn show_range(
     j: u64,
 ) -> Result<Answer, NoMemory>
     requires { IsLive store.now root }
-    ensures { IfOk result (λ answer. IsShown number (shown_range (text_at store.now root) i j) answer.told answer.line.items) }
+    ensures { IfOk result (λ answer. IsShown number (shown_range (text_of store.now root) i j) answer.told answer.line.items) }
 {
     let len = root_len(store, root);
     if !is_within(i, j, len) {
@@ -242,7 +242,7 @@ fn entry_line(
     root: Option<NodeId>,
 ) -> Result<Vec<u8>, NoMemory>
     requires { IsLive store.now root }
-    ensures { IfOk result (λ line. line.items ≡ entry_text (name.now, text_at store.now root)) }
+    ensures { IfOk result (λ line. line.items ≡ entry_text (name.now, text_of store.now root)) }
 {
     let mut line = Vec::new(alloc);
     let len = root_len(store, root);

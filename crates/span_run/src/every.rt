@@ -3,7 +3,7 @@
 ghost use Rattle.std.specs.Prelude.{◌≡◌, ◌≤◌, ◌+◌, ◌++◌, ℕ, List, Option, Some, None, true, false, length, slice_get, OnOk, IfOk, IfErr};
 ghost use Rattle.std.specs.List.{flat_map};
 ghost use Rattle.edge_io.specs.Files.{Files};
-ghost use Rattle.edit_expr.specs.Values.{AreLive, plain};
+ghost use Rattle.doc_book.specs.Texts.{AreLive, plain};
 ghost use Rattle.script_syntax.specs.declared.form.Command.TheVariants as form;
 ghost use Rattle.span_enum.specs.Members.{Tuple as ATuple};
 ghost use Rattle.query_book.specs.Book.{queries_of};

@@ -1,8 +1,8 @@
 //! The commands on files.
 ghost use Rattle.std.specs.Prelude.{◌≡◌, ◌<◌, ◌≤◌, ◌+◌, ◌++◌, [], true, length, take, IfOk, IfErr, List, OnOk, OnErr, Some, ℕ};
-ghost use Rattle.slp_model.specs.Nodes.{Grows, IsLive};
+ghost use Rattle.slp_model.specs.Nodes.{Grows, IsLive, text_of};
 ghost use Rattle.edge_io.specs.Causes.{Rose};
-ghost use Rattle.edit_expr.specs.Values.{AreLive, plain, text_at};
+ghost use Rattle.doc_book.specs.Texts.{AreLive, plain};
 ghost use Rattle.report_text.specs.Reply.{refusal_text};
 ghost use Rattle.slp_image.specs.Fields.{kind_of};
 ghost use Rattle.slp_image.specs.Image.{image};
@@ -78,7 +78,7 @@ fn load_pieces<F: Shelf, P: Ledger>(
     requires { IsFileFront (F.files shelf.old) name.now load_size [] }
     ensures grows { Grows store.old store.new pairs.old pairs.new }
     ensures live { IfOk result (λ root. IsLive store.new root) }
-    ensures ok { IfOk result (λ root. IsWithin (F.files shelf.old) name.now load_size (text_at store.new root)) }
+    ensures ok { IfOk result (λ root. IsWithin (F.files shelf.old) name.now load_size (text_of store.new root)) }
     ensures refused { IfErr result (IsTurnedAway (F.files shelf.old) name.now load_size) }
     ensures paid { IsLoadPaid (F.files shelf.old) name.now pairs.old pairs.new }
     ensures files { F.files shelf.new ≡ F.files shelf.old }
@@ -110,7 +110,7 @@ fn load_from<F: Shelf, P: Ledger>(
 ) -> Result<Option<NodeId>, FileRefusal>
     ensures grows { Grows store.old store.new pairs.old pairs.new }
     ensures live { IfOk result (λ root. IsLive store.new root) }
-    ensures ok { IfOk result (λ root. IsWithin (F.files shelf.old) name.now load_size (text_at store.new root)) }
+    ensures ok { IfOk result (λ root. IsWithin (F.files shelf.old) name.now load_size (text_of store.new root)) }
     ensures refused { IfErr result (IsTurnedAway (F.files shelf.old) name.now load_size) }
     ensures paid { IsLoadPaid (F.files shelf.old) name.now pairs.old pairs.new }
     ensures files { F.files shelf.new ≡ F.files shelf.old }

@@ -2,7 +2,7 @@
 ghost use Rattle.std.specs.Prelude.{◌≡◌, ◌≤◌, ◌+◌, ◌*◌, ℕ, List, Option, Some, length, take, IfOk, IfErr};
 ghost use Rattle.edge_io.specs.Causes.{Rose};
 ghost use Rattle.edge_io.specs.Files.{Files};
-ghost use Rattle.edit_expr.specs.Values.{text_at};
+ghost use Rattle.slp_model.specs.Nodes.{text_of};
 ghost use Rattle.script_syntax.specs.declared.form.Command.TheVariants as form;
 ghost use Rattle.span_types.specs.Answers.{IsAfter};
 ghost use Rattle.span_types.specs.Fibonacci.{looks_limit};
@@ -94,10 +94,10 @@ fn answers_from<'a, L: Ledger>(
     requires subject { IsSubject subject.store.now subject.book.now subject.root }
     requires cursor { HasCursor (queries_of subject.book.now) query.now cursor }
     ensures listing { IfOk result (λ a. IsNamed (queries_of subject.entry.book.now) query.now
-        (IsListingOf (text_at subject.entry.store.now subject.entry.root) cursor a)) }
-    ensures list { IfNamed (queries_of subject.entry.book.now) query.now (HasList (text_at subject.entry.store.now subject.entry.root) cursor) }
+        (IsListingOf (text_of subject.entry.store.now subject.entry.root) cursor a)) }
+    ensures list { IfNamed (queries_of subject.entry.book.now) query.now (HasList (text_of subject.entry.store.now subject.entry.root) cursor) }
     ensures cost { looks.new ≤ looks.old + 2 * most_looks (value_of (queries_of subject.entry.book.now) query.now)
-        (text_at subject.entry.store.now subject.entry.root) }
+        (text_of subject.entry.store.now subject.entry.root) }
 {
     let Subject {
         alloc,
@@ -130,7 +130,7 @@ fn list_from<K: Sink, L: Ledger>(
     ensures told { IfOk result (λ told. told ≡ Told.Accepted) }
     ensures page { Lists (λ reply. Wrote result (outlet (K.written out.old) (K.faults out.old) (K.wants out.old)) reply
         (outlet (K.written out.new) (K.faults out.new) (K.wants out.new))) (queries_of subject.entry.book.now) query.now
-        (text_at subject.entry.store.now subject.entry.root) cursor limit looks.old looks.new }
+        (text_of subject.entry.store.now subject.entry.root) cursor limit looks.old looks.new }
     ensures want { WantsFor result (outlet (K.written out.old) (K.faults out.old) (K.wants out.old))
         (outlet (K.written out.new) (K.faults out.new) (K.wants out.new)) }
 {
@@ -155,7 +155,7 @@ fn list_root<K: Sink, L: Ledger>(
     ensures tells { (told : Told) × IfOk result (λ t. t ≡ told)
         × Tells (λ reply. Wrote result (outlet (K.written out.old) (K.faults out.old) (K.wants out.old)) reply
         (outlet (K.written out.new) (K.faults out.new) (K.wants out.new))) number (queries_of subject.entry.book.now) query
-        page.after (text_at subject.entry.store.now subject.entry.root) page.limit told looks.old looks.new }
+        page.after (text_of subject.entry.store.now subject.entry.root) page.limit told looks.old looks.new }
     ensures want { WantsFor result (outlet (K.written out.old) (K.faults out.old) (K.wants out.old))
         (outlet (K.written out.new) (K.faults out.new) (K.wants out.new)) }
 {

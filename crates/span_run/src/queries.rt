@@ -1,6 +1,6 @@
 //! The commands on queries.
 ghost use Rattle.std.specs.Prelude.{◌≡◌, ◌≤◌, IfOk, IfErr, Option, true, false, ◌+◌, ℕ};
-ghost use Rattle.edit_expr.specs.Values.{text_at};
+ghost use Rattle.slp_model.specs.Nodes.{text_of};
 ghost use Rattle.query_book.specs.Answers.{HasAnswer, HasVariablesOf, IsAnswer, most_looks};
 ghost use Rattle.edge_io.specs.Files.{Files};
 ghost use Rattle.script_syntax.specs.declared.form.Command.TheVariants as form;
@@ -65,10 +65,10 @@ fn test_root<L: Ledger>(
     looks: &mut Steps<L>,
 ) -> Result<Answer, NoMemory>
     requires { IsSubject subject.store.now subject.book.now subject.root }
-    ensures ok { IfOk result (λ answer. IsAnswered (λ q. HasAnswer q (text_at subject.entry.store.now subject.entry.root)) number
+    ensures ok { IfOk result (λ answer. IsAnswered (λ q. HasAnswer q (text_of subject.entry.store.now subject.entry.root)) number
         (queries_of subject.entry.book.now) query answer.told answer.line.items) }
     ensures cost { looks.new ≤ looks.old + most_looks (value_of (queries_of subject.entry.book.now) query)
-        (text_at subject.entry.store.now subject.entry.root) }
+        (text_of subject.entry.store.now subject.entry.root) }
 {
     let Subject {
         alloc,
@@ -98,10 +98,10 @@ fn has_tuple<L: Ledger>(
 ) -> Result<Answer, NoMemory>
     requires subject { IsSubject subject.store.now subject.book.now subject.root }
     requires tuple { HasVariablesOf (queries_of subject.book.now) query tuple.now }
-    ensures ok { IfOk result (λ answer. IsAnswered (λ q. IsAnswer q (text_at subject.entry.store.now subject.entry.root) tuple.now) number
+    ensures ok { IfOk result (λ answer. IsAnswered (λ q. IsAnswer q (text_of subject.entry.store.now subject.entry.root) tuple.now) number
         (queries_of subject.entry.book.now) query answer.told answer.line.items) }
     ensures cost { looks.new ≤ looks.old + most_looks (value_of (queries_of subject.entry.book.now) query)
-        (text_at subject.entry.store.now subject.entry.root) }
+        (text_of subject.entry.store.now subject.entry.root) }
 {
     let Subject {
         alloc,
@@ -131,8 +131,8 @@ fn has_root<L: Ledger>(
 ) -> Result<Answer, NoMemory>
     requires { IsSubject subject.store.now subject.book.now subject.root }
     ensures ok { IfOk result (λ answer. IsJudged number (queries_of subject.entry.book.now) query word.now
-        (text_at subject.entry.store.now subject.entry.root) answer.told answer.line.items) }
-    ensures cost { IsWordPaid (queries_of subject.entry.book.now) query word.now (text_at subject.entry.store.now subject.entry.root) looks.old looks.new }
+        (text_of subject.entry.store.now subject.entry.root) answer.told answer.line.items) }
+    ensures cost { IsWordPaid (queries_of subject.entry.book.now) query word.now (text_of subject.entry.store.now subject.entry.root) looks.old looks.new }
 {
     match tuple_of(subject.book, &query, word) {
         Ok(tuple) => {
@@ -157,8 +157,8 @@ fn ask_root<L: Ledger>(
 ) -> Result<Answer, NoMemory>
     requires { IsSubject subject.store.now subject.book.now subject.root }
     ensures ok { IfOk result (λ answer. IsReplied number (queries_of subject.entry.book.now) query word.now
-        (text_at subject.entry.store.now subject.entry.root) answer.told answer.line.items) }
-    ensures cost { IsReplyPaid (queries_of subject.entry.book.now) query word.now (text_at subject.entry.store.now subject.entry.root) looks.old looks.new }
+        (text_of subject.entry.store.now subject.entry.root) answer.told answer.line.items) }
+    ensures cost { IsReplyPaid (queries_of subject.entry.book.now) query word.now (text_of subject.entry.store.now subject.entry.root) looks.old looks.new }
 {
     match word {
         None => test_root(subject, number, query, looks),

@@ -2,8 +2,7 @@
 ghost use Rattle.std.specs.Prelude.{◌≡◌, ◌≤◌, ◌+◌, ◌^◌, [], length, take, IfOk, IfErr, OnOk};
 ghost use Rattle.edge_io.specs.Causes.{Rose};
 ghost use Rattle.span_run.specs.Reading.{IsFileFront, IsSound, IsTurnedAway};
-ghost use Rattle.slp_model.specs.Nodes.{IsLive};
-ghost use Rattle.edit_expr.specs.Values.{text_at};
+ghost use Rattle.slp_model.specs.Nodes.{IsLive, text_of};
 ghost use Rattle.span_types.specs.Ranges.{content, is_range};
 
 use edge_io::{Shelf, ShelfRefusal};
@@ -19,7 +18,7 @@ const HEAD: u64 = 32;
 /// The length of a root's text, in bytes.
 pub fn root_len(store: &Store, root: Option<NodeId>) -> u64
     requires { IsLive store.now root }
-    ensures len { result ≡ length (text_at store.now root) }
+    ensures len { result ≡ length (text_of store.now root) }
     ensures short { result ≤ 2 ^ 48 }
 {
     match root {
@@ -47,8 +46,8 @@ pub fn bytes_between(
     requires live { IsLive store.now root }
     requires first { 1 ≤ i }
     requires order { i ≤ j }
-    requires last { j ≤ length (text_at store.now root) + 1 }
-    ensures { IfOk result (λ bytes. bytes.items ≡ content (text_at store.now root) i j) }
+    requires last { j ≤ length (text_of store.now root) + 1 }
+    ensures { IfOk result (λ bytes. bytes.items ≡ content (text_of store.now root) i j) }
 {
     let range = RangeBytes::new(alloc, store, root, i, j)?;
     let bytes = range.collect(alloc)?;
@@ -58,7 +57,7 @@ pub fn bytes_between(
 /// The first 32 bytes of a root's text, or all of a shorter one.
 pub fn head_of(alloc: Global, store: &Store, root: Option<NodeId>) -> Result<Vec<u8>, NoMemory>
     requires { IsLive store.now root }
-    ensures { IfOk result (λ head. head.items ≡ take 32 (text_at store.now root)) }
+    ensures { IfOk result (λ head. head.items ≡ take 32 (text_of store.now root)) }
 {
     let end = root_len(store, root).min(HEAD) + 1;
     let head = bytes_between(alloc, store, root, 1, end)?;

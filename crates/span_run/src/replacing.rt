@@ -1,10 +1,10 @@
 //! The command `replace`: replaces chosen spans of a query's answers.
 ghost use Rattle.std.specs.Prelude.{◌≡◌, ◌≤◌, ◌+◌, ◌*◌, length, IfOk, IfErr, OnErr, None, Option, ℕ};
 ghost use Rattle.edge_io.specs.Files.{Files};
-ghost use Rattle.edit_expr.specs.Values.{AreLive, plain, text_at};
+ghost use Rattle.doc_book.specs.Texts.{AreLive, plain};
 ghost use Rattle.query_book.specs.Book.{queries_of};
 ghost use Rattle.script_syntax.specs.declared.form.Command.TheVariants as form;
-ghost use Rattle.slp_model.specs.Nodes.{Grows, IsLive};
+ghost use Rattle.slp_model.specs.Nodes.{Grows, IsLive, text_of};
 ghost use Rattle.span_language.specs.State.{world};
 ghost use Rattle.span_language.specs.Step.{IsUnreplaced};
 ghost use Rattle.span_replace.specs.Replaced as meaning;
@@ -84,9 +84,9 @@ fn choose<L: Ledger>(
 ) -> Result<Chosen, ReplaceRefusal>
     requires subject { IsSubject subject.store.now subject.book.now subject.root }
     requires one { HasOneVariable (queries_of subject.book.now) query.now }
-    ensures choice { Chooses (queries_of subject.entry.book.now) query.now (text_at subject.entry.store.now subject.entry.root)
+    ensures choice { Chooses (queries_of subject.entry.book.now) query.now (text_of subject.entry.store.now subject.entry.root)
         result looks.old looks.new }
-    ensures apart { IfOk result (λ spans. AreApart (length (text_at subject.entry.store.now subject.entry.root)) spans) }
+    ensures apart { IfOk result (λ spans. AreApart (length (text_of subject.entry.store.now subject.entry.root)) spans) }
 {
     // States a property of the store: a text has at most the 2^48 bytes for which the automaton is specified.
     let _len = root_len(subject.store, subject.root);
@@ -110,12 +110,12 @@ fn put_in_place<P: Ledger>(
     requires live { AreLive store.old docs.old }
     requires root { IsLive store.old sources.now.root }
     requires other { IsLive store.old sources.now.other }
-    requires apart { AreApart (length (text_at store.old sources.now.root)) spans.now }
+    requires apart { AreApart (length (text_of store.old sources.now.root)) spans.now }
     ensures live { AreLive store.new docs.new }
     ensures grows { Grows store.old store.new pairs.old pairs.new }
     ensures ok { IfOk result (λ answer. Replaces (plain store.old docs.old) number name
-        (meaning.replaced (text_at store.old sources.now.root) spans.now
-        (text_at store.old sources.now.other)) answer.told answer.line.items (plain store.new docs.new)) }
+        (meaning.replaced (text_of store.old sources.now.root) spans.now
+        (text_of store.old sources.now.other)) answer.told answer.line.items (plain store.new docs.new)) }
     ensures err { OnErr result (plain store.new docs.new ≡ plain store.old docs.old) }
     ensures cost { pairs.new ≤ pairs.old + 1770 * (length spans.now + 1) }
 {

@@ -5,7 +5,8 @@ use Rattle.std.proofs.lemmas.List.{get_or_append_left}
 use Rattle.std.proofs.lemmas.Option.{slice_get_within, get_or_from_slice_get, slice_get-get_or}
 use Rattle.state_tables.specs.Table.{Row}
 use Rattle.state_tables.specs.Branch.{root_of, branch_of}
-use Rattle.state_tables.specs.Search.{slot_of, Leads, LeadsTo, IsSearchTree, Extends, IsAbsent, IsOpen}
+use Rattle.node_store.specs.SearchTree.{Extends}
+use Rattle.state_tables.specs.Search.{slot_of, Leads, LeadsTo, IsSearchTree, IsAbsent, IsOpen}
 
 -- links that stay lead where they led
 leads-on : (roots : ℕ) (t : List Row) (old new : List ℕ) → Extends old new → (k depth slot i : ℕ) → Leads roots t old k depth slot i → Leads roots t new k depth slot i

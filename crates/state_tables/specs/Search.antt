@@ -1,5 +1,6 @@
 -- Tables that are found by the bits of their digests.
 use Rattle.std.specs.Prelude.{◌≡◌, ◌≢◌, ◌⊎◌, ℕ, zero, suc, ◌+◌, ◌*◌, ◌<◌, ◌≤◌, ◌++◌, List, [], ◌∷◌, length, slice_get, get_or, Some}
+use Rattle.node_store.specs.SearchTree.{Extends}
 use Rattle.state_tables.specs.Table.{Row}
 use Rattle.state_tables.specs.Branch.{root_of, branch_of}
 use Rattle.state_tables.specs.declared.table_set.End.{End}
@@ -24,10 +25,6 @@ pub record IsSearchTree (roots : ℕ) (tables : List (List Row)) (count : ℕ) (
   pub few : count ≤ roots
   pub later : (slot i : ℕ) → get_or links slot 0 ≡ suc i → (slot < roots + 2 * i) × (i < count)
   pub found : (i : ℕ) (t : List Row) → i < count → slice_get tables i ≡ Some t → LeadsTo roots t links 0 (root_of roots t) i
-
--- the links stay, and there may be more
-abbrev pub Extends : List ℕ → List ℕ → Type 0
-Extends old new = (slot i : ℕ) → get_or old slot 0 ≡ suc i → get_or new slot 0 ≡ suc i
 
 -- t isn't among the tables
 abbrev pub IsAbsent : List (List Row) → List Row → Type 0

@@ -2,7 +2,7 @@ use Rattle.std.proofs.Common.{sym, subst, take, suc, ℕ, add-one}
 use Rattle.slp_model.specs.Kept.{AddsExactly, RootReaches}
 use Rattle.slp_model.specs.Thin.{AnyReaches}
 use Rattle.doc_book.specs.declared.Doc.{Doc}
-use Rattle.doc_compact.specs.Roots.{roots_of}
+use Rattle.doc_book.specs.Docs.{roots_of}
 use Rattle.doc_compact.proofs.Reached.{adds-both, any-next, live-at}
 use Rattle.doc_compact.proofs.keep_docs.Goals as goal
 

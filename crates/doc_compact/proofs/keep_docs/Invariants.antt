@@ -1,7 +1,7 @@
 use Rattle.std.proofs.Common.{take}
 use Rattle.slp_model.specs.Kept.{AddsExactly, IsPlanOf}
 use Rattle.slp_model.specs.Thin.{AnyReaches}
-use Rattle.doc_compact.specs.Roots.{roots_of}
+use Rattle.doc_book.specs.Docs.{roots_of}
 use Rattle.doc_compact.proofs.keep_docs.Given as goal
 
 abbrev pub invariant-loop-place : goal.invariant-loop-place

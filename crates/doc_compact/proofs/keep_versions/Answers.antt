@@ -2,7 +2,8 @@ use Rattle.std.proofs.Common.{sym, subst, take, suc, ℕ, List, add-one}
 use Rattle.slp_model.specs.Kept.{AddsExactly}
 use Rattle.slp_model.specs.Thin.{AnyReaches}
 use Rattle.doc_book.specs.declared.Doc.{Doc}
-use Rattle.doc_compact.specs.Roots.{roots_of, version_roots}
+use Rattle.doc_book.specs.Docs.{roots_of}
+use Rattle.doc_compact.specs.Roots.{version_roots}
 use Rattle.doc_compact.proofs.Reached.{adds-both, any-next_version, kept-at}
 use Rattle.doc_compact.proofs.keep_versions.Goals as goal
 

@@ -1,13 +1,12 @@
 use Rattle.std.proofs.Common.{arith, ◌≡◌, ◌≤◌, ◌-◌, ◌++◌, ◌∙◌, ap, sym, length, take, drop, true, Ok}
 use Rattle.std.proofs.lemmas.List.{length-take}
 use Rattle.slp_model.specs.Tree.{root_height}
-use Rattle.slp_model.specs.Nodes.{root_tree}
+use Rattle.slp_model.specs.Nodes.{root_tree, text_of}
 use Rattle.slp_model.proofs.NodesLemmas.{Grows-none, Grows-trans}
 use Rattle.slp_model.proofs.TreeLemmas.{length-root_text}
 use Rattle.span_types.specs.Ranges.{is_range}
-use Rattle.edit_expr.specs.Values.{text_at}
 use Rattle.edit_expr.proofs.CutLemmas.{range-end, range-start, range-order, ranged-in, cut-lengths, take-most, take-shorter}
-use Rattle.edit_expr.proofs.EvalLemmas.{height-grows, leaves-grows, root_cost-most, text_at-grows}
+use Rattle.edit_expr.proofs.EvalLemmas.{height-grows, leaves-grows, root_cost-most, text_of-grows}
 use Rattle.edit_expr.proofs.edits.delete.Goals as goal
 
 pub returns-then-not-is_within-clause-grows : goal.returns-then-not-is_within-clause-grows
@@ -25,8 +24,8 @@ split-requires-clause-to g c =
 pub split-requires-2-clause-to : goal.split-requires-2-clause-to
 split-requires-2-clause-to g c =
     let within = sym c.is_within.ensures ∙ c.if-not-is_within.false in
-    let d = text_at c.args.store.now c.args.root in
-    let before : length (text_at c.split.new.store c.in_ok-before.before) ≡ length (take (c.args.j - 1) d) = ap length c.in_ok-before.ensures.before in
+    let d = text_of c.args.store.now c.args.root in
+    let before : length (text_of c.split.new.store c.in_ok-before.before) ≡ length (take (c.args.j - 1) d) = ap length c.in_ok-before.ensures.before in
     omega (
       arith,
       before,
@@ -44,12 +43,12 @@ returns-in_err-front-clause-grows g c = Grows-trans _ _ _ _ _ _ c.split.ensures.
 
 pub concat-requires-clause-short : goal.concat-requires-clause-short
 concat-requires-clause-short g c =
-    let d = text_at c.args.store.now c.args.root in
-    let b = text_at c.split.new.store c.in_ok-before.before in
+    let d = text_of c.args.store.now c.args.root in
+    let b = text_of c.split.new.store c.in_ok-before.before in
     let kept = leaves-grows c.split.new.store c.split-2.new.store c.split.new.pairs c.split-2.new.pairs c.split-2.ensures.grows c.in_ok-before.after c.in_ok-before.ensures.live.1 in
-    let after : length (text_at c.split.new.store c.in_ok-before.after) ≡ length (drop (c.args.j - 1) d) = ap length c.in_ok-before.ensures.after in
+    let after : length (text_of c.split.new.store c.in_ok-before.after) ≡ length (drop (c.args.j - 1) d) = ap length c.in_ok-before.ensures.after in
     let before : length b ≡ length (take (c.args.j - 1) d) = ap length c.in_ok-before.ensures.before in
-    let front : length (text_at c.split-2.new.store c.in_ok-front.front) ≡ length (take (c.args.i - 1) b) = ap length c.in_ok-front.ensures.before in
+    let front : length (text_of c.split-2.new.store c.in_ok-front.front) ≡ length (take (c.args.i - 1) b) = ap length c.in_ok-front.ensures.before in
     omega (
       arith,
       kept,
@@ -89,11 +88,11 @@ returns-clause-cost g c n h =
 pub returns-clause-value : goal.returns-clause-value
 returns-clause-value g c =
     let within : is_range c.args.i c.args.j c.root_len-len.result ≡ true = sym c.is_within.ensures ∙ c.if-not-is_within.false in
-    let d = text_at c.args.store.now c.args.root in
+    let d = text_of c.args.store.now c.args.root in
     let order : c.args.i - 1 ≤ c.args.j - 1 = omega (arith, range-order c.args.i c.args.j c.root_len-len.result within) in
-    let front : text_at c.split-2.new.store c.in_ok-front.front ≡ take (c.args.i - 1) d =
+    let front : text_of c.split-2.new.store c.in_ok-front.front ≡ take (c.args.i - 1) d =
     c.in_ok-front.ensures.before ∙ (ap (λ x. take (c.args.i - 1) x) c.in_ok-before.ensures.before ∙ take-shorter (c.args.i - 1) (c.args.j - 1) d order) in
-    let back : text_at c.split-2.new.store c.in_ok-before.after ≡ drop (c.args.j - 1) d =
-    text_at-grows c.split.new.store c.split-2.new.store c.split.new.pairs c.split-2.new.pairs c.split-2.ensures.grows c.in_ok-before.after c.in_ok-before.ensures.live.1 ∙ c.in_ok-before.ensures.after in
+    let back : text_of c.split-2.new.store c.in_ok-before.after ≡ drop (c.args.j - 1) d =
+    text_of-grows c.split.new.store c.split-2.new.store c.split.new.pairs c.split-2.new.pairs c.split-2.ensures.grows c.in_ok-before.after c.in_ok-before.ensures.live.1 ∙ c.in_ok-before.ensures.after in
     let whole = c.in_ok-whole.ensures.joined.joined ∙ (λ k. front k ++ back k) in
     (c.in_ok-whole.ensures.live, ranged-in c.args.i c.args.j c.root_len-len.result (length d) _ within c.root_len-len.ensures.len ∙ ap (λ x. Ok x) (sym whole))

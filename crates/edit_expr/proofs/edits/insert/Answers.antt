@@ -1,12 +1,11 @@
 use Rattle.std.proofs.Common.{arith, sym, ap, ◌∙◌, ◌≡◌, ◌≤◌, ◌+◌, ◌-◌, ◌^◌, ◌++◌, length, take, drop, true, Ok, length-append}
-use Rattle.slp_model.specs.Nodes.{root_tree}
+use Rattle.slp_model.specs.Nodes.{root_tree, text_of}
 use Rattle.slp_model.proofs.NodesLemmas.{Grows-none, Grows-trans}
 use Rattle.slp_model.proofs.TreeLemmas.{length-root_text}
 use Rattle.span_types.specs.Fibonacci.{height_limit}
 use Rattle.span_types.specs.Ranges.{is_range}
-use Rattle.edit_expr.specs.Values.{text_at}
 use Rattle.edit_expr.proofs.CutLemmas.{range-end, cut-lengths, ranged-in}
-use Rattle.edit_expr.proofs.EvalLemmas.{fitting-fits, height-grows, leaves-grows, root_cost-most, text_at-grows}
+use Rattle.edit_expr.proofs.EvalLemmas.{fitting-fits, height-grows, leaves-grows, root_cost-most, text_of-grows}
 use Rattle.edit_expr.proofs.edits.insert.Goals as goal
 
 pub returns-then-not-is_within-clause-grows : goal.returns-then-not-is_within-clause-grows
@@ -28,9 +27,9 @@ split-requires-clause-to g c =
 
 pub concat-requires-clause-short : goal.concat-requires-clause-short
 concat-requires-clause-short g c =
-    let d = text_at c.args.store.now c.args.root in
+    let d = text_of c.args.store.now c.args.root in
     let part = leaves-grows c.args.store.now c.split.new.store c.args.pairs.now c.split.new.pairs c.split.ensures.grows c.args.part c.requires.part in
-    let back : length (text_at c.split.new.store c.in_ok-front.back) ≡ length (drop (c.args.k - 1) d) = ap length c.in_ok-front.ensures.after in
+    let back : length (text_of c.split.new.store c.in_ok-front.back) ≡ length (drop (c.args.k - 1) d) = ap length c.in_ok-front.ensures.after in
     omega (
       arith,
       part,
@@ -58,13 +57,13 @@ returns-in_err-rest-clause-cost g c n h m =
 
 pub concat-requires-2-clause-short : goal.concat-requires-2-clause-short
 concat-requires-2-clause-short g c =
-    let d = text_at c.args.store.now c.args.root in
-    let e = text_at c.split.new.store c.args.part in
+    let d = text_of c.args.store.now c.args.root in
+    let e = text_of c.split.new.store c.args.part in
     let part = leaves-grows c.args.store.now c.split.new.store c.args.pairs.now c.split.new.pairs c.split.ensures.grows c.args.part c.requires.part in
     let kept = leaves-grows c.split.new.store c.concat.new.store c.split.new.pairs c.concat.new.pairs c.concat.ensures.grows c.in_ok-front.front c.in_ok-front.ensures.live.0 in
-    let front : length (text_at c.split.new.store c.in_ok-front.front) ≡ length (take (c.args.k - 1) d) = ap length c.in_ok-front.ensures.before in
-    let back : length (text_at c.split.new.store c.in_ok-front.back) ≡ length (drop (c.args.k - 1) d) = ap length c.in_ok-front.ensures.after in
-    let rest : length (text_at c.concat.new.store c.in_ok-rest.rest) ≡ length (e ++ text_at c.split.new.store c.in_ok-front.back) = ap length c.in_ok-rest.ensures.joined.joined in
+    let front : length (text_of c.split.new.store c.in_ok-front.front) ≡ length (take (c.args.k - 1) d) = ap length c.in_ok-front.ensures.before in
+    let back : length (text_of c.split.new.store c.in_ok-front.back) ≡ length (drop (c.args.k - 1) d) = ap length c.in_ok-front.ensures.after in
+    let rest : length (text_of c.concat.new.store c.in_ok-rest.rest) ≡ length (e ++ text_of c.split.new.store c.in_ok-front.back) = ap length c.in_ok-rest.ensures.joined.joined in
     omega (
       arith,
       part,
@@ -72,7 +71,7 @@ concat-requires-2-clause-short g c =
       front,
       back,
       rest,
-      length-append e (text_at c.split.new.store c.in_ok-front.back),
+      length-append e (text_of c.split.new.store c.in_ok-front.back),
       cut-lengths (c.args.k - 1) d,
       c.root_len-len.ensures.len,
       c.root_len-more.ensures.len,
@@ -116,13 +115,13 @@ returns-clause-cost g c n h m =
 pub returns-clause-value : goal.returns-clause-value
 returns-clause-value g c =
     let within : is_range c.args.k c.args.k c.root_len-len.result ≡ true = sym c.is_within.ensures ∙ c.if-not-is_within.false in
-    let d = text_at c.args.store.now c.args.root in
-    let e = text_at c.args.store.now c.args.part in
-    let part : text_at c.split.new.store c.args.part ≡ e =
-    text_at-grows c.args.store.now c.split.new.store c.args.pairs.now c.split.new.pairs c.split.ensures.grows c.args.part c.requires.part in
-    let front : text_at c.concat.new.store c.in_ok-front.front ≡ take (c.args.k - 1) d =
-    text_at-grows c.split.new.store c.concat.new.store c.split.new.pairs c.concat.new.pairs c.concat.ensures.grows c.in_ok-front.front c.in_ok-front.ensures.live.0 ∙ c.in_ok-front.ensures.before in
-    let rest : text_at c.concat.new.store c.in_ok-rest.rest ≡ e ++ drop (c.args.k - 1) d = c.in_ok-rest.ensures.joined.joined ∙ (λ j. part j ++ c.in_ok-front.ensures.after j) in
+    let d = text_of c.args.store.now c.args.root in
+    let e = text_of c.args.store.now c.args.part in
+    let part : text_of c.split.new.store c.args.part ≡ e =
+    text_of-grows c.args.store.now c.split.new.store c.args.pairs.now c.split.new.pairs c.split.ensures.grows c.args.part c.requires.part in
+    let front : text_of c.concat.new.store c.in_ok-front.front ≡ take (c.args.k - 1) d =
+    text_of-grows c.split.new.store c.concat.new.store c.split.new.pairs c.concat.new.pairs c.concat.ensures.grows c.in_ok-front.front c.in_ok-front.ensures.live.0 ∙ c.in_ok-front.ensures.before in
+    let rest : text_of c.concat.new.store c.in_ok-rest.rest ≡ e ++ drop (c.args.k - 1) d = c.in_ok-rest.ensures.joined.joined ∙ (λ j. part j ++ c.in_ok-front.ensures.after j) in
     let fits : length (take (c.args.k - 1) d ++ (e ++ drop (c.args.k - 1) d)) ≤ 2 ^ 48 =
     omega (
       arith,

@@ -3,10 +3,12 @@ use Rattle.std.proofs.lemmas.Result.{err_from_is_err_and}
 use Rattle.slp_model.proofs.NodesLemmas.{Grows-none, Grows-trans}
 use Rattle.edit_expr.specs.declared.expr.Expr.{Expr}
 use Rattle.edit_expr.specs.declared.refusal.EditRefusal.TheVariants.{NoMemory}
-use Rattle.edit_expr.specs.Eval.{Document, eval, greatest, inserted, joined, operations}
-use Rattle.edit_expr.specs.Values.{IsValue, plain, text_at}
+use Rattle.doc_book.specs.Texts.{Document, plain}
+use Rattle.edit_expr.specs.Eval.{eval, greatest, inserted, joined, operations}
+use Rattle.slp_model.specs.Nodes.{text_of}
+use Rattle.edit_expr.specs.Values.{IsValue}
 use Rattle.edit_expr.specs.Costs.{edit_cost, total_cost}
-use Rattle.edit_expr.proofs.EvalLemmas.{AreLive-grows, plain-grows, text_at-grows}
+use Rattle.edit_expr.proofs.EvalLemmas.{AreLive-grows, plain-grows, text_of-grows}
 use Rattle.edit_expr.proofs.PartLemmas.{IsPart, one_cost, refused_cost, second_refused, two_cost, two_value}
 use Rattle.edit_expr.proofs.evaluation.+value.Goals as goal
 
@@ -21,7 +23,7 @@ returns-in_ok-d-in-Extract-clause-grows g t c = Grows-trans _ _ _ _ _ _ c.value-
 pub returns-in_ok-d-in-Extract-clause-cost : goal.returns-in_ok-d-in-Extract-clause-cost
 returns-in_ok-d-in-Extract-clause-cost g t c n =
     let docs = plain c.args.store.now c.args.docs.now in
-    let d = text_at c.value-in-Extract.new.store c.in_ok-d-in-Extract.d in
+    let d = text_of c.value-in-Extract.new.store c.in_ok-d-in-Extract.d in
     let part : IsPart docs c.in-Extract.from.value d c.args.pairs.now c.value-in-Extract.new.pairs =
     subst (λ (e : Expr). IsPart docs e d c.args.pairs.now c.value-in-Extract.new.pairs) c.deref-in-Extract.ensures
     (record { value = c.in_ok-d-in-Extract.ensures.value.1; cost = c.value-in-Extract.ensures.cost }) in
@@ -36,7 +38,7 @@ returns-in_ok-d-in-Delete-clause-grows g t c = Grows-trans _ _ _ _ _ _ c.value-i
 pub returns-in_ok-d-in-Delete-clause-cost : goal.returns-in_ok-d-in-Delete-clause-cost
 returns-in_ok-d-in-Delete-clause-cost g t c n =
     let docs = plain c.args.store.now c.args.docs.now in
-    let d = text_at c.value-in-Delete.new.store c.in_ok-d-in-Delete.d in
+    let d = text_of c.value-in-Delete.new.store c.in_ok-d-in-Delete.d in
     let part : IsPart docs c.in-Delete.from.value d c.args.pairs.now c.value-in-Delete.new.pairs =
     subst (λ (e : Expr). IsPart docs e d c.args.pairs.now c.value-in-Delete.new.pairs) c.deref-in-Delete.ensures
     (record { value = c.in_ok-d-in-Delete.ensures.value.1; cost = c.value-in-Delete.ensures.cost }) in
@@ -51,7 +53,7 @@ returns-in_ok-d-in-Copy-clause-grows g t c = Grows-trans _ _ _ _ _ _ c.value-in-
 pub returns-in_ok-d-in-Copy-clause-cost : goal.returns-in_ok-d-in-Copy-clause-cost
 returns-in_ok-d-in-Copy-clause-cost g t c n =
     let docs = plain c.args.store.now c.args.docs.now in
-    let d = text_at c.value-in-Copy.new.store c.in_ok-d-in-Copy.d in
+    let d = text_of c.value-in-Copy.new.store c.in_ok-d-in-Copy.d in
     let part : IsPart docs c.in-Copy.from.value d c.args.pairs.now c.value-in-Copy.new.pairs =
     subst (λ (e : Expr). IsPart docs e d c.args.pairs.now c.value-in-Copy.new.pairs) c.deref-in-Copy.ensures
     (record { value = c.in_ok-d-in-Copy.ensures.value.1; cost = c.value-in-Copy.ensures.cost }) in
@@ -70,7 +72,7 @@ value-requires-in-Concat g t c κs within =
 pub returns-in_err-e-in-Concat : goal.returns-in_err-e-in-Concat
 returns-in_err-e-in-Concat g t c =
     let docs = plain c.args.store.now c.args.docs.now in
-    let d = text_at c.value.new.store c.in_ok-d-in-Concat.d in
+    let d = text_of c.value.new.store c.in_ok-d-in-Concat.d in
     let stays = plain-grows c.args.store.now c.value.new.store c.args.pairs.now c.value.new.pairs c.value.ensures.grows c.args.docs.now c.requires in
     let left : IsPart docs c.in-Concat.left.value d c.args.pairs.now c.value.new.pairs =
     subst (λ (e : Expr). IsPart docs e d c.args.pairs.now c.value.new.pairs) c.deref.ensures
@@ -93,18 +95,18 @@ returns-in_err-e-in-Concat g t c =
 pub returns-in_ok-e-in-Concat : goal.returns-in_ok-e-in-Concat
 returns-in_ok-e-in-Concat g t c =
     let docs = plain c.args.store.now c.args.docs.now in
-    let d = text_at c.value.new.store c.in_ok-d-in-Concat.d in
+    let d = text_of c.value.new.store c.in_ok-d-in-Concat.d in
     let stays = plain-grows c.args.store.now c.value.new.store c.args.pairs.now c.value.new.pairs c.value.ensures.grows c.args.docs.now c.requires in
     let left : IsPart docs c.in-Concat.left.value d c.args.pairs.now c.value.new.pairs =
     subst (λ (e : Expr). IsPart docs e d c.args.pairs.now c.value.new.pairs) c.deref.ensures
     (record { value = c.in_ok-d-in-Concat.ensures.value.1; cost = c.value.ensures.cost }) in
-    let e = text_at c.value-in-Concat.new.store c.in_ok-e-in-Concat.e in
+    let e = text_of c.value-in-Concat.new.store c.in_ok-e-in-Concat.e in
     let right : IsPart docs c.in-Concat.right.value e c.value.new.pairs c.value-in-Concat.new.pairs =
     subst (λ (f : Expr). IsPart docs f e c.value.new.pairs c.value-in-Concat.new.pairs) c.deref-in-Concat.ensures
     (subst (λ (p : List Document). IsPart p c.deref-in-Concat.result.now e c.value.new.pairs c.value-in-Concat.new.pairs) stays
     (record { value = c.in_ok-e-in-Concat.ensures.value.1; cost = c.value-in-Concat.ensures.cost })) in
-    let same : text_at c.value-in-Concat.new.store c.in_ok-d-in-Concat.d ≡ d =
-    text_at-grows c.value.new.store c.value-in-Concat.new.store c.value.new.pairs c.value-in-Concat.new.pairs c.value-in-Concat.ensures.grows c.in_ok-d-in-Concat.d c.in_ok-d-in-Concat.ensures.value.0 in
+    let same : text_of c.value-in-Concat.new.store c.in_ok-d-in-Concat.d ≡ d =
+    text_of-grows c.value.new.store c.value-in-Concat.new.store c.value.new.pairs c.value-in-Concat.new.pairs c.value-in-Concat.ensures.grows c.in_ok-d-in-Concat.d c.in_ok-d-in-Concat.ensures.value.0 in
     record {
       grows = Grows-trans _ _ _ _ _ _ (Grows-trans _ _ _ _ _ _ c.value.ensures.grows c.value-in-Concat.ensures.grows) c.join.ensures.grows;
       value = subst (λ (f : Expr). IsValue c.join.new.store c.join.result (eval docs f)) (sym c.in-Concat.is)
@@ -128,7 +130,7 @@ value-requires-in-Insert-2 g t c κs within =
 pub returns-in_err-e-in-Insert : goal.returns-in_err-e-in-Insert
 returns-in_err-e-in-Insert g t c =
     let docs = plain c.args.store.now c.args.docs.now in
-    let d = text_at c.value-in-Insert.new.store c.in_ok-d-in-Insert.d in
+    let d = text_of c.value-in-Insert.new.store c.in_ok-d-in-Insert.d in
     let stays = plain-grows c.args.store.now c.value-in-Insert.new.store c.args.pairs.now c.value-in-Insert.new.pairs c.value-in-Insert.ensures.grows c.args.docs.now c.requires in
     let left : IsPart docs c.in-Insert.into.value d c.args.pairs.now c.value-in-Insert.new.pairs =
     subst (λ (e : Expr). IsPart docs e d c.args.pairs.now c.value-in-Insert.new.pairs) c.deref-in-Insert.ensures
@@ -151,18 +153,18 @@ returns-in_err-e-in-Insert g t c =
 pub returns-in_ok-e-in-Insert : goal.returns-in_ok-e-in-Insert
 returns-in_ok-e-in-Insert g t c =
     let docs = plain c.args.store.now c.args.docs.now in
-    let d = text_at c.value-in-Insert.new.store c.in_ok-d-in-Insert.d in
+    let d = text_of c.value-in-Insert.new.store c.in_ok-d-in-Insert.d in
     let stays = plain-grows c.args.store.now c.value-in-Insert.new.store c.args.pairs.now c.value-in-Insert.new.pairs c.value-in-Insert.ensures.grows c.args.docs.now c.requires in
     let left : IsPart docs c.in-Insert.into.value d c.args.pairs.now c.value-in-Insert.new.pairs =
     subst (λ (e : Expr). IsPart docs e d c.args.pairs.now c.value-in-Insert.new.pairs) c.deref-in-Insert.ensures
     (record { value = c.in_ok-d-in-Insert.ensures.value.1; cost = c.value-in-Insert.ensures.cost }) in
-    let e = text_at c.value-in-Insert-2.new.store c.in_ok-e-in-Insert.e in
+    let e = text_of c.value-in-Insert-2.new.store c.in_ok-e-in-Insert.e in
     let right : IsPart docs c.in-Insert.what.value e c.value-in-Insert.new.pairs c.value-in-Insert-2.new.pairs =
     subst (λ (f : Expr). IsPart docs f e c.value-in-Insert.new.pairs c.value-in-Insert-2.new.pairs) c.deref-in-Insert-2.ensures
     (subst (λ (p : List Document). IsPart p c.deref-in-Insert-2.result.now e c.value-in-Insert.new.pairs c.value-in-Insert-2.new.pairs) stays
     (record { value = c.in_ok-e-in-Insert.ensures.value.1; cost = c.value-in-Insert-2.ensures.cost })) in
-    let same : text_at c.value-in-Insert-2.new.store c.in_ok-d-in-Insert.d ≡ d =
-    text_at-grows c.value-in-Insert.new.store c.value-in-Insert-2.new.store c.value-in-Insert.new.pairs c.value-in-Insert-2.new.pairs c.value-in-Insert-2.ensures.grows c.in_ok-d-in-Insert.d c.in_ok-d-in-Insert.ensures.value.0 in
+    let same : text_of c.value-in-Insert-2.new.store c.in_ok-d-in-Insert.d ≡ d =
+    text_of-grows c.value-in-Insert.new.store c.value-in-Insert-2.new.store c.value-in-Insert.new.pairs c.value-in-Insert-2.new.pairs c.value-in-Insert-2.ensures.grows c.in_ok-d-in-Insert.d c.in_ok-d-in-Insert.ensures.value.0 in
     record {
       grows = Grows-trans _ _ _ _ _ _ (Grows-trans _ _ _ _ _ _ c.value-in-Insert.ensures.grows c.value-in-Insert-2.ensures.grows) c.insert.ensures.grows;
       value = subst (λ (f : Expr). IsValue c.insert.new.store c.insert.result (eval docs f)) (sym c.in-Insert.is)

@@ -1,7 +1,7 @@
 use Rattle.std.proofs.Common.{◌≡◌, ℕ, ◌+◌, ◌*◌, arith}
 use Rattle.span_types.specs.Fibonacci.{height_limit}
 use Rattle.edit_expr.specs.Eval.{greatest, operations}
-use Rattle.edit_expr.specs.Values.{plain}
+use Rattle.doc_book.specs.Texts.{plain}
 use Rattle.edit_expr.specs.Costs.{edit_cost}
 use Rattle.edit_expr.proofs.EvalLemmas.{total_cost-is}
 use Rattle.edit_expr.proofs.evaluation.eval.Goals as goal

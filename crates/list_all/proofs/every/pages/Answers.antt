@@ -2,7 +2,7 @@ use Rattle.list_all.proofs.Rows.{roots-live, pages-every}
 use Rattle.list_all.proofs.Sharing.{have-within, have-pages}
 use Rattle.list_all.specs.Page.{IsPageOf}
 use Rattle.list_all.specs.Places.{pages_at}
-use Rattle.span_enum.specs.Listing.{text_of}
+use Rattle.slp_model.specs.Nodes.{text_of}
 use Rattle.list_all.proofs.every.pages.Goals as goal
 
 pub in_worthy_pieces-requires-clause-can : goal.in_worthy_pieces-requires-clause-can

@@ -1,10 +1,10 @@
 use Rattle.std.proofs.Common.{rules, arith, ◌≡◌, ◌+◌, ◌≤◌, ◌^◌, ◌++◌, ◌∷◌, length, sym, subst, append_assoc}
 use Rattle.std.proofs.lemmas.Result.{IfOk-equal}
 use Rattle.slp_model.specs.Tree.{text, leaves, height}
-use Rattle.slp_model.specs.Nodes.{tree}
+use Rattle.slp_model.specs.Nodes.{tree, AreLiveIds}
 use Rattle.slp_model.proofs.NodesLemmas.{Grows-trans, Grows-none}
 use Rattle.pair_loader.specs.Blocks.{IsFull}
-use Rattle.pair_loader.specs.Pending.{AreRising, stack_of, stack_text, AreLive}
+use Rattle.pair_loader.specs.Pending.{AreRising, stack_of, stack_text}
 use Rattle.pair_loader.proofs.BlockLemmas.{IsPopped, popped, stack_of-grows, live-grows, pair-rising}
 use Rattle.pair_loader.proofs.blocks.+push_block.Goals as goal
 
@@ -20,7 +20,7 @@ push_block-requires g t c =
     let old : AreRising (height (tree c.args.store.now c.args.block.index)) (tree c.args.store.now c.in-Some.top.index ∷ stack_of c.args.store.now c.pop.new.self.items) = subst (λ w. AreRising (height (tree c.args.store.now c.args.block.index)) w) p.stack (subst (λ h. AreRising h (stack_of c.args.store.now c.args.blocks.now.items)) c.requires.height c.requires.rising) in
     let up = pair-rising (stack_of c.args.store.now c.pop.new.self.items) (tree c.args.store.now c.in-Some.top.index) (tree c.args.store.now c.args.block.index) old c.requires.full same in
     let stays : stack_of c.pair.new.self c.pop.new.self.items ≡ stack_of c.args.store.now c.pop.new.self.items = stack_of-grows c.args.store.now c.pair.new.self c.args.pairs.now c.pair.new.pairs c.pair.ensures.grows c.pop.new.self.items p.live in
-    let blocks : AreLive c.pair.new.self c.pop.new.self.items = live-grows c.args.store.now c.pair.new.self c.args.pairs.now c.pair.new.pairs c.pair.ensures.grows c.pop.new.self.items p.live in
+    let blocks : AreLiveIds c.pair.new.self c.pop.new.self.items = live-grows c.args.store.now c.pair.new.self c.args.pairs.now c.pair.new.pairs c.pair.ensures.grows c.pop.new.self.items p.live in
     let full : IsFull (tree c.pair.new.self c.in_ok-pair.pair.index) = rw c.in_ok-pair.ensures.tree up.0 in
     let high : c.args.height + 1 ≡ height (tree c.pair.new.self c.in_ok-pair.pair.index) = rw c.in_ok-pair.ensures.tree (omega (arith, same, c.requires.height)) in
     let rising : AreRising (c.args.height + 1) (stack_of c.pair.new.self c.pop.new.self.items) = rw (stays, high, c.in_ok-pair.ensures.tree) up.1 in

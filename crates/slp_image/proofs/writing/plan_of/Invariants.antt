@@ -1,8 +1,8 @@
 use Rattle.std.proofs.Common.{take}
 use Rattle.slp_model.specs.Kept.{IsPlanOf}
 use Rattle.slp_model.specs.Thin.{KeepsExactly}
-use Rattle.slp_image.specs.Saved.{roots}
+use Rattle.doc_book.specs.Docs.{roots_of}
 use Rattle.slp_image.proofs.writing.plan_of.Given as goal
 
 abbrev pub invariant-loop-place : goal.invariant-loop-place
-invariant-loop-place l = record { plan : IsPlanOf l.store l.plan; kept : KeepsExactly l.store l.plan (roots (take l.place l.docs)) }
+invariant-loop-place l = record { plan : IsPlanOf l.store l.plan; kept : KeepsExactly l.store l.plan (roots_of (take l.place l.docs)) }

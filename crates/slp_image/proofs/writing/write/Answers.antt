@@ -4,7 +4,7 @@ use Rattle.slp_model.specs.declared.Node.{Node}
 use Rattle.slp_model.specs.Kept.{IsPlanOf}
 use Rattle.slp_model.specs.Distinct.{AreDistinct}
 use Rattle.slp_model.specs.Thin.{rank, thin, IsThinOf}
-use Rattle.slp_image.specs.Save.{IsReached, IsCount, roots_of}
+use Rattle.slp_image.specs.Save.{IsReached, IsCount, root_indices}
 use Rattle.slp_image.specs.Saved.{AreSaved, KeepsRoots}
 use Rattle.slp_image.specs.Written.{records_bytes}
 use Rattle.slp_image.proofs.WriteLemmas.{front}
@@ -51,5 +51,5 @@ returns-clause-trees c = whole-trees c.args.store.now c.args.docs.now c.push_doc
 
 pub returns-clause-nodes : goal.returns-clause-nodes
 returns-clause-nodes c =
-    subst (λ (n : ℕ). IsCount (IsReached c.args.store.now (roots_of c.args.docs.now)) n) (sym (count-of c))
+    subst (λ (n : ℕ). IsCount (IsReached c.args.store.now (root_indices c.args.docs.now)) n) (sym (count-of c))
     (kept-count c.args.store.now c.in_ok-plan.plan (thin c.args.store.now c.in_ok-plan.plan) c.args.docs.now (thin-of c) c.in_ok-plan.ensures.kept)

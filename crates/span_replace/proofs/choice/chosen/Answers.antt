@@ -2,7 +2,7 @@ use Rattle.std.proofs.Common.{◌≡◌, ◌+◌, arith, refl, sym, ap, subst, �
 use Rattle.span_types.specs.Fibonacci.{looks_limit}
 use Rattle.span_types.specs.Places.{IsSpan, IsSpanOr}
 use Rattle.span_types.specs.declared.tuple.Span.{Span}
-use Rattle.span_enum.specs.Listing.{text_of}
+use Rattle.slp_model.specs.Nodes.{text_of}
 use Rattle.span_enum.proofs.Exists.{answers-exist}
 use Rattle.span_replace.proofs.Choices.{Picks, picks-first, picks-step, picks-all, picks-more, paid-most, apart-of, some-looks, paid-first, paid-next}
 use Rattle.span_replace.proofs.choice.chosen.Goals as goal

@@ -1,7 +1,7 @@
 use Rattle.std.proofs.Common.{◌+◌, ◌*◌, ◌-◌, ◌≤◌, length}
 use Rattle.span_types.specs.Fibonacci.{looks_limit}
 use Rattle.span_types.specs.Places.{IsSpanOr}
-use Rattle.span_enum.specs.Listing.{text_of}
+use Rattle.slp_model.specs.Nodes.{text_of}
 use Rattle.span_replace.proofs.Choices.{Picks}
 use Rattle.span_replace.proofs.choice.chosen.Given as goal
 

@@ -1,6 +1,6 @@
 use Rattle.std.proofs.Common.{◌≡◌, ◌+◌, ◌-◌, arith, ap, sym, subst, refl, ◌∙◌, ◌++◌, length, take, drop}
 use Rattle.slp_model.proofs.NodesLemmas.{Grows-none, Grows-trans}
-use Rattle.span_enum.specs.Listing.{text_of}
+use Rattle.slp_model.specs.Nodes.{text_of}
 use Rattle.span_replace.specs.Replaced.{AreApartFrom, replaced_from}
 use Rattle.span_replace.proofs.Grown.{text-grows}
 use Rattle.span_replace.proofs.Spliced.{at_place, next-at, rest-at, whole-next, fits-next, rest-next, end-next}

@@ -1,6 +1,5 @@
 use Rattle.std.proofs.Common.{◌≡◌, ◌+◌, ◌-◌, ◌*◌, ◌≤◌, ◌++◌, length, drop}
-use Rattle.slp_model.specs.Nodes.{Grows, IsLive}
-use Rattle.span_enum.specs.Listing.{text_of}
+use Rattle.slp_model.specs.Nodes.{Grows, IsLive, text_of}
 use Rattle.span_replace.specs.Replaced.{AreApartFrom, replaced, replaced_from}
 use Rattle.span_replace.proofs.replacement.replace_all.Given as goal
 

@@ -1,7 +1,7 @@
 use Rattle.std.proofs.Common.{◌≡◌, ◌+◌, ◌-◌, arith, ap, ◌∙◌, ◌++◌, length, take, drop, length-append}
 use Rattle.std.proofs.lemmas.List.{length-take, drop-drop}
 use Rattle.slp_model.proofs.NodesLemmas.{Grows-trans}
-use Rattle.span_enum.specs.Listing.{text_of}
+use Rattle.slp_model.specs.Nodes.{text_of}
 use Rattle.span_replace.proofs.Grown.{live-grows, text-grows}
 use Rattle.span_replace.proofs.replacement.replace_next.Goals as goal
 

@@ -1,4 +1,4 @@
-use Rattle.span_run.proofs.Names.{ap, AreLive-grows, err_from_is_err_and, eval, plain, plain-grows, text_at, ◌∙◌}
+use Rattle.span_run.proofs.Names.{ap, AreLive-grows, err_from_is_err_and, eval, plain, plain-grows, text_of, ◌∙◌}
 use Rattle.span_run.proofs.Facts.{assigned_refusal, assigned_value}
 use Rattle.span_run.proofs.documents.assign.Goals as goal
 
@@ -20,7 +20,7 @@ returns-in_err-answer-in-Err-clause-err g c =
 
 pub returns-in_ok-answer-in-Ok-clause-ok : goal.returns-in_ok-answer-in-Ok-clause-ok
 returns-in_ok-answer-in-Ok-clause-ok g c =
-    assigned_value (plain c.args.store.now c.args.docs.now) (plain c.eval.new.store c.args.docs.now) (plain c.eval.new.store c.give.new.docs) c.args.number c.args.name (text_at c.eval.new.store c.in-Ok.root) (eval (plain c.args.store.now c.args.docs.now) c.args.expr.now) c.in_ok-answer-in-Ok.answer.told c.in_ok-answer-in-Ok.answer.line.items
+    assigned_value (plain c.args.store.now c.args.docs.now) (plain c.eval.new.store c.args.docs.now) (plain c.eval.new.store c.give.new.docs) c.args.number c.args.name (text_of c.eval.new.store c.in-Ok.root) (eval (plain c.args.store.now c.args.docs.now) c.args.expr.now) c.in_ok-answer-in-Ok.answer.told c.in_ok-answer-in-Ok.answer.line.items
     (plain-grows c.args.store.now c.eval.new.store c.args.pairs.now c.eval.new.pairs c.eval.ensures.grows c.args.docs.now c.requires) c.in-Ok.ensures.value.1 c.in_ok-answer-in-Ok.ensures.ok
 
 pub returns-in_ok-answer-in-Err-clause-live : goal.returns-in_ok-answer-in-Err-clause-live

@@ -1,4 +1,4 @@
-use Rattle.span_run.proofs.Names.{ap, AreLive, Doc, IsSome, List, plain, refl, state_of, subst, sym, text_at, ℕ, ◌∙◌}
+use Rattle.span_run.proofs.Names.{ap, AreLive, Doc, IsSome, List, plain, refl, state_of, subst, sym, text_of, ℕ, ◌∙◌}
 use Rattle.doc_book.specs.Docs as book
 use Rattle.script_syntax.specs.declared.form.Command.TheVariants as form
 use Rattle.span_run.proofs.Facts.{AreLive-taken_out, document_is, document_lacks, drop_carries, free_answers, passed_on, plain-taken_out, some_value, stays}
@@ -14,7 +14,7 @@ returns-in-Ok-clause-done c = λ files faults looks pairs places.
     let root = some_value (book.root_of h.docs c.args.name) there in
     free_answers h c.take_out.new.self c.args.number (form.DropDoc c.args.name) c.accepted.result files faults looks pairs places c.requires
     (subst (AreLive h.store) (sym c.take_out.ensures.rest) (AreLive-taken_out h.store h.docs c.bytes.result.now c.requires.live)) (λ no. no) (λ no. no) refl
-    (drop_carries (state_of h) (plain h.store c.take_out.new.self) c.args.number c.args.name (text_at h.store root.0) c.accepted.result.told c.accepted.result.line.items files
+    (drop_carries (state_of h) (plain h.store c.take_out.new.self) c.args.number c.args.name (text_of h.store root.0) c.accepted.result.told c.accepted.result.line.items files
     (document_is h.store h.docs c.args.name root.0 root.1)
     (ap (plain h.store) (c.take_out.ensures.rest ∙ ap (book.taken_out h.docs) c.bytes.ensures.value) ∙ plain-taken_out h.store h.docs c.args.name) c.accepted.ensures.0 (ap (λ v. v.items) c.accepted.ensures.1 ∙ c.in_ok-line.ensures))
 

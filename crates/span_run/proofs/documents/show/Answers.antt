@@ -1,4 +1,4 @@
-use Rattle.span_run.proofs.Names.{ap, Err, NoSuchDocument, option_map_or, refl, shown_range, state_of, sym, text_at, world, ◌∙◌}
+use Rattle.span_run.proofs.Names.{ap, Err, NoSuchDocument, option_map_or, refl, shown_range, state_of, sym, text_of, world, ◌∙◌}
 use Rattle.doc_book.specs.Docs as book
 use Rattle.script_syntax.specs.declared.form.Command.TheVariants as form
 use Rattle.span_run.proofs.Facts.{document_is, document_lacks, free_answers, live_root, none_of_err, passed_on, show_carries, some_of_ok, stays}
@@ -15,7 +15,7 @@ returns-in_ok-answer-in-Ok-clause-done c = λ files faults looks pairs places.
     let h = c.args.held.now in
     let a = c.in_ok-answer-in-Ok in
     free_answers h h.docs c.args.number (form.Show c.args.name c.args.i c.args.j) a.answer files faults looks pairs places c.requires c.requires.live (λ no. no) (λ no. no) refl
-    (show_carries (world (state_of h) files) c.args.number c.args.name c.args.i c.args.j (text_at h.store c.in-Ok.root) a.answer.told a.answer.line.items
+    (show_carries (world (state_of h) files) c.args.number c.args.name c.args.i c.args.j (text_of h.store c.in-Ok.root) a.answer.told a.answer.line.items
     (document_is h.store h.docs c.args.name c.in-Ok.root (ap (book.root_of h.docs) (sym c.bytes.ensures.value) ∙ some_of_ok _ _ _ c.in-Ok.ensures)) a.ensures)
 
 pub returns-in-Err-NoSuchDocument-clause-done : goal.returns-in-Err-NoSuchDocument-clause-done

@@ -1,5 +1,5 @@
 use Rattle.span_run.proofs.Names.{ap, AreLive-grows, arith, counters, height_limit, length, List, PaysFor, plain, plain-grows, refl, root_text, shape-text}
-use Rattle.span_run.proofs.Names.{state_of, subst, text_at, world, ℕ, ◌*◌, ◌+◌, ◌∙◌, ◌≡◌, ◌≤◌}
+use Rattle.span_run.proofs.Names.{state_of, subst, text_of, world, ℕ, ◌*◌, ◌+◌, ◌∙◌, ◌≡◌, ◌≤◌}
 use Rattle.script_syntax.specs.declared.form.Command.TheVariants as form
 use Rattle.span_run.proofs.Facts.{assigned_after, grown_answers, grown_stops, load_paid, part_of_paid, passed_on, text_carries}
 use Rattle.span_run.proofs.documents.text.Goals as goal
@@ -41,10 +41,10 @@ returns-clause-done g c = λ files faults looks places.
     let a = c.in_ok-answer in
     let command = form.Text c.args.name c.args.content in
     let w = world (state_of h) files in
-    let is : text_at l.new.store c.in_ok-root.root ≡ c.args.content = ap root_text c.in_ok-root.ensures.tree ∙ shape-text c.bytes.result.now ∙ c.bytes.ensures in
+    let is : text_of l.new.store c.in_ok-root.root ≡ c.args.content = ap root_text c.in_ok-root.ensures.tree ∙ shape-text c.bytes.result.now ∙ c.bytes.ensures in
     grown_answers h l.new.store c.give.new.docs c.args.number command a.answer files files faults faults looks c.args.pairs.now l.new.pairs places c.requires.held l.ensures.grows c.give.ensures.live (λ no. no) (λ no. no)
     (load_paid w c.args.name c.args.content looks c.args.pairs.now l.new.pairs (subst (λ (b : List ℕ). l.new.pairs ≤ c.args.pairs.now + length b + 4 * (height_limit (length b) + 1)) c.bytes.ensures l.ensures.cost))
     refl (omega arith)
     (text_carries (state_of h) (plain l.new.store c.give.new.docs) c.args.number c.args.name c.args.content a.answer.told a.answer.line.items files
-    (assigned_after (plain h.store h.docs) (plain l.new.store h.docs) (plain l.new.store c.give.new.docs) c.args.number c.args.name (text_at l.new.store c.in_ok-root.root) c.args.content a.answer.told a.answer.line.items
+    (assigned_after (plain h.store h.docs) (plain l.new.store h.docs) (plain l.new.store c.give.new.docs) c.args.number c.args.name (text_of l.new.store c.in_ok-root.root) c.args.content a.answer.told a.answer.line.items
     (plain-grows h.store l.new.store c.args.pairs.now l.new.pairs l.ensures.grows h.docs c.requires.held.live) is a.ensures.ok))

@@ -1,5 +1,5 @@
 use Rattle.span_run.proofs.Names.{ap, AreLive-grows, Assigns, IfOk-weaker, IsLoadPaid, IsTurnedAway, IsWithin, List, load_size, Ok, plain, plain-grows, refl}
-use Rattle.span_run.proofs.Names.{state_of, subst, text_at, world, ℕ, ◌∙◌}
+use Rattle.span_run.proofs.Names.{state_of, subst, text_of, world, ℕ, ◌∙◌}
 use Rattle.script_syntax.specs.declared.form.Command.TheVariants as form
 use Rattle.span_run.proofs.Facts.{assigned_after, file_begun, file_paid, file_refused_paid, grown_answers, grown_same, grown_stays, grown_stops, if_err_both, of_the_file}
 use Rattle.span_run.proofs.Facts.{load_carries, load_denied, passed_on}
@@ -28,7 +28,7 @@ returns-in_ok-answer-in-Ok-clause-done g c = λ looks places.
     let files = f.files c.args.shelf.now in
     let old = plain h.store h.docs in
     let new = plain l.new.store c.give.new.docs in
-    let text = text_at l.new.store c.in-Ok.root in
+    let text = text_of l.new.store c.in-Ok.root in
     let a = c.in_ok-answer-in-Ok in
     let there : IsWithin files c.args.file load_size text = subst (λ (n : List ℕ). IsWithin files n load_size text) c.bytes.ensures c.in-Ok.ensures.ok in
     let paid : IsLoadPaid files c.args.file c.args.pairs.now l.new.pairs = subst (λ (n : List ℕ). IsLoadPaid files n c.args.pairs.now l.new.pairs) c.bytes.ensures l.ensures.paid in

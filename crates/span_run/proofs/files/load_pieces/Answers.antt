@@ -1,5 +1,5 @@
 use Rattle.span_run.proofs.Names.{ap, arith, fed, Files, Grows-none, Grows-trans, IsFileFront, IsNextPiece, IsWithin, length, length-append, length-take-le}
-use Rattle.span_run.proofs.Names.{load_size, Option, refl, root_text, rules, shape-text, subst, sym, take, text_at, ◌++◌, ◌+◌, ◌∙◌, ◌≡◌}
+use Rattle.span_run.proofs.Names.{load_size, Option, refl, root_text, rules, shape-text, subst, sym, take, text_of, ◌++◌, ◌+◌, ◌∙◌, ◌≡◌}
 use Rattle.pair_loader.proofs.BlockLemmas.{new-loader}
 use Rattle.span_run.proofs.Facts.{front_paid, whole_paid}
 use Rattle.span_run.proofs.files.load_pieces.Goals as goal
@@ -43,7 +43,7 @@ returns-then-count-eq0 g c =
     let front = fed c.loop-loader.store c.loop-loader.loader in
     let next = subst (λ (files : Option Files). IsNextPiece files c.args.name.now load_size c.loop-loader.at (take c.in_ok-count.count c.next_piece.new.piece)) i.files c.in_ok-count.ensures.next in
     let within = (next front (sym i.at) i.front).1 (length-take-le _ _ c.in_ok-count.ensures.count.0 ∙ c.if-count-eq0.true) in
-    let is : text_at c.finish.new.store c.in_ok-root.root ≡ front = ap root_text c.in_ok-root.ensures.tree ∙ shape-text front in
+    let is : text_of c.finish.new.store c.in_ok-root.root ≡ front = ap root_text c.in_ok-root.ensures.tree ∙ shape-text front in
     record {
       grows = Grows-trans _ _ _ _ _ _ i.grows c.finish.ensures.grows;
       live = search rules;

@@ -1,4 +1,4 @@
-use Rattle.span_run.proofs.Names.{AllowsWrites, ap, arith, CannotWrite, DeniesWrites, Doc, Holds, inr, IsPut, KeepsOthers, length, length-map, List, plain, refl, rules, saved_text, subst, sym, text_at, ℕ, ◌++◌, ◌∙◌}
+use Rattle.span_run.proofs.Names.{AllowsWrites, ap, arith, CannotWrite, DeniesWrites, Doc, Holds, inr, IsPut, KeepsOthers, length, length-map, List, plain, refl, rules, saved_text, subst, sym, text_of, ℕ, ◌++◌, ◌∙◌}
 use Rattle.span_run.proofs.Names.{◌≡◌}
 use Rattle.script_syntax.specs.declared.form.Command.TheVariants as form
 use Rattle.span_language.specs.declared.told.Stop.TheVariants as stop
@@ -18,7 +18,7 @@ returns-in-Ok-clause-done g c = λ looks pairs places.
     let image = c.in_ok-image.image in
     let files = f.files c.args.shelf.now in
     let after = f.files c.put.new.self in
-    let count : c.count.result ≡ length (plain h.store h.docs) = c.count.ensures.count ∙ sym (length-map h.docs (λ (d : Doc). (d.name, text_at h.store d.root))) in
+    let count : c.count.result ≡ length (plain h.store h.docs) = c.count.ensures.count ∙ sym (length-map h.docs (λ (d : Doc). (d.name, text_of h.store d.root))) in
     let line : c.accepted.result.line.items ≡ saved_text (length (plain h.store h.docs)) image.nodes =
     ap (λ v. v.items) c.accepted.ensures.1 ∙ c.in_ok-saved_line.ensures.ok ∙ ap (λ (l : List ℕ). l ++ saved_text c.count.result image.nodes) c.new-line.ensures.items ∙ ap (λ (n : ℕ). saved_text n image.nodes) count in
     let put : IsPut files c.args.file image.bytes.items after = record {

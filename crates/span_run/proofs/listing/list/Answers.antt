@@ -1,4 +1,4 @@
-use Rattle.span_run.proofs.Names.{ap, inl, refl, state_of, sym, text_at, world, ◌∙◌}
+use Rattle.span_run.proofs.Names.{ap, inl, refl, state_of, sym, text_of, world, ◌∙◌}
 use Rattle.doc_book.specs.Docs as book
 use Rattle.script_syntax.specs.declared.form.Command.TheVariants as form
 use Rattle.span_run.proofs.Facts.{document_is, document_lacks, list_free, listed_ends, live_root, none_of_err, passed, some_of_ok, unplaced_stops}
@@ -23,7 +23,7 @@ returns-in_ok-grow_all-in-Ok-clause-ends g c = λ files faults pairs.
     let l = c.list_root in
     let there = document_is h.store h.docs c.args.name c.in-Ok.root (ap (book.root_of h.docs) (sym c.bytes.ensures.value) ∙ some_of_ok _ _ _ c.in-Ok.ensures) in
     let tells = l.ensures.tells in
-    listed_ends h c.grow_all.new.self c.args.context.number c.args.query c.args.name (text_at h.store c.in-Ok.root) c.args.page.after c.args.page.limit files faults c.args.looks.now l.new.looks pairs c.args.places.now c.grow_all.new.places
+    listed_ends h c.grow_all.new.self c.args.context.number c.args.query c.args.name (text_of h.store c.in-Ok.root) c.args.page.after c.args.page.limit files faults c.args.looks.now l.new.looks pairs c.args.places.now c.grow_all.new.places
     _ _ l.result c.requires grown.serves grown.queries grown.some grown.steps tells.0 there tells.1 tells.2 l.ensures.want
 
 pub returns-in-Err-NoSuchDocument-clause-ends : goal.returns-in-Err-NoSuchDocument-clause-ends

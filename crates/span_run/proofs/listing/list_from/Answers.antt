@@ -1,10 +1,10 @@
-use Rattle.span_run.proofs.Names.{IfErr-weaker, inl, inr, Keeps-refl, List, names_of, option_map, queries_of, Some, subst, text_at, value_of, ℕ, ◌≡◌}
+use Rattle.span_run.proofs.Names.{IfErr-weaker, inl, inr, Keeps-refl, List, names_of, option_map, queries_of, Some, subst, text_of, value_of, ℕ, ◌≡◌}
 use Rattle.span_run.proofs.Facts.{lists_none, lists_page, named_count, passed, starts, waits}
 use Rattle.span_run.proofs.listing.list_from.Goals as goal
 
 pub returns-in_err-answers-clause-page : goal.returns-in_err-answers-clause-page
 returns-in_err-answers-clause-page g c =
-    lists_none _ (queries_of c.args.subject.book.now) c.args.query.now (text_at c.args.subject.store.now c.args.subject.root) c.args.cursor c.args.limit c.args.looks.now c.answers_from.new.looks c.answers_from.ensures.list c.requires.cursor c.answers_from.ensures.cost
+    lists_none _ (queries_of c.args.subject.book.now) c.args.query.now (text_of c.args.subject.store.now c.args.subject.root) c.args.cursor c.args.limit c.args.looks.now c.answers_from.new.looks c.answers_from.ensures.list c.requires.cursor c.answers_from.ensures.cost
     (λ reply. passed c.from_residual.result _ _ _ c.from_residual.ensures.1 (waits (starts _ reply)))
 
 pub returns-in_err-answers-clause-want : goal.returns-in_err-answers-clause-want
@@ -12,12 +12,12 @@ returns-in_err-answers-clause-want g c = passed c.from_residual.result _ _ _ c.f
 
 pub write_page-requires : goal.write_page-requires
 write_page-requires g c =
-    named_count (queries_of c.args.subject.book.now) c.args.query.now (text_at c.args.subject.store.now c.args.subject.root) c.args.cursor c.in_ok-answers.answers c.in-Ok.vars.now c.in_ok-answers.ensures.listing
+    named_count (queries_of c.args.subject.book.now) c.args.query.now (text_of c.args.subject.store.now c.args.subject.root) c.args.cursor c.in_ok-answers.answers c.in-Ok.vars.now c.in_ok-answers.ensures.listing
     (subst (λ (n : List ℕ). option_map names_of (value_of (queries_of c.args.subject.book.now) n) ≡ Some c.in-Ok.vars.now) c.bytes.ensures.value c.in-Ok.ensures)
 
 pub returns-clause-page : goal.returns-clause-page
 returns-clause-page g c =
-    lists_page _ (queries_of c.args.subject.book.now) c.args.query.now (text_at c.args.subject.store.now c.args.subject.root) c.args.cursor c.args.limit c.args.looks.now c.write_page.new.looks c.answers_from.ensures.list c.answers_from.new.looks c.in_ok-answers.answers c.in-Ok.vars.now
+    lists_page _ (queries_of c.args.subject.book.now) c.args.query.now (text_of c.args.subject.store.now c.args.subject.root) c.args.cursor c.args.limit c.args.looks.now c.write_page.new.looks c.answers_from.ensures.list c.answers_from.new.looks c.in_ok-answers.answers c.in-Ok.vars.now
     c.in_ok-answers.ensures.listing (subst (λ (n : List ℕ). option_map names_of (value_of (queries_of c.args.subject.book.now) n) ≡ Some c.in-Ok.vars.now) c.bytes.ensures.value c.in-Ok.ensures) c.answers_from.ensures.cost c.write_page.ensures.page
 
 pub returns-clause-want : goal.returns-clause-want

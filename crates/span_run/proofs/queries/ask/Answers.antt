@@ -1,4 +1,4 @@
-use Rattle.span_run.proofs.Names.{ap, Compacts, counters, IsReplied, IsReplyPaid, Named, Query, question_of, refl, Registers, state_of, subst, sym, text_at}
+use Rattle.span_run.proofs.Names.{ap, Compacts, counters, IsReplied, IsReplyPaid, Named, Query, question_of, refl, Registers, state_of, subst, sym, text_of}
 use Rattle.span_run.proofs.Names.{world, ◌∙◌}
 use Rattle.doc_book.specs.Docs as book
 use Rattle.span_run.proofs.Facts.{asked_carries, asked_paid, document_is, document_lacks, live_root, no_kind, none_asked, none_of_err, part_of_paid, passed_on}
@@ -23,7 +23,7 @@ returns-in_err-answer-in-Ok-clause-stopped g c = λ files faults pairs.
     let command = question_of c.args.query c.args.name c.args.word in
     let grown = c.grow_all.ensures in
     let r = c.from_residual-in_err-answer-in-Ok in
-    let text = text_at h.store c.in-Ok.root in
+    let text = text_of h.store c.in-Ok.root in
     let there = document_is h.store h.docs c.args.name c.in-Ok.root (ap (book.root_of h.docs) (sym c.bytes.ensures.value) ∙ some_of_ok _ _ _ c.in-Ok.ensures) in
     let cost = subst (λ (qs : Named Query). IsReplyPaid qs c.args.query c.args.word text c.args.looks.now c.ask_root.new.looks) grown.queries c.ask_root.ensures.cost in
     passed_on r.result _ r.ensures.1
@@ -37,7 +37,7 @@ returns-in_ok-answer-in-Ok-clause-done g c = λ files faults pairs.
     let a = c.in_ok-answer-in-Ok in
     let w = world (state_of h) files in
     let number = c.args.context.number in
-    let text = text_at h.store c.in-Ok.root in
+    let text = text_of h.store c.in-Ok.root in
     let there = document_is h.store h.docs c.args.name c.in-Ok.root (ap (book.root_of h.docs) (sym c.bytes.ensures.value) ∙ some_of_ok _ _ _ c.in-Ok.ensures) in
     let replied = subst (λ (qs : Named Query). IsReplied number qs c.args.query c.args.word text a.answer.told a.answer.line.items) grown.queries a.ensures.ok in
     let cost = subst (λ (qs : Named Query). IsReplyPaid qs c.args.query c.args.word text c.args.looks.now c.ask_root.new.looks) grown.queries c.ask_root.ensures.cost in

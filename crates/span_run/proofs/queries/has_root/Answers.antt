@@ -1,4 +1,4 @@
-use Rattle.span_run.proofs.Names.{inl, inr, queries_of, refl, text_at}
+use Rattle.span_run.proofs.Names.{inl, inr, queries_of, refl, text_of}
 use Rattle.span_run.proofs.Facts.{has_variables, judged, judged_unread}
 use Rattle.span_run.proofs.queries.has_root.Goals as goal
 
@@ -8,12 +8,12 @@ has_tuple-requires-clause-tuple g c = has_variables (queries_of c.args.subject.b
 pub returns-in_ok-answer-in-Ok-clause-ok : goal.returns-in_ok-answer-in-Ok-clause-ok
 returns-in_ok-answer-in-Ok-clause-ok g c =
     let a = c.in_ok-answer-in-Ok in
-    judged c.args.number (queries_of c.args.subject.book.now) c.args.query c.args.word.now (text_at c.args.subject.store.now c.args.subject.root) c.in-Ok.tuple a.answer.told a.answer.line.items c.in-Ok.ensures.ok a.ensures.ok
+    judged c.args.number (queries_of c.args.subject.book.now) c.args.query c.args.word.now (text_of c.args.subject.store.now c.args.subject.root) c.in-Ok.tuple a.answer.told a.answer.line.items c.in-Ok.ensures.ok a.ensures.ok
 
 pub returns-in_ok-answer-in-Err-clause-ok : goal.returns-in_ok-answer-in-Err-clause-ok
 returns-in_ok-answer-in-Err-clause-ok g c =
     let a = c.in_ok-answer-in-Err in
-    judged_unread c.args.number (queries_of c.args.subject.book.now) c.args.query c.args.word.now (text_at c.args.subject.store.now c.args.subject.root) c.in-Err.why c.word_refusal.result a.answer.told a.answer.line.items c.in-Err.ensures.err c.word_refusal.ensures a.ensures.0 a.ensures.1
+    judged_unread c.args.number (queries_of c.args.subject.book.now) c.args.query c.args.word.now (text_of c.args.subject.store.now c.args.subject.root) c.in-Err.why c.word_refusal.result a.answer.told a.answer.line.items c.in-Err.ensures.err c.word_refusal.ensures a.ensures.0 a.ensures.1
 
 pub returns-in_err-answer-in-Ok-clause-cost : goal.returns-in_err-answer-in-Ok-clause-cost
 returns-in_err-answer-in-Ok-clause-cost g c = inr (c.in-Ok.tuple, c.in-Ok.ensures.ok, c.has_tuple.ensures.cost)

@@ -1,4 +1,4 @@
-use Rattle.span_run.proofs.Names.{ap, AreLive-grows, err_from_is_err_and, inl, plain, plain-grows, replaced, text_at, ◌∙◌}
+use Rattle.span_run.proofs.Names.{ap, AreLive-grows, err_from_is_err_and, inl, plain, plain-grows, replaced, text_of, ◌∙◌}
 use Rattle.span_run.proofs.Facts.{assigned_after}
 use Rattle.span_run.proofs.replacing.put_in_place.Goals as goal
 
@@ -14,9 +14,9 @@ pub returns-in-Ok-clause-ok : goal.returns-in-Ok-clause-ok
 returns-in-Ok-clause-ok g c =
     let s = c.args.sources.now in
     let a = c.in_ok-answer-in-Ok in
-    let text = replaced (text_at c.args.store.now s.root) c.args.spans.now (text_at c.args.store.now s.other) in
+    let text = replaced (text_of c.args.store.now s.root) c.args.spans.now (text_of c.args.store.now s.other) in
     let made = c.in-Ok.ensures.text in
-    let given = assigned_after (plain c.args.store.now c.args.docs.now) (plain c.replaced.new.store c.args.docs.now) (plain c.replaced.new.store c.give.new.docs) c.args.number c.args.name (text_at c.replaced.new.store c.in-Ok.root) text a.answer.told a.answer.line.items
+    let given = assigned_after (plain c.args.store.now c.args.docs.now) (plain c.replaced.new.store c.args.docs.now) (plain c.replaced.new.store c.give.new.docs) c.args.number c.args.name (text_of c.replaced.new.store c.in-Ok.root) text a.answer.told a.answer.line.items
     (plain-grows c.args.store.now c.replaced.new.store c.args.pairs.now c.replaced.new.pairs c.replaced.ensures.grows c.args.docs.now c.requires.live) made.1 a.ensures.ok in
     inl (made.2, given.0, given.1)
 

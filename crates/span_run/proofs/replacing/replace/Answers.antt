@@ -1,5 +1,5 @@
 use Rattle.span_run.proofs.Names.{ap, arith, counters, Err, inl, length, List, plain, queries_of, refl, replaced, ReplaceRefusal, Replaces, rules, Span}
-use Rattle.span_run.proofs.Names.{state_of, subst, text_at, world, ◌≡◌}
+use Rattle.span_run.proofs.Names.{state_of, subst, text_of, world, ◌≡◌}
 use Rattle.script_syntax.specs.declared.form.Command.TheVariants as form
 use Rattle.span_replace.specs.Outcomes.{IsChoice}
 use Rattle.span_replace.specs.declared.refusal.ReplaceRefusal.TheVariants.{TooManyMatches}
@@ -33,8 +33,8 @@ returns-in-Ok-choose-clause-done g c = λ files faults.
     let number = c.args.context.number in
     let grown = c.grow_all.ensures in
     let s = c.in-Ok.sources in
-    let text = text_at h.store s.root in
-    let other = text_at h.store s.other in
+    let text = text_of h.store s.root in
+    let other = text_of h.store s.other in
     let chosen = chosen_before (queries_of h.book) (queries_of c.grow_all.new.self) s.query asked.query text _ _ _ grown.queries c.in-Ok.ensures.ok.name c.in-Ok-choose.ensures.choice in
     let replacing = is_replacing h files asked.query asked.source asked.by s c.in-Ok.ensures.ok chosen.of chosen.there in
     let put = c.put_in_place in
@@ -54,7 +54,7 @@ returns-in_err-answer-in-Ok-choose-clause-stopped g c = λ files faults.
     let number = c.args.context.number in
     let grown = c.grow_all.ensures in
     let s = c.in-Ok.sources in
-    let text = text_at h.store s.root in
+    let text = text_of h.store s.root in
     let chosen = chosen_before (queries_of h.book) (queries_of c.grow_all.new.self) s.query asked.query text _ _ _ grown.queries c.in-Ok.ensures.ok.name c.in-Ok-choose.ensures.choice in
     let replacing = is_replacing h files asked.query asked.source asked.by s c.in-Ok.ensures.ok chosen.of chosen.there in
     let put = c.put_in_place in
@@ -63,7 +63,7 @@ returns-in_err-answer-in-Ok-choose-clause-stopped g c = λ files faults.
     (moved_stops h put.new.store put.new.docs c.grow_all.new.self number command files faults c.args.looks.now c.choose.new.looks c.args.pairs.now put.new.pairs c.args.places.now c.grow_all.new.places c.requires put.ensures.grows put.ensures.live grown.serves
     grown.queries grown.some grown.steps c.in_err-answer-in-Ok-choose.ensures.err
     (part_of_paid (world (state_of h) files) command (counters c.args.looks.now c.args.pairs.now) (counters c.choose.new.looks put.new.pairs)
-    (replace_paid (state_of h) files number asked.name asked.query asked.source asked.by chosen.of text (text_at h.store s.other) chosen.spans replacing chosen.chosen c.args.looks.now c.choose.new.looks c.args.pairs.now put.new.pairs chosen.cost (omega (arith, put.ensures.cost, ap length chosen.choice.0, chosen.choice.1)))))
+    (replace_paid (state_of h) files number asked.name asked.query asked.source asked.by chosen.of text (text_of h.store s.other) chosen.spans replacing chosen.chosen c.args.looks.now c.choose.new.looks c.args.pairs.now put.new.pairs chosen.cost (omega (arith, put.ensures.cost, ap length chosen.choice.0, chosen.choice.1)))))
 
 pub returns-in-Err-TooManyMatches-clause-done : goal.returns-in-Err-TooManyMatches-clause-done
 returns-in-Err-TooManyMatches-clause-done g c = λ files faults.
@@ -73,8 +73,8 @@ returns-in-Err-TooManyMatches-clause-done g c = λ files faults.
     let number = c.args.context.number in
     let grown = c.grow_all.ensures in
     let s = c.in-Ok.sources in
-    let text = text_at h.store s.root in
-    let other = text_at h.store s.other in
+    let text = text_of h.store s.root in
+    let other = text_of h.store s.other in
     let chosen = chosen_before (queries_of h.book) (queries_of c.grow_all.new.self) s.query asked.query text _ _ _ grown.queries c.in-Ok.ensures.ok.name c.in-Err-TooManyMatches.ensures.choice in
     let replacing = is_replacing h files asked.query asked.source asked.by s c.in-Ok.ensures.ok chosen.of chosen.there in
     let a = c.in_ok-answer-in-Err-TooManyMatches in

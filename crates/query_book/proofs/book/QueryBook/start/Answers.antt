@@ -1,5 +1,5 @@
 use Rattle.std.proofs.Common.{None}
-use Rattle.span_enum.specs.Listing.{text_of}
+use Rattle.slp_model.specs.Nodes.{text_of}
 use Rattle.query_book.specs.Answers.{HasList}
 use Rattle.query_book.specs.Book.{queries_of}
 use Rattle.query_book.proofs.Lists.{list-none, if-missing, if-named}
