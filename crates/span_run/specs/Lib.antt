@@ -1,5 +1,6 @@
 pub mod Words
 pub mod Held
+pub mod Exit
 pub mod Codes
 pub mod Site
 pub mod Scene

@@ -20,7 +20,7 @@ ghost use Rattle.std.specs.Prelude.{◌≡◌, ◌<◌, ◌⊎◌, ◌^◌, IfSo
 ghost use Rattle.edge_io.specs.Causes.{Rose};
 ghost use Rattle.span_words.specs.Words.{Refused};
 ghost use Rattle.span_language.specs.Scripts.{AsksForNoDemo};
-ghost use Rattle.spanbase.specs.Exit.{exit_of};
+ghost use Rattle.span_run.specs.Exit.{exit_of};
 
 use edge_io::{BufferedSink, DirShelf, Sink, Source, StdSink, StdSource};
 use span_run::{Status, run, usage_text};

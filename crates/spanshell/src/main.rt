@@ -19,7 +19,7 @@
 ghost use Rattle.std.specs.Prelude.{◌≡◌, ◌≤◌, ◌<◌, IfErr, IfOk, map, string_bytes};
 ghost use Rattle.edge_io.specs.Causes.{Rose};
 ghost use Rattle.span_words.specs.Words.{Refused, Words};
-ghost use Rattle.spanshell.specs.Exit.{exit_of};
+ghost use Rattle.span_run.specs.Exit.{exit_of};
 
 use edge_io::{DirShelf, Sink, Source, StdSink, StdSource, SureSource};
 use span_run::{Status, usage_text};
