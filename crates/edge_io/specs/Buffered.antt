@@ -1,12 +1,12 @@
--- What a sink in front of another shows.
+-- What a sink that buffers for another exposes.
 use Rattle.std.specs.Prelude.{ℕ, List, refl}
 use Rattle.std.specs.Coded.{Coded, code_by, coded×, coded_ℕ, coded_list}
 
--- the most bytes that it keeps back
+-- the size of the buffer, in bytes
 abbrev pub most_kept : ℕ
 most_kept = 16384
 
--- the inner sink, and the bytes that are kept back
+-- the inner sink, and the buffered bytes
 pub record BufferedOutput (K : Type 0) : Type 0 where
   pub inner : K
   pub kept : List ℕ

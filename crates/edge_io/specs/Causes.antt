@@ -1,5 +1,5 @@
--- How the counts of an object of the outside move in a call. A count never falls. A call returns a fault or allocation
--- failure only where that count increased, and a call that returns anything else leaves every count unchanged.
+-- How the counts of an object of the outside change in a call. A count never decreases. A call returns a fault or
+-- allocation failure only if that count increased, and a call that returns anything else leaves every count unchanged.
 use Rattle.std.specs.Prelude.{◌≡◌, ℕ, ◌+◌, ◌-◌, ◌^◌, ◌≤◌, min, Result, OnOk, OnErr, IsErrOf}
 use Rattle.edge_io.specs.declared.PutRefusal.{PutRefusal}
 use Rattle.edge_io.specs.declared.PutRefusal.TheVariants as put
@@ -12,7 +12,7 @@ use Rattle.edge_io.specs.declared.WriteRefusal.TheVariants.{Failed, NoMemory}
 abbrev pub one_more : ℕ → ℕ
 one_more n = min (n + 1) (2 ^ 64 - 1)
 
--- a count of 64 bits rose, or stands at its last value
+-- a count of 64 bits increased, or is at its last value
 abbrev pub Rose : ℕ → ℕ → Type 0
 Rose before now = one_more before ≤ now
 
@@ -20,13 +20,13 @@ Rose before now = one_more before ≤ now
 abbrev pub Stand : ℕ → ℕ → ℕ → ℕ → Type 0
 Stand faults_before faults_now wants_before wants_now = (faults_now ≡ faults_before) × (wants_now ≡ wants_before)
 
--- the count never falls, an `Err` comes only where it rose, and an `Ok` only where it is unchanged
+-- the count never decreases, an `Err` comes only if it increased, and an `Ok` only if it is unchanged
 pub record HasCause {T E : Type 0} (before now : ℕ) (result : Result T E) : Type 0 where
   pub later : before ≤ now
   pub failed : OnErr result (Rose before now)
   pub kept : OnOk result (now ≡ before)
 
--- the same for the two refusals of a write, each with its own count
+-- the same for the two errors of a write, each with its own count
 pub record HasWriteCause {T : Type 0} (faults_before faults_now wants_before wants_now : ℕ) (result : Result T WriteRefusal) : Type 0 where
   pub later : faults_before ≤ faults_now
   pub wants_later : wants_before ≤ wants_now
@@ -34,7 +34,7 @@ pub record HasWriteCause {T : Type 0} (faults_before faults_now wants_before wan
   pub wanted : IsErrOf result NoMemory → Rose wants_before wants_now
   pub kept : OnOk result (Stand faults_before faults_now wants_before wants_now)
 
--- of a shelf's read, which also leaves the counts where it returns `Absent` or `Denied`
+-- the same for a read from a file store, which also leaves the counts unchanged if it returns `Absent` or `Denied`
 pub record HasShelfCause {T : Type 0} (faults_before faults_now wants_before wants_now : ℕ) (result : Result T ShelfRefusal) : Type 0 where
   pub later : faults_before ≤ faults_now
   pub wants_later : wants_before ≤ wants_now
@@ -44,7 +44,7 @@ pub record HasShelfCause {T : Type 0} (faults_before faults_now wants_before wan
   pub kept_absent : IsErrOf result shelf.Absent → Stand faults_before faults_now wants_before wants_now
   pub kept_denied : IsErrOf result shelf.Denied → Stand faults_before faults_now wants_before wants_now
 
--- and of a shelf's put, which also leaves the counts where it returns `Denied`
+-- the same for a put to a file store, which also leaves the counts unchanged if it returns `Denied`
 pub record HasPutCause {T : Type 0} (faults_before faults_now wants_before wants_now : ℕ) (result : Result T PutRefusal) : Type 0 where
   pub later : faults_before ≤ faults_now
   pub wants_later : wants_before ≤ wants_now

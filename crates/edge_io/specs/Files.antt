@@ -5,7 +5,7 @@ use Rattle.std.specs.Str.{bytes_eq}
 use Rattle.edge_io.specs.declared.PutRefusal.{PutRefusal}
 use Rattle.edge_io.specs.declared.PutRefusal.TheVariants.{Denied}
 
--- names and bytes, where the first entry of a name counts
+-- names and bytes; the first entry of a name counts
 abbrev pub Entries : Type 0
 Entries = List (List ℕ × List ℕ)
 
@@ -13,7 +13,7 @@ Entries = List (List ℕ × List ℕ)
 abbrev pub entry_of : Entries → List ℕ → Option (List ℕ)
 entry_of entries name = option_map (λ file. file.1) (find (λ file. bytes_eq file.0 name) entries)
 
--- a present name keeps its place and has these bytes, and a new one goes last
+-- a present name keeps its index and has these bytes, and a new one goes last
 abbrev pub put_entry : Entries → List ℕ → List ℕ → Entries
 put_entry [] name bytes = (name, bytes) ∷ []
 put_entry (file ∷ files) name bytes = if bytes_eq file.0 name then (file.0, bytes) ∷ files else file ∷ put_entry files name bytes
@@ -44,11 +44,11 @@ reads_closed files name = is_among files.no_reads name
 abbrev pub writes_closed : Files → List ℕ → Bool
 writes_closed files name = is_among files.no_writes name
 
--- the file of this name has these bytes, and all else stays
+-- the file of this name has these bytes, and everything else is unchanged
 abbrev pub put_file : Files → List ℕ → List ℕ → Files
 put_file files name bytes = record files { entries = put_entry files.entries name bytes }
 
--- one name more is closed, for reading and for writing as is said
+-- one name more is closed, for reading and for writing as stated
 abbrev pub close_file : Files → List ℕ → Bool → Bool → Files
 close_file files name reads writes = record {
   entries = files.entries;
@@ -56,7 +56,7 @@ close_file files name reads writes = record {
   no_writes = if writes then files.no_writes ++ name ∷ [] else files.no_writes;
 }
 
--- the file has these bytes from the offset on, and none of them only where none is left
+-- the file has these bytes from the offset on, and the piece is empty only if none is left
 pub record IsPiece (bytes : List ℕ) (from : ℕ) (piece : List ℕ) : Type 0 where
   pub front : piece ≡ take (length piece) (drop from bytes)
   pub end : piece ≡ [] → length bytes ≤ from
@@ -65,31 +65,31 @@ pub record IsPiece (bytes : List ℕ) (from : ℕ) (piece : List ℕ) : Type 0 w
 abbrev pub HasPiece : Files → List ℕ → ℕ → List ℕ → Type 0
 HasPiece files name from piece = (bytes : List ℕ) × (file_of files name ≡ Some bytes) × IsPiece bytes from piece
 
--- told files have these bytes under the name
+-- exposed files have these bytes under the name
 abbrev pub Holds : Option Files → List ℕ → List ℕ → Type 0
 Holds files name bytes = IfSome files (λ all. file_of all name ≡ Some bytes)
 
--- told files have no file of the name
+-- exposed files have no file of the name
 abbrev pub LacksFile : Option Files → List ℕ → Type 0
 LacksFile files name = IfSome files (λ all. file_of all name ≡ None)
 
--- told files have the name open for reading
+-- exposed files have the name open for reading
 abbrev pub AllowsReads : Option Files → List ℕ → Type 0
 AllowsReads files name = IfSome files (λ all. IsFalse (reads_closed all name))
 
--- told files have a file of the name, which is closed for reading
+-- exposed files have a file of the name, which is closed for reading
 abbrev pub DeniesReads : Option Files → List ℕ → Type 0
 DeniesReads files name = IfSome files (λ all. IsSome (file_of all name) × IsTrue (reads_closed all name))
 
--- told files have the name open for writing
+-- exposed files have the name open for writing
 abbrev pub AllowsWrites : Option Files → List ℕ → Type 0
 AllowsWrites files name = IfSome files (λ all. IsFalse (writes_closed all name))
 
--- told files have the name closed for writing
+-- exposed files have the name closed for writing
 abbrev pub DeniesWrites : Option Files → List ℕ → Type 0
 DeniesWrites files name = IfSome files (λ all. IsTrue (writes_closed all name))
 
--- told files stay told, the other files stay as they were, and so do the names that are closed
+-- exposed files stay exposed, and the other files and the closed names are unchanged
 abbrev pub KeepsOthers : Option Files → Option Files → List ℕ → Type 0
 KeepsOthers None new name = ⊤
 KeepsOthers (Some old) None name = ⊥
@@ -97,12 +97,12 @@ KeepsOthers (Some old) (Some new) name =
     ((other : List ℕ) → bytes_eq other name ≡ false → file_of new other ≡ file_of old other)
     × (new.no_reads ≡ old.no_reads) × (new.no_writes ≡ old.no_writes)
 
--- a put was begun, and where it is told it has this name and these bytes
+-- a put was begun, and if it is exposed it has this name and these bytes
 abbrev pub IsBegun : Option (Option (List ℕ × List ℕ)) → List ℕ → List ℕ → Type 0
 IsBegun None name bytes = ⊥
 IsBegun (Some told) name bytes = IfSome told (λ put. (put.0 ≡ name) × (put.1 ≡ bytes))
 
--- a put of these bytes to this name did what it returned, or was denied where told files have the name closed
+-- a put of these bytes to this name did what it returned, or was denied if exposed files have the name closed
 pub record IsPutTo (old new : Option Files) (name bytes : List ℕ) (result : Result (Unit {0}) PutRefusal) : Type 0 where
   pub done : OnOk result (Holds new name bytes)
   pub others : KeepsOthers old new name

@@ -1,4 +1,4 @@
--- Faults by call number: what an object in memory shows of its calls.
+-- Faults by call number: what an object in memory exposes of its calls.
 use Rattle.std.specs.Prelude.{ℕ, ◌==◌, Bool, List, if◌then◌else◌}
 use Rattle.std.specs.List.{list_any}
 use Rattle.edge_io.specs.Causes.{one_more}

@@ -1,18 +1,18 @@
--- What the adapters over std show.
+-- What the adapters over std expose.
 use Rattle.std.specs.Prelude.{ℕ, Bool, List, Option, Some, None, if◌then◌else◌}
 use Rattle.edge_io.specs.Files.{Files}
 
--- a source over a reader: the bytes that are left, where the reader tells them, and how often it failed
+-- a source over a reader: the bytes that are left, if the reader exposes them, and its faults
 pub record ReaderInput : Type 0 where
   pub left : Option (List ℕ)
   pub faults : ℕ
 
--- a sink over a writer: the bytes that were written, where the writer tells them, and how often it failed
+-- a sink over a writer: the bytes that were written, if the writer exposes them, and its faults
 pub record WriterOutput : Type 0 where
   pub written : Option (List ℕ)
   pub faults : ℕ
 
--- a shelf over a folder: whether a put was begun, how often it failed, and how often it found no memory
+-- a file store over a folder: whether a put was begun, its faults, and its allocation failures
 pub record FolderState : Type 0 where
   pub begun : Bool
   pub faults : ℕ

@@ -27,7 +27,7 @@ impl Begun {
         Begun { put: None }
     }
 
-    /// Begins a put with no bytes yet, and gives up what was begun.
+    /// Begins a put with no bytes yet. A put that was begun is discarded.
     pub fn begin(&mut self, alloc: Global, name: &[u8]) -> Result<(), AllocError>
         ensures begun { OnOk result (self.new ≡ Some (name.now, [])) }
         ensures refused { OnErr result (self.new ≡ None) }
@@ -38,7 +38,7 @@ impl Begun {
         Ok(())
     }
 
-    /// Appends bytes to the put, and gives it up where it finds no memory.
+    /// Appends bytes to the put. If allocation fails, the put is discarded.
     pub fn append(&mut self, bytes: &[u8]) -> Result<(), AllocError>
         ensures more { OnOk result (self.new ≡ option_map (λ put. (put.0, put.1 ++ bytes.now)) self.old) }
         ensures refused { OnErr result (self.new ≡ None) }
@@ -51,7 +51,7 @@ impl Begun {
         Ok(())
     }
 
-    /// Takes the put out, where there is one.
+    /// Takes the put out, if there is one.
     pub fn take(&mut self) -> Option<(Vec<u8>, Vec<u8>)>
         ensures put { option_map (λ put. (put.0.items, put.1.items)) result ≡ self.old }
         ensures none { self.new ≡ None }

@@ -1,4 +1,4 @@
-// A sink in front of another that keeps bytes back until it is flushed.
+// A sink that buffers bytes for another sink until it is flushed.
 ghost use Rattle.std.specs.Prelude.{◌≡◌, ◌<◌, ◌≤◌, ◌+◌, ◌++◌, [], length, take, IfOk, OnErr, OnOk, vec_capacity};
 ghost use Rattle.std.specs.Io.KnownBytes.{Appends, Keeps, WriteAppends, append_known};
 ghost use Rattle.edge_io.specs.Buffered.{most_kept};
@@ -8,15 +8,15 @@ use crate::{Sink, WriteRefusal};
 use std::alloc::{AllocError, Global};
 use std::marker::Model;
 
-/// The most bytes that are kept back.
+/// The size of the buffer, in bytes.
 const MOST_KEPT: usize = 16_384;
 
-/// A sink in front of another, which keeps back at most 16,384 bytes. Its bytes are those of the inner sink, followed by
-/// those that it keeps back.
+/// A sink that buffers at most 16,384 bytes for another sink. Its bytes are those of the inner sink, followed by the
+/// buffered ones.
 ///
-/// A piece is kept back where the buffer has room for all of it. Else all that was kept back goes to the inner sink
-/// first, and a piece larger than the buffer then goes there directly. `new` reserves the room of the buffer, so `write`
-/// and `flush` take no memory of their own. Faults and allocation failures are those of the inner sink.
+/// A piece is buffered if the buffer has room for all of it. Otherwise the buffered bytes first go to the inner sink,
+/// and a piece larger than the buffer then goes there directly. `new` allocates the buffer, so `write` and `flush`
+/// allocate nothing themselves. Faults and allocation failures are those of the inner sink.
 #[derive(Drop)]
 pub struct BufferedSink<K: Sink> {
     inner: K,
@@ -36,7 +36,7 @@ impl<K: Sink> Model for BufferedSink<K> {
     ghost invariant = { λ s. (length s.kept.items ≤ most_kept) × (most_kept ≤ vec_capacity s.kept) };
 }
 
-/// Sends bytes to a sink, and takes away from the front those that went out.
+/// Sends bytes to a sink, and removes the prefix that was sent.
 fn send<K: Sink>(sink: &mut K, kept: &mut Vec<u8>) -> Result<(), WriteRefusal>
     ensures all { OnOk result (Appends (K.written sink.old) (K.written sink.new) kept.old.items × (kept.new.items ≡ [])) }
     ensures kept { Keeps (append_known (K.written sink.old) kept.old.items) (append_known (K.written sink.new) kept.new.items) }
@@ -51,7 +51,7 @@ fn send<K: Sink>(sink: &mut K, kept: &mut Vec<u8>) -> Result<(), WriteRefusal>
     done
 }
 
-/// Sends bytes from the front to a sink, and counts those that went out.
+/// Sends bytes to a sink from the first on, and counts those that were sent.
 fn send_from<K: Sink>(sink: &mut K, bytes: &[u8], sent: &mut usize) -> Result<(), WriteRefusal>
     requires { sent.old ≡ 0 }
     ensures all { OnOk result (sent.new ≡ length bytes.now) }
@@ -66,7 +66,7 @@ fn send_from<K: Sink>(sink: &mut K, bytes: &[u8], sent: &mut usize) -> Result<()
 }
 
 impl<K: Sink> BufferedSink<K> {
-    /// A sink in front of this one, which keeps nothing back yet. It reserves the room of the buffer.
+    /// A sink in front of this one, with an empty buffer. Allocates the buffer.
     pub fn new(alloc: Global, inner: K) -> Result<BufferedSink<K>, AllocError>
     where
         K: Drop,
@@ -76,7 +76,7 @@ impl<K: Sink> BufferedSink<K> {
         Ok(BufferedSink { inner, kept })
     }
 
-    /// The inner sink, which has the bytes that have gone out.
+    /// The inner sink, which has the bytes that were sent.
     pub fn inner(&self) -> &K
         ensures { result.now ≡ self.now.inner }
     {

@@ -1,4 +1,4 @@
-// The trusted edge: files named from the current folder.
+// The trusted edge: files named relative to the current folder.
 ghost use Rattle.std.specs.Prelude.{◌≡◌, ◌≢◌, ◌<◌, ◌++◌, [], List, ℕ, Some, None, false, true, length, take, IfOk, IfSome, IsErrOf, OnErr, OnOk};
 ghost use Rattle.std.specs.Io.{ReadsAtMost};
 ghost use Rattle.edge_io.specs.Causes.{HasPutCause, HasShelfCause, one_more};
@@ -12,38 +12,39 @@ use std::io::ErrorKind;
 use std::marker::Model;
 use std::rt::Files;
 
-/// A shelf over files named from the current folder. It tells nothing of their content. A name with `/` is a path.
+/// A file store over files named relative to the current folder. Contracts don't see the content of the files. A name
+/// with `/` is a path.
 ///
 /// # Reads
 ///
-/// A read at the offset where the last read of the same name ended goes on in the file that was opened then: one system
-/// call. Every other read opens the file: it asks for its kind, opens it, seeks and reads. The file stays open until
-/// the next read of another place, the next put or the end of the shelf.
+/// A read at the offset where the last read of the same name ended continues in the file that was opened then: one
+/// system call. Every other read tests what kind of file it is, opens it, seeks and reads. The file stays open until
+/// the next read at another offset or of another file, the next put, or the end of the file store.
 ///
-/// - `Absent`: the system knows no file of this name, or a part of the path is a plain file.
-/// - `Denied`: the name is a folder, a pipe or a socket, has no end that can be sought, runs in a circle of links, or
-///   isn't UTF-8; or a right is missing.
+/// - `Absent`: the system has no file of this name, or a part of the path is a plain file.
+/// - `Denied`: the name is a folder, a pipe or a socket, can't be sought, is in a cycle of links, or isn't UTF-8; or a
+///   permission is missing.
 ///
 /// # Puts
 ///
-/// A put writes the bytes to a new file in the same folder, brings it to the disk, and renames it over the old file. So
-/// whoever opens the file, also after a power failure, finds the old bytes or the new ones whole. The new file is named
-/// `new file N`, has the old one's owner, group and rights as far as the system lets it, and is removed where the put
-/// fails. A process that is killed in a put leaves it behind. Other names of the old file by hard links keep the old
-/// bytes, and its access control lists aren't copied.
+/// A put writes the bytes to a new file in the same folder, syncs it to the disk, and renames it over the old file. So
+/// a reader, also after a power failure, finds the old bytes or all the new ones. The new file is named `new file N`.
+/// It gets the owner, the group and the permissions of the old one as far as the system allows, and is removed if the
+/// put fails. A process that is killed during a put leaves it behind. Other names of the old file by hard links keep
+/// the old bytes, and its access control lists aren't copied.
 ///
-/// - A link is followed, and stays. Where it names no file, that file is made.
-/// - A device, a pipe and whatever lies below /dev or /proc is written to as it is, piece by piece. So a put to it that
+/// - A link is followed and kept. If it names no file, that file is created.
+/// - A device, a pipe and whatever lies below /dev or /proc is written in place, piece by piece. So a put to it that
 ///   fails may have written some of the bytes.
-/// - `Denied`: the name is a folder or a socket, its folder isn't there or isn't one, the name can't be a file's, a right
-///   is missing, or the file system can't be written to. The right to write to the old file is asked for, and so is that
-///   to make files in its folder.
+/// - `Denied`: the name is a folder or a socket, its folder doesn't exist or isn't a folder, the name can't be a
+///   file's, a permission is missing, or the file system is read-only. A put needs permission to write the old file and
+///   to create files in its folder.
 ///
 /// # Failures
 ///
-/// `NoMemory` is what the system tells as such. All else is a fault: a failing device, a full disk, too many open files,
-/// and a call that signals interrupted 1,001 times in a row. Three calls are repeated by std without such a limit: the
-/// open of a file, the change of its rights, and its transfer to the disk.
+/// `NoMemory` is what the system reports as such. Any other error is a fault: a failing device, a full disk, too many
+/// open files, and a call that signals interrupted 1,001 times in a row. Three calls are repeated by std without such a
+/// limit: opening a file, changing its permissions, and syncing it to the disk.
 #[derive(Drop)]
 pub struct DirShelf<'a, R: Files + AllocGlobal> {
     rt: &'a R,
@@ -63,7 +64,7 @@ impl<'a, R: Files + AllocGlobal> Model for DirShelf<'a, R> {
 }
 
 impl<'a, R: Files + AllocGlobal> DirShelf<'a, R> {
-    /// The shelf of the current folder, which hasn't failed yet.
+    /// The file store of the current folder, which hasn't failed yet.
     pub fn new(rt: &'a R) -> DirShelf<'a, R>
         ensures { result ≡ record { begun = false; faults = 0; wants = 0 } }
     {
@@ -77,10 +78,10 @@ impl<'a, R: Files + AllocGlobal> DirShelf<'a, R> {
     }
 }
 
-/// The refusal of a read.
+/// The error of a read.
 fn refusal_of(kind: ErrorKind) -> ShelfRefusal {
     match kind {
-        // A path below a plain file names no file either, and nor does a name that no file can have.
+        // A path below a plain file names no file either, nor does a name that no file can have.
         ErrorKind::NotFound
         | ErrorKind::NotADirectory
         | ErrorKind::InvalidFilename
@@ -94,7 +95,7 @@ fn refusal_of(kind: ErrorKind) -> ShelfRefusal {
     }
 }
 
-/// Counts a refused read, and returns it.
+/// Counts a failed read, and returns its error.
 fn refused(why: ShelfRefusal, faults: &mut u64, wants: &mut u64) -> Result<usize, ShelfRefusal>
     ensures same { result ≡ Err why }
     ensures cause { HasShelfCause faults.old faults.new wants.old wants.new result }
@@ -109,7 +110,7 @@ fn refused(why: ShelfRefusal, faults: &mut u64, wants: &mut u64) -> Result<usize
     Err(why)
 }
 
-/// Counts what a put came to, and returns it.
+/// Counts the result of a put, and returns it.
 fn counted(
     done: Result<(), PutRefusal>,
     faults: &mut u64,
@@ -128,7 +129,7 @@ fn counted(
     done
 }
 
-/// Puts a file whole.
+/// Puts a whole file.
 fn put_whole<R: Files + AllocGlobal>(rt: &R, name: &[u8], bytes: &[u8]) -> Result<(), PutRefusal> {
     let mut new = begin(rt, name)?;
     new.append(bytes)?;

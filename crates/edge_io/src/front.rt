@@ -1,7 +1,7 @@
-// The copy that every read in memory ends in.
+// The copy that every read in memory ends with.
 ghost use Rattle.std.specs.Prelude.{◌≡◌, min, length, take};
 
-/// Copies bytes from the front of `from` to the front of `into`, as many as both have, and answers how many.
+/// Copies the first bytes of `from` to the start of `into`, as many as both have, and returns their number.
 pub fn copy_front(from: &[u8], into: &mut [u8]) -> usize
     ensures count { result ≡ min (length from.now) (length into.new) }
     ensures bytes { take result into.new ≡ take result from.now }

@@ -5,7 +5,7 @@ ghost use Rattle.edge_io.specs.Injection.{fresh, fails_next, after_call};
 
 use std::marker::Model;
 
-/// Which calls of an object are to fail, and how many were made and have failed.
+/// The numbers of an object's calls that are to fail, and how many calls were made and have failed.
 #[derive(Drop)]
 pub struct FaultPlan {
     failing: Vec<u64>,
@@ -22,7 +22,7 @@ impl Model for FaultPlan {
 }
 
 impl FaultPlan {
-    /// A plan before the first call. The calls are numbered from 1.
+    /// A plan before the first call. Calls are numbered from 1.
     pub fn new(failing: Vec<u64>) -> FaultPlan
         ensures { result ≡ fresh failing.items }
     {
@@ -33,7 +33,7 @@ impl FaultPlan {
         }
     }
 
-    /// Counts a call, and tells whether it is to fail.
+    /// Counts a call, and returns whether it is to fail.
     pub fn next_fails(&mut self) -> bool
         ensures fails { result ≡ fails_next self.old }
         ensures counted { self.new ≡ after_call self.old }

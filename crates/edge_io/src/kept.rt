@@ -10,7 +10,7 @@ use crate::{PutRefusal, ShelfRefusal};
 use std::alloc::{AllocError, Global};
 use std::marker::Model;
 
-/// Files by name, and the names that are closed. Where a name stands twice its first entry counts.
+/// Files by name, and the names that are closed. If a name occurs twice, its first entry counts.
 #[derive(Drop)]
 pub struct KeptFiles {
     files: Vec<(Vec<u8>, Vec<u8>)>,
@@ -50,7 +50,7 @@ fn is_listed(names: &[Vec<u8>], name: &[u8]) -> bool
     names.iter().any(|other| other.as_slice() == name)
 }
 
-/// Gives the entry of this name these bytes. A new name goes last.
+/// Sets the bytes of the entry with this name. A new name goes last.
 fn put_bytes(
     files: &mut Vec<(Vec<u8>, Vec<u8>)>,
     name: &[u8],
@@ -73,7 +73,7 @@ fn put_bytes(
 }
 
 impl KeptFiles {
-    /// These names and bytes, none of them closed.
+    /// Files with these names and bytes, none of them closed.
     pub fn new(files: Vec<(Vec<u8>, Vec<u8>)>) -> KeptFiles
         ensures { result ≡ open_files (told files.items) }
     {
@@ -107,7 +107,7 @@ impl KeptFiles {
         }
     }
 
-    /// Copies at most `most` bytes of a file from an offset to the front of `into`, and returns how many.
+    /// Copies at most `most` bytes of a file from an offset to the start of `into`, and returns their number.
     pub fn read_at(
         &self,
         name: &[u8],
@@ -135,7 +135,7 @@ impl KeptFiles {
         Ok(copy_front(&rest[..rest.len().min(most)], into))
     }
 
-    /// Gives a file these bytes. A new name goes last.
+    /// Sets the bytes of a file. A new name goes last.
     pub fn put(&mut self, name: &[u8], bytes: &[u8]) -> Result<(), PutRefusal>
         ensures done { OnOk result (file_of self.new name.now ≡ Some bytes.now) }
         ensures others { KeepsOthers (Some self.old) (Some self.new) name.now }

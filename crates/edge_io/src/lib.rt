@@ -1,4 +1,4 @@
-//! The outside as traits: a source of bytes, a sink of bytes and a shelf of files, in memory and over std.
+//! The outside as traits: a source of bytes, a sink of bytes and a file store (`Shelf`), in memory and over std.
 //!
 //! ```text
 //! let mut shelf = DirShelf::new(&rt);                      // files named from the current folder
@@ -10,16 +10,16 @@
 //! }
 //! ```
 //!
-//! A shelf also takes a file in pieces: `begin`, `append` and `end`, of which only `end` changes the file. Whatever a shelf
-//! rejects leaves all files as they were, except for a device or a pipe that `DirShelf` writes to.
+//! A file store also takes a file in pieces: `begin`, `append` and `end`, of which only `end` changes the file. A call
+//! that returns an error changes no file, except for a device or a pipe that `DirShelf` writes to.
 //!
-//! Each trait has an object over std (`StdSource`, `StdSink`, `DirShelf`), one in memory that never fails (`Sure..`),
-//! and one in memory that moves pieces of a chosen size and fails at chosen calls (`Mem..`), for tests of what a caller
-//! does then. `MemShelf::close` closes a name for reading or writing. [`BufferedSink`] stands in front of any sink and
-//! keeps bytes back until it is flushed.
+//! Each trait has an object over std (`StdSource`, `StdSink`, `DirShelf`) and two in memory for tests. One never fails,
+//! apart from allocation (`Sure..`). The other moves pieces of a chosen size and fails at chosen calls (`Mem..`).
+//! `MemShelf::close` closes a name for reading or writing. [`BufferedSink`] buffers bytes for any sink until it is
+//! flushed.
 //!
-//! Every object counts its faults and its allocation failures. So a caller's contract can say that it blames the outside
-//! only with cause, and that a call that succeeded had no fault.
+//! Every object counts its faults and its allocation failures. So a contract can say that a caller returns a fault only
+//! if the outside had one, and that a call that succeeded had none.
 //!
 //! Those over std keep no buffer: a call takes a few system calls. Those in memory keep all bytes, and look a file up
 //! in time linear in the number of files.
@@ -108,23 +108,23 @@ pub enum PutRefusal {
     Denied,
 }
 
-/// Where bytes come from, each once and in order.
+/// A source of bytes, each read once and in order.
 ///
-/// A source counts its faults. A call returns `Failed` only where this count increased in it, and `Ok` only where the
-/// count is unchanged.
+/// A source counts its faults. A call returns `Failed` only if this count increased in it, and `Ok` only if the count
+/// is unchanged.
 pub trait Source {
-    /// The bytes that are left, where the source tells them.
+    /// The bytes that are left, if the source exposes them.
     ghost left: { Self → Option (List ℕ) };
 
-    /// How often it has failed.
+    /// The number of faults.
     ghost faults: { Self → ℕ };
 
-    /// Reads the next bytes to the front of `into`, which isn't empty, and returns how many. `Ok(0)` is the end of input:
-    /// it comes where no byte is left, and only there.
+    /// Reads the next bytes to the start of `into`, which isn't empty, and returns their number. `Ok(0)` is the end of
+    /// input: it is returned exactly if no byte is left.
     ///
     /// # Errors
     ///
-    /// `Failed` where the source failed: it has read nothing then, and may be asked again.
+    /// `Failed` if the source failed. It has read nothing then, and the call can be repeated.
     fn read(&mut self, into: &mut [u8]) -> Result<usize, Failed>
         requires { 0 < length into.old }
         ensures bound { ReadsAtMost result into.new }
@@ -132,29 +132,29 @@ pub trait Source {
         ensures cause { HasCause (faults self.old) (faults self.new) result };
 }
 
-/// Where bytes go, in order.
+/// A sink of bytes, written in order.
 ///
-/// A sink counts its faults and its allocation failures. A call returns `Failed` or `NoMemory` only where the count of
-/// that name increased in it, and `Ok` only where both are unchanged.
+/// A sink counts its faults and its allocation failures. A call returns `Failed` or `NoMemory` only if that count
+/// increased in it, and `Ok` only if both are unchanged.
 pub trait Sink {
-    /// The bytes that were written, where the sink tells them. Those that it keeps back are the last of them.
+    /// The bytes that were written, if the sink exposes them. The last of them are those that it buffers.
     ghost written: { Self → Option (List ℕ) };
 
-    /// How many of the written bytes, the last ones, are kept back and haven't gone out.
+    /// The number of written bytes, the last ones, that are buffered and haven't been sent.
     ghost kept: { Self → ℕ };
 
-    /// How often it has failed.
+    /// The number of faults.
     ghost faults: { Self → ℕ };
 
-    /// How often it found no memory.
+    /// The number of allocation failures.
     ghost wants: { Self → ℕ };
 
-    /// Appends bytes from the front of the piece, which isn't empty, and returns how many: at least one. The sink may keep
-    /// them back until `flush`.
+    /// Appends a prefix of the piece, which isn't empty, and returns its length: at least one byte. The sink may buffer
+    /// them until `flush`.
     ///
     /// # Errors
     ///
-    /// `Failed` where the sink failed, and `NoMemory` where it found none. Either has appended nothing.
+    /// `Failed` if the sink failed, and `NoMemory` if allocation fails. In both cases nothing was appended.
     fn write(&mut self, piece: &[u8]) -> Result<usize, WriteRefusal>
         requires { 0 < length piece.now }
         ensures some { IfOk result (λ n. 0 < n) }
@@ -162,12 +162,12 @@ pub trait Sink {
         ensures bytes { WriteAppends (written self.old) (written self.new) result piece.now }
         ensures cause { HasWriteCause (faults self.old) (faults self.new) (wants self.old) (wants self.new) result };
 
-    /// Sends what was kept back. The written bytes stay as they are.
+    /// Sends the buffered bytes. The written bytes are unchanged.
     ///
     /// # Errors
     ///
-    /// `Failed` where the sink failed, and `NoMemory` where it found none. What has not gone out is still kept back, and
-    /// the call may be made again.
+    /// `Failed` if the sink failed, and `NoMemory` if allocation fails. Bytes that weren't sent are still buffered, and
+    /// the call can be repeated.
     fn flush(&mut self) -> Result<(), WriteRefusal>
         ensures bytes { Keeps (written self.old) (written self.new) }
         ensures sent { OnOk result (kept self.new ≡ 0) }
@@ -176,28 +176,29 @@ pub trait Sink {
 
 /// Files by name.
 ///
-/// A shelf counts its faults and its allocation failures. A call returns `Failed` or `NoMemory` only where the count of
-/// that name increased in it, and anything else only where both are unchanged.
+/// A file store counts its faults and its allocation failures. A call returns `Failed` or `NoMemory` only if that count
+/// increased in it, and any other result only if both are unchanged.
 pub trait Shelf {
-    /// The files and the names that are closed, where the shelf tells them.
+    /// The files and the names that are closed, if the file store exposes them.
     ghost files: { Self → Option Files };
 
-    /// What was begun: nothing, or a put in pieces, with its name and its bytes so far where the shelf tells them.
+    /// The put in pieces that was begun, or none. Its name and its bytes so far are known if the file store exposes
+    /// them.
     ghost begun: { Self → Option (Option (List ℕ × List ℕ)) };
 
-    /// How often it has failed.
+    /// The number of faults.
     ghost faults: { Self → ℕ };
 
-    /// How often it found no memory.
+    /// The number of allocation failures.
     ghost wants: { Self → ℕ };
 
-    /// Reads bytes of a file from the offset `from` on to the front of `into`, which isn't empty, and returns how many. The
-    /// files stay. `Ok(0)` says that none is left there.
+    /// Reads bytes of a file from the offset `from` on to the start of `into`, which isn't empty, and returns their
+    /// number. The files are unchanged. `Ok(0)` says that no byte is left from there on.
     ///
     /// # Errors
     ///
-    /// `Absent` where no file has the name, `Denied` where one has it and is closed for reading, `Failed` where the shelf
-    /// failed, and `NoMemory` where it found none.
+    /// `Absent` if no file has the name, `Denied` if the file is closed for reading, `Failed` if the file store failed,
+    /// and `NoMemory` if allocation fails.
     fn read_at(&mut self, name: &[u8], from: u64, into: &mut [u8]) -> Result<usize, ShelfRefusal>
         requires { 0 < length into.old }
         ensures bound { ReadsAtMost result into.new }
@@ -209,13 +210,13 @@ pub trait Shelf {
         ensures denied { IsErrOf result ShelfRefusal.Denied → DeniesReads (files self.old) name.now }
         ensures cause { HasShelfCause (faults self.old) (faults self.new) (wants self.old) (wants self.new) result };
 
-    /// Gives the file of this name these bytes, whole, and makes it where there is none. The other files stay, and so do
-    /// the names that are closed. A put in pieces that was begun is given up.
+    /// Makes these bytes the whole content of the file of this name, which is created if it doesn't exist. The other
+    /// files and the closed names are unchanged. A put in pieces that was begun is discarded.
     ///
     /// # Errors
     ///
-    /// `Denied` where the name is closed for writing, `Failed` where the shelf failed, and `NoMemory` where it found none.
-    /// All files are then as they were.
+    /// `Denied` if the name is closed for writing, `Failed` if the file store failed, and `NoMemory` if allocation
+    /// fails. All files are then unchanged.
     fn put(&mut self, name: &[u8], bytes: &[u8]) -> Result<(), PutRefusal>
         ensures done { OnOk result (Holds (files self.new) name.now bytes.now) }
         ensures others { KeepsOthers (files self.old) (files self.new) name.now }
@@ -225,8 +226,8 @@ pub trait Shelf {
         ensures given_up { begun self.new ≡ None }
         ensures cause { HasPutCause (faults self.old) (faults self.new) (wants self.old) (wants self.new) result };
 
-    /// Begins a put in pieces to the file of this name, with no bytes yet. The files stay until `end`. A put in pieces that
-    /// was begun is given up.
+    /// Begins a put in pieces to the file of this name, with no bytes yet. The files are unchanged until `end`. A put
+    /// in pieces that was begun is discarded.
     ///
     /// # Errors
     ///
@@ -239,11 +240,11 @@ pub trait Shelf {
         ensures given_up { OnErr result (begun self.new ≡ None) }
         ensures cause { HasPutCause (faults self.old) (faults self.new) (wants self.old) (wants self.new) result };
 
-    /// Appends bytes to what was begun. The files stay until `end`.
+    /// Appends bytes to what was begun. The files are unchanged until `end`.
     ///
     /// # Errors
     ///
-    /// `Failed` where the shelf failed, and `NoMemory` where it found none. What was begun is given up then.
+    /// `Failed` if the file store failed, and `NoMemory` if allocation fails. What was begun is then discarded.
     fn append(&mut self, bytes: &[u8]) -> Result<(), PutRefusal>
         requires { IsSome (begun self.old) }
         ensures kept { files self.new ≡ files self.old }
@@ -252,11 +253,12 @@ pub trait Shelf {
         ensures given_up { OnErr result (begun self.new ≡ None) }
         ensures cause { HasPutCause (faults self.old) (faults self.new) (wants self.old) (wants self.new) result };
 
-    /// Ends what was begun: it does what `put` does with the name and all the bytes, and nothing is begun any more.
+    /// Ends the put that was begun: it does what `put` does with the name and all the bytes. Afterwards no put is
+    /// begun.
     ///
     /// # Errors
     ///
-    /// Those of `put`. All files are then as they were.
+    /// Those of `put`. All files are then unchanged.
     fn end(&mut self) -> Result<(), PutRefusal>
         requires { IsSome (begun self.old) }
         ensures done { (name bytes : List ℕ) → IsBegun (begun self.old) name bytes → IsPutTo (files self.old) (files self.new) name bytes result }

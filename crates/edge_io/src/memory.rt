@@ -1,4 +1,5 @@
-// A source, a sink and a shelf in memory that move at most `piece` bytes a call, and fail at stated calls.
+// A source, a sink and a file store in memory that move at most `piece` bytes in a read or a write, and fail at stated
+// calls.
 ghost use Rattle.std.specs.Prelude.{◌≡◌, ◌≤◌, ◌<◌, ◌↔◌, ◌≢◌, ◌++◌, [], Some, None, length, take, option_map, IsTrue, IsErr, IsErrOf, IsOk, IsSome, IfOk, IfSome, OnOk, OnErr};
 ghost use Rattle.std.specs.Io.{ReadsAtMost};
 ghost use Rattle.std.specs.Io.KnownBytes.{Keeps, ReadConsumes, WriteAppends};
@@ -15,7 +16,7 @@ use crate::{Failed, PutRefusal, Shelf, ShelfRefusal, Sink, Source, WriteRefusal}
 use std::alloc::{AllocError, Global};
 use std::marker::Model;
 
-/// A source over bytes in memory. It tells the bytes that are left.
+/// A source over bytes in memory. It exposes the bytes that are left.
 #[derive(Drop)]
 pub struct MemSource {
     bytes: Vec<u8>,
@@ -36,7 +37,7 @@ impl Model for MemSource {
 }
 
 impl MemSource {
-    /// A source that gives at most `piece` bytes a call and fails at the calls with these numbers, counted from 1.
+    /// A source that returns at most `piece` bytes per call and fails at the calls with these numbers, counted from 1.
     pub fn new(bytes: Vec<u8>, piece: usize, failing: Vec<u64>) -> MemSource
         requires { 0 < piece }
         ensures { result ≡ record { left = bytes.items; piece = piece; injection = fresh failing.items } }
@@ -75,7 +76,7 @@ impl Source for MemSource {
     }
 }
 
-/// A sink into memory. It tells the bytes that were written.
+/// A sink into memory. It exposes the bytes that were written.
 #[derive(Drop)]
 pub struct MemSink {
     bytes: Vec<u8>,
@@ -96,7 +97,8 @@ impl Model for MemSink {
 }
 
 impl MemSink {
-    /// A sink that takes at most `piece` bytes a call and fails at the calls with these numbers, counted from 1.
+    /// A sink that takes at most `piece` bytes per call and fails at the calls with these numbers, counted from 1. Only
+    /// calls to `write` count.
     pub fn new(alloc: Global, piece: usize, failing: Vec<u64>) -> MemSink
         requires { 0 < piece }
         ensures { result ≡ record { written = []; piece = piece; injection = fresh failing.items; wants = 0 } }
@@ -161,7 +163,7 @@ impl Sink for MemSink {
     }
 }
 
-/// A shelf in memory. It tells its files. Where a name is given twice at first, its first entry counts.
+/// A file store in memory. It exposes its files. If a name occurs twice at first, its first entry counts.
 #[derive(Drop)]
 pub struct MemShelf {
     files: KeptFiles,
@@ -183,8 +185,8 @@ impl Model for MemShelf {
 }
 
 impl MemShelf {
-    /// A shelf whose reads give at most `piece` bytes. It fails at the calls with these numbers, counted from 1 over
-    /// reads and puts together.
+    /// A file store whose reads return at most `piece` bytes. It fails at the calls with these numbers, counted from 1
+    /// over the calls of all its methods that read or write.
     pub fn new(files: Vec<(Vec<u8>, Vec<u8>)>, piece: usize, failing: Vec<u64>) -> MemShelf
         requires { 0 < piece }
         ensures { result ≡ record { files = open_files (told files.items); begun = None; piece = piece; injection = fresh failing.items; wants = 0 } }
@@ -198,12 +200,12 @@ impl MemShelf {
         }
     }
 
-    /// Closes a name for reading, for writing, or both: such calls return `Denied`. A read still returns `Absent` where no
+    /// Closes a name for reading, for writing, or both: such calls return `Denied`. A read still returns `Absent` if no
     /// file has the name.
     ///
     /// # Errors
     ///
-    /// Allocation failure: nothing has changed.
+    /// `AllocError` if allocation fails; nothing has changed then.
     pub fn close(&mut self, name: &[u8], reads: bool, writes: bool) -> Result<(), AllocError>
         ensures closed { OnOk result (self.new ≡ record self.old { files = close_file self.old.files name.now reads writes }) }
         ensures refused { OnErr result (self.new ≡ self.old) }

@@ -1,4 +1,4 @@
-// A file that reads go on in.
+// An open file in which reads continue.
 ghost use Rattle.std.specs.Prelude.{◌≡◌, ◌<◌, ◌≤◌, length};
 ghost use Rattle.std.specs.Io.{ReadsAtMost};
 
@@ -17,7 +17,7 @@ pub struct Opened<R: Files> {
     at: u64,
 }
 
-/// Fails for what can't be read at an offset. It is asked before a file is opened, since the open of a pipe waits for a
+/// Fails for what can't be read at an offset. It is called before a file is opened, since opening a pipe waits for a
 /// writer.
 fn check_kind<R: Files>(rt: &R, path: &str) -> io::Result<()> {
     let kind = repeated(|| fs::metadata(rt, path))?.file_type();
@@ -27,7 +27,7 @@ fn check_kind<R: Files>(rt: &R, path: &str) -> io::Result<()> {
     Ok(())
 }
 
-/// Goes to an offset. Where the system has no such offset it goes to the end, since no byte is left there either.
+/// Seeks to an offset. If the system has no such offset, seeks to the end, since no byte is left there either.
 fn go_to<F: Seek>(file: &mut F, from: u64) -> io::Result<()> {
     match repeated(|| file.seek(SeekFrom::Start(from))) {
         Ok(_) => Ok(()),
@@ -53,8 +53,8 @@ fn open_at<R: Files + AllocGlobal>(rt: &R, name: &[u8], from: u64) -> io::Result
     })
 }
 
-/// Reads bytes of a file at an offset. Where the last read of this name ended there, it goes on in the file that was
-/// opened then, and else it opens the file.
+/// Reads bytes of a file at an offset. If the last read of this name ended there, it continues in the file that was
+/// opened then. Otherwise it opens the file.
 pub fn read_file<R: Files + AllocGlobal>(
     rt: &R,
     last: &mut Option<Opened<R>>,

@@ -8,14 +8,14 @@ use crate::{Failed, Sink, Source, WriteRefusal};
 use std::io::{ErrorKind, Read, Write};
 use std::marker::Model;
 
-/// How often an interrupted call is repeated before it counts as a fault.
+/// The number of times that an interrupted call is repeated before it counts as a fault.
 const REPEATS: u32 = 1000;
 
-/// A source over a reader of std, such as standard input. It tells the bytes that are left where the reader does, which
+/// A source over a reader of std, such as standard input. It exposes the bytes that are left if the reader does, which
 /// files and pipes don't.
 ///
-/// A read that a signal interrupted is made again, up to 1,000 times, and is a fault only then. Any other error of the
-/// reader is a fault at once, also one that says that no byte is ready yet. It keeps no buffer of its own.
+/// A read that a signal interrupted is repeated, up to 1,000 times, and is a fault only then. Any other error of the
+/// reader is a fault at once, including one that says that no byte is ready yet. The source has no buffer of its own.
 #[derive(Drop)]
 pub struct StdSource<R: Read> {
     reader: R,
@@ -63,12 +63,11 @@ impl<R: Read> Source for StdSource<R> {
     }
 }
 
-/// A sink over a writer of std, such as standard output. It tells the bytes that were written where the writer does,
-/// which files and pipes don't. It never answers `NoMemory`.
+/// A sink over a writer of std, such as standard output. It exposes the bytes that were written if the writer does,
+/// which files and pipes don't. It never returns `NoMemory`.
 ///
-/// A write that a signal interrupted is made again, up to 1,000 times, and is a fault only then. Any other error of the
-/// writer is a fault at once, and so is a writer that takes no byte. What a writer keeps in a buffer of its own isn't
-/// flushed here.
+/// A write that a signal interrupted is repeated, up to 1,000 times, and is a fault only then. Any other error of the
+/// writer is a fault at once, and so is a writer that takes no byte. A buffer of the writer's own isn't flushed here.
 #[derive(Drop)]
 pub struct StdSink<W: Write> {
     writer: W,

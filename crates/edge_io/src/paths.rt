@@ -7,7 +7,7 @@ use std::path::{Path, PathBuf};
 use std::rt::Files;
 use std::{fs, io, str};
 
-/// How many links are followed at the end of a path.
+/// The maximum number of links that are followed at the end of a path.
 const MAX_LINKS: u32 = 40;
 
 /// What a put writes to: a path that is no link, and what is there now.
@@ -24,7 +24,7 @@ pub enum Now {
     Nothing,
     /// A plain file.
     Plain(Metadata),
-    /// A device, a pipe, or what lies below /dev or /proc: it is written to as it is.
+    /// A device, a pipe, or what lies below /dev or /proc: it is written in place.
     Device,
 }
 
@@ -33,7 +33,7 @@ pub fn text_of(name: &[u8]) -> io::Result<&str> {
     str::from_utf8(name).map_err(|_| io::Error::from(ErrorKind::PermissionDenied))
 }
 
-/// The folder that the last part of the path lies in.
+/// The folder that contains the last part of the path.
 pub fn folder_of(path: Path<'_>) -> Path<'_> {
     match path.parent() {
         Some(folder) if !folder.as_str().is_empty() => folder,
@@ -45,7 +45,7 @@ fn is_below_devices(path: Path<'_>) -> bool {
     path.starts_with("/dev") || path.starts_with("/proc")
 }
 
-/// Whether the path lies below /dev or /proc, also where its folder is named by a link.
+/// Whether the path lies below /dev or /proc. Links in the path of its folder are followed.
 fn lies_with_devices<R: Files + AllocGlobal>(rt: &R, path: Path<'_>) -> io::Result<bool> {
     match repeated(|| fs::canonicalize(rt, folder_of(path))) {
         Ok(folder) => Ok(is_below_devices(folder.as_path())),

@@ -1,14 +1,14 @@
-// Calls of the system that a signal may interrupt.
+// System calls that a signal may interrupt.
 ghost use Rattle.std.specs.Prelude.{◌≡◌, ◌<◌, ◌≤◌, length};
 ghost use Rattle.std.specs.Io.{ReadsAtMost, WritesAtMost};
 
 use std::io;
 use std::io::{ErrorKind, Read, Write};
 
-/// How often an interrupted call is repeated before it counts as a fault.
+/// The number of times that an interrupted call is repeated before it counts as a fault.
 pub const REPEATS: u32 = 1000;
 
-/// Makes a call, and makes it again where a signal interrupted it.
+/// Makes a call, and repeats it if a signal interrupted it.
 pub fn repeated<T, C: FnMut() -> io::Result<T>>(mut call: C) -> io::Result<T>
     requires { C.IsAlwaysCallable call }
 {
@@ -21,7 +21,7 @@ pub fn repeated<T, C: FnMut() -> io::Result<T>>(mut call: C) -> io::Result<T>
     call()
 }
 
-/// Reads, and reads again where a signal interrupted the call.
+/// Reads, and repeats the call if a signal interrupted it.
 pub fn read_some<F: Read>(file: &mut F, into: &mut [u8]) -> io::Result<usize>
     ensures { ReadsAtMost result into.new }
 {
@@ -34,7 +34,7 @@ pub fn read_some<F: Read>(file: &mut F, into: &mut [u8]) -> io::Result<usize>
     file.read(into)
 }
 
-/// Writes, and writes again where a signal interrupted the call.
+/// Writes, and repeats the call if a signal interrupted it.
 fn write_some<F: Write>(file: &mut F, bytes: &[u8]) -> io::Result<usize>
     ensures { WritesAtMost result bytes.now }
 {

@@ -1,4 +1,4 @@
-// A new file that takes the place of an old one.
+// A new file that replaces an old one.
 ghost use Rattle.std.specs.Prelude.{◌≢◌, Err};
 
 use crate::PutRefusal;
@@ -11,25 +11,26 @@ use std::path::{Path, PathBuf};
 use std::rt::Files;
 use std::{fs, io};
 
-/// How many names are tried for a new file.
+/// The maximum number of names that are tried for a new file.
 const MAX_NAMES: u32 = 1000;
 
-/// The rights of a new file: those of the system's mask, where it takes no old file's place.
+/// The permissions of a new file that replaces no old one, less those that the system's mask removes.
 const NEW_MODE: u32 = 0o666;
 
-/// The rights of a new file until it gets those of the old one.
+/// The permissions of a new file until it gets those of the old one.
 const PRIVATE_MODE: u32 = 0o600;
 
-/// The bits of a mode that say who may read, write and run a file.
+/// The bits of a mode that say who may read, write and execute a file.
 const RIGHTS: u32 = 0o777;
 
-/// A file that is being written, beside the one whose place it takes at the end. It is removed where it is dropped before.
+/// A file that is being written in the same folder as the one that it replaces at the end. It is removed if it is
+/// dropped earlier.
 pub struct Replacement<'a, R: Files + AllocGlobal> {
     rt: &'a R,
     file: R::File,
     path: PathBuf,
 
-    // Where the bytes are until the end. What is written to as it is has none.
+    // The path of the new file until the end. A file that is written in place has none.
     beside: Option<PathBuf>,
 }
 
@@ -47,7 +48,7 @@ impl<'a, R: Files + AllocGlobal> Drop for Replacement<'a, R> {
     }
 }
 
-/// The refusal where a name can't be reached to write to it.
+/// The error if a name can't be reached for writing.
 fn out_of_reach(error: io::Error) -> PutRefusal {
     match error.kind() {
         ErrorKind::NotFound
@@ -66,7 +67,7 @@ fn out_of_reach(error: io::Error) -> PutRefusal {
     }
 }
 
-/// The refusal where a file that was reached doesn't take its bytes.
+/// The error if a file that was reached doesn't take its bytes.
 fn not_written(error: io::Error) -> PutRefusal
     ensures { result ≢ PutRefusal.Denied }
 {
@@ -76,13 +77,14 @@ fn not_written(error: io::Error) -> PutRefusal
     PutRefusal::Failed
 }
 
-/// Fails where the old file may not be written to. Its place could be taken by who may write to its folder.
+/// Fails if the old file may not be written to. Without this test it could be replaced by anyone who may write to its
+/// folder.
 fn check_rights<R: Files>(rt: &R, path: Path<'_>) -> io::Result<()> {
     let _file = OpenOptions::new().write(true).open(rt, path)?;
     Ok(())
 }
 
-/// Makes a new file in the folder of a path, under a name with spaces that no file has.
+/// Creates a new file in the folder of a path, under a name with spaces that no file has.
 fn create_beside<R: Files + AllocGlobal>(
     rt: &R,
     path: Path<'_>,
@@ -102,7 +104,7 @@ fn create_beside<R: Files + AllocGlobal>(
     Err(io::Error::from(ErrorKind::AlreadyExists))
 }
 
-/// Gives a new file the owner, the group and the rights of an old one, as far as the system lets it.
+/// Sets the owner, the group and the permissions of a new file to those of an old one, as far as the system allows.
 fn take_rights<R: Files>(rt: &R, file: &R::File, path: Path<'_>, old: &Metadata) {
     let group = Some(old.gid());
     if repeated(|| lchown(rt, path, Some(old.uid()), group)).is_err() {
@@ -111,7 +113,7 @@ fn take_rights<R: Files>(rt: &R, file: &R::File, path: Path<'_>, old: &Metadata)
     let _ = file.set_permissions(Permissions::from_mode(old.mode() & RIGHTS));
 }
 
-/// Opens what is written to as it is.
+/// Opens a file that is written in place.
 fn open_device<R: Files + AllocGlobal>(rt: &R, path: PathBuf) -> io::Result<Replacement<'_, R>> {
     let file = fs::create(rt, path.as_path())?;
     Ok(Replacement {
@@ -149,7 +151,7 @@ fn begin_at<R: Files + AllocGlobal>(rt: &R, target: Target) -> io::Result<Replac
     })
 }
 
-/// Brings a file to the disk, where its file system can.
+/// Syncs a file to the disk, if its file system can.
 fn sync<F: OpenFile>(file: &F) -> io::Result<()> {
     match file.sync_all() {
         Err(error) if error.kind() == ErrorKind::InvalidInput => Ok(()),
@@ -157,7 +159,7 @@ fn sync<F: OpenFile>(file: &F) -> io::Result<()> {
     }
 }
 
-/// Brings the entries of a folder to the disk, where the system can.
+/// Syncs the entries of a folder to the disk, if the system can.
 fn sync_folder<R: Files>(rt: &R, folder: Path<'_>) {
     if let Ok(folder) = fs::open(rt, folder) {
         let _ = folder.sync_all();
@@ -185,7 +187,7 @@ impl<'a, R: Files + AllocGlobal> Replacement<'a, R> {
         }
     }
 
-    /// Takes the place of the old file, once the bytes are on the disk.
+    /// Replaces the old file, once the bytes are on the disk.
     pub fn end(mut self) -> Result<(), PutRefusal> {
         let Some(beside) = &self.beside else {
             return Ok(());

@@ -1,4 +1,4 @@
-// A source, a sink and a shelf in memory that never fail.
+// A source, a sink and a file store in memory that never fail, apart from allocation.
 ghost use Rattle.std.specs.Prelude.{◌≡◌, ◌≢◌, ◌≤◌, ◌<◌, ◌⊎◌, ◌++◌, [], Some, None, length, take, option_map, IsOk, IsSome, IfOk, IfErr, IfSome, OnOk, OnErr, IsErrOf, IsOkUnless};
 ghost use Rattle.std.specs.Io.{ReadsAtMost};
 ghost use Rattle.std.specs.Io.KnownBytes.{Keeps, ReadConsumes, WriteAppends};
@@ -57,7 +57,7 @@ impl Source for SureSource {
     }
 }
 
-/// A sink into memory that never fails. It tells the bytes that were written.
+/// A sink into memory whose only error is `NoMemory`. It exposes the bytes that were written.
 #[derive(Drop)]
 pub struct SureSink {
     bytes: Vec<u8>,
@@ -128,7 +128,8 @@ impl Sink for SureSink {
     }
 }
 
-/// A shelf in memory that never fails. It tells its files. Where a name is given twice at first, its first entry counts.
+/// A file store in memory that never returns `Failed`. It exposes its files. If a name occurs twice at first, its first
+/// entry counts.
 #[derive(Drop)]
 pub struct SureShelf {
     files: KeptFiles,
@@ -145,7 +146,7 @@ impl Model for SureShelf {
 }
 
 impl SureShelf {
-    /// A shelf with these names and bytes.
+    /// A file store with these names and bytes.
     pub fn new(files: Vec<(Vec<u8>, Vec<u8>)>) -> SureShelf
         ensures { result ≡ record { files = open_files (told files.items); begun = None; wants = 0 } }
     {

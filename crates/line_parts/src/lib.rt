@@ -1,4 +1,4 @@
-//! What every line is made of: words, numbers and lists of names.
+//! Parts of lines: words, numbers and lists of names.
 //!
 //! ```text
 //! assert_eq!(cut_word(b"show d 1 4"), Some((b"show", b"d 1 4")));

@@ -19,8 +19,8 @@ fn are_names(text: &[u8]) -> bool
     is_well_named(rest)
 }
 
-/// Whether a text is a list of names: `()`, or one or more names with a comma between each two.
-/// Takes one pass and no memory.
+/// Whether a text is a list of names: `()`, or one or more names with a comma between each two. Takes one pass and
+/// allocates nothing.
 pub fn is_name_list(text: &[u8]) -> bool
     ensures { IsTrue result ↔ IsNameList text.now }
 {

@@ -6,8 +6,8 @@ use crate::is_same;
 use itoa::Buffer;
 use std::str;
 
-/// The number that a text writes: decimal digits without a sign or a leading zero, with a value
-/// below 2^64. Any other text is `None`. It takes no memory.
+/// The number that a text writes: decimal digits without a sign or a leading zero, with a value below 2^64. Any other
+/// text is `None`. Allocates nothing.
 pub fn number(text: &[u8]) -> Option<u64>
     ensures { MatchOption result ((n : _) → IsNum text.now n → ⊥) (λ n. IsNum text.now n) }
 {
@@ -17,7 +17,7 @@ pub fn number(text: &[u8]) -> Option<u64>
     let Ok(value) = digits.parse::<u64>() else {
         return None;
     };
-    // One text writes each number: the one that printing gives.
+    // Each number has one text: the one that printing returns.
     if is_same(Buffer::new().format(value).as_bytes(), text) {
         Some(value)
     } else {

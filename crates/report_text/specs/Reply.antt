@@ -1,4 +1,4 @@
--- The texts of replies and refusals, each with its newline.
+-- The texts of replies and rejections, each with its newline.
 use Rattle.std.specs.Prelude.{ℕ, ◌==◌, ◌&&◌, List, [], ◌∷◌, ◌++◌, codes, if◌then◌else◌, nat_le, nat_lt, ◌+◌, ◌/◌, ◌%◌}
 use Rattle.std.specs.List.{flat_map}
 use Rattle.std.specs.Fmt.{decimal}
@@ -46,7 +46,7 @@ saved_text docs nodes = codes "ok " ++ decimal docs ++ 32 ∷ decimal nodes ++ 1
 abbrev pub opened_text : ℕ → List ℕ
 opened_text docs = codes "ok " ++ decimal docs ++ 10 ∷ []
 
--- the word of a refusal and what it keeps, each behind a space
+-- the word of a rejection and its values, each after a space
 abbrev pub why_text : Refusal → List ℕ
 why_text Syntax = codes "Syntax"
 why_text (NoSuchDocument name) = codes "NoSuchDocument " ++ name
@@ -74,6 +74,6 @@ why_text TooManyMatches = codes "TooManyMatches"
 why_text (NoSuchVersion name) = codes "NoSuchVersion " ++ name
 why_text TooManyAnswers = codes "TooManyAnswers"
 
--- `line N: WORD` and what it keeps
+-- `line N: WORD` and the values
 abbrev pub refusal_text : ℕ → Refusal → List ℕ
 refusal_text number why = codes "line " ++ decimal number ++ codes ": " ++ why_text why ++ 10 ∷ []

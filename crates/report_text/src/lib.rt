@@ -1,12 +1,12 @@
-//! The lines of replies and refusals.
+//! The lines of replies and rejections.
 //!
 //! ```text
 //! doc_line(alloc, &name, 11, b"abracadabra", &mut out)?;               // ok d 11 "abracadabra"
 //! refusal_line(alloc, 3, &Refusal::NoSuchDocument { name }, &mut out)?;  // line 3: NoSuchDocument d
 //! ```
 //!
-//! Each call puts one whole line, with its newline, behind what stands in `out`, or nothing where memory runs out: the
-//! line is made first and appended then. Time and memory are linear in the line, in which a byte of a text takes at
+//! Each call appends one whole line with its newline to `out`, or nothing if allocation fails: the line is built first
+//! and then appended. Time and memory are linear in the line, in which a byte of a text takes at
 //! most four. The texts are exactly those of the language, one equation for each.
 //!
 //! Proved: The bytes of each reply.

@@ -1,4 +1,4 @@
-// Pieces of lines, put behind a line that has begun.
+// Pieces of lines, appended to a line that has begun.
 ghost use Rattle.std.specs.Prelude.{◌≡◌, ◌++◌, ◌∷◌, ◌<◌, [], OnOk, OnErr};
 ghost use Rattle.std.specs.Fmt.{decimal};
 ghost use Rattle.report_text.specs.Reply.{hex_digit, quoted, shown_byte};
@@ -46,7 +46,7 @@ pub fn push_quoted(bytes: &[u8], into: &mut Vec<u8>) -> Result<(), AllocError>
     Ok(())
 }
 
-/// Puts a whole line behind others, or nothing of it.
+/// Appends a whole line, or nothing of it.
 pub fn push_line(line: &[u8], into: &mut Vec<u8>) -> Result<(), NoMemory>
     ensures ok { OnOk result (into.new.items ≡ into.old.items ++ line.now) }
     ensures unchanged { OnErr result (into.new.items ≡ into.old.items) }

@@ -1,4 +1,4 @@
-// Refusals and their lines.
+// Rejections and their lines.
 ghost use Rattle.std.specs.Prelude.{◌≡◌, ◌++◌, ◌∷◌, [], IfOk, OnOk, OnErr};
 ghost use Rattle.std.specs.Fmt.{decimal};
 ghost use Rattle.report_text.specs.Reply.{refusal_text, why_text};
@@ -7,8 +7,7 @@ use crate::pieces::{push_line, push_number};
 use span_types::{ByteList, Name, NoMemory};
 use std::alloc::{AllocError, Global};
 
-/// Why a line is refused, with what its reply says beside the word. The word is the variant's
-/// name.
+/// Why a line is rejected, with the values that its reply has after the word. The word is the variant's name.
 #[derive(Drop)]
 pub enum Refusal {
     /// The line, or its expression, is not in its grammar.
@@ -21,7 +20,7 @@ pub enum Refusal {
     OutOfRange { first: u64, last: u64, len: u64 },
     /// The result would have `len` bytes, over 2^48.
     TooLong { len: u64 },
-    /// `width` bytes were asked for, over 4,096.
+    /// `width` bytes were requested, over 4,096.
     RangeTooWide { width: u64 },
     /// The formula has `len` bytes, over 2,048.
     FormulaTooLong { len: u64 },
@@ -33,8 +32,8 @@ pub enum Refusal {
     TooManyPositions,
     /// The query would have more than 8 variables.
     TooManyVariables,
-    /// The formula breaks the rule on variables at this one: it stands in two parts of a concatenation, under `*` or
-    /// `+`, or in its own capture. The rule is one of syntax, so it also refuses a formula that fits no text.
+    /// The formula breaks the rule on variables at this one: it occurs in two parts of a concatenation, under `*` or
+    /// `+`, or in its own capture. The rule is syntactic, so it also rejects a formula that fits no text.
     NotFunctional { name: Name },
     /// The query would have more than 128 deterministic states.
     TooManyStates,
@@ -46,25 +45,25 @@ pub enum Refusal {
     NoSuchFile { file: ByteList },
     /// The file has more bytes than its limit, or would have.
     FileTooLong { file: ByteList },
-    /// The file is there and can't be read: it is a folder or a pipe, or a right is missing.
+    /// The file exists and can't be read: it is a folder or a pipe, or a permission is missing.
     CannotRead { file: ByteList },
-    /// The file can't be written: it is a folder, its folder isn't there, or a right is missing.
+    /// The file can't be written: it is a folder, its folder doesn't exist, or a permission is missing.
     CannotWrite { file: ByteList },
     /// The file is not an image. `kind` is 1 to 12.
     BadImage { kind: u8 },
     /// The query would have this many leaves and operations, over 128.
     QueryTooLarge { parts: u64 },
-    /// The query of a replacement has `count` variables and not one.
+    /// The query of a replacement has `count` variables instead of one.
     NotOneVariable { count: u8 },
     /// A replacement chooses more than 32,768 spans.
     TooManyMatches,
     /// No version has this name.
     NoSuchVersion { name: Name },
-    /// The number that was asked for is over 2^64 - 2.
+    /// The number in the request is over 2^64 - 2.
     TooManyAnswers,
 }
 
-/// A word and the bytes that it keeps.
+/// A word and the bytes of the rejection.
 fn push_bytes(word: &[u8], kept: &[u8], into: &mut Vec<u8>) -> Result<(), AllocError>
     ensures { OnOk result (into.new.items ≡ into.old.items ++ (word.now ++ kept.now)) }
 {
@@ -72,7 +71,7 @@ fn push_bytes(word: &[u8], kept: &[u8], into: &mut Vec<u8>) -> Result<(), AllocE
     into.extend_from_slice(kept)
 }
 
-/// A word and the number that it keeps.
+/// A word and the number of the rejection.
 fn push_counted(word: &[u8], kept: u64, into: &mut Vec<u8>) -> Result<(), AllocError>
     ensures { OnOk result (into.new.items ≡ into.old.items ++ (word.now ++ decimal kept)) }
 {
@@ -95,7 +94,7 @@ fn push_range(
     push_counted(b" ", len, into)
 }
 
-/// The word of a refusal and what it keeps, each behind a space.
+/// The word of a rejection and its values, each after a space.
 fn push_why(why: &Refusal, into: &mut Vec<u8>) -> Result<(), AllocError>
     ensures { OnOk result (into.new.items ≡ into.old.items ++ why_text why.now) }
 {
@@ -151,12 +150,12 @@ fn refusal_line_of(alloc: Global, number: u64, why: &Refusal) -> Result<Vec<u8>,
     Ok(line)
 }
 
-/// Puts `line N: WORD`, then each value that the refusal keeps behind a space, and a newline
-/// behind `into`. Takes time and memory linear in the line.
+/// Appends `line N: WORD`, then each value of the rejection after a space, and a newline to `into`. Takes time and
+/// memory linear in the line.
 ///
 /// # Errors
 ///
-/// `NoMemory` where memory for the line wasn't found; `into` is then as before.
+/// `NoMemory` if allocation fails; `into` is then unchanged.
 pub fn refusal_line(
     alloc: Global,
     number: u64,

@@ -20,11 +20,11 @@ fn doc_line_of(alloc: Global, name: &Name, len: u64, head: &[u8]) -> Result<Vec<
     Ok(line)
 }
 
-/// Puts `ok NAME LEN "HEAD"` and a newline behind `into`. The head's bytes are escaped as [`shown_line`] says.
+/// Appends `ok NAME LEN "HEAD"` and a newline to `into`. The head's bytes are escaped as in [`shown_line`].
 ///
 /// # Errors
 ///
-/// `NoMemory` where memory for the line wasn't found; `into` is then as before.
+/// `NoMemory` if allocation fails; `into` is then unchanged.
 pub fn doc_line(
     alloc: Global,
     name: &Name,
@@ -50,11 +50,11 @@ fn name_line_of(alloc: Global, name: &Name, len: u64) -> Result<Vec<u8>, NoMemor
     Ok(line)
 }
 
-/// Puts `NAME LEN` and a newline behind `into`.
+/// Appends `NAME LEN` and a newline to `into`.
 ///
 /// # Errors
 ///
-/// `NoMemory` where memory for the line wasn't found; `into` is then as before.
+/// `NoMemory` if allocation fails; `into` is then unchanged.
 pub fn name_line(alloc: Global, name: &Name, len: u64, into: &mut Vec<u8>) -> Result<(), NoMemory>
     ensures ok { OnOk result (into.new.items ≡ into.old.items ++ name_text name.now len) }
     ensures unchanged { OnErr result (into.new.items ≡ into.old.items) }
@@ -73,13 +73,13 @@ fn shown_line_of(alloc: Global, bytes: &[u8]) -> Result<Vec<u8>, NoMemory>
     Ok(line)
 }
 
-/// Puts `"BYTES"` and a newline behind `into`, in time and memory linear in the bytes.
-/// Between the quotes `"` is `\"`, the backslash is `\\`, any other byte from 0x20 to 0x7E stands
-/// for itself, and any other is `\x` and two lower-case hexadecimal digits.
+/// Appends `"BYTES"` and a newline to `into`, in time and memory linear in the bytes. Between the quotes `"` is `\"`,
+/// the backslash is `\\`, any other byte from 0x20 to 0x7E stands for itself, and any other is `\x` and two lower-case
+/// hexadecimal digits.
 ///
 /// # Errors
 ///
-/// `NoMemory` where memory for the line wasn't found; `into` is then as before.
+/// `NoMemory` if allocation fails; `into` is then unchanged.
 pub fn shown_line(alloc: Global, bytes: &[u8], into: &mut Vec<u8>) -> Result<(), NoMemory>
     ensures ok { OnOk result (into.new.items ≡ into.old.items ++ shown_text bytes.now) }
     ensures unchanged { OnErr result (into.new.items ≡ into.old.items) }
@@ -103,11 +103,11 @@ fn query_line_of(alloc: Global, name: &Name, vars: &Vars) -> Result<Vec<u8>, NoM
     Ok(line)
 }
 
-/// Puts `ok NAME`, a space and the name of each variable in number order, and a newline behind `into`.
+/// Appends `ok NAME`, a space and the name of each variable in number order, and a newline to `into`.
 ///
 /// # Errors
 ///
-/// `NoMemory` where memory for the line wasn't found; `into` is then as before.
+/// `NoMemory` if allocation fails; `into` is then unchanged.
 pub fn query_line(
     alloc: Global,
     name: &Name,
@@ -134,11 +134,11 @@ fn saved_line_of(alloc: Global, docs: u64, nodes: u64) -> Result<Vec<u8>, NoMemo
     Ok(line)
 }
 
-/// Puts `ok DOCS NODES` and a newline behind `into`.
+/// Appends `ok DOCS NODES` and a newline to `into`.
 ///
 /// # Errors
 ///
-/// `NoMemory` where memory for the line wasn't found; `into` is then as before.
+/// `NoMemory` if allocation fails; `into` is then unchanged.
 pub fn saved_line(alloc: Global, docs: u64, nodes: u64, into: &mut Vec<u8>) -> Result<(), NoMemory>
     ensures ok { OnOk result (into.new.items ≡ into.old.items ++ saved_text docs nodes) }
     ensures unchanged { OnErr result (into.new.items ≡ into.old.items) }
@@ -158,11 +158,11 @@ fn opened_line_of(alloc: Global, docs: u64) -> Result<Vec<u8>, NoMemory>
     Ok(line)
 }
 
-/// Puts `ok DOCS` and a newline behind `into`.
+/// Appends `ok DOCS` and a newline to `into`.
 ///
 /// # Errors
 ///
-/// `NoMemory` where memory for the line wasn't found; `into` is then as before.
+/// `NoMemory` if allocation fails; `into` is then unchanged.
 pub fn opened_line(alloc: Global, docs: u64, into: &mut Vec<u8>) -> Result<(), NoMemory>
     ensures ok { OnOk result (into.new.items ≡ into.old.items ++ opened_text docs) }
     ensures unchanged { OnErr result (into.new.items ≡ into.old.items) }

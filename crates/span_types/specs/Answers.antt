@@ -9,12 +9,13 @@ use Rattle.span_types.specs.Fits.{Fits}
 abbrev pub IsRising : List (List (Option Span)) → Type 0
 IsRising ts = AllPairs Comes ts
 
--- Answers: the rising list whose members are exactly the tuples of k variables with which the formula fits the whole text
+-- Answers: the list in mark order whose members are exactly the tuples of k variables with which the formula fits the
+-- whole text
 pub record IsAnswers (f : FormulaTree) (k : ℕ) (s : List ℕ) (ts : List (List (Option Span))) : Type 0 where
   pub rising : IsRising ts
   pub members : (t : List (Option Span)) → Contains ts t ↔ (length t ≡ k) × Fits f s 1 (length s + 1) (spans_of t)
 
--- the part of a rising list that comes after a cursor
+-- the part of a list in mark order that comes after a cursor
 pub record IsAfter (all : List (List (Option Span))) (cursor : Option (List (Option Span))) (rest : List (List (Option Span))) : Type 0 where
   pub front : List (List (Option Span))
   pub cut : all ≡ front ++ rest

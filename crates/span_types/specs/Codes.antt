@@ -1,11 +1,12 @@
--- Codes of formulas and queries, by which a proof tells their values apart: a tree as the list of its parts, each after its own parts.
+-- Codes of formulas and queries, by which a proof distinguishes their values: a tree as the list of its parts, each
+-- after its own parts.
 use Rattle.std.specs.Prelude.{◌≡◌, ◌⊎◌, ℕ, zero, suc, Bool, true, false, List, [], ◌∷◌, refl}
 use Rattle.std.specs.Coded.{Coded, code_by, coded_ℕ, coded_bool, coded_list, coded×, coded⊎}
 use Rattle.std.proofs.Common.{inl, inr, ◌∙◌, ap}
 use Rattle.span_types.specs.FormulaTree.{FormulaTree, Set, Empty, Cat, Alt, Star, Plus, Opt, Capture}
 use Rattle.span_types.specs.Query.{Query, Leaf, Union, Join, Project}
 
--- a set, a capture of a variable, or one of the other forms by its place in their list
+-- a set, a capture of a variable, or one of the other forms by its index in their list
 abbrev FormulaPart : Type 0
 FormulaPart = List Bool ⊎ (ℕ ⊎ ℕ)
 

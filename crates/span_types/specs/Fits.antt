@@ -1,4 +1,4 @@
--- What a formula gives on a text (Fagin et al., Document Spanners, JACM 2015).
+-- Which spans a formula assigns on a text (Fagin et al., Document Spanners, JACM 2015).
 use Rattle.std.specs.Prelude.{◌≡◌, ℕ, ◌+◌, ◌-◌, ◌<◌, ◌≤◌, Bool, true, false, ◌==◌, ◌⊎◌, List, Some, None, if◌then◌else◌, slice_get, slice_index_or}
 use Rattle.span_types.specs.FormulaTree.{FormulaTree, Set, Empty, Cat, Alt, Star, Plus, Opt, Capture, has_var}
 use Rattle.span_types.specs.Marks.{Spans}
@@ -10,16 +10,16 @@ pub record ByteIn (s : List ℕ) (i : ℕ) (members : List Bool) : Type 0 where
   pub there : slice_get s (i - 1) ≡ Some byte
   pub is_member : slice_index_or members byte false ≡ true
 
--- no, one or more stretches in a row, none of them empty
+-- any number of parts in a row, none of them empty
 pub data Turns (P : ℕ → ℕ → Type 0) : ℕ → ℕ → Type 0 where
   done : (i j : ℕ) → i ≡ j → Turns P i j
   more : (i m j : ℕ) → i < m → m ≤ j → P i m → Turns P m j → Turns P i j
 
--- gives no span
+-- assigns no span
 abbrev pub NoSpans : Spans → Type 0
 NoSpans t = (v : ℕ) → t v ≡ None
 
--- gives spans to variables of the formula alone
+-- assigns spans to variables of the formula alone
 abbrev pub IsWithin : FormulaTree → Spans → Type 0
 IsWithin f t = (v : ℕ) → has_var f v ≡ false → t v ≡ None
 
@@ -44,6 +44,6 @@ FitsIn (Plus a) s i j t =
 FitsIn (Opt a) s i j t = ((i ≡ j) × NoSpans t) ⊎ FitsIn a s i j t
 FitsIn (Capture x a) s i j t = (t x ≡ Some (record { start = i; end = j })) × FitsIn a s i j (without x t)
 
--- Fits: the formula matches the text s from position i to position j and gives exactly the spans t
+-- Fits: the formula matches the text s from position i to position j and assigns exactly the spans t
 abbrev pub Fits : FormulaTree → List ℕ → ℕ → ℕ → Spans → Type 0
 Fits f s i j t = IsWithin f t × FitsIn f s i j t

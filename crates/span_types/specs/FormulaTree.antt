@@ -1,9 +1,9 @@
--- A formula as a plain tree, its variables, and the rule that it keeps.
+-- A formula as a plain tree, its variables, and the rule that it obeys.
 use Rattle.std.specs.Prelude.{◌≡◌, ℕ, zero, suc, ◌+◌, max, Bool, false, ◌||◌, ◌&&◌, ◌==◌, List, Option, Some, None, if◌then◌else◌}
 use Rattle.span_types.specs.declared.formula.Formula.{Formula}
 use Rattle.span_types.specs.declared.formula.Formula.TheVariants.{Set as SetNode, Empty as EmptyNode, Cat' as CatNode, Alt' as AltNode, Star' as StarNode, Plus' as PlusNode, Opt' as OptNode, Capture' as CaptureNode}
 
--- a formula without places in memory, so that two formulas of one form are equal
+-- a formula without pointers, so that two formulas of one form are equal
 pub data FormulaTree : Type 0 where
   Set : (members : List Bool) → FormulaTree
   Empty : FormulaTree
@@ -25,7 +25,7 @@ tree_of (PlusNode p a) = Plus (tree_of a)
 tree_of (OptNode p a) = Opt (tree_of a)
 tree_of (CaptureNode x p a) = Capture x (tree_of a)
 
--- Vars: whether variable number v stands in the formula
+-- Vars: whether variable number v occurs in the formula
 abbrev pub has_var : FormulaTree → ℕ → Bool
 has_var (Set b) v = false
 has_var Empty v = false
@@ -58,7 +58,7 @@ sets (Plus a) = sets a
 sets (Opt a) = sets a
 sets (Capture x a) = sets a
 
--- the first of two that is there
+-- the first of two that isn't None
 abbrev pub first_of : Option ℕ → Option ℕ → Option ℕ
 first_of (Some v) o = Some v
 first_of None o = o

@@ -4,7 +4,7 @@ use Rattle.span_types.specs.FormulaTree.{FormulaTree, tree_of}
 use Rattle.span_types.specs.declared.query.QueryTree.{QueryTree}
 use Rattle.span_types.specs.declared.query.QueryTree.TheVariants.{Leaf as LeafNode, Union' as UnionNode, Join' as JoinNode, Project' as ProjectNode}
 
--- a query without places in memory
+-- a query without pointers
 pub data Query : Type 0 where
   Leaf : (f : FormulaTree) (names : List (List ℕ)) → Query
   Union : (a b : Query) → Query

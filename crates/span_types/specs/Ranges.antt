@@ -1,4 +1,4 @@
--- Ranges of a text and what stands in them (Fagin, Kimelfeld, Reiss and Vansummeren, JACM 2015).
+-- Ranges of a text and their content (Fagin, Kimelfeld, Reiss and Vansummeren, JACM 2015).
 use Rattle.std.specs.Prelude.{ℕ, ◌+◌, ◌-◌, ◌&&◌, Bool, nat_le, List, take, drop}
 
 -- whether [i,j) is a range of a text of n bytes: 1 ≤ i ≤ j ≤ n+1

@@ -17,7 +17,7 @@ same_name [] (y ∷ ys) = false
 same_name (x ∷ xs) [] = false
 same_name (x ∷ xs) (y ∷ ys) = (x == y) && same_name xs ys
 
--- whether a name stands in the list
+-- whether a name is in the list
 abbrev pub has_name : List (List ℕ) → List ℕ → Bool
 has_name [] n = false
 has_name (m ∷ ms) n = same_name m n || has_name ms n
@@ -65,14 +65,14 @@ pub record IsRestriction (names : List (List ℕ)) (P : Assignment → Type 0) (
   pub kept : (n : List ℕ) → has_name names n ≡ true → r n ≡ whole n
   pub no_other : (n : List ℕ) → has_name names n ≡ false → r n ≡ None
 
--- Rel: the assignments of spans to names that a query gives on the text s
+-- Rel: the assignments of spans to names that are the answers of a query on the text s
 abbrev pub Rel : Query → List ℕ → Assignment → Type 0
 Rel (Leaf f names) s r = IsNamedAnswer names (λ t. Fits f s 1 (length s + 1) (spans_of t)) r
 Rel (Union a b) s r = Rel a s r ⊎ Rel b s r
 Rel (Join a b) s r = IsUnion (names_of a) (names_of b) (Rel a s) (Rel b s) r
 Rel (Project a names) s r = IsRestriction names (Rel a s) r
 
--- AnswersQ: the rising list over VarsOf whose members are exactly those of Rel
+-- AnswersQ: the list in mark order over VarsOf whose members are exactly those of Rel
 pub record IsAnswersOf (q : Query) (s : List ℕ) (ts : List (List (Option Span))) : Type 0 where
   pub rising : IsRising ts
   pub members : (t : List (Option Span)) → Contains ts t ↔ (length t ≡ length (names_of q)) × Rel q s (named (names_of q) t)

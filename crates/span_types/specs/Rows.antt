@@ -1,4 +1,4 @@
--- Marks, heights and looks at some values.
+-- Marks, heights and bounds on table lookups for some values.
 use Rattle.std.specs.Prelude.{◌≡◌, ℕ, List, [], ◌∷◌, Option, Some}
 use Rattle.span_types.specs.declared.tuple.Span.{Span}
 use Rattle.span_types.specs.Marks.{mark_of}

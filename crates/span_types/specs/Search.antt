@@ -3,7 +3,7 @@ use Rattle.std.specs.Prelude.{◌≡◌, ◌≢◌, ℕ, ◌≤◌, ◌⊎◌, L
 use Rattle.span_types.specs.declared.tuple.Span.{Span}
 use Rattle.span_types.specs.Marks.{mark_of}
 
--- r is at most p, where the marks differ at p
+-- r is at most p, if the marks differ at p
 abbrev pub Passes : List (Option Span) → List (Option Span) → ℕ → ℕ → Type 0
 Passes t u p r = mark_of t p ≢ mark_of u p → r ≤ p
 

@@ -1,4 +1,4 @@
--- The stricter rule of formulas, under which every tuple gives spans to all variables, and how it reads them.
+-- The stricter rule of formulas, under which every tuple has spans of all variables, and how it reads them.
 use Rattle.std.specs.Prelude.{◌≡◌, ℕ, ◌+◌, ◌≤◌, ◌↔◌, ◌⊎◌, true, false, List, length, Option, Some, None, IsSome, Contains}
 use Rattle.span_types.specs.declared.tuple.Span.{Span}
 use Rattle.span_types.specs.FormulaTree.{FormulaTree, Set, Empty, Cat, Alt, Star, Plus, Opt, Capture, has_var}
@@ -25,7 +25,7 @@ StrictFun (Plus a) = StrictFun a × NoVars a
 StrictFun (Opt a) = StrictFun a × NoVars a
 StrictFun (Capture x a) = StrictFun a × (has_var a x ≡ false)
 
--- gives spans to exactly the variables of the formula
+-- assigns spans to exactly the variables of the formula
 pub record IsExactly (f : FormulaTree) (t : Spans) : Type 0 where
   pub given : (v : ℕ) → has_var f v ≡ true → IsSome (t v)
   pub no_other : (v : ℕ) → has_var f v ≡ false → t v ≡ None
@@ -41,7 +41,7 @@ StrictIn (Plus a) s i j t = (m : ℕ) × (i ≤ m) × (m ≤ j) × StrictIn a s 
 StrictIn (Opt a) s i j t = (i ≡ j) ⊎ StrictIn a s i j t
 StrictIn (Capture x a) s i j t = (t x ≡ Some (record { start = i; end = j })) × StrictIn a s i j (without x t)
 
--- StrictFits: the formula matches from i to j and gives spans to all of its variables
+-- StrictFits: the formula matches from i to j and assigns spans to all of its variables
 abbrev pub StrictFits : FormulaTree → List ℕ → ℕ → ℕ → Spans → Type 0
 StrictFits f s i j t = IsExactly f t × StrictIn f s i j t
 

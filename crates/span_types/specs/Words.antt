@@ -11,7 +11,7 @@ Marked = List (ℕ × ℕ)
 abbrev pub ended : List ℕ → List ℕ
 ended s = s ++ 256 ∷ []
 
--- the letters from position p on, each with the mark that f gives its position
+-- the letters from position p on, each with the mark that f assigns to its position
 abbrev pub word_from : (ℕ → ℕ) → ℕ → List ℕ → Marked
 word_from f p [] = []
 word_from f p (b ∷ s) = (f p, b) ∷ word_from f (suc p) s

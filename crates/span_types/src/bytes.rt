@@ -95,7 +95,7 @@ impl ByteList {
     ///
     /// # Errors
     ///
-    /// `NoMemory` where memory for a copy of the bytes wasn't found.
+    /// `NoMemory` if allocation fails.
     pub fn new(alloc: Global, bytes: &[u8]) -> Result<ByteList, NoMemory>
         ensures { IfOk result (λ list. list ≡ bytes.now) }
     {

@@ -1,7 +1,9 @@
 //! Formulas.
 use crate::bytes::ByteSet;
 
-/// A regex formula with capture variables (Fagin et al., *Document Spanners*, JACM 2015), its variables by number. It matches a stretch of a text and gives spans to variables. Chains of concatenations and of alternatives nest to the right.
+/// A regex formula with capture variables (Fagin et al., *Document Spanners*, JACM 2015). Variables are numbers. A
+/// formula matches a part of a text and assigns spans to variables. Chains of concatenations and of alternatives nest
+/// to the right.
 #[derive(Drop)]
 pub enum Formula {
     /// One byte of the set.
@@ -16,16 +18,16 @@ pub enum Formula {
     /// The first or the second.
     Alt(Box<Formula>, Box<Formula>),
 
-    /// Any number of stretches in a row.
+    /// Any number of parts in a row.
     Star(Box<Formula>),
 
-    /// One or more stretches in a row.
+    /// One or more parts in a row.
     Plus(Box<Formula>),
 
-    /// A stretch, or the empty word, which gives no span.
+    /// A part, or the empty word, which assigns no span.
     Opt(Box<Formula>),
 
-    /// A stretch, whose span the variable has.
+    /// A part, whose span is assigned to the variable.
     Capture(u8, Box<Formula>),
 }
 

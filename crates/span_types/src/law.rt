@@ -4,7 +4,7 @@ ghost use Rattle.span_types.specs.Fibonacci.{height_limit, IsHeightLimit};
 ghost use Rattle.span_types.specs.Rows.{MarkRows, LimitRows};
 ghost use Rattle.span_types.specs.Laws.{MarksTell, IsOrder, WordsOrder, WritesBack, Pieces, OneList, OnePage, LeafAnswers, OneQueryList, StrictSame};
 
-/// Marks tell the spans that they come from.
+/// Marks determine the spans that they come from.
 pub fn marks_tell()
     ensures { MarksTell }
 {}
@@ -29,12 +29,12 @@ pub fn one_list()
     ensures { OneList }
 {}
 
-/// Words and tuples are made piece by piece.
+/// Words and tuples are composed of those of the parts of a text.
 pub fn pieces()
     ensures { Pieces }
 {}
 
-/// The answers of a Leaf are those of its formula.
+/// The answers of a `Leaf` are those of its formula.
 pub fn leaf_answers()
     ensures { LeafAnswers }
 {}
@@ -54,12 +54,12 @@ pub fn one_page()
     ensures { OnePage }
 {}
 
-/// H is the greatest height that so many bytes allow.
+/// H is the greatest height that a number of bytes allows.
 pub fn greatest_height()
     ensures { (n : ℕ) → IsHeightLimit n (height_limit n) }
 {}
 
-/// Marks, heights and looks at some values.
+/// Marks, heights and bounds on table lookups for some values.
 pub fn rows()
     ensures marks { MarkRows }
     ensures limits { LimitRows }

@@ -1,17 +1,17 @@
-//! The types that every other crate speaks of: names, spans and tuples, sets of bytes, formulas and queries, want of
-//! memory, and counters of steps.
+//! The types that all other crates use: names, spans and tuples, sets of bytes, formulas and queries, the error for
+//! allocation failure, and step counters.
 //!
 //! ```text
-//! let name = Name::new(alloc, b"log.1")?;                  // refused where the bytes aren't a name
+//! let name = Name::new(alloc, b"log.1")?;                  // an error if the bytes aren't a name
 //! let tuple = Tuple::none(2);                              // two variables, neither of which has a span
 //! assert_eq!(mark_at(&tuple, 1), 0);                       // no span starts or ends at position 1
 //! assert_eq!(compare(&tuple, &tuple), Ordering::Equal);    // mark order, in which answers come
 //! assert_eq!(height_limit(281474976710656), 68);           // the greatest height of a tree of 2^48 bytes
-//! assert_eq!(looks_limit(1, 11), 84);                      // looks for one answer of one variable on 11 bytes
+//! assert_eq!(looks_limit(1, 11), 84);                      // table lookups for one answer of one variable on 11 bytes
 //! ```
 //!
-//! A tuple has a fixed size and is compared in constant time, a set of bytes takes 32 bytes, and a name its own bytes.
-//! `Steps` have no bytes at run time. Formulas and queries take memory linear in their parts.
+//! A tuple has a fixed size and is compared in constant time, a set of bytes takes 32 bytes, and a name takes its own
+//! bytes. `Steps` have no bytes at run time. Formulas and queries take memory linear in their parts.
 //!
 //! Spans, tuples and formulas with capture variables are those of R. Fagin, B. Kimelfeld, F. Reiss and S. Vansummeren,
 //! *Document Spanners*, JACM 2015. Mark order of tuples is this project's own.

@@ -1,4 +1,4 @@
-//! The greatest height of a balanced tree, and how many table looks an answer may take.
+//! The greatest height of a balanced tree, and how many table lookups an answer may take.
 ghost use Rattle.std.specs.Prelude.{◌≡◌, ◌+◌, ◌*◌, ◌≤◌, ◌^◌};
 ghost use Rattle.span_types.specs.Fibonacci.{height_limit as greatest_height, looks_limit as most_looks, IsHeightLimit};
 
@@ -22,7 +22,8 @@ pub fn height_limit(n: u64) -> u8
     68
 }
 
-/// The bound on table looks for one answer of `k` variables on a text of `n` bytes: 4·(2k+1)·(H+3), where H is the greatest height over n bytes.
+/// The bound on table lookups for one answer of `k` variables on a text of `n` bytes: 4·(2k+1)·(H+3), where H is the
+/// greatest height over n bytes.
 pub fn looks_limit(k: u8, n: u64) -> u64
     requires k { k ≤ 8 }
     requires n { n ≤ 2 ^ 48 }

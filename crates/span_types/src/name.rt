@@ -20,7 +20,7 @@ pub enum NameRefusal {
     #[error("not a name")]
     NotAName,
 
-    /// No memory was found for a copy of the bytes.
+    /// Allocation failed.
     #[error("no memory")]
     NoMemory,
 }
@@ -71,7 +71,7 @@ impl Name {
     ///
     /// # Errors
     ///
-    /// `NotAName` exactly where the bytes aren't a name, and `NoMemory`.
+    /// `NotAName` exactly if the bytes aren't a name, and `NoMemory` if allocation fails.
     pub fn new(alloc: Global, bytes: &[u8]) -> Result<Name, NameRefusal>
         ensures ok { IfOk result (λ name. name ≡ bytes.now) }
         ensures named { IfOk result (λ name. is_name name ≡ true) }
@@ -94,11 +94,11 @@ impl Name {
         &self.text
     }
 
-    /// The same name, in memory of its own.
+    /// A copy of the name.
     ///
     /// # Errors
     ///
-    /// `NoMemory` where memory for it wasn't found.
+    /// `NoMemory` if allocation fails.
     pub fn copy(&self, alloc: Global) -> Result<Name, NoMemory>
         ensures { IfOk result (λ copy. copy ≡ self.now) }
     {
@@ -108,14 +108,14 @@ impl Name {
     }
 }
 
-/// Whether a byte may stand first in a name.
+/// Whether a byte may be the first of a name.
 fn starts_name(b: u8) -> bool
     ensures { result ≡ is_first_byte b }
 {
     matches!(b, b'A'..=b'Z' | b'a'..=b'z' | b'_')
 }
 
-/// Whether a byte may stand in a name after its first.
+/// Whether a byte may occur in a name after its first.
 fn goes_on_name(b: u8) -> bool
     ensures { result ≡ is_later_byte b }
 {

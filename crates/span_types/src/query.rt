@@ -2,7 +2,9 @@
 use crate::formula::Formula;
 use crate::vars::Vars;
 
-/// A query: a formula with the names of its variables, or an operation of the spanner algebra (Fagin et al., *Document Spanners*, JACM 2015) on one or two queries. In a join, variables without a span agree only with each other, which is this project's own rule.
+/// A query: a formula with the names of its variables, or an operation of the spanner algebra (Fagin et al., *Document
+/// Spanners*, JACM 2015) on one or two queries. In a join, a variable without a span agrees only with one without a
+/// span, which is this project's own rule.
 #[derive(Drop)]
 pub enum QueryTree {
     /// A formula, with the names of its variables by number.

@@ -1,8 +1,8 @@
-//! Want of memory.
+//! Allocation failure.
 use std::alloc::{AllocError, AllocFailed};
 use thiserror::Error;
 
-/// Memory that a call asked for wasn't found.
+/// Allocation failed.
 #[derive(Clone, Copy, Debug, PartialEq, Eq, Error)]
 #[error("no memory")]
 pub struct NoMemory;

@@ -1,10 +1,11 @@
-//! Counters of steps that take no bytes.
+//! Step counters that take no bytes.
 ghost use Rattle.std.specs.Prelude.{◌≡◌, ◌+◌, ◌<◌};
 
 use std::marker::Model;
 use std::sync::ledger::{Blank, Book, Ledger, Share};
 
-/// How many steps were taken, counted on the ledger `L`. It has no bytes at run time, contracts see it as that number, and only `tick` changes it.
+/// The number of steps that were taken, counted on the ledger `L`. It has no bytes at run time, contracts see it as
+/// that number, and only `tick` changes it.
 #[derive(Drop)]
 pub struct Steps<L: Ledger> {
     book: Book<L>,

@@ -29,7 +29,8 @@ pub struct Tuple {
     /// The number of variables, at most 8.
     pub count: u8,
 
-    /// The spans by variable number. A place below `count` has 1 ≤ start ≤ end ≤ 2^48 + 1, or is `[0,0)`, which says that the variable has no span. Places from `count` on are `[0,0)`.
+    /// The spans by variable number. An entry below `count` has 1 ≤ start ≤ end ≤ 2^48 + 1, or is `[0,0)` if the
+    /// variable has no span. Entries from `count` on are `[0,0)`.
     pub spans: [Span; 8],
 }
 
@@ -52,11 +53,11 @@ impl Model for Tuple {
     ghost inverse_ok = { λ t h i. record { count = length-places 8 t.count t.spans h i; spans = filled-places 8 t.count t.spans h i } };
 }
 
-/// The place of a variable that has no span.
+/// The entry of a variable that has no span.
 const BLANK: Span = Span { start: 0, end: 0 };
 
 impl Tuple {
-    /// The tuple of `count` variables that gives no span.
+    /// The tuple of `count` variables without spans.
     pub fn none(count: u8) -> Tuple
         requires { count ≤ 8 }
         ensures { result ≡ blanks count }

@@ -15,12 +15,13 @@ pub enum VarsRefusal {
     #[error("more than eight variables")]
     Full,
 
-    /// No memory was found for one more name.
+    /// Allocation failed.
     #[error("no memory")]
     NoMemory,
 }
 
-/// The names of variables, at most eight and all different. The name at place v is that of variable number v. Contracts see it as the list of the names.
+/// The names of variables, at most eight and all different. The name at index v is that of variable number v. Contracts
+/// see it as the list of the names.
 #[derive(Drop)]
 pub struct Vars {
     names: Vec<Name>,
@@ -38,7 +39,7 @@ impl Model for Vars {
 }
 
 impl Vars {
-    /// No names. It takes no memory.
+    /// No names. Allocates nothing.
     pub fn new(alloc: Global) -> Vars
         ensures { result ≡ [] }
     {
@@ -51,7 +52,8 @@ impl Vars {
     ///
     /// # Errors
     ///
-    /// `Full` exactly where the name is new and there are eight names, and `NoMemory`. After either the list is as before.
+    /// `Full` exactly if the name is new and there are eight names, and `NoMemory` if allocation fails. The list is
+    /// then unchanged.
     pub fn number_of(&mut self, name: Name) -> Result<u8, VarsRefusal>
         ensures number { IfOk result (λ v. slice_get self.new v ≡ Some name) }
         ensures added { IfOk result (λ _. Adds self.old self.new name) }
@@ -72,7 +74,7 @@ impl Vars {
         }
     }
 
-    /// How many names there are.
+    /// The number of names.
     pub fn count(&self) -> u8
         ensures count { result ≡ length self.now }
         ensures vars { AreVars self.now }
@@ -88,11 +90,11 @@ impl Vars {
         &self.names[v as usize]
     }
 
-    /// The same names, in memory of their own.
+    /// A copy of the names.
     ///
     /// # Errors
     ///
-    /// `NoMemory` where memory for them wasn't found.
+    /// `NoMemory` if allocation fails.
     pub fn copy(&self, alloc: Global) -> Result<Vars, NoMemory>
         ensures { IfOk result (λ copy. copy ≡ self.now) }
     {
@@ -104,7 +106,7 @@ impl Vars {
     }
 }
 
-/// The first place of a name.
+/// The first index of a name.
 fn place_of(names: &[Name], name: &Name) -> Option<usize>
     ensures { MatchOption result (Contains names.now name.now → ⊥) (λ v. (v < length names.now) × (slice_get names.now v ≡ Some name.now)) }
 {

@@ -15,11 +15,11 @@ number_rule name most = record (new_rule name) {
   parser = Some (vp.Signed (pos 1) (pos most));
 }
 
--- the command as clap reads it, over the words after the program's own name
+-- the command as clap reads it, over the arguments after the program's own name
 abbrev pub spanbase_app : App
 spanbase_app = with_rule (with_rule (on_top (λ top. record top { no_binary_name = true }) (new_app (codes "spanbase"))) (number_rule (codes "workers") 64)) (number_rule (codes "demo") 46)
 
--- clap takes the words
+-- clap accepts the arguments
 abbrev pub ClapTakes : List Text → Type 0
 ClapTakes words = fault_of spanbase_app words ≡ []
 
@@ -34,39 +34,39 @@ pub record IsNumber (most : ℕ) (text : Text) (number : ℕ) : Type 0 where
   pub least : 1 ≤ number
   pub greatest : number ≤ most
 
--- the number that an option's text asks for: none where the option is left out
+-- the number that an option's text specifies: none if the option is left out
 abbrev pub AsksFor : ℕ → Option Text → Option ℕ → Type 0
 AsksFor most None number = number ≡ None
 AsksFor most (Some text) None = ⊥
 AsksFor most (Some text) (Some number) = IsNumber most text number
 
--- the number, or a default where the option is left out
+-- the number, or a default if the option is left out
 abbrev pub AsksForOr : ℕ → ℕ → Option Text → ℕ → Type 0
 AsksForOr most default None number = number ≡ default
 AsksForOr most default (Some text) number = IsNumber most text number
 
--- the words ask for this number of workers, and perhaps for this demo
+-- the arguments specify this number of workers, and possibly this demo
 pub record Words (words : List Text) (workers : ℕ) (demo : Option ℕ) : Type 0 where
   pub taken : ClapTakes words
   pub workers_asked : AsksForOr 64 1 (text_of (codes "workers") words) workers
   pub demo_asked : AsksFor 46 (text_of (codes "demo") words) demo
 
--- the words are refused
+-- the arguments are rejected
 abbrev pub Refused : List Text → Type 0
 Refused words = (workers : ℕ) (demo : Option ℕ) → Words words workers demo → ⊥
 
--- words that are taken have one reading
+-- accepted arguments have one reading
 abbrev pub OneReading : Type 0
 OneReading = (words : List Text) (workers more : ℕ) (demo other : Option ℕ) → Words words workers demo → Words words more other → (workers ≡ more) × (demo ≡ other)
 
--- words that clap takes have a reading
+-- arguments that clap accepts have a reading
 abbrev pub TakenHaveReading : Type 0
 TakenHaveReading = (words : List Text) → ClapTakes words → (workers : ℕ) × (demo : Option ℕ) × Words words workers demo
 
 abbrev pub usage_line : List ℕ
 usage_line = codes "spanbase: Usage" ++ 10 ∷ []
 
--- what is told of the words: nothing where they are taken, and else a text that begins with its line
+-- the usage text for the arguments: empty if they are accepted, and otherwise a text that begins with its line
 abbrev pub TellsUsage : List Text → List ℕ → Type 0
 TellsUsage words text =
     ((workers : ℕ) × (demo : Option ℕ) × Words words workers demo × (text ≡ []))

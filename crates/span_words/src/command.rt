@@ -1,4 +1,4 @@
-//! The command that `clap` reads the words by.
+//! The command by which `clap` reads the arguments.
 ghost use Rattle.std.specs.Prelude.{◌≡◌, ◌≢◌, IfOk, IfErr, map, string_bytes};
 ghost use Rattle.clap.specs.Words.{app_of, found_of, kind_of, rows_of, matches_of as rows_in};
 ghost use Rattle.span_words.specs.Words.{spanbase_app, ClapTakes};
@@ -7,7 +7,7 @@ use clap::error::ErrorKind;
 use clap::{Arg, ArgAction, ArgMatches, Command, Error, value_parser};
 use std::alloc::{AllocError, Global};
 
-/// The command `spanbase`, over the words after its name.
+/// The command `spanbase`, over the arguments after its name.
 fn spanbase<'a>(alloc: Global) -> Result<Command<'a>, AllocError>
     ensures { IfOk result (λ command. app_of command ≡ spanbase_app) }
 {
@@ -27,7 +27,7 @@ fn spanbase<'a>(alloc: Global) -> Result<Command<'a>, AllocError>
     Ok(command)
 }
 
-/// What `clap` makes of the words after the program's own name.
+/// What `clap` makes of the arguments after the program's own name.
 pub fn matches_of<'a>(alloc: Global, words: &'a [String]) -> Result<ArgMatches<'a>, Error>
     ensures taken { IfOk result (λ _. ClapTakes (map string_bytes words.entry.now)) }
     ensures matches { IfOk result (λ m. rows_of (found_of m) ≡ rows_in spanbase_app (map string_bytes words.entry.now)) }

@@ -1,12 +1,12 @@
-//! The words of the command line, read by `clap`.
+//! The arguments of the command line, read by `clap`.
 //!
 //! ```text
-//! let options = read_words(alloc, &words)?;                // the words --workers 4
+//! let options = read_words(alloc, &words)?;                // the arguments --workers 4
 //! assert_eq!((options.workers, options.demo), (4, None));
-//! let text = usage_text(alloc, &words)?;                   // why words are refused, and empty where they aren't
+//! let text = usage_text(alloc, &words)?;                   // why the arguments are rejected, or empty
 //! ```
 //!
-//! Words are taken exactly where `clap` takes them for the two options of the program, `--workers 1..64` and `--demo
+//! Arguments are accepted exactly if `clap` accepts them for the two options of the program, `--workers 1..64` and `--demo
 //! 1..46`, and a law says that what is taken has one reading. Time and memory are linear in the words.
 //!
 //! Proved: Command-line arguments: exactly what the command takes (`read_words`). The text for rejected arguments

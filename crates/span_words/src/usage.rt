@@ -1,4 +1,4 @@
-//! The text on words that are refused.
+//! The text for arguments that are rejected.
 ghost use Rattle.std.specs.Prelude.{IfOk, map, string_bytes};
 ghost use Rattle.std.specs.Io.{StartsWith};
 ghost use Rattle.span_words.specs.Words.{usage_line, TellsUsage};
@@ -9,7 +9,7 @@ use clap::error::ErrorKind;
 use span_types::{ByteList, NoMemory};
 use std::alloc::Global;
 
-/// What `clap` says of words, in lines: nothing where it takes them.
+/// The lines that `clap` writes about arguments: none if it accepts them.
 fn advice(alloc: Global, words: &[String]) -> Result<String, NoMemory> {
     match matches_of(alloc, words) {
         Ok(_) => Ok(String::new(alloc)),
@@ -31,12 +31,12 @@ fn below_usage(alloc: Global, below: &[u8]) -> Result<ByteList, NoMemory>
     ByteList::new(alloc, &text)
 }
 
-/// The text that tells a user why the words after the program's own name are refused, and what words are taken:
-/// the line `spanbase: Usage`, then the text of `clap`. It has no bytes where the words are taken.
+/// The text that says why the arguments after the program's own name are rejected, and which are accepted: the line
+/// `spanbase: Usage`, then the text of `clap`. It has no bytes if the arguments are accepted.
 ///
 /// # Errors
 ///
-/// `NoMemory` where memory for the text wasn't found.
+/// `NoMemory` if allocation fails.
 pub fn usage_text(alloc: Global, words: &[String]) -> Result<ByteList, NoMemory>
     ensures { IfOk result (λ text. TellsUsage (map string_bytes words.now) text) }
 {

@@ -1,4 +1,4 @@
-//! The numbers that the words ask for.
+//! The numbers that the arguments specify.
 ghost use Rattle.std.specs.Prelude.{◌≡◌, IfOk, IfErr, OnErr, option_map, map, string_bytes};
 ghost use Rattle.span_words.specs.Words.{AsksFor, Refused, Words};
 
@@ -7,27 +7,27 @@ use clap::error::ErrorKind;
 use std::alloc::Global;
 use thiserror::Error;
 
-/// What the words ask for.
+/// What the arguments specify.
 #[derive(Clone, Copy, Debug, PartialEq, Eq)]
 pub struct Options {
-    /// The number of workers, from 1 to 64: 1 where the words don't say.
+    /// The number of workers, from 1 to 64. It is 1 if the arguments don't specify it.
     pub workers: u8,
     /// The number of the demo script that is run in place of standard input, from 1 to 46.
     pub demo: Option<u8>,
 }
 
-/// Why the words weren't read.
+/// Why the arguments weren't read.
 #[derive(Clone, Copy, Debug, PartialEq, Eq, Error)]
 pub enum WordsRefusal {
-    /// The command doesn't take the words.
+    /// The command rejects the arguments.
     #[error("usage")]
     Usage,
-    /// Memory for reading them wasn't found.
+    /// Allocation failed.
     #[error("no memory")]
     NoMemory,
 }
 
-/// The number of an option, where the words have the option.
+/// The number of an option, if the arguments have the option.
 fn number_of(text: Option<&str>, most: u8) -> Result<Option<u8>, WordsRefusal>
     ensures ok { IfOk result (λ number. AsksFor most (option_map (λ s. s.now) text.entry) number) }
     ensures err { OnErr result ((number : _) → AsksFor most (option_map (λ s. s.now) text.entry) number → ⊥) }
@@ -45,12 +45,12 @@ fn number_of(text: Option<&str>, most: u8) -> Result<Option<u8>, WordsRefusal>
     Ok(Some(number))
 }
 
-/// What the words after the program's own name ask for, in time linear in their length.
+/// What the arguments after the program's own name specify, in time linear in their length.
 ///
 /// # Errors
 ///
-/// - `Usage` exactly where the command refuses the words, `--help` among them.
-/// - `NoMemory` where memory for reading them wasn't found.
+/// - `Usage` exactly if the command rejects the arguments, `--help` among them.
+/// - `NoMemory` if allocation fails.
 pub fn read_words(alloc: Global, words: &[String]) -> Result<Options, WordsRefusal>
     ensures taken { IfOk result (λ options. Words (map string_bytes words.now) options.workers options.demo) }
     ensures refused { IfErr result (λ why. why ≡ WordsRefusal.Usage → Refused (map string_bytes words.now)) }

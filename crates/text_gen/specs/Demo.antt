@@ -6,7 +6,7 @@ use Rattle.std.specs.List.{flat_map}
 abbrev pub ended : List ℕ → List ℕ
 ended line = line ++ 10 ∷ []
 
--- the lines behind the doublings
+-- the lines after the doublings
 abbrev pub last_lines : List (List ℕ)
 last_lines =
     codes "let b = delete(a,2,3)"

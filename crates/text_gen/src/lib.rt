@@ -4,9 +4,9 @@
 //! let script = demo(alloc, 46)?;                           // the longest document has 2^48 - 1 bytes
 //! ```
 //!
-//! A script of 9 + n lines doubles a text n times and then asks about what it has become, so that one sees what a
-//! compressed text is for: 55 lines make a document that no disk holds. The script is made in time and memory linear in
-//! its lines, which are at most 55. That n doublings of a text are n rules is the first example of a straight-line
+//! A script of 9 + n lines doubles a text n times and then queries the result. It shows what a compressed text is for:
+//! 55 lines make a document that no disk holds. The script is made in time and memory linear in its lines, which are
+//! at most 55. That n doublings of a text are n rules is the first example of a straight-line
 //! grammar (as in M. Lohrey, *Algorithmics on SLP-compressed strings: a survey*, 2012).
 //!
 //! Proved: The demo script (`demo`).
@@ -18,7 +18,7 @@ ghost use Rattle.text_gen.specs.Demo.{demo_text};
 use span_types::NoMemory;
 use std::alloc::Global;
 
-/// The lines behind the doublings.
+/// The lines after the doublings.
 const LAST_LINES: &[u8] = b"let b = delete(a,2,3)\n\
     query q .*$x{aa}.*\n\
     list q b limit 3\n\
@@ -33,7 +33,7 @@ const LAST_LINES: &[u8] = b"let b = delete(a,2,3)\n\
 ///
 /// # Errors
 ///
-/// `NoMemory` where memory for the script wasn't found.
+/// `NoMemory` if allocation fails.
 #[tactic(auto, using(crate::proofs::Script::none_yet, crate::proofs::Script::one_more))]
 pub fn demo(alloc: Global, n: u8) -> Result<Vec<u8>, NoMemory>
     requires { (1 ≤ n) × (n ≤ 46) }

@@ -1,4 +1,4 @@
-//! Two pieces of work at once, and a gate that each piece passes.
+//! Two closures run at once, and a gate: an observer of the work that begins.
 //!
 //! ```text
 //! let (low, high) = halves(&rt, || sum(&list[..middle]), || sum(&list[middle..]));
@@ -6,11 +6,12 @@
 //! ```
 //!
 //! `halves` is a fork and a join (as in M. Conway, *A multiprocessor system design*, 1963): it starts a thread for one
-//! piece, does the other on its own, and returns both results. Where no thread can be started it does one after the
-//! other, so it has no refusal. A call costs the start of a thread, so the pieces should be much longer than that.
+//! closure, runs the other on its own thread, and returns both results. If no thread can be started, it runs one after
+//! the other, so it returns no error. A call costs the start of a thread, so the closures should take much longer than
+//! that.
 //!
-//! A gate sees the numbers of the nodes at which work begins and gives nothing back, so no result depends on it.
-//! `OpenGate` does nothing; tests have gates that hold a thread until another has come, and so show that two run at
+//! A gate sees the indices of the nodes or documents at which work begins and returns nothing, so no result depends on
+//! it. `OpenGate` does nothing; tests have gates that hold a thread until another has come, and so show that two run at
 //! once.
 //!
 //! Proved: Both pieces return their results (`halves`).
@@ -26,12 +27,13 @@ mod tests;
 use std::thread;
 use std::thread::Threads;
 
-/// What is told of each node before its work begins, by whichever thread does it.
+/// An observer that is called before the work on each item begins, on the thread that does this work. `table_grow`
+/// calls it for each node whose table is computed, and `list_all` for each document.
 ///
-/// `pass` has no effect on any result: it gives nothing back, and only sees the node's number. A gate can count, print or
-/// hold a thread for a while, as tests do that show that two threads run.
+/// `pass` has no effect on any result: it returns nothing, and only sees the item's index. A gate can count, print or
+/// hold a thread for a while. Tests do the last to show that two threads run.
 pub trait Gate: Sync {
-    /// The work on this node begins.
+    /// The work on the item with this index begins.
     fn pass(&self, node: usize);
 }
 
@@ -43,8 +45,8 @@ impl Gate for OpenGate {
     fn pass(&self, _node: usize) {}
 }
 
-/// The results of two pieces of work, which run at once where a second thread can be started, and else one after the
-/// other on this thread. It can't be refused, and returns once both pieces have.
+/// The results of two closures. They run at once if a second thread can be started, and otherwise one after the other
+/// on this thread. It returns no error, and only after both are done.
 pub fn halves<
     R: Threads + Sync,
     A: Send,

@@ -2,10 +2,10 @@ use crate::{Gate, OpenGate, halves};
 use std::sync::atomic::{AtomicU64, Ordering};
 use std::test::Fail;
 
-/// How many turns a held piece waits for the other one.
+/// The number of turns that a held closure waits for the other one.
 const TURNS: u32 = 50_000_000;
 
-/// Holds each piece until both have arrived, for a stated number of turns.
+/// Holds each closure until both have arrived, for a stated number of turns.
 #[derive(Drop)]
 struct Meeting {
     arrived: AtomicU64,
