@@ -1,4 +1,4 @@
--- Nodes whose length and height are known by one number.
+-- Nodes whose length and height are determined by one number.
 use Rattle.std.specs.Prelude.{◌≡◌, ℕ, ◌<◌, ◌^◌, List, length}
 use Rattle.slp_model.specs.declared.Node.{Node}
 use Rattle.slp_model.specs.declared.NodeId.{NodeId}

@@ -7,27 +7,29 @@ use Rattle.node_store.specs.declared.nodes.Way.TheVariants.{Known, First, Second
 use Rattle.node_store.specs.Narrow.{wide, AreUnique}
 use Rattle.node_store.specs.SearchTree.{IsAbsent}
 
--- n is a pair, and its left child leads to i: to the index of its first pair it has one more, and 0 where it has none
+-- n is a pair, and the link of its left child leads to i: the link is one more than the index of the child's first
+-- pair, and 0 if it has none
 abbrev pub LeadsTo : List ℕ → Narrow → ℕ → Type 0
 LeadsTo firsts (Byte b) i = ⊥
 LeadsTo firsts (Pair l r) i = get_or firsts l 0 ≡ suc i
 
--- and its right child
+-- the same for its right child
 abbrev pub RightLeadsTo : List ℕ → Narrow → ℕ → Type 0
 RightLeadsTo seconds (Byte b) i = ⊥
 RightLeadsTo seconds (Pair l r) i = get_or seconds r 0 ≡ suc i
 
--- n isn't a pair whose left child leads nowhere
+-- n isn't a pair whose left child has no link
 abbrev pub Leads : List ℕ → Narrow → Type 0
 Leads firsts (Byte b) = Unit {0}
 Leads firsts (Pair l r) = get_or firsts l 0 ≢ 0
 
--- nor one whose right child does
+-- n isn't a pair whose right child has no link
 abbrev pub RightLeads : List ℕ → Narrow → Type 0
 RightLeads seconds (Byte b) = Unit {0}
 RightLeads seconds (Pair l r) = get_or seconds r 0 ≢ 0
 
--- each node is found by its left child, or else by its right one or among the others, and these are the indices of the others
+-- each node is found by its left child, or by its right one, or among the others, and these are the indices of the
+-- others
 pub record IsIndexed (all : List Narrow) (firsts seconds : List ℕ) (others : List Narrow) (indices : List ℕ) : Type 0 where
   pub unique : AreUnique (map wide all)
   pub as_many : length firsts ≡ length all

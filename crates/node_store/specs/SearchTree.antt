@@ -23,7 +23,7 @@ pub record IsSearchTree (nodes : List Narrow) (links : List ℕ) : Type 0 where
   pub later : (slot i : ℕ) → get_or links slot 0 ≡ suc i → (slot ≤ 4 * i) × (i < length nodes)
   pub found : (i : ℕ) (n : Narrow) → slice_get nodes i ≡ Some n → LeadsTo links (number_of n) 0 i
 
--- the links stay, and there may be more
+-- the links are unchanged, and there may be more
 abbrev pub Extends : List ℕ → List ℕ → Type 0
 Extends old new = (slot i : ℕ) → get_or old slot 0 ≡ suc i → get_or new slot 0 ≡ suc i
 
@@ -38,7 +38,7 @@ pub record IsOpen (nodes : List Narrow) (links : List ℕ) (n : Narrow) (slot : 
   pub absent : IsAbsent nodes n
   pub leads : (more : List ℕ) → Extends links more → (i : ℕ) → get_or more slot 0 ≡ suc i → LeadsTo more (number_of n) 0 i
 
--- where the way of n ends
+-- where the search for n ends
 abbrev pub IsEnd : List Narrow → List ℕ → Narrow → End → Type 0
 IsEnd nodes links n (At i) = slice_get nodes i ≡ Some n
 IsEnd nodes links n (Open slot) = IsOpen nodes links n slot

@@ -6,7 +6,7 @@ use Rattle.slp_model.specs.Distinct.{AreOfBytes, IsOfByte}
 use Rattle.slp_model.specs.Nodes.{tree, trees, node_tree, IsSound, IsBelow}
 use Rattle.node_store.specs.declared.Facts.{Facts}
 
--- each of the nodes has here what f says of its tree
+-- each of the nodes has the value of f on its tree
 pub record AreOfTrees (f : Tree → ℕ) (ns : List Node) (xs : List ℕ) : Type 0 where
   pub as_long : length xs ≡ length ns
   pub each : (i x : ℕ) → slice_get xs i ≡ Some x → x ≡ f (tree ns i)
@@ -31,6 +31,6 @@ pub record IsNext (ns : List Node) (n : Node) (f : Facts) : Type 0 where
 abbrev pub IsNew : List Node → Node → Type 0
 IsNew ns n = (i : ℕ) → slice_get ns i ≢ Some n
 
--- the nodes stay, or n, which isn't among them, is added last
+-- the nodes are unchanged, or n, which isn't among them, is added last
 abbrev pub IsKept : List Node → List Node → Node → Type 0
 IsKept old new n = (new ≡ old) ⊎ ((new ≡ old ++ n ∷ []) × IsNew old n)

@@ -1,16 +1,16 @@
-//! How many hashes of nodes are alike, so that the index is given up before looks into it take long.
+//! Counts of nodes whose hashes are close together. By them the index is given up before lookups in it take long.
 use crate::narrow::Narrow;
 use indexmap::IndexSet;
 use std::alloc::Global;
 
-/// Counts of the nodes whose hashes lead near each other. They take a byte for 16 nodes of a full index. Nothing that is
-/// proved depends on them; without memory for them nothing is counted until the index grows.
+/// Counts of the nodes whose hashes lead near each other. They take a byte for 16 nodes of a full index. No proof
+/// depends on them. If allocation fails, nothing is counted until the index grows.
 ///
-/// The index has groups of 12 places, a power of two of them, and at most 9 nodes for each. The lowest bits of a node's hash
-/// choose its group, and a node that finds it full goes on to the next one. In each group that a look passes it reads the
-/// nodes whose tags, the hash's 8 highest bits, are the one that is looked for. Here a stretch is 32 groups in a row. Hashes
-/// that nobody chose put at most 288 nodes into it on the mean, and 18 of each kind of tags; those that are far more are
-/// counted.
+/// The index has groups of 12 entries. The number of groups is a power of two, and there are at most 9 nodes per group.
+/// The lowest bits of a node's hash choose its group; if that group is full, the node goes to the next one. The tag of
+/// a node is the 8 highest bits of its hash. A lookup reads, in each group that it passes, the nodes with the tag that
+/// it looks for. Here a stretch is 32 groups in a row. Hashes that nobody chose put on average at most 288 nodes into a
+/// stretch, and 18 of each kind of tags. What is counted are the nodes far above these means.
 #[derive(Drop)]
 pub(crate) struct Crowd {
     capacity: usize,
@@ -21,17 +21,17 @@ pub(crate) struct Crowd {
     beyond: usize,
 }
 
-// So many nodes are counted together, which takes less time than one by one.
+// The number of nodes that are counted together, which is faster than one by one.
 const BATCH: usize = 1 << 10;
 
 const NODES_OF_GROUP: usize = 9;
 
 const GROUPS_OF_STRETCH: usize = 32;
 
-// A kind of tags is what their four highest bits are.
+// The number of kinds of tags. The kind of a tag is its four highest bits.
 const KINDS: usize = 16;
 
-// Of 384 places.
+// Of 384 entries.
 const MOST_OF_STRETCH: u16 = 352;
 
 const MOST_OF_KIND: u8 = 48;
@@ -43,7 +43,7 @@ const HASHER_SEED: u64 = 0x243F_6A88_85A3_08D3;
 const HASHER_FACTOR: u64 = 0x9E37_79B9_7F4A_7C05;
 
 impl Crowd {
-    /// No counts, and no memory.
+    /// No counts. Allocates nothing.
     pub(crate) fn new(alloc: Global) -> Crowd {
         Crowd {
             capacity: 0,
@@ -55,13 +55,13 @@ impl Crowd {
         }
     }
 
-    /// Whether a look may pass many nodes. Until then at most 64 nodes, and one for each 256 stretches, are more than 352 in
-    /// their stretch or more than 48 of a kind in it.
+    /// Whether a lookup may pass many nodes. It isn't so as long as at most 64 nodes, plus one for each 256 stretches,
+    /// were added to a stretch that has more than 352 nodes or more than 48 of their kind.
     pub(crate) fn is_slow(&self) -> bool {
         self.beyond > MOST_BEYOND + self.stretches.len() / 256
     }
 
-    /// A node was added to the index, at this place.
+    /// Records that a node was added to the index, with this number.
     #[inline(always)]
     pub(crate) fn note(&mut self, nodes: &IndexSet<Narrow>, index: usize) {
         if index % BATCH == 0 {
@@ -69,7 +69,7 @@ impl Crowd {
         }
     }
 
-    // Counts the nodes that were added since the last call, or all where the index has grown.
+    // Counts the nodes that were added since the last call, or all nodes if the index has grown.
     #[inline(never)]
     fn count_added(&mut self, nodes: &IndexSet<Narrow>) {
         if nodes.capacity() != self.capacity {
@@ -83,7 +83,7 @@ impl Crowd {
         self.counted = nodes.len();
     }
 
-    // No counts, for an index with so many places.
+    // Resets the counts, for an index with this capacity.
     fn begin(&mut self, capacity: usize) {
         let groups = capacity / NODES_OF_GROUP;
         let stretches = groups / GROUPS_OF_STRETCH + 1;
@@ -111,7 +111,7 @@ impl Crowd {
     }
 }
 
-// One more at this place, if it is counted.
+// Adds one to the count at this index, if there is one, and returns it.
 fn raise(counts: &mut [u16], place: usize) -> u16 {
     match counts.get_mut(place) {
         Some(count) => {
@@ -122,7 +122,7 @@ fn raise(counts: &mut [u16], place: usize) -> u16 {
     }
 }
 
-// The same of a kind.
+// The same for a kind.
 fn raise_kind(counts: &mut [u8], place: usize) -> u8 {
     match counts.get_mut(place) {
         Some(count) => {
@@ -133,8 +133,8 @@ fn raise_kind(counts: &mut [u8], place: usize) -> u8 {
     }
 }
 
-// The hash by which the index finds the node, as the hasher of the set makes it of one number: a call of that one would take
-// longer than all else here.
+// The hash by which the index finds the node, computed as the set's hasher does for a single number. A call of that
+// hasher would take longer than everything else here.
 pub(crate) fn hash(narrow: Narrow) -> u32 {
     let product = u128::from(narrow.spread() ^ HASHER_SEED).wrapping_mul(u128::from(HASHER_FACTOR));
     let hash = product ^ (product >> 64);

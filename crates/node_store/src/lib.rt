@@ -1,4 +1,4 @@
-//! Nodes kept once each, with the length and the height of the text below them.
+//! Nodes stored once each, with the length and the height of the text below them.
 //!
 //! ```text
 //! let mut store = Store::new(alloc);
@@ -7,17 +7,17 @@
 //! assert_eq!((store.len(twice), store.height(twice)), (2, 1));
 //! ```
 //!
-//! All texts stand in one store, and a stretch that comes again, in one text or in many, costs nothing a second time.
-//! Nodes are only added and never change, so an id means the same text ever after.
+//! All texts share one store, and a part that occurs again, in the same text or in another, costs nothing the second
+//! time. Nodes are only added and never change, so an id always means the same text.
 //!
-//! `byte` and `pair` take expected constant time, amortized where the store grows, the other calls on a node constant
-//! time, and `thin` linear time. A node takes 29 bytes where the vectors are full: 12 itself, 9 its length and height, 4 for the
-//! first pair that has it on the left, and 4 for the first of the other pairs that has it on the right. Most nodes are such a
-//! pair, and are found through a child; each other one takes 31 bytes more. Full vectors double, and a full index grows fourfold,
-//! or twofold where it is large.
+//! `byte` and `pair` take expected constant time, amortized over the growth of the store. The other calls on a node
+//! take constant time, and `thin` takes linear time. A node takes 29 bytes if the vectors are full: 12 for itself, 9
+//! for its length and height, 4 for the first pair that has it on the left, and 4 for the first of the other pairs that
+//! has it on the right. Most nodes are such a pair, and are found through a child; each other node takes 31 bytes more.
+//! Full vectors double, and a full index grows fourfold, or twofold if it is large.
 //!
-//! Nodes that are made once each are hash consing (A. Ershov, *On programming of arithmetic operations*, 1958). That
-//! the trees are balanced is from M. L. Schmid and N. Schweikardt, *Query evaluation over SLP-represented document
+//! Storing each node once is hash consing (A. Ershov, *On programming of arithmetic operations*, 1958). That the trees
+//! are balanced is from M. L. Schmid and N. Schweikardt, *Query evaluation over SLP-represented document
 //! databases with complex document editing*, PODS 2022.
 //!
 //! Proved: Equal nodes are one. Nodes are balanced, have at most 2^48 bytes and height at most H, and never change
@@ -57,27 +57,27 @@ use std::marker::Model;
 use std::sync::ledger::Ledger;
 use thin::thinned;
 
-/// What is known of a node without a look at the nodes below it.
+/// What is known of a node without reading the nodes below it.
 #[derive(Clone, Copy, Debug)]
 pub(crate) struct Facts {
     pub(crate) len: u64,
     pub(crate) height: u8,
 }
 
-/// The nodes of a straight-line program in the order in which they came, each once. A child comes before its parent,
-/// and nodes never change.
+/// The nodes of a straight-line program in the order in which they were added, each once. A child comes before its
+/// parent, and nodes never change.
 ///
-/// Without a node it takes no memory. A node takes 29 bytes where the vectors are full, and 31 more where it is neither the first
-/// pair with its left child nor the first of the other pairs with its right child. Full vectors are doubled and a full index grows
-/// fourfold, or twofold where it is large, and the old one stands until the new one is filled. There are fewer than 2^32 nodes, and
-/// at most 9·2^28 that no child leads to.
+/// An empty store takes no memory. A node takes 29 bytes if the vectors are full. It takes 31 more if it is neither the
+/// first pair with its left child nor the first of the other pairs with its right child. Full vectors are doubled. A
+/// full index grows fourfold, or twofold if it is large, and the old one is kept until the new one is filled. There are
+/// fewer than 2^32 nodes, and at most 9·2^28 that aren't found through a child.
 #[derive(Drop)]
 pub struct Store {
     nodes: Nodes,
     lens: Vec<u64>,
     heights: Vec<u8>,
-    // Where the node behind the one that was found last stands: a text that comes again, in a load or in an image, asks for its
-    // nodes in the order in which it made them.
+    // The index after the node that was found last. A text that is loaded again, or that is in an image, requests its
+    // nodes in the order in which they were added.
     next: usize,
 }
 
@@ -107,7 +107,7 @@ impl Store {
         }
     }
 
-    /// How many nodes there are: at most one for each byte, and the pairs.
+    /// The number of nodes: at most one for each byte, and the pairs.
     pub fn count(&self) -> usize
         ensures count { result ≡ length self.now }
         ensures sound { IsSound self.now }
@@ -118,7 +118,7 @@ impl Store {
         self.nodes.len()
     }
 
-    /// The node with this id. It takes constant time, as do `len`, `height` and `children`.
+    /// The node with this id. Takes constant time, as do `len`, `height` and `children`.
     pub fn node(&self, id: NodeId) -> Node
         requires { id.index < length self.now }
         ensures node { slice_get self.now id.index ≡ Some result }
@@ -128,7 +128,7 @@ impl Store {
         self.nodes.at(id.index)
     }
 
-    /// How many bytes the node's text has, at most 2^48.
+    /// The length of the node's text in bytes, at most 2^48.
     pub fn len(&self, id: NodeId) -> u64
         requires { id.index < length self.now }
         ensures len { result ≡ leaves (tree self.now id.index) }
@@ -167,11 +167,12 @@ impl Store {
         }
     }
 
-    /// The id of the byte's node, which is added last where it isn't there. It takes expected constant time.
+    /// The id of the byte's node, which is added last if it isn't there. Takes expected constant time, and counts no
+    /// step.
     ///
     /// # Errors
     ///
-    /// `NoMemory` where none was found; the store is then as before.
+    /// `NoMemory` if allocation fails; the store is then unchanged.
     pub fn byte(&mut self, b: u8) -> Result<NodeId, NoMemory>
         ensures grows { Grows self.old self.new 0 0 }
         ensures kept { IsKept self.old self.new (Node.Byte b) }
@@ -188,14 +189,14 @@ impl Store {
         self.insert(node, facts)
     }
 
-    /// The id of the pair, which is added last where it isn't there. It is one step, and takes expected constant time,
-    /// amortized where the store grows.
+    /// The id of the pair, which is added last if it isn't there. It counts as one step, and takes expected constant
+    /// time, amortized over the growth of the store.
     ///
     /// The children's heights differ by at most one, and the text has at most 2^48 bytes.
     ///
     /// # Errors
     ///
-    /// `NoMemory` where none was found, or no further node fits; the store is then as before, and the step is counted.
+    /// `NoMemory` if allocation fails, or no further node fits. The store is then unchanged, and the step is counted.
     pub fn pair<L: Ledger>(
         &mut self,
         left: NodeId,
@@ -226,12 +227,12 @@ impl Store {
         self.insert(node, facts)
     }
 
-    /// The id of the pair of two blocks of 2^height bytes each, whose trees are both so high: what `pair` answers. It
-    /// looks up neither their lengths nor their heights. It is one step.
+    /// The id of the pair of two blocks of 2^height bytes each, whose trees have this height. It returns what `pair`
+    /// returns, without reading their lengths and heights. It counts as one step.
     ///
     /// # Errors
     ///
-    /// As those of `pair`.
+    /// Those of `pair`.
     pub fn pair_blocks<L: Ledger>(
         &mut self,
         left: NodeId,
@@ -262,9 +263,9 @@ impl Store {
         self.insert(pair, facts)
     }
 
-    /// Makes room for the pairs of neighbours, the first with the second, the third with the fourth and so on, to which no child
-    /// leads, as far as there is memory. Where many pairs are asked for one after the other this is
-    /// worth a call before: the places in memory that all of them need are then waited for at once.
+    /// Makes room for the pairs of neighbours (the first with the second, the third with the fourth and so on) that
+    /// aren't found through a child, as far as memory allows. It pays before many pairs are requested one after the
+    /// other: the processor then waits for the memory of all of them at once.
     pub fn make_room(&mut self, blocks: &[NodeId])
         ensures { self.new ≡ self.old }
     {
@@ -274,7 +275,7 @@ impl Store {
         self.nodes.make_room(count);
     }
 
-    // The id of the node, where it stands behind the one that was found last.
+    // The id of the node, if it follows the one that was found last.
     fn found_next(&mut self, node: Node) -> Option<NodeId>
         ensures sound { IsSound self.old }
         ensures same { self.new ≡ self.old }
@@ -290,7 +291,7 @@ impl Store {
         Some(NodeId { index })
     }
 
-    // Whether the node stands at this place.
+    // Whether the node has this index.
     fn is_at(&self, index: usize, node: Node) -> bool
         ensures sound { IsSound self.now }
         ensures live { IsTrue result → index < length self.now }
@@ -300,12 +301,12 @@ impl Store {
         index < self.nodes.len() && self.nodes.at(index) == node
     }
 
-    /// The kept nodes alone, in their order and under new numbers, and where each one went. Takes time linear in
-    /// the nodes of this store, and no pair call.
+    /// A store of the kept nodes alone, in their order and under new numbers, and the new number of each. Takes time
+    /// linear in the nodes of this store, and makes no call to `pair`.
     ///
     /// # Errors
     ///
-    /// `NoMemory` where none was found.
+    /// `NoMemory` if allocation fails.
     pub fn thin(&self, alloc: Global, keep: &[bool]) -> Result<(Store, Moves), NoMemory>
         requires plan { IsPlanOf self.now keep.now }
         ensures store { IfOk result (λ made. made.0 ≡ thinning.thin self.now keep.now) }
@@ -317,7 +318,7 @@ impl Store {
         Ok((store, moves))
     }
 
-    // No nodes, and room for so many.
+    // No nodes, and room for this many.
     fn with_room(alloc: Global, count: usize) -> Result<Store, NoMemory>
         ensures { IfOk result (λ store. store ≡ []) }
     {

@@ -1,4 +1,4 @@
-//! Where the nodes of a store went when it was thinned.
+//! The new ids of the nodes of a store that was compacted.
 ghost use Rattle.std.specs.Prelude.{◌≡◌, ◌<◌, false, get_or, length, IfOk};
 ghost use Rattle.slp_model.specs.Kept.{Keeps};
 ghost use Rattle.slp_model.specs.Thin as thinning;
@@ -9,7 +9,7 @@ use span_types::NoMemory;
 use std::alloc::Global;
 use std::marker::Model;
 
-/// The new ids of the nodes that were kept when a store was thinned. Contracts see it as a list of truth values, one
+/// The new ids of the nodes that were kept when a store was compacted. Contracts see it as a list of truth values, one
 /// for each node of the old store, which says whether the node was kept.
 #[derive(Drop)]
 pub struct Moves {
@@ -31,11 +31,11 @@ impl Model for Moves {
 }
 
 impl Moves {
-    /// Where the kept nodes go, and how many they are. It takes time linear in the nodes, and 9 bytes for each.
+    /// The new ids of the kept nodes, and their number. It takes time linear in the nodes, and 9 bytes for each.
     ///
     /// # Errors
     ///
-    /// `NoMemory` where none was found.
+    /// `NoMemory` if allocation fails.
     pub fn new(alloc: Global, keep: &[bool]) -> Result<(Moves, usize), NoMemory>
         ensures moves { IfOk result (λ made. made.0 ≡ keep.now) }
         ensures count { IfOk result (λ made. made.1 ≡ thinning.rank keep.now (length keep.now)) }
@@ -46,7 +46,7 @@ impl Moves {
         Ok((Moves { keep: kept, ranks }, count))
     }
 
-    /// The new id of a node that was kept. It takes constant time and no memory, as does `kept`.
+    /// The new id of a node that was kept. It takes constant time and allocates nothing, as does `kept`.
     pub fn moved(&self, id: NodeId) -> NodeId
         requires kept { Keeps self.now id.index }
         ensures moved { result.index ≡ thinning.rank self.now id.index }
@@ -76,7 +76,7 @@ impl Moves {
     }
 }
 
-// For each node how many before it are kept, and how many are kept at all.
+// For each node the number of kept nodes before it, and the number of all kept nodes.
 fn ranks(alloc: Global, keep: &[bool]) -> Result<(Vec<usize>, usize), NoMemory>
     ensures ranks { IfOk result (λ made. AreRanks keep.now made.0.items (length keep.now)) }
     ensures count { IfOk result (λ made. made.1 ≡ thinning.rank keep.now (length keep.now)) }

@@ -1,4 +1,4 @@
-//! Nodes whose children's ids are kept in 32 bits.
+//! Nodes whose children's ids have 32 bits.
 ghost use Rattle.std.specs.Prelude.{◌≡◌, IfSome};
 ghost use Rattle.std.specs.Hash as fed;
 ghost use Rattle.node_store.specs.Narrow.{wide, number_of, spread};
@@ -15,8 +15,8 @@ pub(crate) enum Narrow {
     Pair(u32, u32),
 }
 
-// A node is hashed as one number, by one write in place of the three of its fields. Most of what a look into the index costs is
-// the wait for memory.
+// A node is hashed as one number, by one write in place of the three for its fields. Most of the cost of a lookup in
+// the index is the wait for memory.
 impl Hash for Narrow {
     ghost hash_input = { λ narrow. fed.u64 (spread narrow) };
 
@@ -28,7 +28,7 @@ impl Hash for Narrow {
 }
 
 impl Narrow {
-    /// A number of 64 bits, which a byte and a pair may have both.
+    /// A number of 64 bits. A byte and a pair may have the same number.
     pub(crate) fn number(&self) -> u64
         ensures { result ≡ number_of self.now }
     {
@@ -38,8 +38,8 @@ impl Narrow {
         }
     }
 
-    // What is hashed. The ids of children are near each other, and the hasher alone would put them into some parts of the
-    // index more than into others; an odd factor (G. Steele and S. Vigna, Computationally easy, spectrally good
+    // What is hashed. The ids of children are near each other, and the hasher alone would put more of them into some
+    // parts of the index than into others. An odd factor (G. Steele and S. Vigna, Computationally easy, spectrally good
     // multipliers, 2022) spreads them.
     pub(crate) fn spread(&self) -> u64
         ensures { result ≡ spread self.now }

@@ -1,4 +1,4 @@
-//! The nodes, and how one is found by its children.
+//! The nodes, and how a node is found by its children.
 ghost use Rattle.std.specs.Prelude.{◌≡◌, ℕ, suc, ◌+◌, ◌^◌, ◌<◌, ◌++◌, ◌∷◌, [], length, map, get_or, set, slice_get, IfOk, IsFalse, IsTrue, OnErr, OnOk, Some};
 ghost use Rattle.slp_model.specs.Nodes.{IsBelow};
 ghost use Rattle.node_store.specs.Narrow.{wide, AreUnique};
@@ -13,22 +13,23 @@ use span_types::NoMemory;
 use std::alloc::Global;
 use std::marker::Model;
 
-/// Nodes in the order in which they came, each once.
+/// Nodes in the order in which they were added, each once.
 ///
-/// The first pair with a left child is found through this child, and no pair of a child without one is there yet; and of the
-/// pairs that aren't first, the first with a right child is found through that, in the same way. So most nodes are found, and
-/// most new ones taken in, without a hash and a look into an index, whose wait for memory costs most; and where a text is new,
-/// children stand side by side. The other pairs, and the bytes, are found by their hashes. A node takes 12 bytes, 4 for the
-/// first pair that it begins and 4 for one that it ends, and one of the others 31 more where the vectors are full.
+/// Each node has two links. The first leads to the first pair that has the node on the left; without it there is no
+/// such pair. The second leads to the first of the other pairs that has the node on the right, in the same way. So most
+/// nodes are found or added without a hash and without a lookup in an index, which costs most because of the wait for
+/// memory. In a new text, children are also next to each other in memory. The other pairs, and the bytes, are found by
+/// their hashes. A node takes 12 bytes and 4 for each link, and one found by its hash takes 31 more if the vectors are
+/// full.
 #[derive(Drop)]
 pub(crate) struct Nodes {
     all: Vec<Narrow>,
-    // For each node the index of the first pair that has it on the left, and one; 0 is none.
+    // For each node one more than the index of the first pair that has it on the left, or 0 for none.
     firsts: Vec<u32>,
-    // The same of the first pair that has it on the right and isn't the first one with its left child.
+    // The same for the first pair that has it on the right and isn't the first one with its left child.
     seconds: Vec<u32>,
     others: Others,
-    // For each of the others its index.
+    // For each of the other nodes its index.
     indices: Vec<u32>,
 }
 
@@ -45,8 +46,8 @@ impl Model for Nodes {
     ghost invariant = { λ s. IsIndexed s.all.items s.firsts.items s.seconds.items s.others s.indices.items };
 }
 
-/// How a node is found: at this index; not at all, since no pair has this left child yet, or none but first ones this right
-/// child; or among the others, if anywhere.
+/// How a node is found: at this index; not at all, since the link that would lead to it is empty; or among the others,
+/// if anywhere.
 pub(crate) enum Way {
     Known(usize),
     First(usize),
@@ -55,7 +56,7 @@ pub(crate) enum Way {
 }
 
 impl Nodes {
-    /// No nodes, and no memory.
+    /// No nodes. Allocates nothing.
     pub(crate) fn new(alloc: Global) -> Nodes
         ensures { result ≡ [] }
     {
@@ -68,7 +69,7 @@ impl Nodes {
         }
     }
 
-    /// No nodes, and room for so many, but for the index of the others.
+    /// No nodes, and room for this many, except in the index of the others.
     pub(crate) fn with_capacity(alloc: Global, count: usize) -> Result<Nodes, NoMemory>
         ensures { IfOk result (λ nodes. nodes ≡ []) }
     {
@@ -88,7 +89,7 @@ impl Nodes {
         self.all.len()
     }
 
-    /// The node at a place.
+    /// The node with this index.
     #[inline(always)]
     pub(crate) fn at(&self, index: usize) -> Node
         requires { index < length self.now }
@@ -97,7 +98,7 @@ impl Nodes {
         self.all[index].widened()
     }
 
-    /// How many of the pairs of neighbours neither child leads to.
+    /// The number of pairs of neighbours that no link leads to.
     pub(crate) fn unknown_pairs(&self, blocks: &[NodeId]) -> usize {
         let mut count: usize = 0;
         for place in 0..blocks.len() / 2 {
@@ -108,7 +109,7 @@ impl Nodes {
         count
     }
 
-    // Whether a child leads to the pair. It may be there without that.
+    // Whether a link leads to the pair. The pair may exist without one.
     #[inline(always)]
     fn is_led_to(&self, left: NodeId, right: NodeId) -> bool {
         self.is_at(&self.firsts, left, Node::Pair(left, right))
@@ -125,7 +126,7 @@ impl Nodes {
         }
     }
 
-    /// Makes room for so many nodes, as far as there is memory.
+    /// Makes room for this many nodes, as far as memory allows.
     pub(crate) fn make_room(&mut self, count: usize)
         ensures { self.new ≡ self.old }
     {
@@ -134,12 +135,12 @@ impl Nodes {
         let _seconds = self.seconds.reserve(count);
     }
 
-    /// The place of the node, which is added last where it isn't there, and whether it was added. Its children are among the
-    /// nodes.
+    /// The index of the node, which is added last if it isn't there, and whether it was added. Its children are among
+    /// the nodes.
     ///
     /// # Errors
     ///
-    /// `NoMemory` where none was found, or where there are 2^32 - 1 nodes.
+    /// `NoMemory` if allocation fails, or if there are 2^32 - 1 nodes.
     pub(crate) fn insert(&mut self, node: Node) -> Result<(usize, bool), NoMemory>
         requires { IsBelow (length self.old) node }
         ensures added { IfOk result (λ r. IsTrue r.1 → (self.new ≡ self.old ++ node ∷ []) × IsNew self.old node) }
@@ -193,7 +194,7 @@ fn insert_narrow(
     }
 }
 
-// Adds a pair to which this child leads from now on, and answers its index. The new node leads nowhere yet.
+// Adds a pair to which this child's link leads from now on, and returns its index. The links of the new node are empty.
 fn add_led(
     all: &mut Vec<Narrow>,
     links: &mut Vec<u32>,
@@ -220,8 +221,8 @@ fn add_led(
     Ok(index)
 }
 
-// The index of a node that neither child leads to, which is added last where it isn't among the others, and whether
-// it was added.
+// The index of a node that no link leads to, which is added last if it isn't among the others, and whether it was
+// added.
 fn insert_other(
     all: &mut Vec<Narrow>,
     firsts: &mut Vec<u32>,
@@ -255,7 +256,7 @@ fn insert_other(
     Ok((index, true))
 }
 
-// The number of the next node in 32 bits, if one more than it has them too.
+// The index of the next node in 32 bits, if one more than it also fits into them.
 fn number_after(len: usize) -> Result<u32, NoMemory>
     ensures number { IfOk result (λ number. number ≡ len) }
     ensures low { OnOk result (len + 1 < 2 ^ 32) }

@@ -10,11 +10,11 @@ use span_types::NoMemory;
 use std::alloc::Global;
 use std::marker::Model;
 
-/// Nodes in the order in which they came, each once.
+/// Nodes in the order in which they were added, each once.
 ///
-/// They are found by their hashes, until so many of these are alike that looks would take long: whoever makes a text or an
-/// image can choose nodes so. From then on new nodes go to a search tree, in which no node takes many steps, and each is
-/// looked for in both. A node takes 12 bytes, and 15 in the index where it is full.
+/// They are found by their hashes, until so many hashes are close together that lookups would take long: whoever makes
+/// a text or an image can choose nodes for this. From then on new nodes go to a search tree, in which no lookup takes
+/// many steps, and each node is looked for in both. A node takes 12 bytes, and 15 in the index if it is full.
 #[derive(Drop)]
 pub(crate) struct Others {
     hashed: IndexSet<Narrow>,
@@ -32,7 +32,7 @@ impl Model for Others {
 }
 
 impl Others {
-    /// No nodes, and no memory.
+    /// No nodes. Allocates nothing.
     pub(crate) fn new(alloc: Global) -> Others
         ensures { result ≡ [] }
     {
@@ -43,11 +43,11 @@ impl Others {
         }
     }
 
-    /// The place of the node, which is added last where it isn't there, and whether it was added.
+    /// The index of the node, which is added last if it isn't there, and whether it was added.
     ///
     /// # Errors
     ///
-    /// `NoMemory` where none was found.
+    /// `NoMemory` if allocation fails.
     pub(crate) fn insert(&mut self, narrow: Narrow) -> Result<(usize, bool), NoMemory>
         ensures added { IfOk result (λ r. IsTrue r.1 → (self.new ≡ self.old ++ narrow ∷ []) × IsAbsent self.old narrow) }
         ensures there { IfOk result (λ r. IsFalse r.1 → self.new ≡ self.old) }
@@ -62,7 +62,7 @@ impl Others {
     }
 }
 
-// The place of the node among the hashed ones, where it is added if it isn't there, and whether it was added.
+// The index of the node among the hashed ones, to which it is added if it isn't there, and whether it was added.
 fn insert_hashed(
     hashed: &mut IndexSet<Narrow>,
     crowd: &mut Crowd,
@@ -81,8 +81,8 @@ fn insert_hashed(
     Ok((index, added))
 }
 
-// The place of the node among the hashed ones and those behind them, where it is added if it isn't there, and whether it
-// was added.
+// The index of the node among the hashed ones followed by those of the tree, to which it is added if it is in neither,
+// and whether it was added.
 fn insert_late(
     hashed: &IndexSet<Narrow>,
     late: &mut SearchTree,
@@ -102,12 +102,12 @@ fn insert_late(
     }
 }
 
-// From so many nodes on an index is large.
+// An index with at least this many nodes is large.
 const LARGE: usize = 1 << 20;
 
-// A full index grows fourfold where there is memory for it. As it grows each node is put in anew, at a place of its own in
-// memory, and by doubling that would come to one more time for each node, by four to a third. A large index is doubled, since
-// its empty places take memory too.
+// A full index grows fourfold if memory allows. Whenever it grows, each node is inserted again, at an entry elsewhere
+// in memory. By doubling, that comes to one more insertion for each node; by a factor of four, to a third of one. A
+// large index is doubled, since its empty entries take memory too.
 fn make_room(narrow: &mut IndexSet<Narrow>)
     ensures { narrow.new.keys ≡ narrow.old.keys }
 {

@@ -1,4 +1,4 @@
-//! Nodes that are found by the digits of their numbers, so that none takes many steps, whatever they are.
+//! Nodes that are found by the digits of their numbers, in few steps whatever the nodes are.
 ghost use Rattle.std.specs.Prelude.{◌≡◌, ℕ, ◌+◌, ◌*◌, ◌^◌, ◌<◌, ◌≤◌, ◌++◌, ◌∷◌, [], length, slice_get, get_or, IfOk, IsFalse, IsTrue, OnErr, OnOk, Some};
 ghost use Rattle.node_store.specs.SearchTree.{IsSearchTree, IsAbsent, IsOpen, IsEnd};
 
@@ -10,11 +10,11 @@ use std::marker::Model;
 // A link has 32 bits.
 const MOST_NODES: usize = 0xFFFF_FFFF;
 
-/// Nodes in the order in which they came, each once.
+/// Nodes in the order in which they were added, each once.
 ///
-/// It is a digital search tree (D. E. Knuth, The Art of Computer Programming, volume 3, section 6.3): each node has a link for
-/// each of the digits 0 to 3, and a node hangs below those whose digits lead to it. Two nodes whose 32 digits are the same are
-/// a byte and a pair, so a look passes at most 34 nodes. A node takes 28 bytes where the vectors are full.
+/// It is a digital search tree (D. E. Knuth, The Art of Computer Programming, volume 3, section 6.3): each node has a
+/// link for each of the digits 0 to 3, and a node is below those to which its digits lead. Two nodes with the same 32
+/// digits are a byte and a pair, so a lookup passes at most 34 nodes. A node takes 28 bytes if the vectors are full.
 #[derive(Drop)]
 pub(crate) struct SearchTree {
     nodes: Vec<Narrow>,
@@ -34,14 +34,14 @@ impl Model for SearchTree {
     ghost invariant = { λ s. IsSearchTree s.nodes.items s.links.items };
 }
 
-/// Where the way of a node ends: at the node of this index, or at this slot, which has no link.
+/// Where the search for a node ends: at the node with this index, or at this slot, which has no link.
 pub(crate) enum End {
     At(usize),
     Open(usize),
 }
 
 impl SearchTree {
-    /// No nodes, and no memory.
+    /// No nodes. Allocates nothing.
     pub(crate) fn new(alloc: Global) -> SearchTree
         ensures { result ≡ [] }
     {
@@ -58,7 +58,7 @@ impl SearchTree {
         self.nodes.len()
     }
 
-    /// The node at a place.
+    /// The node with this index.
     pub(crate) fn at(&self, index: usize) -> Narrow
         requires { index < length self.now }
         ensures { slice_get self.now index ≡ Some result }
@@ -66,7 +66,7 @@ impl SearchTree {
         self.nodes[index]
     }
 
-    /// The place of the node, which is added last where it isn't there, and whether it was added.
+    /// The index of the node, which is added last if it isn't there, and whether it was added.
     pub(crate) fn insert(&mut self, narrow: Narrow) -> Result<(usize, bool), NoMemory>
         ensures added { IfOk result (λ r. IsTrue r.1 → (self.new ≡ self.old ++ narrow ∷ []) × IsAbsent self.old narrow) }
         ensures there { IfOk result (λ r. IsFalse r.1 → self.new ≡ self.old) }
@@ -85,7 +85,7 @@ impl SearchTree {
     }
 }
 
-// The link of a slot, which may be past the last one.
+// The link of a slot, or 0 past the last slot.
 fn link_at(links: &[u32], slot: usize) -> u32
     ensures { result ≡ get_or links.now slot 0 }
 {
@@ -95,7 +95,7 @@ fn link_at(links: &[u32], slot: usize) -> u32
     }
 }
 
-// Where the digits of the node lead, the lowest first.
+// Where the digits of the node lead, the lowest digit first.
 fn end_of(nodes: &[Narrow], links: &[u32], narrow: Narrow) -> End
     requires { IsSearchTree nodes.now links.now }
     ensures { IsEnd nodes.now links.now narrow result }
@@ -137,7 +137,7 @@ fn add(
     Ok(())
 }
 
-// The link to the node at this place, if there can be one.
+// The link to the node with this index, if there can be one.
 fn link_to(index: usize) -> Result<u32, NoMemory>
     ensures link { IfOk result (λ link. link ≡ index + 1) }
     ensures low { OnOk result (index < 2 ^ 32) }
@@ -148,7 +148,7 @@ fn link_to(index: usize) -> Result<u32, NoMemory>
     Ok(index as u32 + 1)
 }
 
-// Puts empty slots behind the last one, where this one isn't there.
+// Appends empty slots until there is this one.
 fn lengthen(links: &mut Vec<u32>, slot: usize) -> Result<(), NoMemory>
     requires { slot < 2 ^ 63 }
     ensures same { (s : ℕ) → get_or links.new.items s 0 ≡ get_or links.old.items s 0 }

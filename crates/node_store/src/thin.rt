@@ -1,4 +1,4 @@
-//! The kept nodes of a store alone.
+//! A store of the kept nodes alone.
 ghost use Rattle.std.specs.Prelude.{◌≡◌, length, IfOk};
 ghost use Rattle.slp_model.specs.Nodes.{IsBelow};
 ghost use Rattle.slp_model.specs.Kept.{IsPlanOf};
@@ -9,7 +9,7 @@ use crate::{Facts, Moves, NodeId, Store};
 use span_types::NoMemory;
 use std::alloc::Global;
 
-/// The kept nodes in their order, under their new numbers. They are so many.
+/// The kept nodes in their order, under their new numbers. `count` is their number.
 pub(crate) fn thinned(
     alloc: Global,
     store: &Store,

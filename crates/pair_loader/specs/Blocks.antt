@@ -22,6 +22,6 @@ pub record IsBlockAt (ns : List Node) (h : ℕ) (s : List ℕ) (i : ℕ) : Type 
   pub live : i < length ns
   pub block : IsBlock h s (tree ns i)
 
--- the first ids, so many, are in their order the blocks of height h of the stretches of 2^h bytes of s
+-- the first `count` ids are in their order the blocks of height h of the parts of 2^h bytes of s
 pub record AreBlocks (ns : List Node) (h count : ℕ) (s : List ℕ) (ids : List NodeId) : Type 0 where
   pub each : (i : ℕ) (d : NodeId) → i < count → IsBlockAt ns h (slice_chunk s (2 ^ h) i) (get_or ids i d).index

@@ -5,14 +5,14 @@ use Rattle.slp_model.specs.declared.Node.{Node}
 use Rattle.pair_loader.specs.declared.words.Word.{Word}
 use Rattle.pair_loader.specs.Blocks.{IsBlockAt}
 
--- a place is empty, or its node is the block of height h of its bytes
+-- an entry is empty, or its node is the block of height h of its bytes
 abbrev pub IsWord : List Node → ℕ → Width → Word → Type 0
 IsWord ns h w x = IfSome x.block (λ i. IsBlockAt ns h (to_le_bytes w x.bytes) i)
 
 abbrev pub AreWords : List Node → ℕ → Width → List Word → Type 0
 AreWords ns h w words = All (IsWord ns h w) words
 
--- the places for words of two, four and eight bytes
+-- the entries for words of two, four and eight bytes
 pub record Known : Type 0 where
   pub twos : List Word
   pub fours : List Word

@@ -16,7 +16,7 @@ AreRising h (a ∷ rest) = (h ≤ height a) × IsFull a × AreRising (height a +
 abbrev pub stack_of : List Node → List NodeId → List Tree
 stack_of ns blocks = reverse (map (λ id. tree ns id.index) blocks)
 
--- the texts of such trees in a row: the first tree has the last bytes
+-- the texts of such trees one after the other: the first tree has the last bytes
 abbrev pub stack_text : List Tree → List ℕ
 stack_text [] = []
 stack_text (a ∷ rest) = stack_text rest ++ text a
@@ -27,7 +27,7 @@ pub record IsPending (ns : List Node) (blocks : List NodeId) : Type 0 where
   pub rising : AreRising 0 (stack_of ns blocks)
   pub short : length (stack_text (stack_of ns blocks)) ≤ 2 ^ 48
 
--- what a loader keeps that was not refused
+-- what a loader has that returned no error
 pub record Kept : Type 0 where
   pub blocks : List NodeId
   pub known : Known
@@ -36,7 +36,7 @@ pub record Kept : Type 0 where
 abbrev pub unfed : Kept
 unfed = record { blocks = []; known = record { twos = []; fours = []; eights = [] } }
 
--- a loader that may be used with a store of these nodes; after a refusal it keeps nothing
+-- a loader that may be used with a store of these nodes; after an error it has nothing
 abbrev pub IsLoader : List Node → Option Kept → Type 0
 IsLoader ns None = Unit {0}
 IsLoader ns (Some kept) = IsPending ns kept.blocks × AreKnown ns kept.known
@@ -46,7 +46,7 @@ abbrev pub fed : List Node → Option Kept → List ℕ
 fed ns None = []
 fed ns (Some kept) = stack_text (stack_of ns kept.blocks)
 
--- how many blocks are pending
+-- the number of pending blocks
 abbrev pub pending_count : Option Kept → ℕ
 pending_count None = 0
 pending_count (Some kept) = length kept.blocks

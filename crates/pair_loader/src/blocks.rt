@@ -17,10 +17,10 @@ use slp_concat::concat;
 use span_types::{NoMemory, Steps};
 use std::sync::ledger::Ledger;
 
-// The blocks of at most this height are made without a look at any height.
+// Blocks of at most this height are made without reading any height.
 const MOST_HEIGHT: u8 = 9;
 
-// How many bytes a block of this height has.
+// The number of bytes of a block of this height.
 fn size(height: u8) -> usize
     requires { height ≤ 9 }
     ensures { result ≡ 2 ^ height }
@@ -28,7 +28,7 @@ fn size(height: u8) -> usize
     1 << height
 }
 
-// Puts a block of this height after the blocks, which are no lower. Two of equal height become a pair.
+// Appends a block of this height to the blocks, which are no lower. Two of equal height become a pair.
 fn push_block<L: Ledger>(
     blocks: &mut Vec<NodeId>,
     store: &mut Store,
@@ -84,7 +84,7 @@ pub(crate) fn block_of<L: Ledger>(
     }
 }
 
-// The height of the next block: as high as the bytes that are left and the block before it allow.
+// The height of the next block: the greatest that the bytes left and the block before it allow.
 fn next_height(blocks: &Vec<NodeId>, store: &Store, len: usize) -> u8
     requires pending { IsPending store.now blocks.now.items }
     requires some { 0 < len }
@@ -102,7 +102,7 @@ fn next_height(blocks: &Vec<NodeId>, store: &Store, len: usize) -> u8
     height
 }
 
-// Puts a block of the first bytes after the blocks, and says of how many.
+// Appends a block of the first bytes to the blocks, and returns the number of these bytes.
 fn push_some<L: Ledger>(
     blocks: &mut Vec<NodeId>,
     words: &mut Words,
@@ -130,7 +130,7 @@ fn push_some<L: Ledger>(
     Ok(count)
 }
 
-/// Puts the bytes of a piece after the blocks.
+/// Appends the bytes of a piece to the blocks.
 pub(crate) fn push_piece<L: Ledger>(
     blocks: &mut Vec<NodeId>,
     words: &mut Words,

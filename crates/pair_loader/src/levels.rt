@@ -10,11 +10,12 @@ use node_store::{NodeId, Store};
 use span_types::{NoMemory, Steps};
 use std::sync::ledger::Ledger;
 
-// A block of height 9 has so many words of eight bytes.
+// The number of words of eight bytes in a block of height 9.
 const MOST_WORDS: usize = 64;
 
-/// The block of 2^height bytes: first the blocks of its words, and then level by level their pairs. What a level asks of
-/// the store doesn't depend on each other, as the two halves of a block and their pair do, so a processor can overlap it.
+/// The block of 2^height bytes: first the blocks of its words, and then level by level their pairs. The requests of one
+/// level to the store don't depend on each other, so a processor can overlap them. The two halves of a block and their
+/// pair do depend on each other.
 pub(crate) fn block_by_levels<L: Ledger>(
     words: &mut Words,
     store: &mut Store,
@@ -39,7 +40,7 @@ pub(crate) fn block_by_levels<L: Ledger>(
     Ok(ids[0])
 }
 
-// Puts the blocks of the words of eight bytes of a piece, in their order, at the front of `ids`.
+// Writes the blocks of the words of eight bytes of a piece, in their order, to the start of `ids`.
 fn put_words<L: Ledger>(
     words: &mut Words,
     store: &mut Store,
@@ -61,8 +62,8 @@ fn put_words<L: Ledger>(
     Ok(())
 }
 
-// From the blocks of this height of a piece, which stand at the front of `ids`, to those of the next height: each two
-// neighbours become one pair.
+// Turns the blocks of this height of a piece, at the start of `ids`, into those of the next height: each two neighbours
+// become one pair.
 fn pair_neighbours<L: Ledger>(
     store: &mut Store,
     piece: &[u8],

@@ -7,10 +7,10 @@
 //! let root = loader.finish(&mut store, &mut pairs)?;       // the same root, whatever the pieces were
 //! ```
 //!
-//! The loader keeps at most one full block of each height, like a binary counter, so equal stretches at multiples of
-//! their length become the same nodes. For n bytes it makes at most n + 4·(H(n)+1) pair calls, each of expected
-//! constant time. Its own memory is at most 49 blocks, and 7 MB for blocks of two, four and eight bytes that it has
-//! seen before, which make most pair calls needless; the nodes that it makes stand in the store.
+//! The loader has at most one full block of each height, like a binary counter. So equal parts at multiples of their
+//! length become the same nodes. For n bytes it makes at most n + 4·(H(n)+1) calls to `pair`, each of expected constant
+//! time. Its own memory is at most 49 blocks, and a cache of up to 7 MB with blocks of two, four and eight bytes, which
+//! makes most calls to `pair` needless. The nodes that it makes are in the store.
 //!
 //! A text without repetition takes a node for each byte or so: there is no search for the smallest grammar, which is
 //! hard (M. Charikar et al., *The smallest grammar problem*, 2005). The trees are balanced by construction, as those of
@@ -42,11 +42,10 @@ use words::Words;
 
 /// A text that is being loaded into a store.
 ///
-/// It keeps full blocks of bytes, at most one of each height, as nodes of the store: a block of
-/// height h has 2^h bytes. After a refusal it keeps none, and answers NoMemory to every call.
-/// From 4,096 bytes on it also keeps the blocks of the last words of two, four and eight bytes beside
-/// these bytes, in 192 KB, and from 262,144 bytes on in 7 MB, where it gets this memory, so that most of
-/// them need no pair calls.
+/// It has full blocks of bytes, at most one of each height, as nodes of the store: a block of height h has 2^h bytes.
+/// After an error it has none, and returns `NoMemory` from every call. From 4,096 bytes on it also has a cache of the
+/// blocks of the last words of two, four and eight bytes, in 192 KB, and from 262,144 bytes on in 7 MB, if the system
+/// has this memory. So most of these words need no calls to `pair`.
 #[derive(Drop)]
 pub struct Loader {
     // The highest block first.
@@ -66,11 +65,11 @@ impl Model for Loader {
 }
 
 impl Loader {
-    /// A loader that was fed no bytes. It takes room for 49 blocks.
+    /// A loader that was fed no bytes. Allocates room for 49 blocks.
     ///
     /// # Errors
     ///
-    /// `NoMemory` where none was found.
+    /// `NoMemory` if allocation fails.
     pub fn new(alloc: Global) -> Result<Loader, NoMemory>
         ensures { IfOk result (λ loader. loader ≡ Some unfed) }
     {
@@ -81,16 +80,16 @@ impl Loader {
         })
     }
 
-    /// Puts a piece after the bytes that were fed, and makes all pairs of full blocks that it can.
+    /// Appends a piece to the bytes that were fed, and makes all pairs of full blocks that it can.
     ///
-    /// The store is the one used before, grown, and all bytes fed are at most 2^48. A piece makes at most as many pair
-    /// calls as it has bytes and the loader has pending blocks fewer than before, so it takes expected time linear in
-    /// the piece.
+    /// The store is the one used before, possibly grown, and all bytes fed are at most 2^48. The calls to `pair` plus
+    /// the pending blocks afterwards are at most the pending blocks before plus the bytes of the piece. So it takes
+    /// expected time linear in the piece, amortized over the pieces.
     ///
     /// # Errors
     ///
-    /// `NoMemory` where none was found, and after an earlier one. The store may have more nodes then, and every later
-    /// call answers `NoMemory`.
+    /// `NoMemory` if allocation fails now or failed in an earlier call. The store may have more nodes then, and every
+    /// later call returns `NoMemory`.
     pub fn feed<L: Ledger>(
         &mut self,
         store: &mut Store,
@@ -113,15 +112,15 @@ impl Loader {
         Ok(())
     }
 
-    /// A root of all bytes fed, whatever the pieces were, with the tree `shape`. The pending blocks
-    /// are joined from the lowest up, each on the left of what was joined before.
+    /// A root of all bytes fed, whatever the pieces were, with the tree `shape`. The pending blocks are joined from the
+    /// lowest up, each to the left of what was joined before.
     ///
-    /// The store is the one used before, grown. For n bytes it makes at most 4·(H(n)+1) pair calls,
-    /// so that all calls on one loader make at most n + 4·(H(n)+1).
+    /// The store is the one used before, possibly grown. For n bytes it makes at most 4·(H(n)+1) calls to `pair`, so
+    /// that all calls on one loader make at most n + 4·(H(n)+1).
     ///
     /// # Errors
     ///
-    /// `NoMemory` where none was found, and after an earlier one. The store may have more nodes then.
+    /// `NoMemory` if allocation fails now or failed in an earlier call. The store may have more nodes then.
     pub fn finish<L: Ledger>(
         self,
         store: &mut Store,
@@ -144,11 +143,11 @@ const MOST_BLOCKS: usize = 49;
 
 /// A root of the bytes, with the tree `shape`: a loader that is fed once.
 ///
-/// There are n bytes, and n is at most 2^48. At most n + 4·(H(n)+1) pair calls are made.
+/// There are n bytes, and n is at most 2^48. At most n + 4·(H(n)+1) calls to `pair` are made.
 ///
 /// # Errors
 ///
-/// `NoMemory` where none was found. The store may have more nodes then.
+/// `NoMemory` if allocation fails. The store may have more nodes then.
 pub fn load<L: Ledger>(
     alloc: Global,
     store: &mut Store,

@@ -15,13 +15,14 @@ use std::sync::ledger::Ledger;
 /// The height of the blocks of the longest words, which have eight bytes.
 pub(crate) const WORD_HEIGHT: u8 = 3;
 
-// From so many bytes on a text pays for a small memory of its words, and from so many on for a large one.
+// The lengths of text from which a small cache of its words pays, and from which a large one does.
 const SHORT_TEXT: usize = 1 << 12;
 
 const LONG_TEXT: usize = 1 << 18;
 
-// How many places the words of each length have in a short text, and those of two, four and eight bytes in a long one. Of real
-// texts nearly all words of four bytes come again, and a word that is found here needs no look into the store's index.
+// The number of entries for the words of each length in a short text, and for those of two, four and eight bytes in a
+// long one. Of the words of four bytes looked up while real texts were loaded, some six in seven were found here. A
+// word that is found here needs no lookup in the store's index.
 const FEW: usize = 1 << 12;
 
 const TWOS: usize = 1 << 16;
@@ -37,19 +38,19 @@ pub struct Word {
     pub(crate) block: Option<u32>,
 }
 
-/// For words of two, four and eight bytes the blocks that were made last: a word has one place, and each
-/// new word of this place takes it.
+/// For words of two, four and eight bytes the blocks that were made last: a word belongs to one entry, and each new
+/// word for an entry replaces the one that is there.
 #[derive(Drop)]
 pub(crate) struct Words {
     pub(crate) twos: Vec<Word>,
     pub(crate) fours: Vec<Word>,
     pub(crate) eights: Vec<Word>,
-    // How many bytes were fed. Nothing that is proved depends on it.
+    // The number of bytes that were fed. No proof depends on it.
     fed: usize,
 }
 
 impl Words {
-    /// No words, and no memory.
+    /// No words. Allocates nothing.
     pub(crate) fn new(alloc: Global) -> Words
         ensures { known_of result ≡ record { twos = []; fours = []; eights = [] } }
     {
@@ -61,7 +62,7 @@ impl Words {
         }
     }
 
-    /// Makes room for the words of a further piece, as many as pay, if there is memory for them.
+    /// Makes room for the words of a further piece, as many as pay, if memory allows.
     pub(crate) fn make_room(&mut self, len: usize)
         ensures { (nodes : List Node) → AreKnown nodes (known_of self.old) → AreKnown nodes (known_of self.new) }
     {
@@ -73,7 +74,7 @@ impl Words {
         }
     }
 
-    // At least so many places for words of two, four and eight bytes, where there is memory for them.
+    // At least this many entries for words of two, four and eight bytes, if memory allows.
     fn make_places(&mut self, twos: usize, fours: usize, eights: usize)
         ensures { (nodes : List Node) → AreKnown nodes (known_of self.old) → AreKnown nodes (known_of self.new) }
     {
@@ -181,14 +182,14 @@ fn number_of_eight(word: &[u8]) -> u64
     ])
 }
 
-// The place of a word: of a multiplicative hash the highest bits, which are the best (D. E. Knuth, The Art of Computer
-// Programming, volume 3, section 6.4), in proportion to how many places there are.
+// The entry of a word: the highest bits of a multiplicative hash, which are the best (D. E. Knuth, The Art of Computer
+// Programming, volume 3, section 6.4), scaled to the number of entries.
 fn place_of(words: &[Word], bytes: u64) -> usize {
     let hash = bytes.wrapping_mul(0x9E37_79B9_7F4A_7C15) >> 32;
     (hash.wrapping_mul(words.len() as u64) >> 32) as usize
 }
 
-// So many empty places, where there are fewer, if there is memory for them.
+// This many empty entries, if there are fewer and memory allows.
 fn make_places(words: &mut Vec<Word>, count: usize)
     ensures { (nodes : List Node) (h : ℕ) (w : Width) → AreWords nodes h w words.old.items → AreWords nodes h w words.new.items }
 {
@@ -202,7 +203,7 @@ fn make_places(words: &mut Vec<Word>, count: usize)
     }
 }
 
-// The block of the word, if it stands at its place.
+// The block of the word, if it is in its entry.
 fn found(words: &Vec<Word>, bytes: u64) -> Option<NodeId>
     ensures { IfSome result (λ id. (nodes : List Node) (h : ℕ) (w : Width) → AreWords nodes h w words.now.items → IsBlockAt nodes h (to_le_bytes w bytes) id.index) }
 {
@@ -214,7 +215,7 @@ fn found(words: &Vec<Word>, bytes: u64) -> Option<NodeId>
     Some(NodeId { index })
 }
 
-// Puts a word at its place, if there is room for words.
+// Writes a word to its entry, if there are entries.
 fn note(words: &mut Vec<Word>, bytes: u64, block: NodeId)
     ensures { (nodes : List Node) (h : ℕ) (w : Width) → IsBlockAt nodes h (to_le_bytes w bytes) block.index → AreWords nodes h w words.old.items → AreWords nodes h w words.new.items }
 {

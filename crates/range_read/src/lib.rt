@@ -7,9 +7,9 @@
 //! }
 //! ```
 //!
-//! The start takes time in proportion to the height of the text's tree, at most 69 steps, and all the memory that is
-//! needed: a place for each level. A byte then takes constant time on average and no memory, so m bytes from the middle
-//! of a text of any length take time in proportion to m and to the height. It is a walk in order over a tree with a
+//! The start takes time proportional to the height of the text's tree, at most 69 steps, and allocates all memory: an
+//! entry for each level. After that a byte takes constant time on average and allocates nothing. So m bytes from the
+//! middle of a text of any length take time proportional to m plus the height. It is a walk in order over a tree with a
 //! stack of what is still to come (D. Knuth, *The Art of Computer Programming*, volume 1, section 2.3.1).
 //!
 //! Proved: The bytes of a span, in order (`RangeBytes`).
@@ -28,8 +28,9 @@ use std::marker::Model;
 
 /// The bytes of a range of a text, in order.
 ///
-/// Contracts see it as the list of the bytes that are left. The nodes whose bytes are still to come stand on a trail, the
-/// next one last. Each is lower than those before it, so a place for each level of the text's tree is room enough.
+/// Contracts see it as the list of the bytes that are left. The nodes whose bytes are still to come are on a stack, the
+/// trail, the next one last. Each is lower than those before it, so an entry for each level of the text's tree is
+/// enough.
 #[derive(Drop)]
 pub struct RangeBytes<'a> {
     store: &'a Store,
@@ -48,7 +49,7 @@ impl<'a> Model for RangeBytes<'a> {
     ghost invariant = { λ r. IsTrail r.store.now (vec_capacity r.trail) r.trail.items × (r.left ≤ length (trail_text r.store.now r.trail.items)) };
 }
 
-// Puts the part of a node's text behind its first `skip` bytes onto the trail.
+// Pushes the part of a node's text after its first `skip` bytes onto the trail.
 fn skip_onto(store: &Store, trail: &mut Vec<NodeId>, root: NodeId, skip: u64)
     requires live { root.index < length store.now }
     requires within { skip < leaves (tree store.now root.index) }
@@ -73,7 +74,7 @@ fn skip_onto(store: &Store, trail: &mut Vec<NodeId>, root: NodeId, skip: u64)
     trail.push_reserved(id);
 }
 
-// The first byte of a node's text, whose other bytes are put onto the trail.
+// The first byte of a node's text, whose other bytes are pushed onto the trail.
 fn first_byte(store: &Store, trail: &mut Vec<NodeId>, id: NodeId) -> u8
     requires live { id.index < length store.now }
     requires trail { IsTrail store.now (vec_capacity trail.old) trail.old.items }
@@ -94,12 +95,12 @@ fn first_byte(store: &Store, trail: &mut Vec<NodeId>, id: NodeId) -> u8
 }
 
 impl<'a> RangeBytes<'a> {
-    /// The bytes at the positions `i` to `j - 1` of the root's text, whose positions are counted from 1. All the memory that
-    /// the walk needs is taken here. It takes time in proportion to the height of the text's tree.
+    /// The bytes at the positions `i` to `j - 1` of the root's text. Positions count from 1. It allocates all memory
+    /// that the walk needs, and takes time proportional to the height of the text's tree.
     ///
     /// # Errors
     ///
-    /// `NoMemory` where room for a place for each level of the tree, at most 69, wasn't found.
+    /// `NoMemory` if allocation fails, for at most 69 entries.
     pub fn new(
         alloc: Global,
         store: &'a Store,
@@ -143,7 +144,8 @@ impl<'a> Iterator for RangeBytes<'a> {
 
     ghost remaining = { item_count (λ bytes. bytes) };
 
-    /// The next byte. It takes no memory, and over a walk constant time on average: each node is put onto the trail once.
+    /// The next byte. Allocates nothing, and takes constant time on average over a walk: each node is pushed onto the
+    /// trail at most once for each time that the walk passes it.
     fn next(&mut self) -> Option<u8> {
         let store = self.store;
         if self.left == 0 {

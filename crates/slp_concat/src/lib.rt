@@ -4,9 +4,9 @@
 //! let root = concat(&mut store, left, right, &mut pairs)?;  // the text of `left`, and then that of `right`
 //! ```
 //!
-//! Neither text is looked at: two trees of heights g and h are joined by at most 3·|g-h| + 1 pair calls, and by none
-//! where a side is empty. The new tree is as high as the higher of the two, or one more, and all other nodes of both
-//! stay shared. So doubling a text of 2^47 bytes makes one node, and memory is taken for new nodes alone.
+//! Neither text is read: two trees of heights g and h are joined by at most 3·|g-h| + 1 calls to `pair`, and by none if
+//! a side is empty. The new tree is as high as the higher of the two, or one more, and all other nodes of both stay
+//! shared. So doubling a text of 2^47 bytes makes one node. Memory is allocated for new nodes alone.
 //!
 //! It is concatenation of height-balanced trees (G. Adelson-Velsky and E. Landis, 1962) on a shared grammar, as in W.
 //! Rytter, *Application of Lempel–Ziv factorization to the approximation of grammar-based compression*, Theoretical
@@ -30,13 +30,13 @@ use std::sync::ledger::Ledger;
 
 /// A root of the text of `left` followed by that of `right`, with the tree `join_roots`.
 ///
-/// Both are live, and the joined text has at most 2^48 bytes. With heights g and h the result has
-/// height max(g, h) or one more, and at most 3·|g-h| + 1 pair calls are made. With an empty side
-/// the other side is the result, and none is made.
+/// Both are live, and the joined text has at most 2^48 bytes. With heights g and h the result has height max(g, h) or
+/// one more, and at most 3·|g-h| + 1 calls to `pair` are made. If a side is empty, the result is the other side, and no
+/// call is made.
 ///
 /// # Errors
 ///
-/// `NoMemory` where none was found for a node. The store may have more nodes then.
+/// `NoMemory` if allocation fails. The store may have more nodes then.
 pub fn concat<L: Ledger>(
     store: &mut Store,
     left: Option<NodeId>,
@@ -64,13 +64,13 @@ pub fn concat<L: Ledger>(
 
 /// The node of the joined text of two nodes, with their `join` as its tree.
 ///
-/// Near trees make a pair, in one step. Else the lower one is joined to the facing child of the
-/// higher one, and the result is put beside the other child, by a rotation where it is two higher
-/// than that. So two trees of heights g and h take at most 3·|g-h| + 1 steps, and at most 205.
+/// Trees whose heights differ by at most one become a pair, in one step. Otherwise the lower tree is joined to the
+/// facing child of the higher one, and the result becomes the sibling of the other child, by a rotation if it is two
+/// higher than that. So two trees of heights g and h take at most 3·|g-h| + 1 steps, and at most 205.
 ///
 /// # Errors
 ///
-/// `NoMemory` where none was found for a node. The store may have more nodes then.
+/// `NoMemory` if allocation fails. The store may have more nodes then.
 pub fn join<L: Ledger>(
     store: &mut Store,
     a: NodeId,

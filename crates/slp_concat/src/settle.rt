@@ -1,4 +1,4 @@
-//! Puts a tree beside a sibling that may be two lower.
+//! Pairs a tree with a sibling that may be two lower.
 ghost use Rattle.std.specs.Prelude.{◌≡◌, ◌+◌, ◌^◌, ◌<◌, ◌≤◌, length, IfOk};
 ghost use Rattle.slp_model.specs.Tree.{Fork, leaves, height, IsBalanced};
 ghost use Rattle.slp_model.specs.Nodes.{tree, Grows};

@@ -1,4 +1,4 @@
--- Nodes that are none of them equal, and whose bytes are bytes.
+-- Distinct nodes, whose bytes are below 256.
 use Rattle.std.specs.Prelude.{◌≡◌, ℕ, ◌<◌, List, slice_get, Some}
 use Rattle.slp_model.specs.declared.Node.{Node}
 use Rattle.slp_model.specs.declared.Node.TheVariants.{Byte, Pair}

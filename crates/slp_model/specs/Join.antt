@@ -5,7 +5,7 @@ use Rattle.slp_model.specs.Tree.{Tree, Leaf, Fork, height, text, IsBalanced, roo
 abbrev pub is_near : ℕ → ℕ → Bool
 is_near g h = nat_le g (h + 1) && nat_le h (g + 1)
 
--- v at the right of the pair l and u, which is taken apart where it is the higher
+-- l joined to the pair of u and v by a rotation; u is split into its children if it is higher than v
 abbrev pub lift_left : Tree → Tree → Tree → Tree
 lift_left l (Leaf x) v = Fork (Fork l (Leaf x)) v
 lift_left l (Fork u1 u2) v = if nat_le (height (Fork u1 u2)) (height v) then Fork (Fork l (Fork u1 u2)) v else Fork (Fork l u1) (Fork u2 v)
@@ -32,7 +32,8 @@ join_with a down (Fork c r) =
     else if nat_lt (height (Fork c r)) (height a) then down (Fork c r)
     else settle_left (join_with a down c) r
 
--- near trees make a pair; else the lower one is joined to the facing child of the higher one, which is settled
+-- trees whose heights differ by at most one make a pair; otherwise the lower one is joined to the facing child of the
+-- higher one, which is settled
 unfoldable pub join : Tree → Tree → Tree
 join (Leaf x) b = join_with (Leaf x) (λ t. Fork (Leaf x) t) b
 join (Fork l c) b = join_with (Fork l c) (λ t. settle_right l (join c t)) b
@@ -43,11 +44,11 @@ join_roots None b = b
 join_roots (Some a) None = Some a
 join_roots (Some a) (Some b) = Some (join a b)
 
--- at most so many pairs are made for trees of heights g and h
+-- the maximum number of pairs that are made for trees of heights g and h
 abbrev pub join_cost : ℕ → ℕ → ℕ
 join_cost g h = 3 * ((g - h) + (h - g)) + 1
 
--- the same for two roots: none where a side is empty
+-- the same for two roots: none if a side is empty
 abbrev pub root_cost : Option Tree → Option Tree → ℕ
 root_cost None b = 0
 root_cost (Some a) None = 0

@@ -24,7 +24,7 @@ abbrev pub IsKeptRoot : List Bool → Option NodeId → Type 0
 IsKeptRoot keep None = Unit {0}
 IsKeptRoot keep (Some id) = Keeps keep id.index
 
--- it is said of each node whether it is kept, and both children of each kept pair are kept
+-- there is a truth value for each node, and both children of each kept pair are kept
 pub record IsPlanOf (ns : List Node) (keep : List Bool) : Type 0 where
   pub long : length keep ≡ length ns
   pub closed : (i : ℕ) (l r : NodeId) → slice_get ns i ≡ Some (Pair l r) → Keeps keep i → Keeps keep l.index × Keeps keep r.index

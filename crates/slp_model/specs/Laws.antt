@@ -1,4 +1,4 @@
--- What holds of trees, of joins and of the loader's shape.
+-- Laws of trees, of joins and of the loader's shape.
 use Rattle.std.specs.Prelude.{◌≡◌, ℕ, ◌+◌, ◌≤◌, ◌<◌, List, [], ◌∷◌, length, Some}
 use Rattle.span_types.specs.Fibonacci.{fibonacci, height_limit}
 use Rattle.slp_model.specs.Tree.{Tree, Leaf, Fork, text, leaves, height, IsNear, IsBalanced, root_text, root_height}
@@ -11,13 +11,14 @@ pub record TreeLaw : Type 0 where
   pub enough : (t : Tree) → IsBalanced t → fibonacci (height t + 2) ≤ leaves t
   pub limit : (t : Tree) → IsBalanced t → height t ≤ height_limit (leaves t)
 
--- near trees make a pair; else the lower one is joined to the facing child of the higher one
+-- trees whose heights differ by at most one make a pair; otherwise the lower one is joined to the facing child of the
+-- higher one
 pub record JoinCases : Type 0 where
   pub near : (a b : Tree) → IsNear (height a) (height b) → join a b ≡ Fork a b
   pub left : (l c b : Tree) → height b + 1 < height (Fork l c) → join (Fork l c) b ≡ settle_right l (join c b)
   pub right : (a c r : Tree) → height a + 1 < height (Fork c r) → join a (Fork c r) ≡ settle_left (join a c) r
 
--- each join of balanced trees is balanced, with their texts in a row
+-- each join of balanced trees is balanced, with their texts one after the other
 abbrev pub JoinLaw : Type 0
 JoinLaw = (a b : Tree) → IsBalanced a → IsBalanced b → IsJoined a b (join a b)
 

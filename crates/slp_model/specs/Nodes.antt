@@ -47,11 +47,12 @@ abbrev pub pair_weight : Node → ℕ
 pair_weight (Byte b) = 0
 pair_weight (Pair l r) = 1
 
--- how many pairs there are
+-- the number of pairs
 unfoldable pub pair_count : List Node → ℕ
 pair_count ns = sum_by pair_weight ns
 
--- the old nodes stand, new ones follow, and among these are no more pairs than the steps from `before` to `after`
+-- the old nodes are unchanged, new ones follow, and these have at most as many pairs as there are steps from `before`
+-- to `after`
 pub record Grows (old new : List Node) (before after : ℕ) : Type 0 where
   pub more : List Node
   pub added : new ≡ old ++ more
@@ -62,13 +63,13 @@ abbrev pub IsBelow : ℕ → Node → Type 0
 IsBelow i (Byte b) = Unit {0}
 IsBelow i (Pair l r) = (l.index < i) × (r.index < i)
 
--- what holds of the nodes of each store, beside that they are distinct
+-- what holds of the nodes of each store, apart from being distinct
 pub record IsSound (ns : List Node) : Type 0 where
   pub children : (i : ℕ) (n : Node) → slice_get ns i ≡ Some n → IsBelow i n
   pub balanced : (i : ℕ) → i < length ns → IsBalanced (tree ns i)
   pub short : (i : ℕ) → i < length ns → leaves (tree ns i) ≤ 2 ^ 48
 
--- the node at i, as the tree there shows it
+-- the node at i, as its tree determines it
 abbrev pub IsNodeAt : List Node → ℕ → Node → Type 0
 IsNodeAt ns i (Byte b) = tree ns i ≡ Leaf b
 IsNodeAt ns i (Pair l r) = (tree ns i ≡ Fork (tree ns l.index) (tree ns r.index)) × (l.index < i) × (r.index < i)

@@ -9,7 +9,7 @@ pair_up [] = []
 pair_up (x ∷ []) = []
 pair_up (x ∷ y ∷ zs) = Fork x y ∷ pair_up zs
 
--- the last block, where their number is odd
+-- the last block, if their number is odd
 abbrev pub odd_last : List Tree → Option Tree
 odd_last [] = None
 odd_last (x ∷ []) = Some x

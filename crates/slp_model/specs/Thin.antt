@@ -7,7 +7,7 @@ use Rattle.slp_model.specs.Nodes.{tree, IsSound}
 use Rattle.slp_model.specs.Distinct.{AreDistinct, AreOfBytes}
 use Rattle.slp_model.specs.Kept.{Keeps, IsPlanOf, RootReaches}
 
--- how many of the nodes before this place are kept: the new number of a kept node
+-- the number of kept nodes before this index: the new number of a kept node
 abbrev pub rank : List Bool → ℕ → ℕ
 rank keep zero = 0
 rank [] (suc i) = 0
@@ -41,7 +41,8 @@ AnyReaches ns (root ∷ roots) j = RootReaches ns root j ⊎ AnyReaches ns roots
 abbrev pub KeepsExactly : List Node → List Bool → List (Option NodeId) → Type 0
 KeepsExactly ns keep roots = (j : ℕ) → Keeps keep j ↔ AnyReaches ns roots j
 
--- ms is a store of exactly the kept nodes, each with its tree, and where these are what the roots reach, so are those of ms
+-- ms is a store of exactly the kept nodes, each with its tree, and if these are what the roots reach, so are those of
+-- ms
 pub record IsThinOf (ns : List Node) (keep : List Bool) (ms : List Node) : Type 0 where
   pub sound : IsSound ms
   pub bytes : AreOfBytes ns → AreOfBytes ms

@@ -12,8 +12,8 @@ pub fn join_cases()
     ensures { JoinCases }
 {}
 
-/// The join of balanced trees is balanced, has their texts in a row, and is at most one higher
-/// than the higher of them.
+/// The join of balanced trees is balanced, has their texts one after the other, and is at most one higher than the
+/// higher of them.
 pub fn joins()
     ensures { JoinLaw }
 {}
@@ -28,8 +28,8 @@ pub fn shape_rows()
     ensures { ShapeRows }
 {}
 
-/// The kept nodes of a plan, in their order and under new numbers, make a store: each has its tree, no two of them are
-/// equal, and where exactly the nodes that some roots reach are kept, these roots reach each node of the new store.
+/// The kept nodes of a plan, in their order and under new numbers, are a store: each has its tree, and no two are
+/// equal. If exactly the nodes that some roots reach are kept, these roots reach each node of the new store.
 pub fn thin_store()
     ensures { ThinLaw }
 {}

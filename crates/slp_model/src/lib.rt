@@ -5,12 +5,13 @@
 //! law::trees();                                            // what a proof may use from here on, at no cost
 //! ```
 //!
-//! A text is the tree below one node, and a node that many trees share stands once: the node 2 above is the text `ab`.
-//! The crate has the two types, in definitions (folder `specs`) what a list of nodes means, when a tree is balanced,
-//! what a join and the loader make of trees and which nodes a compaction keeps, and in the module `law` what holds of
-//! these: a balanced tree of n bytes is at most H(n) high, and joins keep trees balanced.
+//! A text is the tree below one node. A node that many trees share is stored once: node 2 above is the text `ab`. The
+//! crate has the two types and, in the folder `specs`, the definitions: what a list of nodes means, when a tree is
+//! balanced, what a join and the loader make of trees, and which nodes a compaction keeps. The module `law` has what is
+//! proved of these: a balanced tree of n bytes has height at most H(n), and joins keep trees balanced.
 //!
-//! Nodes and ids are values of a few words. The calls of `law` do nothing when the program runs, and take no time.
+//! Nodes and ids are values of a few machine words. The calls of `law` do nothing when the program runs, and take no
+//! time.
 //!
 //! Straight-line programs whose sibling trees differ by at most one in height are the strongly balanced ones of M. L.
 //! Schmid and N. Schweikardt, *Query evaluation over SLP-represented document databases with complex document
@@ -21,7 +22,7 @@
 
 pub mod law;
 
-/// The place of a node in its store, from 0.
+/// The index of a node in its store, from 0.
 #[derive(Clone, Copy, PartialEq, Eq, Hash, Debug)]
 pub struct NodeId {
     pub index: usize,

@@ -1,5 +1,5 @@
 //! A list of nodes of a store, one per rule of a grammar whose pairs and runs need not be balanced. Each entry is
-//! balanced again as it comes.
+//! balanced when it is added.
 //!
 //! ```text
 //! let mut roots = Roots::new(alloc);
@@ -9,9 +9,9 @@
 //! roots.repeat(&mut store, 2, 1000, &mut pairs)?;          // entry 3: ab a thousand times
 //! ```
 //!
-//! So a grammar from anywhere, however deep, becomes a store of low trees. A pair makes at most 205 pair calls (one
-//! where its two sides are about as high), a run of c times two for each binary digit of c but the first at most, and
-//! an entry takes the memory of a number.
+//! So a grammar from anywhere, however deep, becomes a store of low trees. A pair makes at most 205 calls to `pair`,
+//! and one if the heights of its sides differ by at most one. A run whose count has d binary digits makes at most
+//! 206·(d-1). An entry takes the memory of a number.
 //!
 //! Balancing a grammar by joining height-balanced trees is due to W. Rytter, Theoretical Computer Science 302, 2003.
 //!
@@ -33,10 +33,10 @@ use std::alloc::Global;
 use std::marker::Model;
 use std::sync::ledger::Ledger;
 
-/// Nodes of a store in the order in which they came, each as often as it came.
+/// Nodes of a store in the order in which they were added, each as often as it was added.
 ///
-/// Each call has the store of the calls before, which may have grown. After `NoMemory` the entries
-/// are as before, and the store may have more nodes.
+/// Each call has the store of the calls before, which may have grown. After `NoMemory` the entries are unchanged, and
+/// the store may have more nodes.
 #[derive(Drop)]
 pub struct Roots {
     ids: Vec<NodeId>,
@@ -61,14 +61,14 @@ impl Roots {
         }
     }
 
-    /// How many entries there are.
+    /// The number of entries.
     pub fn count(&self) -> usize
         ensures { result ≡ length self.now }
     {
         self.ids.len()
     }
 
-    /// The entry at this place. Places count from 0.
+    /// The entry at this index, counted from 0.
     pub fn root(&self, place: usize) -> NodeId
         requires { place < length self.now }
         ensures { slice_get self.now place ≡ Some result }
@@ -76,11 +76,11 @@ impl Roots {
         self.ids[place]
     }
 
-    /// A last entry with this one byte.
+    /// Appends an entry with this one byte.
     ///
     /// # Errors
     ///
-    /// `NoMemory`.
+    /// `NoMemory` if allocation fails.
     pub fn byte(&mut self, store: &mut Store, b: u8) -> Result<(), NoMemory>
         requires live { AreLiveIds store.old self.old }
         ensures grows { Grows store.old store.new 0 0 }
@@ -94,12 +94,12 @@ impl Roots {
         Ok(())
     }
 
-    /// A last entry with the texts at the places `left` and `right` joined, at most 2^48 bytes. At most
-    /// 205 pair calls are made, and one where the heights differ by at most one.
+    /// Appends an entry with the texts at the indices `left` and `right` joined, at most 2^48 bytes. At most 205 calls
+    /// to `pair` are made, and at most one if the heights differ by at most one.
     ///
     /// # Errors
     ///
-    /// `NoMemory`.
+    /// `NoMemory` if allocation fails.
     pub fn pair<L: Ledger>(
         &mut self,
         store: &mut Store,
@@ -127,12 +127,12 @@ impl Roots {
         Ok(())
     }
 
-    /// A last entry with the text at the place `child`, `times` times, at most 2^48 bytes. At most
-    /// 206·(d-1) pair calls are made, where d is the number of binary digits of `times`.
+    /// Appends an entry with the text at the index `child`, `times` times, at most 2^48 bytes. At most 206·(d-1) calls
+    /// to `pair` are made, where d is the number of binary digits of `times`.
     ///
     /// # Errors
     ///
-    /// `NoMemory`.
+    /// `NoMemory` if allocation fails.
     pub fn repeat<L: Ledger>(
         &mut self,
         store: &mut Store,
@@ -158,8 +158,8 @@ impl Roots {
     }
 }
 
-// A node with the text of the node so many times: twice half as often, or, where the number is odd, half as often and
-// once more. It and `around` call themselves at most 63 times together.
+// A node with `times` copies of the node's text: the pair of two nodes with half as many, or, if the number is odd, of
+// one with half as many and one with one more. It and `around` call themselves at most 63 times together.
 fn repeated<L: Ledger>(
     store: &mut Store,
     id: NodeId,
@@ -185,9 +185,9 @@ fn repeated<L: Ledger>(
     store.pair(more, fewer, pairs)
 }
 
-// Nodes with the text of the node so many times, and once more. Their heights differ by at most one, so that each of them
-// is a pair of two such nodes for half the number, and no join has to go down: a number has two nodes for each of its binary
-// digits at most.
+// A node with `times` copies of the node's text, and one with one copy more. Their heights differ by at most one. So
+// each is a pair of two such nodes for half the number, and no join descends: a number takes at most two nodes for each
+// of its binary digits.
 fn around<L: Ledger>(
     store: &mut Store,
     id: NodeId,

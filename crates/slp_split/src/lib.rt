@@ -1,14 +1,14 @@
-//! Cuts a text at a position, and takes a range out of it.
+//! Splits a text at a position, and extracts a range of it.
 //!
 //! ```text
 //! let (front, rest) = split(&mut store, root, 4, &mut pairs)?;       // the bytes 1 to 3, and those from 4 on
 //! let middle = extract(&mut store, root, 4, 8, &mut pairs)?;         // the bytes 4 to 7
 //! ```
 //!
-//! A cut goes down from the root and joins what it leaves behind on each side. The joins of one side are of rising
-//! heights, so their costs add up to a multiple of the height h: at most 10·h pair calls for a cut and 20·h for a
-//! range, whatever the length of the text is, and neither part is higher than the whole. The text that was cut stays as
-//! it is, since nodes never change. Memory is taken for new nodes alone.
+//! A split descends from the root and joins, on each side, what it leaves behind. The joins on one side have rising
+//! heights, so their costs add up to a multiple of the height h, whatever the length of the text: at most 10·h calls to
+//! `pair` for a split and 20·h for a range. Neither part is higher than the whole. The text that was split is
+//! unchanged, since nodes never change. Memory is allocated for new nodes alone.
 //!
 //! Splitting balanced trees so goes back to C. Crane, *Linear lists and priority queues as balanced binary trees*,
 //! 1972; on grammars it is M. L. Schmid and N. Schweikardt, PODS 2022.
@@ -28,12 +28,12 @@ use std::sync::ledger::Ledger;
 
 /// Roots of the contents of `[1,at)` and `[at,n+1)`, for a text of n bytes.
 ///
-/// The root is live, and 1 ≤ `at` ≤ n+1. Neither result is higher than the root, and for a root of
-/// height h at most 10·h pair calls are made.
+/// The root is live, and 1 ≤ `at` ≤ n+1. Neither result is higher than the root, and for a root of height h at most
+/// 10·h calls to `pair` are made.
 ///
 /// # Errors
 ///
-/// `NoMemory` where none was found for a node. The store may have more nodes then.
+/// `NoMemory` if allocation fails. The store may have more nodes then.
 pub fn split<L: Ledger>(
     store: &mut Store,
     root: Option<NodeId>,
@@ -59,12 +59,12 @@ pub fn split<L: Ledger>(
 
 /// A root of the content of `[i,j)`.
 ///
-/// The root is live, and 1 ≤ `i` ≤ `j` ≤ n+1 for its text of n bytes. The result is no higher than
-/// the root, and for a root of height h at most 20·h pair calls are made.
+/// The root is live, and 1 ≤ `i` ≤ `j` ≤ n+1 for its text of n bytes. The result is no higher than the root, and for a
+/// root of height h at most 20·h calls to `pair` are made.
 ///
 /// # Errors
 ///
-/// `NoMemory` where none was found for a node. The store may have more nodes then.
+/// `NoMemory` if allocation fails. The store may have more nodes then.
 pub fn extract<L: Ledger>(
     store: &mut Store,
     root: Option<NodeId>,

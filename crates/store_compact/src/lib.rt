@@ -1,15 +1,15 @@
-//! Which nodes of a store stay when it is compacted: those below the roots that are kept. They make the thin store.
+//! The nodes of a store that are kept when it is compacted: those below the kept roots. They make the compacted store.
 //!
 //! ```text
 //! let mut plan = Plan::new(alloc, &store)?;
-//! plan.keep_root(&store, root)?;              // and so each root that is to stay
+//! plan.keep_root(&store, root)?;              // and so for each root to keep
 //! let (thin, moves) = plan.build(alloc, &store)?;
 //! ```
 //!
 //! A plan takes a byte for each node of the store. All calls of `keep_root` on one plan together take time linear in
-//! the number of roots and of kept nodes, since what is kept already is not visited again, and no memory: a node is at
-//! most 68 high, and that is how deep the search goes. It is the marking of a mark-sweep collector (McCarthy,
-//! "Recursive functions of symbolic expressions and their computation by machine, part I", 1960), and the marks are
+//! the number of roots and of kept nodes, since kept nodes aren't visited again. They allocate nothing: the search is
+//! as deep as a node is high, at most 68 levels. It is the marking of a mark-sweep collector (McCarthy, "Recursive
+//! functions of symbolic expressions and their computation by machine, part I", 1960), and the marks are
 //! exact: nothing is kept beside what the roots reach.
 //!
 //! Proved: Exactly the nodes below the roots are kept (`Plan::keep_root`, `Plan::build`, `Plan::moves`).
@@ -47,7 +47,7 @@ impl Plan {
     ///
     /// # Errors
     ///
-    /// `NoMemory` where none was found.
+    /// `NoMemory` if allocation fails.
     pub fn new(alloc: Global, store: &Store) -> Result<Plan, NoMemory>
         ensures none { IfOk result (λ plan. plan ≡ replicate (length store.now) false) }
         ensures plan { IfOk result (IsPlanOf store.now) }
@@ -57,12 +57,12 @@ impl Plan {
         })
     }
 
-    /// Keeps the root and all nodes below it, beside those that are kept already. The store is the one that the plan
-    /// was made for. Takes no memory.
+    /// Keeps the root and all nodes below it, in addition to those that are kept already. The store is the one that the
+    /// plan was made for. Allocates nothing.
     ///
     /// # Errors
     ///
-    /// None: it always accepts.
+    /// None: it always returns `Ok`.
     pub fn keep_root(&mut self, store: &Store, root: Option<NodeId>) -> Result<(), NoMemory>
         requires plan { IsPlanOf store.now self.old }
         requires live { IsLive store.now root }
@@ -76,12 +76,12 @@ impl Plan {
         Ok(())
     }
 
-    /// Where the kept nodes go, and how many they are. Takes time linear in the nodes of the store, and makes no thin
-    /// store, as one who only writes the kept nodes down needs none.
+    /// The new ids of the kept nodes, and their number. Takes time linear in the nodes of the store. It makes no
+    /// compacted store, for callers that only write the kept nodes to a file.
     ///
     /// # Errors
     ///
-    /// `NoMemory` where none was found.
+    /// `NoMemory` if allocation fails.
     pub fn moves(&self, alloc: Global) -> Result<(Moves, usize), NoMemory>
         ensures moves { IfOk result (λ made. made.0 ≡ self.now) }
         ensures count { IfOk result (λ made. made.1 ≡ thinning.rank self.now (length self.now)) }
@@ -89,12 +89,12 @@ impl Plan {
         Moves::new(alloc, &self.keep)
     }
 
-    /// The thin store: the nodes that are kept, in their order, each with its tree under a new id, and where each one
-    /// went. The store is the one that the plan was made for. Takes time linear in its nodes.
+    /// The compacted store: the kept nodes in their order, each with its tree under a new id, and these ids. The store
+    /// is the one that the plan was made for. Takes time linear in its nodes.
     ///
     /// # Errors
     ///
-    /// `NoMemory` where none was found.
+    /// `NoMemory` if allocation fails.
     pub fn build(&self, alloc: Global, store: &Store) -> Result<(Store, Moves), NoMemory>
         requires plan { IsPlanOf store.now self.now }
         ensures store { IfOk result (λ made. made.0 ≡ thinning.thin store.now self.now) }
@@ -105,8 +105,8 @@ impl Plan {
     }
 }
 
-// Keeps the node and all nodes below it. A node goes in after its children, so that at any time the children of what
-// is kept are kept, and what is kept needs no second visit.
+// Keeps the node and all nodes below it. A node is kept after its children. So the children of a kept node are always
+// kept, and a kept node needs no second visit.
 fn keep_below(store: &Store, keep: &mut [bool], id: NodeId)
     requires plan { IsPlanOf store.now keep.old }
     requires live { id.index < length store.now }
