@@ -23,7 +23,7 @@ pub record IsAnswerText (f : FormulaTree) (k : ℕ) (s : List ℕ) (w : MarkedTe
   pub lies : LiesIn 1 (length s + 1) spans
   pub marks : w ≡ marked_by (mark k spans) s
 
--- a formula that keeps the rule, with variables below k, accepts exactly such marked texts of a text
+-- a formula that obeys the rule, with variables below k, accepts exactly such marked texts of a text
 abbrev pub AcceptsAnswers : Type 0
 AcceptsAnswers =
     (f : FormulaTree) (k : ℕ) (s : List ℕ) (w : MarkedText) → Fun f → VarsBelow k f → bytes_of w.pairs ≡ s

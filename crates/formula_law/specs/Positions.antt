@@ -22,7 +22,7 @@ pub record SumOf (P Q : ℕ → Type 0) (m : ℕ) : Type 0 where
   pub in_right : Q right
   pub sum : m ≡ left + right
 
--- Null: a mark that the formula crosses without a byte
+-- Null: a mark with which the formula matches the empty word
 abbrev pub IsNull : FormulaTree → ℕ → Type 0
 IsNull (Set b) m = ⊥
 IsNull Empty m = m ≡ 0

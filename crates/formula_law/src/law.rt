@@ -13,7 +13,7 @@ pub fn accepts_tuples()
     ensures { AcceptsTuples }
 {}
 
-/// A tuple fits exactly where it lies in the text and its marked text is accepted.
+/// A tuple fits exactly if it lies in the text and its marked text is accepted.
 pub fn fits_accepted()
     ensures { FitsAccepted }
 {

@@ -1,10 +1,10 @@
-//! The law of position automata: the automaton that follows the occurrences of byte sets in a formula accepts exactly
-//! the texts with the marks of the spans that the formula gives.
+//! The law of position automata: the automaton over the occurrences of byte sets in a formula accepts exactly the texts
+//! with the marks of the spans that the formula assigns.
 //!
 //! ```text
 //! formula   .*$x{a}          occurrences   1: any byte, 2: the byte a
 //! text      b a              marks         none before b, x starts before a, x ends at the end of the text
-//! accepted  (none, b) (1, a) 2             a tuple x=[2,3) fits exactly where its marked text is accepted
+//! accepted  (none, b) (1, a) 2             a tuple x=[2,3) fits exactly if its marked text is accepted
 //! ```
 //!
 //! The crate has definitions and proved laws and no code that runs, so it costs nothing at run time: `marker_nfa` makes

@@ -1,4 +1,4 @@
--- What a text says: a formula with its names, or the first refusal.
+-- The result for a text: a formula with its names, or the first rejection.
 use Rattle.std.specs.Prelude.{◌≡◌, ℕ, ◌<◌, ◌≤◌, List, [], length, Some, None, slice_get, Result, Ok, Err}
 use Rattle.span_types.specs.FormulaTree.{FormulaTree, tree_of, sets, fault}
 use Rattle.span_types.specs.declared.formula.Formula as formula
@@ -10,7 +10,7 @@ use Rattle.formula_syntax.specs.Numbering.{Names}
 abbrev pub IsReading : List ℕ → FormulaTree → Names → ℕ → Type 0
 IsReading s f names d = Reads alt s f d [] names
 
--- a refusal, or a formula with the names of its variables
+-- a rejection, or a formula with the names of its variables
 pub data Outcome : Type 0 where
   TooLong : (len : ℕ) → Outcome
   BadText : Outcome
@@ -20,7 +20,7 @@ pub data Outcome : Type 0 where
   NotFunctional : (name : List ℕ) → Outcome
   Formula : (f : FormulaTree) (names : Names) → Outcome
 
--- a reading of a text that keeps all limits
+-- a reading of a text that respects all limits
 pub record Meets (s : List ℕ) (f : FormulaTree) (names : Names) (d : ℕ) : Type 0 where
   pub short : length s ≤ 2048
   pub reading : IsReading s f names d
@@ -28,7 +28,7 @@ pub record Meets (s : List ℕ) (f : FormulaTree) (names : Names) (d : ℕ) : Ty
   pub positions : sets f ≤ 512
   pub variables : length names ≤ 8
 
--- FormulaOf: the outcome of a text, the first refusal or the formula with its names
+-- FormulaOf: the outcome of a text, the first rejection or the formula with its names
 abbrev pub FormulaOf : List ℕ → Outcome → Type 0
 FormulaOf s (TooLong len) = (2048 < length s) × (len ≡ length s)
 FormulaOf s BadText = (length s ≤ 2048) × ((f : FormulaTree) (names : Names) (d : ℕ) → IsReading s f names d → ⊥)
@@ -38,7 +38,7 @@ FormulaOf s TooManyVariables = (length s ≤ 2048) × (f : FormulaTree) × (name
 FormulaOf s (NotFunctional name) = (f : FormulaTree) × (names : Names) × (d : ℕ) × (v : ℕ) × Meets s f names d × (fault f ≡ Some v) × (slice_get names v ≡ Some name)
 FormulaOf s (Formula f names) = (d : ℕ) × Meets s f names d × (fault f ≡ None)
 
--- what a reader answered is the outcome, or memory ran out
+-- what a reader returned is the outcome, or it is out of memory
 abbrev pub Says : Result (formula.Formula × Names) refusal.FormulaRefusal → List ℕ → Type 0
 Says (Ok x) s = FormulaOf s (Formula (tree_of x.0) x.1)
 Says (Err (refusal.TheVariants.TooLong len)) s = FormulaOf s (TooLong len)

@@ -6,7 +6,7 @@ use Rattle.std.specs.List.{list_any}
 abbrev pub is_special : ℕ → Bool
 is_special b = list_any (λ c. b == c) (46 ∷ 91 ∷ 93 ∷ 40 ∷ 41 ∷ 123 ∷ 125 ∷ 124 ∷ 42 ∷ 43 ∷ 63 ∷ 36 ∷ 92 ∷ [])
 
--- what stands for itself behind a backslash
+-- what stands for itself after a backslash
 abbrev pub can_escape : ℕ → Bool
 can_escape b = is_special b || (b == 45) || (b == 94)
 

@@ -23,13 +23,13 @@ pub record Stack : Type 0 where
   pub names : Names
   pub deepest : ℕ
 
--- where an item of a set stands
+-- how far an item of a set is read
 pub data Pending : Type 0 where
   empty : Pending
   low : (a : ℕ) → Pending
   dash : (a : ℕ) → Pending
 
--- what is being read beside the stack
+-- what is being read, apart from the stack
 pub data Mode : Type 0 where
   text : Mode
   set_start : Mode
@@ -78,7 +78,7 @@ add k f = record { level = with_part k.level f; groups = k.groups; names = k.nam
 abbrev pub add_set : Stack → (ℕ → Bool) → Option Machine
 add_set k p = Some (at text (add k (Set (bytes_where p))))
 
--- the last part changed, where there is one
+-- the last part changed, if there is one
 abbrev pub change_last : (FormulaTree → FormulaTree) → List FormulaTree → Option (List FormulaTree)
 change_last g [] = None
 change_last g (f ∷ []) = Some (g f ∷ [])

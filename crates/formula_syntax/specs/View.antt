@@ -85,7 +85,7 @@ pub record Shows (r : reader.Reader) (m : Machine) : Type 0 where
   pub mode : ShowsMode r.mode r.name.items m.mode
   pub stack : ShowsStack r m.stack
 
--- what a step answered, where the machine gives this
+-- what a step returned, if the machine reaches this
 abbrev pub Answers : {A : Type 0} → Result A stop.Stop → reader.Reader → Option Machine → Type 0
 Answers (Ok x) r o = (n : Machine) × (o ≡ Some n) × Shows r n
 Answers (Err stop.TheVariants.Bad) r o = o ≡ None
@@ -100,7 +100,7 @@ sign_of sign.TheVariants.Opt = Opt
 abbrev pub with_names : Stack → Names → Stack
 with_names k n = record { level = k.level; groups = k.groups; names = n; deepest = k.deepest }
 
--- what an operation on a set answered, where the machine gives this
+-- what an operation on a set returned, if the machine reaches this
 abbrev pub GivesSet : Option SetReader → Stack → Option Machine → Type 0
 GivesSet None k o = o ≡ None
 GivesSet (Some s) k o = (neg : Bool) × (rs : List (ℕ × ℕ)) × (p : Pending) × (o ≡ Some (machine.at (machine.in_set neg rs p) k)) × ShowsSet s neg rs p
@@ -124,7 +124,7 @@ IsReadIn s f = Finds (Ok f) (machine.read s)
 abbrev pub IsRead : found.Found → Type 0
 IsRead f = (s : List ℕ) × IsReadIn s f
 
--- a whole set, where the machine gives this
+-- a whole set, if the machine reaches this
 abbrev pub IsWhole : Option ByteSet → Stack → Option Machine → Type 0
 IsWhole None k o = o ≡ None
 IsWhole (Some b) k o = (p : ℕ → Bool) × (o ≡ machine.add_set k p) × (b ≡ bytes_where p)
@@ -132,7 +132,7 @@ IsWhole (Some b) k o = (p : ℕ → Bool) × (o ≡ machine.add_set k p) × (b �
 abbrev pub ReadFound : Type 0
 ReadFound = Found
 
--- the refusal with the name, or memory ran out
+-- the error with the name, or out of memory
 abbrev pub IsCopy : refusal.FormulaRefusal → List ℕ → Type 0
 IsCopy (refusal.TheVariants.NotFunctional x) name = x ≡ name
 IsCopy refusal.TheVariants.NoMemory name = Unit {0}

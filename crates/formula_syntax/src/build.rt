@@ -59,7 +59,7 @@ pub fn cat_of(alloc: Global, parts: Vec<Formula>) -> Result<Formula, AllocError>
     Ok(whole)
 }
 
-/// One of the branches or the last one, nested to the right.
+/// The alternation of the branches and the last one, nested to the right.
 fn alt_of(alloc: Global, branches: Vec<Formula>, last: Formula) -> Result<Formula, AllocError>
     ensures { IfOk result (λ f. tree_of f ≡ alt_of (trees branches.items) (tree_of last)) }
 {
@@ -71,7 +71,7 @@ fn alt_of(alloc: Global, branches: Vec<Formula>, last: Formula) -> Result<Formul
     Ok(whole)
 }
 
-/// A part with a sign behind it.
+/// A part followed by a sign.
 pub fn signed(alloc: Global, sign: Sign, part: Formula) -> Result<Formula, AllocError>
     ensures { IfOk result (λ f. tree_of f ≡ sign_of sign (tree_of part)) }
 {

@@ -1,11 +1,11 @@
-//! The number of byte sets, and the rule on variables that accepted formulas keep.
+//! The number of byte sets, and the rule on variables that accepted formulas obey.
 ghost use Rattle.std.specs.Prelude.{◌≡◌, ℕ, ◌<◌, Bool, false, slice_index_or, ◌&&◌, ◌||◌, min, None};
 ghost use Rattle.span_types.specs.FormulaTree.{FormulaTree, Cat, Alt, Star, Plus, Capture, tree_of, sets, least_below};
 ghost use Rattle.formula_syntax.specs.Below.{Below, IsVerdict};
 
 use span_types::Formula;
 
-/// The number of byte sets in a formula, as far as it fits.
+/// The number of byte sets in a formula, or 2^64 - 1 if there are more.
 pub fn sets_of(formula: &Formula) -> u64
     ensures { result ≡ min (sets (tree_of formula.now)) 18446744073709551615 }
 {
@@ -21,7 +21,7 @@ pub fn sets_of(formula: &Formula) -> u64
     }
 }
 
-/// The variables of a formula, and the one at which it first breaks the rule.
+/// The variables of a formula, and the variable at which it first breaks the rule.
 #[derive(Clone, Copy)]
 pub struct Verdict {
     held: [bool; 8],
@@ -61,7 +61,8 @@ pub fn check(formula: &Formula) -> Verdict
     verdict
 }
 
-/// Puts the verdict on a formula in a place. A result by value would take several places on the stack for each level.
+/// Writes the verdict on a formula to a reference. A result by value would take several copies on the stack for each
+/// level.
 fn judge(formula: &Formula, verdict: &mut Verdict)
     requires { Below 8 (tree_of formula.now) }
     ensures { IsVerdict verdict.new (tree_of formula.now) }
@@ -91,7 +92,7 @@ fn judge(formula: &Formula, verdict: &mut Verdict)
     }
 }
 
-/// The verdict on what has no variable.
+/// The verdict on a formula without variables.
 fn nothing() -> Verdict
     ensures held { (v : ℕ) → v < 8 → slice_index_or result.held v false ≡ false }
     ensures fault { result.fault ≡ None }
@@ -104,7 +105,7 @@ fn nothing() -> Verdict
 
 // The functions below aren't inlined, so that a level of `judge` takes little of the stack.
 
-/// Makes the left verdict that on a concatenation.
+/// Turns the left verdict into that on a concatenation.
 #[inline(never)]
 fn both(left: &mut Verdict, right: &Verdict)
     ensures { (f g : FormulaTree) → Below 8 (Cat f g) → IsVerdict left.old f → IsVerdict right.now g → IsVerdict left.new (Cat f g) }
@@ -117,7 +118,7 @@ fn both(left: &mut Verdict, right: &Verdict)
     };
 }
 
-/// Makes the left verdict that on one or the other.
+/// Turns the left verdict into that on an alternation.
 #[inline(never)]
 fn one_of(left: &mut Verdict, right: &Verdict)
     ensures { (f g : FormulaTree) → IsVerdict left.old f → IsVerdict right.now g → IsVerdict left.new (Alt f g) }
@@ -128,7 +129,7 @@ fn one_of(left: &mut Verdict, right: &Verdict)
     };
 }
 
-/// Makes the verdict that on a star or a plus.
+/// Turns the verdict into that on a star or a plus.
 #[inline(never)]
 fn repeated(inner: &mut Verdict)
     ensures star { (f : FormulaTree) → Below 8 f → IsVerdict inner.old f → IsVerdict inner.new (Star f) }
@@ -141,7 +142,7 @@ fn repeated(inner: &mut Verdict)
     };
 }
 
-/// Makes the verdict that on a capture.
+/// Turns the verdict into that on a capture.
 #[inline(never)]
 fn captured(x: u8, inner: &mut Verdict)
     requires { x < 8 }

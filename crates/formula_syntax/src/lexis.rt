@@ -2,7 +2,7 @@
 ghost use Rattle.std.specs.Prelude.{◌≡◌, ◌<◌, Some, None, MatchOption};
 ghost use Rattle.formula_syntax.specs.Lexis.{is_special, can_escape, hex_value, is_plain_member};
 
-/// Whether a byte stands for itself only behind a backslash.
+/// Whether a byte stands for itself only after a backslash.
 pub fn is_special(b: u8) -> bool
     ensures { result ≡ is_special b }
 {
@@ -12,7 +12,7 @@ pub fn is_special(b: u8) -> bool
     )
 }
 
-/// Whether a byte behind a backslash stands for itself.
+/// Whether a byte after a backslash stands for itself.
 pub fn can_escape(b: u8) -> bool
     ensures { result ≡ can_escape b }
 {

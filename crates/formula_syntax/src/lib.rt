@@ -1,4 +1,4 @@
-//! Formula texts: their grammar, and a reader that gives the formula of a text or the first refusal.
+//! Formula texts: their grammar, and a reader that returns the formula of a text or the first error.
 //!
 //! ```text
 //! let (formula, vars) = read(alloc, b".*$x{[0-9]+}.*")?;
@@ -7,11 +7,11 @@
 //! read(alloc, b"[]$x{a}$x{b}");                            // Err(FormulaRefusal::NotFunctional { name: x })
 //! ```
 //!
-//! The rule on variables is one of syntax: the parts of a concatenation share no variable, nothing under `*` or `+` has
-//! one, and a capture has its own variable no second time inside. So the last text is refused, although `[]` is the
-//! empty set and no text could give `x` two spans.
+//! The rule on variables is syntactic: the parts of a concatenation share no variable, nothing under `*` or `+` has
+//! one, and a capture doesn't contain its own variable again. So the last text is rejected, although `[]` is the empty
+//! set and no text could assign two spans to `x`.
 //!
-//! The text is read from left to right, once, with a stack of its open groups: time linear in its length (at most 2,048
+//! The text is read once from left to right, with a stack of its open groups: time linear in its length (at most 2,048
 //! bytes), and memory linear in the formula's parts. Formulas are the regex formulas of R. Fagin, B. Kimelfeld, F.
 //! Reiss and S. Vansummeren, *Document Spanners*, JACM 2015.
 //!

@@ -1,4 +1,4 @@
-//! What a formula text gives: a formula with its names, or the first refusal.
+//! The result for a formula text: a formula with its names, or the first error.
 ghost use Rattle.std.specs.Prelude.{◌≡◌, ◌≤◌, ℕ, List, length};
 ghost use Rattle.formula_syntax.specs.View.{IsRead, IsReadIn, IsCopy};
 ghost use Rattle.formula_syntax.specs.FormulaOf.{Says};
@@ -17,14 +17,14 @@ use std::alloc::Global;
 ///
 /// # Errors
 ///
-/// The first of these that holds, and `NoMemory`, which may come in place of any but the first:
+/// The first of these that applies, and `NoMemory` if allocation fails, which may come in place of any but the first:
 ///
-/// - `TooLong` where the text has more than 2,048 bytes;
-/// - `BadText` where it isn't in the grammar;
-/// - `TooDeep` where more than 64 groups and captures are open at some byte;
-/// - `TooManyPositions` where it has more than 512 byte sets;
-/// - `TooManyVariables` where it has more than 8 variables;
-/// - `NotFunctional` where it breaks the rule on variables.
+/// - `TooLong` if the text has more than 2,048 bytes;
+/// - `BadText` if it isn't in the grammar;
+/// - `TooDeep` if more than 64 groups and captures are open at some byte;
+/// - `TooManyPositions` if it has more than 512 byte sets;
+/// - `TooManyVariables` if it has more than 8 variables;
+/// - `NotFunctional` if it breaks the rule on variables.
 pub fn read(alloc: Global, text: &[u8]) -> Result<(Formula, Vars), FormulaRefusal>
     ensures { Says result text.now }
 {
@@ -40,7 +40,7 @@ pub fn read(alloc: Global, text: &[u8]) -> Result<(Formula, Vars), FormulaRefusa
     }
 }
 
-/// Looks at the limits and the rule, in their order, for what was found in a text.
+/// Tests the limits and the rule, in their order, for what was found in a text.
 fn judge(alloc: Global, found: Found) -> Result<(Formula, Vars), FormulaRefusal>
     requires { IsRead found }
     ensures { (s : List ℕ) → length s ≤ 2048 → IsReadIn s found → Says result s }
@@ -66,7 +66,7 @@ fn judge(alloc: Global, found: Found) -> Result<(Formula, Vars), FormulaRefusal>
     }
 }
 
-/// The refusal at a variable.
+/// The error at a variable.
 fn not_functional(alloc: Global, name: &Name) -> FormulaRefusal
     ensures { IsCopy result name.now }
 {

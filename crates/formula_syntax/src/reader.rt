@@ -20,7 +20,7 @@ pub enum Stop {
     /// The text isn't in the grammar.
     Bad,
 
-    /// No memory was found.
+    /// Allocation failed.
     OutOfMemory,
 }
 
@@ -62,10 +62,10 @@ enum Mode {
     /// The open alternation.
     Text,
 
-    /// A set, right behind its bracket.
+    /// A set, directly after its bracket.
     SetStart,
 
-    /// A set, behind its bracket and its sign.
+    /// A set, after its bracket and its sign.
     InSet(SetReader),
 
     /// The name of a capture.
@@ -113,7 +113,7 @@ struct Reader {
     deepest: usize,
 }
 
-/// What a text has, before the limits are looked at.
+/// What a text has, before the limits are tested.
 #[derive(Drop)]
 pub struct Found {
     pub formula: Formula,
@@ -194,7 +194,7 @@ impl Reader {
         Ok(())
     }
 
-    /// Closes a group, or where `captures` a capture.
+    /// Closes a group, or a capture if `captures`.
     fn close(&mut self, alloc: Global, captures: bool) -> Result<(), Stop>
         ensures { (k : Stack) → Shows self.old (at text k) → Answers result self.new (close captures k) }
     {
@@ -273,7 +273,7 @@ impl Reader {
         }
     }
 
-    /// Goes on in a set.
+    /// Continues in a set, or stops if there is none.
     fn to_set(&mut self, set: Option<SetReader>) -> Result<(), Stop>
         ensures { (k : Stack) (o : Option Machine) → GivesSet set k o → ShowsSlash self.old.slash no_slash → ShowsStack self.old k → Answers result self.new o }
     {
@@ -350,7 +350,7 @@ impl Reader {
         }
     }
 
-    /// Takes the byte behind a backslash.
+    /// Takes the byte after a backslash.
     fn begun(&mut self, byte: u8) -> Result<(), Stop>
         ensures { (m : MachineMode) (k : Stack) → ShowsMode self.old.mode self.old.name.items m → ShowsStack self.old k → Answers result self.new (step_in slash m k byte) }
     {

@@ -1,8 +1,8 @@
-//! Why a text gives no formula.
+//! Why a text has no formula.
 use span_types::Name;
 use thiserror::Error;
 
-/// Why a text gives no formula. Of the first six the first one that holds is the answer.
+/// Why a text has no formula. Of the first six, the first that applies is returned.
 #[derive(Debug, Drop, Error)]
 pub enum FormulaRefusal {
     /// The text has this many bytes, more than 2,048.
@@ -25,14 +25,14 @@ pub enum FormulaRefusal {
     #[error("more than 8 variables")]
     TooManyVariables,
 
-    /// The rule on variables fails first at this one. The rule is one of syntax: the two parts of a concatenation share
-    /// no variable, nothing under `*` or `+` has one, and a capture has its variable no second time inside. So it also
-    /// refuses a formula that fits no text, as `[]$x{a}$x{b}`. The parts of a formula are judged before the whole, from
-    /// the left, and of two shared variables the one that appears first is told.
+    /// The variable at which the formula first breaks the rule on variables. The rule is syntactic: the two parts of a
+    /// concatenation share no variable, nothing under `*` or `+` has one, and a capture doesn't contain its variable
+    /// again. So it also rejects a formula that fits no text, as `[]$x{a}$x{b}`. The parts of a formula are tested
+    /// before the whole, from the left. Of two shared variables, the one that appears first is returned.
     #[error("not functional in {name}")]
     NotFunctional { name: Name },
 
-    /// No memory was found.
+    /// Allocation failed.
     #[error("no memory")]
     NoMemory,
 }

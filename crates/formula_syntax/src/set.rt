@@ -63,7 +63,7 @@ impl SetReader {
         }
     }
 
-    /// The set after a member, where that may follow.
+    /// The set after a member, if that may follow.
     pub fn member(self, byte: u8) -> Option<SetReader>
         ensures { (k : Stack) (neg : Bool) (rs : List (ℕ × ℕ)) (p : MachinePending) → ShowsSet self neg rs p → GivesSet result k (member k neg rs p byte) }
     {
@@ -97,7 +97,7 @@ impl SetReader {
         }
     }
 
-    /// The set after a dash, where that may follow.
+    /// The set after a dash, if that may follow.
     pub fn dash(self) -> Option<SetReader>
         ensures { (k : Stack) (neg : Bool) (rs : List (ℕ × ℕ)) (p : MachinePending) → ShowsSet self neg rs p → GivesSet result k (to_dash k neg rs p) }
     {
@@ -116,7 +116,7 @@ impl SetReader {
         }
     }
 
-    /// The whole set at its closing bracket, where no range is open.
+    /// The whole set at its closing bracket, if no range is open.
     pub fn end(self) -> Option<ByteSet>
         ensures { (k : Stack) (neg : Bool) (rs : List (ℕ × ℕ)) (p : MachinePending) → ShowsSet self neg rs p → IsWhole result k (end_set k neg rs p) }
     {

@@ -23,7 +23,7 @@ and_then (Some x) f = f x
 abbrev pub cell_of : DeterministicAutomaton → ℕ → ℕ → Option Cell
 cell_of d q b = and_then (slice_get d.rows q) (λ r. and_then (slice_get d.classes b) (λ c. slice_get r.cells.items c))
 
--- the target at the place of a mark
+-- the target at the index of a mark
 abbrev pub find_target : List ℕ → List ℕ → ℕ → Option ℕ
 find_target [] ts m = None
 find_target (n ∷ ms) [] m = None
@@ -41,7 +41,7 @@ ends_in (Some r) = r.ends.items
 abbrev pub next_of : DeterministicAutomaton → ℕ → ℕ → ℕ → Option ℕ
 next_of d q m b = and_then (cell_of d q b) (λ c. find_target c.marks.items c.targets.items m)
 
--- the marks that lead on with a byte
+-- the marks with a next state for a byte
 abbrev pub marks_of : DeterministicAutomaton → ℕ → ℕ → List ℕ
 marks_of d q b = marks_in (cell_of d q b)
 
@@ -64,7 +64,8 @@ pub record PathAccepts (d : DeterministicAutomaton) (w : MarkedText) : Type 0 wh
   pub leads : path (next_of d) w.pairs 0 ≡ Some state
   pub may_end : Contains (ends_of d state) w.last
 
--- what holds of every automaton of the type Dfa: its states are few, its lists fall, and each accepted text of at most 2^48 bytes has the marks of a tuple
+-- what holds of every automaton of the type Dfa: its states are few, its lists are descending, and each accepted text
+-- of at most 2^48 bytes has the marks of a tuple
 pub record IsDeterministic (d : DeterministicAutomaton) : Type 0 where
   pub has_start : 0 < states_of d
   pub few_states : states_of d ≤ 128

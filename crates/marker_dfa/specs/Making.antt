@@ -1,4 +1,4 @@
--- What holds while an automaton of sets is made.
+-- What holds while an automaton of sets is constructed.
 use Rattle.std.specs.Prelude.{◌≡◌, ℕ, ◌+◌, ◌<◌, ◌≤◌, ◌^◌, ◌↔◌, ◌⊎◌, Bool, true, false, List, [], ◌∷◌, ◌++◌, length, map, replicate, Some, slice_get, slice_index_or, slice_set, Contains}
 use Rattle.marker_nfa.specs.Automaton.{Automaton, Moves, MayEnd}
 use Rattle.marker_nfa.specs.declared.nfa.Edge.{Edge}
@@ -15,12 +15,12 @@ use Rattle.marker_dfa.specs.declared.dfa.Row.{Row}
 abbrev pub IsFalling : List ℕ → Type 0
 IsFalling ms = (i j m n : ℕ) → i < j → slice_get ms i ≡ Some m → slice_get ms j ≡ Some n → n < m
 
--- what P says comes to the set
+-- what P says is added to the set
 pub record GainsStates (old new : Subset) (P : ℕ → Type 0) : Type 0 where
   pub size : length new ≡ length old
   pub members : (p : ℕ) → IsIn new p ↔ IsIn old p ⊎ P p
 
--- the bundle at a place has this property
+-- the bundle at an index has this property
 abbrev pub BundleAt : List Bundle → ℕ → (Bundle → Type 0) → Type 0
 BundleAt bundles i P = (w : Bundle) × (slice_get bundles i ≡ Some w) × P w
 
@@ -45,7 +45,7 @@ pub record AreBundles (a : Automaton) (bundles : List Bundle) : Type 0 where
   pub wellmade : AreWellmade a bundles
   pub moves : (o m b p : ℕ) → SomeCarries bundles o m b p ↔ Moves a o m b p
 
--- the marks fall, or stay, from one bundle to the next
+-- the marks are descending or equal from one bundle to the next
 abbrev pub MarksFall : List Bundle → Type 0
 MarksFall bundles = (i j : ℕ) (v w : Bundle) → i < j → slice_get bundles i ≡ Some v → slice_get bundles j ≡ Some w → w.mark ≤ v.mark
 
@@ -61,7 +61,7 @@ pub record EdgeMoves (e : Edge) (o m b p : ℕ) : Type 0 where
   pub letter : slice_index_or e.letters b false ≡ true
   pub to : e.to ≡ p
 
--- an edge's steps come to those of the bundles
+-- an edge's steps are added to those of the bundles
 abbrev pub GainsEdge : List Bundle → List Bundle → Edge → Type 0
 GainsEdge old new e = (o m b p : ℕ) → SomeCarries new o m b p ↔ SomeCarries old o m b p ⊎ EdgeMoves e o m b p
 
@@ -83,7 +83,7 @@ pub record AreExits (a : Automaton) (bundles : List Bundle) (exits : Exits) : Ty
   pub leaves : (i : ℕ) (w : Bundle) → slice_get bundles i ≡ Some w → slice_index_or exits.leaving.items i false ≡ true → (o : ℕ) × IsIn w.sources o × IsIn exits.from o
   pub stays : (i : ℕ) (w : Bundle) → slice_get bundles i ≡ Some w → slice_index_or exits.leaving.items i false ≡ false → (o : ℕ) → IsIn w.sources o → IsIn exits.from o → ⊥
 
--- the places of exactly the bundles that read a byte, rising
+-- the indices of exactly the bundles that read a byte, ascending
 pub record AreReaders (bundles : List Bundle) (readers : Readers) : Type 0 where
   pub rising : (i j m n : ℕ) → i < j → slice_get readers.places.items i ≡ Some m → slice_get readers.places.items j ≡ Some n → m < n
   pub members : (i : ℕ) → Contains readers.places.items i ↔ BundleAt bundles i (λ w. slice_index_or w.letters readers.byte false ≡ true)
@@ -114,18 +114,18 @@ pub record OpensStep (n : ℕ) (old new : List Step) (m t : ℕ) : Type 0 where
   pub targets : step.to ≡ slice_set (replicate n false) t true
   pub list : new ≡ old ++ step ∷ []
 
--- a target comes to the steps, with its mark
+-- a target is added to the steps, with its mark
 abbrev pub GainsTarget : ℕ → List Step → List Step → ℕ → ℕ → Type 0
 GainsTarget n old new m t = JoinsLast old new m t ⊎ OpensStep n old new m t
 
--- the marks that lead on from a set with a byte, falling, and where to
+-- the marks with a next state from a set with a byte, descending, and these states
 pub record AreSteps (a : Automaton) (x : Subset) (b : ℕ) (steps : List Step) : Type 0 where
   pub falling : (i j : ℕ) (e f : Step) → i < j → slice_get steps i ≡ Some e → slice_get steps j ≡ Some f → f.mark < e.mark
   pub moves : (k : ℕ) (e : Step) → slice_get steps k ≡ Some e → IsMove a.states (Moves a) x e.mark b e.to
   pub filled : (k : ℕ) (e : Step) → slice_get steps k ≡ Some e → (p : ℕ) × IsIn e.to p
   pub all : (m o p : ℕ) → IsIn x o → Moves a o m b p → (k : ℕ) × (e : Step) × (slice_get steps k ≡ Some e) × (e.mark ≡ m)
 
--- a byte is as good as the first one of its class
+-- the byte set contains a byte exactly if it contains the first one of its class
 pub record IsFit (classes : ByteClasses) (letters : List Bool) : Type 0 where
   pub size : length letters ≡ 256
   pub same : (b c f : ℕ) → slice_get classes.of.items b ≡ Some c → slice_get classes.firsts.items c ≡ Some f → slice_index_or letters b false ≡ slice_index_or letters f false
@@ -161,11 +161,11 @@ pub record AreFound (a : Automaton) (subsets : List Subset) : Type 0 where
   pub sizes : (q : ℕ) (x : Subset) → slice_get subsets q ≡ Some x → length x ≡ a.states
   pub few : length subsets ≤ 128
 
--- the old sets stand where they stood
+-- the old sets keep their indices
 pub record Extends (old new : List Subset) : Type 0 where
   pub stays : (q : ℕ) (x : Subset) → slice_get old q ≡ Some x → slice_get new q ≡ Some x
 
--- a set has a place, which it had or which is new
+-- a set has an index, an old one or a new one
 pub record IsPlaced (old new : List Subset) (x : Subset) (q : ℕ) : Type 0 where
   pub there : slice_get new q ≡ Some x
   pub list : (new ≡ old) ⊎ ((new ≡ old ++ x ∷ []) × (q ≡ length old))
@@ -184,7 +184,7 @@ pub record IsTarget (a : Automaton) (subsets : List Subset) (x : Subset) (m b r 
   pub move : IsMove a.states (Moves a) x m b members
   pub is_in : IsIn members state
 
--- the marks that lead on with a byte, falling, and where to
+-- the marks with a next state for a byte, descending, and these states
 pub record IsCell (a : Automaton) (subsets : List Subset) (x : Subset) (b : ℕ) (ms ts : List ℕ) : Type 0 where
   pub even : length ms ≡ length ts
   pub sound : (j m r : ℕ) → slice_get ms j ≡ Some m → slice_get ts j ≡ Some r → IsTarget a subsets x m b r
@@ -196,11 +196,11 @@ pub record AreCells (a : Automaton) (subsets : List Subset) (x : Subset) (firsts
   pub size : length cells ≡ n
   pub each : (c f : ℕ) (cell : Cell) → slice_get firsts c ≡ Some f → slice_get cells c ≡ Some cell → IsCell a subsets x f cell.marks.items cell.targets.items
 
--- what P says comes to the marks
+-- what P says is added to the marks
 abbrev pub GainsMark : List ℕ → List ℕ → (ℕ → Type 0) → Type 0
 GainsMark old new P = (m : ℕ) → Contains new m ↔ Contains old m ⊎ P m
 
--- the marks with which a text may end in a set, falling
+-- the marks with which a text may end in a set, descending
 pub record AreEnds (a : Automaton) (x : Subset) (ms : List ℕ) : Type 0 where
   pub falling : IsFalling ms
   pub members : (m : ℕ) → Contains ms m ↔ (o : ℕ) × IsIn x o × MayEnd a o m

@@ -1,4 +1,4 @@
--- Sets of states, which of them any steps reach, and how many those are.
+-- Sets of states, which of them are reached by any steps, and how many those are.
 use Rattle.std.specs.Prelude.{◌≡◌, ℕ, ◌<◌, ◌↔◌, Bool, true, false, List, length, Some, slice_get, slice_index_or, slice_set, replicate}
 
 -- one truth value for each state

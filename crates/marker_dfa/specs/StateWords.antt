@@ -7,11 +7,11 @@ use Rattle.std.specs.List.{range_with_len}
 abbrev pub has_state : List ℕ → ℕ → Bool
 has_state ws q = bit_at (slice_index ws (q / 64)) (q % 64) == 1
 
--- whether each of so many states is a member
+-- whether each of `states` states is a member
 unfoldable pub members : ℕ → List ℕ → List Bool
 members states ws = map (has_state ws) (range_with_len 0 states)
 
--- words of 64 bits, in which only the bits of so many states are set
+-- words of 64 bits, in which only the bits of `states` states are set
 pub record AreWords (states : ℕ) (ws : List ℕ) : Type 0 where
   pub size : length ws ≡ states / 64 + 1
   pub below : (k : ℕ) → slice_index ws k < 2 ^ 64

@@ -1,4 +1,4 @@
-//! Edges in bundles: those with one mark, one target and the same letters, as one.
+//! Bundles of edges: those with one mark, one target and the same letters, as one.
 
 ghost use Rattle.std.specs.Prelude.{◌≡◌, ◌<◌, ◌^◌, IsTrue, IfOk};
 ghost use Rattle.marker_nfa.specs.Automaton.{Automaton, IsAutomaton};
@@ -9,7 +9,7 @@ use marker_nfa::{Edge, Nfa};
 use span_types::{ByteSet, NoMemory};
 use std::alloc::Global;
 
-/// Edges that differ in their sources alone, as one.
+/// Edges that differ only in their sources, as one.
 #[derive(Drop)]
 pub struct Bundle {
     pub sources: StateSet,
@@ -18,7 +18,8 @@ pub struct Bundle {
     pub to: u16,
 }
 
-/// For a mark and a target, the place of a bundle that has them. It may be any place: what stands there is looked at.
+/// For a mark and a target, the index of a bundle that may have them. It is only a hint: the bundle at this index is
+/// tested.
 #[derive(Drop)]
 struct Hints {
     states: u16,
@@ -69,7 +70,8 @@ fn is_like(bundle: &Bundle, edge: &Edge) -> bool
     bundle.mark == edge.mark && bundle.to == edge.to && bundle.letters.is_same(&edge.letters)
 }
 
-/// Puts an edge into the bundle at a place, if it is like it, or else into a bundle of its own. It gives the bundle's place.
+/// Puts an edge into the bundle at an index if it is like it, and otherwise into a bundle of its own. Returns the
+/// bundle's index.
 fn put_edge(
     alloc: Global,
     bundles: &mut Vec<Bundle>,
@@ -99,18 +101,18 @@ fn put_edge(
     Ok(place)
 }
 
-/// Puts bundles in order of their marks, which fall. So those with one mark stand side by side.
+/// Sorts bundles by their marks, the greatest first. So those with one mark are next to each other.
 fn put_in_order(bundles: &mut Vec<Bundle>)
     ensures { (a : Automaton) → IsAutomaton a → AreBundles a bundles.old.items → AreInOrder a bundles.new.items }
 {
     bundles.sort_unstable_by_key(|bundle| u16::MAX - bundle.mark);
 }
 
-/// All edges, in bundles whose marks fall.
+/// All edges, in bundles with descending marks.
 ///
 /// # Errors
 ///
-/// `NoMemory` where none was found.
+/// `NoMemory` if allocation fails.
 pub fn bundles_of(alloc: Global, nfa: &Nfa) -> Result<Vec<Bundle>, NoMemory>
     requires { IsAutomaton nfa.now }
     ensures { IfOk result (λ bundles. AreInOrder nfa.now bundles.items) }
@@ -128,7 +130,7 @@ pub fn bundles_of(alloc: Global, nfa: &Nfa) -> Result<Vec<Bundle>, NoMemory>
     Ok(bundles)
 }
 
-/// The places of the bundles that read a byte, rising.
+/// The indices of the bundles that read a byte, ascending.
 #[derive(Drop)]
 pub struct Readers {
     pub byte: u8,
@@ -148,11 +150,11 @@ fn readers_of(alloc: Global, bundles: &[Bundle], byte: u8) -> Result<Readers, No
     Ok(Readers { byte, places })
 }
 
-/// For each of some bytes, the places of the bundles that read it.
+/// For each of some bytes, the indices of the bundles that read it.
 ///
 /// # Errors
 ///
-/// `NoMemory` where none was found.
+/// `NoMemory` if allocation fails.
 pub fn readers_by_byte(
     alloc: Global,
     bundles: &[Bundle],

@@ -1,4 +1,4 @@
-//! Classes of bytes that no byte set of an automaton tells apart.
+//! Classes of bytes that no byte set of an automaton distinguishes.
 
 ghost use Rattle.std.specs.Prelude.{◌≡◌, ◌+◌, ◌≤◌, ℕ, Bool, List, Contains, Some, length, slice_get, IfOk, OnOk};
 ghost use Rattle.std.specs.Bool.{OnTrue};
@@ -24,7 +24,7 @@ fn one_class(alloc: Global) -> Result<ByteClasses, NoMemory>
     })
 }
 
-/// Whether the byte set has each byte exactly where it has the first one of its class.
+/// Whether the byte set contains each byte exactly if it contains the first one of its class.
 fn fits(classes: &ByteClasses, letters: &ByteSet) -> bool
     requires { AreClasses classes.now }
     ensures size { length letters.now ≡ 256 }
@@ -39,7 +39,7 @@ fn fits(classes: &ByteClasses, letters: &ByteSet) -> bool
     true
 }
 
-/// Whether two bytes have one class, and the byte set has both or none.
+/// Whether two bytes have one class, and the byte set contains both or neither.
 fn goes_with(classes: &ByteClasses, letters: &ByteSet, byte: u8, first: u8) -> bool
     requires { AreClasses classes.now }
     ensures { OnTrue result (GoesWith classes.now letters.now byte first) }
@@ -48,7 +48,7 @@ fn goes_with(classes: &ByteClasses, letters: &ByteSet, byte: u8, first: u8) -> b
         && letters.contains(byte) == letters.contains(first)
 }
 
-/// The place of the first byte that goes with a byte, or the number of first bytes.
+/// The index of the first byte that goes with a byte, or the number of first bytes if there is none.
 fn place_among(classes: &ByteClasses, letters: &ByteSet, firsts: &[u8], byte: u8) -> usize
     requires { AreClasses classes.now }
     ensures within { result ≤ length firsts.now }
@@ -82,7 +82,7 @@ fn put_byte(
     Ok(())
 }
 
-/// The classes, cut where the byte set has some bytes of a class and lacks others.
+/// The classes, split where the byte set contains some bytes of a class and not others.
 fn split(alloc: Global, classes: &ByteClasses, letters: &ByteSet) -> Result<ByteClasses, NoMemory>
     requires classes { AreClasses classes.now }
     requires size { length letters.now ≡ 256 }
@@ -100,7 +100,7 @@ fn split(alloc: Global, classes: &ByteClasses, letters: &ByteSet) -> Result<Byte
     Ok(split)
 }
 
-/// The classes, cut where a byte set needs it.
+/// The classes, split if a byte set needs it.
 fn fitted(alloc: Global, classes: ByteClasses, letters: &ByteSet) -> Result<ByteClasses, NoMemory>
     requires { AreClasses classes }
     ensures classes { IfOk result AreClasses }
@@ -113,11 +113,11 @@ fn fitted(alloc: Global, classes: ByteClasses, letters: &ByteSet) -> Result<Byte
     split(alloc, &classes, letters)
 }
 
-/// Classes such that each of some byte sets has all bytes of a class or none. Each set is looked at byte by byte.
+/// Classes such that each of some byte sets contains all bytes of a class or none. Each set is tested byte by byte.
 ///
 /// # Errors
 ///
-/// `NoMemory` where none was found.
+/// `NoMemory` if allocation fails.
 pub fn classes_of(alloc: Global, sets: &[ByteSet]) -> Result<ByteClasses, NoMemory>
     ensures classes { IfOk result AreClasses }
     ensures fit { IfOk result (λ s. (letters : List Bool) → Contains sets.now letters → IsFit s letters) }

@@ -5,7 +5,7 @@ ghost use Rattle.marker_dfa.specs.Deterministic.{AreAlike, DeterministicAutomato
 
 use std::marker::Model;
 
-/// The marks that lead on, falling, and where each leads.
+/// The marks with a next state, descending, and that state for each.
 #[derive(Drop)]
 pub struct Cell {
     pub(crate) marks: Vec<u16>,
@@ -13,7 +13,7 @@ pub struct Cell {
 }
 
 impl Cell {
-    /// Where a mark leads.
+    /// The next state for a mark.
     fn target(&self, mark: u16) -> Option<u8>
         requires { AllPairs (λ x y. y < x) self.now.marks.items }
         ensures { result ≡ find_target self.now.marks.items self.now.targets.items mark }
@@ -32,10 +32,10 @@ pub struct Row {
     pub(crate) ends: Vec<u16>,
 }
 
-/// A deterministic automaton over marked texts: at each position it reads a mark and then a byte, and past the last byte
-/// a mark alone. State 0 is the start. Each text that it accepts has the marks of a tuple of its variables.
+/// A deterministic automaton over marked texts. At each position it reads a mark and then a byte, and after the last
+/// byte a mark alone. State 0 is the start. Each text that it accepts has the marks of a tuple of its variables.
 ///
-/// Bytes that it never tells apart share a class, and a state keeps one list of marks for each class.
+/// Bytes that it never distinguishes share a class, and a state has one list of marks for each class.
 #[derive(Drop)]
 pub struct Dfa {
     variables: u8,
@@ -83,7 +83,8 @@ impl Dfa {
         self.variables
     }
 
-    /// The state after a mark and a byte, if there is one. It takes steps by the logarithm of how many marks lead on.
+    /// The state after a mark and a byte, if there is one. Takes O(log m) steps, where m is the number of marks that
+    /// have a next state there.
     pub fn next(&self, state: u8, mark: u16, byte: u8) -> Option<u8>
         requires { state < states_of self.now }
         ensures { result ≡ next_of self.now state mark byte }
@@ -91,7 +92,7 @@ impl Dfa {
         self.cell(state, byte).target(mark)
     }
 
-    /// The marks that lead on from a state with a byte, falling.
+    /// The marks that have a next state from a state with a byte, descending.
     pub fn marks(&self, state: u8, byte: u8) -> &[u16]
         requires { state < states_of self.now }
         ensures { result.now ≡ marks_of self.now state byte }
@@ -99,7 +100,7 @@ impl Dfa {
         &self.cell(state, byte).marks
     }
 
-    /// The marks with which a text may end in a state, falling.
+    /// The marks with which a text may end in a state, descending.
     pub fn ends(&self, state: u8) -> &[u16]
         requires { state < states_of self.now }
         ensures { result.now ≡ ends_of self.now state }

@@ -23,7 +23,7 @@ pub struct Exits {
 ///
 /// # Errors
 ///
-/// `NoMemory` where none was found.
+/// `NoMemory` if allocation fails.
 pub fn exits_of(
     alloc: Global,
     nfa: &Nfa,
@@ -42,14 +42,14 @@ pub fn exits_of(
     Ok(Exits { from, leaving })
 }
 
-/// Where a mark leads from a set of states with a byte.
+/// The states to which a mark leads from a set of states with a byte.
 #[derive(Drop)]
 pub struct Step {
     pub mark: u16,
     pub to: StateSet,
 }
 
-/// Puts where a bundle leads to the targets of the last step, if that has its mark, or else to a step of its own.
+/// Adds the target of a bundle to those of the last step if that has its mark, and otherwise to a new step.
 fn put_target(
     alloc: Global,
     nfa: &Nfa,
@@ -74,7 +74,7 @@ fn put_target(
     Ok(())
 }
 
-/// The bundle at a place.
+/// The bundle at an index.
 fn bundle_at(bundles: &[Bundle], place: usize) -> &Bundle
     requires { place < length bundles.now }
     ensures { slice_get bundles.now place ≡ Some result.now }
@@ -82,12 +82,12 @@ fn bundle_at(bundles: &[Bundle], place: usize) -> &Bundle
     &bundles[place]
 }
 
-/// The steps from a set with a byte, by their marks, which fall. Bundles with one mark stand side by side, and so do
+/// The steps from a set with a byte, by descending marks. Bundles with one mark are next to each other, and so are
 /// those among them that read the byte.
 ///
 /// # Errors
 ///
-/// `NoMemory` where none was found.
+/// `NoMemory` if allocation fails.
 pub fn steps_of(
     alloc: Global,
     nfa: &Nfa,
@@ -109,7 +109,7 @@ pub fn steps_of(
     Ok(steps)
 }
 
-/// Puts the mark of an end last, if its state is in the set.
+/// Appends the mark of an end, if its state is in the set.
 fn push_end(marks: &mut Vec<u16>, from: &StateSet, end: End) -> Result<(), NoMemory>
     requires { end.state < length from.now }
     ensures { OnOk result (GainsMark marks.old.items marks.new.items (λ m. IsIn from.now end.state × (end.mark ≡ m))) }
@@ -120,7 +120,7 @@ fn push_end(marks: &mut Vec<u16>, from: &StateSet, end: End) -> Result<(), NoMem
     Ok(())
 }
 
-/// Each of some marks once, falling.
+/// Sorts marks in descending order and removes duplicates.
 fn put_in_order(marks: &mut Vec<u16>)
     ensures same { (m : ℕ) → Contains marks.new.items m ↔ Contains marks.old.items m }
     ensures falling { IsFalling marks.new.items }
@@ -130,11 +130,11 @@ fn put_in_order(marks: &mut Vec<u16>)
     marks.reverse();
 }
 
-/// The marks with which a text may end in a set, falling.
+/// The marks with which a text may end in a set, descending.
 ///
 /// # Errors
 ///
-/// `NoMemory` where none was found.
+/// `NoMemory` if allocation fails.
 pub fn ends_of_set(alloc: Global, nfa: &Nfa, from: &StateSet) -> Result<Vec<u16>, NoMemory>
     requires automaton { IsAutomaton nfa.now }
     requires size { length from.now ≡ nfa.now.states }

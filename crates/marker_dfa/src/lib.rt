@@ -7,11 +7,12 @@
 //! let marks = dfa.marks(0, b'a');                          // the marks that lead on from there, falling
 //! ```
 //!
-//! Each tuple has one run at most, so no answer can come twice. Bytes that the automaton never tells apart share a
-//! class, edges that differ in their sources alone are bundled, and a state keeps a list of marks for each class. The
-//! construction ends at the 129th set of states, so at most 128 sets are worked on. For each set every bundle is looked at
-//! once, and then for each class those bundles that read it, in order of their marks, whose places are kept meanwhile.
-//! The automaton takes memory for the marks that lead on and where they lead; a look at it takes none.
+//! Each tuple has at most one run, so no answer can come twice. Bytes that the automaton never distinguishes share a
+//! class, edges that differ only in their sources are bundled, and a state has a list of marks for each class. The
+//! construction ends at the 129th set of states, so at most 128 sets are processed. For each set, every bundle is
+//! tested once. Then, for each class, the bundles that read it are visited in order of their marks; lists of their
+//! indices are kept during the construction. The automaton takes memory for the marks that have a next state and for
+//! these states; a lookup in it allocates nothing.
 //!
 //! The construction is that of M. O. Rabin and D. Scott, *Finite automata and their decision problems*, 1959.
 //!
@@ -43,16 +44,15 @@ use span_types::ByteSet;
 use std::alloc::Global;
 use subsets::rows_of;
 
-/// The deterministic automaton of an automaton, by the subset construction (Rabin and Scott 1959). Its states stand for
-/// the nonempty sets of states that are reached from the start's set, exactly one for each, and state 0 for that of the
-/// start.
+/// The deterministic automaton of an automaton, by the subset construction (Rabin and Scott 1959). It has exactly one
+/// state for each nonempty set of states that is reached from the start's set. State 0 is that of the start.
 ///
-/// At most 128 sets are worked on, each for every class of bytes and every mark that leads on, and memory is taken for
-/// these marks and where they lead.
+/// At most 128 sets are processed, each for every class of bytes and every mark with a next state. Memory is allocated
+/// for these marks and states.
 ///
 /// # Errors
 ///
-/// `TooManyStates` exactly where more than 128 such sets are reached, and `NoMemory`.
+/// `TooManyStates` exactly if more than 128 such sets are reached, and `NoMemory` if allocation fails.
 pub fn determinise(alloc: Global, nfa: &Nfa) -> Result<Dfa, DfaRefusal>
     ensures states { IfOk result (StandsFor nfa.now) }
     ensures accepts { IfOk result (AcceptsSame nfa.now) }
@@ -62,12 +62,12 @@ pub fn determinise(alloc: Global, nfa: &Nfa) -> Result<Dfa, DfaRefusal>
     determinise_over(alloc, nfa, nfa.letters())
 }
 
-/// What `determinise` gives, where some byte sets are known among which are those of all edges. The classes of bytes are
-/// found by these, and not by the set of each edge, so it is for automata with many edges and few byte sets.
+/// What `determinise` returns, for byte sets among which are those of all edges. The classes of bytes are computed from
+/// these, and not from the set of each edge. So it is for automata with many edges and few byte sets.
 ///
 /// # Errors
 ///
-/// `TooManyStates` exactly where more than 128 sets of states are reached, and `NoMemory`.
+/// `TooManyStates` exactly if more than 128 sets of states are reached, and `NoMemory` if allocation fails.
 pub fn determinise_over(alloc: Global, nfa: &Nfa, letters: &[ByteSet]) -> Result<Dfa, DfaRefusal>
     requires { AreLettersOf nfa.now.edges letters.now }
     ensures states { IfOk result (StandsFor nfa.now) }

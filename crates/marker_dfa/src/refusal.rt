@@ -14,7 +14,7 @@ pub enum DfaRefusal {
     #[error("too many states")]
     TooManyStates,
 
-    /// No memory was found for the automaton.
+    /// Allocation failed.
     #[error("no memory")]
     NoMemory,
 }

@@ -31,11 +31,11 @@ impl Model for StateSet {
 const WORD_BITS: usize = 64;
 
 impl StateSet {
-    /// The set with no member, of so many states.
+    /// The set with no member, of this many states.
     ///
     /// # Errors
     ///
-    /// `NoMemory` where none was found.
+    /// `NoMemory` if allocation fails.
     pub fn empty(alloc: Global, states: u16) -> Result<StateSet, NoMemory>
         ensures { IfOk result (λ s. s ≡ replicate states false) }
     {
@@ -46,11 +46,11 @@ impl StateSet {
         })
     }
 
-    /// The same set, in memory of its own.
+    /// A copy of the set.
     ///
     /// # Errors
     ///
-    /// `NoMemory` where none was found.
+    /// `NoMemory` if allocation fails.
     pub fn copy(&self, alloc: Global) -> Result<StateSet, NoMemory>
         ensures { IfOk result (λ s. s ≡ self.now) }
     {

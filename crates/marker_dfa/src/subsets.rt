@@ -19,7 +19,7 @@ use std::alloc::Global;
 /// The greatest number of states.
 const LIMIT: usize = 128;
 
-/// Whether a set stands at a place.
+/// Whether a set is at an index.
 fn stands_at(sets: &[StateSet], set: &StateSet, place: u8) -> bool
     ensures { IsTrue result → slice_get sets.now place ≡ Some set.now }
 {
@@ -29,7 +29,7 @@ fn stands_at(sets: &[StateSet], set: &StateSet, place: u8) -> bool
     }
 }
 
-/// The place of a set, which is put last where it is new. A hint is looked at first.
+/// The index of a set, which is appended if it is new. The index in the hint is tested first.
 fn place_of(
     alloc: Global,
     sets: &mut Vec<StateSet>,
@@ -58,7 +58,7 @@ fn place_of(
 }
 
 impl Cell {
-    /// Puts a mark and its target last.
+    /// Appends a mark and its target.
     fn push(&mut self, mark: u16, target: u8) -> Result<(), NoMemory>
         ensures marks { IfOk result (λ _. self.new.marks.items ≡ self.old.marks.items ++ mark ∷ []) }
         ensures targets { IfOk result (λ _. self.new.targets.items ≡ self.old.targets.items ++ target ∷ []) }
@@ -69,7 +69,7 @@ impl Cell {
     }
 }
 
-/// The marks that lead on from a set with one byte, and where to.
+/// The marks with a next state from a set with one byte, and these states.
 fn cell_of(
     alloc: Global,
     nfa: &Nfa,
@@ -129,7 +129,7 @@ fn cells_of(
     Ok(cells)
 }
 
-/// The row of the set at a place.
+/// The row of the set at an index.
 fn row_of(
     alloc: Global,
     nfa: &Nfa,
@@ -171,7 +171,7 @@ fn start_sets(alloc: Global, nfa: &Nfa) -> Result<Vec<StateSet>, NoMemory>
 ///
 /// # Errors
 ///
-/// `TooManyStates` exactly where more than 128 sets are reached, and `NoMemory`.
+/// `TooManyStates` exactly if more than 128 sets are reached, and `NoMemory` if allocation fails.
 pub fn rows_of(alloc: Global, nfa: &Nfa, bytes: &[u8]) -> Result<Vec<Row>, DfaRefusal>
     requires { IsAutomaton nfa.now }
     ensures rows { IfOk result (λ rows. AreAllRows nfa.now bytes.now rows.items) }

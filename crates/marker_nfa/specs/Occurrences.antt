@@ -8,7 +8,7 @@ use Rattle.marker_nfa.specs.Automaton.{Automaton, AcceptsText}
 use Rattle.marker_nfa.specs.declared.nfa.Edge.{Edge}
 use Rattle.marker_nfa.specs.declared.nfa.End.{End}
 
--- the formula keeps the rule, and has at most 512 byte sets and at most eight variables, the numbers below 8
+-- the formula obeys the rule, and has at most 512 byte sets and at most eight variables, the numbers below 8
 pub record IsWithinLimits (f : FormulaTree) : Type 0 where
   pub functional : Fun f
   pub few_sets : sets f ≤ 512

@@ -1,4 +1,4 @@
--- What of a formula's automaton is known at one of its parts.
+-- What is known of a formula's automaton at one of its parts.
 use Rattle.std.specs.Prelude.{◌≡◌, ◌≢◌, ℕ, ◌+◌, ◌-◌, ◌*◌, ◌^◌, ◌<◌, ◌≤◌, ◌↔◌, ◌⊎◌, ◌++◌, ◌∷◌, [], Bool, true, false, List, slice_index_or, Contains, AllPairs}
 use Rattle.span_types.specs.FormulaTree.{FormulaTree, Set, Empty, Cat, Alt, Star, Plus, Opt, Capture, Fun, has_var}
 use Rattle.formula_law.specs.Positions.{IsNull, IsFirst, IsLast, IsFollow, IsEdge, IsEnd, Joins}
@@ -13,7 +13,7 @@ pub record IsSmall (f : FormulaTree) : Type 0 where
   pub fun : Fun f
   pub below : (v : ℕ) → 8 ≤ v → has_var f v ≡ false
 
--- what a list has after a call: what it had, and what P says
+-- the list after a call: what it had, and what P adds
 abbrev pub Adds : {X : Type 0} → List X → List X → (X → Type 0) → Type 0
 Adds {X} old new P = (x : X) → Contains new x ↔ Contains old x ⊎ P x
 
@@ -32,7 +32,7 @@ IsRaised by ends x = (y : End) × Contains ends y × (x ≡ record { state = y.s
 abbrev pub IsRaisedBy : List ℕ → List End → End → Type 0
 IsRaisedBy marks ends x = (by : ℕ) × Contains marks by × IsRaised by ends x
 
--- from a last to a first, with the marks of both
+-- a step from a last occurrence to a first one, with the marks of both
 abbrev pub IsHop : End → List End → Hop → Type 0
 IsHop last firsts h = (y : End) × Contains firsts y × (h ≡ record { from = last.state; mark = last.mark + y.mark; to = y.state })
 
@@ -50,7 +50,8 @@ letters_in (Plus a) = letters_in a
 letters_in (Opt a) = letters_in a
 letters_in (Capture x a) = letters_in a
 
--- the marks crossed by no byte, and the first and last occurrences, where the first byte set has number n
+-- the marks with which the part matches the empty word, and the first and last occurrences; the first byte set has
+-- number n
 pub record IsPart (f : FormulaTree) (n : ℕ) (p : Part) : Type 0 where
   pub nulls_are : (m : ℕ) → Contains p.nulls.items m ↔ IsNull f m
   pub firsts_are : (x : End) → Contains p.firsts.items x ↔ IsFirst f n x.mark x.state
@@ -59,14 +60,14 @@ pub record IsPart (f : FormulaTree) (n : ℕ) (p : Part) : Type 0 where
 abbrev pub IsFollowHop : FormulaTree → ℕ → Hop → Type 0
 IsFollowHop f n h = IsFollow f n h.from h.mark h.to
 
--- what P says comes to the list, all of it unless it may be left out
+-- what P adds is in the list, all of it unless it may be left out
 pub record AddsUnless (left_out : Bool) (old new : List Hop) (P : Hop → Type 0) : Type 0 where
   pub keeps : (h : Hop) → Contains old h → Contains new h
   pub sound : (h : Hop) → Contains new h → Contains old h ⊎ P h
   pub complete : (h : Hop) → P h → Contains new h ⊎ (left_out ≡ true)
 
--- The hops of a part come to the list. Where the part is covered, which means that something around it repeats it,
--- the hops from its last occurrences to its first ones may be left out.
+-- The steps of a part are added to the list. If the part is covered, which means that an enclosing part repeats it, the
+-- steps from its last occurrences to its first ones may be left out.
 pub record AddsFollow (covered : Bool) (f : FormulaTree) (n : ℕ) (old new : List Hop) : Type 0 where
   pub keeps : (h : Hop) → Contains old h → Contains new h
   pub sound : (h : Hop) → Contains new h → Contains old h ⊎ IsFollowHop f n h
@@ -98,14 +99,14 @@ pub record IsOutline (f : FormulaTree) (o : Outline) : Type 0 where
   pub ends : (e : End) → Contains o.ends.items e ↔ IsEnd f e.state e.mark
   pub ends_once : AllPairs (λ x y. x ≢ y) o.ends.items
 
--- the edge of a hop, with the byte set of the occurrence that it leads to
+-- the edge of a step, with the byte set of the occurrence that it leads to
 abbrev pub edge_of : List (List Bool) → Hop → Edge
 edge_of letters h = record { from = h.from; mark = h.mark; letters = slice_index_or letters (h.to - 1) []; to = h.to }
 
 abbrev pub LeadWithin : ℕ → List Hop → Type 0
 LeadWithin n hops = (h : Hop) → Contains hops h → (1 ≤ h.to) × (h.to ≤ n)
 
--- a part is covered only where the whole is, and where what stands beside it takes nothing
+-- a part is covered only if the whole is, and if the part beside it matches the empty word with no mark
 pub record CoversPart (covered part_covered : Bool) (beside : FormulaTree) : Type 0 where
   pub whole : part_covered ≡ true → covered ≡ true
   pub nothing : part_covered ≡ true → IsNull beside 0

@@ -8,12 +8,13 @@
 //! ```
 //!
 //! A mark says which variables' spans start and end at a position. The automaton has a state for each occurrence of a
-//! byte set in the formula, and an edge for each way from one to the next, which carries the mark between the two and
-//! the byte set of the second. Time and memory are in proportion to the edges: for p occurrences at most p·(p+1) times
-//! the marks that stand between two of them, of which a formula has few, although there may be 256.
+//! byte set in the formula, and an edge for each step from one occurrence to the next. The edge carries the mark
+//! between the two and the byte set of the second. Time and memory are proportional to the number of edges: for p
+//! occurrences at most p·(p+1) times the number of marks between two of them. That number is small in most formulas,
+//! and at most 256.
 //!
-//! The states are those of V. Glushkov, *The abstract theory of automata*, 1961, made without a hop twice as in A.
-//! Brüggemann-Klein, *Regular expressions into finite automata*, 1993; the marks are those of F. Florenzano et al.,
+//! The states are those of V. Glushkov, *The abstract theory of automata*, 1961. No step is made twice, as in A.
+//! Brüggemann-Klein, *Regular expressions into finite automata*, 1993. The marks are those of F. Florenzano et al.,
 //! *Constant Delay Algorithms for Regular Document Spanners*, PODS 2018.
 //!
 //! Proved: The automaton of a formula: exactly its edges and ends, none twice, and what it accepts (`of_formula`).
@@ -38,14 +39,14 @@ use parts::variables_of;
 use span_types::{Formula, NoMemory};
 use std::alloc::Global;
 
-/// The position automaton of a formula. Its states past the start are the occurrences of byte sets, from the left.
+/// The position automaton of a formula. Its states after the start are the occurrences of byte sets, from the left.
 ///
-/// It takes time and memory in proportion to its edges, of which there may be 256 between two states, one for each mark.
+/// It takes time and memory proportional to its edges. There may be 256 edges between two states, one for each mark.
 /// The recursions over the formula are as deep as its tree, so at most as deep as its text is long.
 ///
 /// # Errors
 ///
-/// `NoMemory` where memory for the automaton wasn't found.
+/// `NoMemory` if allocation fails.
 pub fn of_formula(alloc: Global, formula: &Formula) -> Result<Nfa, NoMemory>
     requires { IsWithinLimits (tree_of formula.now) }
     ensures parts { IfOk result (IsPositionAutomaton (tree_of formula.now)) }

@@ -7,7 +7,7 @@ ghost use Rattle.marker_nfa.specs.Parts.{Adds, AreShort, AreShortAt, AreShortHop
 use crate::nfa::End;
 use span_types::NoMemory;
 
-/// From an occurrence to the next, with a mark.
+/// A step from an occurrence to the next, with a mark.
 #[derive(Clone, Copy, PartialEq, Eq, PartialOrd, Ord)]
 pub struct Hop {
     pub from: u16,
@@ -15,11 +15,11 @@ pub struct Hop {
     pub to: u16,
 }
 
-/// Puts a value last.
+/// Appends a value.
 ///
 /// # Errors
 ///
-/// `NoMemory` where none was found.
+/// `NoMemory` if allocation fails.
 pub fn put<T: Drop>(list: &mut Vec<T>, value: T) -> Result<(), NoMemory>
     ensures { OnOk result (Adds list.old.items list.new.items (λ x. x ≡ value)) }
 {
@@ -27,11 +27,11 @@ pub fn put<T: Drop>(list: &mut Vec<T>, value: T) -> Result<(), NoMemory>
     Ok(())
 }
 
-/// Puts a mark into a list, unless it is there.
+/// Appends a mark, unless it is there.
 ///
 /// # Errors
 ///
-/// `NoMemory` where none was found.
+/// `NoMemory` if allocation fails.
 pub fn push_new(marks: &mut Vec<u16>, mark: u16) -> Result<(), NoMemory>
     ensures { OnOk result (Adds marks.old.items marks.new.items (λ m. m ≡ mark)) }
 {
@@ -41,11 +41,11 @@ pub fn push_new(marks: &mut Vec<u16>, mark: u16) -> Result<(), NoMemory>
     Ok(())
 }
 
-/// Puts each mark of a list into another, unless it is there.
+/// Appends each mark of a list to another, unless it is there.
 ///
 /// # Errors
 ///
-/// `NoMemory` where none was found.
+/// `NoMemory` if allocation fails.
 pub fn push_marks(marks: &mut Vec<u16>, more: &[u16]) -> Result<(), NoMemory>
     ensures { OnOk result (Adds marks.old.items marks.new.items (λ x. (y : ℕ) × Contains more.now y × (x ≡ y))) }
 {
@@ -55,11 +55,11 @@ pub fn push_marks(marks: &mut Vec<u16>, more: &[u16]) -> Result<(), NoMemory>
     Ok(())
 }
 
-/// Puts each mark at a state of a list into another.
+/// Appends each mark at a state of a list to another.
 ///
 /// # Errors
 ///
-/// `NoMemory` where none was found.
+/// `NoMemory` if allocation fails.
 pub fn push_ends(out: &mut Vec<End>, more: &[End]) -> Result<(), NoMemory>
     ensures { OnOk result (Adds out.old.items out.new.items (λ x. (y : End) × Contains more.now y × (x ≡ y))) }
 {
@@ -69,11 +69,11 @@ pub fn push_ends(out: &mut Vec<End>, more: &[End]) -> Result<(), NoMemory>
     Ok(())
 }
 
-/// Puts each mark into a list, at the start's state.
+/// Appends each mark to a list, at the start's state.
 ///
 /// # Errors
 ///
-/// `NoMemory` where none was found.
+/// `NoMemory` if allocation fails.
 pub fn push_at_start(out: &mut Vec<End>, marks: &[u16]) -> Result<(), NoMemory>
     ensures { OnOk result (Adds out.old.items out.new.items (λ x. (y : ℕ) × Contains marks.now y × (x ≡ record { state = 0; mark = y }))) }
 {
@@ -87,11 +87,11 @@ pub fn push_at_start(out: &mut Vec<End>, marks: &[u16]) -> Result<(), NoMemory>
     Ok(())
 }
 
-/// Puts the sums of one mark and each of a list into a list.
+/// Appends the sums of one mark and each of a list to a list.
 ///
 /// # Errors
 ///
-/// `NoMemory` where none was found.
+/// `NoMemory` if allocation fails.
 pub fn push_sums(marks: &mut Vec<u16>, left: u16, right: &[u16]) -> Result<(), NoMemory>
     requires { (y : ℕ) → Contains right.now y → left + y < 65536 }
     ensures { OnOk result (Adds marks.old.items marks.new.items (λ m. (y : ℕ) × Contains right.now y × (m ≡ left + y))) }
@@ -102,11 +102,11 @@ pub fn push_sums(marks: &mut Vec<u16>, left: u16, right: &[u16]) -> Result<(), N
     Ok(())
 }
 
-/// Puts the sums of each mark of one list and each of another into a list.
+/// Appends the sums of each mark of one list and each of another to a list.
 ///
 /// # Errors
 ///
-/// `NoMemory` where none was found.
+/// `NoMemory` if allocation fails.
 pub fn push_all_sums(marks: &mut Vec<u16>, left: &[u16], right: &[u16]) -> Result<(), NoMemory>
     requires { AreShort left.now right.now }
     ensures { OnOk result (Adds marks.old.items marks.new.items (λ m. (x : ℕ) × Contains left.now x × ((y : ℕ) × Contains right.now y × (m ≡ x + y)))) }
@@ -117,11 +117,11 @@ pub fn push_all_sums(marks: &mut Vec<u16>, left: &[u16], right: &[u16]) -> Resul
     Ok(())
 }
 
-/// Puts the marks at states into a list, with one mark added.
+/// Appends the marks at states to a list, with one mark added.
 ///
 /// # Errors
 ///
-/// `NoMemory` where none was found.
+/// `NoMemory` if allocation fails.
 pub fn push_raised(out: &mut Vec<End>, by: u16, ends: &[End]) -> Result<(), NoMemory>
     requires { (y : End) → Contains ends.now y → by + y.mark < 65536 }
     ensures { OnOk result (Adds out.old.items out.new.items (IsRaised by ends.now)) }
@@ -136,11 +136,11 @@ pub fn push_raised(out: &mut Vec<End>, by: u16, ends: &[End]) -> Result<(), NoMe
     Ok(())
 }
 
-/// Puts the marks at states into a list, with each of some marks added.
+/// Appends the marks at states to a list, with each of some marks added.
 ///
 /// # Errors
 ///
-/// `NoMemory` where none was found.
+/// `NoMemory` if allocation fails.
 pub fn push_all_raised(out: &mut Vec<End>, marks: &[u16], ends: &[End]) -> Result<(), NoMemory>
     requires { AreShortAt marks.now ends.now }
     ensures { OnOk result (Adds out.old.items out.new.items (IsRaisedBy marks.now ends.now)) }
@@ -151,11 +151,11 @@ pub fn push_all_raised(out: &mut Vec<End>, marks: &[u16], ends: &[End]) -> Resul
     Ok(())
 }
 
-/// Puts the ways from one last occurrence to the first ones into a list.
+/// Appends the steps from one last occurrence to the first ones to a list.
 ///
 /// # Errors
 ///
-/// `NoMemory` where none was found.
+/// `NoMemory` if allocation fails.
 pub fn push_hops(hops: &mut Vec<Hop>, last: End, firsts: &[End]) -> Result<(), NoMemory>
     requires { (y : End) → Contains firsts.now y → last.mark + y.mark < 65536 }
     ensures { OnOk result (Adds hops.old.items hops.new.items (IsHop last firsts.now)) }
@@ -171,11 +171,11 @@ pub fn push_hops(hops: &mut Vec<Hop>, last: End, firsts: &[End]) -> Result<(), N
     Ok(())
 }
 
-/// Puts the ways from the last occurrences to the first ones into a list.
+/// Appends the steps from the last occurrences to the first ones to a list.
 ///
 /// # Errors
 ///
-/// `NoMemory` where none was found.
+/// `NoMemory` if allocation fails.
 pub fn push_all_hops(hops: &mut Vec<Hop>, lasts: &[End], firsts: &[End]) -> Result<(), NoMemory>
     requires { AreShortHops lasts.now firsts.now }
     ensures { OnOk result (Adds hops.old.items hops.new.items (IsHopIn lasts.now firsts.now)) }
@@ -186,7 +186,7 @@ pub fn push_all_hops(hops: &mut Vec<Hop>, lasts: &[End], firsts: &[End]) -> Resu
     Ok(())
 }
 
-/// Each of a list once, in order.
+/// Sorts a list and removes duplicates.
 pub fn put_in_order(hops: &mut Vec<Hop>)
     ensures same { (h : _) → Contains hops.new.items h ↔ Contains hops.old.items h }
     ensures once { AllPairs (λ x y. x ≢ y) hops.new.items }
@@ -195,7 +195,7 @@ pub fn put_in_order(hops: &mut Vec<Hop>)
     hops.dedup();
 }
 
-/// Each of a list once, in order.
+/// Sorts a list and removes duplicates.
 pub fn put_ends_in_order(ends: &mut Vec<End>)
     ensures same { (x : End) → Contains ends.new.items x ↔ Contains ends.old.items x }
     ensures once { AllPairs (λ x y. x ≢ y) ends.new.items }

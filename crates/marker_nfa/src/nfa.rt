@@ -17,15 +17,15 @@ pub struct Edge {
 
 /// A state in which a text may end, with the last mark.
 ///
-/// While an automaton is made it is also an occurrence of a byte set, with the mark before or after it.
+/// During the construction it is also an occurrence of a byte set, with the mark before or after it.
 #[derive(Clone, Copy, Debug, PartialEq, Eq, PartialOrd, Ord)]
 pub struct End {
     pub state: u16,
     pub mark: u16,
 }
 
-/// An automaton over marked texts: at each position it reads a mark and then a byte, and past the last byte a mark alone
-/// (the extended automata of Florenzano et al., PODS 2018).
+/// An automaton over marked texts. At each position it reads a mark and then a byte, and after the last byte a mark
+/// alone (the extended automata of Florenzano et al., PODS 2018).
 ///
 /// A mark is the sum of 4^v for each variable v whose span starts here, and of 2·4^v for each whose span ends here.
 /// State 0 is the start. Each text that the automaton accepts has the marks of a tuple of its variables.
@@ -57,7 +57,7 @@ impl Nfa {
     ///
     /// # Errors
     ///
-    /// `NoMemory` where memory for a copy of the edges and ends wasn't found.
+    /// `NoMemory` if allocation fails.
     pub fn of_parts(
         alloc: Global,
         states: u16,
@@ -74,7 +74,7 @@ impl Nfa {
         Ok(Nfa::from_lists(states, variables, edges, ends, letters))
     }
 
-    /// The automaton that takes these parts over, with byte sets among which are those of all edges.
+    /// The automaton that takes over these parts, with byte sets among which are those of all edges.
     pub(crate) fn from_lists(
         states: u16,
         variables: u8,
@@ -118,7 +118,8 @@ impl Nfa {
         &self.edges
     }
 
-    /// Byte sets among which are those of all edges. A formula's automaton has one for each of its states past the start.
+    /// Byte sets among which are those of all edges. A formula's automaton has one for each of its states after the
+    /// start.
     pub fn letters(&self) -> &[ByteSet]
         ensures { AreLettersOf self.now.edges result.now }
     {

@@ -23,7 +23,7 @@ pub struct Outline {
 ///
 /// # Errors
 ///
-/// `NoMemory` where none was found.
+/// `NoMemory` if allocation fails.
 pub fn outline_of(alloc: Global, formula: &Formula) -> Result<Outline, NoMemory>
     requires small { IsSmall (tree_of formula.now) }
     requires few { sets (tree_of formula.now) ≤ 512 }

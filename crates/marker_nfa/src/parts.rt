@@ -16,10 +16,10 @@ use std::alloc::Global;
 use std::boxed::Box;
 use std::mem::swap;
 
-/// What of a part of a formula counts at its borders.
+/// The marks and occurrences at the borders of a part of a formula.
 #[derive(Drop)]
 pub struct Part {
-    /// The marks with which the part is crossed without a byte.
+    /// The marks with which the part matches the empty word.
     pub nulls: Vec<u16>,
 
     /// The first occurrences, each with the mark before it.
@@ -30,7 +30,7 @@ pub struct Part {
 }
 
 impl Part {
-    /// A part that nothing crosses.
+    /// A part that matches nothing.
     fn new(alloc: Global) -> Part
         ensures nulls { result.nulls.items ≡ [] }
         ensures firsts { result.firsts.items ≡ [] }
@@ -77,16 +77,16 @@ fn empty_part(alloc: Global) -> Result<Part, NoMemory>
     })
 }
 
-// The functions from here to `put_part` aren't inlined, and put their parts in places, so that a level of its recursion
-// takes little of the stack.
+// The functions from here to `put_part` aren't inlined, and write their parts to references, so that a level of the
+// recursion takes little of the stack.
 
-/// A place for a part.
+/// Memory for a part.
 #[inline(never)]
 fn room(alloc: Global) -> Result<Box<Part>, NoMemory> {
     Ok(Box::new(alloc, Part::new(alloc))?)
 }
 
-/// Puts the part of one byte set, which goes to the end of a list.
+/// Writes the part of one byte set, which is appended to a list.
 #[inline(never)]
 fn put_set(
     alloc: Global,
@@ -103,7 +103,7 @@ fn put_set(
     Ok(())
 }
 
-/// Puts the part of the empty word.
+/// Writes the part of the empty word.
 #[inline(never)]
 fn put_empty(alloc: Global, part: &mut Part) -> Result<(), NoMemory>
     ensures { IfOk result (λ _. (n : ℕ) → IsPart Empty n part.new) }
@@ -112,7 +112,8 @@ fn put_empty(alloc: Global, part: &mut Part) -> Result<(), NoMemory>
     Ok(())
 }
 
-/// Makes the left part that of both, one after another. The hops between them are left out where something around them makes these too.
+/// Turns the left part into that of both, one after another. The steps between them are left out if an enclosing part
+/// makes them too.
 #[inline(never)]
 fn cat_part(
     alloc: Global,
@@ -135,7 +136,7 @@ fn cat_part(
     Ok(())
 }
 
-/// Makes the left part that of one or the other.
+/// Turns the left part into that of an alternation.
 #[inline(never)]
 fn alt_part(left: &mut Part, right: &Part) -> Result<(), NoMemory>
     ensures { IfOk result (λ _. (a b : FormulaTree) (n : ℕ) → IsPart a n left.old → IsPart b (n + sets a) right.now → IsPart (Alt a b) n left.new) }
@@ -146,7 +147,7 @@ fn alt_part(left: &mut Part, right: &Part) -> Result<(), NoMemory>
     Ok(())
 }
 
-/// Makes the part that of any number in a row.
+/// Turns the part into that of any number in a row.
 #[inline(never)]
 fn star_part(part: &mut Part, left_out: bool, hops: &mut Vec<Hop>) -> Result<(), NoMemory>
     requires { AreShortHops part.old.lasts.items part.old.firsts.items }
@@ -158,7 +159,7 @@ fn star_part(part: &mut Part, left_out: bool, hops: &mut Vec<Hop>) -> Result<(),
     Ok(())
 }
 
-/// Makes the part that of one or none.
+/// Turns the part into that of one or none.
 #[inline(never)]
 fn opt_part(part: &mut Part) -> Result<(), NoMemory>
     ensures { IfOk result (λ _. (a : FormulaTree) (n : ℕ) → IsPart a n part.old → IsPart (Opt a) n part.new) }
@@ -167,7 +168,7 @@ fn opt_part(part: &mut Part) -> Result<(), NoMemory>
     Ok(())
 }
 
-/// Makes the part that of a variable's span.
+/// Turns the part into that of a variable's span.
 #[inline(never)]
 fn capture_part(alloc: Global, variable: u8, part: &mut Part) -> Result<(), NoMemory>
     requires { MayName variable part.old }
@@ -182,7 +183,7 @@ fn capture_part(alloc: Global, variable: u8, part: &mut Part) -> Result<(), NoMe
     Ok(())
 }
 
-/// Puts the hops from the last occurrences to the first ones into a list, unless they may be left out.
+/// Appends the steps from the last occurrences to the first ones to a list, unless they may be left out.
 #[inline(never)]
 fn push_joins(
     hops: &mut Vec<Hop>,
@@ -200,7 +201,7 @@ fn push_joins(
     Ok(())
 }
 
-/// Whether the empty word with no mark is one of the formula's.
+/// Whether the formula matches the empty word with no mark.
 fn takes_nothing(formula: &Formula) -> bool
     ensures { OnTrue result (IsNull (tree_of formula.now) 0) }
 {
@@ -216,7 +217,7 @@ fn takes_nothing(formula: &Formula) -> bool
     }
 }
 
-/// Whether a part is covered, and what stands beside it takes nothing.
+/// Whether a part is covered, and the part beside it matches the empty word with no mark.
 #[inline(never)]
 fn covers(covered: bool, beside: &Formula) -> bool
     ensures { CoversPart covered result (tree_of beside.now) }
@@ -224,7 +225,8 @@ fn covers(covered: bool, beside: &Formula) -> bool
     covered && takes_nothing(beside)
 }
 
-/// Makes the part of a formula in a place. A result by value would take several places on the stack for each level.
+/// Writes the part of a formula to a reference. A result by value would take several copies on the stack for each
+/// level.
 fn put_part(
     alloc: Global,
     formula: &Formula,
@@ -275,14 +277,14 @@ fn put_part(
     }
 }
 
-/// The part of a formula, whose byte sets go to the end of one list and whose hops into another.
+/// The part of a formula, whose byte sets are appended to one list and whose steps to another.
 ///
-/// A part is covered where a star or a plus around it makes all hops from its last occurrences to its first ones.
-/// They are left out then, so that no hop is made twice (Brüggemann-Klein 1993).
+/// A part is covered if an enclosing star or plus makes all steps from its last occurrences to its first ones. They are
+/// left out then, so that no step is made twice (Brüggemann-Klein 1993).
 ///
 /// # Errors
 ///
-/// `NoMemory` where none was found.
+/// `NoMemory` if allocation fails.
 pub fn part_of(
     alloc: Global,
     formula: &Formula,
@@ -301,7 +303,7 @@ pub fn part_of(
     Ok(part)
 }
 
-/// The number past the greatest variable, 0 where there is none.
+/// One more than the greatest variable, or 0 if there is none.
 pub fn variables_of(formula: &Formula) -> u8
     requires { var_bound (tree_of formula.now) ≤ 8 }
     ensures { result ≡ var_bound (tree_of formula.now) }

@@ -1,4 +1,4 @@
--- What stands behind the word of a form, field by field.
+-- The arguments after the keyword of a form, field by field.
 use Rattle.std.specs.Prelude.{◌≡◌, ℕ, List, [], ◌∷◌, ◌++◌, Option, codes}
 use Rattle.std.specs.List.{find}
 use Rattle.std.specs.Str.{bytes_eq}

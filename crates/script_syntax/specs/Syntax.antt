@@ -26,7 +26,7 @@ is_word text = nat_le 1 (length text) && list_all (λ b. not (b == 32)) text
 abbrev pub IsWord : List ℕ → Type 0
 IsWord text = is_word text ≡ true
 
--- the words of `after` and of `limit`, where they stand, and what they ask for
+-- the words of `after` and of `limit`, if present, and what they specify
 abbrev pub after_words : Option (List ℕ) → List (List ℕ)
 after_words None = []
 after_words (Some word) = codes "after" ∷ word ∷ []
@@ -71,7 +71,7 @@ Reads line (UnmarkDocs name) = IsName name × (line ≡ spaced (codes "unmark") 
 Reads line (BackDocs name) = IsName name × (line ≡ spaced (codes "back") (name ∷ []))
 Reads line Compact = line ≡ codes "compact"
 
--- the text of a line, which is no longer than any line may be
+-- the text of a line, which is within the limit on its length
 pub record LineText (line : List ℕ) (command : Command) : Type 0 where
   pub short : length line ≤ 2 ^ 16
   pub form : Reads line command

@@ -1,4 +1,4 @@
-// What stands behind the first word of a line.
+// The arguments after the keyword of a line.
 ghost use Rattle.std.specs.Prelude.{◌≡◌, ◌∷◌, ◌++◌, IfOk, IfErr, codes};
 ghost use Rattle.script_syntax.specs.declared.keyword.Keyword.TheVariants as keyword;
 ghost use Rattle.script_syntax.specs.Syntax.{Reads};

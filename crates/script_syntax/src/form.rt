@@ -1,7 +1,7 @@
-// What a line may ask for.
+// What a line may request.
 use span_types::{ByteList, Name};
 
-/// A line of a script, read. Names and bytes are kept as they stand in the line.
+/// A parsed line of a script. Names and bytes are kept as they are in the line.
 #[derive(Drop)]
 pub enum Command {
     /// An empty line, or a comment: a line that begins with `#`.
@@ -16,12 +16,12 @@ pub enum Command {
         name: Name,
         file: ByteList,
     },
-    /// `let NAME = EXPR`: the document gets the value of the expression, which is any bytes here.
+    /// `let NAME = EXPR`: the document gets the value of the expression. Here the expression is any bytes.
     LetDoc {
         name: Name,
         expr: ByteList,
     },
-    /// `drop NAME`: takes the document out.
+    /// `drop NAME`: removes the document.
     DropDoc {
         name: Name,
     },
@@ -39,13 +39,12 @@ pub enum Command {
         name: Name,
         formula: ByteList,
     },
-    /// `unquery NAME`: takes the query out.
+    /// `unquery NAME`: removes the query.
     Unquery {
         name: Name,
     },
-    /// `list NAME NAME`, then perhaps `after WORD`, then perhaps `limit NUM`: answers of a query
-    /// on a document, those after a tuple, at most `limit` of them. The limit is 1 to 10,000, and
-    /// 100 where the line has none.
+    /// `list NAME NAME`, then optionally `after WORD`, then optionally `limit NUM`: answers of a query on a document,
+    /// those after a tuple, at most `limit` of them. The limit is 1 to 10,000, and 100 if the line has none.
     List {
         query: Name,
         name: Name,
@@ -67,7 +66,7 @@ pub enum Command {
     SaveFile {
         file: ByteList,
     },
-    /// `open FILE`: reads an image in place of all documents.
+    /// `open FILE`: reads an image, whose documents replace all documents.
     OpenFile {
         file: ByteList,
     },
@@ -90,14 +89,13 @@ pub enum Command {
         source: Name,
         keep: ByteList,
     },
-    /// `listall NAME`, then perhaps `limit NUM`: the answers of a query on each document, with
-    /// the limit of `List`.
+    /// `listall NAME`, then optionally `limit NUM`: the answers of a query on each document, with the limit of `List`.
     ListAll {
         query: Name,
         limit: u16,
     },
-    /// `replace NAME NAME NAME NAME`: the document `name` gets the text of `source`, in which the
-    /// text of `by` stands for the spans that the query chooses.
+    /// `replace NAME NAME NAME NAME`: the document `name` gets the text of `source`, in which the text of `by` replaces
+    /// the spans that the query chooses.
     ReplaceDoc {
         name: Name,
         query: Name,
@@ -108,7 +106,7 @@ pub enum Command {
     MarkDocs {
         name: Name,
     },
-    /// `unmark NAME`: takes the version out.
+    /// `unmark NAME`: removes the version.
     UnmarkDocs {
         name: Name,
     },
@@ -116,6 +114,6 @@ pub enum Command {
     BackDocs {
         name: Name,
     },
-    /// `compact`: drops what no document and no version reaches.
+    /// `compact`: removes the nodes that no document and no version reaches.
     Compact,
 }

@@ -55,7 +55,7 @@ const KEYWORDS: [Keyword; 22] = [
     Keyword::Compact,
 ];
 
-/// How a keyword is spelled.
+/// The spelling of a keyword.
 fn text_of_keyword(keyword: Keyword) -> &'static [u8]
     ensures { result.now ≡ word_of keyword }
 {
@@ -91,7 +91,7 @@ fn is_spelled(keyword: Keyword, word: &[u8]) -> bool
     text_of_keyword(keyword) == word
 }
 
-/// The keyword that is spelled so.
+/// The keyword with this spelling.
 pub fn keyword_of(word: &[u8]) -> Option<Keyword>
     ensures { result ≡ keyword_named word.now }
 {

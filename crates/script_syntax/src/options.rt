@@ -36,7 +36,7 @@ fn limit_of(options: &[u8]) -> Option<u16>
     Some(limit as u16)
 }
 
-/// A word, and `limit NUM` behind it where it stands.
+/// A word, and `limit NUM` after it if present.
 fn limited(text: &[u8]) -> Option<(&[u8], u16)>
     ensures { MatchOption result ((word : List ℕ) (given : Option ℕ) (limit : ℕ) → All (λ b. b ≢ 32) word → IsLimit given limit → text.now ≡ spaced word (limit_words given) → ⊥)
         (λ p. All (λ b. b ≢ 32) p.0.now × (given : Option ℕ) × IsLimit given p.1 × (text.now ≡ spaced p.0.now (limit_words given))) }
@@ -48,7 +48,7 @@ fn limited(text: &[u8]) -> Option<(&[u8], u16)>
     Some((word, limit))
 }
 
-/// `NAME limit NUM`, the option where it stands.
+/// `NAME limit NUM`, in which the option may be missing.
 pub fn listall_of(alloc: Global, args: &[u8]) -> Result<Command, LineRefusal>
     ensures ok { IfOk result (λ command. Reads (codes "listall " ++ args.now) command) }
     ensures syntax { IfErr result (λ why. why ≡ LineRefusal.Syntax → Fields (fields_of keyword.Listall) args.now → ⊥) }
@@ -60,7 +60,7 @@ pub fn listall_of(alloc: Global, args: &[u8]) -> Result<Command, LineRefusal>
     Ok(Command::ListAll { query, limit })
 }
 
-/// What stands behind the query of `list`.
+/// What follows the query of `list`.
 #[derive(Drop)]
 struct Page {
     name: Name,
@@ -68,7 +68,7 @@ struct Page {
     limit: u16,
 }
 
-/// `NAME after WORD limit NUM`, the options where they stand.
+/// `NAME after WORD limit NUM`, in which the options may be missing.
 fn page_of(alloc: Global, text: &[u8]) -> Result<Page, LineRefusal>
     ensures ok { IfOk result (λ page. IsName page.name × IsAfter page.after × (given : Option ℕ) × IsLimit given page.limit
         × (text.now ≡ spaced page.name (after_words page.after ++ limit_words given))) }
@@ -99,7 +99,7 @@ fn page_of(alloc: Global, text: &[u8]) -> Result<Page, LineRefusal>
     Ok(Page { name, after, limit })
 }
 
-/// `NAME NAME after WORD limit NUM`, the options where they stand.
+/// `NAME NAME after WORD limit NUM`, in which the options may be missing.
 pub fn list_of(alloc: Global, args: &[u8]) -> Result<Command, LineRefusal>
     ensures ok { IfOk result (λ command. Reads (codes "list " ++ args.now) command) }
     ensures syntax { IfErr result (λ why. why ≡ LineRefusal.Syntax → Fields (fields_of keyword.List) args.now → ⊥) }

@@ -13,7 +13,7 @@ use std::alloc::Global;
 
 const MAX_FILE: usize = 255;
 
-/// The bytes before the first space, those before the second, and those behind it.
+/// The bytes before the first space, those before the second, and those after it.
 pub fn three_words(text: &[u8]) -> Option<(&[u8], &[u8], &[u8])>
     ensures { MatchOption result ((g h : Field) (fs : List Field) → Fields (Named ∷ g ∷ h ∷ fs) text.now → ⊥)
         (λ p. (text.now ≡ p.0.now ++ 32 ∷ (p.1.now ++ 32 ∷ p.2.now)) × All (λ b. b ≢ 32) p.0.now × All (λ b. b ≢ 32) p.1.now) }
@@ -42,7 +42,7 @@ fn all_shown(text: &[u8]) -> bool
     text.iter().all(|b| (0x21..=0x7e).contains(b))
 }
 
-/// A FILE: 1 to 255 such bytes.
+/// A FILE: 1 to 255 printable bytes other than the space.
 pub fn file_of(alloc: Global, text: &[u8]) -> Result<ByteList, LineRefusal>
     ensures ok { IfOk result (λ file. (file ≡ text.now) × IsFile file) }
     ensures syntax { IfErr result (λ why. why ≡ LineRefusal.Syntax → IsFile text.now → ⊥) }

@@ -16,7 +16,7 @@ use span_types::NoMemory;
 use std::alloc::Global;
 use thiserror::Error;
 
-/// The length of a line in bytes, its newline not counted, is at most this.
+/// The maximum length of a line in bytes, without its newline.
 const MAX_LINE: usize = 1 << 16;
 
 /// Why a line is not read.
@@ -25,7 +25,7 @@ pub enum LineRefusal {
     /// The line has none of the forms, or more than 65,536 bytes.
     #[error("the line has none of the forms")]
     Syntax,
-    /// No memory was found for the parts of the command.
+    /// Allocation failed.
     #[error("no memory")]
     NoMemory,
 }
@@ -41,7 +41,7 @@ impl From<NoMemory> for LineRefusal {
     }
 }
 
-/// The command that a keyword, a space and these bytes are.
+/// The command for a keyword, a space and these bytes.
 fn behind_keyword(alloc: Global, keyword: Keyword, args: &[u8]) -> Result<Command, LineRefusal>
     ensures ok { IfOk result (λ command. Reads (word_of keyword ++ 32 ∷ args.now) command) }
     ensures syntax { IfErr result (λ why. why ≡ LineRefusal.Syntax → Fields (fields_of keyword) args.now → ⊥) }
@@ -88,15 +88,15 @@ fn bare(line: &[u8]) -> Result<Command, LineRefusal>
     Err(LineRefusal::Syntax)
 }
 
-/// The command that a line is. A line of no bytes, and one that begins with `#`, is `Nothing`.
+/// The command of a line. A line of no bytes, and one that begins with `#`, is `Nothing`.
 ///
-/// Expressions, formulas and tuples are any bytes here. It looks at each byte a few times, and takes memory for the
+/// Expressions, formulas and tuples are any bytes here. It reads each byte a few times, and allocates memory for the
 /// parts that the command keeps.
 ///
 /// # Errors
 ///
-/// - `Syntax` exactly where the line has none of the forms or has more than 65,536 bytes, whatever they are.
-/// - `NoMemory` where memory for the parts wasn't found.
+/// - `Syntax` exactly if the line has none of the forms or has more than 65,536 bytes, whatever they are.
+/// - `NoMemory` if allocation fails.
 pub fn command(alloc: Global, line: &[u8]) -> Result<Command, LineRefusal>
     ensures ok { IfOk result (λ command. LineText line.now command) }
     ensures syntax { IfErr result (λ why. why ≡ LineRefusal.Syntax → (command : Command) → LineText line.now command → ⊥) }

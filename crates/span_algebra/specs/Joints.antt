@@ -1,4 +1,4 @@
--- How a mark of each side makes one mark of both.
+-- How a mark of the left and one of the right become one mark of both.
 use Rattle.std.specs.Prelude.{◌≡◌, ℕ, ◌+◌, ◌-◌, ◌<◌, ◌≤◌, List, length, Contains}
 use Rattle.std.specs.List.Sorted.{IsNonDecreasingBy}
 use Rattle.span_algebra.specs.declared.joints.Half.{Half}
@@ -26,7 +26,7 @@ right_part t m = mark_by t.right_in_both.items m - shared_by t m
 abbrev pub half_by : Meeting → ℕ → Half
 half_by t m = record { key = right_key t m; part = right_part t m; mark = m }
 
--- the two agree on the variables of both sides, and make this mark
+-- the two agree on the variables of both sides, and their combination is this mark
 pub record IsJoint (t : Meeting) (left right mark : ℕ) : Type 0 where
   pub keys : left_key t left ≡ right_key t right
   pub whole : mark ≡ left + right_part t right
@@ -39,7 +39,7 @@ joint_by left h = record { mark = left + h.part; left = left; right = h.mark }
 abbrev pub IsJointWith : ℕ → ℕ → Half → Joint → Type 0
 IsJointWith left key h j = (key ≡ h.key) × (j ≡ joint_by left h)
 
--- no key is above a later one
+-- keys are ascending or equal
 abbrev pub RiseByKey : List Half → Type 0
 RiseByKey halves = IsNonDecreasingBy (λ h. h.key) halves
 
@@ -49,7 +49,7 @@ pub record IsJointAmong (t : Meeting) (lefts rights : List ℕ) (j : Joint) : Ty
   pub in_right : Contains rights j.right
   pub joint : IsJoint t j.left j.right j.mark
 
--- the places are those of at most eight variables, and the right's markers of the left's variables are among its own
+-- the indices are those of at most eight variables, and the right's markers of the left's variables are among its own
 pub record MayMeet (t : Meeting) : Type 0 where
   pub few_left : length t.left_in_right.items ≤ 8
   pub few_right : length t.right_in_left.items ≤ 8
@@ -59,11 +59,11 @@ pub record MayMeet (t : Meeting) : Type 0 where
   pub places_both : ArePlaces t.right_in_both.items
   pub above : (m : ℕ) → shared_by t m ≤ mark_by t.right_in_both.items m
 
--- marks of the left, with what any mark of the right adds, fit 16 bits
+-- the sum of a mark of the left and what any mark of the right adds fits 16 bits
 abbrev pub AreShortWith : Meeting → List ℕ → Type 0
 AreShortWith t lefts = (x y : ℕ) → Contains lefts x → x + right_part t y < 65536
 
--- the places of the names of each side
+-- the indices of the names of each side
 pub record IsMeeting (va vb : List (List ℕ)) (t : Meeting) : Type 0 where
   pub left : ArePlacesOf vb va t.left_in_right.items
   pub right : ArePlacesOf va vb t.right_in_left.items

@@ -1,4 +1,4 @@
--- How an operation's automaton is made.
+-- How an operation's automaton is constructed.
 use Rattle.std.specs.Prelude.{◌≡◌, ℕ, ◌+◌, ◌*◌, ◌/◌, ◌%◌, ◌^◌, ◌<◌, false, true, Bool, List, [], ◌∷◌, length, map, Option, Some, None, slice_get, slice_index_or, Contains}
 use Rattle.marker_nfa.specs.declared.nfa.Edge.{Edge}
 use Rattle.marker_nfa.specs.declared.nfa.End.{End}
@@ -23,12 +23,12 @@ AreClasses a classes = AreClassesUpTo 256 a classes
 abbrev pub letters_of : List Class → List (List Bool)
 letters_of classes = map (λ c. c.letters) classes
 
--- the digit of a mark at a place, if there is one
+-- the digit of a mark at an index, if there is one
 abbrev pub digit_at : Option ℕ → ℕ → ℕ
 digit_at None m = 0
 digit_at (Some v) m = (m / 4 ^ v) % 4
 
--- the mark with the digits from these places
+-- the mark with the digits from these indices
 abbrev pub mark_by : List (Option ℕ) → ℕ → ℕ
 mark_by [] m = 0
 mark_by (v ∷ places) m = digit_at v m + 4 * mark_by places m
@@ -65,19 +65,19 @@ pub record IsCopiedEnd (a : DeterministicAutomaton) (places : List (Option ℕ))
   pub at : IsAt base from state
   pub end : IsEndOf a places from state e
 
--- each place is that of one of at most eight variables
+-- each index is that of one of at most eight variables
 abbrev pub ArePlaces : List (Option ℕ) → Type 0
 ArePlaces [] = Unit {0}
 ArePlaces (None ∷ places) = ArePlaces places
 ArePlaces (Some v ∷ places) = (v < 8) × ArePlaces places
 
--- the places in `from` of the names `to`
+-- the indices in `from` of the names `to`
 pub record ArePlacesOf (to from : List (List ℕ)) (places : List (Option ℕ)) : Type 0 where
   pub size : length places ≡ length to
   pub small : ArePlaces places
   pub marks : (m : ℕ) → mark_by places m ≡ mark_for to from m
 
--- the class at a place, whose first byte is like this one in both automata
+-- the class at an index, whose first byte is like this one in both automata
 pub record IsClassOf (classes : List Class) (left right : DeterministicAutomaton) (b place : ℕ) : Type 0 where
   pub class : Class
   pub there : slice_get classes place ≡ Some class

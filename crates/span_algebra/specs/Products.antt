@@ -26,7 +26,7 @@ IsPairStepOf a b t left right c e = (j : Joint) × IsJointAmong t (marks_of a le
 abbrev pub IsPairStepAmong : DeterministicAutomaton → DeterministicAutomaton → Meeting → ℕ → ℕ → List Class → Edge → Type 0
 IsPairStepAmong a b t left right classes e = (c : Class) × Contains classes c × IsPairStepOf a b t left right c e
 
--- an end of a pair, which has this place
+-- an end of a pair, which has this index
 abbrev pub IsPairEndBy : ℕ → Joint → End → Type 0
 IsPairEndBy place j e = e ≡ record { state = place; mark = j.mark }
 
@@ -39,12 +39,12 @@ pub record IsPairEnd (a b : DeterministicAutomaton) (t : Meeting) (pairs : List 
   pub there : slice_get pairs e.state ≡ Some pair
   pub end : IsPairEndOf a b t (pair / 128) (pair % 128) e.state e
 
--- the mark of a left step or end, with what any mark of the right adds, fits 16 bits
+-- the sum of the mark of a left step or end and what any mark of the right adds fits 16 bits
 pub record AreShortSteps (a : DeterministicAutomaton) (t : Meeting) : Type 0 where
   pub marks : (q b : ℕ) → AreShortWith t (marks_of a q b)
   pub ends : (q : ℕ) → AreShortWith t (ends_of a q)
 
--- both states of a pair are there
+-- both states of a pair exist
 abbrev pub IsPair : DeterministicAutomaton → DeterministicAutomaton → ℕ → Type 0
 IsPair a b o = (o / 128 < states_of a) × (o % 128 < states_of b)
 
@@ -69,7 +69,7 @@ pub record AreFound (a b : DeterministicAutomaton) (n : ℕ) (Step : ℕ → ℕ
   pub edges_are : (e : Edge) → Contains edges e ↔ IsAmongFirst k pairs e.from × IsStepEdge Step classes e
   pub closed : (e : Edge) → Contains edges e → Contains pairs e.to
 
--- An automaton whose states are the places of occurrences, among them every one to which a step leads from another.
+-- An automaton whose states are the indices of occurrences, among them every one to which a step leads from another.
 pub record HasNumbered (n : ℕ) (Step : ℕ → ℕ → ℕ → ℕ → Type 0) (End : ℕ → ℕ → Type 0) (pairs : List ℕ) (a : Automaton) : Type 0 where
   pub states : a.states ≡ length pairs
   pub few : AreFew pairs

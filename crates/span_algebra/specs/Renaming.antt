@@ -7,7 +7,7 @@ use Rattle.span_types.specs.Rel.{named, lacking, same_name}
 abbrev pub both_names : List (List ℕ) → List (List ℕ) → List (List ℕ)
 both_names va vb = va ++ lacking va vb
 
--- the spans that a tuple gives to the names `to`, by its own names
+-- the spans that a tuple assigns to the names `to`, by its own names
 abbrev pub tuple_for : List (List ℕ) → List (List ℕ) → List (Option Span) → List (Option Span)
 tuple_for to from t = map (named from t) to
 

@@ -22,11 +22,11 @@ pub record IsRenumbered (d e : DeterministicAutomaton) : Type 0 where
   pub steps : (q m b r : ℕ) → q < states_of d → r < states_of d → next_of d q m b ≡ Some r ↔ next_of e (to q) m b ≡ Some (to r)
   pub ends : (q m : ℕ) → q < states_of d → Contains (ends_of d q) m ↔ Contains (ends_of e (to q)) m
 
--- a tree has one automaton, but for the numbers of its states
+-- a tree has one automaton, up to the numbers of its states
 abbrev pub OneAutomaton : Type 0
 OneAutomaton = (q : Query) (d e : DeterministicAutomaton) → IsTreeAutomaton q d → IsTreeAutomaton q e → IsRenumbered d e
 
--- so the Count of an operation is that of any automata of its operands
+-- so the count of an operation is that of any automata of its operands
 pub record CountsByAny : Type 0 where
   pub union : (n : ℕ) (l r : Query) (a b : DeterministicAutomaton) → IsTreeAutomaton l a → IsTreeAutomaton r b
       → TreeCountIsAbove n (Union l r) ↔ CountIsAbove n (union_size a b) (UnionStep a (names_of l) b (names_of r))
@@ -35,12 +35,12 @@ pub record CountsByAny : Type 0 where
   pub project : (n : ℕ) (q : Query) (keep : List (List ℕ)) (a : DeterministicAutomaton) → IsTreeAutomaton q a
       → TreeCountIsAbove n (Project q keep) ↔ CountIsAbove n (states_of a) (ProjectStep a (names_of q) keep)
 
--- Count is the number of the automaton's states
+-- the count is the number of the automaton's states
 abbrev pub CountIsStates : Type 0
 CountIsStates = (n : ℕ) (q : Query) (d : DeterministicAutomaton) → IsTreeAutomaton q d → TreeCountIsAbove n q ↔ n < states_of d
 
--- what the subset construction makes of a formula's position automaton is an automaton of the Leaf, and it has too many
--- states exactly where Count is above 128
+-- the subset construction turns a formula's position automaton into an automaton of the Leaf, and it has too many
+-- states exactly if the count is above 128
 pub record LeafAutomata : Type 0 where
   pub automaton : (f : FormulaTree) (names : List (List ℕ)) (a : Automaton) (d : DeterministicAutomaton) → var_bound f ≡ length names
       → IsPositionAutomaton f a → StandsFor a d → AcceptsSame a d → IsTreeAutomaton (Leaf f names) d

@@ -1,4 +1,4 @@
--- Tree automaton: the automata of a query's tree, and its Count.
+-- Tree automaton: the automata of a query's tree, and its count.
 use Rattle.std.specs.Prelude.{◌≡◌, ℕ, suc, ◌≤◌, List, length}
 use Rattle.span_types.specs.FormulaTree.{sets}
 use Rattle.span_types.specs.Query.{Query, Leaf, Union, Join, Project}

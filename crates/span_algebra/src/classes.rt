@@ -1,4 +1,4 @@
-//! Bytes that automata never tell apart.
+//! Bytes that automata never distinguish.
 
 ghost use Rattle.std.specs.Prelude.{◌+◌, IfOk, IfSome, IsTrue};
 ghost use Rattle.marker_dfa.specs.Deterministic.{AreAlike};
@@ -22,7 +22,7 @@ fn are_alike(dfa: &Dfa, byte: u8, other: u8) -> bool
     dfa.class(byte) == dfa.class(other)
 }
 
-/// The place of a class whose bytes are like this one in both automata.
+/// The index of a class whose bytes are like this one in both automata.
 fn class_of(classes: &[Class], left: &Dfa, right: &Dfa, byte: u8) -> Option<usize>
     ensures { IfSome result (IsClassOf classes.now left.now right.now byte) }
 {
@@ -34,7 +34,7 @@ fn class_of(classes: &[Class], left: &Dfa, right: &Dfa, byte: u8) -> Option<usiz
     None
 }
 
-/// Puts the next byte into its class, which is new where no class is like it.
+/// Puts the next byte into its class, which is new if no class is like it.
 fn put_byte(classes: &mut Vec<Class>, left: &Dfa, right: &Dfa, byte: u8) -> Result<(), NoMemory>
     requires left { AreClassesUpTo byte left.now classes.old.items }
     requires right { AreClassesUpTo byte right.now classes.old.items }
@@ -55,9 +55,9 @@ fn put_byte(classes: &mut Vec<Class>, left: &Dfa, right: &Dfa, byte: u8) -> Resu
     Ok(())
 }
 
-/// The classes of bytes that neither automaton tells apart.
+/// The classes of bytes that neither automaton distinguishes.
 ///
-/// Each byte is compared with one of each class that was met before it, by its class in either automaton.
+/// Each byte is compared with one of each class found before it, by its class in either automaton.
 pub fn classes_of(alloc: Global, left: &Dfa, right: &Dfa) -> Result<Vec<Class>, NoMemory>
     ensures left { IfOk result (λ classes. AreClasses left.now classes.items) }
     ensures right { IfOk result (λ classes. AreClasses right.now classes.items) }

@@ -1,4 +1,4 @@
-//! The edges and ends of an operand's automaton, with its states and variables numbered anew.
+//! The edges and ends of an operand's automaton, with renumbered states and variables.
 
 ghost use Rattle.std.specs.Prelude.{◌≡◌, ℕ, ◌+◌, ◌<◌, ◌≤◌, IfOk, length};
 ghost use Rattle.marker_nfa.specs.Parts.{Adds};
@@ -11,7 +11,7 @@ use marker_dfa::Dfa;
 use marker_nfa::{Edge, End};
 use span_types::NoMemory;
 
-/// Puts the step of a state by a mark and the bytes of a class into a list, if it is there.
+/// Appends the step of a state by a mark and the bytes of a class to a list, if there is one.
 fn push_edge(
     dfa: &Dfa,
     places: &[Option<u8>],
@@ -39,7 +39,7 @@ fn push_edge(
     Ok(())
 }
 
-/// Puts the steps of a state by the bytes of a class into a list.
+/// Appends the steps of a state by the bytes of a class to a list.
 fn push_class(
     dfa: &Dfa,
     places: &[Option<u8>],
@@ -62,7 +62,7 @@ fn push_class(
     Ok(())
 }
 
-/// Puts the steps of a state into a list.
+/// Appends the steps of a state to a list.
 fn push_state(
     dfa: &Dfa,
     places: &[Option<u8>],
@@ -84,7 +84,8 @@ fn push_state(
     Ok(())
 }
 
-/// Puts the edges of a copy into a list: those of its states, which begin at `base`, and those of its start at state 0 too.
+/// Appends the edges of a copy to a list: those of its states, which begin at `base`, and those of its start also from
+/// state 0.
 pub fn push_edges(
     dfa: &Dfa,
     places: &[Option<u8>],
@@ -111,7 +112,7 @@ pub fn push_edges(
     push_state(dfa, places, 0, base, 0, classes, edges)
 }
 
-/// Puts the ends of a state into a list.
+/// Appends the ends of a state to a list.
 fn push_state_ends(
     dfa: &Dfa,
     places: &[Option<u8>],
@@ -133,7 +134,7 @@ fn push_state_ends(
     Ok(())
 }
 
-/// Puts the ends of a copy into a list, in the same way.
+/// Appends the ends of a copy to a list, in the same way.
 pub fn push_ends(
     dfa: &Dfa,
     places: &[Option<u8>],

@@ -34,7 +34,7 @@ fn start_pairs(alloc: Global) -> Result<Vec<u16>, NoMemory>
     Ok(pairs)
 }
 
-/// Puts edges last.
+/// Appends edges.
 fn put_edges(edges: &mut Vec<Edge>, more: &[Edge]) -> Result<(), NoMemory>
     ensures { IfOk result (λ _. edges.new.items ≡ edges.old.items ++ more.now) }
 {

@@ -24,7 +24,7 @@ use marker_nfa::Nfa;
 use span_types::Vars;
 use std::alloc::Global;
 
-/// The occurrences of a join that are reached: pairs of a left and a right state, each by its place.
+/// The occurrences of a join that are reached: pairs of a left and a right state, each by its index.
 fn join_nfa(
     alloc: Global,
     left: &Dfa,
@@ -83,17 +83,17 @@ fn join_dfa(
     determined(alloc, &nfa, &classes)
 }
 
-/// The automaton of the unions of an answer of each side, where the two agree on every variable of both, and its
+/// The automaton of the unions of an answer of each side, if the two agree on every variable of both, and its
 /// variables: those of the left, then those of the right that the left lacks. A variable without a span agrees only
 /// with one without a span.
 ///
-/// Its states are the reached sets of pairs of a left and a right state, each of which is one pair. It takes time in
-/// proportion to the steps of these pairs: for each pair and class of bytes, one for each two marks of its states.
+/// Its states are the reached sets of pairs of a left and a right state. Each such set has one pair. It takes time
+/// proportional to the steps of these pairs: for each pair and class of bytes, one for each two marks of its states.
 ///
 /// # Errors
 ///
-/// `TooManyVariables` exactly where there are more than eight variables, `TooManyStates` exactly where there aren't and
-/// more than 128 states would be needed, and `NoMemory`.
+/// `TooManyVariables` exactly if there are more than eight variables. `TooManyStates` exactly if there aren't and more
+/// than 128 states would be needed. `NoMemory` if allocation fails.
 pub fn join(
     alloc: Global,
     left: &Dfa,

@@ -12,8 +12,8 @@ use crate::names::places_of;
 use span_types::{NoMemory, Vars};
 use std::alloc::Global;
 
-/// Where the variables of the left stand among those of the right, those of the right among those of the left, and
-/// those of the right among those of both.
+/// The indices of the left's variables among those of the right, of the right's among those of the left, and of the
+/// right's among those of both.
 #[derive(Drop)]
 pub struct Meeting {
     pub left_in_right: Vec<Option<u8>>,
@@ -29,7 +29,7 @@ pub struct Half {
     pub mark: u16,
 }
 
-/// A mark of each side, and what they make together.
+/// A mark of each side, and their combination.
 #[derive(Clone, Copy)]
 pub struct Joint {
     pub mark: u16,
@@ -37,7 +37,7 @@ pub struct Joint {
     pub right: u16,
 }
 
-/// Where the variables of two sides meet.
+/// The common variables of two sides.
 pub fn meeting_of(
     alloc: Global,
     left_names: &Vars,
@@ -57,7 +57,7 @@ pub fn meeting_of(
     })
 }
 
-/// What a mark of the right brings to a joint.
+/// What a mark of the right contributes to a joint.
 fn half_of(meeting: &Meeting, mark: u16) -> Half
     requires { MayMeet meeting.now }
     ensures { result ≡ half_by meeting.now mark }
@@ -71,7 +71,7 @@ fn half_of(meeting: &Meeting, mark: u16) -> Half
     }
 }
 
-/// Puts what a mark of the right brings into a list.
+/// Appends what a mark of the right contributes to a list.
 fn push_half(meeting: &Meeting, mark: u16, halves: &mut Vec<Half>) -> Result<(), NoMemory>
     requires { MayMeet meeting.now }
     ensures { IfOk result (λ _. Adds halves.old.items halves.new.items (λ h. h ≡ half_by meeting.now mark)) }
@@ -80,7 +80,7 @@ fn push_half(meeting: &Meeting, mark: u16, halves: &mut Vec<Half>) -> Result<(),
     Ok(())
 }
 
-/// Puts a list in order of keys.
+/// Sorts a list by keys.
 fn put_in_order(halves: &mut Vec<Half>)
     ensures same { (h : Half) → Contains halves.new.items h ↔ Contains halves.old.items h }
     ensures rising { RiseByKey halves.new.items }
@@ -88,7 +88,7 @@ fn put_in_order(halves: &mut Vec<Half>)
     halves.sort_unstable_by_key(|half| half.key);
 }
 
-/// What each of some marks of the right brings, in order of keys.
+/// What each of some marks of the right contributes, sorted by keys.
 fn halves_of(alloc: Global, meeting: &Meeting, marks: &[u16]) -> Result<Vec<Half>, NoMemory>
     requires { MayMeet meeting.now }
     ensures same { IfOk result (λ halves. (h : Half) → Contains halves.items h ↔ (m : ℕ) × Contains marks.now m × (h ≡ half_by meeting.now m)) }
@@ -112,7 +112,7 @@ fn halves_with(halves: &[Half], key: u16) -> &[Half]
     &halves[first..end]
 }
 
-/// Puts the joint of a mark of the left and one of the right, which agree, into a list.
+/// Appends the joint of a mark of the left and one of the right, which agree, to a list.
 fn push_joint(left: u16, half: &Half, joints: &mut Vec<Joint>) -> Result<(), NoMemory>
     requires { left + half.now.part < 65536 }
     ensures { IfOk result (λ _. Adds joints.old.items joints.new.items (λ j. j ≡ joint_by left half.now)) }
@@ -125,7 +125,7 @@ fn push_joint(left: u16, half: &Half, joints: &mut Vec<Joint>) -> Result<(), NoM
     Ok(())
 }
 
-/// Puts the joints of a mark of the left into a list.
+/// Appends the joints of a mark of the left to a list.
 fn push_joints(
     left: u16,
     key: u16,
@@ -145,7 +145,7 @@ fn push_joints(
 
 /// The joints of some marks of the left and some of the right.
 ///
-/// It puts the right's in order by the markers that they share, and then finds those of each mark of the left by binary
+/// It sorts those of the right by the markers that they share, and then finds those for each mark of the left by binary
 /// search: O((n + m) log n) steps and one for each joint, with m marks of the left and n of the right.
 pub fn joints_of(
     alloc: Global,

@@ -1,17 +1,17 @@
 //! Laws of the automata of query trees.
 ghost use Rattle.span_algebra.specs.TreeLaws.{CountIsStates, CountsByAny, LeafAutomata, OneAutomaton, TreeRows};
 
-/// A query tree has one automaton, but for the numbers of its states.
+/// A query tree has one automaton, up to the numbers of its states.
 pub fn trees()
     ensures { OneAutomaton }
 {}
 
-/// The Count of an operation is that of any automata of its operands.
+/// The count of an operation is that of any automata of its operands.
 pub fn counts()
     ensures { CountsByAny }
 {}
 
-/// The Count of a tree is the number of its automaton's states.
+/// The count of a tree is the number of its automaton's states.
 pub fn states()
     ensures { CountIsStates }
 {}

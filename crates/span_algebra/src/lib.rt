@@ -1,11 +1,11 @@
 //! The spanner algebra over deterministic automata (Fagin et al., *Document Spanners*, JACM 2015): a union, a natural
 //! join or a projection of queries becomes one automaton, which then serves every text by itself.
 //!
-//! An operation takes its occurrences from the states of its operands' automata, and its states are the reached sets
-//! of occurrences (the subset construction of Rabin and Scott 1959). The variables are those of the left, then those of
-//! the right that the left lacks; the answers are exactly those of the operation, where an answer gives each name a
-//! span or none. In a join two answers agree where each name of both has one span in both, or none in both. For
-//! automata and the names of their variables,
+//! The occurrences of an operation are the states of its operands' automata, and its states are the reached sets of
+//! occurrences (the subset construction of Rabin and Scott 1959). The variables are those of the left, then those of
+//! the right that the left lacks. The answers are exactly those of the operation; an answer assigns a span or none to
+//! each name. In a join two answers agree if each common name has the same span in both, or none in both. For automata
+//! and the names of their variables:
 //!
 //! ```text
 //! let (either, names) = union(alloc, &left, &left_names, &right, &right_names)?;
@@ -13,10 +13,10 @@
 //! let kept = project(alloc, &both, &names, &keep)?;
 //! ```
 //!
-//! Bytes that share a class in each operand share one, and no byte is gone through by itself. A union or a projection
-//! takes one step for each state, class and mark of its operands. A join takes them for the pairs of states that it
-//! reaches and no other, each mark of the left with each of the right, and ends at the 129th pair. Both sides are
-//! deterministic, so a mark and a byte lead from a pair to one pair at most. The subset construction ends at the 129th
+//! Bytes that share a class in each operand share one, so bytes aren't processed one by one. A union or a projection
+//! takes one step for each state, class and mark of its operands. A join takes one for each class and each pair of a
+//! left and a right mark, for the pairs of states that it reaches and no other, and ends at the 129th pair. Both sides
+//! are deterministic, so a mark and a byte lead from a pair to at most one pair. The subset construction ends at the 129th
 //! state.
 //!
 //! Proved: The automata of a union, join and projection: exactly the operation's answers, and exact rejections

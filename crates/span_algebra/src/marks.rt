@@ -3,7 +3,7 @@
 ghost use Rattle.std.specs.Prelude.{◌≡◌, ℕ, ◌<◌, ◌≤◌, ◌^◌, length, Some};
 ghost use Rattle.span_algebra.specs.Making.{ArePlaces, digit_at, mark_by};
 
-/// The digit of a mark at a place.
+/// The digit of a mark at an index.
 fn digit(place: Option<u8>, mark: u16) -> u16
     requires { (v : ℕ) → place ≡ Some v → v < 8 }
     ensures value { result ≡ digit_at place mark }
@@ -15,7 +15,7 @@ fn digit(place: Option<u8>, mark: u16) -> u16
     }
 }
 
-/// The mark with the digits of another from these places.
+/// The mark with the digits of another from these indices.
 pub fn mark_at(places: &[Option<u8>], mark: u16) -> u16
     requires few { length places.now ≤ 8 }
     requires within { ArePlaces places.now }

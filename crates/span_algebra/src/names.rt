@@ -1,4 +1,4 @@
-//! The names of an operation's variables, and where those of an operand stand among them.
+//! The names of an operation's variables, and the indices of an operand's among them.
 
 ghost use Rattle.std.specs.Prelude.{◌≡◌, ◌<◌, Contains, IfErr, IfOk, MatchOption, OnOk, Some, length, slice_get};
 ghost use Rattle.span_types.specs.VarList.{Adds, AreVars};
@@ -10,7 +10,7 @@ use crate::refusal::AlgebraRefusal;
 use span_types::{Name, NoMemory, Vars, VarsRefusal};
 use std::alloc::Global;
 
-/// Puts a name last, unless it is there.
+/// Appends a name, unless it is there.
 fn add_name(alloc: Global, names: &mut Vars, name: &Name) -> Result<(), AlgebraRefusal>
     ensures added { OnOk result (Adds names.old names.new name.now) }
     ensures refused { IfErr result (IsNew names.old name.now) }
@@ -47,7 +47,7 @@ fn place_of(names: &Vars, name: &Name) -> Option<u8>
     None
 }
 
-/// Where each of some names stands among others, if it does.
+/// The index of each of some names among others, or none.
 pub fn places_of(alloc: Global, to: &Vars, from: &Vars) -> Result<Vec<Option<u8>>, NoMemory>
     ensures { IfOk result (λ places. ArePlacesOf to.now from.now places.items) }
 {

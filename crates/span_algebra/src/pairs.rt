@@ -1,4 +1,4 @@
-//! Lists of pairs of states, each pair as a number, and edges between their places.
+//! Lists of pairs of states, each pair as a number, and edges between their indices.
 
 ghost use Rattle.std.specs.Prelude.{◌≡◌, ℕ, ◌<◌, ◌↔◌, ◌++◌, ◌∷◌, [], Contains, IfErr, IfOk, MatchOption, Some, length, slice_get};
 ghost use Rattle.marker_nfa.specs.declared.nfa.Edge.{Edge};
@@ -11,10 +11,10 @@ use marker_nfa::Edge;
 use span_types::NoMemory;
 use std::alloc::Global;
 
-/// The greatest number of pairs.
+/// The maximum number of pairs.
 const LIMIT: usize = 128;
 
-/// The place of a pair, if it is there.
+/// The index of a pair, if it is there.
 fn place_of(pairs: &[u16], pair: u16) -> Option<usize>
     ensures { MatchOption result (Contains pairs.now pair → ⊥) (λ i. slice_get pairs.now i ≡ Some pair) }
 {
@@ -26,7 +26,7 @@ fn place_of(pairs: &[u16], pair: u16) -> Option<usize>
     None
 }
 
-/// Puts a pair last.
+/// Appends a pair.
 fn push_pair(pairs: &mut Vec<u16>, pair: u16) -> Result<(), NoMemory>
     ensures { IfOk result (λ _. pairs.new.items ≡ pairs.old.items ++ pair ∷ []) }
 {
@@ -34,7 +34,7 @@ fn push_pair(pairs: &mut Vec<u16>, pair: u16) -> Result<(), NoMemory>
     Ok(())
 }
 
-/// Puts a pair last, unless it is there.
+/// Appends a pair, unless it is there.
 fn put_pair(pairs: &mut Vec<u16>, pair: u16) -> Result<(), AlgebraRefusal>
     requires { AreFew pairs.old.items }
     ensures gains { IfOk result (λ _. Gains (λ o. o ≡ pair) pairs.old.items pairs.new.items) }
@@ -50,7 +50,7 @@ fn put_pair(pairs: &mut Vec<u16>, pair: u16) -> Result<(), AlgebraRefusal>
     Ok(())
 }
 
-/// Puts the pairs to which some edges lead last, each unless it is there.
+/// Appends the pairs to which some edges lead, each unless it is there.
 pub fn put_targets(pairs: &mut Vec<u16>, edges: &[Edge]) -> Result<(), AlgebraRefusal>
     requires { AreFew pairs.old.items }
     ensures gains { IfOk result (λ _. Gains (IsTargetAmong edges.now) pairs.old.items pairs.new.items) }
@@ -62,7 +62,7 @@ pub fn put_targets(pairs: &mut Vec<u16>, edges: &[Edge]) -> Result<(), AlgebraRe
     Ok(())
 }
 
-/// The place of a pair that is there.
+/// The index of a pair that is there.
 fn number_of(pairs: &[u16], pair: u16) -> u16
     requires few { AreFew pairs.now }
     requires there { Contains pairs.now pair }
@@ -74,7 +74,7 @@ fn number_of(pairs: &[u16], pair: u16) -> u16
     }
 }
 
-/// Puts an edge between pairs into a list, as one between their places.
+/// Appends an edge between pairs to a list, as one between their indices.
 fn push_numbered(pairs: &[u16], edge: &Edge, numbered: &mut Vec<Edge>) -> Result<(), NoMemory>
     requires few { AreFew pairs.now }
     requires between { IsBetween pairs.now edge.now }
@@ -89,7 +89,7 @@ fn push_numbered(pairs: &[u16], edge: &Edge, numbered: &mut Vec<Edge>) -> Result
     Ok(())
 }
 
-/// Edges between pairs, as edges between their places.
+/// Edges between pairs, as edges between their indices.
 pub fn numbered(alloc: Global, pairs: &[u16], edges: &[Edge]) -> Result<Vec<Edge>, NoMemory>
     requires few { AreFew pairs.now }
     requires between { (e : Edge) → Contains edges.now e → IsBetween pairs.now e }

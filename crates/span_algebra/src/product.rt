@@ -41,7 +41,7 @@ fn number_of(pair: Pair) -> u16
     128 * u16::from(pair.left) + u16::from(pair.right)
 }
 
-/// Puts the step of a pair by a joint mark and the bytes of a class into a list, if both sides have theirs.
+/// Appends the step of a pair by a joint mark and the bytes of a class to a list, if both sides have theirs.
 fn push_step(
     left: &Dfa,
     right: &Dfa,
@@ -70,7 +70,7 @@ fn push_step(
     Ok(())
 }
 
-/// Puts the steps of a pair by the bytes of a class into a list.
+/// Appends the steps of a pair by the bytes of a class to a list.
 fn push_class(
     alloc: Global,
     left: &Dfa,
@@ -118,7 +118,7 @@ pub fn edges_of(
     Ok(edges)
 }
 
-/// Puts an end with a joint mark into a list.
+/// Appends an end with a joint mark to a list.
 fn push_end(place: u16, joint: &Joint, ends: &mut Vec<End>) -> Result<(), NoMemory>
     ensures { IfOk result (λ _. Adds ends.old.items ends.new.items (IsPairEndBy place joint.now)) }
 {
@@ -129,7 +129,7 @@ fn push_end(place: u16, joint: &Joint, ends: &mut Vec<End>) -> Result<(), NoMemo
     Ok(())
 }
 
-/// Puts the ends of a pair, which has a place, into a list.
+/// Appends the ends of a pair with this index to a list.
 fn push_ends(
     alloc: Global,
     left: &Dfa,
@@ -152,7 +152,7 @@ fn push_ends(
     Ok(())
 }
 
-/// The ends of pairs, each with the place of its pair.
+/// The ends of pairs, each with the index of its pair.
 pub fn ends_of(
     alloc: Global,
     left: &Dfa,

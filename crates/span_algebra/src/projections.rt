@@ -45,12 +45,12 @@ fn project_nfa(
 /// The automaton of the restrictions of the answers to some variables, in the order of `keep`. Answers with equal
 /// restrictions become one.
 ///
-/// Its states are the reached sets of the source's states. It takes time in proportion to the steps of the source, one
+/// Its states are the reached sets of the source's states. It takes time proportional to the steps of the source, one
 /// for each state, class of bytes and mark, and of the result.
 ///
 /// # Errors
 ///
-/// `TooManyStates` exactly where more than 128 states would be needed, and `NoMemory`.
+/// `TooManyStates` exactly if more than 128 states would be needed, and `NoMemory` if allocation fails.
 pub fn project(
     alloc: Global,
     source: &Dfa,

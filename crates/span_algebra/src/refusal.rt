@@ -1,4 +1,4 @@
-//! Why an operation gives no automaton.
+//! Why an operation has no automaton.
 
 ghost use Rattle.std.specs.Prelude.{◌≡◌};
 ghost use Rattle.span_algebra.specs.declared.refusal.AlgebraRefusal.TheVariants.{NoMemory};
@@ -6,7 +6,7 @@ ghost use Rattle.span_algebra.specs.declared.refusal.AlgebraRefusal.TheVariants.
 use span_types::NoMemory;
 use thiserror::Error;
 
-/// Why an operation gives no automaton.
+/// Why an operation has no automaton.
 #[derive(Clone, Copy, Debug, PartialEq, Eq, Error)]
 pub enum AlgebraRefusal {
     /// The operands have more than eight variables together.
@@ -17,7 +17,7 @@ pub enum AlgebraRefusal {
     #[error("too many states")]
     TooManyStates,
 
-    /// No memory was found for the automaton.
+    /// Allocation failed.
     #[error("no memory")]
     NoMemory,
 }

@@ -87,13 +87,13 @@ fn union_dfa(
 /// The automaton of the answers of either side, and its variables: those of the left, then those of the right that the
 /// left lacks. A variable that an answer's side lacks has no span.
 ///
-/// Its states are the reached sets of occurrences, which are the start and the states of both. It takes time in
-/// proportion to the steps of both, one for each state, class of bytes and mark.
+/// Its states are the reached sets of occurrences, which are the start and the states of both. It takes time
+/// proportional to the steps of both, one for each state, class of bytes and mark.
 ///
 /// # Errors
 ///
-/// `TooManyVariables` exactly where there are more than eight variables, `TooManyStates` exactly where there aren't and
-/// more than 128 states would be needed, and `NoMemory`.
+/// `TooManyVariables` exactly if there are more than eight variables. `TooManyStates` exactly if there aren't and more
+/// than 128 states would be needed. `NoMemory` if allocation fails.
 pub fn union(
     alloc: Global,
     left: &Dfa,

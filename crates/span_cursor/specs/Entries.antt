@@ -1,4 +1,4 @@
--- Entries at the front of a text.
+-- Entries at the start of a text.
 use Rattle.std.specs.Prelude.{◌≡◌, ℕ, List, ◌∷◌, ◌++◌, Option, length}
 use Rattle.span_types.specs.declared.tuple.Span.{Span}
 use Rattle.span_types.specs.Places.{AreSpans, IsSpanOr}

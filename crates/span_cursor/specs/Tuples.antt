@@ -30,7 +30,7 @@ tuple_text [] values = codes "()"
 tuple_text (name ∷ names) [] = codes "()"
 tuple_text (name ∷ names) (value ∷ values) = entry_text name value ++ more_text names values
 
--- the text gives each of these names, in order, its span or none
+-- the text has an entry for each of these names, in order, with its span or none
 pub record TupleText (text : List ℕ) (names : List (List ℕ)) (values : List (Option Span)) : Type 0 where
   pub named : AreNames names
   pub spans : AreSpans values

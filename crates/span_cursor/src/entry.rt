@@ -1,4 +1,4 @@
-// Entries at the front of a text.
+// Entries at the start of a text.
 ghost use Rattle.std.specs.Prelude.{◌≡◌, ◌++◌, ◌∷◌, ℕ, List, Option, MatchOption};
 ghost use Rattle.span_types.specs.declared.tuple.Span.{Span as OneSpan};
 ghost use Rattle.span_types.specs.Places.{IsSpan, IsSpanOr};
@@ -11,7 +11,7 @@ use span_types::{Span, is_well_named};
 /// The greatest bound: one past the last byte of a text of 2^48 bytes.
 const MAX_BOUND: u64 = (1 << 48) + 1;
 
-/// `NUM,NUM)`, and what stands behind it.
+/// `NUM,NUM)`, and the rest of the text.
 fn span_at(text: &[u8]) -> Option<(Span, &[u8])>
     ensures { MatchOption result
         ((span : OneSpan) (rest : List ℕ) → IsSpan span → text.now ≡ bounds_text span ++ rest → ⊥)
@@ -33,7 +33,7 @@ fn span_at(text: &[u8]) -> Option<(Span, &[u8])>
     Some((Span { start, end }, rest))
 }
 
-/// `-` or `[NUM,NUM)`, and what stands behind it.
+/// `-` or `[NUM,NUM)`, and the rest of the text.
 fn value_at(text: &[u8]) -> Option<(Option<Span>, &[u8])>
     ensures { MatchOption result
         ((value : Option OneSpan) (rest : List ℕ) → IsSpanOr value → text.now ≡ value_text value ++ rest → ⊥)
@@ -50,7 +50,7 @@ fn value_at(text: &[u8]) -> Option<(Option<Span>, &[u8])>
     Some((Some(span), rest))
 }
 
-/// An entry of any name, and what stands behind it.
+/// An entry of any name, and the rest of the text.
 pub fn entry_at(text: &[u8]) -> Option<(&[u8], Option<Span>, &[u8])>
     ensures { MatchOption result
         ((name : List ℕ) (value : Option OneSpan) (rest : List ℕ) → Entry text.now name value rest → ⊥)
@@ -64,7 +64,7 @@ pub fn entry_at(text: &[u8]) -> Option<(&[u8], Option<Span>, &[u8])>
     Some((name, value, rest))
 }
 
-/// An entry of this name, and what stands behind it.
+/// An entry of this name, and the rest of the text.
 pub fn entry_of<'a>(text: &'a [u8], name: &[u8]) -> Option<(Option<Span>, &'a [u8])>
     ensures { MatchOption result
         ((value : Option OneSpan) (rest : List ℕ) → Entry text.now name.now value rest → ⊥)
@@ -77,7 +77,7 @@ pub fn entry_of<'a>(text: &'a [u8], name: &[u8]) -> Option<(Option<Span>, &'a [u
     Some((value, rest))
 }
 
-/// A comma and an entry of this name, and what stands behind them.
+/// A comma and an entry of this name, and the rest of the text.
 pub fn next_entry_of<'a>(text: &'a [u8], name: &[u8]) -> Option<(Option<Span>, &'a [u8])>
     ensures { MatchOption result
         ((value : Option OneSpan) (rest : List ℕ) → NextEntry text.now name.now value rest → ⊥)

@@ -1,4 +1,4 @@
-// Pieces of a tuple's text, put into a buffer.
+// Pieces of a tuple's text, written into a buffer.
 ghost use Rattle.std.specs.Prelude.{◌≡◌, ◌++◌, ◌+◌, ◌≤◌, ◌<◌, ◌^◌, length, take};
 ghost use Rattle.std.specs.Fmt.{decimal};
 ghost use Rattle.span_types.specs.Places.{IsSpanOr};
@@ -8,7 +8,7 @@ ghost use Rattle.span_cursor.specs.Tuples.{entry_text};
 use itoa::Buffer;
 use span_types::Span;
 
-/// Puts a piece at a place, and answers the place behind it.
+/// Writes a piece at an index, and returns the index after it.
 pub fn put(into: &mut [u8], at: usize, piece: &[u8]) -> usize
     requires { at + length piece.now ≤ length into.old }
     ensures end { result ≡ at + length piece.now }
@@ -19,7 +19,7 @@ pub fn put(into: &mut [u8], at: usize, piece: &[u8]) -> usize
     end
 }
 
-/// Puts a number, which has at most 15 digits.
+/// Writes a number, which has at most 15 digits.
 fn put_number(into: &mut [u8], at: usize, number: u64) -> usize
     requires small { number < 10 ^ 15 }
     requires room { at + 15 ≤ length into.old }
@@ -29,7 +29,7 @@ fn put_number(into: &mut [u8], at: usize, number: u64) -> usize
     put(into, at, Buffer::new().format(number).as_bytes())
 }
 
-/// Puts `NAME=-` or `NAME=[NUM,NUM)`, which has at most 64 + 2 + 15 + 1 + 15 + 1 bytes.
+/// Writes `NAME=-` or `NAME=[NUM,NUM)`, which has at most 64 + 2 + 15 + 1 + 15 + 1 bytes.
 pub fn put_entry(into: &mut [u8], at: usize, name: &[u8], value: Option<Span>) -> usize
     requires name { IsName name.now }
     requires value { IsSpanOr value }

@@ -5,9 +5,9 @@ ghost use Rattle.span_cursor.specs.Tuples.{TupleText};
 use crate::pieces::{put, put_entry};
 use span_types::{Tuple, Vars};
 
-/// Writes the text of a tuple at the front of `into`, and answers its length in bytes: `()`, or
-/// `NAME=[NUM,NUM)` for each variable in number order, `NAME=-` where it has no span, with a comma
-/// between each two. What it writes is read as the same tuple. Takes no memory.
+/// Writes the text of a tuple at the start of `into`, and returns its length in bytes. The text is `()`, or
+/// `NAME=[NUM,NUM)` for each variable in number order, `NAME=-` if it has no span, with a comma between each two. It is
+/// read as the same tuple. Allocates nothing.
 pub fn print(tuple: &Tuple, vars: &Vars, into: &mut [u8]) -> usize
     requires room { 800 ≤ length into.old }
     requires counts { length vars.now ≡ length tuple.now }

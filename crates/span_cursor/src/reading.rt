@@ -20,7 +20,7 @@ pub enum TupleRefusal {
     OtherVariables,
 }
 
-/// The tuple of these variables that a text is.
+/// The tuple of these variables with this text.
 fn read_for(text: &[u8], vars: &Vars) -> Option<Tuple>
     ensures { MatchOption result
         ((values : List (Option Span)) → TupleText text.now vars.now values → ⊥)
@@ -74,16 +74,16 @@ fn is_tuple_text(text: &[u8]) -> bool
     are_more(rest)
 }
 
-/// The tuple of these variables that a text is: `()`, or one or more entries with a comma between
-/// each two, where an entry is `NAME=[NUM,NUM)`, or `NAME=-` for a variable without a span. The
-/// first number is at least 1 and at most the second, which is at most 2^48 + 1.
+/// The tuple of these variables with this text. The text is `()`, or one or more entries with a comma between each two,
+/// where an entry is `NAME=[NUM,NUM)`, or `NAME=-` for a variable without a span. The first number is at least 1 and at
+/// most the second, which is at most 2^48 + 1.
 ///
-/// Takes two passes over the text at most, and no memory.
+/// Takes at most two passes over the text, and allocates nothing.
 ///
 /// # Errors
 ///
-/// - `BadTuple` exactly where the text is not of this form, whatever the names.
-/// - `OtherVariables` exactly where it is, and its names are not those of the variables in number order.
+/// - `BadTuple` exactly if the text is not of this form, whatever the names.
+/// - `OtherVariables` exactly if it is, and its names are not those of the variables in number order.
 pub fn read(text: &[u8], vars: &Vars) -> Result<Tuple, TupleRefusal>
     ensures ok { IfOk result (λ tuple. TupleText text.now vars.now tuple) }
     ensures read_back { (tuple : List (Option Span)) → TupleText text.now vars.now tuple → result ≡ Ok tuple }
