@@ -1,4 +1,4 @@
--- What the walk to the next answer finds.
+-- What the search for the next answer finds.
 use Rattle.std.specs.Prelude.{◌≡◌, List, Option, Some}
 use Rattle.span_enum.specs.Members.{Tuple, IsFirstMember, NoMemberLeft}
 use Rattle.span_enum.specs.Trail.{whole_text, IsTrail, IsTrailOf, IsStateAt}

@@ -25,7 +25,7 @@ pub record AcceptsWord (a : DeterministicAutomaton) (s : List ℕ) (t : Tuple) :
   pub lies : Lies (length s) t
   pub ends : reached a 0 (word_of t s) ≡ Some 0
 
--- the text may end in the state with the tuple's mark at this position, and nothing stands past it
+-- the text may end in the state with the tuple's mark at this position, and the tuple has no bound past it
 pub record AcceptsEnd (a : DeterministicAutomaton) (state : Option ℕ) (t : Tuple) (end : ℕ) : Type 0 where
   pub lies : reaches (end + 1) t ≡ false
   pub ends : and_then state (λ q. step_of a q (end_mark t end) 256) ≡ Some 0

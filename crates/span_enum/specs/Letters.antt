@@ -4,7 +4,7 @@ use Rattle.std.specs.List.{list_any}
 use Rattle.span_types.specs.Words.{Marked}
 use Rattle.marker_dfa.specs.Deterministic.{DeterministicAutomaton, next_of, ends_of, path}
 
--- state 0, where the mark is in the list
+-- state 0, if the mark is in the list
 abbrev pub end_in : List ℕ → ℕ → Option ℕ
 end_in ms m = if list_any (λ x. x == m) ms then Some 0 else None
 

@@ -16,7 +16,7 @@ pub record IsMember (a : DeterministicAutomaton) (s : List ℕ) (t : Tuple) : Ty
   pub lies : Lies (length s) t
   pub accepted : PathAccepts a (marked_text s t)
 
--- AnswersOf: the rising list of exactly the members
+-- AnswersOf: the list of exactly the members, in mark order
 pub record AreAnswersOf (a : DeterministicAutomaton) (s : List ℕ) (ts : List Tuple) : Type 0 where
   pub rising : IsRising ts
   pub members : (t : Tuple) → Contains ts t ↔ IsMember a s t

@@ -1,4 +1,4 @@
--- How the first marked text over two joined texts goes over the first of them.
+-- How the first marked text over two joined texts passes the first of them.
 use Rattle.std.specs.Prelude.{◌≡◌, ℕ, true, List, bit_and, Some}
 use Rattle.marker_dfa.specs.Deterministic.{DeterministicAutomaton}
 use Rattle.state_tables.specs.StateSet.{member}

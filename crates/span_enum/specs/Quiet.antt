@@ -25,7 +25,7 @@ pub record IsQuiet (a : DeterministicAutomaton) (q : ℕ) (s : List ℕ) (goals 
   pub sole : (w : Marked) (r : ℕ) → bytes_of w ≡ s → reached a q w ≡ Some r → member goals r ≡ true → w ≡ plain s
   pub unmarked : EndsQuietly a last
 
--- so it is from each state of the set
+-- the same for each state of the set
 abbrev pub AreQuiet : DeterministicAutomaton → ℕ → List ℕ → ℕ → Type 0
 AreQuiet a quiet s goals = (q : ℕ) → member quiet q ≡ true → IsQuiet a q s goals
 
@@ -50,7 +50,7 @@ pub record LeadsQuiet (a : DeterministicAutomaton) (p : ℕ) (s u : List ℕ) (g
   pub goal : member quiet next ≡ true
   pub sole : (w : Marked) (r : ℕ) → bytes_of w ≡ u → reached a q w ≡ Some r → member goals r ≡ true → w ≡ plain u
 
--- so it is with each state of the set
+-- the same for each state of the set
 abbrev pub LeadQuiet : DeterministicAutomaton → ℕ → List ℕ → List ℕ → ℕ → ℕ → ℕ → Type 0
 LeadQuiet a p s u goals quiet set = (q : ℕ) → member set q ≡ true → LeadsQuiet a p s u goals quiet q
 

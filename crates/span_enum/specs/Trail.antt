@@ -30,7 +30,8 @@ use Rattle.span_enum.specs.declared.trail.Turn.{Turn}
 use Rattle.span_enum.specs.declared.walk.Lowered.{Lowered}
 use Rattle.span_enum.specs.declared.answers.Found.{Found}
 
--- the tables are those of the automaton, the root is there, the final states are known, and the quiet ones among them
+-- the tables are those of the automaton, the root is there, and the final states and the quiet ones among them are
+-- known
 pub record IsGround (g : Ground) : Type 0 where
   pub ready : IsReady g.dfa.now g.view.store.now g.view.tables.now g.root
   pub automaton : IsDeterministic g.dfa.now
@@ -48,21 +49,21 @@ text_at g id = text (tree g.view.store.now id)
 abbrev pub height_at : Ground → ℕ → ℕ
 height_at g id = height (tree g.view.store.now id)
 
--- a node ahead is one of the store, with its look, and stands in a text that isn't too long
+-- a node ahead is one of the store, with its length and table, and its text ends within the limit
 pub record IsAhead (g : Ground) (h : Ahead) : Type 0 where
   pub live : h.id.index < length g.view.store.now
   pub look : IsLook g.view.store.now g.view.tables.now h.id.index h.look.node h.look.len h.look.table.now
   pub positive : 1 ≤ h.at
   pub low : h.at + length (text_at g h.id.index) ≤ 281474976710657
 
--- the list has h at this place, counted from 1, and what h names as the next one stands before it
+-- the list has h at this index, counted from 1, and the node that h names as the next one comes before it
 pub record HasAhead (hs : List (Option Ahead)) (place : ℕ) (h : Ahead) : Type 0 where
   pub before : ℕ
   pub counted : place ≡ suc before
   pub there : slice_get hs before ≡ Some (Some h)
   pub earlier : h.next ≤ before
 
--- the nodes ahead, from the one with this place in the list on
+-- the nodes ahead, from the one with this index in the list on
 abbrev pub AreAhead : List (Option Ahead) → ℕ → List Ahead → Type 0
 AreAhead hs place [] = place ≡ 0
 AreAhead hs place (h ∷ c) = HasAhead hs place h × AreAhead hs h.next c
@@ -84,11 +85,11 @@ AreGoals g p s [] = Unit {0}
 AreGoals g p s (h ∷ c) = IsAhead g h × AreBetween g.dfa.now p (s ++ text_at g h.id.index) (text_ahead g c) g.finals h.goals × AreGoals g p (s ++ text_at g h.id.index) c
     × AreQuiet g.dfa.now h.quiet (text_ahead g c) g.finals
 
--- where the place is told to be quiet, the rest has no marks
+-- if the place is marked as quiet, the rest has no marks
 abbrev pub IsQuietPlace : Ground → Place → List Ahead → Type 0
 IsQuietPlace g place c = place.quiet ≡ true → IsQuiet g.dfa.now place.state (text_ahead g c) g.finals
 
--- at this position the walk stands in a state, and these are the nodes ahead
+-- at this position the walk is in a state, and these are the nodes ahead
 pub record Stands (g : Ground) (hs : List (Option Ahead)) (at : ℕ) (place : Place) (c : List Ahead) : Type 0 where
   pub ahead : AreAhead hs place.next c
   pub join : Join g at c
@@ -100,11 +101,11 @@ pub record Stands (g : Ground) (hs : List (Option Ahead)) (at : ℕ) (place : Pl
 abbrev pub CanEnd : Ground → ℕ → List Ahead → Type 0
 CanEnd g p c = CanRun g.dfa.now p (text_ahead g c) g.finals
 
--- and with at most so many
+-- the rest is accepted with at most `most` marks
 abbrev pub AtMost : Ground → ℕ → List Ahead → ℕ → Type 0
 AtMost g p c most = (w : Marked) (r : ℕ) → bytes_of w ≡ text_ahead g c → reached g.dfa.now p w ≡ Some r → member g.finals r ≡ true → mark_count w ≤ most
 
--- what the walk needs to go on
+-- what the walk needs to continue
 pub record CanGo (g : Ground) (hs : List (Option Ahead)) (place : Place) : Type 0 where
   pub at : ℕ
   pub chain : List Ahead
@@ -138,7 +139,7 @@ pub record PassesPlain (g : Ground) (hs : List (Option Ahead)) (at : ℕ) (from 
   pub can : CanEnd g to.state passes.back
   pub first : GoesFirst g from.state c (plain passes.front) to.state passes.back
 
--- the walk stands in this state before a node, behind which are these
+-- the walk is in this state before a node, after which these come
 pub record StandsBefore (g : Ground) (hs : List (Option Ahead)) (h : Ahead) (q : ℕ) (c : List Ahead) : Type 0 where
   pub ahead : AreAhead hs h.next c
   pub join : Join g h.at (h ∷ c)
@@ -161,7 +162,7 @@ pub record Way (g : Ground) (hs : List (Option Ahead)) (at q : ℕ) (c : List Ah
   pub at_is : m.at ≡ at + length front
   pub is_mark : IsMark g hs m back
 
--- behind the mark the rest is accepted
+-- after the mark the rest is accepted
 pub record GoesOn (g : Ground) (m : Mark) (to : Place) (back : List Ahead) : Type 0 where
   pub some : 0 < m.mark
   pub step : step_of g.dfa.now m.state m.mark m.byte ≡ Some to.state
@@ -175,7 +176,7 @@ pub record Meets (g : Ground) (hs : List (Option Ahead)) (at q : ℕ) (c : List 
   pub on : GoesOn g m to way.back
   pub first : GoesFirst g q c (plain way.front ++ (m.mark, m.byte) ∷ []) to.state way.back
 
--- a node this far behind the base is as much lower than the tallest tree
+-- a node this far after the base is as much lower than the tallest tree
 abbrev pub FitsAt : Ground → ℕ → Option Ahead → Type 0
 FitsAt g n None = ⊥
 FitsAt g n (Some h) = height_at g h.id.index + n ≤ 68
@@ -184,7 +185,7 @@ FitsAt g n (Some h) = height_at g h.id.index + n ≤ 68
 abbrev pub Fits : Ground → ℕ → List (Option Ahead) → Type 0
 Fits g base hs = (k : ℕ) (o : Option Ahead) → base ≤ k → slice_get hs k ≡ Some o → FitsAt g (k - base) o
 
--- the walk may go down into the node: there is room for a mark and for what stands beside the way to it
+-- the walk may descend into the node: there is room for a mark and for the nodes beside the path to it
 pub record CanGoDown (g : Ground) (h : Ahead) (q base : ℕ) (marks : List Mark) (marks_room : ℕ) (hs : List (Option Ahead)) (ahead_room : ℕ) : Type 0 where
   pub is_ahead : IsAhead g h
   pub state : q < states_of g.dfa.now
@@ -204,7 +205,7 @@ pub record IsOver (g : Ground) (h : Ahead) (position : ℕ) : Type 0 where
 abbrev pub mark_over : Ahead → ℕ → ℕ → ℕ → ℕ → Mark
 mark_over h byte state mark base = record { at = h.at; mark = mark; byte = byte; state = state; goals = h.goals; next = h.next; base = base }
 
--- a mark is kept, and the nodes beside the way down to it are put ahead
+-- a mark is kept, and the nodes beside the path down to it are put ahead
 pub record Keeps (g : Ground) (base : ℕ) (marks more : List Mark) (old new : List (Option Ahead)) : Type 0 where
   pub mark : Mark
   pub kept : more ≡ marks ++ mark ∷ []
@@ -213,19 +214,19 @@ pub record Keeps (g : Ground) (base : ℕ) (marks more : List Mark) (old new : L
   pub ahead : new ≡ old ++ beside
   pub fits : Fits g base new
 
--- the way down to the first mark was laid
+-- the path down to the first mark was added
 pub record Descends (g : Ground) (h : Ahead) (q base : ℕ) (marks more : List Mark) (old new : List (Option Ahead)) (before after : ℕ) (out out' : Tuple) (to : Place) : Type 0 where
   pub keeps : Keeps g base marks more old new
   pub meets : (c : List Ahead) → StandsBefore g old h q c → CanEnd g q (h ∷ c) → Meets g new h.at q (h ∷ c) keeps.mark to
   pub written : out' ≡ write_mark keeps.mark.mark keeps.mark.at out
   pub cost : after ≤ before + 2 * height_at g h.id.index
 
--- a word was read, which leads to the state. The text behind it is left
+-- a word was read, which leads to the state. The text after it is left
 pub record Leads (g : Ground) (word : Marked) (q : ℕ) (back : List ℕ) : Type 0 where
   pub parts : whole_text g ≡ bytes_of word ++ back
   pub ends : reached g.dfa.now 0 word ≡ Some q
 
--- m is the mark of the letter behind the word, and its nodes stand in the list from its base on
+-- m is the mark of the letter after the word, and its nodes are in the list from its base on
 pub record IsKept (g : Ground) (word : Marked) (hs : List (Option Ahead)) (m : Mark) : Type 0 where
   pub chain : List Ahead
   pub is_mark : IsMark g hs m chain
@@ -250,7 +251,7 @@ abbrev pub AreKept : Ground → ℕ → Marked → List Mark → List (Option Ah
 AreKept g zero word ms hs = (s : List ℕ) × (word ≡ plain s) × (ms ≡ []) × (length hs ≤ 1)
 AreKept g (suc n) word ms hs = (last : LastKept g word ms hs) × AreKept g n last.before last.others (take last.mark.base hs)
 
--- the walk stands behind a word, and these are the nodes ahead. The marks of the word are kept in the list up to the base
+-- the walk is after a word, and these are the nodes ahead. The marks of the word are kept in the list up to the base
 pub record Behind (g : Ground) (at : ℕ) (place : Place) (base : ℕ) (word : Marked) (ms : List Mark) (hs : List (Option Ahead)) (c : List Ahead) : Type 0 where
   pub at_is : at ≡ length word + 1
   pub stands : Stands g hs at place c
@@ -267,7 +268,7 @@ pub record Begins (g : Ground) (place : Place) (base : ℕ) (word : Marked) (ms 
   pub can : CanEnd g place.state chain
   pub fits : Fits g base hs
 
--- the first marked text behind the word was found and written, and its marks are kept with those of the word
+-- the first marked text after the word was found and written, and its marks are kept with those of the word
 pub record Finds (g : Ground) (from : Place) (word : Marked) (back : List ℕ) (ms : List Mark) (hs : List (Option Ahead)) (before after : ℕ) (r : Option ℕ) (old new : Tuple) : Type 0 where
   pub rest : Marked
   pub state : ℕ
@@ -278,7 +279,7 @@ pub record Finds (g : Ground) (from : Place) (word : Marked) (back : List ℕ) (
   pub count : ℕ
   pub kept : AreKept g count (word ++ rest) ms hs
 
--- the walk can go on behind some word
+-- the walk can continue after some word
 abbrev pub CanFinish : Ground → Place → ℕ → List Mark → List (Option Ahead) → Type 0
 CanFinish g from base marks hs = (word : Marked) × Begins g from base word marks hs
 
@@ -295,7 +296,7 @@ pub record IsFresh (g : Ground) (ms : List Mark) (hs : List (Option Ahead)) : Ty
   pub text_is : text_ahead g chain ≡ whole_text g
   pub one : length hs ≤ 1
 
--- the marks of a part of the tuple's word are kept, behind which nothing that comes after the tuple is accepted
+-- the marks of a part of the tuple's word are kept, after which nothing that comes after the tuple is accepted
 pub record IsTrailOf (g : Ground) (t : Tuple) (ms : List Mark) (hs : List (Option Ahead)) : Type 0 where
   pub read : Marked
   pub left : Marked
@@ -320,7 +321,7 @@ IsStateAt g (Some t) (Some q) = reached g.dfa.now 0 (word_over t 1 (whole_text g
 abbrev pub NoEndAfter : Ground → Tuple → ℕ → Type 0
 NoEndAfter g t end = (q : ℕ) → reached g.dfa.now 0 (word_over t 1 (whole_text g)) ≡ Some q → (m : ℕ) → IsNoMark g.dfa.now q 256 1 (end_mark t end) m
 
--- room for the marks of a tuple of so many variables, and for the nodes ahead of them
+-- room for the marks of a tuple of this many variables, and for the nodes ahead of them
 pub record HasRoom (variables marks ahead : ℕ) : Type 0 where
   pub marks_fit : 2 * variables ≤ marks
   pub ahead_fits : 1 + 69 * (2 * variables) ≤ ahead
@@ -350,20 +351,20 @@ abbrev pub EndsBehind : Ground → ℕ → List Ahead → Type 0
 EndsBehind g position [] = Unit {0}
 EndsBehind g position (h ∷ c) = position < h.at + length (text_at g h.id.index)
 
--- the way down to the position was laid: the tuple's mark there is kept, and the nodes ahead of it
+-- the path down to the position was added: the tuple's mark there is kept, and the nodes ahead of it
 pub record Lays (g : Ground) (t : Tuple) (h : Ahead) (q position base : ℕ) (marks more : List Mark) (old new : List (Option Ahead)) : Type 0 where
   pub keeps : Keeps g base marks more old new
   pub position_is : keeps.mark.at ≡ position
   pub mark_is : keeps.mark.mark ≡ mark_of t position
   pub way : (c : List Ahead) → StandsBefore g old h q c → Way g new h.at q (h ∷ c) keeps.mark
 
--- no run came to the position: no mark is kept, and the nodes up to the base are as before
+-- no run reaches the position: no mark is kept, and the nodes up to the base are unchanged
 pub record Fails (g : Ground) (h : Ahead) (q position base : ℕ) (marks more : List Mark) (old new : List (Option Ahead)) : Type 0 where
   pub dies : Dies g q h.at (text_at g h.id.index) position
   pub kept : more ≡ marks
   pub ahead : take base new ≡ take base old
 
--- one of both
+-- one of the two
 abbrev pub Laid : Ground → Tuple → Ahead → ℕ → ℕ → ℕ → List Mark → List Mark → List (Option Ahead) → List (Option Ahead) → Bool → Type 0
 Laid g t h q position base marks more old new true = Lays g t h q position base marks more old new
 Laid g t h q position base marks more old new false = Fails g h q position base marks more old new
@@ -388,7 +389,8 @@ pub record LowersLast (g : Ground) (ms : List Mark) (l : Lowered) : Type 0 where
   pub at : l.at ≡ mark.at
   pub best : IsGreatestMark g.dfa.now mark.state mark.byte mark.goals mark.mark l.mark l.state
 
--- the last mark is lowered: behind a word that ends with the lower one the first text over the rest makes the next one
+-- the last mark is lowered: after a word that ends with the lower one the first text over the rest is that of the next
+-- answer
 pub record IsTurned (g : Ground) (t : Tuple) (l : Lowered) (turn : Turn) (ms : List Mark) (hs : List (Option Ahead)) : Type 0 where
   pub word : Marked
   pub positive : 1 ≤ l.at

@@ -18,7 +18,7 @@ reaches p [] = false
 reaches p (None ∷ t) = reaches p t
 reaches p (Some q ∷ t) = nat_le p q.end || reaches p t
 
--- the mark at the end of a text, where all that stands past the end counts 1 more
+-- the mark at the end of a text, plus 1 if the tuple has a bound past the end
 unfoldable pub end_mark : Tuple → ℕ → ℕ
 end_mark t p = mark_of t p + (if reaches (p + 1) t then 1 else 0)
 
@@ -30,7 +30,7 @@ word_over t p s = word_from (mark_of t) p s
 abbrev pub word_of : Tuple → List ℕ → Marked
 word_of t s = word_over t 1 s ++ (end_mark t (length s + 1), 256) ∷ []
 
--- a tuple after the marks of a word, whose letters stand from position p on
+-- a tuple after the marks of a word, whose letters have the positions from p on
 abbrev pub write_word : ℕ → Marked → Tuple → Tuple
 write_word p w t = write_marks p (marks_in w) t
 

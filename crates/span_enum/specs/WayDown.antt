@@ -1,4 +1,4 @@
--- The way down to the first mark, level by level.
+-- The path down to the first mark, level by level.
 use Rattle.std.specs.Prelude.{ℕ, ◌+◌, List, Option}
 use Rattle.slp_model.specs.declared.NodeId.{NodeId}
 use Rattle.state_tables.specs.declared.view.Look.{Look}
@@ -10,12 +10,14 @@ use Rattle.span_enum.specs.declared.trail.Ahead.{Ahead}
 use Rattle.span_enum.specs.declared.trail.Mark.{Mark}
 use Rattle.span_enum.specs.declared.trail.Place.{Place}
 
--- the way down from one node goes on at another: a way down from there is, with what lies between, one from the first
+-- the path down from one node continues at another: a path down from there is, with what lies between, one from the
+-- first
 abbrev pub GoesOnAt : Ground → Ahead → ℕ → Ahead → ℕ → ℕ → List Mark → List (Option Ahead) → List (Option Ahead) → ℕ → ℕ → Type 0
 GoesOnAt g from p to q base marks old new before after = (more : List Mark) (last : List (Option Ahead)) (end : ℕ) (out out' : Tuple) (place : Place)
     → Descends g to q base marks more new last after end out out' place → Descends g from p base marks more old last before end out out' place
 
--- the left child of a node ahead, before which these states are known, and behind which the node with this place in the list comes next
+-- the left child of a node ahead: its goals and quiet states are those of `between`, and the node with this index in
+-- the list comes next
 abbrev pub child : Ahead → NodeId → Look → Between → ℕ → Ahead
 child h l left between next = record { id = l; look = left; at = h.at; goals = between.goals; quiet = between.quiet; next = next }
 

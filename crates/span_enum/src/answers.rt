@@ -26,13 +26,13 @@ use std::alloc::Global;
 use std::marker::Model;
 use std::sync::ledger::Ledger;
 
-/// A place in the rising list of the answers of an automaton on a text: that of `start`, `seek` or the last answer given.
-/// Contracts see it as the automaton, the text and the cursor.
+/// A position in the list of the answers of an automaton on a text, in mark order: that of `start`, of `seek` or of the
+/// last answer returned. Contracts see it as the automaton, the text and the cursor.
 ///
 /// The answers are found in the tables of the text's nodes (M. L. Schmid and N. Schweikardt, Spanner evaluation over
 /// SLP-compressed documents, PODS 2021), in mark order, a tuple at a time and without reading the text. The marks of
-/// the last answer are kept with the nodes ahead of them, so the next one costs looks by its distance and not by the height of
-/// the tree.
+/// the last answer are kept with the nodes ahead of them. So the table lookups for a near next answer depend on its
+/// distance and not on the height of the tree.
 #[derive(Drop)]
 pub struct Answers<'a> {
     ground: Ground<'a>,
@@ -55,13 +55,14 @@ impl<'a> Model for Answers<'a> {
 }
 
 impl<'a> Answers<'a> {
-    /// Stands before the first answer. It makes at most one look and takes the memory that `next` will need.
+    /// An iterator before the first answer. It makes at most one table lookup, and allocates the memory that `next`
+    /// will need.
     ///
     /// The view's tables are those of the automaton, and the root is one of its nodes or none.
     ///
     /// # Errors
     ///
-    /// `NoMemory` where room for the marks of an answer, and for 69 nodes ahead of each, wasn't found.
+    /// `NoMemory` if allocation fails, for the marks of an answer and 69 nodes ahead of each.
     pub fn start<L: Ledger>(
         alloc: Global,
         view: View<'a>,
@@ -86,12 +87,13 @@ impl<'a> Answers<'a> {
         })
     }
 
-    /// Stands before the first answer that comes strictly after the tuple, which needn't be an answer and may lie past the
-    /// text. It goes along the tuple's marks, and takes the memory that `next` will need.
+    /// An iterator before the first answer that comes strictly after the tuple, which needn't be an answer and may lie
+    /// outside the text. It follows the tuple's marks with at most 2·B(k, n) table lookups, and allocates the memory
+    /// that `next` will need.
     ///
     /// # Errors
     ///
-    /// `NoMemory` where room for the marks of an answer, and for 69 nodes ahead of each, wasn't found.
+    /// `NoMemory` if allocation fails, for the marks of an answer and 69 nodes ahead of each.
     pub fn seek<L: Ledger>(
         alloc: Global,
         view: View<'a>,
@@ -123,16 +125,16 @@ impl<'a> Answers<'a> {
         })
     }
 
-    /// The last answer given, else the tuple of `seek`, else none.
+    /// The last answer returned. If there is none, the tuple of `seek`, and otherwise none.
     pub fn cursor(&self) -> Option<Tuple>
         ensures { result ≡ self.now.after }
     {
         self.last
     }
 
-    /// The first answer that is left. It takes no memory. After None it answers None for good.
+    /// The next answer. It allocates nothing. After `None` it always returns `None`.
     ///
-    /// It makes at most B(k, n) looks, for k variables and a text of n bytes.
+    /// It makes at most B(k, n) table lookups, for k variables and a text of n bytes.
     pub fn next<L: Ledger>(&mut self, looks: &mut Steps<L>) -> Option<Tuple>
         ensures answer { MatchOption result (NoMemberLeft self.old.automaton self.old.text self.old.after)
             (IsFirstMember self.old.automaton self.old.text self.old.after) }
@@ -161,14 +163,15 @@ impl<'a> Answers<'a> {
     }
 }
 
-/// An answer, and the state after its marks over the text. That may be unknown where the answer has no mark at the end.
+/// An answer, and the state after its marks over the text. The state may be unknown if the answer has no mark at the
+/// end.
 #[derive(Clone, Copy)]
 pub(crate) struct Found {
     pub(crate) tuple: Tuple,
     pub(crate) state: Option<u8>,
 }
 
-/// Puts the root ahead of the first letter, and gives the position behind the text.
+/// Puts the root ahead of the first letter, and returns the position after the text.
 fn put_root<'a, L: Ledger>(ground: &Ground<'a>, trail: &mut Trail<'a>, looks: &mut Steps<L>) -> u64
     requires ground { IsGround ground.now }
     requires ahead { trail.old.ahead.items ≡ [] }
@@ -213,7 +216,7 @@ fn with_end(dfa: &Dfa, q: u8, tuple: Tuple, end: u64) -> Tuple
     }
 }
 
-/// The first answer behind a place, with these marks before it.
+/// The first answer from a place on, with these marks before it.
 fn finish<'a, L: Ledger>(
     ground: &Ground<'a>,
     end: u64,
@@ -244,7 +247,7 @@ fn finish<'a, L: Ledger>(
     }
 }
 
-/// Whether there is an answer, where nothing is read yet.
+/// Whether there is an answer, before anything is read.
 fn has_first(ground: &Ground<'_>, trail: &Trail<'_>) -> bool
     requires ground { IsGround ground.now }
     requires fresh { IsFresh ground.now trail.now.marks.items trail.now.ahead.items }
@@ -287,7 +290,7 @@ fn first_answer<'a, L: Ledger>(
     Some(finish(ground, end, trail, first, count, none, looks))
 }
 
-/// The first answer strictly after the tuple whose marks are kept. From then on those of the answer are.
+/// The first answer strictly after the tuple whose marks are kept. From then on those of the answer are kept.
 fn answer_after<'a, L: Ledger>(
     ground: &Ground<'a>,
     end: u64,
@@ -342,7 +345,7 @@ fn lowered_at_end(ground: &Ground<'_>, end: u64, state: Option<u8>, t: &Tuple) -
     })
 }
 
-/// Whether there is an answer. It makes at most one look and takes no memory.
+/// Whether there is an answer. It makes at most one table lookup and allocates nothing.
 pub fn nonempty<L: Ledger>(
     view: View<'_>,
     dfa: &Dfa,
@@ -364,9 +367,9 @@ pub fn nonempty<L: Ledger>(
     }
 }
 
-/// Whether the tuple is an answer. It takes no memory.
+/// Whether the tuple is an answer. It allocates nothing.
 ///
-/// It makes at most B(k, n) looks, for k variables and a text of n bytes.
+/// It makes at most B(k, n) table lookups, for k variables and a text of n bytes.
 pub fn has<L: Ledger>(
     view: View<'_>,
     dfa: &Dfa,

@@ -25,7 +25,7 @@ pub(crate) fn greatest_end(dfa: &Dfa, q: u8, limit: u32) -> Option<u16>
     None
 }
 
-/// Whether a text may end in the state, and only without a mark: the greatest one is none.
+/// Whether a text may end in the state, and only without a mark, so that the greatest mark is none.
 fn ends_quietly(dfa: &Dfa, q: u8) -> bool
     requires { q < states_of dfa.now }
     ensures { result ≡ true → EndsQuietly dfa.now q }
@@ -69,8 +69,8 @@ fn ends_past(span: Option<Span>, from: u64) -> bool
     }
 }
 
-/// The mark of the tuple at the end of a text. All that stands past the end counts 1 more: then the answer that agrees with
-/// the tuple up to the end comes after it.
+/// The mark of the tuple at the end of a text, plus 1 if the tuple has a bound past the end: then the answer that
+/// agrees with the tuple up to the end comes after it.
 pub(crate) fn end_limit(t: &Tuple, end: u64) -> u32
     requires { end < 2 ^ 60 }
     ensures { result ≡ end_mark t.now end }
@@ -93,7 +93,7 @@ fn may_end(dfa: &Dfa, q: u8, mark: u16) -> bool
     false
 }
 
-/// Whether the text may end in the state with the tuple's mark, and nothing stands past the end.
+/// Whether the text may end in the state with the tuple's mark, and the tuple has no bound past the end.
 pub(crate) fn accepts_end(dfa: &Dfa, state: Option<u8>, tuple: &Tuple, end: u64) -> bool
     requires state { IfSome state (λ q. q < states_of dfa.now) }
     requires low { end < 2 ^ 60 }

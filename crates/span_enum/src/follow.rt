@@ -1,4 +1,4 @@
-//! The way along the marks of a given tuple.
+//! Following the marks of a given tuple.
 ghost use Rattle.std.specs.Prelude.{◌≡◌, ℕ, ◌<◌, ◌≤◌, ◌+◌, ◌*◌, ◌-◌, List, length, true, false, MatchOption};
 ghost use Rattle.span_enum.specs.Trail.{IsGround, Stands, PassesTo, EndsBehind, Dies, text_ahead, whole_text, CanGoDown, IsOver, Laid, CanFollow, Followed, HasRoom, height_at};
 ghost use Rattle.span_enum.specs.declared.trail.Ahead.{Ahead};
@@ -12,7 +12,7 @@ use node_store::Node;
 use span_types::{Steps, Tuple, mark_at};
 use std::sync::ledger::Ledger;
 
-/// Goes over the nodes ahead without marks, up to the one over this position, or to the end.
+/// Passes the nodes ahead without marks, up to the one over this position, or to the end.
 fn pass_to<'a>(ground: &Ground<'a>, trail: &Trail<'a>, from: Place, position: u64) -> Option<Place>
     requires ground { IsGround ground.now }
     requires stands { (at : ℕ) × ((c : List Ahead) × Stands ground.now trail.now.ahead.items at from c × (at ≤ position)
@@ -37,8 +37,8 @@ fn pass_to<'a>(ground: &Ground<'a>, trail: &Trail<'a>, from: Place, position: u6
     Some(place)
 }
 
-/// Goes down to the letter at this position, and keeps the tuple's mark there with the nodes that are then ahead. The answer
-/// is whether a run comes there. If none does, what was put ahead is left to the caller to forget.
+/// Descends to the letter at this position, and keeps the tuple's mark there with the nodes that are then ahead.
+/// Returns whether a run reaches the letter. If none does, the caller removes the nodes that were put ahead.
 fn reach<'a, L: Ledger>(
     ground: &Ground<'a>,
     trail: &mut Trail<'a>,
@@ -80,7 +80,7 @@ fn reach<'a, L: Ledger>(
     }
 }
 
-/// Keeps the marks of the tuple from a position on, as far as a run follows them. The answer is the state at the end of the
+/// Keeps the marks of the tuple from a position on, as far as a run follows them. Returns the state at the end of the
 /// text, if a run follows all of them.
 pub(crate) fn follow<'a, L: Ledger>(
     ground: &Ground<'a>,

@@ -1,4 +1,4 @@
-//! What an enumeration stands on.
+//! The inputs of an enumeration.
 ghost use Rattle.std.specs.Prelude.{◌≡◌};
 ghost use Rattle.span_enum.specs.Listing.{IsReady};
 ghost use Rattle.span_enum.specs.Trail.{IsGround};
@@ -9,8 +9,8 @@ use marker_dfa::Dfa;
 use node_store::NodeId;
 use state_tables::View;
 
-/// An automaton, a way to look at nodes and at their tables of this automaton, the root of the text, and the states in which
-/// a text may end. In the quiet ones it may end only without a mark.
+/// An automaton, a view of nodes and their tables of this automaton, the root of the text, and the states in which a
+/// text may end. In those that are quiet it may end only without a mark.
 #[derive(Clone, Copy)]
 pub(crate) struct Ground<'a> {
     pub(crate) view: View<'a>,

@@ -1,4 +1,4 @@
-//! The way on to the first marked text behind a place.
+//! The search for the first marked text from a place on.
 ghost use Rattle.std.specs.Prelude.{◌≡◌, ℕ, ◌<◌, ◌≤◌, ◌+◌, ◌-◌, ◌++◌, ◌∷◌, [], ◌^◌, true, bit_and, length, max, List, IfSome, MatchOption, Some};
 ghost use Rattle.slp_model.specs.Nodes.{IsNodeAt};
 ghost use Rattle.slp_model.specs.declared.Node.TheVariants.{Byte, Pair};
@@ -53,7 +53,7 @@ fn sole_state(table: &Table, p: u8) -> Option<u8>
     }
 }
 
-/// Goes over the nodes ahead up to the first one over which a run with marks leads into a goal.
+/// Passes the nodes ahead up to the first one over which a run with marks leads into a goal.
 fn pass_plain<'a>(ground: &Ground<'a>, trail: &Trail<'a>, from: Place) -> Place
     requires ground { IsGround ground.now }
     requires go { CanGo ground.now trail.now.ahead.items from }
@@ -75,7 +75,7 @@ fn pass_plain<'a>(ground: &Ground<'a>, trail: &Trail<'a>, from: Place) -> Place
     place
 }
 
-/// Goes on from a node to its right child, whose left sibling has a text of this length.
+/// Moves from a node to its right child, whose left sibling has a text of this length.
 pub(crate) fn go_right<'a>(here: &mut Ahead<'a>, left: u64, r: NodeId, right: &Look<'a>)
     requires { here.old.at + left < 2 ^ 64 }
     ensures { here.new ≡ record {
@@ -92,7 +92,7 @@ pub(crate) fn go_right<'a>(here: &mut Ahead<'a>, left: u64, r: NodeId, right: &L
     here.at += left;
 }
 
-/// Goes on from a node to its left child, and puts the right one ahead.
+/// Moves from a node to its left child, and puts the right one ahead.
 pub(crate) fn go_left<'a>(
     trail: &mut Trail<'a>,
     here: &mut Ahead<'a>,
@@ -124,7 +124,7 @@ pub(crate) fn go_left<'a>(
     here.next = trail.ahead.len();
 }
 
-/// How the first marked text over a pair goes over its left child.
+/// How the first marked text over a pair passes its left child.
 enum OverLeft {
     /// Without marks, into this state.
     Plain(u8),
@@ -132,7 +132,7 @@ enum OverLeft {
     Marked(Between),
 }
 
-/// How the first marked text over a pair goes over its left child, where some run over the pair has marks.
+/// How the first marked text over a pair passes its left child, if some run over the pair has marks.
 fn over_left(ground: &Ground<'_>, here: &Ahead<'_>, left: &Table, right: &Table, p: u8) -> OverLeft
     requires ground { IsGround ground.now }
     requires fork { IsFork ground.now.dfa.now here.now.look.table.now left.now right.now }
@@ -177,7 +177,7 @@ pub(crate) fn keep_mark<'a>(
     });
 }
 
-/// Keeps the greatest mark at a letter, and writes it. The place behind the letter is the answer.
+/// Keeps the greatest mark at a letter, and writes it. Returns the place after the letter.
 fn place_mark<'a>(
     ground: &Ground<'a>,
     trail: &mut Trail<'a>,
@@ -211,7 +211,7 @@ fn place_mark<'a>(
     }
 }
 
-/// Goes on from a pair to the child over which the first marked text has its first mark. The answer is the state before it.
+/// Moves from a pair to the child over which the first marked text has its first mark. Returns the state before it.
 fn go_down<'a, L: Ledger>(
     ground: &Ground<'a>,
     trail: &mut Trail<'a>,
@@ -250,8 +250,8 @@ fn go_down<'a, L: Ledger>(
     }
 }
 
-/// Goes down to the first mark of the first marked text over a node, and keeps it with the nodes that are then ahead. What is
-/// `here` becomes each node on the way in turn.
+/// Descends to the first mark of the first marked text over a node, and keeps it with the nodes that are then ahead.
+/// `here` becomes each node on the path in turn.
 fn descend<'a, L: Ledger>(
     ground: &Ground<'a>,
     trail: &mut Trail<'a>,
@@ -278,8 +278,8 @@ fn descend<'a, L: Ledger>(
     }
 }
 
-/// Writes the marks of the first marked text behind the place, and keeps them. Of the nodes ahead the first `base` stay. The
-/// answer is the state at the end, or none where a quiet state came first: then no mark is left, nor one at the end.
+/// Writes the marks of the first marked text from the place on, and keeps them. Of the nodes ahead the first `base`
+/// stay. Returns the state at the end, or none if a quiet state came first: then no mark is left, not even at the end.
 pub(crate) fn complete<'a, L: Ledger>(
     ground: &Ground<'a>,
     trail: &mut Trail<'a>,
@@ -314,8 +314,8 @@ pub(crate) fn complete<'a, L: Ledger>(
     complete(ground, trail, behind, kept, out, looks)
 }
 
-/// How many nodes stay where the one with this place, counted from 1, is left ahead of nothing: those before it, and at
-/// least the base.
+/// How many nodes stay if the one with this index, counted from 1, is no longer needed: those before it, and at least
+/// `base`.
 fn cut_before(place: usize, base: usize) -> usize
     requires { 0 < place }
     ensures base { base ≤ result }

@@ -1,4 +1,4 @@
-//! Sets of states, walked bit by bit.
+//! Sets of states, visited bit by bit.
 ghost use Rattle.std.specs.Prelude.{◌≡◌, ◌≢◌, ℕ, ◌<◌, ◌≤◌, ◌^◌, length, true, false, List};
 ghost use Rattle.marker_dfa.specs.Deterministic.{states_of};
 ghost use Rattle.state_tables.specs.StateSet.{member};
@@ -15,7 +15,8 @@ use marker_dfa::Dfa;
 use state_tables::Table;
 use state_tables::state_set::{holds, single};
 
-/// States between two texts: those from which the second one leads into a goal, and of them those known to be quiet.
+/// States between two texts: those from which the second one leads into a goal, and those of them that are known to be
+/// quiet.
 #[derive(Clone, Copy)]
 pub(crate) struct Between {
     pub(crate) goals: u128,
@@ -58,8 +59,8 @@ fn reached(table: &Table, p: u8) -> u128
     table.marked(p) | single(table.unmarked(p))
 }
 
-/// Whether some run over the text leads from `p` into a goal, and whether that one alone does which has no marks, and leads
-/// into a quiet state.
+/// Whether some run over the text leads from `p` into a goal, and whether the only such run has no marks and leads into
+/// a quiet state.
 fn way_on(table: &Table, p: u8, goals: u128, quiet: u128) -> Way
     requires { p < length table.now }
     ensures leads { result.leads ≡ can_reach_of table.now p goals }
@@ -102,8 +103,8 @@ fn goals_among(table: &Table, from: u128, goals: u128, quiet: u128) -> Between
     }
 }
 
-/// The states reached from `p` over the left child of a node from which the right one leads into its goals, and the quiet ones
-/// among them: only these few are tested.
+/// The states reached from `p` over the left child of a node from which the right one leads into its goals, and the
+/// quiet ones among them. Only these few are tested.
 pub(crate) fn goals_between(
     dfa: &Dfa,
     here: &Ahead<'_>,

@@ -15,10 +15,10 @@ use span_types::{NoMemory, Tuple};
 use state_tables::Look;
 use std::alloc::Global;
 
-/// A node ahead of a letter: the right sibling of a node on the way down to it. With it are the place of its first letter, the
-/// states after it from which the rest of the text is accepted, the quiet ones among them, as far as they are known: from these
-/// it is accepted without marks alone; and the node that comes next: its place in the list, counted from 1, or 0 where the text
-/// ends.
+/// A node ahead of a letter: the right sibling of a node on the path down to it. It has the position of its first
+/// letter, its goals, its quiet states, and the node that comes next. The goals are the states after it from which the
+/// rest of the text is accepted. The quiet ones, as far as they are known, are those from which it is accepted without
+/// marks and only so. The next node is an index in the list, counted from 1, or 0 at the end of the text.
 #[derive(Clone, Copy)]
 pub(crate) struct Ahead<'a> {
     pub(crate) id: NodeId,
@@ -29,8 +29,8 @@ pub(crate) struct Ahead<'a> {
     pub(crate) next: usize,
 }
 
-/// A mark of the last answer: its letter, the state before the letter, the states after it from which the rest is accepted,
-/// the node that comes next, and how many nodes were kept before the way down to it was laid.
+/// A mark of the last answer: its letter, the state before the letter, the states after it from which the rest is
+/// accepted, the node that comes next, and how many nodes were kept before the path down to it was added.
 #[derive(Clone, Copy, Default)]
 pub(crate) struct Mark {
     pub(crate) at: u64,
@@ -42,7 +42,8 @@ pub(crate) struct Mark {
     pub(crate) base: usize,
 }
 
-/// Where the walk stands between two letters: its state, the node that comes next, and whether the state is known to be quiet.
+/// The state of the walk between two letters: the automaton's state, the node that comes next, and whether the state is
+/// known to be quiet.
 #[derive(Clone, Copy)]
 pub(crate) struct Place {
     pub(crate) state: u8,
@@ -50,22 +51,22 @@ pub(crate) struct Place {
     pub(crate) quiet: bool,
 }
 
-/// The node that comes next behind a mark that was lowered, and how many nodes the marks before it need.
+/// The node that comes next after a mark that was lowered, and how many nodes the marks before it need.
 #[derive(Clone, Copy)]
 pub(crate) struct Turn {
     pub(crate) next: usize,
     pub(crate) base: usize,
 }
 
-/// The marks of the last answer, and the nodes ahead of them. Every node is there: it is an option since a `SmallVec` puts a
-/// default value in place of what it removes.
+/// The marks of the last answer, and the nodes ahead of them. Every entry has a node. It is an option since a
+/// `SmallVec` writes a default value in place of what it removes.
 #[derive(Drop)]
 pub(crate) struct Trail<'a> {
     pub(crate) marks: SmallVec<Mark, 0>,
     pub(crate) ahead: SmallVec<Option<Ahead<'a>>, 0>,
 }
 
-/// More nodes than stand beside the way down in the tallest tree.
+/// The maximum number of nodes beside the path down in the tallest tree, and one more.
 const BESIDE: usize = 69;
 
 /// Nothing kept, with room for the answers of this many variables.
@@ -83,7 +84,7 @@ pub(crate) fn empty_trail<'a>(alloc: Global, variables: u8) -> Result<Trail<'a>,
     Ok(Trail { marks, ahead })
 }
 
-/// The node with this place in the list, counted from 1.
+/// The node with this index in the list, counted from 1.
 pub(crate) fn ahead_at<'t, 'a>(trail: &'t Trail<'a>, place: usize) -> &'t Ahead<'a>
     requires { (before : ℕ) × ((h : Ahead) × (place ≡ suc before) × (slice_get trail.now.ahead.items before ≡ Some (Some h))) }
     ensures { (before : ℕ) → place ≡ suc before → slice_get trail.now.ahead.items before ≡ Some (Some result.now) }
@@ -102,7 +103,7 @@ pub(crate) fn last_of<'t>(trail: &'t Trail<'_>) -> &'t Mark
     &trail.marks.as_slice()[trail.marks.len() - 1]
 }
 
-/// Forgets the last mark and the way down to it.
+/// Removes the last mark and the path down to it.
 fn forget_last(ground: &Ground<'_>, trail: &mut Trail<'_>, last: Mark, t: &Tuple)
     requires ground { IsGround ground.now }
     requires trail { IsTrailOf ground.now t.now trail.old.marks.items trail.old.ahead.items }
@@ -118,7 +119,7 @@ fn forget_last(ground: &Ground<'_>, trail: &mut Trail<'_>, last: Mark, t: &Tuple
     trail.marks.truncate(count - 1);
 }
 
-/// The last mark that can be lowered, with the lower one. Those behind it are forgotten.
+/// The last mark that can be lowered, with the lower one. The marks after it are removed.
 pub(crate) fn lower_last(ground: &Ground<'_>, trail: &mut Trail<'_>, t: &Tuple) -> Option<Lowered>
     requires ground { IsGround ground.now }
     requires trail { IsTrailOf ground.now t.now trail.old.marks.items trail.old.ahead.items }
@@ -150,7 +151,7 @@ pub(crate) fn lower_last(ground: &Ground<'_>, trail: &mut Trail<'_>, t: &Tuple) 
     None
 }
 
-/// Puts the lower mark in place of the last one, or takes that away where the lower one is none.
+/// Replaces the last mark by the lower one, or removes it if the lower one is none.
 pub(crate) fn lower_to(
     ground: &Ground<'_>,
     trail: &mut Trail<'_>,

@@ -121,7 +121,7 @@ pub(crate) fn is_marked_between(t: &Tuple, from: u64, to: u64) -> bool
     false
 }
 
-/// Whether a span starts or ends there.
+/// Whether a span starts or ends from `from` on and before `to`.
 fn is_bound_between(span: Option<Span>, from: u64, to: u64) -> bool
     ensures some { result ≡ true → IsBoundBetween span from to }
     ensures none { result ≡ false → (p : ℕ) → from ≤ p → p < to → IsBound span p → ⊥ }
@@ -180,7 +180,7 @@ pub(crate) struct Lowered {
     pub(crate) state: u8,
 }
 
-/// The state after the tuple's marks over the node, whose first letter stands at `at`.
+/// The state after the tuple's marks over the node, whose first letter has position `at`.
 pub(crate) fn state_over<L: Ledger>(
     view: &View<'_>,
     dfa: &Dfa,

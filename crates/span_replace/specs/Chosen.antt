@@ -3,7 +3,7 @@ use Rattle.std.specs.Prelude.{ℕ, nat_le, List, [], ◌∷◌, Some, None, if�
 use Rattle.span_types.specs.declared.tuple.Span.{Span}
 use Rattle.span_enum.specs.Members.{Tuple}
 
--- the spans of the first variable in their order, of the tuples that give it one
+-- the spans of the first variable in their order, of the tuples that have one
 abbrev pub spans_in : List Tuple → List Span
 spans_in [] = []
 spans_in ([] ∷ ts) = spans_in ts
@@ -15,6 +15,6 @@ abbrev pub chosen_from : ℕ → List Span → List Span
 chosen_from p [] = []
 chosen_from p (q ∷ qs) = if nat_le p q.start then q ∷ chosen_from q.end qs else chosen_from p qs
 
--- Chosen, of the rising list of all answers of one variable
+-- Chosen, of the list of all answers of one variable in mark order
 abbrev pub chosen : List Tuple → List Span
 chosen all = chosen_from 1 (spans_in all)

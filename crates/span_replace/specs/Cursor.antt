@@ -1,13 +1,13 @@
--- After which span the next one is sought.
+-- After which span the next one is searched.
 use Rattle.std.specs.Prelude.{ℕ, ◌-◌, nat_lt, List, [], ◌∷◌, Some, Option, if◌then◌else◌}
 use Rattle.span_types.specs.declared.tuple.Span.{Span}
 use Rattle.span_enum.specs.Members.{Tuple, IsMember, IsLeft}
 use Rattle.marker_dfa.specs.Deterministic.{DeterministicAutomaton}
 
--- after `[i,j)` with i < j no other span that starts before j is wanted, and after `[i,i)` all that follow are
+-- after `[i,j)` with i < j no other span that starts before j is chosen, and after `[i,i)` all that follow may be
 abbrev pub past : Span → Span
 past q = if nat_lt q.start q.end then record { start = q.end - 1; end = 281474976710657 } else q
 
--- no member that gives its one variable a span is left
+-- no member that has a span of its one variable is left
 abbrev pub NoSpanLeft : DeterministicAutomaton → List ℕ → Option Tuple → Type 0
 NoSpanLeft a s cursor = (q : Span) → IsMember a s (Some q ∷ []) → IsLeft cursor (Some q ∷ []) → ⊥

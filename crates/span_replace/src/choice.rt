@@ -20,21 +20,22 @@ use state_tables::View;
 use std::alloc::Global;
 use std::sync::ledger::Ledger;
 
-/// The most spans that are chosen.
+/// The maximum number of spans that are chosen.
 const MOST: usize = 32768;
 
 /// The greatest position in a text.
 const LAST: u64 = 281474976710657;
 
-/// Chosen of the root's text: the first answer that is a span, and after each span taken the first answer that comes later in
-/// mark order and starts at or past its end.
+/// The chosen spans of the root's text: the first answer that is a span, and after each chosen span the first answer
+/// that comes later in mark order and starts at or past its end.
 ///
-/// The automaton has one variable, the view's tables are those of the automaton, and the root is one of its nodes or none. It
-/// makes at most 3·(c+1)·B(1, n) looks, where c is the number of chosen spans, or 32,768 where there are more.
+/// The automaton has one variable, the view's tables are those of the automaton, and the root is one of its nodes or
+/// none. It makes at most 3·(c+1)·B(1, n) table lookups, where c is the number of chosen spans, or 32,768 if there are
+/// more.
 ///
 /// # Errors
 ///
-/// `TooManyMatches` exactly where there are more than 32,768 chosen spans, and `NoMemory`.
+/// `TooManyMatches` exactly if there are more than 32,768 chosen spans, and `NoMemory` if allocation fails.
 pub fn chosen<L: Ledger>(
     alloc: Global,
     view: View<'_>,
@@ -64,7 +65,7 @@ pub fn chosen<L: Ledger>(
     Ok(Chosen { spans })
 }
 
-/// A look at the root shows that its text isn't too long, so that no position is past the greatest one.
+/// Looks up the root, which shows that its text isn't too long, so that no position is past the greatest one.
 fn check_text<L: Ledger>(view: &View<'_>, dfa: &Dfa, root: Option<NodeId>, looks: &mut Steps<L>)
     requires { IsReady dfa.now view.now.store.now view.now.tables.now root }
     ensures short { length (text_of view.now.store.now root) ≤ 281474976710656 }
@@ -95,7 +96,7 @@ fn first_span<L: Ledger>(
     Ok(next_span(&mut answers, looks))
 }
 
-/// The first answer that is a span and comes after the one that was taken, at or past its end.
+/// The first answer that is a span and comes after the one that was chosen, at or past its end.
 fn span_after<L: Ledger>(
     alloc: Global,
     view: View<'_>,
@@ -117,7 +118,7 @@ fn span_after<L: Ledger>(
     Ok(next_span(&mut answers, looks))
 }
 
-/// The tuple after which the next span is sought.
+/// The tuple after which the next span is searched.
 fn cursor_past(taken: Span) -> Tuple
     requires { IsSpan taken }
     ensures { result ≡ Some (past taken) ∷ [] }
@@ -125,7 +126,7 @@ fn cursor_past(taken: Span) -> Tuple
     Tuple::none(1).with_span(0, Some(span_past(taken)))
 }
 
-/// The last span that starts before the end of this one, or this one where it is empty.
+/// The last span that starts before the end of this one, or this one if it is empty.
 fn span_past(taken: Span) -> Span
     requires { IsSpan taken }
     ensures value { result ≡ past taken }

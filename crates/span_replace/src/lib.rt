@@ -1,16 +1,17 @@
-//! Replacement of chosen spans: where a query of one variable matches, another text is put.
+//! Replacement of chosen spans: the parts of a text that a query of one variable matches are replaced by another text.
 //!
-//! `chosen` goes over the answers of an automaton of one variable on a compressed text from the left, and takes each span
-//! that starts at or past the end of the last one taken. `replaced` puts a text in the place of each, by cuts and joins of the
-//! compressed text, so the parts between the spans stay shared. For `abracadabra`, the query `.*$x{a}.*` and the text `X`:
+//! `chosen` visits the answers of an automaton of one variable on a compressed text from the left, and takes each span
+//! that starts at or past the end of the last one taken. `replaced` replaces each of these spans by a text, by splits
+//! and joins of the compressed text, so the parts between the spans stay shared. For `abracadabra`, the query
+//! `.*$x{a}.*` and the text `X`:
 //!
 //! ```text
 //! let spans = chosen(alloc, view, &dfa, root, &mut looks)?;            // [1,2) [4,5) [6,7) [8,9) [11,12)
 //! let root = replaced(&mut store, root, &spans, by, &mut pairs)?;      // XbrXcXdXbrX
 //! ```
 //!
-//! With c spans and a text of n bytes, choosing makes at most 3·(c+1)·B(1, n) looks at tables, and replacing at most
-//! 1,770·(c+1) pairs, neither of which grows with n but by the height of its tree.
+//! With c spans and a text of n bytes, choosing makes at most 3·(c+1)·B(1, n) table lookups, which is O(c·log n).
+//! Replacing makes at most 1,770·(c+1) calls to `pair`.
 //!
 //! The answers are found as in M. L. Schmid and N. Schweikardt, Spanner evaluation over SLP-compressed documents (PODS 2021),
 //! and the text is edited as in their Query evaluation over SLP-represented document databases with complex document editing

@@ -14,7 +14,7 @@ pub enum ReplaceRefusal {
     /// The result would have `len` bytes, which is over 2^48.
     #[error("a text of {len} bytes is too long")]
     TooLong { len: u64 },
-    /// No memory was found.
+    /// Allocation failed.
     #[error("no memory")]
     NoMemory,
 }

@@ -14,18 +14,19 @@ use slp_split::split;
 use span_types::{NoMemory, Span, Steps};
 use std::sync::ledger::Ledger;
 
-/// The most bytes that a text has.
+/// The maximum length of a text, in bytes.
 const LONGEST: u64 = 1 << 48;
 
-/// A root of Replaced: the root's text with each of the spans, from the left, replaced by the text of `by`.
+/// A root of the text with replaced spans: the root's text with each of the spans, from the left, replaced by the text
+/// of `by`.
 ///
-/// Both roots are live, the spans lie in the text, and each starts at or past the end of the one before. At most 1,770·(c+1)
-/// pair calls are made for c spans. After NoMemory the store may have more nodes.
+/// Both roots are live, the spans lie in the text, and each starts at or past the end of the one before. At most
+/// 1,770·(c+1) calls to `pair` are made for c spans. After `NoMemory` the store may have more nodes.
 ///
 /// # Errors
 ///
-/// `TooLong` with the length of the result, which is at most 2^63 + 2^48, exactly where that is over 2^48, and before any pair
-/// call; and `NoMemory`.
+/// `TooLong` exactly if the length of the result is over 2^48. It has that length, which is at most 2^63 + 2^48, and is
+/// returned before any call to `pair`. `NoMemory` if allocation fails.
 pub fn replaced<L: Ledger>(
     store: &mut Store,
     root: Option<NodeId>,
@@ -50,7 +51,7 @@ pub fn replaced<L: Ledger>(
     Ok(whole)
 }
 
-/// The length of the result, for a text of `len` bytes and one of `by` bytes in the place of each span.
+/// The length of the result, for a text of `len` bytes and one of `by` bytes in place of each span.
 fn replaced_len(spans: &[Span], len: u64, by: u64) -> u64
     requires apart { AreApart len spans.now }
     requires few { length spans.now ≤ 32768 }
@@ -68,7 +69,7 @@ fn replaced_len(spans: &[Span], len: u64, by: u64) -> u64
     done + (len + 1 - at)
 }
 
-/// How far the text is done: the front of the result, and the rest of the text from position `at` on.
+/// The progress: the finished start of the result, and the rest of the text from position `at` on.
 #[derive(Clone, Copy)]
 struct Progress {
     done: Option<NodeId>,
@@ -104,7 +105,8 @@ fn replace_all<L: Ledger>(
     join(store, work.done, work.rest, pairs)
 }
 
-/// The next span of the rest is replaced. A short piece is made first, so that the long front is joined but once.
+/// Replaces the next span of the rest. A short piece is built first, so that the long start of the result is joined
+/// only once.
 fn replace_next<L: Ledger>(
     store: &mut Store,
     work: Progress,
@@ -156,7 +158,7 @@ fn cut<L: Ledger>(
     split(store, root, count + 1, pairs)
 }
 
-/// A root of the one text and then the other.
+/// A root of one text followed by the other.
 fn join<L: Ledger>(
     store: &mut Store,
     left: Option<NodeId>,
@@ -176,7 +178,7 @@ fn join<L: Ledger>(
     concat(store, left, right, pairs)
 }
 
-/// The length of a root's text, which is low enough for cuts and joins in few steps.
+/// The length of a root's text, whose tree is low enough for splits and joins in few steps.
 fn root_len(store: &Store, root: Option<NodeId>) -> u64
     requires { IsLive store.now root }
     ensures len { result ≡ length (text_of store.now root) }

@@ -1,8 +1,8 @@
--- How the rows of a table are kept: in one list a byte for each unmarked step, and in another the marked sets.
+-- How the rows of a table are stored: in one list a byte for each unmarked step, and in another the marked sets.
 use Rattle.std.specs.Prelude.{ℕ, zero, suc, List, [], ◌∷◌, Option, Some, None}
 use Rattle.state_tables.specs.Table.{Row}
 
--- 0 for no state, and else one more than the state
+-- 0 for no state, and otherwise one more than the state
 abbrev pub code_of : Option ℕ → ℕ
 code_of None = 0
 code_of (Some q) = suc q

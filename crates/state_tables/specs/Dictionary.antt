@@ -13,11 +13,11 @@ pub record Dictionary : Type 0 where
   pub numbers : List ℕ
   pub room : ℕ
 
--- how many nodes have tables
+-- the number of nodes that have tables
 abbrev pub count_of : Dictionary → ℕ
 count_of d = length d.numbers
 
--- how many tables are kept
+-- the number of kept tables
 abbrev pub distinct_of : Dictionary → ℕ
 distinct_of d = length d.kept
 
@@ -37,7 +37,8 @@ table_of d id = kept_of d (number_of d id)
 abbrev pub AreDistinctTables : List (List Row) → Type 0
 AreDistinctTables kept = (i j : ℕ) (t : List Row) → slice_get kept i ≡ Some t → slice_get kept j ≡ Some t → i ≡ j
 
--- the kept tables as before, or this one more, last: that only where no equal one was there, since no two are equal
+-- the kept tables are unchanged, or this one is added last. Since no two are equal, it is added only if no equal one
+-- was there
 abbrev pub GainsTable : List (List Row) → List (List Row) → List Row → Type 0
 GainsTable old new t = (new ≡ old) ⊎ (new ≡ old ++ t ∷ [])
 
@@ -53,7 +54,7 @@ pub record IsDictionary (d : Dictionary) : Type 0 where
 abbrev pub AreTables : DeterministicAutomaton → List Node → Dictionary → Type 0
 AreTables a nodes d = (id : ℕ) → id < count_of d → IsTable a (text (tree nodes id)) (table_of d id)
 
--- what a look at a node tells
+-- the result of a lookup of a node
 pub record IsLook (nodes : List Node) (d : Dictionary) (id : ℕ) (node : Node) (len : ℕ) (table : List Row) : Type 0 where
   pub node_is : IsNodeAt nodes id node
   pub len_is : len ≡ length (text (tree nodes id))

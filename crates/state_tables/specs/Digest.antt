@@ -1,4 +1,5 @@
--- A number of 128 bits made of a table, by which equal tables are found. It is two numbers of 64 bits, the first one the lower half.
+-- A number of 128 bits computed from a table, by which equal tables are found. It is two numbers of 64 bits, the first
+-- one the lower half.
 use Rattle.std.specs.Prelude.{◌≡◌, ℕ, ◌+◌, ◌-◌, ◌*◌, ◌/◌, ◌%◌, ◌^◌, List, length, bit_and, bit_xor}
 use Rattle.std.specs.List.{fold}
 use Rattle.state_tables.specs.Table.{Row}

@@ -1,4 +1,4 @@
--- What the table of a text says.
+-- The meaning of the table of a text.
 use Rattle.std.specs.Prelude.{◌≡◌, ℕ, ◌<◌, ◌==◌, Bool, true, false, ◌||◌, ◌↔◌, not, List, [], ◌∷◌, map, Some, All}
 use Rattle.span_types.specs.Words.{Marked}
 use Rattle.formula_law.specs.Law.{bytes_of}

@@ -2,7 +2,7 @@
 use Rattle.std.specs.Prelude.{ℕ, ◌==◌, ◌||◌, Bool, true, false, cond, List, [], ◌∷◌, map}
 use Rattle.std.specs.List.{range_with_len}
 
--- of a list the items that are kept, in their order
+-- the items of a list that are kept, in their order
 abbrev pub kept_items : {A : Type 0} → List A → List Bool → List A
 kept_items [] bs = []
 kept_items (x ∷ xs) [] = []
@@ -13,7 +13,7 @@ abbrev pub is_used : List ℕ → ℕ → Bool
 is_used [] k = false
 is_used (n ∷ ns) k = n == k || is_used ns k
 
--- which of the tables, so many, have one of these numbers
+-- which of the `count` tables have one of these numbers
 abbrev pub used_of : List ℕ → ℕ → List Bool
 used_of numbers count = map (is_used numbers) (range_with_len 0 count)
 

@@ -6,11 +6,11 @@ use Rattle.state_tables.specs.Branch.{root_of, branch_of}
 use Rattle.state_tables.specs.declared.table_set.End.{End}
 use Rattle.state_tables.specs.declared.table_set.End.TheVariants.{At, Open}
 
--- the slot below table j on the way of t at this depth: each root has a slot, and then each table has two
+-- the slot below table j for t at this depth: each bucket has a slot, and then each table has two
 abbrev pub slot_of : ℕ → List Row → ℕ → ℕ → ℕ
 slot_of roots t j depth = roots + 2 * j + branch_of t depth
 
--- by k further links the way of t leads from this slot to table i: a link to table j is j + 1, and 0 is none
+-- by k further links t is led from this slot to table i: a link to table j is j + 1, and 0 is none
 abbrev pub Leads : ℕ → List Row → List ℕ → ℕ → ℕ → ℕ → ℕ → Type 0
 Leads roots t links zero depth slot i = get_or links slot 0 ≡ suc i
 Leads roots t links (suc k) depth slot i = (j : ℕ) × ((get_or links slot 0 ≡ suc j) × Leads roots t links k (depth + 1) (slot_of roots t j depth) i)
@@ -19,7 +19,7 @@ Leads roots t links (suc k) depth slot i = (j : ℕ) × ((get_or links slot 0 �
 abbrev pub LeadsTo : ℕ → List Row → List ℕ → ℕ → ℕ → ℕ → Type 0
 LeadsTo roots t links depth slot i = (k : ℕ) × Leads roots t links k depth slot i
 
--- each link goes to a later one of the first tables, so many, and each of these is found
+-- each link leads to a later one of the first `count` tables, and each of these is found
 pub record IsSearchTree (roots : ℕ) (tables : List (List Row)) (count : ℕ) (links : List ℕ) : Type 0 where
   pub long : length links ≡ 3 * roots
   pub few : count ≤ roots
@@ -36,11 +36,11 @@ pub record IsOpen (roots : ℕ) (t : List Row) (count : ℕ) (links : List ℕ) 
   pub empty : get_or links slot 0 ≡ 0
   pub leads : (more : List ℕ) → Extends links more → (i : ℕ) → get_or more slot 0 ≡ suc i → LeadsTo roots t more 0 (root_of roots t) i
 
--- where the way of t ends
+-- where the search for t ends
 abbrev pub IsEnd : ℕ → List (List Row) → List ℕ → List Row → End → Type 0
 IsEnd roots tables links t (At i) = slice_get tables i ≡ Some t
 IsEnd roots tables links t (Open slot) = IsAbsent tables t × IsOpen roots t (length tables) links slot
 
--- the tables as before, where t was among them, or t behind them, where it wasn't
+-- the tables are unchanged if t was among them, and otherwise t is added last
 abbrev pub TakesIn : List (List Row) → List (List Row) → List Row → Type 0
 TakesIn old new t = (new ≡ old) ⊎ ((new ≡ old ++ t ∷ []) × IsAbsent old t)

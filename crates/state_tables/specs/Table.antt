@@ -60,7 +60,7 @@ byte_row a b p = record { unmarked = next_of a p 0 b; marked = reach_by_marks a 
 abbrev pub byte_table : DeterministicAutomaton → ℕ → List Row
 byte_table a b = map (byte_row a b) (range_with_len 0 (states_of a))
 
--- a table of n states, at most 128, that reaches none but these
+-- a table of n states, at most 128, that reaches only these
 pub record IsTableOf (n : ℕ) (t : List Row) : Type 0 where
   pub states : length t ≡ n
   pub few : n ≤ 128

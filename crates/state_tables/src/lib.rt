@@ -1,4 +1,5 @@
-//! Which states of a deterministic automaton are reached over the text of each node, and a view that lends one look at a time.
+//! Which states of a deterministic automaton are reached over the text of each node, and a view through which these
+//! tables are looked up.
 //!
 //! ```text
 //! let a = of_byte(alloc, &dfa, b'a')?;
@@ -8,14 +9,15 @@
 //! let number = tables.keep(twice)?;                        // equal tables of many nodes are kept once
 //! ```
 //!
-//! So an automaton runs over a text of 2^47 bytes by one table for each node. `table_grow` gives the nodes of a store
-//! their tables, and `view.look(id, &mut looks)` shows a node, its length and its table, in constant time: it is the
-//! one way to a node, so who is lent a view pays a step for each.
+//! So an automaton runs over a text of 2^47 bytes by one table for each node. `table_grow` computes the tables of a
+//! store's nodes. `view.look(id, &mut looks)` returns a node, its length and its table, in constant time. It is the
+//! only way to a node, so a function that receives a view counts a step for each.
 //!
-//! A table of q states, at most 128, takes 17 bytes a state and some 90 beside, and a node 4 bytes for the number of
-//! its table. A composition goes over q rows, and in each over the states that the left row reaches with marks, so it
-//! takes time at most quadratic in q. A table has a digest beside its rows, so `keep` takes expected constant time beside
-//! comparing it with an equal one, and never more than a search by the bits of a table, however the tables are chosen.
+//! A table of q states, at most 128, takes 17 bytes per state and some 90 more, and a node takes 4 bytes for the number
+//! of its table. A composition visits q rows, and in each the states that the left row reaches with marks, so it takes
+//! time at most quadratic in q. A table has a digest of its rows, so `keep` takes expected constant time besides the
+//! comparison with an equal table. It never takes more than a search by the bits of a table, however the tables are
+//! chosen.
 //!
 //! The tables are those of M. L. Schmid and N. Schweikardt, *Spanner evaluation over SLP-compressed documents*, PODS
 //! 2021. Equal ones stand once here.

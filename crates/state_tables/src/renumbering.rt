@@ -1,4 +1,4 @@
-//! The numbers of the nodes that are kept, and which tables these have.
+//! The numbers of the kept nodes, and which tables these have.
 
 ghost use Rattle.std.specs.Prelude.{◌≡◌, ℕ, ◌+◌, ◌-◌, ◌<◌, ◌≤◌, ◌^◌, All, cond, get_or, length, map, vec_capacity};
 ghost use Rattle.slp_model.specs.Kept.{Keeps};
@@ -8,7 +8,8 @@ ghost use Rattle.state_tables.specs.Renumbering.{flags_of, is_used, kept_items};
 use crate::table::Table;
 use node_store::{Moves, NodeId};
 
-/// Leaves of the numbers those of the kept nodes, each in its node's new place, which is none after the old one.
+/// Removes the numbers of the nodes that aren't kept, and moves the others to their nodes' new indices, none of which
+/// is greater than the old one.
 pub(crate) fn renumber(numbers: &mut Vec<u32>, moves: &Moves)
     requires { length numbers.old.items ≤ length moves.now }
     ensures numbers { numbers.new.items ≡ kept_items numbers.old.items moves.now }
@@ -62,7 +63,7 @@ pub(crate) fn close_up(tables: &mut Vec<Table>, marks: &mut [u32])
     tables.truncate(kept);
 }
 
-/// Replaces each number by the index that its mark tells.
+/// Replaces each number by the index in its mark.
 pub(crate) fn follow(numbers: &mut [u32], marks: &[u32])
     requires { All (λ n. (n < length marks.now) × (0 < get_or marks.now n 0)) numbers.old }
     ensures { numbers.new ≡ map (λ n. get_or marks.now n 0 - 1) numbers.old }

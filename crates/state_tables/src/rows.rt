@@ -1,4 +1,4 @@
-//! The rows of a table, in 17 bytes a state, and a digest of them.
+//! The rows of a table, in 17 bytes per state, and a digest of them.
 
 ghost use Rattle.std.specs.Prelude.{◌≡◌, ℕ, ◌<◌, ◌*◌, ◌^◌, ◌++◌, [], ◌∷◌, length, IfSome, IfOk, OnOk};
 ghost use Rattle.std.specs.Int.{bit_at};
@@ -14,13 +14,13 @@ use span_types::NoMemory;
 use std::alloc::Global;
 use std::marker::Model;
 
-/// For each state the one reached with every mark 0, and the set of those reached with some other mark.
+/// For each state the state reached with every mark 0, and the set of those reached with some other mark.
 #[derive(Drop)]
 pub(crate) struct Rows {
     // One more than the state, or 0 for none.
     unmarked: Vec<u8>,
     marked: Vec<u128>,
-    // Made of all rows as they were added. Equal rows are found by it.
+    // Computed from all rows as they were added. Equal rows are found by it.
     digest: u128,
 }
 
@@ -77,8 +77,9 @@ fn product(a: u64, b: u64) -> u128
     a as u128 * b as u128
 }
 
-// The digest of some rows and then one more. It takes two multiplications, one after the other. No factor depends on the rows
-// alone, and each step is a bijection of the digest, so no row can erase what the digest says of the rows before it.
+// The digest of some rows and then one more. It takes two multiplications, one after the other. No factor depends on
+// the rows alone, and each step is a bijection of the digest, so no row can erase what the digest says of the rows
+// before it.
 fn with_row(digest: u128, unmarked: u8, marked: u128) -> u128
     ensures value { result ≡ digest_with digest unmarked marked }
     ensures digests { (other : ℕ) → other < 2 ^ 128 → digest_with other unmarked marked ≡ result → other ≡ digest }
@@ -94,7 +95,7 @@ fn with_row(digest: u128, unmarked: u8, marked: u128) -> u128
     low_half(back) as u128 * 0x1_0000_0000_0000_0000 + first as u128
 }
 
-// The bit of a number at this place.
+// The bit of a number at this index.
 fn bit(number: u128, place: u8) -> usize
     requires { place < 128 }
     ensures { result ≡ bit_at number place }
@@ -123,7 +124,7 @@ fn rows_bit(unmarked: &[u8], marked: &[u128], place: usize) -> usize
 }
 
 impl Rows {
-    /// No rows, and room for so many.
+    /// No rows, and room for this many.
     pub(crate) fn with_capacity(alloc: Global, states: usize) -> Result<Rows, NoMemory>
         ensures { IfOk result (λ rows. rows ≡ []) }
     {
@@ -134,7 +135,7 @@ impl Rows {
         })
     }
 
-    /// How many states there are.
+    /// The number of states.
     pub(crate) fn len(&self) -> usize
         ensures { result ≡ length self.now }
     {
@@ -170,7 +171,7 @@ impl Rows {
         Ok(())
     }
 
-    /// The bucket of the rows, if there are so many.
+    /// The bucket of the rows, for this number of buckets.
     pub(crate) fn root(&self, roots: usize) -> usize
         requires { 0 < roots }
         ensures value { result ≡ root_of roots self.now }
@@ -191,7 +192,7 @@ impl Rows {
         }
     }
 
-    // Whether the rows are the same ones.
+    // Whether the rows are the same.
     fn has_rows_of(&self, other: &Rows) -> bool
         ensures { result ≡ table_eq self.now other.now }
     {

@@ -65,7 +65,7 @@ impl Table {
         self.rows.marked(p)
     }
 
-    /// The bucket of the table, if there are so many.
+    /// The bucket of the table, for this number of buckets.
     pub(crate) fn root(&self, roots: usize) -> usize
         requires { 0 < roots }
         ensures value { result ≡ root_of roots self.now }
@@ -82,7 +82,7 @@ impl Table {
         self.rows.branch(depth)
     }
 
-    // All that is reached from `p`.
+    // All states reached from `p`.
     fn reached(&self, p: u8) -> u128
         requires { p < length self.now }
         ensures { result ≡ reached_of (row_at self.now p) }
@@ -105,7 +105,7 @@ impl Eq for Table {
     ghost laws = { Prim.search (comparing, rules) depth 9 };
 }
 
-// What the states of the set reach with any marks.
+// The states that the states of the set reach with any marks.
 fn reached(set: u128, right: &Table) -> u128
     requires { (q : ℕ) → member set q ≡ true → q < length right.now }
     ensures { result ≡ reach set 0 right.now }
@@ -120,7 +120,7 @@ fn reached(set: u128, right: &Table) -> u128
     all
 }
 
-// What is reached with some mark, from one state over the left text and then over the right one.
+// The states reached with some mark, from one state over the left text and then over the right one.
 fn composed(unmarked: Option<u8>, marked: u128, right: &Table) -> u128
     requires unmarked { IfSome unmarked (λ q. q < length right.now) }
     requires marked { (q : ℕ) → member marked q ≡ true → q < length right.now }
@@ -132,11 +132,11 @@ fn composed(unmarked: Option<u8>, marked: u128, right: &Table) -> u128
     }
 }
 
-/// The table of two texts joined, from the tables of the two. It takes time at most quadratic in the states.
+/// The table of two texts joined, from the tables of the two. It takes time at most quadratic in the number of states.
 ///
 /// # Errors
 ///
-/// `NoMemory` where none was found for the table.
+/// `NoMemory` if allocation fails.
 pub fn compose(alloc: Global, left: &Table, right: &Table) -> Result<Table, NoMemory>
     requires { length left.now ≡ length right.now }
     ensures value { IfOk result (λ t. t ≡ compose_of left.now right.now) }
@@ -152,7 +152,7 @@ pub fn compose(alloc: Global, left: &Table, right: &Table) -> Result<Table, NoMe
     Ok(Table { rows })
 }
 
-// What the mark reaches, if it isn't 0.
+// The state that the mark reaches, if it isn't 0.
 fn reached_by_mark(dfa: &Dfa, p: u8, byte: u8, mark: u16) -> u128
     requires automaton { IsDeterministic dfa.now }
     requires state { p < states_of dfa.now }
@@ -165,7 +165,7 @@ fn reached_by_mark(dfa: &Dfa, p: u8, byte: u8, mark: u16) -> u128
     }
 }
 
-// What the marks other than 0 reach from `p` over the byte.
+// The states that the marks other than 0 reach from `p` over the byte.
 fn reached_by_marks(dfa: &Dfa, p: u8, byte: u8) -> u128
     requires automaton { IsDeterministic dfa.now }
     requires state { p < states_of dfa.now }
@@ -178,12 +178,12 @@ fn reached_by_marks(dfa: &Dfa, p: u8, byte: u8) -> u128
     all
 }
 
-/// The table of one byte. It asks for the automaton's next state once for each state and each mark that leads on
+/// The table of one byte. It looks up the automaton's next state once for each state and each mark with a next state
 /// there.
 ///
 /// # Errors
 ///
-/// `NoMemory` where none was found for the table.
+/// `NoMemory` if allocation fails.
 pub fn of_byte(alloc: Global, dfa: &Dfa, byte: u8) -> Result<Table, NoMemory>
     ensures { IfOk result (λ t. IsTable dfa.now (byte ∷ []) t) }
 {

@@ -13,11 +13,11 @@ use std::marker::Model;
 
 /// Distinct tables in the order in which they were inserted.
 ///
-/// It is a hash table whose buckets are digital search trees (D. E. Knuth, The Art of Computer Programming, volume 3, section
-/// 6.3). The lower half of a table's digest chooses the bucket; there are one to two buckets for each table. In a bucket each
-/// table has two links, and one bit at each depth chooses between them: first the bits of the digest's upper half, then those
-/// of the rows. A lookup takes expected constant time. However the tables are chosen, it compares at most 64 tables of other
-/// digests, and no more than 136 for each state that are alike there. The links take 12 to 24 bytes for each table.
+/// It is a hash table whose buckets are digital search trees (D. E. Knuth, The Art of Computer Programming, volume 3,
+/// section 6.3). The lower half of a table's digest chooses the bucket; there are one to two buckets for each table. In
+/// a bucket each table has two links, and one bit at each depth chooses between them: first the bits of the digest's
+/// upper half, then those of the rows. A lookup takes expected constant time. However the tables are chosen, it
+/// compares at most 64 + 136·q tables of q states that aren't equal. The links take 12 to 24 bytes for each table.
 #[derive(Drop)]
 pub(crate) struct TableSet {
     tables: Vec<Table>,
@@ -49,7 +49,7 @@ pub(crate) enum End {
 const FIRST_ROOTS: usize = 16;
 
 impl TableSet {
-    /// No tables, and no memory.
+    /// No tables. Allocates nothing.
     pub(crate) fn new(alloc: Global) -> TableSet
         ensures { result ≡ [] }
     {
@@ -78,7 +78,7 @@ impl TableSet {
     ///
     /// # Errors
     ///
-    /// `NoMemory` if an allocation fails; the tables are then unchanged.
+    /// `NoMemory` if allocation fails; the tables are then unchanged.
     pub(crate) fn insert(&mut self, table: Table) -> Result<usize, NoMemory>
         requires { length self.old < 2 ^ 32 - 1 }
         ensures place { IfOk result (λ n. slice_get self.new n ≡ Some table) }
@@ -98,8 +98,8 @@ impl TableSet {
         }
     }
 
-    /// Removes the tables whose numbers are not among these, and replaces each number by the new one. The order stays. It
-    /// allocates nothing, and takes time linear in the tables and the numbers.
+    /// Removes the tables whose numbers are not among these, and replaces each number by the new one. The order is
+    /// unchanged. It allocates nothing, and takes time linear in the tables and the numbers.
     pub(crate) fn keep_used(&mut self, numbers: &mut Vec<u32>)
         requires within { All (λ n. n < length self.old) numbers.old.items }
         requires low { length self.old < 2 ^ 32 }
@@ -155,7 +155,7 @@ fn open_of(tables: &[Table], index: usize, roots: usize, links: &[u32]) -> usize
     }
 }
 
-// Writes the links to all tables anew.
+// Writes the links to all tables again.
 fn link_all(tables: &[Table], roots: usize, links: &mut [u32])
     requires long { length links.old ≡ 3 * roots }
     requires few { length tables.now ≤ roots }

@@ -1,4 +1,4 @@
-//! The tables of the nodes, each distinct one kept once.
+//! The tables of the nodes. Each distinct table is stored once.
 
 ghost use Rattle.std.specs.Prelude.{◌≡◌, ℕ, ◌+◌, ◌<◌, ◌≤◌, ◌-◌, ◌++◌, List, [], ◌∷◌, length, map, IfOk, OnOk, OnErr};
 ghost use Rattle.slp_model.specs.declared.Node.{Node};
@@ -20,7 +20,7 @@ use std::alloc::Global;
 use std::marker::Model;
 use std::sync::ledger::Ledger;
 
-// The most tables that are kept, so that one more than a number takes 32 bits.
+// The maximum number of tables, so that one more than a number takes 32 bits.
 const MAX_TABLES: usize = (1 << 32) - 1;
 
 /// Each distinct table once, under a number from 0, and for each node the number of its table.
@@ -55,7 +55,7 @@ impl Tables {
         }
     }
 
-    /// How many nodes have tables: those numbered 0 to count-1.
+    /// The number of nodes that have tables: those with the indices 0 to count-1.
     pub fn count(&self) -> usize
         ensures count { result ≡ count_of self.now }
         ensures facts { IsDictionary self.now }
@@ -63,7 +63,7 @@ impl Tables {
         self.numbers.len()
     }
 
-    /// How many tables are kept.
+    /// The number of tables that are kept.
     pub fn distinct(&self) -> usize
         ensures { result ≡ distinct_of self.now }
     {
@@ -95,12 +95,12 @@ impl Tables {
         self.kept(self.number(id))
     }
 
-    /// The number of an equal kept table, else the table is added last. It takes time linear in the states, and expected
-    /// constant time beside that. No node's table changes.
+    /// The number of an equal kept table. If there is none, the table is added last. It takes time linear in the number
+    /// of states, and expected constant time besides. No node's table changes.
     ///
     /// # Errors
     ///
-    /// `NoMemory` where none was found; the tables are then as before.
+    /// `NoMemory` if allocation fails; the tables are then unchanged.
     pub fn keep(&mut self, table: Table) -> Result<usize, NoMemory>
         requires { length table ≡ self.old.states }
         ensures number { IfOk result (λ n. (n < distinct_of self.new) × (kept_of self.new n ≡ table)) }
@@ -117,11 +117,11 @@ impl Tables {
         self.kept.insert(table)
     }
 
-    /// Makes room for so many further nodes.
+    /// Makes room for this many further nodes.
     ///
     /// # Errors
     ///
-    /// `NoMemory` where none was found; the tables are then as before.
+    /// `NoMemory` if allocation fails; the tables are then unchanged.
     pub fn reserve(&mut self, more: usize) -> Result<(), NoMemory>
         ensures ok { OnOk result (more ≤ self.new.room) }
         ensures room { self.old.room ≤ self.new.room }
@@ -131,7 +131,7 @@ impl Tables {
         Ok(())
     }
 
-    /// Gives the next node the kept table with this number. It takes no memory, and is one step.
+    /// Makes the kept table with this number that of the next node. It allocates nothing, and counts as one step.
     pub fn push<L: Ledger>(&mut self, number: usize, places: &mut Steps<L>)
         requires kept { number < distinct_of self.old }
         requires room { 0 < self.old.room }
@@ -142,11 +142,12 @@ impl Tables {
         self.numbers.push_reserved(number as u32);
     }
 
-    /// Removes the nodes that are not kept, as the store does, and each kept table that no kept node has. Every kept node has
-    /// its table under its new id. The kept tables stay in their order and get new numbers, so a number from before is stale.
+    /// Removes the nodes that are not kept, as the store does, and each kept table that no kept node has. Every kept
+    /// node has its table under its new id. The kept tables stay in their order and get new numbers, so earlier numbers
+    /// are stale.
     ///
-    /// The tables are those of the store's first nodes, or of all. It allocates nothing, and takes time linear in the nodes
-    /// with tables and the kept tables. The room of the removed nodes serves further ones.
+    /// The tables are those of the store's first nodes, or of all. It allocates nothing, and takes time linear in the
+    /// nodes with tables and the kept tables. The room of the removed nodes is reused.
     pub fn renumber(&mut self, moves: &Moves)
         requires { count_of self.old ≤ length moves.now }
         ensures kept { self.new.kept ≡ kept_items self.old.kept (used_by self.old moves.now) }
@@ -161,7 +162,7 @@ impl Tables {
         self.kept.keep_used(&mut self.numbers);
     }
 
-    /// A way to look at the nodes of the store, each of which has a table.
+    /// A view of the nodes of the store, each of which has a table.
     pub fn view<'a>(&'a self, store: &'a Store) -> View<'a>
         requires { count_of self.now ≡ length store.now }
         ensures tables { result.tables.now ≡ self.now }

@@ -1,4 +1,4 @@
-//! A view of nodes and tables, a look at a time.
+//! A view of nodes and tables, through which they are looked up one at a time.
 
 ghost use Rattle.std.specs.Prelude.{◌≡◌, ◌+◌, ◌<◌, length};
 ghost use Rattle.state_tables.specs.Dictionary.{IsLook, count_of};
@@ -10,7 +10,7 @@ use slp_model::law;
 use span_types::Steps;
 use std::sync::ledger::Ledger;
 
-/// A way to look at nodes and tables, a node at a time.
+/// A view of nodes and their tables, one lookup at a time.
 #[derive(Clone, Copy)]
 pub struct View<'a> {
     tables: &'a Tables,
@@ -18,7 +18,7 @@ pub struct View<'a> {
     ghost counted: { count_of tables.now ≡ length store.now },
 }
 
-/// What a look at a node tells: the node, the length of its text in bytes, and its table.
+/// The result of a lookup: the node, the length of its text in bytes, and its table.
 #[derive(Clone, Copy)]
 pub struct Look<'a> {
     pub node: Node,
@@ -35,7 +35,8 @@ impl<'a> View<'a> {
         View { tables, store }
     }
 
-    /// The node with this id, the length of its text and its table. It is one step, and takes constant time.
+    /// The node with this id, the length of its text and its table. It counts as one table lookup, and takes constant
+    /// time.
     pub fn look<L: Ledger>(&self, id: NodeId, looks: &mut Steps<L>) -> Look<'a>
         requires { id.index < length self.now.store.now }
         ensures look { IsLook self.now.store.now self.now.tables.now id.index result.node result.len result.table.now }

@@ -4,6 +4,6 @@ use Rattle.state_tables.specs.Coded.{step_of}
 use Rattle.table_grow.specs.Filling.{Filling}
 use Rattle.table_grow.specs.declared.filler.Filler.TheInside.{Inside}
 
--- a place is kept as one more than the number of its table, or as 0 where it is empty
+-- an entry is stored as one more than the number of its table, or as 0 if it is empty
 abbrev pub view_of : Inside → Filling
 view_of f = record { known = f.known; places = map step_of f.places.items }

@@ -1,4 +1,4 @@
--- What a contract sees of a filler: how many nodes had tables, and a place for each new node.
+-- What a contract sees of a filler: how many nodes had tables, and an entry for each new node.
 use Rattle.std.specs.Prelude.{◌≡◌, ℕ, ◌+◌, ◌-◌, ◌<◌, ◌≤◌, nat_lt, List, length, map, ◌++◌, Option, Some, None, IsSome, slice_get, slice_index_or, slice_set, if◌then◌else◌}
 use Rattle.slp_model.specs.declared.NodeId.{NodeId}
 use Rattle.slp_model.specs.declared.Node.{Node}
@@ -10,7 +10,7 @@ use Rattle.state_tables.specs.Table.{Row, compose_of}
 use Rattle.state_tables.specs.Meaning.{IsTable}
 use Rattle.state_tables.specs.Dictionary.{Dictionary, count_of, distinct_of, number_of, kept_of}
 
--- a place is empty, or it has the number of a kept table
+-- an entry is empty, or it has the number of a kept table
 pub record Filling : Type 0 where
   pub known : ℕ
   pub places : List (Option ℕ)
@@ -19,7 +19,7 @@ pub record Filling : Type 0 where
 abbrev pub number_in : Dictionary → Filling → ℕ → Option ℕ
 number_in d f id = if nat_lt id f.known then Some (number_of d id) else slice_index_or f.places (id - f.known) None
 
--- the node's place has this number
+-- the node's entry has this number
 abbrev pub with_place : Filling → ℕ → ℕ → Filling
 with_place f id n = record f { places = slice_set f.places (id - f.known) (Some n) }
 
@@ -47,14 +47,14 @@ abbrev pub IsComposed : List Node → Dictionary → Filling → ℕ → List Ro
 IsComposed nodes d f id t = (l r : NodeId) (m n : ℕ) → slice_get nodes id ≡ Some (Pair l r)
     → number_in d f l.index ≡ Some m → number_in d f r.index ≡ Some n → t ≡ compose_of (kept_of d m) (kept_of d n)
 
--- the table is kept under a number, which the node's place has
+-- the table is kept under a number, which the node's entry has
 pub record PlacesTable (d : Dictionary) (f g : Filling) (id : ℕ) (t : List Row) : Type 0 where
   pub number : ℕ
   pub within : number < distinct_of d
   pub table : kept_of d number ≡ t
   pub place : g ≡ with_place f id number
 
--- the number in a place
+-- the number in an entry
 abbrev pub number_of_place : Option ℕ → ℕ
 number_of_place None = 0
 number_of_place (Some n) = n
@@ -67,7 +67,7 @@ AllPlaced f = (i : ℕ) → i < length f.places → IsSome (slice_index_or f.pla
 abbrev pub finished : Dictionary → Filling → Dictionary
 finished d f = record d { numbers = d.numbers ++ map number_of_place f.places; room = d.room - length f.places }
 
--- the kept tables stay under their numbers, and nothing else changes
+-- the kept tables keep their numbers, and nothing else changes
 pub record AreKept (d e : Dictionary) : Type 0 where
   pub kept : (n : ℕ) → n < distinct_of d → kept_of e n ≡ kept_of d n
   pub more : distinct_of d ≤ distinct_of e

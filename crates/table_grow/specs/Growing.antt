@@ -1,4 +1,4 @@
--- What holds while the tables of new nodes are made.
+-- What holds while the tables of new nodes are computed.
 use Rattle.std.specs.Prelude.{◌≡◌, ◌≢◌, ℕ, ◌<◌, ◌≤◌, List, length, None, IsSome, All}
 use Rattle.slp_model.specs.declared.NodeId.{NodeId}
 use Rattle.slp_model.specs.declared.Node.{Node}
@@ -19,14 +19,14 @@ use Rattle.table_grow.specs.declared.found.Done.{Done}
 abbrev pub AllTrue : DeterministicAutomaton → List Node → Dictionary → Filling → Type 0
 AllTrue a nodes d f = (id : ℕ) → HasTrueTable a nodes d f id
 
--- the tables and the memory are true, and fit the store, the automaton and the filler
+-- the tables and the cache are true, and fit the store, the automaton and the filler
 pub record IsReady (a : DeterministicAutomaton) (nodes : List Node) (d : Dictionary) (f : Filling) (es : List Entry) : Type 0 where
   pub fits : Fits nodes d f
   pub states : d.states ≡ states_of a
   pub all : AllTrue a nodes d f
   pub entries : AreTrueEntries d es
 
--- the node is new, and whatever pair its tree shows, the two are old or placed
+-- the node is new, and if its tree is a pair, both children are old or placed
 pub record IsDue (nodes : List Node) (d : Dictionary) (f : Filling) (id : NodeId) : Type 0 where
   pub new : f.known ≤ id.index
   pub live : id.index < length nodes
@@ -46,7 +46,7 @@ pub record IsDone (a : DeterministicAutomaton) (nodes : List Node) (d : Dictiona
   pub children : ChildrenPlaced nodes d f x.id.index
   pub found : IsFound a nodes d x.id.index x.found
 
--- the node's place has the number of its table
+-- the node's entry has the number of its table
 pub record IsPlacedAt (a : DeterministicAutomaton) (nodes : List Node) (d : Dictionary) (f g : Filling) (id n : ℕ) : Type 0 where
   pub within : n < distinct_of d
   pub table : IsTable a (text (tree nodes id)) (kept_of d n)
@@ -57,7 +57,7 @@ pub record StillPlaced (d : Dictionary) (f : Filling) (e : Dictionary) (g : Fill
   pub known : g.known ≡ f.known
   pub still : (id : ℕ) → IsSome (number_in d f id) → IsSome (number_in e g id)
 
--- no node but those with one of these ids was placed
+-- only nodes with one of these ids were placed
 abbrev pub OnlyPlaced : Dictionary → Filling → Dictionary → Filling → List NodeId → Type 0
 OnlyPlaced d f e g ids = (j : ℕ) → All (λ id. id.index ≢ j) ids → number_in e g j ≡ number_in d f j
 

@@ -11,7 +11,7 @@ pub record IsOfHeight (nodes : List Node) (known bound high : ℕ) (id : NodeId)
   pub live : id.index < bound
   pub high_is : height (tree nodes id.index) ≡ high
 
--- these nodes in rising order
+-- these nodes in ascending order
 pub record IsLayer (nodes : List Node) (known bound high : ℕ) (ids : List NodeId) : Type 0 where
   pub each : All (IsOfHeight nodes known bound high) ids
   pub all : (id : NodeId) → IsOfHeight nodes known bound high id → Contains ids id

@@ -1,4 +1,4 @@
--- Where the tables of the nodes of a piece stand, and those that the piece made.
+-- Where the tables of the nodes of a piece are, and those that the piece computed.
 use Rattle.std.specs.Prelude.{◌≡◌, ℕ, ◌+◌, ◌<◌, List, [], ◌∷◌, Option, Some, IfSome, Contains, slice_get}
 use Rattle.slp_model.specs.declared.NodeId.{NodeId}
 use Rattle.slp_model.specs.declared.Node.{Node}
@@ -16,7 +16,7 @@ use Rattle.table_grow.specs.declared.pieces.Piece.{Piece}
 use Rattle.table_grow.specs.declared.pieces.Spot.{Spot}
 use Rattle.table_grow.specs.declared.pieces.Spot.TheVariants as spot
 
--- a table that was made is that of some text, and where it was made of two kept tables it is their composition
+-- a computed table is that of some text, and if it was computed from two kept tables it is their composition
 pub record IsMade (a : DeterministicAutomaton) (d : Dictionary) (x : Made) : Type 0 where
   pub word : List ℕ
   pub table : IsTable a word x.table
@@ -25,19 +25,19 @@ pub record IsMade (a : DeterministicAutomaton) (d : Dictionary) (x : Made) : Typ
 abbrev pub AreMade : DeterministicAutomaton → Dictionary → List Made → Type 0
 AreMade a d made = (k : ℕ) (x : Made) → slice_get made k ≡ Some x → IsMade a d x
 
--- what was made stays in its place
+-- computed tables keep their indices
 abbrev pub Extends : List Made → List Made → Type 0
 Extends old new = (k : ℕ) (x : Made) → slice_get old k ≡ Some x → slice_get new k ≡ Some x
 
--- of these compositions each stands among those that were made, in the place that it tells
+-- each of these compositions is among the computed tables, at its index
 abbrev pub StandAmong : List Entry → List Made → Type 0
 StandAmong es made = (e : Entry) → Contains es e → (x : Made) × (slice_get made e.1 ≡ Some x) × (x.parts ≡ Some e.0)
 
--- so do those that a piece remembers
+-- the same for the compositions in a piece's own cache
 abbrev pub AreOwn : List (Option Entry) → List Made → Type 0
 AreOwn front made = (es : List Entry) × AreAmong front es × StandAmong es made
 
--- the table of the node stands there
+-- the spot has the table of the node
 abbrev pub HasTable : DeterministicAutomaton → List Node → Dictionary → List Made → ℕ → Spot → Type 0
 HasTable a nodes d made id (spot.Kept n) = (n < distinct_of d) × IsTable a (text (tree nodes id)) (kept_of d n)
 HasTable a nodes d made id (spot.Made k) = (x : Made) × (slice_get made k ≡ Some x) × IsTable a (text (tree nodes id)) x.table
@@ -58,17 +58,17 @@ pub record IsPiece (a : DeterministicAutomaton) (nodes : List Node) (d : Diction
   pub made : AreMade a d p.made.items
   pub spots : AreSpots (IsSpot a nodes d f p.made.items) ids p.spots.items
 
--- the spot where so many tables stand before those that were made
+-- the spot if `before` tables come before those that were computed
 abbrev pub shifted : ℕ → Spot → Spot
 shifted before (spot.Kept n) = spot.Kept n
 shifted before (spot.Made k) = spot.Made (before + k)
 
--- the spot is none past so many tables that were made
+-- the spot isn't past the first `count` computed tables
 abbrev pub IsWithin : ℕ → Spot → Type 0
 IsWithin count (spot.Kept n) = Unit {0}
 IsWithin count (spot.Made k) = k < count
 
--- the number of the table that stands there, where these are the numbers of those that were made
+-- the number of the table at the spot, if these are the numbers of those that were computed
 abbrev pub number_at : List ℕ → Spot → Option ℕ
 number_at numbers (spot.Kept n) = Some n
 number_at numbers (spot.Made k) = slice_get numbers k
@@ -81,6 +81,6 @@ pub record HasNumber (a : DeterministicAutomaton) (nodes : List Node) (d : Dicti
   pub within : number < distinct_of d
   pub table : IsTable a (text (tree nodes id.index)) (kept_of d number)
 
--- the tables that were made are kept under these numbers
+-- the computed tables are kept under these numbers
 abbrev pub AreNumbers : Dictionary → List Made → List ℕ → Type 0
 AreNumbers d made numbers = (k : ℕ) (x : Made) → slice_get made k ≡ Some x → (n : ℕ) × (slice_get numbers k ≡ Some n) × (n < distinct_of d) × (kept_of d n ≡ x.table)

@@ -1,4 +1,4 @@
--- Remembered compositions: of two kept tables by their numbers, and the number of the composition.
+-- Cached compositions: two kept tables by their numbers, and the number of their composition.
 use Rattle.std.specs.Prelude.{◌≡◌, ℕ, ◌<◌, List, Contains}
 use Rattle.state_tables.specs.Table.{compose_of}
 use Rattle.state_tables.specs.Dictionary.{Dictionary, distinct_of, kept_of}

@@ -1,4 +1,4 @@
--- The orders in which the new nodes may be worked.
+-- The orders in which the new nodes may be processed.
 use Rattle.std.specs.Prelude.{◌≡◌, ◌≢◌, ℕ, ◌<◌, ◌≤◌, List, ◌∷◌, ◌++◌, length, Some, All, AllPairs, Contains, slice_get}
 use Rattle.slp_model.specs.declared.NodeId.{NodeId}
 use Rattle.slp_model.specs.declared.Node.{Node}

@@ -15,12 +15,13 @@ use std::alloc::Global;
 use std::marker::Model;
 use std::sync::ledger::Ledger;
 
-/// A place for each node without a table, which is empty or has the number of a kept table. It holds no reference: each
-/// call is given the same store and tables, and until `finish` no node's table changes.
+/// An entry for each node without a table, which is empty or has the number of a kept table. A node is placed once its
+/// entry has a number. It has no references: each call receives the same store and tables, and until `finish` no node's
+/// table changes.
 #[derive(Drop)]
 pub struct Filler {
     known: usize,
-    // One more than the number of the table, or 0 for an empty place.
+    // One more than the number of the table, or 0 for an empty entry.
     places: Vec<u32>,
 }
 
@@ -35,11 +36,11 @@ impl Model for Filler {
 }
 
 impl Filler {
-    /// An empty place for each node of the store that has no table, and room in `tables` for all of them.
+    /// An empty entry for each node of the store that has no table, and room in `tables` for all of them.
     ///
     /// # Errors
     ///
-    /// `NoMemory` where none was found. The tables are then as before.
+    /// `NoMemory` if allocation fails. The tables are then unchanged.
     pub fn new(alloc: Global, tables: &mut Tables, store: &Store) -> Result<Filler, NoMemory>
         requires { count_of tables.old ≤ length store.now }
         ensures fits { IfOk result (Fits store.now tables.new) }
@@ -56,7 +57,7 @@ impl Filler {
         Ok(Filler { known, places })
     }
 
-    /// How many nodes had tables.
+    /// The number of nodes that had tables.
     pub(crate) fn known(&self) -> usize
         ensures { result ≡ self.now.known }
     {
@@ -81,11 +82,11 @@ impl Filler {
     }
 
     /// The table of a new node, whose children are old or placed and have the tables of their texts. It takes at most
-    /// as many steps as the square of the automaton's states, and memory for the table.
+    /// as many steps as the square of the automaton's number of states, and memory for the table.
     ///
     /// # Errors
     ///
-    /// `NoMemory` where memory for the table wasn't found.
+    /// `NoMemory` if allocation fails.
     pub fn compute(
         &self,
         alloc: Global,
@@ -113,7 +114,7 @@ impl Filler {
         }
     }
 
-    // Gives the new node this number of a kept table.
+    // Writes this number of a kept table to the entry of a new node.
     fn set(&mut self, tables: &Tables, id: NodeId, number: usize)
         requires kept { number < distinct_of tables.now }
         requires new { self.old.known ≤ id.index }
@@ -125,8 +126,8 @@ impl Filler {
         self.places[place] = number as u32 + 1;
     }
 
-    /// Gives a new node, which isn't placed yet and whose children are old or placed, the kept table of this number. It
-    /// takes no memory.
+    /// Places a new node, which isn't placed yet and whose children are old or placed, with the kept table of this
+    /// number. Allocates nothing.
     pub fn place_kept(&mut self, tables: &Tables, store: &Store, id: NodeId, number: usize)
         requires fits { Fits store.now tables.now self.old }
         requires new { self.old.known ≤ id.index }
@@ -139,7 +140,7 @@ impl Filler {
         self.set(tables, id, number);
     }
 
-    /// The same as `place`, and answers the number of the table.
+    /// The same as `place`, and returns the number of the table.
     pub(crate) fn place_numbered(
         &mut self,
         tables: &mut Tables,
@@ -163,12 +164,12 @@ impl Filler {
         Ok(number)
     }
 
-    /// Keeps the table of a new node, which isn't placed yet and whose children are old or placed, and gives the node
-    /// its number. No node's table changes.
+    /// Keeps the table of a new node, which isn't placed yet and whose children are old or placed, and places the node
+    /// with its number. No node's table changes.
     ///
     /// # Errors
     ///
-    /// `NoMemory`: the places and the tables are then as before.
+    /// `NoMemory` if allocation fails; the entries and the tables are then unchanged.
     pub fn place(
         &mut self,
         tables: &mut Tables,
@@ -191,8 +192,8 @@ impl Filler {
         Ok(())
     }
 
-    /// Gives each new node the table of its place, in the order of their ids, which is one step for each. It takes no
-    /// memory.
+    /// Gives each new node the table of its entry, in the order of their ids, and counts one step for each. Allocates
+    /// nothing.
     pub fn finish<L: Ledger>(self, tables: &mut Tables, places: &mut Steps<L>)
         requires tables_fit { count_of tables.old ≡ self.known }
         requires room_fits { length self.places ≤ tables.old.room }

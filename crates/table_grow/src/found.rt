@@ -1,4 +1,4 @@
-//! The table of a new node, remembered or made from finished tables.
+//! The table of a new node, from the cache or computed from finished tables.
 
 ghost use Rattle.std.specs.Prelude.{◌≡◌, IfOk};
 ghost use Rattle.table_grow.specs.Filling.{ChildrenPlaced};
@@ -13,7 +13,7 @@ use state_tables::{Table, Tables};
 use std::alloc::Global;
 use work_gate::Gate;
 
-/// The table of a node: that of a remembered composition, by its number; that of a byte; or the composition of two kept
+/// The table of a node: that of a cached composition, by its number; that of a byte; or the composition of two kept
 /// tables, with their numbers.
 #[derive(Drop)]
 pub enum Found {
@@ -29,7 +29,7 @@ pub struct Done {
     pub found: Found,
 }
 
-// The table of the node, remembered or computed.
+// The table of the node, cached or computed.
 fn find(
     alloc: Global,
     filler: &Filler,
@@ -65,7 +65,7 @@ fn find(
     }
 }
 
-/// The node's number is told to the gate, and then its table is found.
+/// Calls the gate with the node's index, and then finds its table.
 pub(crate) fn work_on<G: Gate>(
     alloc: Global,
     filler: &Filler,

@@ -22,7 +22,7 @@ use std::sync::ledger::Ledger;
 use std::thread::Threads;
 use work_gate::Gate;
 
-// The nodes from `from` on and before `to` in the order of their ids, on this thread.
+// Places the nodes from `from` on and before `to` in the order of their ids, on this thread.
 fn in_order<G: Gate>(
     alloc: Global,
     filler: &mut Filler,
@@ -55,27 +55,28 @@ fn in_order<G: Gate>(
     Ok(())
 }
 
-/// How many nodes of a height are worth a thread, where each has its share of rows to compose.
+/// The number of nodes of a height that are worth a thread, if each has its share of rows to compose.
 const WORTH: usize = 512;
 
-/// How many rows are composed in the time that it takes to start a thread, some 50 microseconds.
+/// The number of rows that are composed in the time that it takes to start a thread, some 50 microseconds.
 const ROWS_OF_THREAD: usize = 1 << 13;
 
-/// A growth of so few nodes is always halved while nothing is remembered, so that a gate sees two threads on the shortest texts.
+/// At most this many new nodes are always cut in two while the cache is empty, so that a gate sees two threads on the
+/// shortest texts.
 const FEWEST: usize = 8;
 
-// What the tables of so many nodes cost, in rows.
+// The cost of the tables of this many nodes, in rows.
 fn rows_of(dfa: &Dfa, nodes: usize) -> usize {
     nodes.saturating_mul(ROWS.saturating_add(dfa.states() as usize))
 }
 
-// Whether so many nodes are worked on in pieces while nothing is remembered.
+// Whether this many nodes are processed in pieces while the cache is empty.
 fn starts_in_pieces(dfa: &Dfa, nodes: usize) -> bool {
     nodes <= FEWEST || rows_of(dfa, nodes) >= ROWS_OF_THREAD
 }
 
-// In how many pieces at most `count` nodes of one height are worked on, of so many in all heights. While nothing is remembered
-// each node may need a table of its own.
+// The number of pieces in which at most `count` nodes of one height are processed, of `nodes` in all heights. While the
+// cache is empty each node may need a table of its own.
 fn pieces_of(dfa: &Dfa, memory: &Memory, workers: u8, nodes: usize, count: usize) -> u8 {
     if memory.len() != 0 {
         return workers.min((count / WORTH).min(64) as u8);
@@ -86,7 +87,7 @@ fn pieces_of(dfa: &Dfa, memory: &Memory, workers: u8, nodes: usize, count: usize
     workers.min((rows_of(dfa, count) / ROWS_OF_THREAD).min(64) as u8)
 }
 
-// Some new nodes, none of which is placed yet and all of whose children are, in pieces.
+// Places some new nodes in pieces. None of them is placed yet, and all of their children are.
 fn place_some<R: Threads + Sync, G: Gate>(
     rt: &R,
     alloc: Global,
@@ -116,7 +117,7 @@ fn place_some<R: Threads + Sync, G: Gate>(
     place_piece(alloc, filler, tables, store, dfa, memory, ids, piece)
 }
 
-// The nodes from `from` on and before `to` by rising height, each height in pieces.
+// Places the nodes from `from` on and before `to` by rising height, each height in pieces.
 fn by_height<R: Threads + Sync, G: Gate>(
     rt: &R,
     alloc: Global,
@@ -154,7 +155,7 @@ fn by_height<R: Threads + Sync, G: Gate>(
     Ok(())
 }
 
-// The nodes from `from` on and before `to`. With one worker no thread is started and no height is asked for.
+// Places the nodes from `from` on and before `to`. With one worker no thread is started and no height is read.
 fn place_part<R: Threads + Sync, G: Gate>(
     rt: &R,
     alloc: Global,
@@ -190,29 +191,32 @@ fn place_part<R: Threads + Sync, G: Gate>(
     }
 }
 
-/// How many rows of new tables there have to be for each node, so that pieces pay. What a node costs beside its rows is as much.
+/// The number of rows of new tables per node from which pieces pay. What a node costs besides its rows is as much.
 const ROWS: usize = 16;
 
-// Whether so many new tables for so many nodes are worth pieces. Where there are few, pieces would compose the same ones.
+// Whether this many new tables for this many nodes are worth pieces. If there are few, pieces would compose the same
+// ones.
 fn pays(dfa: &Dfa, fresh: usize, nodes: usize) -> bool {
     fresh.saturating_mul(dfa.states() as usize) >= nodes.saturating_mul(ROWS)
 }
 
-/// How many nodes are placed on one thread before it is asked whether pieces pay.
+/// The number of nodes that are placed on one thread before it is tested whether pieces pay.
 const ASKED: usize = 1 << 12;
 
-/// How many nodes are placed in pieces before it is asked again, so that what is found for them takes little memory.
+/// The number of nodes that are placed in pieces before the next test, so that what is found for them takes little
+/// memory.
 const PLACED_AT_ONCE: usize = 1 << 15;
 
-// How many nodes are placed before it is asked again.
+// The number of nodes that are placed before the next test.
 fn part_len(in_pieces: bool) -> usize
     ensures { 0 < result }
 {
     if in_pieces { PLACED_AT_ONCE } else { ASKED }
 }
 
-// All new nodes, some at a time. The first ones are placed in pieces if nothing is remembered yet and they cost more than a
-// thread's start, and the next ones if enough of those before have a table that no node had.
+// Places all new nodes, some at a time. The first ones are placed in pieces if the cache is empty and they cost more
+// than the start of a thread or are very few. The next ones are placed in pieces if enough of those before have a table
+// that no node had.
 fn place_new<R: Threads + Sync, G: Gate>(
     rt: &R,
     alloc: Global,
@@ -250,19 +254,20 @@ fn place_new<R: Threads + Sync, G: Gate>(
     Ok(())
 }
 
-/// Gives every node of the store its table. The tables are those of this automaton and of the first nodes of this store,
-/// and every remembered composition is true of them.
+/// Computes the tables of all nodes of the store that have none. The tables are those of this automaton and of the
+/// first nodes of this store, and every cached composition is true of them.
 ///
-/// The nodes without a table are taken some at a time. They are taken by rising height, those of one height in at most `workers`
-/// pieces at once, 1 to 64, if many of those before have a table that no node had, or if nothing is remembered yet and they cost
-/// more than a thread's start, or are at most eight. With one worker, and elsewhere, they are taken in the order of their ids.
-/// `gate.pass` is called for each of them before its table is looked up in the memory or computed. It is one step for each, and
-/// takes expected constant time where the composition is remembered.
+/// The nodes without a table are processed some at a time. They are processed by rising height, those of one height in
+/// at most `workers` pieces at once, 1 to 64, in two cases: if many of those before have a table that no node had, or
+/// if the cache is empty and they either cost more than the start of a thread or are at most eight. Otherwise, and with
+/// one worker, they are processed in the order of their ids. `gate.pass` is called for each of them before its table is
+/// looked up in the cache or computed. Each counts as one step, and takes expected constant time if the composition is
+/// cached.
 ///
 /// # Errors
 ///
-/// `NoMemory`: each node's table is then as before, and more tables may be kept. A composition that can't be remembered
-/// for want of memory is no refusal.
+/// `NoMemory` if allocation fails: each node's table is then unchanged, and more tables may be kept. If allocation
+/// fails only for an entry of the cache, no error is returned.
 pub fn grow<R: Threads + Sync, G: Gate, L: Ledger>(
     rt: &R,
     alloc: Global,

@@ -26,7 +26,7 @@ impl Model for Layers {
     ghost view = { λ l. map (λ v. v.items) l.lists.items };
 }
 
-// How many of the nodes from `from` on and before `to` have each height. Room is made by it, and no result depends on it.
+// The number of nodes of each height from `from` on and before `to`. Room is made by it, and no result depends on it.
 fn counts_of(store: &Store, from: usize, to: usize) -> [usize; 69]
     requires { to ≤ length store.now }
 {
@@ -41,7 +41,7 @@ fn counts_of(store: &Store, from: usize, to: usize) -> [usize; 69]
 }
 
 impl Layers {
-    // An empty list for each height, with room for so many nodes.
+    // An empty list for each height, with room for this many nodes.
     fn empty(alloc: Global, counts: &[usize; 69]) -> Result<Layers, NoMemory>
         ensures { IfOk result (λ l. l ≡ replicate 69 []) }
     {

@@ -1,4 +1,4 @@
-//! Compositions of kept tables that are remembered.
+//! A cache of compositions of kept tables.
 
 ghost use Rattle.std.specs.Prelude.{◌≡◌, ◌⊎◌, ◌≤◌, ◌<◌, [], List, length, IfOk, IfSome, Contains};
 ghost use Rattle.table_grow.specs.Front.{AreAmong};
@@ -10,21 +10,23 @@ use std::alloc::Global;
 use std::marker::Model;
 use std::num::NonZeroUsize;
 
-/// Some compositions, each in the place of its two tables. It holds 4,096 of them once it holds any.
+/// A direct-mapped cache in front: some compositions, each in the entry of its two tables. It has 4,096 entries once it
+/// has any.
 pub(crate) type Front = Vec<Option<((usize, usize), usize)>>;
 
-/// Of two kept tables, by their numbers, the number of their composition, for the compositions noted last.
+/// A cache of compositions: for two kept tables, by their numbers, the number of their composition, for the
+/// compositions noted last.
 #[derive(Drop)]
 pub struct Memory {
     cache: LruCache<(usize, usize), usize>,
-    // Some of these compositions, each in the place of its two tables, which is looked at first.
+    // Some of these compositions, each in the entry of its two tables. It is searched first.
     front: Front,
 }
 
-// The places take 128 KB.
+// The entries take 128 KB.
 const PLACES: usize = 4096;
 
-// Fewer compositions have no places.
+// Fewer compositions are not put in front.
 const FEW: usize = 64;
 
 impl Model for Memory {
@@ -41,11 +43,11 @@ impl Model for Memory {
 }
 
 impl Memory {
-    /// A memory with no entries, for at most `size` of them. No room is made for them yet.
+    /// An empty cache, for at most `size` compositions. Nothing is allocated for them yet.
     ///
     /// # Errors
     ///
-    /// `NoMemory` where none was found.
+    /// `NoMemory` if allocation fails.
     pub fn new(alloc: Global, size: usize) -> Result<Memory, NoMemory>
         requires some { 1 ≤ size }
         requires few { size ≤ 65536 }
@@ -60,15 +62,15 @@ impl Memory {
         }
     }
 
-    /// How many compositions are remembered.
+    /// The number of compositions in the cache.
     pub fn len(&self) -> usize
         ensures { result ≡ length self.now }
     {
         self.cache.len()
     }
 
-    /// Removes all entries, whose numbers are stale once tables are renumbered (`Tables::renumber`). The memory keeps its size,
-    /// and allocates nothing.
+    /// Removes all entries, whose numbers are stale once tables are renumbered (`Tables::renumber`). The cache keeps
+    /// its size, and nothing is allocated.
     pub fn forget(&mut self)
         ensures { self.new ≡ [] }
     {
@@ -76,7 +78,7 @@ impl Memory {
         self.front.clear();
     }
 
-    /// The number of the composition, if it is remembered. The memory stays as it is.
+    /// The number of the composition, if it is cached. The cache is unchanged.
     pub(crate) fn recall(&self, left: usize, right: usize) -> Option<usize>
         ensures { IfSome result (λ number. Contains self.now ((left, right), number)) }
     {
@@ -86,7 +88,8 @@ impl Memory {
         }
     }
 
-    /// The same, and what was found is put back into its place in front. What is remembered stays as it is.
+    /// The same, and a composition that was found is put into its entry in front. The cached compositions are
+    /// unchanged.
     pub(crate) fn recall_in_front(&mut self, left: usize, right: usize) -> Option<usize>
         ensures found { IfSome result (λ number. Contains self.old ((left, right), number)) }
         ensures same { self.new ≡ self.old }
@@ -99,7 +102,7 @@ impl Memory {
         Some(number)
     }
 
-    /// Remembers a composition, if there is memory for it. A full memory is emptied first.
+    /// Adds a composition, if memory allows. A full cache is emptied first.
     pub(crate) fn remember(&mut self, left: usize, right: usize, number: usize)
         ensures { (e : Entry) → Contains self.new e → Contains self.old e ⊎ (e ≡ ((left, right), number)) }
     {
@@ -108,14 +111,14 @@ impl Memory {
     }
 }
 
-// The place of two tables, by a multiplicative hash of their numbers (D. E. Knuth, The Art of Computer Programming,
+// The entry of two tables, by a multiplicative hash of their numbers (D. E. Knuth, The Art of Computer Programming,
 // volume 3, section 6.4).
 fn place(left: usize, right: usize) -> usize {
     let mixed = left.wrapping_mul(0x9E37_79B9_7F4A_7C15).wrapping_add(right);
     mixed.wrapping_mul(0x9E37_79B9_7F4A_7C15) >> 52
 }
 
-/// The number of the composition, if it is in its place.
+/// The number of the composition, if it is in its entry.
 pub(crate) fn found(front: &Front, left: usize, right: usize) -> Option<usize>
     ensures { IfSome result (λ number. (es : List Entry) → AreAmong front.now.items es → Contains es ((left, right), number)) }
 {
@@ -127,7 +130,7 @@ pub(crate) fn found(front: &Front, left: usize, right: usize) -> Option<usize>
     }
 }
 
-/// Puts a composition into its place, if there is memory for the places and so many are remembered that they pay.
+/// Writes a composition to its entry, if memory allows and so many compositions are cached that the entries pay.
 pub(crate) fn note(front: &mut Front, remembered: usize, left: usize, right: usize, number: usize)
     ensures { (es : List Entry) → Contains es ((left, right), number) → AreAmong front.old.items es → AreAmong front.new.items es }
 {
@@ -139,7 +142,7 @@ pub(crate) fn note(front: &mut Front, remembered: usize, left: usize, right: usi
     }
 }
 
-// Empties a full memory.
+// Empties a full cache.
 fn leave_room(cache: &mut LruCache<(usize, usize), usize>, front: &mut Front)
     ensures room { length cache.new.entries < cache.new.cap }
     ensures fewer { (e : Entry) → Contains cache.new.entries e → Contains cache.old.entries e }
@@ -151,7 +154,7 @@ fn leave_room(cache: &mut LruCache<(usize, usize), usize>, front: &mut Front)
     }
 }
 
-// Remembers a composition, for which there is room.
+// Adds a composition, for which there is room.
 fn put(
     cache: &mut LruCache<(usize, usize), usize>,
     front: &mut Front,

@@ -1,4 +1,4 @@
-//! The tables of the new nodes of one height, made in pieces at once from finished tables.
+//! The tables of the new nodes of one height, computed in pieces at once from finished tables.
 
 ghost use Rattle.std.specs.Prelude.{◌≡◌, ◌+◌, ◌<◌, ◌^◌, ◌++◌, ◌∷◌, [], All, length, map, IfOk};
 ghost use Rattle.std.specs.Thread.{IsSync};
@@ -15,28 +15,29 @@ use std::alloc::Global;
 use std::thread::Threads;
 use work_gate::{Gate, halves};
 
-/// A table that was made: that of a byte, or the composition of two kept tables, with their numbers.
+/// A computed table: that of a byte, or the composition of two kept tables, with their numbers.
 #[derive(Drop)]
 pub struct Made {
     pub parts: Option<(usize, usize)>,
     pub table: Table,
 }
 
-/// Where the table of a node stands: among the kept tables, by its number, or among those that were made, by its place.
+/// Where the table of a node is: among the kept tables, by its number, or among those that were computed, by its index.
 #[derive(Clone, Copy)]
 pub enum Spot {
     Kept(usize),
     Made(usize),
 }
 
-/// For some nodes in order where their tables stand, and the tables that were made. Equal compositions are made once.
+/// For some nodes in order where their tables are, and the tables that were computed. Equal compositions are computed
+/// once.
 #[derive(Drop)]
 pub struct Piece {
     pub spots: Vec<Spot>,
     pub made: Vec<Made>,
 }
 
-// Puts a table last among those that were made, and answers its place.
+// Appends a table to those that were computed, and returns its index.
 fn push_made(made: &mut Vec<Made>, one: Made) -> Result<usize, NoMemory>
     ensures place { IfOk result (λ place. place ≡ length made.old.items) }
     ensures made { IfOk result (λ _. made.new.items ≡ made.old.items ++ one ∷ []) }
@@ -46,7 +47,7 @@ fn push_made(made: &mut Vec<Made>, one: Made) -> Result<usize, NoMemory>
     Ok(place)
 }
 
-// Where the table of the node stands. It is made only where neither all nor the piece have it remembered.
+// Where the table of the node is. It is computed only if neither the cache nor the piece has it.
 fn spot_of(
     alloc: Global,
     filler: &Filler,
@@ -92,7 +93,7 @@ fn spot_of(
     }
 }
 
-// Where the tables of the nodes stand, found on this thread.
+// Where the tables of the nodes are, found on this thread.
 fn one_piece<G: Gate>(
     alloc: Global,
     filler: &Filler,
@@ -120,7 +121,7 @@ fn one_piece<G: Gate>(
     Ok(Piece { spots, made })
 }
 
-// The same spot, where so many tables stand before those that were made.
+// The same spot, if `before` more tables come before those that were computed.
 fn shift(spot: Spot, before: usize, count: usize) -> Spot
     requires within { IsWithin count spot }
     requires few { before + count < 2 ^ 64 }
@@ -156,7 +157,7 @@ fn joined(first: Piece, second: Piece) -> Result<Piece, NoMemory>
     Ok(Piece { spots, made })
 }
 
-/// Where the tables of the nodes stand, found in at most `workers` pieces at once.
+/// Where the tables of the nodes are, found in at most `workers` pieces at once.
 pub(crate) fn in_pieces<R: Threads + Sync, G: Gate>(
     rt: &R,
     alloc: Global,

@@ -1,4 +1,4 @@
-//! What was found is placed and remembered.
+//! Places and caches what was found.
 
 ghost use Rattle.std.specs.Prelude.{◌≡◌, ◌≢◌, [], ℕ, ◌<◌, ◌≤◌, length, All, AllPairs, IfOk, OnOk, None, Some, IsSome};
 ghost use Rattle.marker_dfa.specs.Deterministic.{states_of};
@@ -18,7 +18,7 @@ use span_types::NoMemory;
 use state_tables::Tables;
 use std::alloc::Global;
 
-// Places the table that was found, remembers the composition, and answers the table's number.
+// Places the table that was found, caches the composition, and returns the table's number.
 fn place_found(
     filler: &mut Filler,
     tables: &mut Tables,
@@ -76,7 +76,7 @@ pub(crate) fn place_one(
     Ok(())
 }
 
-// Keeps a table that was made, remembers the composition if it is among the last, and answers the table's number.
+// Keeps a table that was computed, caches the composition if it is among the last, and returns the table's number.
 fn keep_one(
     tables: &mut Tables,
     dfa: &Dfa,
@@ -100,10 +100,10 @@ fn keep_one(
     Ok(number)
 }
 
-/// How many are remembered of the compositions that were made at once: a memory of 4,096 that is full is emptied.
+/// The number of compositions that are cached of those that were computed at once. A full cache of 4,096 is emptied.
 const LAST: usize = 2048;
 
-// Keeps the tables that were made, remembers the last compositions, and answers the tables' numbers.
+// Keeps the tables that were computed, caches the last compositions, and returns the tables' numbers.
 fn keep_made(
     alloc: Global,
     tables: &mut Tables,
@@ -128,7 +128,7 @@ fn keep_made(
     Ok(numbers)
 }
 
-// The number of the table that stands there.
+// The number of the table at a spot.
 fn number_of(numbers: &[usize], spot: Spot) -> usize
     requires { IsSome (number_at numbers.now spot) }
     ensures { number_at numbers.now spot ≡ Some result }
@@ -139,7 +139,7 @@ fn number_of(numbers: &[usize], spot: Spot) -> usize
     }
 }
 
-// Gives each node the number of its table.
+// Places each node with the number of its table.
 fn place_spots(
     filler: &mut Filler,
     tables: &Tables,

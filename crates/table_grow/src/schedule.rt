@@ -64,12 +64,12 @@ fn fill_new(
     Ok(())
 }
 
-/// Gives every node of the store its table, computed and placed in the order of a schedule: a list of the nodes without
-/// a table, each once, each after those of its children that have none. It shows that the order doesn't matter.
+/// Computes the tables of all nodes of the store that have none, in the order of a schedule: a list of the nodes
+/// without a table, each once, each after those of its children that have none. It shows that the order doesn't matter.
 ///
 /// # Errors
 ///
-/// `NoMemory`: each node's table is then as before.
+/// `NoMemory` if allocation fails; each node's table is then unchanged.
 pub fn fill<L: Ledger>(
     alloc: Global,
     tables: &mut Tables,
