@@ -1,17 +1,15 @@
-//! Times the automata of the largest formulas within the limits, and those of the dearest queries that are made of
-//! queries. The figures go to standard error.
+//! Times the automata of the largest formulas within the limits, and those of the most expensive queries that are made
+//! of queries. The figures go to standard error.
 //!
 //! ```text
 //! rt try        # a line for each formula: microseconds for the position automaton and for the deterministic one;
 //!               # for each two queries the microseconds of their union, their join and a projection
 //! ```
 //!
-//! It is no part of the database: it shows the worst that `marker_nfa`, `marker_dfa` and `span_algebra` meet, formulas
-//! of 2,048 bytes with eight variables whose marks stand between many occurrences, and two automata of up to 128 states
-//! with eight variables, with products of just 128 states and of more. It takes no input, and memory for the automata of
-//! one line at a time.
-//!
-//! Proved: Only safety and termination.
+//! It isn't part of the database. It shows the most expensive inputs of `marker_nfa`, `marker_dfa` and `span_algebra`:
+//! formulas of 2,048 bytes with eight variables whose marks lie between many occurrences, and two automata of up to 128
+//! states with eight variables, with products of exactly 128 states and of more. It takes no input, and memory for the
+//! automata of one line at a time.
 #![tactic(auto)]
 
 mod queries;
@@ -24,7 +22,7 @@ use std::alloc::{AllocError, Global};
 use std::io;
 use std::time::Instant;
 
-// Puts a text behind another so many times.
+// Appends a text to another this many times.
 pub(crate) fn repeat(out: &mut Vec<u8>, text: &[u8], times: u32) -> Result<(), AllocError> {
     for _ in 0..times {
         out.extend_from_slice(text)?;
@@ -32,7 +30,7 @@ pub(crate) fn repeat(out: &mut Vec<u8>, text: &[u8], times: u32) -> Result<(), A
     Ok(())
 }
 
-// So many copies of a text, all eight variables with this between their braces, and the copies again.
+// Copies of a text, all eight variables with this between their braces, and the copies again.
 pub(crate) fn around(
     alloc: Global,
     side: &[u8],
@@ -53,7 +51,7 @@ pub(crate) fn around(
     Ok(text)
 }
 
-// A text, and behind it another so many times.
+// A text, and after it another this many times.
 fn with_tail(alloc: Global, text: &[u8], tail: &[u8], times: u32) -> Result<Vec<u8>, AllocError> {
     let mut out = Vec::new(alloc);
     out.extend_from_slice(text)?;
@@ -61,7 +59,7 @@ fn with_tail(alloc: Global, text: &[u8], tail: &[u8], times: u32) -> Result<Vec<
     Ok(out)
 }
 
-// Sets in a group, and signs behind it.
+// Sets in a group, and signs after it.
 fn grouped(
     alloc: Global,
     side: &[u8],

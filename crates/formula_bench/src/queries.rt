@@ -1,4 +1,4 @@
-//! Times the dearest queries that are made of queries.
+//! Times the most expensive queries that are made of queries.
 
 ghost use Rattle.std.specs.Prelude.{◌≡◌, IfSome, length};
 
@@ -29,7 +29,7 @@ fn named(dfa: Dfa, names: Vars) -> Option<Query>
     Some(Query { dfa, names })
 }
 
-// The query of a formula, unless it is refused.
+// The query of a formula, unless it is rejected.
 fn read_query(alloc: Global, text: Result<Vec<u8>, AllocError>) -> Option<Query>
     ensures { IfSome result (λ q. length q.names ≡ q.dfa.variables) }
 {
@@ -67,7 +67,7 @@ fn open(text: &mut Vec<u8>, name: u8) -> Result<(), AllocError> {
     Ok(text.push(b'{')?)
 }
 
-// All eight variables but two with an empty span here or none, and then a span of one byte for the two.
+// All eight variables except two with an empty span here or none, and then a span of one byte for the two.
 fn push_part(text: &mut Vec<u8>, one: u8, two: u8) -> Result<(), AllocError> {
     text.push(b'|')?;
     for name in b"stuvwxyz" {
@@ -100,7 +100,7 @@ fn many_marks(alloc: Global) -> Result<Vec<u8>, AllocError> {
     Ok(text)
 }
 
-// A star of a text so many times, and what ends it.
+// A star of a text repeated this many times, and what ends it.
 fn star(alloc: Global, part: &[u8], times: u32, end: &[u8]) -> Result<Vec<u8>, AllocError> {
     let mut text = Vec::new(alloc);
     text.push(b'(')?;
@@ -194,7 +194,7 @@ fn four(alloc: Global) -> Result<Vec<u8>, AllocError> {
     Ok(text)
 }
 
-// The join of two queries, unless one is refused.
+// The join of two queries, unless one is rejected.
 fn joined(alloc: Global, left: Option<Query>, right: Option<Query>) -> Option<Query>
     requires left { IfSome left (λ q. length q.names ≡ q.dfa.variables) }
     requires right { IfSome right (λ q. length q.names ≡ q.dfa.variables) }
@@ -223,14 +223,14 @@ fn many_letters(alloc: Global) -> Option<Query>
     )
 }
 
-// An automaton of 127 states, of which eight variables take a part.
+// An automaton of 127 states, some of which are for eight variables.
 fn chain(alloc: Global) -> Option<Query>
     ensures { IfSome result (λ q. length q.names ≡ q.dfa.variables) }
 {
     read_query(alloc, around(alloc, b"a", 59, b"a", b"}?"))
 }
 
-/// Times unions, joins and projections of the dearest queries.
+/// Times unions, joins and projections of the most expensive queries.
 pub fn measure_queries(rt: &HostRuntime) -> io::Result<()> {
     let alloc = rt.alloc();
     measure_both(

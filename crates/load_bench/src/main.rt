@@ -4,11 +4,9 @@
 //! rt try        # one line: B bytes, N nodes, T ns
 //! ```
 //!
-//! It is no part of the database: it shows what `pair_loader` makes of text that repeats itself a little, in bytes,
-//! nodes and nanoseconds. The text is made while it runs, from one seed, so each run loads the same bytes. It takes
-//! memory for one piece and for the nodes.
-//!
-//! Proved: Only safety and termination.
+//! It isn't part of the database. It shows the result of `pair_loader` on a text with some repetition, in bytes, nodes
+//! and nanoseconds. The text is made while it runs, from one seed, so each run loads the same bytes. It takes memory
+//! for one piece and for the nodes.
 #![tactic(auto)]
 
 ghost use Rattle.std.specs.Prelude.{◌≡◌, ◌<◌};
@@ -32,7 +30,7 @@ fn next(seed: u64) -> u64 {
         .wrapping_add(1_442_695_040_888_963_407)
 }
 
-// Puts a line of a web server's log after the text.
+// Appends a line of a web server's log to the text.
 fn push_line(alloc: Global, text: &mut Vec<u8>, seed: u64) -> Result<(), AllocError> {
     let host = (seed >> 40) % 64;
     let second = (seed >> 34) % 60;

@@ -1,4 +1,4 @@
-//! Rows of sources, sinks and shelves: in memory, over std and over folders.
+//! Tests of sources, sinks and file stores: in memory, over std and over folders.
 ghost use Rattle.std.specs.Prelude.{◌≤◌, ◌<◌, IfOk};
 
 use edge_io::{
@@ -11,7 +11,7 @@ use std::io::{ErrorKind, Read, Write};
 use std::process::Abort;
 use std::test::Fail;
 
-/// A reader and writer that is interrupted some times, and then moves one byte a call.
+/// A reader and writer that is interrupted some times, and then moves one byte per call.
 #[derive(Drop)]
 struct Interrupted {
     times: u32,
@@ -59,7 +59,7 @@ impl Write for Closed {
     }
 }
 
-// The calls of the objects, without their contracts: a row needs none, and so carries none on to the next one.
+// The calls of the objects without their contracts: a test needs none, and so carries none on to the next call.
 
 fn read<S: Source>(source: &mut S, into: &mut [u8; 4]) -> Result<usize, Failed> {
     source.read(into)
@@ -82,7 +82,7 @@ fn put<F: Shelf>(shelf: &mut F, name: &[u8], bytes: &[u8]) -> Result<(), PutRefu
     shelf.put(name, bytes)
 }
 
-/// What each read gives in turn, and the four bytes that the reads fill.
+/// The result of each read in turn, and the four bytes that the reads fill.
 fn reads<S: Source>(
     rt: &impl Abort,
     source: &mut S,
@@ -96,17 +96,17 @@ fn reads<S: Source>(
     assert!(rt; into.as_slice() == bytes);
 }
 
-/// What each write of `abc` gives in turn.
+/// The result of each write of `abc` in turn.
 fn writes<K: Sink>(rt: &impl Abort, sink: &mut K, wants: &[Result<usize, WriteRefusal>]) {
     for want in wants {
         assert!(rt; write(sink) == *want);
     }
 }
 
-/// A file's name, the place from which its bytes are read, and what that gives.
+/// A file's name, the offset from which its bytes are read, and the result.
 type ReadRow = (&'static [u8], u64, Result<usize, ShelfRefusal>);
 
-/// What each read gives in turn, and the four bytes that the reads fill.
+/// The result of each read in turn, and the four bytes that the reads fill.
 fn reads_at<F: Shelf>(rt: &impl Abort, shelf: &mut F, rows: &[ReadRow], bytes: &[u8]) {
     let mut into = [0; 4];
     for (name, from, want) in rows {
@@ -115,10 +115,10 @@ fn reads_at<F: Shelf>(rt: &impl Abort, shelf: &mut F, rows: &[ReadRow], bytes: &
     assert!(rt; into.as_slice() == bytes);
 }
 
-/// A file's name, the bytes that are put, and what that gives.
+/// A file's name, the bytes that are put, and the result.
 type PutRow = (&'static [u8], &'static [u8], Result<(), PutRefusal>);
 
-/// What each put gives in turn.
+/// The result of each put in turn.
 fn puts<F: Shelf>(rt: &impl Abort, shelf: &mut F, rows: &[PutRow]) {
     for (name, bytes, want) in rows {
         assert!(rt; put(shelf, name, bytes) == *want);
@@ -265,7 +265,7 @@ fn over_std(rt: HostRuntime) -> Result<(), Fail> {
     Ok(())
 }
 
-/// Files of the system, and what a read of one gives.
+/// Files of the system, and the result of a read of each.
 const FILES: [(&[u8], Result<usize, ShelfRefusal>); 6] = [
     (b"/dev/null", Ok(0)),
     (b"/dev/zero", Ok(4)),

@@ -1,10 +1,10 @@
-//! Rows of formula texts.
+//! Tests of formula texts.
 use formula_syntax::{FormulaRefusal, read};
 use span_types::{Formula, QueryTree, Vars};
 use std::alloc::{AllocError, Global};
 use std::test::Fail;
 
-/// The words of an answer: `ok` and the names of the variables, or the refusal's text.
+/// The text of a result: `ok` and the names of the variables, or the text of the error.
 fn reply(
     alloc: Global,
     answer: &Result<(Formula, Vars), FormulaRefusal>,

@@ -1,4 +1,5 @@
-//! Worked rows of what is read: names, spans and their marks, formulas, lines of a script, and bytes from sources and shelves.
+//! Tests of what is read: names, spans and their marks, formulas, lines of a script, and bytes from sources and file
+//! stores.
 //!
 //! ```text
 //! row    `($x{a})*`                  not functional in x

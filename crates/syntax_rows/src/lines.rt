@@ -1,4 +1,4 @@
-//! Rows of lines of a script.
+//! Tests of lines of a script.
 use script_syntax::{Command, LineRefusal, command};
 use std::test::Fail;
 

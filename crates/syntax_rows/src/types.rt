@@ -1,4 +1,4 @@
-//! Rows of names, tuples and their marks, sets of bytes, and limits.
+//! Tests of names, tuples and their marks, sets of bytes, and limits.
 use span_types::{
     ByteList, ByteSet, Formula, Name, NameRefusal, NoMemory, QueryTree, Span, Tuple, Vars,
     VarsRefusal, compare, height_limit, is_well_named, looks_limit, mark_at,
