@@ -53,7 +53,7 @@ past_all p xs is = by (ltb (position_or_len p xs) (length xs)) refl is
     by false at none = ltb-false (position_or_len p xs) (length xs) at
 
 module _ {Y Z : Type 0} where
-  -- the name is at no place of the list
+  -- the name is at no index of the list
   absent_all : (files : List (Vec ℕ Y × Vec ℕ Z)) (name : List ℕ) → length files ≤ position_or_len (λ file. bytes_eq file.0.items name) files
       → (entry_of (told files) name ≡ None) × ((bytes : List ℕ) → put_entry (told files) name bytes ≡ told files ++ (name, bytes) ∷ [])
   absent_all [] name past = (refl, λ bytes. refl)
@@ -73,7 +73,7 @@ module _ {Y Z : Type 0} where
       → (entry_of (told files) name ≡ None) × ((bytes : List ℕ) → put_entry (told files) name bytes ≡ told files ++ (name, bytes) ∷ [])
   absent files name is = absent_all files name (past_all (λ file. bytes_eq file.0.items name) files is)
 
-  -- the name is first at this place of the list
+  -- the name is first at this index of the list
   pub present : (files : List (Vec ℕ Y × Vec ℕ Z)) (name : List ℕ) (i : ℕ) (d : Vec ℕ Y × Vec ℕ Z) → i < length files
       → bytes_eq (get_or files i d).0.items name ≡ true → ((k : ℕ) → k < i → bytes_eq (get_or files k d).0.items name ≡ false)
       → (entry_of (told files) name ≡ Some (get_or files i d).1.items)

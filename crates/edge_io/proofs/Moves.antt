@@ -1,4 +1,4 @@
--- A read from a list at a place.
+-- A read from a list at an index.
 use Rattle.std.proofs.Common.{◌≡◌, ℕ, ◌+◌, ◌≤◌, List, [], ◌++◌, length, take, drop, sym, ◌∙◌, ap, take-append-drop}
 use Rattle.std.proofs.lemmas.List.{drop_all, drop-drop}
 

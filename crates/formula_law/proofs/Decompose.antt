@@ -12,7 +12,7 @@ use Rattle.formula_law.proofs.Words.{Words}
 use Rattle.formula_law.proofs.Enters.{Reads, Path, Runs}
 use Rattle.formula_law.proofs.Compose.{path_less}
 
--- no variable stands under a star or a plus
+-- no variable occurs under a star or a plus
 abbrev pub StarsPlain : FormulaTree → Type 0
 StarsPlain (Set b) = Unit {0}
 StarsPlain Empty = Unit {0}
@@ -35,7 +35,7 @@ back_inside i j m x u d le = record {
   above = λ p h. back_after u m x p (omega arith) ∙ d.above p h;
 }
 
--- one number at i, another at j, and else as before
+-- one number at i, another at j, and otherwise unchanged
 abbrev bordered : (ℕ → ℕ) → ℕ → ℕ → ℕ → ℕ → ℕ → ℕ
 bordered u i y j z p = if p == i then y else if p == j then z else u p
 
@@ -179,7 +179,7 @@ module _ (A : ℕ → List Bool → Type 0) where
         second = keeps_walk (Cat a b) b n (n + sets a) u s d q c (keeps_back a b n) t w;
       })
 
-  -- the two halves of a concatenation at a place
+  -- the two halves of a concatenation at an index
   record Halves (a b : FormulaTree) (n i j : ℕ) (u : ℕ → ℕ) : Type 0 where
     place : ℕ
     low : i ≤ place

@@ -4,7 +4,7 @@ use Rattle.std.proofs.lemmas.Bool.{eq-eqb}
 use Rattle.span_types.specs.FormulaTree.{FormulaTree, Set, Empty, Cat, Alt, Star, Plus, Opt, Capture, has_var, sets}
 use Rattle.formula_law.specs.Positions.{HasSet, IsNull, IsFirst, IsLast, Joins, IsFollow}
 
--- a number from n on, of which there are so many
+-- a number from n on, of a given count
 pub record InRange (n size o : ℕ) : Type 0 where
   pub low : n ≤ o
   pub high : o < n + size
@@ -85,7 +85,7 @@ follow_range (Plus a) n o m p (inr h) = record { from = last_range a n o h.left 
 follow_range (Opt a) n o m p h = follow_range a n o m p h
 follow_range (Capture x a) n o m p h = follow_range a n o m p h
 
--- no variable stands in the formula
+-- no variable occurs in the formula
 pub record NoVars (f : FormulaTree) : Type 0 where
   pub none : (v : ℕ) → has_var f v ≡ false
 

@@ -9,7 +9,7 @@ use Rattle.formula_law.proofs.Ranges.{first_range, last_range, follow_range}
 use Rattle.formula_law.proofs.Walk.{Walk, stop, step, walk_le}
 use Rattle.formula_law.proofs.Enters.{Reads, Runs}
 
--- the mark at a place of a marked text, counted from 0
+-- the mark at an index of a marked text, counted from 0
 abbrev pub mark_of : List (ℕ × ℕ) → ℕ → ℕ → ℕ
 mark_of [] last zero = last
 mark_of [] last (suc p) = 0

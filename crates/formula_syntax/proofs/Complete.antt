@@ -123,7 +123,7 @@ end_settled k neg rs empty z = refl
 end_settled k neg rs (low a) z = refl
 end_settled k neg rs (dash a) z = absurd (true≢false (sym z))
 
--- the bytes from behind the bracket to the closing one, where no sign stands
+-- the bytes from after the bracket to the closing one, if there is no sign
 set_goes : (k : Stack) (neg : Bool) (a : List ℕ) (rs : List (ℕ × ℕ)) → Items a rs → Goes (at (in_set neg [] empty) k) (a ++ 93 ∷ []) (at text (add k (Set (bytes_where (negated neg (in_ranges rs))))))
 set_goes k neg a rs h =
     let x = items_steps k neg [] empty a rs refl h in

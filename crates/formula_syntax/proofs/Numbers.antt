@@ -1,4 +1,4 @@
--- The numbers of names, from what `Vars::number_of` tells.
+-- The numbers of names, from the contract of `Vars::number_of`.
 use Rattle.std.proofs.Common.{◌≡◌, ◌≢◌, ℕ, zero, suc, ◌<◌, ◌≤◌, ◌⊎◌, inl, inr, Bool, true, false, refl, sym, ap, subst, ◌∙◌, arith, List, [], ◌∷◌, ◌++◌, length, Some, if◌then◌else◌, slice_get}
 use Rattle.std.specs.Prelude.{Contains, AllPairs}
 use Rattle.std.specs.Str.{bytes_eq}
@@ -70,7 +70,7 @@ some-is y x e = cc
 rest-apart : (y : List ℕ) (ys : Names) → AllPairs (λ a b. a ≢ b) (y ∷ ys) → AllPairs (λ a b. a ≢ b) ys
 rest-apart y ys h i j d lt in_list = h (suc i) (suc j) d (omega (arith, lt)) (omega (arith, in_list))
 
--- in a list of different names a name has one place
+-- in a list of different names a name has one index
 place-is : (ys : Names) (x : List ℕ) (v : ℕ) → AllPairs (λ a b. a ≢ b) (seen ys x) → slice_get (seen ys x) v ≡ Some x → v ≡ number_in ys x
 place-is [] x zero h e = refl
 place-is [] x (suc v) h e = absurd (cc)

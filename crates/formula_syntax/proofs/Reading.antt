@@ -1,4 +1,4 @@
--- The loop of the reader: the state that is shown goes on as the start would.
+-- The loop of the reader: the state that is shown continues as the start would.
 use Rattle.std.proofs.Common.{◌≡◌, ℕ, suc, ◌+◌, ◌<◌, ◌≤◌, List, [], ◌∷◌, length, drop, get_or, Some, None, refl, sym, ap, ◌∙◌, add-one, drop-cons, drop_of_length-le}
 use Rattle.std.specs.Option.{option_and_then}
 use Rattle.formula_syntax.specs.Machine.{Machine, steps, step, start, finish, read}

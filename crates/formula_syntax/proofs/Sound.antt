@@ -107,7 +107,7 @@ map_some : (f : FormulaTree) (o : Option (List FormulaTree)) (qs : List FormulaT
 map_some f None qs h = none_some _ _ h
 map_some f (Some rs) qs h = let e : f ∷ rs ≡ qs = cc in (rs, refl, sym e)
 
--- a sign behind the last part
+-- a sign after the last part
 record Signs (w : ℕ) (g : FormulaTree → FormulaTree) : Type 0 where
   signed : (a : List ℕ) (f : FormulaTree) (d : ℕ) (n m : Names) → Reads rep a f d n m → Reads rep (a ++ w ∷ []) (g f) d n m
 
@@ -211,7 +211,7 @@ stays gs bs ps s e m le h = let same : max e (length gs + 0) ≡ e = omega arith
 
 -- ---- what a state has read
 
--- the part of a set behind its sign
+-- the part of a set after its sign
 abbrev pub SetRead : List (ℕ × ℕ) → Pending → List ℕ → Type 0
 SetRead rs empty c = Items c rs
 SetRead rs (low a) c = (u : List ℕ) × (v : List ℕ) × (c ≡ u ++ v) × Items u rs × Member v a
@@ -361,7 +361,7 @@ moved n s t e h = subst (λ v. Holds n v) (sym e) h
 became : (m n : Machine) (s : List ℕ) → Some m ≡ Some n → Holds m s → Holds n s
 became m n s e h = subst (λ v. Holds v s) (same_some m n e) h
 
--- the byte behind a text is one that is known
+-- the byte after a text is one that is known
 last_is : (n : Machine) (s : List ℕ) (b w : ℕ) → b ≡ w → Holds n (s ++ w ∷ []) → Holds n (s ++ b ∷ [])
 last_is n s b w e h = subst (λ v. Holds n (s ++ v ∷ [])) (sym e) h
 

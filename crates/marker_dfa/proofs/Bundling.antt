@@ -70,7 +70,7 @@ bundled_end a n bundles le h = record {
         let c = at_contains a.edges mv.edge mv.among in
         (c.0, mv.edge, omega (arith, get_within a.edges c.0 mv.edge c.1, le), c.1, record { from = mv.from; mark = mv.mark; letter = mv.letter; to = mv.to })
 
--- the order of bundles tells nothing
+-- the order of bundles doesn't matter
 pub in_any_order : (a : Automaton) (old new : List Bundle) → IsPermutation old new → AreBundles a old → AreBundles a new
 in_any_order a old new moved h = record {
   wellmade = record {

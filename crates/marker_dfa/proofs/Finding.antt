@@ -50,7 +50,7 @@ copied_get (Some x) xs i h = sym (slice_get-get_or xs i x.now h.3.0 ∙ ap Some 
 order : (x y : ℕ) → (x < y) ⊎ (y ≤ x)
 order x y = grind arith
 
--- along falling marks, how a mark compares with them rises
+-- along descending marks, how a mark compares with them rises
 rises : (ms : List ℕ) (m : ℕ) → AllPairs (λ x y. y < x) ms → IsNonDecreasingBy (λ y. ordering_index (nat_cmp m y)) ms
 rises ms m fall = IsNonDecreasingBy-from_default (λ y. ordering_index (nat_cmp m y)) ms 0 (λ i j le lt. higher (get_or ms i 0) (get_or ms j 0) (falls i j le lt (order i j)))
   where
@@ -61,7 +61,7 @@ rises ms m fall = IsNonDecreasingBy-from_default (λ y. ordering_index (nat_cmp 
     falls i j le lt (inl l) = omega (arith, fall i j 0 l lt)
     falls i j le lt (inr g) = let same : i ≡ j = omega (arith, le, g) in omega (arith, ap (λ k. get_or ms k 0) same)
 
--- what a binary search finds in falling marks
+-- what a binary search finds in descending marks
 searched : (ms ts : List ℕ) (m : ℕ) (r : Result ℕ ℕ) → AllPairs (λ x y. y < x) ms → IsSearchInRange r (length ms) → IsBinarySearchResult (λ y. nat_cmp m y) ms r
     → MatchResult r (λ i. find_target ms ts m ≡ slice_get ts i) (λ _. find_target ms ts m ≡ None)
 searched ms ts m (Ok i) fall in_range at =

@@ -63,7 +63,7 @@ push_reached a old x f fresh r = record {
 pub too_many : (a : Automaton) (old : List Subset) (x : Subset) → AreFound a old → HasNoRoom old x → IsReached a.states (Moves a) x → AreTooMany a
 too_many a old x f n r = record { subsets = old ++ x ∷ []; many = omega (arith, length-append old (x ∷ []), n.full); sets = push_reached a old x f.sets n.fresh r }
 
--- the sets with one more at its place
+-- the sets with one more at its index
 pub placed_found : (a : Automaton) (old new : List Subset) (x : Subset) (q : ℕ) → AreFound a old → IsPlaced old new x q → IsReached a.states (Moves a) x → length x ≡ a.states → length new ≤ 128 → AreFound a new
 placed_found a old new x q f p r size few = go p.list
   where

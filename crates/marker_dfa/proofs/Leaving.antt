@@ -129,7 +129,7 @@ steps_start size bundles x places = record {
   all = λ m p s. absurd (omega (arith, s.below));
 }
 
--- one more place, and the steps before and after it
+-- one more index, and the steps before and after it
 module _ (size : ℕ) (bundles : List Bundle) (x : Subset) (places : List ℕ) (n place : ℕ) (w : Bundle) (old : List Step) (there : slice_get places n ≡ Some place) (at : slice_get bundles place ≡ Some w) (h : StepsUpTo size bundles x places n old) where
   this_one : (m p : ℕ) → (s : LeadsUpTo bundles x places (n + 1) m p) → s.index ≡ n → LeadsTo x m p w
   this_one m p s q =

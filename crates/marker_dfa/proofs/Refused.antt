@@ -1,4 +1,4 @@
--- A refusal that is handed on.
+-- An error that is passed on.
 use Rattle.std.proofs.Common.{◌≡◌, Result, Ok, Err, IsErrAnd}
 use Rattle.marker_dfa.specs.declared.refusal.DfaRefusal.{DfaRefusal}
 use Rattle.marker_dfa.specs.declared.refusal.DfaRefusal.TheVariants.{TooManyStates, NoMemory}

@@ -131,7 +131,7 @@ words-same n ws vs h i e =
 both_set : (x y : ℕ) → x < 2 → y < 2 → min x y ≡ 1 → (x ≡ 1) × (y ≡ 1)
 both_set x y lx ly e = (omega (arith, lx, ly, e), omega (arith, lx, ly, e))
 
--- two sets have a member in common exactly where two of their words have a bit in common
+-- two sets have a member in common exactly if two of their words have a bit in common
 pub meets-at : (m n : ℕ) (ws vs : List ℕ) (k : ℕ) → AreWords m ws → AreWords n vs → (bit_and (get_or ws k 0) (get_or vs k 0) ≡ 0 → ⊥) → (xs ys : Subset) → members m ws ≡ xs → members n vs ≡ ys → (p : ℕ) × IsIn xs p × IsIn ys p
 meets-at m n ws vs k h i ne xs ys left right =
     let x : ℕ = bit_and (get_or ws k 0) (get_or vs k 0) in

@@ -52,7 +52,7 @@ single_in n o lt = get_or-set_same (replicate n false) o true false (omega (arit
 pub single_size : (n o : ℕ) → length (single n o) ≡ n
 single_size n o = length-set (replicate n false) o true ∙ length-replicate n false
 
--- a set has a place in two lists
+-- a set has an index in two lists
 abbrev pub Placed : List Subset → List Subset → ℕ → ℕ → Type 0
 Placed xs ys q r = (x : Subset) × (slice_get xs q ≡ Some x) × (slice_get ys r ≡ Some x)
 

@@ -1,4 +1,4 @@
--- The hops of each form of formula, from those of its parts.
+-- The steps of each form of formula, from those of its parts.
 use Rattle.std.proofs.Common.{◌≡◌, ℕ, ◌+◌, ◌⊎◌, inl, inr, refl, sym, subst, arith, List, Contains, Bool, true, false, ◌&&◌}
 use Rattle.span_types.specs.FormulaTree.{FormulaTree, Cat, Alt, Star, Plus, Opt, Capture, sets}
 use Rattle.formula_law.specs.Positions.{Joins, IsNull, IsFirst, IsLast}
@@ -7,7 +7,7 @@ use Rattle.marker_nfa.specs.declared.lists.Hop.{Hop}
 use Rattle.marker_nfa.specs.declared.parts.Part.{Part}
 use Rattle.marker_nfa.specs.Parts.{IsPart, IsHopIn, IsFollowHop, Adds, AddsUnless, AddsFollow, CoversPart}
 
--- the hops from the lasts of one part to the firsts of another
+-- the steps from the lasts of one part to the firsts of another
 joins_to : (a b : FormulaTree) (n k : ℕ) (p q : Part) → IsPart a n p → IsPart b k q → (h : Hop) → IsHopIn p.lasts.items q.firsts.items h → Joins (IsLast a n) (IsFirst b k) h.from h.mark h.to
 joins_to a b n k p q ip iq h s =
     let x : End = s.0 in
@@ -31,7 +31,7 @@ all_added old new P a left_out = record { keeps = λ h c. (a h).1 (inl c); sound
 pub none_added : (left_out : Bool) (old : List Hop) (P : Hop → Type 0) → left_out ≡ true → AddsUnless left_out old old P
 none_added left_out old P e = record { keeps = λ h c. c; sound = λ h c. inl c; complete = λ h s. inr e }
 
--- what a star or a plus adds to the hops of its part
+-- what a star or a plus adds to the steps of its part
 repeated : (a f : FormulaTree) (n : ℕ) (covered : Bool) (p : Part) (old mid new : List Hop)
     → ((h : Hop) → IsFollowHop f n h → IsFollowHop a n h ⊎ Joins (IsLast a n) (IsFirst a n) h.from h.mark h.to)
     → ((h : Hop) → IsFollowHop a n h ⊎ Joins (IsLast a n) (IsFirst a n) h.from h.mark h.to → IsFollowHop f n h)
@@ -162,7 +162,7 @@ cat_hops a b n covered lc rc p q old one two new cl cr l r j ip iq = record {
     there h (inr (inl s)) = of_right h (r.complete h s)
     there h (inr (inr s)) = of_joins h s (j.complete h (joins_from a b n (n + sets a) p q ip iq h s))
 
--- where nothing is left out, exactly the hops of the formula come
+-- if nothing is left out, exactly the steps of the formula are added
 pub follow_added : (f : FormulaTree) (n : ℕ) (old new : List Hop) → AddsFollow false f n old new → Adds old new (IsFollowHop f n)
 follow_added f n old new s h = (λ c. s.sound h c, λ c. back c)
   where

@@ -1,4 +1,4 @@
--- The byte set of an occurrence, by its place in the list of byte sets.
+-- The byte set of an occurrence, by its index in the list of byte sets.
 use Rattle.std.proofs.Common.{◌≡◌, ℕ, zero, suc, ◌+◌, ◌-◌, ◌<◌, ◌≤◌, ◌⊎◌, inl, inr, refl, sym, ap, subst, ◌∙◌, arith, Bool, List, [], ◌∷◌, ◌++◌, length, slice_index_or}
 use Rattle.span_types.specs.FormulaTree.{FormulaTree, Set, Empty, Cat, Alt, Star, Plus, Opt, Capture, sets}
 use Rattle.formula_law.specs.Positions.{HasSet}
@@ -25,7 +25,7 @@ in_back xs ys n m o e low =
     let k : o - n ≡ length xs + (o - m) = omega (arith, e, low) in
     ap (λ j. slice_index_or (xs ++ ys) j []) k ∙ get_right xs ys (o - m) []
 
--- an occurrence has the byte set at its place
+-- an occurrence has the byte set at its index
 pub set_is : (f : FormulaTree) (n o : ℕ) (c : List Bool) → HasSet f n o c → c ≡ slice_index_or (letters_in f) (o - n) []
 set_is (Set b) n o c h =
     let k : o - n ≡ 0 = omega (arith, h.0) in
@@ -73,7 +73,7 @@ some_set (Plus a) n o r = some_set a n o r
 some_set (Opt a) n o r = some_set a n o r
 some_set (Capture x a) n o r = some_set a n o r
 
--- so the byte set at the place is that of the occurrence
+-- so the byte set at the index is that of the occurrence
 pub set_at : (f : FormulaTree) (n o : ℕ) → InRange n (sets f) o → HasSet f n o (slice_index_or (letters_in f) (o - n) [])
 set_at f n o r =
     let s = some_set f n o r in

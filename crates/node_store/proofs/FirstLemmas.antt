@@ -12,7 +12,7 @@ use Rattle.node_store.specs.Firsts.{LeadsTo, RightLeadsTo, Leads, RightLeads, Is
 use Rattle.node_store.proofs.NarrowLemmas.{absent-wide, unique-push, unique-none, differs-at}
 use Rattle.node_store.proofs.SearchTreeLemmas.{narrow-push, same_or_other}
 
--- what stood at a place of a list stands there in a longer one
+-- an element of a list has the same index in a longer one
 get-left : {X : Type 0} (xs ys : List X) (x : X) (i : ℕ) → slice_get xs i ≡ Some x → slice_get (xs ++ ys) i ≡ Some x
 get-left [] ys x i h = cc
 get-left (y ∷ xs) ys x zero h = h
@@ -47,7 +47,7 @@ indexed-none = record {
 }
 
 -- ---- links of one more node
--- links with one more place, where n nodes are: they lead as before, and from nowhere further than to the new node
+-- links with one more index, where n nodes are: they lead as before, and from nowhere further than to the new node
 record Extends (n : ℕ) (links after : List ℕ) : Type 0 where
   longer : length after ≡ length links + 1
   inside : ((m i : ℕ) → get_or links m 0 ≡ suc i → i < n) → (m i : ℕ) → get_or after m 0 ≡ suc i → i < n + 1

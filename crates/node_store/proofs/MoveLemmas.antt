@@ -51,7 +51,7 @@ next-kept ns ks k n f sound bytes plan keep at len high = record {
     same : node_tree (trees (thin_to ns ks k)) (renumbered (rank ks) n) ≡ tree ns k
     same = next-tree ns ks k n sound plan keep at
 
--- and then it stands last
+-- and then it is last
 pub kept-last : (ns : List Node) (ks : List Bool) (k : ℕ) (n : Node) (new : List Node) (j : ℕ) → IsSound ns → AreDistinct ns → IsPlanOf ns ks → Keeps ks k → slice_get ns k ≡ Some n
     → IsKept (thin_to ns ks k) new (renumbered (rank ks) n) → slice_get new j ≡ Some (renumbered (rank ks) n) → new ≡ thin_to ns ks (k + 1)
 kept-last ns ks k n new j sound apart plan keep at added here = elim added [

@@ -1,4 +1,4 @@
--- Narrow nodes are equal where the nodes that they stand for are.
+-- Narrow nodes are equal if their wide nodes are.
 use Rattle.std.proofs.Common.{rules, arith, ◌≡◌, ◌≢◌, ℕ, zero, suc, ◌+◌, ◌<◌, ◌||◌, Bool, true, false, not, true≢false, List, [], ◌∷◌, ◌++◌, length, map, get_or, slice_get, position, Some, refl, sym, ap, subst, ◌∙◌, if◌then◌else◌}
 use Rattle.std.specs.List.{IsDistinct, list_any}
 use Rattle.std.proofs.lemmas.List.{map-append}
@@ -52,7 +52,7 @@ none-equal (x ∷ ns) n new = by (none-equal ns n (λ i. new (suc i))) (node.gho
 pub unique-push : (ns : List Node) (n : Node) → AreUnique ns → IsNew ns n → AreUnique (ns ++ n ∷ [])
 unique-push ns n unique new = IsDistinct-push laws-law ns n unique (none-equal ns n new)
 
--- a look that found none
+-- a lookup that found none
 pub absent-hashed : (ns : List Narrow) (n : Narrow) → list_any (ghosts.eq n) ns ≡ false → IsAbsent ns n
 absent-hashed ns n none i h = absurd (true≢false (sym (any_passes_from_place (ghosts.eq n) ns i n h (narrow-self n)) ∙ none))
 
@@ -62,7 +62,7 @@ added-hashed old new n added says made was =
     let none : list_any (ghosts.eq n) old ≡ false = was-false (list_any (ghosts.eq n) old) (sym says ∙ was) in
     (made ∙ ap (λ b. if b then old else old ++ n ∷ []) none, absent-hashed old n none)
 
--- a look that found one
+-- a lookup that found one
 pub found-hashed : (ns : List Narrow) (n : Narrow) (i : ℕ) → position (ghosts.eq n) ns ≡ Some i → slice_get ns i ≡ Some n
 found-hashed ns n i h =
     let at = position-Some (ghosts.eq n) ns i n h in
@@ -110,7 +110,7 @@ pub unique-none : AreUnique []
 unfolding IsDistinct
 unique-none = tt
 
--- a comparison with the node at a place
+-- a comparison with the node at an index
 pub differs-at : (ns : List Narrow) (n d : Narrow) (i : ℕ) → ghosts.eq (get_or ns i d) n ≡ false → slice_get ns i ≢ Some n
 differs-at ns n d i e h = true≢false (sym (ap (λ x. ghosts.eq x n) (get_or_from_slice_get ns i n d h) ∙ narrow-self n) ∙ e)
 

@@ -17,7 +17,7 @@ leads-nowhere : (links : List ℕ) (k digits slot i : ℕ) → get_or links slot
 leads-nowhere links zero digits slot i none h = omega (arith, none, h)
 leads-nowhere links (suc k) digits slot i none h = omega (arith, none, h.1.0)
 
--- a link to another node leads on behind it
+-- a link to another node leads on after it
 leads-behind : (links : List ℕ) (k digits slot i j : ℕ) → get_or links slot 0 ≡ suc j → i ≢ j → Leads links k digits slot i → LeadsTo links (digits / 4) (slot_of j digits) i
 leads-behind links zero digits slot i j link other h = absurd (other (omega (arith, link, h)))
 leads-behind links (suc k) digits slot i j link other h =
@@ -62,7 +62,7 @@ same_or_other s t = elim (cases_lt s t) [
   | inr ge ↦ elim (cases_lt t s) [ inl gt ↦ inr (λ e. omega (arith, gt, e)) | inr le ↦ inl (omega (arith, ge, le)) ]
 ]
 
--- what stands behind one more node
+-- what follows one more node
 pub narrow-push : (ns : List Narrow) (n m : Narrow) (i : ℕ) → slice_get (ns ++ n ∷ []) i ≡ Some m → ((i < length ns) × (slice_get ns i ≡ Some m)) ⊎ ((i ≡ length ns) × (n ≡ m))
 narrow-push ns n m i h =
     let within : i < length (ns ++ n ∷ []) = slice_get_within (ns ++ n ∷ []) i m h in

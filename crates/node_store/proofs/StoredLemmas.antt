@@ -1,4 +1,4 @@
--- A store with one more node, and what its facts tell.
+-- A store with one more node, and what its facts say.
 use Rattle.std.proofs.Common.{◌≡◌, ◌≢◌, ℕ, ◌+◌, ◌^◌, ◌*◌, ◌%◌, ◌<◌, ◌≤◌, inl, inr, List, [], ◌∷◌, ◌++◌, length, get_or, slice_get, Some, refl, ap, sym, subst, ◌∙◌, arith, length-append}
 use Rattle.std.proofs.Common.{Bool, true, false, zero, suc}
 use Rattle.std.specs.List.{IsDistinct, AllByRecursion}
@@ -72,13 +72,13 @@ pub record IsHeightOf (t : Tree) (h : ℕ) : Type 0 where
   pub limit : h ≤ height_limit (leaves t)
   pub low : h ≤ 68
 
--- what holds of each element holds at each place
+-- what holds of each element holds at each index
 all-at : {K : Type 0} (P : K → Type 0) (xs : List K) (j : ℕ) (n : K) → AllByRecursion P xs → slice_get xs j ≡ Some n → P n
 all-at P [] j n h e = cc
 all-at P (x ∷ xs) zero n h e = let s : x ≡ n = cc in subst P s h.0
 all-at P (x ∷ xs) (suc j) n h e = all-at P xs j n h.1 e
 
--- two places with equal elements are one, where the test finds each element equal to itself
+-- two indices with equal elements are one, if the test finds each element equal to itself
 pub distinct-at : {K : Type 0} (eq : K → K → Bool) → ((x : K) → eq x x ≡ true) → (ns : List K) → IsDistinct eq ns → (i j : ℕ) (n : K) → slice_get ns i ≡ Some n → slice_get ns j ≡ Some n → i ≡ j
 unfolding IsDistinct
 distinct-at eq same [] d i j n p q = cc
@@ -98,13 +98,13 @@ new-added eq same ns n d i h =
     let e : i ≡ length ns = distinct-at eq same (ns ++ n ∷ []) d i (length ns) n at top in
     omega arith
 
--- what stands at a place
+-- the element at an index
 pub at-place : (f : Tree → ℕ) (ns : List Node) (xs : List ℕ) (i x : ℕ) → AreOfTrees f ns xs → i < length ns → x ≡ get_or xs i x → x ≡ f (tree ns i)
 at-place f ns xs i x a h e =
     let inside : i < length xs = omega (arith, a.as_long) in
     a.each i x (slice_get-get_or xs i x inside ∙ ap Some (sym e))
 
--- a height at a place, with what the tree has of bytes
+-- a height at an index, with what the tree has of bytes
 pub height-at : (ns : List Node) (lens heights : List ℕ) (i h : ℕ) → IsStored ns lens heights → i < length ns → h ≡ get_or heights i h → IsHeightOf (tree ns i) h
 height-at ns lens heights i h s within e =
     let is : h ≡ height (tree ns i) = at-place height ns heights i h s.heights_are within e in

@@ -53,7 +53,7 @@ pub record AreNeighbours (ns : List Node) (h i : ℕ) (s : List ℕ) (ids : List
   pub left : IsBlockAt ns h (slice_chunk s (2 ^ h) (2 * i)) (get_or ids (2 * i) d).index
   pub right : IsBlockAt ns h (slice_chunk s (2 ^ h) (2 * i + 1)) (get_or ids (2 * i + 1) d).index
 
--- they stand where they stood, over a store that has grown
+-- they are unchanged in a store that has grown
 pub neighbours : (old new : List Node) (p q : ℕ) → Grows old new p q → (h i : ℕ) (s : List ℕ) (before after : List NodeId) (d : NodeId) → AreBlocks old h (length s / 2 ^ h) s before → i < length s / 2 ^ (h + 1)
     → ((k : ℕ) (e : NodeId) → 2 * i ≤ k → get_or after k e ≡ get_or before k e) → AreNeighbours new h i s after d
 neighbours old new p q g h i s before after d b within same =
@@ -65,7 +65,7 @@ neighbours old new p q g h i s before after d b within same =
         subst (λ (x : NodeId). IsBlockAt new h (slice_chunk s (2 ^ h) k) x.index) (sym (same k d low))
         (block-grows old new p q g h (slice_chunk s (2 ^ h) k) (get_or before k d).index (b.each k d high))
 
--- one more block at the next place
+-- one more block at the next index
 pub blocks-more : (ns : List Node) (h i : ℕ) (s : List ℕ) (ids : List NodeId) (x : NodeId) → AreBlocks ns h i s ids → i < length ids → IsBlockAt ns h (slice_chunk s (2 ^ h) i) x.index → AreBlocks ns h (i + 1) s (set ids i x)
 blocks-more ns h i s ids x b within here = record {
   each = λ k d m.

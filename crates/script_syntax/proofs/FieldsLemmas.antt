@@ -34,7 +34,7 @@ plain Limited e w h = absurd (no_inner e)
 pub one_field : (text : List ℕ) (f g : Field) (fs : List Field) → All (λ b. b ≢ 32) text → Fields (f ∷ g ∷ fs) text → ⊥
 one_field text f g fs all (w, rest, fit, is, more) = no_cut 32 w rest (subst (NoByte 32) is (from_all 32 text all))
 
--- the word before the first space is not the first field, or what is behind it not the others
+-- the word before the first space is not the first field, or what is after it not the others
 pub bad_first : (text w rest : List ℕ) (f g : Field) (fs : List Field) → text ≡ w ++ 32 ∷ rest → All (λ b. b ≢ 32) w → is_inner f ≡ true
     → (Fits f w → ⊥) → Fields (f ∷ g ∷ fs) text → ⊥
 bad_first text w rest f g fs cut all inner bad (v, more, fit, is, others) =

@@ -1,4 +1,4 @@
--- The keyword that a word names, and the line behind it.
+-- The keyword that a word names, and the line after it.
 use Rattle.std.proofs.Common.{◌≡◌, ◌≢◌, ℕ, ◌<◌, Bool, true, false, List, [], ◌∷◌, ◌++◌, length, refl, sym, ◌∙◌, ap, subst, inl, inr, codes, cond, get_or}
 use Rattle.std.specs.Prelude.{All, Option, Some, None, ◌⊎◌, slice_get}
 use Rattle.std.specs.List.{find}

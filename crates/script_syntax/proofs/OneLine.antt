@@ -16,7 +16,7 @@ use Rattle.script_syntax.proofs.Forms.{words_plain}
 use Rattle.script_syntax.proofs.Named.{named_itself}
 use Rattle.script_syntax.proofs.OptionWords.{word_plain}
 
--- what stands behind the word of a keyword, and the command that it makes
+-- what follows the word of a keyword, and the command that it makes
 abbrev pub Body : Keyword → List ℕ → Command → Type 0
 Body kw.Text args c = (name : List ℕ) × (bytes : List ℕ) × IsName name × (args ≡ name ++ 32 ∷ bytes) × (c ≡ Text name bytes)
 Body kw.Load args c = (name : List ℕ) × (file : List ℕ) × IsName name × (args ≡ name ++ 32 ∷ file) × (c ≡ LoadFile name file)

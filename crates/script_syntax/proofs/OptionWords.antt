@@ -50,7 +50,7 @@ bad_paged_name text w given all cut bad (name, after, other, limit, named, aft, 
     let same = first_word name w (after_words after ++ limit_words other) (limit_words given) (name_no_space name named) (from_all 32 w all) (sym is ∙ cut) in
     bad (subst IsName same named)
 
--- a page behind a cut that is not a name and a limit begins with `after`
+-- a page after a cut that is not a name and a limit begins with `after`
 abbrev pub HasAfter : List ℕ → List ℕ → Type 0
 HasAfter name options = (word : List ℕ) × (given : Option ℕ) × (limit : ℕ) × IsName name × IsWord word × IsLimit given limit
     × (options ≡ codes "after" ++ 32 ∷ spaced word (limit_words given))
@@ -62,7 +62,7 @@ has_after text name options cut all bad (other, Some word, given, limit, named, 
     let same = one_cut 32 name options other (codes "after" ++ 32 ∷ spaced word (limit_words given)) (from_all 32 name all) (name_no_space other named) (sym cut ∙ is) in
     (word, given, limit, subst IsName (sym same.0) named, aft, lim, same.1)
 
--- and behind `after` the word and the limit
+-- and after `after` the word and the limit
 pub behind_after : (name options w more : List ℕ) → options ≡ w ++ 32 ∷ more → All (λ b. b ≢ 32) w → HasAfter name options
     → (w ≡ codes "after") × (word : List ℕ) × (given : Option ℕ) × (limit : ℕ) × IsWord word × IsLimit given limit × (more ≡ spaced word (limit_words given))
 behind_after name options w more cut all (word, given, limit, named, worded, lim, is) =

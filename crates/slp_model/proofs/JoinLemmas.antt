@@ -251,7 +251,7 @@ leaves-joined a b t h =
     let e : length (text t) ≡ length (text a ++ text b) = ap length h.joined in
     omega (arith, length-text a, length-text b, length-text t, e, length-append (text a) (text b))
 
--- a join that goes down to the right child c of the pair of l and c
+-- a join that descends to the right child c of the pair of l and c
 pub record IsStepRight (l c b : Tree) : Type 0 where
   pub is : join (Fork l c) b ≡ settle_right l (join c b)
   pub low : height l ≤ height (join c b) + 1
@@ -271,7 +271,7 @@ step_right l c b p q m =
       paid = omega (arith, p.0);
     }
 
--- a join that goes down to the left child c of the pair of c and r
+-- a join that descends to the left child c of the pair of c and r
 pub record IsStepLeft (a c r : Tree) : Type 0 where
   pub is : join a (Fork c r) ≡ settle_left (join a c) r
   pub low : height r ≤ height (join a c) + 1

@@ -1,4 +1,4 @@
--- Old nodes stand, and so do their trees.
+-- Old nodes and their trees are unchanged.
 use Rattle.std.proofs.Common.{◌≡◌, ℕ, ◌+◌, ◌<◌, ◌≤◌, List, [], ◌∷◌, ◌++◌, length, get_or, slice_get, Some, suc, add-one, ◌⊎◌, inl, inr, ◌^◌, refl, ap, sym, subst, ◌∙◌, arith, append_assoc, append-nil, length-append, take, drop, None, Option}
 use Rattle.std.proofs.lemmas.List.{get_or_push, take-append-drop, length-take-le}
 use Rattle.std.proofs.lemmas.Option.{slice_get_within, get_or_from_slice_get, slice_get-get_or}
@@ -20,7 +20,7 @@ pub length-trees_onto : (ts : List Tree) (ns : List Node) → length (trees_onto
 length-trees_onto ts [] = omega arith
 length-trees_onto ts (n ∷ ns) = omega (arith, length-trees_onto (ts ++ node_tree ts n ∷ []) ns, length-append ts (node_tree ts n ∷ []))
 
--- the trees that were there stay in front
+-- the old trees stay first
 pub trees_onto-old : (ts : List Tree) (ns : List Node) (i : ℕ) (d : Tree) → i < length ts → get_or (trees_onto ts ns) i d ≡ get_or ts i d
 trees_onto-old ts [] i d h = refl
 trees_onto-old ts (n ∷ ns) i d h =
@@ -37,7 +37,7 @@ tree-append ns ms i h =
     let inside : i < length (trees_onto [] ns) = omega (arith, length-trees_onto [] ns) in
     rw (trees_onto-append [] ns ms) (trees_onto-old (trees_onto [] ns) ms i (Leaf 0) inside)
 
--- where nodes were added, old trees stand
+-- if nodes were added, old trees are unchanged
 pub tree-grows : (old new : List Node) (p q : ℕ) → Grows old new p q → (i : ℕ) → i < length old → tree new i ≡ tree old i
 tree-grows old new p q g i h = rw (g.added) (tree-append old g.more i h)
 

@@ -5,7 +5,7 @@ use Rattle.slp_model.specs.declared.Node.{Node}
 use Rattle.slp_model.specs.Kept.{Keeps}
 use Rattle.slp_model.specs.Thin.{rank, kept_of}
 
--- one more place
+-- one more index
 rank-next : (ks : List Bool) (i : ℕ) → rank ks (suc i) ≡ rank ks i + cond (get_or ks i false) 1 0
 rank-next [] zero = refl
 rank-next [] (suc i) = refl

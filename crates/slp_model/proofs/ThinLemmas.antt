@@ -213,7 +213,7 @@ next-new ns ks k n sound plan apart keep at j h =
     let f : v.0 ≡ k = apart v.0 k n (w.1 ∙ ap Some e) at in
     omega (arith, v.1, f)
 
--- where a node of the thin store comes from
+-- where a node of the compacted store comes from
 record ComesFrom (ns : List Node) (ks : List Bool) (j : ℕ) (m : Node) : Type 0 where
   pub place : ℕ
   pub kept : Keeps ks place

@@ -1,4 +1,4 @@
--- Two nodes with a text so many times, and once more, made of two with half as many.
+-- Two nodes with n copies of a text and with one copy more, made of two with half as many.
 use Rattle.std.proofs.Common.{◌≡◌, ℕ, zero, suc, ◌+◌, ◌*◌, ◌-◌, ◌/◌, ◌^◌, ◌<◌, ◌≤◌, List, ◌++◌, length, ap, sym, subst, ◌∙◌, arith}
 use Rattle.slp_model.specs.declared.Node.{Node}
 use Rattle.slp_model.specs.Tree.{Tree, Fork, text, leaves, height, IsNear}

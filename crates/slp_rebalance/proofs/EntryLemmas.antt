@@ -34,7 +34,7 @@ pub entries-push : (old new : List Node) (p q : ℕ) → Grows old new p q → (
 entries-push old new p q g ids h id all e t is =
     ap (λ xs. entry_trees new xs) e ∙ (map-append (λ (i : NodeId). tree new i.index) ids (id ∷ []) ∙ (ap (λ ts. ts ++ tree new id.index ∷ []) (entries-grow old new p q g ids h) ∙ ap (λ u. entry_trees old ids ++ u ∷ []) is))
 
--- the tree at a place
+-- the tree at an index
 pub entry-at : (ns : List Node) (ids : List NodeId) (i : ℕ) (id : NodeId) → slice_get ids i ≡ Some id → get_or (entry_trees ns ids) i (Leaf 0) ≡ tree ns id.index
 entry-at ns [] i id h = cc
 entry-at ns (x ∷ xs) zero id h = let e : x ≡ id = cc in ap (λ (y : NodeId). tree ns y.index) e

@@ -66,7 +66,7 @@ pub split-right-paid : (l r : Tree) (x z : Option Tree) → IsBalanced (Fork l r
 split-right-paid l r None z p h j = omega (arith, j.low, p.0)
 split-right-paid l r (Some x) z p h j = omega (arith, j.low, p.0)
 
--- where the join finds no memory
+-- if the join is out of memory
 pub split-left-most : (l r : Tree) (x y : Option Tree) → IsBalanced (Fork l r) → root_height x ≤ height l → root_height y ≤ height l
     → root_cost y (Some r) + split_cost (height l) x y ≤ 10 * height (Fork l r)
 split-left-most l r x None p g h = omega (arith, p.0)

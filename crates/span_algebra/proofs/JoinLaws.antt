@@ -19,7 +19,7 @@ use Rattle.span_algebra.proofs.SetLaws.{numbered-matched, reaches-moved, turned}
 use Rattle.marker_dfa.proofs.Lists.{one_value}
 use Rattle.span_algebra.proofs.CopyLaws.{step-within, end-within}
 
--- no name stands twice
+-- no name occurs twice
 abbrev pub AreApart : List (List ℕ) → Type 0
 AreApart [] = Unit {0}
 AreApart (n ∷ ns) = (has_name ns n ≡ false) × AreApart ns

@@ -14,7 +14,7 @@ length-push : (xs : List ℕ) (x : ℕ) → length (xs ++ x ∷ []) ≡ length x
 length-push [] x = refl
 length-push (y ∷ xs) x = omega (arith, length-push xs x)
 
--- a new number, put last, stands once
+-- a new number, put last, occurs once
 apart-push : (xs : List ℕ) (x : ℕ) → ((i j o : ℕ) → slice_get xs i ≡ Some o → slice_get xs j ≡ Some o → i ≡ j) → (Contains xs x → ⊥)
     → (i j o : ℕ) → slice_get (xs ++ x ∷ []) i ≡ Some o → slice_get (xs ++ x ∷ []) j ≡ Some o → i ≡ j
 apart-push xs x apart new i j o e g = by (get_push xs x o i e) (get_push xs x o j g)

@@ -1,4 +1,4 @@
--- Where names stand among others.
+-- The indices of names among others.
 use Rattle.std.proofs.Common.{◌≡◌, ◌≢◌, ℕ, zero, suc, ◌+◌, ◌*◌, ◌/◌, ◌%◌, ◌^◌, ◌<◌, ◌≤◌, ◌||◌, ◌⊎◌, inl, inr, Bool, true, false, List, [], ◌∷◌, ◌++◌, length, take, Option, Some, None, MatchOption, Contains, slice_get, if◌then◌else◌, refl, sym, ap, subst, ◌∙◌, arith, pow-suc}
 use Rattle.std.specs.Prelude.{AllPairs}
 use Rattle.std.proofs.Math.Nat.{div-one, div-div-eq-div-mul}

@@ -1,4 +1,4 @@
--- Refusals of operations.
+-- Errors of operations.
 use Rattle.std.proofs.Common.{ℕ, ◌≤◌, Result, Ok, Err, IfErr, arith}
 use Rattle.span_algebra.specs.declared.refusal.AlgebraRefusal.{AlgebraRefusal}
 use Rattle.span_algebra.specs.declared.refusal.AlgebraRefusal.TheVariants.{TooManyVariables, TooManyStates, NoMemory}

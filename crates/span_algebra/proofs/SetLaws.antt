@@ -83,7 +83,7 @@ pub at-place : {X : Type 0} (xs : List X) (q : ℕ) → q < length xs → (x : X
 at-place [] q lt = absurd (omega (arith, lt))
 at-place (x ∷ xs) q lt = (get_or (x ∷ xs) q x, slice_get-get_or (x ∷ xs) q x lt)
 
--- a list with a partner at each place
+-- a list with a partner at each index
 choose-all : {X : Type 0} (P : X → X → Type 0) (xs : List X) → ((q : ℕ) (x : X) → slice_get xs q ≡ Some x → (y : X) × P x y) → (ys : List X) × (length ys ≡ length xs) × ((q : ℕ) (y : X) → slice_get ys q ≡ Some y → (x : X) × (slice_get xs q ≡ Some x) × P x y)
 choose-all {X} P [] f = ([], refl, λ q y e. (let bad : None ≡ Some y = e in absurd (cc)))
 choose-all {X} P (x ∷ xs) f =

@@ -72,7 +72,7 @@ are-spans n (x ∷ t) le h = by x (h 0) (are-spans n t le (λ v. h (suc v)))
     by None l rest = rest
     by (Some q) l rest = let k = l q refl in (record { positive = k.0; ordered = k.1; small = omega (arith, k.2) }, rest)
 
--- a marked text tells its tuple
+-- a marked text determines its tuple
 pub text-tells : (s : List ℕ) (t u : List (Option Span)) → length s ≤ 281474976710656 → length t ≤ 8 → length t ≡ length u → Lies (length s) t → Lies (length s) u → marked_text s t ≡ marked_text s u → t ≡ u
 text-tells s t u short few e lt lu h =
     let one : 1 + length s ≡ suc (length s) = omega arith in

@@ -1,4 +1,4 @@
--- The automaton of a tree is one, but for the numbers of its states.
+-- The automaton of a tree is one, up to the numbers of its states.
 use Rattle.std.proofs.Common.{◌≡◌, ℕ, List, sym, ◌∙◌}
 use Rattle.span_types.specs.Query.{Query, Leaf, Union, Join, Project}
 use Rattle.span_types.specs.Rel.{names_of}

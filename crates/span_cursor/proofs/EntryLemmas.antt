@@ -1,4 +1,4 @@
--- An entry at the front of a text is read in one way.
+-- An entry at the start of a text is read in one way.
 use Rattle.std.proofs.Common.{◌≡◌, ◌≢◌, ℕ, ◌<◌, ◌^◌, List, ◌∷◌, ◌++◌, refl, sym, ◌∙◌, ap, subst, arith, append_assoc, codes}
 use Rattle.std.specs.Prelude.{All, Option, Some, None}
 use Rattle.std.specs.Fmt.{decimal}
@@ -73,7 +73,7 @@ same_value (Some s) None r q ok other e = absurd (let clash = heads 91 45 (bound
 same_value (Some s) (Some t) r q ok other e =
     let same = same_bounds s t r q ok other (tails 91 91 (bounds_text s ++ r) (bounds_text t ++ q) e) in (ap Some same.0, same.1)
 
--- the text of an entry is cut behind its name
+-- the text of an entry is cut after its name
 pub entry_cut : (text name rest : List ℕ) (value : Option Span) → text ≡ entry_text name value ++ rest → text ≡ name ++ 61 ∷ (value_text value ++ rest)
 entry_cut text name rest value is = is ∙ append_assoc name (61 ∷ value_text value) rest
 

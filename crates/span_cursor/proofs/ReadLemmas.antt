@@ -77,7 +77,7 @@ drop_end [] (suc n) h = refl
 drop_end (x ∷ xs) zero h = absurd (omega (arith, h))
 drop_end (x ∷ xs) (suc n) h = drop_end xs n (omega (arith, h))
 
--- behind the last entry nothing is left
+-- after the last entry nothing is left
 pub end_left : (vars : List (List ℕ)) (tuple values : List (Option Span)) (v : ℕ) (left : List ℕ) → length vars ≤ v → Left v vars tuple left values → left ≡ []
 end_left vars tuple values v left end l = l.rest ∙ (let e = drop_end vars v end in λ i. more_text (e i) (drop v values))
 
@@ -100,7 +100,7 @@ pub of_no_vars : (vars : List (List ℕ)) (text : List ℕ) → length vars ≡ 
 of_no_vars [] text none is = record { named = tt; spans = tt; paired = refl; written = is }
 of_no_vars (name ∷ vars) text none is = absurd (omega (arith, none))
 
--- the text is that of the values exactly where this is left of it
+-- the text is that of the values exactly if this is left of it
 abbrev pub Reads : ℕ → List (List ℕ) → List ℕ → List (Option Span) → List ℕ → Type 0
 Reads v vars text tuple left = (values : List (Option Span)) → length values ≡ length vars → AreSpans values → (text ≡ tuple_text vars values) ↔ Left v vars tuple left values
 

@@ -20,7 +20,7 @@ pub spans_tail : (value : Option Span) (values : List (Option Span)) → AreSpan
 spans_tail None values oks = oks
 spans_tail (Some span) values oks = oks.1
 
--- an entry at the front and others behind it
+-- an entry at the start and others after it
 pub record FirstAndMore (text : List ℕ) : Type 0 where
   pub name : List ℕ
   pub value : Option Span

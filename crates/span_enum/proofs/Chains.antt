@@ -71,7 +71,7 @@ between-compose a p s u rest goals mid between one two = record {
       run-join a n first.state goals u rest first.word first.bytes first.ends (two.onward first.state first.goal);
 }
 
--- ---- where the walk stands
+-- ---- where the walk is
 pub stands-before : (g : Ground) (hs : List (Option Ahead)) (at : ℕ) (place : Place) (h : Ahead) (c : List Ahead) → Stands g hs at place (h ∷ c) → StandsBefore g hs h place.state c
 stands-before g hs at place h c s = record {
   ahead = s.ahead.1;
@@ -100,7 +100,7 @@ fits-push g base hs h f le k o from e = elim (get_push hs (Some h) o k e) [
   | inr new ↦ subst (λ z. FitsAt g (k - base) z) new.1 (rw new.0 le)
 ]
 
--- nothing stands behind the end
+-- nothing is after the end
 pub fits-none : (g : Ground) (hs : List (Option Ahead)) → Fits g (length hs) hs
 fits-none g hs k o le e = absurd (omega (arith, slice_get_within hs k o e))
 
@@ -169,7 +169,7 @@ module _ (g : Ground) (h : Ahead) (l r : NodeId) (left right : Look) (f : Fork g
     goals-there : AreGoals g q (text_at g l.index ++ text_at g r.index) c
     goals-there = subst (λ x. AreGoals g q x c) both s.goals.2
 
-    -- the walk stands before the right child, once the left one is passed without marks
+    -- the walk is before the right child, once the left one is passed without marks
     pub before-right : (to : ℕ) → to < states_of g.dfa.now → reached g.dfa.now q (plain (text_at g l.index)) ≡ Some to → StandsBefore g hs (sibling h r left right) to c
     before-right to low t =
         let x = text_at g l.index in
@@ -185,7 +185,7 @@ module _ (g : Ground) (h : Ahead) (l r : NodeId) (left right : Look) (f : Fork g
           state = low;
         }
 
-    -- the walk stands before the left child, once the right one is put ahead
+    -- the walk is before the left child, once the right one is put ahead
     pub before-left : (between : Between) → AreBetween g.dfa.now q (text_at g l.index) (text_at g r.index) h.goals between.goals
         → LeadQuiet g.dfa.now q (text_at g l.index) (text_at g r.index) h.goals h.quiet between.quiet
         → StandsBefore g (hs ++ Some (sibling h r left right) ∷ []) (child h l left between (length hs + 1)) q (sibling h r left right ∷ c)

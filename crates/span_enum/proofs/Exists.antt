@@ -69,7 +69,7 @@ abbrev Ends : DeterministicAutomaton → ℕ → List ℕ → Marked → Type 0
 Ends a p s w = (bytes_of w ≡ s) × (reached a p w ≡ Some 0)
 
 module _ (a : DeterministicAutomaton) (p b : ℕ) (s : List ℕ) where
-  -- the word begins with a mark below n, and goes on with one over the other letters
+  -- the word begins with a mark below n, and continues with one over the other letters
   record Falls (n : ℕ) (w : Marked) : Type 0 where
     mark : ℕ
     state : ℕ

@@ -1,4 +1,4 @@
--- The marks that are kept of a word, and what comes after a tuple behind them.
+-- The marks that are kept of a word, and, after them, what comes after a tuple.
 use Rattle.span_enum.proofs.Base.{Ahead, AreKept, Behind, DeterministicAutomaton, Fits, Ground, IsDeterministic, IsGreatestMark, IsKept, IsLast, IsNext, IsNoMark, IsQuietPlace, IsTrailOf, IsTurned, IsUnmarked, Keeps, Leads, List, Lowered}
 use Rattle.span_enum.proofs.Base.{Mark, Marked, NoneAfter, Option, Passed, Place, Some, Tuple, Way, [], ap, append_assoc, append_cancel_left, arith, blanks, bytes-append, bytes-plain, bytes_of, count-more, count-plain, cut, false, length}
 use Rattle.span_enum.proofs.Base.{length-append, length-bytes, length-plain, length-take-le, mark, mark_count, mark_count-append, mark_of, path-on, path-one, plain, plain-append, reached, refl, same-state, step_of, subst, suc, sym, take}
@@ -57,12 +57,12 @@ kept-short g (suc n) w ms hs k =
     let m = l.mark in
     omega (arith, kept-short g n l.before l.others (take m.base hs) k.1, length-take-le m.base hs l.kept.low, fits-short g m.base hs l.kept.fits, ap length l.marks_are, length-append l.others (m ∷ []))
 
--- a tuple of so many variables has no more marks
+-- a tuple of n variables has no more marks
 pub kept-few : (g : Ground) (t : Tuple) (k n : ℕ) (w v : Marked) (ms : List Mark) (hs : List (Option Ahead)) → length t ≡ k → word_over t 1 (whole_text g) ≡ w ++ v → AreKept g n w ms hs
     → length ms + mark_count v ≤ 2 * k
 kept-few g t k n w v ms hs size word kept = omega (arith, few-marks k t (whole_text g) size, ap mark_count word, mark_count-append w v, kept-count g n w ms hs kept)
 
--- ---- one mark more, behind letters without marks
+-- ---- one mark more, after letters without marks
 module _ (g : Ground) (at : ℕ) (place : Place) (base : ℕ) (word : Marked) (ms more : List Mark) (hs old new : List (Option Ahead)) (c : List Ahead) (b : Behind g at place base word ms hs c) (k : Keeps g base ms more old new)
     (same : take base old ≡ take base hs) (low : base ≤ length old) (way : Way g new at place.state c k.mark) (some : 0 < k.mark.mark) where
   abbrev m : Mark
@@ -92,7 +92,7 @@ module _ (g : Ground) (at : ℕ) (place : Place) (base : ℕ) (word : Marked) (m
         subst (λ x. AreKept g b.count front ms x) there (kept-plain g b.count word ms (take base hs) way.front b.kept),
       )
 
-  -- the walk stands behind its letter
+  -- the walk is after its letter
   pub behind-mark : (to : Place) → IsDeterministic g.dfa.now → step_of g.dfa.now m.state m.mark m.byte ≡ Some to.state → to.next ≡ m.next → IsQuietPlace g to way.back
       → Behind g (m.at + 1) to (length new) word-more more new way.back
   behind-mark to auto step next quiet = record {
@@ -112,7 +112,7 @@ last-same ms others m last e is =
     let one : last ∷ [] ≡ m ∷ [] = same.1 in
     (cc, same.0)
 
--- the last mark, those before it, and what comes after the tuple behind it
+-- the last mark, those before it, and, after it, what comes after the tuple
 pub record Last (g : Ground) (t : Tuple) (others : List Mark) (hs : List (Option Ahead)) (m : Mark) : Type 0 where
   pub before : Marked
   pub behind : Marked
@@ -165,7 +165,7 @@ module _ (g : Ground) (t : Tuple) (ms : List Mark) (hs : List (Option Ahead)) (i
           let text : whole_text g ≡ k.0 ++ is.back = is.parts ∙ ap (λ w. bytes_of w ++ is.back) k.1 ∙ ap (λ s. s ++ is.back) (bytes-plain k.0) in
           rw word (subst (λ s. NoneAfter a 0 s g.finals (plain k.0 ++ is.left)) (sym text) (none-passed a 0 k.0 is.back g.finals is.left (λ q run. is.none q (ap (reached a 0) k.1 ∙ run))))
 
--- ---- the kept marks without the last one, and with a lower one in its place
+-- ---- the kept marks without the last one, and with a lower one instead
 abbrev pub lower : Mark → ℕ → Mark
 lower m x = record { at = m.at; mark = x; byte = m.byte; state = m.state; goals = m.goals; next = m.next; base = m.base }
 

@@ -1,4 +1,4 @@
--- Answers that are given one after the other are the pages of the list of answers.
+-- Answers that are returned one after the other are the pages of the list of answers.
 use Rattle.span_enum.proofs.Base.{AreAnswersOf, Comes, Contains, Contains-append_cases, Contains-append_left, Contains-append_right, DeterministicAutomaton, IsDeterministic, IsFirstMember, IsLeft, IsListed, IsMember, IsPage, IsRising}
 use Rattle.span_enum.proofs.Base.{IsTuple, List, NoMemberLeft, None, Option, Some, Tuple, [], ap, append-nil, append_assoc, arith, false, get_or, get_or-append, get_or-append-add, get_or_default, here, inl, inr, irreflexive, le-ltb}
 use Rattle.span_enum.proofs.Base.{length, length-append, lt-ltb, nat_lt, none-some, not, refl, same_Some, split-member, subst, sym, take, take-append_seam, take_all, total, transitive, true, ℕ, ◌++◌, ◌+◌, ◌∙◌, ◌∷◌, ◌≡◌, ◌≤◌, ◌⊎◌}
@@ -9,7 +9,7 @@ use Rattle.span_enum.proofs.Tuples.{are-spans}
 no-member : (t : Tuple) → Contains [] t → ⊥
 no-member t c = omega (arith, c.1)
 
--- what stands before another comes before it
+-- what is before another comes before it
 in-order : (xs ys : List Tuple) (t u : Tuple) → IsRising (xs ++ ys) → Contains xs t → Contains ys u → Comes t u
 in-order xs ys t u h a b =
     let size = length-append xs ys in
@@ -17,7 +17,7 @@ in-order xs ys t u h a b =
     let right : get_or (xs ++ ys) (length xs + b.0) t ≡ u = get_or-append-add xs ys b.0 t ∙ get_or_default ys b.0 t u b.1 ∙ b.2 in
     rw (left, right) at (h a.0 (length xs + b.0) t (omega (arith, a.1)) (omega (arith, b.1, size)))
 
--- an item of a rising list comes before those behind it
+-- an item of a rising list comes before those after it
 in-turn : (all front : List Tuple) (x : Tuple) (rest : List Tuple) (u : Tuple) → IsRising all → all ≡ front ++ x ∷ rest → Contains rest u → Comes x u
 in-turn all front x rest u h e k =
     in-order (front ++ x ∷ []) rest x u (rw (append_assoc front (x ∷ []) rest, ← e) h) (Contains-append_right front (x ∷ []) x (here x [])) k
@@ -66,7 +66,7 @@ after-none all = record { front = []; cut = refl; start = λ e. refl; passed = �
 pub member-tuple : (a : DeterministicAutomaton) (s : List ℕ) → IsDeterministic a → length s ≤ 281474976710656 → (t : Tuple) → IsMember a s t → IsTuple t
 member-tuple a s auto short t m = record { few = omega (arith, m.size, auto.few_variables); spans = are-spans (length s) t short m.lies }
 
--- with a cursor it is a list behind those that don't come after it
+-- with a cursor it is a list after those that don't come after it
 after-some : (all front rest : List Tuple) (c : Tuple) → all ≡ front ++ rest → ((t : Tuple) → Contains front t → Comes c t → ⊥) → ((t : Tuple) → Contains rest t → Comes c t) → IsAfter all (Some c) rest
 after-some all front rest c whole passed left = record {
   front = front;

@@ -1,4 +1,4 @@
--- The root of a text ahead of its first letter, and what it tells of the text.
+-- The root of a text ahead of its first letter, and what it says of the text.
 use Rattle.span_enum.proofs.Base.{Ahead, AreAhead, AreQuiet, AreTables, Begins, Behind, CanRun, DeterministicAutomaton, Dictionary, Ground, IsAhead, IsFresh, IsGround, IsLive, IsLook, List, Look, Mark, Node, NodeId, None, Option, Some}
 use Rattle.span_enum.proofs.Base.{Stands, [], ap, append-nil, arith, bytes-none, count_of, ends_of, false, length, length-take-le, refl, slice_get, subst, suc, sym, text_ahead, text_at, text_of, whole_text, ℕ, ◌++◌, ◌<◌, ◌∙◌, ◌∷◌}
 use Rattle.span_enum.proofs.Base.{◌≡◌, ◌≤◌}
@@ -7,7 +7,7 @@ use Rattle.span_enum.proofs.Runs.{AreBytes, Tells, end-facts, final-from, goal-f
 use Rattle.span_enum.proofs.Tuples.{IsText}
 use Rattle.span_enum.proofs.Ways.{back-none, next-node, passes-none}
 
--- nothing is left behind the quiet final states
+-- nothing is left after the quiet final states
 quiet-end : (g : Ground) → IsGround g → AreQuiet g.dfa.now g.quiet [] g.finals
 quiet-end g is q h =
     let k = is.quiet q h in
@@ -62,7 +62,7 @@ text-short g ms hs is = by is.chain is.stands is.text_is
     by [] s e = omega (arith, ap length e)
     by (x ∷ c) s e = omega (arith, ap length (sym (root-alone g hs x c s.ahead is.one) ∙ e), s.goals.0.look.len_is, s.goals.0.look.short)
 
--- the walk stands before the first letter
+-- the walk is before the first letter
 pub fresh-behind : (g : Ground) (ms : List Mark) (hs : List (Option Ahead)) (count : ℕ) → (is : IsFresh g ms hs) → count ≡ length hs → Behind g 1 (record { state = 0; next = count; quiet = false }) count [] ms hs is.chain
 fresh-behind g ms hs count is e = record {
   at_is = omega arith;

@@ -41,7 +41,7 @@ run-within a auto p q (x ∷ w) h e =
     let step = then-between (λ r. reached a r w) (step_of a p x.0 x.1) q e in
     run-within a auto step.0 q w (step-within a auto p x.0 x.1 step.0 step.1) step.2
 
--- what is behind the cut leads into a goal
+-- what is after the cut leads into a goal
 pub run-behind : (a : DeterministicAutomaton) (p : ℕ) (s u : List ℕ) (v : Marked) (r goals : ℕ) → (k : Parts (step_of a) p s u v r) → member goals r ≡ true → CanRun a k.middle u goals
 run-behind a p s u v r goals k goal = record { word = k.right; state = r; bytes = k.right_bytes; ends = k.right_ends; goal = goal }
 

@@ -1,4 +1,4 @@
--- What the tables of a text and of its parts tell of the runs over them.
+-- What the tables of a text and of its parts say of the runs over them.
 use Rattle.span_enum.proofs.Base.{AllPairs, AreAmong, AreBetween, AreQuiet, AreTables, Bool, Byte, CanRun, Contains, Contains-get_or, DeterministicAutomaton, Dictionary, IsDeterministic, IsGreatestMark, IsLook, IsNoMark, IsNodeAt}
 use Rattle.span_enum.proofs.Base.{IsPlainLeft, IsTable, LeadQuiet, LeadsQuiet, List, Marked, Node, NodeId, None, Option, Pair, Row, Some, StayQuiet, [], ap, arith, bit_and, bit_or, bytes-append, bytes-plain, bytes_of, can_reach_of}
 use Rattle.span_enum.proofs.Base.{cases_eq, cases_lt, count_of, ends_of, false, get_or, get_or_default, has-count, has_mark, height, if◌then◌else◌, inl, inr, is_goal, length, mark_count, marked, marked_of, marks_of, max, member}
@@ -79,10 +79,10 @@ pub single-is : (o : Option ℕ) (q : ℕ) → member (single_of o) q ≡ true �
 single-is None q h = not-both (member 0 q) h (member-zero q)
 single-is (Some r) q h = elim (cases_eq q r) [ inl same ↦ ap (λ n. Some n) (sym same) | inr other ↦ not-both (member (2 ^ r) q) h (member-single_other r q other) ]
 
--- ---- a falling list that has each mark with a step over the letter
+-- ---- a descending list that has each mark with a step over the letter
 module _ (a : DeterministicAutomaton) (p b goals limit i : ℕ) (ms : List ℕ) (all : (n r : ℕ) → step_of a p n b ≡ Some r → Contains ms n)
     (none : (k : ℕ) → k < i → IsNoMark a p b goals limit (get_or ms k 0)) where
-  -- a mark that leads into a goal stands behind the first i
+  -- a mark that leads into a goal is after the first i
   place-behind : (n r : ℕ) → n < limit → step_of a p n b ≡ Some r → member goals r ≡ true → (j : ℕ) × (i ≤ j) × (j < length ms) × (get_or ms j 0 ≡ n)
   place-behind n r low step goal =
       let c = all n r step in

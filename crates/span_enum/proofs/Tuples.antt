@@ -84,7 +84,7 @@ none-reaches p t v q h e = elim (cases_lt q.end p) [ inl lt ↦ lt | inr ge ↦ 
 pub few-marks : (k : ℕ) (t : Tuple) (s : List ℕ) → length t ≡ k → mark_count (word_over t 1 s) ≤ 2 * k
 few-marks k t s e = omega (arith, marks-few (length t) (spans_of t) 1 s)
 
--- ---- what stands past the end
+-- ---- bounds past the end
 pub end_mark-more : (t : Tuple) (p : ℕ) → reaches (p + 1) t ≡ true → end_mark t p ≡ mark_of t p + 1
 unfolding end_mark
 end_mark-more t p h = rw h refl

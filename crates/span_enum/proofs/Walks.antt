@@ -117,7 +117,7 @@ module _ (g : Ground) (from : Place) (base : ℕ) (word : Marked) (marks : List 
       let first = p.first [] place.state (rw none (record { bytes = refl; ends = refl; goal = goal; least = λ v r bytes ends final. inl (bytes-none v bytes) })) in
       finds-plain (Some place.state) looks place.state out refl (subst (λ w. IsFirst g.dfa.now from.state back g.finals w place.state) (append-nil (plain x) ∙ ap plain (sym texts)) first)
 
-  -- a mark is found at a node, and then the rest behind it
+  -- a mark is found at a node, and then the rest after it
   module _ (place : Place) (h : Ahead) (cut : ℕ) (n : Arrives g hs cut b.at from place c h) (fit : base ≤ cut) where
     abbrev low : base ≤ length (take cut hs)
     low = omega (arith, length-take cut hs, fit, b.behind.low)
@@ -187,7 +187,7 @@ module _ (g : Ground) (from : Place) (base : ℕ) (word : Marked) (marks : List 
           cost high h n le one two = omega arith
 
 -- ---- along the marks of a tuple
--- the walk stands before the node over the position
+-- the walk is before the node over the position
 pub record StandsOver (g : Ground) (t : Tuple) (hs : List (Option Ahead)) (position : ℕ) (to : Place) (ms : List Mark) (h : Ahead) : Type 0 where
   pub rest : List Ahead
   pub follows : Follows g t hs h.at to ms (h ∷ rest)
@@ -204,7 +204,7 @@ module _ (g : Ground) (t : Tuple) (hs : List (Option Ahead)) (at : ℕ) (place :
   pub follows-short : length hs ≤ 1 + 69 * length ms
   follows-short = omega (arith, kept-short g f.behind.count f.word ms (take (length hs) hs) f.behind.kept, ap length (take-length hs))
 
-  -- a mark behind the place is one more
+  -- a mark after the place is one more
   pub follows-few : (k position : ℕ) → length t ≡ k → at ≤ position → position < at + length ahead → 0 < mark_of t position → length ms < 2 * k
   follows-few k position size from to some =
       omega (arith, kept-few g t k f.behind.count f.word (word_over t at ahead) ms (take (length hs) hs) size f.word_is f.behind.kept, over-count t at ahead position from to some)
@@ -368,7 +368,7 @@ module _ (g : Ground) (t : Tuple) (old : List (Option Ahead)) (position : ℕ) (
     kept : AreKept g (suc o.follows.behind.count) ((word ++ plain bare) ++ letter) more mid
     kept = kept-more g h.at to (length old) word ms more old old mid (h ∷ o.rest) o.follows.behind k.keeps refl (omega arith) lays-way lays-some
 
-    -- the tuple's word up to the mark and behind it
+    -- the tuple's word up to the mark and after it
     lays-word : word_over t 1 (whole_text g) ≡ ((word ++ plain bare) ++ letter) ++ word_over t (position + 1) rest
     lays-word =
         let there : h.at + length bare ≡ position = omega (arith, lays-way.at_is, k.position_is) in
@@ -382,7 +382,7 @@ module _ (g : Ground) (t : Tuple) (old : List (Option Ahead)) (position : ℕ) (
     lays-leads : Leads g (word ++ plain bare) laid-mark.state (laid-mark.byte ∷ rest)
     lays-leads = leads-pass g word to.state all o.follows.behind.leads bare laid-mark.state (laid-mark.byte ∷ rest) lays-way.passed
 
-    -- the walk goes on behind the mark
+    -- the walk continues after the mark
     pub lays-goes : IsDeterministic g.dfa.now → (q : ℕ) (last : Mark) → last ≡ laid-mark → step_of g.dfa.now last.state last.mark last.byte ≡ Some q
         → CanFollow g t mid (position + 1) (record { state = q; next = last.next; quiet = false }) more
     lays-goes auto q last same step =
@@ -414,7 +414,7 @@ module _ (g : Ground) (t : Tuple) (old : List (Option Ahead)) (position : ℕ) (
           cost = omega (arith, cost, over-high);
         }
 
-    -- the marks behind it were kept too
+    -- the marks after it were kept too
     pub followed-on : (marks : List Mark) (new : List (Option Ahead)) (before between after : ℕ) (r : Option ℕ) → between ≤ before + 2 * height_at g h.id.index
         → Followed g t more marks new between after r → Followed g t ms marks new before after r
     followed-on marks new before between after r cost f =

@@ -46,7 +46,7 @@ passes-none g hs at from c s = record { front = []; back = c; passed = record { 
 pub plain-none : (g : Ground) (hs : List (Option Ahead)) (at : ℕ) (from : Place) (c : List Ahead) → Stands g hs at from c → CanEnd g from.state c → PassesPlain g hs at from from c
 plain-none g hs at from c s can = record { passes = passes-none g hs at from c s; can = can; first = λ w r f. f }
 
--- the node that comes next, behind those that were passed
+-- the node that comes next, after those that were passed
 pub record Next (g : Ground) (hs : List (Option Ahead)) (at : ℕ) (from place : Place) (c : List Ahead) (p : Passes g hs at from place c) (h : Ahead) : Type 0 where
   pub rest : List Ahead
   pub back : p.back ≡ h ∷ rest
@@ -238,7 +238,7 @@ module _ (g : Ground) (h : Ahead) (l r : NodeId) (left right : Look) (f : Fork g
     cost = omega (arith, d.cost, em, fork-height g h l r left right f);
   }
 
-  -- the way along a tuple's marks goes on into the left child, or into the right one
+  -- the way along a tuple's marks continues into the left child, or into the right one
   module _ (t : Tuple) (position : ℕ) where
     pub laid-left : (between : Between) → AreBetween g.dfa.now q left-text (text_at g r.index) h.goals between.goals
         → LeadQuiet g.dfa.now q left-text (text_at g r.index) h.goals h.quiet between.quiet → base ≤ length hs → position ≤ h.at + length left-text

@@ -79,7 +79,7 @@ letter-same m n b w v e =
     (ap (λ z. z.0) head, tail)
 
 -- ---- looks
--- two looks at the children, and the looks below them
+-- two table lookups at the children, and the table lookups below them
 pub lower-cost : (t : Tuple) (at h hl hr before now mid after : ℕ) (s u : List ℕ) → h ≡ max hl hr + 1 → now ≡ before + 2 → 0 < mark_count (word_over t at (s ++ u))
     → mid ≤ now + 2 * (hl * mark_count (word_over t at s)) → after ≤ mid + 2 * (hr * mark_count (word_over t (at + length s) u))
     → after ≤ before + 2 * (h * mark_count (word_over t at (s ++ u)))
@@ -92,7 +92,7 @@ lower-cost t at h hl hr before now mid after s u eh en pos l r =
     let z : h * mark_count (word_over t at (s ++ u)) ≡ h * c + h * d = ap (λ n. h * n) e ∙ mul-add h c d in
     omega (arith, e, pos, x, y, z, l, r, en)
 
--- two looks at each level of a tree for each of so many marks, and at those of one way more
+-- two table lookups at each level of a tree for each mark, and at those of one more path
 pub looks-within : (k n h c before after : ℕ) → h ≤ height_limit n → c ≤ 2 * k → after ≤ before + 1 + 2 * (h * c) + 2 * h → after ≤ before + looks_limit k n
 looks-within k n h c before after high few le =
     let x : h * c ≤ height_limit n * c = mul-le-mul_right c high in

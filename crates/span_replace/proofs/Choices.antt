@@ -94,7 +94,7 @@ pub upcoming : Option Span → List Span → List Span
 upcoming None qs = []
 upcoming (Some q) qs = q ∷ picked (past q) qs
 
--- of the chosen spans these are the front, and the next one was found
+-- of the chosen spans these are the first ones, and the next one was found
 pub record Picks (a : DeterministicAutomaton) (s : List ℕ) (spans : List Span) (next : Option Span) : Type 0 where
   pub whole : (all : List Tuple) → AreAnswersOf a s all → chosen all ≡ spans ++ upcoming next (spans_in all)
 
@@ -188,7 +188,7 @@ module _ (a : DeterministicAutomaton) (s : List ℕ) (spans : List Span) (all : 
       let e : length (chosen all) ≡ length (spans ++ upcoming o (spans_in all)) = ap length (p.whole all answers) in
       omega (arith, e, length-append spans (upcoming o (spans_in all)))
 
--- ---- looks for one more search than spans
+-- ---- table lookups for one more search than spans
 pub some-looks : (n : ℕ) → 1 ≤ looks_limit 1 n
 some-looks n = omega arith
 

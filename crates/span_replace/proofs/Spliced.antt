@@ -4,7 +4,7 @@ use Rattle.std.proofs.lemmas.List.{length-take-le, drop-drop}
 use Rattle.span_types.specs.declared.tuple.Span.{Span}
 use Rattle.span_replace.specs.Replaced.{AreApartFrom, replaced_from}
 
--- the span at a place, as the code reads it
+-- the span at an index, as the code reads it
 abbrev pub at_place : List Span → ℕ → Span
 at_place qs i = slice_index_or qs i (record { start = 0; end = 0 })
 

@@ -30,7 +30,7 @@ same-is (x ∷ m) (y ∷ n) h =
     let f = same-is m n parts.1 in
     λ i. e i ∷ f i
 
--- no name stands twice
+-- no name occurs twice
 abbrev AreApart : List (List ℕ) → Type 0
 AreApart [] = Unit {0}
 AreApart (n ∷ ns) = (has_name ns n ≡ false) × AreApart ns
@@ -56,7 +56,7 @@ named-none (m ∷ ms) (x ∷ t) n h = by (same_name m n) h (λ r. named-none ms 
     by true h rest = let bad : ⊥ = cc in absurd bad
     by false h rest = rest h
 
--- a tuple is told by what it gives to distinct names
+-- a tuple is determined by the spans that it assigns to distinct names
 named-tells : (ns : List (List ℕ)) (t u : List (Option Span)) → AreApart ns → length t ≡ length ns → length u ≡ length ns → ((n : List ℕ) → named ns t n ≡ named ns u n) → t ≡ u
 named-tells [] [] [] a lt lu h = refl
 named-tells [] [] (y ∷ u) a lt lu h = absurd (omega (arith, lu))

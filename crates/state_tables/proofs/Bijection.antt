@@ -93,7 +93,7 @@ digest-told d e code set ld le ls same =
     xor-told _ _ (high_of set) (both.0 ∙ ap (λ x. second_of e set x) (sym across)) in
     halves-told d e low (sum-told (high_of d) (high_of e) (high_of (across_of d set)) (high-lt d ld) (high-lt e le) sums)
 
--- marked sets that differ behind the same digest differ in the digest after them
+-- marked sets that differ after the same digest differ in the digest after them
 pub set-told : (d code s t : ℕ) → s < 2 ^ 128 → t < 2 ^ 128 → digest_with d code s ≡ digest_with d code t → s ≡ t
 unfolding digest_with
 set-told d code s t ls lt same =

@@ -53,7 +53,7 @@ module _ (d : Dictionary) (t : List Row) (is : IsDictionary d) (shape : IsTableO
     | inr ge ↦ subst (IsTableOf d.states) (sym (get_or-last d.kept t n ge lt)) shape
   ]
 
-  -- where a kept table stands
+  -- the index of a kept table
   old-or-new : (n : ℕ) (u : List Row) → slice_get (d.kept ++ t ∷ []) n ≡ Some u → (slice_get d.kept n ≡ Some u) ⊎ ((n ≡ length d.kept) × (t ≡ u))
   old-or-new n u h =
       let read = kept-read (d.kept ++ t ∷ []) n u h in
@@ -83,7 +83,7 @@ module _ (d : Dictionary) (t : List Row) (is : IsDictionary d) (shape : IsTableO
     distinct = apart;
   }
 
--- a table is kept, where there was memory
+-- a table is kept, if memory allows
 pub IsDictionary-keep : {E : Type 0} (r : Result ℕ E) (d : Dictionary) (kept : List (List Row)) (t : List Row) → IsDictionary d → IsTableOf d.states t → length d.kept + 1 < 2 ^ 32
     → OnOk r (TakesIn d.kept kept t) → OnErr r (kept ≡ d.kept) → IsDictionary (record d { kept = kept })
 IsDictionary-keep (Ok n) d kept t is shape room taken err = elim taken [

@@ -44,7 +44,7 @@ module _ {A : Type 0} where
   kept-at (x ∷ xs) (true ∷ bs) d (suc i) lt k = let e : 1 + rank bs i ≡ suc (rank bs i) = omega arith in rw e (kept-at xs bs d i (omega arith) k)
   kept-at (x ∷ xs) (false ∷ bs) d (suc i) lt k = let e : 0 + rank bs i ≡ rank bs i = omega arith in rw e (kept-at xs bs d i (omega arith) k)
 
-  -- the kept ones of the first i items went to the front, and those from i on stand where they were
+  -- the kept ones of the first i items were moved to the start, and those from i on are unchanged
   pub record AreMoved (old : List A) (ks : List Bool) (d : A) (i : ℕ) (now : List A) (k : ℕ) : Type 0 where
     pub low : k ≤ i
     pub count : k ≡ rank ks i
@@ -56,7 +56,7 @@ module _ {A : Type 0} where
   moved-none old ks d = record { low = omega arith; count = refl; long = refl; front = λ j lt. absurd (omega arith); rest = λ j le. refl }
 
   module _ (old : List A) (ks : List Bool) (d : A) (i : ℕ) (now : List A) (k : ℕ) (m : AreMoved old ks d i now k) where
-    -- item i went to place k, and nothing else before or behind these
+    -- item i was moved to index k, and nothing else before or after these
     pub moved-to : (next : List A) → i < length old → Keeps ks i → length next ≡ length now → get_or next k d ≡ get_or now i d
         → ((j : ℕ) → j < k → get_or next j d ≡ get_or now j d) → ((j : ℕ) → i < j → get_or next j d ≡ get_or now j d) → AreMoved old ks d (i + 1) next (k + 1)
     moved-to next lt keeps long at before behind = record {

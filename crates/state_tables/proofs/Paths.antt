@@ -87,7 +87,7 @@ precedes-split (x ∷ w1) (y ∷ v1) w2 v2 e (inr k) =
 
 -- ---- paths
 module _ (go : ℕ → ℕ → ℕ → Option ℕ) where
-  -- over a second word it goes on from where the first one leads
+  -- over a second word it continues from where the first one leads
   pub path-on : (p q : ℕ) (w v : Marked) → path go w p ≡ Some q → path go (w ++ v) p ≡ path go v q
   path-on p q w v e = path-append go p w v ∙ ap (onto (path go v)) e
 

@@ -18,7 +18,7 @@ leads-nowhere : (roots : ℕ) (t : List Row) (links : List ℕ) (k depth slot i 
 leads-nowhere roots t links zero depth slot i none h = omega (arith, none, h)
 leads-nowhere roots t links (suc k) depth slot i none h = omega (arith, none, h.1.0)
 
--- a link to another table leads on behind it
+-- a link to another table leads on after it
 leads-behind : (roots : ℕ) (t : List Row) (links : List ℕ) (k depth slot i j : ℕ) → get_or links slot 0 ≡ suc j → i ≢ j → Leads roots t links k depth slot i → LeadsTo roots t links (depth + 1) (slot_of roots t j depth) i
 leads-behind roots t links zero depth slot i j link other h = absurd (other (omega (arith, link, h)))
 leads-behind roots t links (suc k) depth slot i j link other h =

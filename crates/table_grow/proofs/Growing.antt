@@ -216,7 +216,7 @@ all-before R ys rest x all = λ k d h.
     subst (λ y. R y x) (get_or-append ys (x ∷ rest) d k h)
     (subst (R (get_or (ys ++ x ∷ rest) k d)) (get_or-append_seam ys x rest d) (all k (length ys) d h bound))
 
--- ---- one more place
+-- ---- one more index
 pub placed-set : (d : Dictionary) (f : Filling) (id n : ℕ) → f.known ≤ id → id < f.known + length f.places → IsSome (number_in d (with_place f id n) id)
 placed-set d f id n new live = elim (in-set d f id n id new live) [
   | inl same ↦ rw same.1 refl

@@ -125,7 +125,7 @@ pub free-all : (nodes : List Node) (d : Dictionary) (f : Filling) (from to high 
     → IsLayer nodes from to high ids → All (λ (id : NodeId). number_in d f id.index ≡ None) ids
 free-all nodes d f from to high ids at layer = λ k x h. let is = layer.each k x h in let high_is = is.high_is in at.above (get_or ids k x).index is.new is.live (omega (arith, high_is))
 
--- each stands once
+-- each occurs once
 pub once-all : (nodes : List Node) (known bound high : ℕ) (ids : List NodeId) → IsLayer nodes known bound high ids → AllPairs (λ (x y : NodeId). x.index ≢ y.index) ids
 once-all nodes known bound high ids layer = λ i j d lt h. let up = layer.rising i j d lt h in λ e. absurd (omega (arith, up, e))
 

@@ -1,4 +1,4 @@
--- What a memory says after a look and after a note.
+-- What a cache has after a lookup and an insertion.
 use Rattle.std.proofs.Common.{◌≡◌, ◌⊎◌, inl, inr, ℕ, Bool, true, false, ◌&&◌, nat_eq, refl, ap, sym, subst, ◌∙◌, List, [], ◌∷◌, take, length, ◌<◌, ◌-◌, arith, Option, Some, None, IfSome, Contains, Result, Ok, Err, OnOk, OnErr}
 use Rattle.std.proofs.lemmas.Bool.{eqb-true}
 use Rattle.std.specs.Map.{lookup}

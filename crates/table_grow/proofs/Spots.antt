@@ -26,7 +26,7 @@ use Rattle.table_grow.specs.declared.pieces.Piece.{Piece}
 use Rattle.table_grow.specs.declared.pieces.Spot.{Spot}
 use Rattle.table_grow.specs.declared.pieces.Spot.TheVariants as spot
 
--- ---- what stands in a place
+-- ---- the content of an entry
 pub in-front : {X : Type 0} (xs ys : List X) (k : ℕ) (x : X) → slice_get xs k ≡ Some x → slice_get (xs ++ ys) k ≡ Some x
 in-front [] ys k x h = cc
 in-front (y ∷ xs) ys zero x h = h
@@ -246,7 +246,7 @@ pub ready-placed : (a : DeterministicAutomaton) (nodes : List Node) (d : Diction
 ready-placed a nodes d f g id n dict ready new live within table is =
     subst (λ x. IsReady a nodes d x []) (sym is) (ready-set a nodes d d f [] [] id.index n dict ready (kept-refl d) (entries-none d) new live within table)
 
--- one more place is filled, and no other
+-- one more index is filled, and no other
 pub record OneMore (d : Dictionary) (f g : Filling) (id : NodeId) : Type 0 where
   pub still : StillPlaced d f d g
   pub placed : IsSome (number_in d g id.index)

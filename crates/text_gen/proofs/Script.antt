@@ -1,4 +1,4 @@
--- The demo script, made from its front.
+-- The demo script, built from its start.
 use Rattle.std.proofs.Common.{◌≡◌, ◌∙◌, ◌++◌, ◌∷◌, ◌+◌, ◌*◌, ◌^◌, ◌≤◌, ℕ, List, ap, sym, refl, replicate, codes, length, arith, append_assoc, length-append}
 use Rattle.std.specs.List.{flat_map}
 use Rattle.std.proofs.lemmas.List.{flat_map_more, replicate_more}

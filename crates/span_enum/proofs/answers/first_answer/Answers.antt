@@ -18,7 +18,7 @@ returns-then-not-has_first-clause-answer g c =
       omega arith,
     )
 
--- the walk stands before the first letter
+-- the walk is before the first letter
 begins : (g : Over) (c : After-len-count g) → Begins c.args.ground.now (record { state = 0; next = c.len-count.result; quiet = false }) c.len-count.result [] c.args.trail.now.marks.items c.args.trail.now.ahead.items
 begins g c = fresh-begins c.args.ground.now c.args.trail.now.marks.items c.args.trail.now.ahead.items c.len-count.result c.requires.fresh c.len-count.ensures.value (c.if-not-has_first.ensures.0 refl)
 

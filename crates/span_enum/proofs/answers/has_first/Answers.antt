@@ -18,7 +18,7 @@ ahead_at-requires c =
     let fresh = c.requires.fresh in
     next-there c.args.trail.now.ahead.items c.len-count.result fresh.chain (rw c.len-count.ensures.value fresh.stands.ahead) (omega (arith, c.if-count-eq0.false))
 
--- what the root's table tells of the text
+-- what the root's table says of the text
 tells-all : (c : After-ahead_at) → Tells c.args.ground.now.dfa.now (whole_text c.args.ground.now) c.ahead_at.result.now.look.table.now
 tells-all c =
     let count = c.len-count.ensures.value in

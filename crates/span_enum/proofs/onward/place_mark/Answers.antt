@@ -5,7 +5,7 @@ use Rattle.span_enum.proofs.Ways.{meets-byte}
 use Rattle.span_enum.proofs.onward.place_mark.Goals.{After-marked-marked}
 use Rattle.span_enum.proofs.onward.place_mark.Goals as goal
 
--- what the table of the letter tells, and a mark that leads into a goal
+-- what the table of the letter says, and a mark that leads into a goal
 tells-all : (c : After-marked-marked) → Tells c.args.ground.now.dfa.now (text_at c.args.ground.now c.args.here.now.id.index) c.args.here.now.look.table.now
     × ((m : ℕ) × ((q : ℕ) × IsMarkInto c.args.ground.now.dfa.now c.args.state c.args.byte c.args.here.now.goals m q))
 tells-all c =

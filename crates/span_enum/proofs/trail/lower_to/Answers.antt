@@ -3,7 +3,7 @@ use Rattle.span_enum.proofs.Kept.{Last, last-kept, last-same, lower, turned-none
 use Rattle.span_enum.proofs.trail.lower_to.Goals.{After-last_of-last}
 use Rattle.span_enum.proofs.trail.lower_to.Goals as goal
 
--- the last mark, and what comes after the tuple behind it
+-- the last mark, and, after it, what comes after the tuple
 last : (c : After-last_of-last) → Last c.args.ground.now c.args.t.now (take (length c.args.trail.now.marks.items - 1) c.args.trail.now.marks.items) c.args.trail.now.ahead.items c.requires.last.mark
 last c = last-kept c.args.ground.now c.args.t.now c.args.trail.now.marks.items _ c.requires.trail c.requires.last.mark c.requires.last.is_last
 

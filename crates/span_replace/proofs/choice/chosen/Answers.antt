@@ -58,7 +58,7 @@ returns-then-len-eq-MOST-clause-choice g c all answers =
     let more = picks-more a s c.loop-next.spans.items all answers c.in-Some.span p in
     omega (arith, more, c.if-len-eq-MOST.true, c.len.ensures)
 
--- of the search that found no memory its looks are paid by the span before it
+-- the table lookups of a search that runs out of memory are paid by the span before it
 
 pub returns-in_err-next-2-clause-cost : goal.returns-in_err-next-2-clause-cost
 returns-in_err-next-2-clause-cost g c all answers =
