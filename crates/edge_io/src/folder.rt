@@ -21,7 +21,7 @@ use std::rt::Files;
 /// system call. Every other read tests what kind of file it is, opens it, seeks and reads. The file stays open until
 /// the next read at another offset or of another file, the next put, or the end of the file store.
 ///
-/// - `Absent`: the system has no file of this name, or a part of the path is a plain file.
+/// - `Absent`: the system has no file of this name, no file can have this name, or a part of the path is a plain file.
 /// - `Denied`: the name is a folder, a pipe or a socket, can't be sought, is in a cycle of links, or isn't UTF-8; or a
 ///   permission is missing.
 ///
@@ -36,9 +36,10 @@ use std::rt::Files;
 /// - A link is followed and kept. If it names no file, that file is created.
 /// - A device, a pipe and whatever lies below /dev or /proc is written in place, piece by piece. So a put to it that
 ///   fails may have written some of the bytes.
-/// - `Denied`: the name is a folder or a socket, its folder doesn't exist or isn't a folder, the name can't be a
-///   file's, a permission is missing, or the file system is read-only. A put needs permission to write the old file and
-///   to create files in its folder.
+/// - `Denied`: the name is a folder or a socket, its folder doesn't exist or isn't a folder, the name can't be a file's
+///   or isn't UTF-8, or it is in a cycle of links. It is also returned if a permission is missing, the file is busy (as
+///   a program that runs), or the file system is read-only. A put needs permission to write the old file and to create
+///   files in its folder.
 ///
 /// # Failures
 ///

@@ -51,7 +51,8 @@ fn either(a: &[bool; 8], b: &[bool; 8]) -> [bool; 8]
     held
 }
 
-/// Checks the rule: the parts of a concatenation share no variable, nothing under a star or a plus has one, and a capture of a variable has it no second time inside.
+/// Checks the rule: the parts of a concatenation share no variable, nothing under a star or a plus has one, and a
+/// capture doesn't contain its variable again.
 pub fn check(formula: &Formula) -> Verdict
     requires { Below 8 (tree_of formula.now) }
     ensures { IsVerdict result (tree_of formula.now) }

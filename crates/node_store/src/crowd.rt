@@ -1,4 +1,4 @@
-//! Counts of nodes whose hashes are close together. By them the index is given up before lookups in it take long.
+//! Counts of nodes whose hashes are close together, so that the index is given up before lookups in it take long.
 use crate::narrow::Narrow;
 use indexmap::IndexSet;
 use std::alloc::Global;

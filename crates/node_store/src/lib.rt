@@ -264,7 +264,7 @@ impl Store {
     }
 
     /// Makes room for the pairs of neighbours (the first with the second, the third with the fourth and so on) that
-    /// aren't found through a child, as far as memory allows. It pays before many pairs are requested one after the
+    /// aren't found through a child, as far as memory allows. It helps before many pairs are requested one after the
     /// other: the processor then waits for the memory of all of them at once.
     pub fn make_room(&mut self, blocks: &[NodeId])
         ensures { self.new ≡ self.old }

@@ -44,8 +44,8 @@ use words::Words;
 ///
 /// It has full blocks of bytes, at most one of each height, as nodes of the store: a block of height h has 2^h bytes.
 /// After an error it has none, and returns `NoMemory` from every call. From 4,096 bytes on it also has a cache of the
-/// blocks of the last words of two, four and eight bytes, in 192 KB, and from 262,144 bytes on in 7 MB, if the system
-/// has this memory. So most of these words need no calls to `pair`.
+/// blocks of the last words of two, four and eight bytes, if memory allows. The cache takes 192 KB, and 7 MB from
+/// 262,144 bytes on. So most of these words need no calls to `pair`.
 #[derive(Drop)]
 pub struct Loader {
     // The highest block first.

@@ -144,8 +144,8 @@ impl<'a> Iterator for RangeBytes<'a> {
 
     ghost remaining = { item_count (λ bytes. bytes) };
 
-    /// The next byte. Allocates nothing, and takes constant time on average over a walk: each node is pushed onto the
-    /// trail at most once for each time that the walk passes it.
+    /// The next byte. Allocates nothing. It takes constant time on average over a walk, since each byte takes one node
+    /// from the trail.
     fn next(&mut self) -> Option<u8> {
         let store = self.store;
         if self.left == 0 {

@@ -52,7 +52,7 @@ IsEndBy places from own_mark e = e ≡ record { state = from; mark = mark_by pla
 abbrev pub IsEndOf : DeterministicAutomaton → List (Option ℕ) → ℕ → ℕ → End → Type 0
 IsEndOf a places from state e = (own_mark : ℕ) × Contains (ends_of a state) own_mark × IsEndBy places from own_mark e
 
--- an edge of a copy whose states begin at `base`, where the start has the edges of the copy's start
+-- an edge of a copy whose states begin at `base`; the start also has the edges of the copy's start
 pub record IsCopiedEdge (a : DeterministicAutomaton) (places : List (Option ℕ)) (base : ℕ) (classes : List Class) (e : Edge) : Type 0 where
   pub from : ℕ
   pub state : ℕ

@@ -9,7 +9,7 @@ use Rattle.line_parts.specs.NameList.{AreNames}
 abbrev pub bounds_text : Span → List ℕ
 bounds_text span = decimal span.start ++ 44 ∷ (decimal span.end ++ 41 ∷ [])
 
--- `-` for a variable without a span, else `[NUM,NUM)`
+-- `-` for a variable without a span, otherwise `[NUM,NUM)`
 abbrev pub value_text : Option Span → List ℕ
 value_text None = 45 ∷ []
 value_text (Some span) = 91 ∷ bounds_text span

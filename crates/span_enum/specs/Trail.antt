@@ -327,7 +327,7 @@ pub record HasRoom (variables marks ahead : ℕ) : Type 0 where
   pub ahead_fits : 1 + 69 * (2 * variables) ≤ ahead
 
 -- ---- the way along the marks of a given tuple
--- the walk stands at a position in the word of the tuple, whose marks up to there are kept
+-- the walk is at a position in the word of the tuple, whose marks up to there are kept
 pub record Follows (g : Ground) (t : Tuple) (hs : List (Option Ahead)) (at : ℕ) (place : Place) (ms : List Mark) (c : List Ahead) : Type 0 where
   pub word : Marked
   pub behind : Behind g at place (length hs) word ms hs c

@@ -2,7 +2,8 @@
 ghost use Rattle.std.specs.Prelude.{◌≡◌, ◌+◌, ◌*◌, ◌≤◌, ◌^◌};
 ghost use Rattle.span_types.specs.Fibonacci.{height_limit as greatest_height, looks_limit as most_looks, IsHeightLimit};
 
-/// The greatest height of a balanced tree over `n` bytes: the greatest h with F(h+2) ≤ n, where F(1) = F(2) = 1 are the first Fibonacci numbers, and 0 for no bytes.
+/// The greatest height of a balanced tree over `n` bytes: the greatest h with F(h+2) ≤ n, and 0 for no bytes. Here F(1)
+/// = F(2) = 1 are the first Fibonacci numbers.
 pub fn height_limit(n: u64) -> u8
     requires { n ≤ 2 ^ 48 }
     ensures value { result ≡ greatest_height n }

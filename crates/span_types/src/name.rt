@@ -25,7 +25,8 @@ pub enum NameRefusal {
     NoMemory,
 }
 
-/// The name of a document, a query, a version or a variable: 1 to 64 bytes, first an ASCII letter or `_`, then ASCII letters, digits, `_`, `.` or `-`. Contracts see it as the list of its bytes.
+/// The name of a document, a query, a version or a variable: 1 to 64 bytes, first an ASCII letter or `_`, then ASCII
+/// letters, digits, `_`, `.` or `-`. Contracts see it as the list of its bytes.
 #[derive(Debug, Drop)]
 pub struct Name {
     text: Vec<u8>,

@@ -13,7 +13,8 @@ mod writes;
 pub use marks::mark_at;
 pub use order::compare;
 
-/// The span `[start,end)` of a text (Fagin et al., *Document Spanners*, JACM 2015): the bytes at the positions from `start` up to `end`, which isn't part of it. The positions of a text of n bytes are 1 to n+1.
+/// The span `[start,end)` of a text (Fagin et al., *Document Spanners*, JACM 2015): the bytes at the positions from
+/// `start` up to `end`, which isn't part of it. The positions of a text of n bytes are 1 to n+1.
 #[derive(Clone, Copy, PartialEq, Eq, Debug)]
 pub struct Span {
     /// The first position.

@@ -100,7 +100,8 @@ fn keep_one(
     Ok(number)
 }
 
-/// The number of compositions that are cached of those that were computed at once. A full cache of 4,096 is emptied.
+/// The number of compositions that are cached of those that were computed at once. More would soon fill a cache of
+/// 4,096, which is emptied when it is full.
 const LAST: usize = 2048;
 
 // Keeps the tables that were computed, caches the last compositions, and returns the tables' numbers.

@@ -6,9 +6,9 @@
 //! ```
 //!
 //! `halves` is a fork and a join (as in M. Conway, *A multiprocessor system design*, 1963): it starts a thread for one
-//! closure, runs the other on its own thread, and returns both results. If no thread can be started, it runs one after
-//! the other, so it returns no error. A call costs the start of a thread, so the closures should take much longer than
-//! that.
+//! closure, runs the other on the calling thread, and returns both results. If no thread can be started, it runs one
+//! after the other, so it returns no error. A call costs the start of a thread, so the closures should take much longer
+//! than that.
 //!
 //! A gate sees the indices of the nodes or documents at which work begins and returns nothing, so no result depends on
 //! it. `OpenGate` does nothing; tests have gates that hold a thread until another has come, and so show that two run at
