@@ -13,10 +13,10 @@
 //! A file store also takes a file in pieces: `begin`, `append` and `end`, of which only `end` changes the file. A call
 //! that returns an error changes no file, except for a device or a pipe that `DirShelf` writes to.
 //!
-//! Each trait has an object over std (`StdSource`, `StdSink`, `DirShelf`) and two in memory for tests. One never fails,
-//! apart from allocation (`Sure..`). The other moves pieces of a chosen size and fails at chosen calls (`Mem..`).
-//! `MemShelf::close` closes a name for reading or writing. [`BufferedSink`] buffers bytes for any sink until it is
-//! flushed.
+//! Each trait has an object over std (`StdSource`, `StdSink`, `DirShelf`) and two in memory. One never fails, apart
+//! from allocation (`Sure..`). The other is for tests: it moves pieces of a chosen size and fails at chosen calls
+//! (`Mem..`). `MemShelf::close` closes a name for reading or writing. [`BufferedSink`] buffers bytes for any sink until
+//! it is flushed.
 //!
 //! Every object counts its faults and its allocation failures. So a contract can say that a caller returns a fault only
 //! if the outside had one, and that a call that succeeded had none.

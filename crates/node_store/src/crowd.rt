@@ -31,7 +31,7 @@ const GROUPS_OF_STRETCH: usize = 32;
 // The number of kinds of tags. The kind of a tag is its four highest bits.
 const KINDS: usize = 16;
 
-// Of 384 entries.
+// A stretch has 384 entries. Nodes past this number in it count as too many.
 const MOST_OF_STRETCH: u16 = 352;
 
 const MOST_OF_KIND: u8 = 48;

@@ -66,7 +66,7 @@ pub(crate) struct Trail<'a> {
     pub(crate) ahead: SmallVec<Option<Ahead<'a>>, 0>,
 }
 
-/// The maximum number of nodes beside the path down in the tallest tree, and one more.
+/// One more than the maximum number of nodes beside the path down in the tallest tree.
 const BESIDE: usize = 69;
 
 /// Nothing kept, with room for the answers of this many variables.

@@ -26,7 +26,8 @@ impl Model for Layers {
     ghost view = { λ l. map (λ v. v.items) l.lists.items };
 }
 
-// The number of nodes of each height from `from` on and before `to`. Room is made by it, and no result depends on it.
+// The number of nodes of each height from `from` on and before `to`. It only determines how much room is reserved, and
+// no result depends on it.
 fn counts_of(store: &Store, from: usize, to: usize) -> [usize; 69]
     requires { to ≤ length store.now }
 {

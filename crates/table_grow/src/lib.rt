@@ -7,11 +7,11 @@
 //!
 //! The table of a node says, for its text, which states of an automaton are reached from which. That of a pair is
 //! composed from those of its children and reads no text, so after an edit only the new nodes are processed, one step
-//! each. Compositions are kept in a cache, which is emptied when it is full, so most nodes cost one lookup in it. Nodes
-//! of the same height don't depend on each other. If the cache is empty, or many of the nodes before have a table that
-//! no node had, they are cut into at most `workers` pieces that run at once. Within a piece, equal compositions that
-//! aren't in the cache are computed once. What all pieces computed is kept and cached before the next height. The
-//! result depends neither on the cache nor on the workers.
+//! each. Compositions are kept in a cache, so most nodes cost one lookup in it; a full cache is emptied. Nodes of the
+//! same height don't depend on each other. If the cache is empty, or many of the nodes before have a table that no node
+//! had, they are cut into at most `workers` pieces that run at once. Within a piece, equal compositions that aren't in
+//! the cache are computed once. What all pieces computed is kept and cached before the next height. The result depends
+//! neither on the cache nor on the workers.
 //!
 //! A composition takes at most as many steps as the square of the automaton's number of states, a cached one expected
 //! constant time. Besides the tables, memory is allocated for an entry for each new node and for the cache.

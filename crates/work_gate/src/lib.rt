@@ -28,7 +28,8 @@ use std::thread;
 use std::thread::Threads;
 
 /// An observer that is called before the work on each item begins, on the thread that does this work. `table_grow`
-/// calls it for each node whose table is computed, and `list_all` for each document.
+/// calls it for each node that gets a table, before the table is looked up or computed. `list_all` calls it for each
+/// document.
 ///
 /// `pass` has no effect on any result: it returns nothing, and only sees the item's index. A gate can count, print or
 /// hold a thread for a while. Tests do the last to show that two threads run.
