@@ -11,6 +11,8 @@
 //! states with eight variables, with products of exactly 128 states and of more.
 //! It takes no input, and memory for the automata of
 //! one line at a time.
+//!
+//! Proved: Only safety and termination.
 #![tactic(auto)]
 
 mod queries;

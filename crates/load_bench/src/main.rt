@@ -7,6 +7,8 @@
 //! It isn't part of the database. It shows the result of `pair_loader` on a text with some repetition, in bytes, nodes
 //! and nanoseconds. The text is made while it runs, from one seed, so each run loads the same bytes. It takes
 //! memory for one piece and for the nodes.
+//!
+//! Proved: Only safety and termination.
 #![tactic(auto)]
 
 ghost use Rattle.std.specs.Prelude.{◌≡◌, ◌<◌};
