@@ -1,4 +1,0 @@
-use Rattle.query_rows.proofs.listings.seen.Given as goal
-
-abbrev pub ghosts-listed : goal.ghosts-listed
-ghosts-listed g a = record { name = a.blank.name; parts = a.blank.parts }

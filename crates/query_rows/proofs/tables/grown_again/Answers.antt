@@ -1,6 +1,0 @@
-use Rattle.query_rows.proofs.Grown.{tables-grow}
-use Rattle.query_rows.proofs.tables.grown_again.Goals as goal
-
-pub grow-requires-clause-true_tables : goal.grow-requires-clause-true_tables
-grow-requires-clause-true_tables g c κs within =
-    tables-grow c.args.dfa.now c.args.store.now c.load_letters.new.store c.args.steps.now c.load_letters.new.pairs c.args.tables.now c.in_ok-load_letters.ensures c.requires.covered c.requires.true_tables

@@ -1,0 +1,4 @@
+use Rattle.query_tests.proofs.replacing.a_letter_replaced.Given as goal
+
+abbrev pub ghosts-asked : goal.ghosts-asked
+ghosts-asked g a = record { name = a.blank.name; parts = a.blank.parts }
