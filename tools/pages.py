@@ -15,7 +15,8 @@ class Trouble(Exception):
 
 def crates() -> list[str]:
     """The crates, lowest first."""
-    return [line.partition(":")[0] for line in (TOP / "crates.txt").read_text().splitlines() if line.strip()]
+    lines = (line.partition("#")[0] for line in (TOP / "crates.txt").read_text().splitlines())
+    return [line.partition(":")[0] for line in lines if line.strip()]
 
 
 def made(tool: str, page: Path, text: str, is_check: bool) -> int:

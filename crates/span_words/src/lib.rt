@@ -7,7 +7,7 @@
 //! ```
 //!
 //! Arguments are accepted exactly if `clap` accepts them for the two options of the program, `--workers 1..64` and `--demo
-//! 1..46`, and a law says that what is taken has one reading. Time and memory are linear in the words.
+//! 1..46`, and a law says that accepted ones have one reading. Time and memory are linear in the arguments.
 //!
 //! Proved: Command-line arguments: exactly what the command takes (`read_words`). The text for rejected arguments
 //! begins with `spanbase: Usage` (`usage_text`).

@@ -20,7 +20,7 @@
 //! chosen.
 //!
 //! The tables are those of M. L. Schmid and N. Schweikardt, *Spanner evaluation over SLP-compressed documents*, PODS
-//! 2021. Equal ones stand once here.
+//! 2021. Equal tables are stored once.
 //!
 //! Proved: The table of a byte, and of two texts joined (`of_byte`, `compose`). Each distinct table is kept once
 //! (`Tables`). After a compaction kept nodes have their tables, and tables that no node has are dropped
