@@ -1,5 +1,7 @@
-"""The pages are in plain English, and tools/english finds what isn't."""
+"""The pages and comments are in plain English, and tools/english finds what isn't."""
+import tempfile
 import unittest
+from pathlib import Path
 
 from support import tool_as_module
 
@@ -35,7 +37,16 @@ class English(unittest.TestCase):
         (block,) = english.blocks_of(FOUND[-1][0])
         self.assertEqual([english.words_in(it) for it in english.sentences_of(block)], [1, 6, 1, 1, 4])
 
-    def test_pages(self) -> None:
-        for page in english.checked_pages():
-            with self.subTest(page=page.name):
-                self.assertEqual(english.findings(page.read_text()), [])
+    def test_comments(self) -> None:
+        with tempfile.TemporaryDirectory() as folder:
+            for name, source, line in [
+                ("a.rt", "let shelf = told;\n\n    /// It was\n    /// refused.\n", 3),
+                ("A.antt", "shelf told = told\n-- a shelf\n", 2),
+            ]:
+                (file := Path(folder) / name).write_text(source)
+                self.assertEqual([it.partition(":")[0] for it in english.findings_in(file)], [str(line)])
+
+    def test_files(self) -> None:
+        for file in english.checked_files():
+            with self.subTest(file=file.name):
+                self.assertEqual(english.findings_in(file), [])

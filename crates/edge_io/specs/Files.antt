@@ -102,7 +102,7 @@ abbrev pub IsBegun : Option (Option (List ℕ × List ℕ)) → List ℕ → Lis
 IsBegun None name bytes = ⊥
 IsBegun (Some told) name bytes = IfSome told (λ put. (put.0 ≡ name) × (put.1 ≡ bytes))
 
--- a put of these bytes to this name did what it returned, or was denied if exposed files have the name closed
+-- a put of these bytes to this name did what it returned, or was rejected if exposed files have the name closed
 pub record IsPutTo (old new : Option Files) (name bytes : List ℕ) (result : Result (Unit {0}) PutRefusal) : Type 0 where
   pub done : OnOk result (Holds new name bytes)
   pub others : KeepsOthers old new name

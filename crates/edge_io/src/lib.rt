@@ -21,8 +21,8 @@
 //! Every object counts its faults and its allocation failures. So a contract can say that a caller returns a fault only
 //! if the outside had one, and that a call that succeeded had none.
 //!
-//! Those over std keep no buffer: a call takes a few system calls. Those in memory keep all bytes, and look a file up
-//! in time linear in the number of files.
+//! Those over std keep no buffer: a call takes a few system calls. Those in memory keep all bytes, and find a file in
+//! time linear in the number of files.
 //!
 //! Proved: Objects in memory: their bytes, their closed names and their failing calls (`Source`, `Sink`, `Shelf`). A
 //! buffer in front of a sink loses and reorders nothing (`BufferedSink`). Counts of faults and failed allocations
@@ -77,7 +77,7 @@ pub enum WriteRefusal {
     NoMemory,
 }
 
-/// Why a shelf returned no bytes of a file.
+/// Why a file store returned no bytes of a file.
 #[derive(Clone, Copy, Debug, PartialEq, Eq, Error)]
 pub enum ShelfRefusal {
     /// A fault.
@@ -94,7 +94,7 @@ pub enum ShelfRefusal {
     Denied,
 }
 
-/// Why a shelf didn't change a file.
+/// Why a file store didn't change a file.
 #[derive(Clone, Copy, Debug, PartialEq, Eq, Error)]
 pub enum PutRefusal {
     /// A fault.

@@ -7,8 +7,11 @@
 //! ```
 //!
 //! It isn't part of the database. It shows the most expensive inputs of `marker_nfa`, `marker_dfa` and `span_algebra`:
-//! formulas of 2,048 bytes with eight variables whose marks lie between many occurrences, and two automata of up to 128
-//! states with eight variables, with products of exactly 128 states and of more. It takes no input, and memory for the
+//!
+//! - formulas of 2,048 bytes with eight variables whose marks lie between many occurrences;
+//! - two automata of up to 128 states with eight variables, with products of exactly 128 states and of more.
+//!
+//! It takes no input, and memory for the
 //! automata of one line at a time.
 //!
 //! Proved: Only safety and termination.

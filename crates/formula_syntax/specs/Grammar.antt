@@ -13,8 +13,8 @@ pub data Part : Type 0 where
   rep : Part
   atom : Part
 
--- Reads part s f d n m: the bytes s are this part of the grammar and mean f, at most d groups and captures are open at
--- once, and the names n that appeared before it are m after it
+-- Reads part s f d n m: the bytes s are this part of the grammar and mean f. At most d groups and captures are open at
+-- once. The names n appeared before this part, and the names m have appeared after it.
 pub data Reads : Part → List ℕ → FormulaTree → ℕ → Names → Names → Type 0 where
   -- ALT is one or more CAT, separated by | (124)
   one_branch : (s : List ℕ) (f : FormulaTree) (d : ℕ) (n m : Names) → Reads cat s f d n m → Reads alt s f d n m

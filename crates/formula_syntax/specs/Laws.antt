@@ -1,4 +1,4 @@
--- Laws of the grammar, and the worked rows.
+-- Laws of the grammar, and the examples.
 use Rattle.std.specs.Prelude.{◌≡◌, ◌==◌, ℕ, List, [], ◌∷◌, codes}
 use Rattle.formula_syntax.specs.Numbering.{Names}
 use Rattle.span_types.specs.FormulaTree.{FormulaTree, Set, Empty, Cat, Alt, Star, Opt, Capture}

@@ -76,8 +76,8 @@ fn bytes_from(bytes: &[u8], from: u64) -> &[u8] {
     }
 }
 
-/// A file store whose files are constants of the program. It accepts no file: each name is closed for writing, which a write in
-/// pieces is told at its end.
+/// A file store whose files are constants of the program. It accepts no file: each name is closed for writing, and a write
+/// in pieces is rejected at its end.
 #[derive(Drop)]
 pub struct Shipped {
     /// Whether a write in pieces was begun.

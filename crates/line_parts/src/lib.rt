@@ -8,7 +8,7 @@
 //! ```
 //!
 //! A number is exactly what prints as that number: no sign, no leading zero, below 2^64. Every call takes one pass over
-//! the bytes that it looks at, and no memory: it returns parts of its arguments.
+//! the bytes that it reads, and no memory: it returns parts of its arguments.
 //!
 //! Proved: A NUM is exactly what prints as the number (`number`). Arguments and lists of names are cut as specified.
 #![tactic(auto)]

@@ -33,6 +33,6 @@ module _ {A : Type 0} where
   with_value (p ∷ ps) zero value = (p.0, value) ∷ ps
   with_value (p ∷ ps) (suc place) value = p ∷ with_value ps place value
 
-  -- no name stands twice
+  -- no name occurs twice
   abbrev pub AreDistinctNames : Named A → Type 0
   AreDistinctNames ps = IsDistinct is_same (map (λ p. p.0) ps)

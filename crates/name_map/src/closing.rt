@@ -16,7 +16,7 @@ pub(crate) fn close_sparse<V: Drop>(slots: &mut Slots<V>)
     }
 }
 
-/// Drops the empty slots. Allocates nothing. Looks each name up once.
+/// Drops the empty slots. Allocates nothing. Finds each name once.
 pub(crate) fn close_up<V: Drop>(slots: &mut Slots<V>)
     requires { AreSlots (indexed slots.old.index.entries) slots.old.items.items slots.old.empty }
     ensures same { live slots.new.items.items ≡ live slots.old.items.items }

@@ -1,4 +1,4 @@
-//! Counts of nodes whose hashes are close together, so that the index is given up before lookups in it take long.
+//! Counts of nodes whose hashes are close together, so that the index is abandoned before lookups in it take long.
 use crate::narrow::Narrow;
 use indexmap::IndexSet;
 use std::alloc::Global;
@@ -8,8 +8,8 @@ use std::alloc::Global;
 ///
 /// The index has groups of 12 entries. The number of groups is a power of two, and there are at most 9 nodes per group.
 /// The lowest bits of a node's hash choose its group; if that group is full, the node goes to the next one. The tag of
-/// a node is the 8 highest bits of its hash. A lookup reads, in each group that it passes, the nodes with the tag that
-/// it looks for. Here a stretch is 32 groups in a row. Hashes that nobody chose put on average at most 288 nodes into a
+/// a node is the 8 highest bits of its hash. A lookup reads, in each group that it passes, the nodes with the wanted
+/// tag. Here a stretch is 32 groups in a row. Hashes that nobody chose put on average at most 288 nodes into a
 /// stretch, and 18 of each kind of tags. What is counted are the nodes far above these means.
 #[derive(Drop)]
 pub(crate) struct Crowd {

@@ -10,10 +10,10 @@
 //! All texts share one store, and a part that occurs again, in the same text or in another, costs nothing the second
 //! time. Nodes are only added and never change, so an id always means the same text.
 //!
-//! `byte` and `pair` take expected constant time, amortized over the growth of the store. The other calls on a node
+//! `byte` and `pair` take expected constant time, amortized over the nodes of the store. The other calls on a node
 //! take constant time, and `thin` takes linear time. A node takes 29 bytes if the vectors are full: 12 for itself, 9
-//! for its length and height, 4 for the first pair that has it on the left, and 4 for the first of the other pairs that
-//! has it on the right. Most nodes are such a pair, and are found through a child; each other node takes 31 bytes more.
+//! for its length and height, and two links of 4 bytes. One link is to the first pair that has it on the left. The other
+//! is to the first of the other pairs that has it on the right. Most nodes are such a pair, and are found through a child; each other node takes 31 bytes more.
 //! Full vectors double, and a full index grows fourfold, or twofold if it is large.
 //!
 //! Storing each node once is hash consing (A. Ershov, *On programming of arithmetic operations*, 1958). That the trees
@@ -190,7 +190,7 @@ impl Store {
     }
 
     /// The id of the pair, which is added last if it isn't there. It counts as one step, and takes expected constant
-    /// time, amortized over the growth of the store.
+    /// time, amortized over the nodes of the store.
     ///
     /// The children's heights differ by at most one, and the text has at most 2^48 bytes.
     ///

@@ -12,9 +12,9 @@ use std::marker::Model;
 
 /// Nodes in the order in which they were added, each once.
 ///
-/// They are found by their hashes, until so many hashes are close together that lookups would take long: whoever makes
+/// They are found by their hashes, until too many hashes are close together and lookups would take long: whoever makes
 /// a text or an image can choose nodes for this. From then on new nodes go to a search tree, in which no lookup takes
-/// many steps, and each node is looked for in both. A node takes 12 bytes, and 15 in the index if it is full.
+/// many steps, and each lookup searches both. A node takes 12 bytes, and 15 in the index if it is full.
 #[derive(Drop)]
 pub(crate) struct Others {
     hashed: IndexSet<Narrow>,

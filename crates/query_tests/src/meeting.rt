@@ -15,7 +15,7 @@ pub struct Meeting {
 }
 
 impl Meeting {
-    /// A gate for this pair of numbers. Without a pair no thread is held.
+    /// A gate for this pair of numbers. Without a pair no thread waits.
     pub fn new(two: Option<(usize, usize)>) -> Meeting {
         Meeting {
             two,
@@ -25,7 +25,7 @@ impl Meeting {
         }
     }
 
-    /// The numbers of threads that passed, arrived, and gave up.
+    /// The numbers of threads that passed, arrived, and stopped waiting.
     pub fn counts(&self) -> (u64, u64, u64) {
         (
             self.passed.load(Ordering::SeqCst),

@@ -174,7 +174,7 @@ fn two_nodes_meet(rt: HostRuntime) -> Result<(), Fail> {
     Ok(())
 }
 
-/// A formula with a set for each letter. It tells nearly all texts of letters apart, so nearly each node has its own table.
+/// A formula with a set for each letter. It distinguishes nearly all texts of letters, so nearly each node has its own table.
 const APART: &[u8] = b".*$x{[^a][^b][^c][^d][^e][^f][^g][^h][^i][^j][^k][^l][^m]\
 [^n][^o][^p][^q][^r][^s][^t][^u][^v][^w][^x][^y][^z]}.*";
 
@@ -189,7 +189,7 @@ fn random_letters(alloc: Global, count: usize) -> Result<Vec<u8>, NoMemory> {
     Ok(letters)
 }
 
-/// Adds the nodes of so many letters.
+/// Adds the nodes of `letters` letters.
 fn load_letters<L: Ledger>(
     alloc: Global,
     store: &mut Store,
@@ -220,13 +220,14 @@ fn words_from(store: &Store, from: usize) -> Option<(usize, usize)> {
     found
 }
 
-/// How many compositions are remembered after a first growth, how many nodes are new in a second one, and the gate's counts then.
+/// The number of cached compositions after a first table computation, the number of new nodes in a second one, and the gate's
+/// counts then.
 type Growths = (usize, usize, (u64, u64, u64));
 
-/// Before growth asks whether threads pay, it takes so many nodes on one thread.
+/// The number of nodes that are processed on one thread before it is tested whether threads pay.
 const ON_ONE_THREAD: usize = 4096;
 
-/// The second growth, of many nodes.
+/// The second table computation, of many nodes.
 fn grown_again<R: Threads + Sync, L: Ledger>(
     rt: &R,
     alloc: Global,
@@ -286,7 +287,7 @@ fn two_growths<R: Threads + Sync, L: Ledger>(
     )
 }
 
-/// A growth with compositions remembered still runs on two threads where many nodes have their own table.
+/// With cached compositions, table computation still runs on two threads if many nodes have their own table.
 #[test]
 fn two_nodes_meet_in_a_second_growth(rt: HostRuntime) -> Result<(), Fail> {
     let (remembered, new, counts) = two_growths::<HostRuntime, Brand>(

@@ -15,7 +15,7 @@
 //!
 //! Straight-line programs whose sibling trees differ by at most one in height are the strongly balanced ones of M. L.
 //! Schmid and N. Schweikardt, *Query evaluation over SLP-represented document databases with complex document
-//! editing*, PODS 2022; the rule itself is that of G. Adelson-Velsky and E. Landis, 1962.
+//! editing*, PODS 2022. The rule itself is that of G. Adelson-Velsky and E. Landis, 1962.
 //!
 //! Proved: Laws of trees, joins and the loader's shape, and of the kept nodes of a store (`law`).
 #![tactic(auto)]

@@ -28,8 +28,8 @@ pub record OfSides (L R : DeterministicAutomaton → Type 0) (P : DeterministicA
   pub right_is : R right
   pub holds : P left right
 
--- an automaton of a tree: a Leaf has the occurrences of its formula, and an operation those made of the states of its
--- operands' automata (pair_of numbers the pairs of a Join if the right side has at most 128 states)
+-- an automaton of a tree. A Leaf has the occurrences of its formula. An operation has those made of the states of its
+-- operands' automata: pair_of numbers the pairs of a Join if the right side has at most 128 states.
 abbrev pub IsTreeAutomaton : Query → DeterministicAutomaton → Type 0
 IsTreeAutomaton (Leaf f names) d = IsNamedAutomaton names (suc (sets f)) (Steps f) (IsEnd f) d
 IsTreeAutomaton (Union l r) d = OfSides (IsTreeAutomaton l) (IsTreeAutomaton r) (λ a b. IsNamedAutomaton (names_of (Union l r)) (union_size a b) (UnionStep a (names_of l) b (names_of r)) (UnionEnd a (names_of l) b (names_of r)) d)

@@ -145,8 +145,8 @@ fn push_joints(
 
 /// The joints of some marks of the left and some of the right.
 ///
-/// It sorts those of the right by the markers that they share, and then finds those for each mark of the left by binary
-/// search: O((n + m) log n) steps and one for each joint, with m marks of the left and n of the right.
+/// It sorts those of the right by the markers that they share. Then it finds those for each mark of the left by binary
+/// search. It takes O((n + m) log n) steps and one for each joint, with m marks of the left and n of the right.
 pub fn joints_of(
     alloc: Global,
     meeting: &Meeting,

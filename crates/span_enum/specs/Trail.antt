@@ -85,7 +85,7 @@ AreGoals g p s [] = Unit {0}
 AreGoals g p s (h ∷ c) = IsAhead g h × AreBetween g.dfa.now p (s ++ text_at g h.id.index) (text_ahead g c) g.finals h.goals × AreGoals g p (s ++ text_at g h.id.index) c
     × AreQuiet g.dfa.now h.quiet (text_ahead g c) g.finals
 
--- if the place is marked as quiet, the rest has no marks
+-- if the walk's position is marked as quiet, the rest has no marks
 abbrev pub IsQuietPlace : Ground → Place → List Ahead → Type 0
 IsQuietPlace g place c = place.quiet ≡ true → IsQuiet g.dfa.now place.state (text_ahead g c) g.finals
 

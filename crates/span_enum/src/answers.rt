@@ -216,7 +216,7 @@ fn with_end(dfa: &Dfa, q: u8, tuple: Tuple, end: u64) -> Tuple
     }
 }
 
-/// The first answer from a place on, with these marks before it.
+/// The first answer after a position of the walk, with these marks before it.
 fn finish<'a, L: Ledger>(
     ground: &Ground<'a>,
     end: u64,

@@ -23,7 +23,7 @@
 //! letter is tried. A cursor's marks are kept in the same way, as far as a run of the automaton follows them.
 //!
 //! For readers of M. L. Schmid and N. Schweikardt, Spanner evaluation over SLP-compressed documents (PODS 2021) and
-//! Query evaluation over SLP-represented document databases with complex document editing (PODS 2022): a node is a
+//! Query evaluation over SLP-represented document databases with complex document editing (PODS 2022). A node is a
 //! nonterminal of the grammar, and a lookup returns its rule. Its table is their matrix over pairs of states, which
 //! says whether the node's text leads from one state to the other not at all, without marks, or with some. They list
 //! trees of rules and pairs of states whose leaves are the marked letters. Here the tree of one answer is kept, as the

@@ -1,4 +1,4 @@
-//! The search for the first marked text from a place on.
+//! The search for the first marked text after a position of the walk.
 ghost use Rattle.std.specs.Prelude.{◌≡◌, ℕ, ◌<◌, ◌≤◌, ◌+◌, ◌-◌, ◌++◌, ◌∷◌, [], ◌^◌, true, bit_and, length, max, List, IfSome, MatchOption, Some};
 ghost use Rattle.slp_model.specs.Nodes.{IsNodeAt};
 ghost use Rattle.slp_model.specs.declared.Node.TheVariants.{Byte, Pair};
@@ -177,7 +177,7 @@ pub(crate) fn keep_mark<'a>(
     });
 }
 
-/// Keeps the greatest mark at a letter, and writes it. Returns the place after the letter.
+/// Keeps the greatest mark at a letter, and writes it. Returns the walk's position after the letter.
 fn place_mark<'a>(
     ground: &Ground<'a>,
     trail: &mut Trail<'a>,
@@ -278,7 +278,7 @@ fn descend<'a, L: Ledger>(
     }
 }
 
-/// Writes the marks of the first marked text from the place on, and keeps them. Of the nodes ahead the first `base`
+/// Writes the marks of the first marked text after the walk's position, and keeps them. Of the nodes ahead the first `base`
 /// stay. Returns the state at the end, or none if a quiet state came first: then no mark is left, not even at the end.
 pub(crate) fn complete<'a, L: Ledger>(
     ground: &Ground<'a>,

@@ -29,8 +29,8 @@ pub(crate) struct Ahead<'a> {
     pub(crate) next: usize,
 }
 
-/// A mark of the last answer: its letter, the state before the letter, the states after it from which the rest is
-/// accepted, the node that comes next, and how many nodes were kept before the path down to it was added.
+/// A mark of the last answer: its letter, the state before the letter, and the states after it from which the rest is
+/// accepted. Also the node that comes next, and how many nodes were kept before the path down to it was added.
 #[derive(Clone, Copy, Default)]
 pub(crate) struct Mark {
     pub(crate) at: u64,

@@ -172,7 +172,7 @@ fn earlier(at: u64, from: u64, first: u64) -> u64
     if from <= at && at < first { at } else { first }
 }
 
-/// A place at which a mark can be lowered: the position, the lower mark and the state after it.
+/// Where a mark can be lowered: the position, the lower mark and the state after it.
 #[derive(Clone, Copy, Debug, PartialEq, Eq)]
 pub(crate) struct Lowered {
     pub(crate) at: u64,

@@ -26,9 +26,9 @@ abbrev pub IsOnce : Type 0 → Told → ℕ → Type 0
 IsOnce kind Accepted count = (kind × (count ≡ 1)) ⊎ ((kind → ⊥) × (count ≡ 0))
 IsOnce kind _ count = count ≡ 0
 
--- the bound on the tables that a line computed, if there are at most n nodes and this many were dropped: together with
--- the tables that the queries had, they are at most the tables that the queries have now; a query that was replaced or
--- removed counts one table for each node
+-- The bound on the tables that a line computed, if there are at most n nodes and this many were dropped. Together with
+-- the tables that the queries had, they are at most the tables that the queries have now. A query that was replaced or
+-- removed counts one table for each node.
 abbrev pub Places : ℕ → ℕ → ℕ → Named ℕ → Named ℕ → ℕ → ℕ → Type 0
 Places count dropped nodes old new before after = (n : ℕ) → nodes ≤ n
     → after + sum_of old + n * length new ≤ before + sum_of new + (n + dropped) * length old + n * count

@@ -65,7 +65,7 @@ fn met<R: Threads + Sync>(
     Ok((status, arrived, gate.gave_up.load(Ordering::SeqCst)))
 }
 
-/// Scripts, the number of threads that pass before one is held, and the number of arrivals. In the first script two
+/// Scripts, the number of threads that pass before one is blocked, and the number of arrivals. In the first script two
 /// nodes meet, in the second two documents.
 const MEETINGS: [(&str, u64, u64); 2] = [
     ("text d abcd\nquery q .*\ntest q d\n", 0, 7),

@@ -10,7 +10,7 @@
 //! - texts of 2^48 bytes
 //! - a source, a sink and a file store that fail at each call in turn
 //! - a sink that accepts half of each piece
-//! - two workers that are held at a gate until both have come
+//! - two workers that wait at a gate until both have come
 //!
 //! The output of a run that is stopped is compared with a prefix of the whole output. The tests are a crate of their
 //! own, so that `span_run` is not proved again when a test changes.

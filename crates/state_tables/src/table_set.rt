@@ -114,7 +114,7 @@ impl TableSet {
     }
 }
 
-// Looks the table up.
+// Finds the table.
 fn end_of(tables: &[Table], roots: usize, links: &[u32], table: &Table) -> End
     requires tree { IsSearchTree roots tables.now (length tables.now) links.now }
     requires some { 0 < roots }

@@ -6,7 +6,7 @@
 //! row    `list q d limit 0`          no form
 //! ```
 //!
-//! The crate has tests alone, of `span_types`, `formula_syntax`, `script_syntax` and `edge_io`. They stand apart from these, so
+//! The crate has tests alone, of `span_types`, `formula_syntax`, `script_syntax` and `edge_io`. They are apart from these, so
 //! that each of them is proved once. They take little time and memory.
 //!
 //! Proved: Only safety and termination of its tests, which are about the crates that read texts.

@@ -15,7 +15,7 @@ pub record Filling : Type 0 where
   pub known : ℕ
   pub places : List (Option ℕ)
 
--- the number of the node's table, if the node is old or placed
+-- the number of the node's table, if the node is old or assigned
 abbrev pub number_in : Dictionary → Filling → ℕ → Option ℕ
 number_in d f id = if nat_lt id f.known then Some (number_of d id) else slice_index_or f.places (id - f.known) None
 
@@ -30,11 +30,11 @@ pub record Fits (nodes : List Node) (d : Dictionary) (f : Filling) : Type 0 wher
   pub room_fits : length f.places ≤ d.room
   pub kept_fit : (i n : ℕ) → slice_index_or f.places i None ≡ Some n → n < distinct_of d
 
--- the children of a node are old or placed
+-- the children of a node are old or assigned
 abbrev pub ChildrenPlaced : List Node → Dictionary → Filling → ℕ → Type 0
 ChildrenPlaced nodes d f id = (l r : NodeId) → slice_get nodes id ≡ Some (Pair l r) → IsSome (number_in d f l.index) × IsSome (number_in d f r.index)
 
--- an old or placed node has the table of its text
+-- an old or assigned node has the table of its text
 abbrev pub HasTrueTable : DeterministicAutomaton → List Node → Dictionary → Filling → ℕ → Type 0
 HasTrueTable a nodes d f id = (n : ℕ) → number_in d f id ≡ Some n → IsTable a (text (tree nodes id)) (kept_of d n)
 
@@ -59,11 +59,11 @@ abbrev pub number_of_place : Option ℕ → ℕ
 number_of_place None = 0
 number_of_place (Some n) = n
 
--- every new node is placed
+-- every new node is assigned
 abbrev pub AllPlaced : Filling → Type 0
 AllPlaced f = (i : ℕ) → i < length f.places → IsSome (slice_index_or f.places i None)
 
--- the tables after the placed numbers are pushed in order
+-- the tables after the assigned numbers are pushed in order
 abbrev pub finished : Dictionary → Filling → Dictionary
 finished d f = record d { numbers = d.numbers ++ map number_of_place f.places; room = d.room - length f.places }
 

@@ -2,6 +2,6 @@
 use Rattle.std.specs.Prelude.{List, Option, IfSome, All, Contains}
 use Rattle.table_grow.specs.Remembering.{Entry}
 
--- the composition in each place of the table, if there is one, is one of the entries
+-- the composition in each slot of the table, if there is one, is one of the entries
 abbrev pub AreAmong : List (Option Entry) → List Entry → Type 0
 AreAmong places es = All (λ place. IfSome place (Contains es)) places

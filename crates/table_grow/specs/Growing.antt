@@ -15,7 +15,7 @@ use Rattle.table_grow.specs.declared.found.Found.{Found}
 use Rattle.table_grow.specs.declared.found.Found.TheVariants.{Kept, Made, Composed}
 use Rattle.table_grow.specs.declared.found.Done.{Done}
 
--- each old or placed node has the table of its text
+-- each old or assigned node has the table of its text
 abbrev pub AllTrue : DeterministicAutomaton → List Node → Dictionary → Filling → Type 0
 AllTrue a nodes d f = (id : ℕ) → HasTrueTable a nodes d f id
 
@@ -26,7 +26,7 @@ pub record IsReady (a : DeterministicAutomaton) (nodes : List Node) (d : Diction
   pub all : AllTrue a nodes d f
   pub entries : AreTrueEntries d es
 
--- the node is new, and if its tree is a pair, both children are old or placed
+-- the node is new, and if its tree is a pair, both children are old or assigned
 pub record IsDue (nodes : List Node) (d : Dictionary) (f : Filling) (id : NodeId) : Type 0 where
   pub new : f.known ≤ id.index
   pub live : id.index < length nodes
@@ -39,7 +39,7 @@ IsFound a nodes d id (Made t) = IsTable a (text (tree nodes id)) t
 IsFound a nodes d id (Composed m n t) =
     IsTable a (text (tree nodes id)) t × (m < distinct_of d) × (n < distinct_of d) × (t ≡ compose_of (kept_of d m) (kept_of d n))
 
--- the node is new, its children are old or placed, and its table was found
+-- the node is new, its children are old or assigned, and its table was found
 pub record IsDone (a : DeterministicAutomaton) (nodes : List Node) (d : Dictionary) (f : Filling) (x : Done) : Type 0 where
   pub new : f.known ≤ x.id.index
   pub live : x.id.index < length nodes
@@ -52,24 +52,24 @@ pub record IsPlacedAt (a : DeterministicAutomaton) (nodes : List Node) (d : Dict
   pub table : IsTable a (text (tree nodes id)) (kept_of d n)
   pub place : g ≡ with_place f id n
 
--- what was old or placed still is
+-- what was old or assigned still is
 pub record StillPlaced (d : Dictionary) (f : Filling) (e : Dictionary) (g : Filling) : Type 0 where
   pub known : g.known ≡ f.known
   pub still : (id : ℕ) → IsSome (number_in d f id) → IsSome (number_in e g id)
 
--- only nodes with one of these ids were placed
+-- only nodes with one of these ids were assigned
 abbrev pub OnlyPlaced : Dictionary → Filling → Dictionary → Filling → List NodeId → Type 0
 OnlyPlaced d f e g ids = (j : ℕ) → All (λ id. id.index ≢ j) ids → number_in e g j ≡ number_in d f j
 
--- every node below the bound is old or placed
+-- every node below the bound is old or assigned
 abbrev pub PlacedBelow : Dictionary → Filling → ℕ → Type 0
 PlacedBelow d f bound = (id : ℕ) → id < bound → IsSome (number_in d f id)
 
--- no new node from the bound on is placed
+-- no new node from the bound on is assigned
 abbrev pub FreeFrom : Dictionary → Filling → ℕ → Type 0
 FreeFrom d f bound = (id : ℕ) → f.known ≤ id → bound ≤ id → number_in d f id ≡ None
 
--- the nodes from `from` on and before `to` are placed by rising height: those before them and the lower ones are old or placed, and no further new one
+-- the nodes from `from` on and before `to` are assigned by rising height: those before them and the lower ones are old or assigned, and no further new one
 pub record IsPlacedUnder (nodes : List Node) (d : Dictionary) (f : Filling) (from to top : ℕ) : Type 0 where
   pub new : f.known ≤ from
   pub before : PlacedBelow d f from

@@ -42,7 +42,7 @@ abbrev pub HasTable : DeterministicAutomaton → List Node → Dictionary → Li
 HasTable a nodes d made id (spot.Kept n) = (n < distinct_of d) × IsTable a (text (tree nodes id)) (kept_of d n)
 HasTable a nodes d made id (spot.Made k) = (x : Made) × (slice_get made k ≡ Some x) × IsTable a (text (tree nodes id)) x.table
 
--- and the node's children are old or placed
+-- and the node's children are old or assigned
 pub record IsSpot (a : DeterministicAutomaton) (nodes : List Node) (d : Dictionary) (f : Filling) (made : List Made) (id : NodeId) (at : Spot) : Type 0 where
   pub children : ChildrenPlaced nodes d f id.index
   pub table : HasTable a nodes d made id.index at

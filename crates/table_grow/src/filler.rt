@@ -15,8 +15,8 @@ use std::alloc::Global;
 use std::marker::Model;
 use std::sync::ledger::Ledger;
 
-/// An entry for each node without a table, which is empty or has the number of a kept table. A node is placed once its
-/// entry has a number. It has no references: each call receives the same store and tables, and until `finish` no node's
+/// An entry for each node without a table, which is empty or has the number of a kept table. A node is *assigned*
+/// once its entry has a number. It has no references: each call receives the same store and tables, and until `finish` no node's
 /// table changes.
 #[derive(Drop)]
 pub struct Filler {
@@ -64,7 +64,7 @@ impl Filler {
         self.known
     }
 
-    /// The number of the table of an old or placed node.
+    /// The number of the table of an old or assigned node.
     pub(crate) fn number(&self, tables: &Tables, store: &Store, id: NodeId) -> usize
         requires fits { Fits store.now tables.now self.now }
         requires live { id.index < length store.now }
@@ -81,7 +81,7 @@ impl Filler {
         }
     }
 
-    /// The table of a new node, whose children are old or placed and have the tables of their texts. It takes at most
+    /// The table of a new node, whose children are old or assigned and have the tables of their texts. It takes at most
     /// as many steps as the square of the automaton's number of states, and memory for the table.
     ///
     /// # Errors
@@ -126,8 +126,8 @@ impl Filler {
         self.places[place] = number as u32 + 1;
     }
 
-    /// Places a new node, which isn't placed yet and whose children are old or placed, with the kept table of this
-    /// number. Allocates nothing.
+    /// Assigns the kept table of this number to a new node. The node has none assigned yet, and its children are old or
+    /// assigned. Allocates nothing.
     pub fn place_kept(&mut self, tables: &Tables, store: &Store, id: NodeId, number: usize)
         requires fits { Fits store.now tables.now self.old }
         requires new { self.old.known ≤ id.index }
@@ -164,8 +164,8 @@ impl Filler {
         Ok(number)
     }
 
-    /// Keeps the table of a new node, which isn't placed yet and whose children are old or placed, and places the node
-    /// with its number. No node's table changes.
+    /// Keeps the table of a new node, and assigns it to the node. The node has none assigned yet, and its children are old
+    /// or assigned. No node's table changes.
     ///
     /// # Errors
     ///
@@ -192,7 +192,7 @@ impl Filler {
         Ok(())
     }
 
-    /// Gives each new node the table of its entry, in the order of their ids, and counts one step for each. Allocates
+    /// Adds for each new node the table of its entry, in the order of their ids, and counts one step for each. Allocates
     /// nothing.
     pub fn finish<L: Ledger>(self, tables: &mut Tables, places: &mut Steps<L>)
         requires tables_fit { count_of tables.old ≡ self.known }

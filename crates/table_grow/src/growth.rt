@@ -22,7 +22,7 @@ use std::sync::ledger::Ledger;
 use std::thread::Threads;
 use work_gate::Gate;
 
-// Places the nodes from `from` on and before `to` in the order of their ids, on this thread.
+// Assigns tables to the nodes from `from` on and before `to` in the order of their ids, on this thread.
 fn in_order<G: Gate>(
     alloc: Global,
     filler: &mut Filler,
@@ -87,7 +87,7 @@ fn pieces_of(dfa: &Dfa, memory: &Memory, workers: u8, nodes: usize, count: usize
     workers.min((rows_of(dfa, count) / ROWS_OF_THREAD).min(64) as u8)
 }
 
-// Places some new nodes in pieces. None of them is placed yet, and all of their children are.
+// Assigns tables to some new nodes in pieces. None of them is assigned yet, and all of their children are.
 fn place_some<R: Threads + Sync, G: Gate>(
     rt: &R,
     alloc: Global,
@@ -117,7 +117,7 @@ fn place_some<R: Threads + Sync, G: Gate>(
     place_piece(alloc, filler, tables, store, dfa, memory, ids, piece)
 }
 
-// Places the nodes from `from` on and before `to` by rising height, each height in pieces.
+// Assigns tables to the nodes from `from` on and before `to` by rising height, each height in pieces.
 fn by_height<R: Threads + Sync, G: Gate>(
     rt: &R,
     alloc: Global,
@@ -155,7 +155,7 @@ fn by_height<R: Threads + Sync, G: Gate>(
     Ok(())
 }
 
-// Places the nodes from `from` on and before `to`. With one worker no thread is started and no height is read.
+// Assigns tables to the nodes from `from` on and before `to`. With one worker no thread is started and no height is read.
 fn place_part<R: Threads + Sync, G: Gate>(
     rt: &R,
     alloc: Global,
@@ -200,22 +200,22 @@ fn pays(dfa: &Dfa, fresh: usize, nodes: usize) -> bool {
     fresh.saturating_mul(dfa.states() as usize) >= nodes.saturating_mul(ROWS)
 }
 
-/// The number of nodes that are placed on one thread before it is tested whether pieces pay.
+/// The number of nodes that are processed on one thread before it is tested whether pieces pay.
 const ASKED: usize = 1 << 12;
 
-/// The number of nodes that are placed in pieces before the next test, so that what is found for them takes little
+/// The number of nodes that are processed in pieces before the next test, so that what is found for them takes little
 /// memory.
 const PLACED_AT_ONCE: usize = 1 << 15;
 
-// The number of nodes that are placed before the next test.
+// The number of nodes that are processed before the next test.
 fn part_len(in_pieces: bool) -> usize
     ensures { 0 < result }
 {
     if in_pieces { PLACED_AT_ONCE } else { ASKED }
 }
 
-// Places all new nodes, some at a time. The first ones are placed in pieces if the cache is empty and they cost more
-// than the start of a thread or are very few. The next ones are placed in pieces if enough of those before have a table
+// Assigns tables to all new nodes, some at a time. The first ones are processed in pieces if the cache is empty and they cost more
+// than the start of a thread or are very few. The next ones are processed in pieces if enough of those before have a table
 // that no node had.
 fn place_new<R: Threads + Sync, G: Gate>(
     rt: &R,
@@ -257,10 +257,13 @@ fn place_new<R: Threads + Sync, G: Gate>(
 /// Computes the tables of all nodes of the store that have none. The tables are those of this automaton and of the
 /// first nodes of this store, and every cached composition is true of them.
 ///
-/// The nodes without a table are processed some at a time. They are processed by rising height, those of one height in
-/// at most `workers` pieces at once, 1 to 64, in two cases: if many of those before have a table that no node had, or
-/// if the cache is empty and they either cost more than the start of a thread or are at most eight. Otherwise, and with
-/// one worker, they are processed in the order of their ids. `gate.pass` is called for each of them before its table is
+/// The nodes without a table are processed some at a time. In two cases they are processed by rising height, those of one
+/// height in at most `workers` pieces at once, 1 to 64:
+///
+/// - many of those before have a table that no node had;
+/// - the cache is empty, and they cost more than the start of a thread or are at most eight.
+///
+/// Otherwise, and with one worker, they are processed in the order of their ids. `gate.pass` is called for each of them before its table is
 /// looked up in the cache or computed. Each counts as one step, and takes expected constant time if the composition is
 /// cached.
 ///

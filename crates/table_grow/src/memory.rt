@@ -130,7 +130,7 @@ pub(crate) fn found(front: &Front, left: usize, right: usize) -> Option<usize>
     }
 }
 
-/// Writes a composition to its entry, if memory allows and so many compositions are cached that the entries pay.
+/// Writes a composition to its entry, if memory allows and enough compositions are cached for the entries to pay.
 pub(crate) fn note(front: &mut Front, remembered: usize, left: usize, right: usize, number: usize)
     ensures { (es : List Entry) → Contains es ((left, right), number) → AreAmong front.old.items es → AreAmong front.new.items es }
 {

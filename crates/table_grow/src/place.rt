@@ -1,4 +1,4 @@
-//! Places and caches what was found.
+//! Assigns and caches the tables that were found.
 
 ghost use Rattle.std.specs.Prelude.{◌≡◌, ◌≢◌, [], ℕ, ◌<◌, ◌≤◌, length, All, AllPairs, IfOk, OnOk, None, Some, IsSome};
 ghost use Rattle.marker_dfa.specs.Deterministic.{states_of};
@@ -18,7 +18,7 @@ use span_types::NoMemory;
 use state_tables::Tables;
 use std::alloc::Global;
 
-// Places the table that was found, caches the composition, and returns the table's number.
+// Assigns the table that was found, caches the composition, and returns the table's number.
 fn place_found(
     filler: &mut Filler,
     tables: &mut Tables,
@@ -52,7 +52,7 @@ fn place_found(
     }
 }
 
-/// Places what was found for a new node, which isn't placed yet and whose children are old or placed.
+/// Assigns what was found for a new node, which isn't assigned yet and whose children are old or assigned.
 pub(crate) fn place_one(
     filler: &mut Filler,
     tables: &mut Tables,
@@ -140,7 +140,7 @@ fn number_of(numbers: &[usize], spot: Spot) -> usize
     }
 }
 
-// Places each node with the number of its table.
+// Assigns to each node the number of its table.
 fn place_spots(
     filler: &mut Filler,
     tables: &Tables,
@@ -167,7 +167,7 @@ fn place_spots(
     }
 }
 
-/// Places the tables that were found for some new nodes, none of which is placed yet and all of whose children are.
+/// Assigns the tables that were found for some new nodes, none of which is assigned yet and all of whose children are.
 pub(crate) fn place_piece(
     alloc: Global,
     filler: &mut Filler,

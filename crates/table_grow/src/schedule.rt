@@ -15,7 +15,7 @@ use state_tables::Tables;
 use std::alloc::Global;
 use std::sync::ledger::Ledger;
 
-// Computes and places the table of a new node, which isn't placed yet and whose children are old or placed.
+// Computes and assigns the table of a new node, which isn't assigned yet and whose children are old or assigned.
 fn fill_one(
     alloc: Global,
     filler: &mut Filler,
@@ -41,7 +41,7 @@ fn fill_one(
     Ok(())
 }
 
-// Computes and places the tables of the new nodes in the order of the schedule.
+// Computes and assigns the tables of the new nodes in the order of the schedule.
 fn fill_new(
     alloc: Global,
     filler: &mut Filler,

@@ -2,7 +2,7 @@ use crate::{Gate, OpenGate, halves};
 use std::sync::atomic::{AtomicU64, Ordering};
 use std::test::Fail;
 
-/// The number of turns that a held closure waits for the other one.
+/// The number of turns that a blocked closure waits for the other one.
 const TURNS: u32 = 50_000_000;
 
 /// Holds each closure until both have arrived, for a stated number of turns.

@@ -22,13 +22,13 @@ impl Formula {
     }
 }
 
-// A place for a formula. Not inlined, so that a level of `copy_to` takes little of the stack.
+// Heap memory for a formula. Not inlined, so that a level of `copy_to` takes little of the stack.
 #[inline(never)]
 fn room(alloc: Global) -> Result<Box<Formula>, NoMemory> {
     Ok(Box::new(alloc, Formula::Empty)?)
 }
 
-// Puts a copy of the formula in a place. A result by value would take several places on the stack for each level.
+// Writes a copy of the formula. A result by value would take the room of several on the stack for each level.
 fn copy_to(formula: &Formula, alloc: Global, place: &mut Formula) -> Result<(), NoMemory>
     ensures { IfOk result (λ _. tree_of place.new ≡ tree_of formula.now) }
 {

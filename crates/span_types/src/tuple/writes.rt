@@ -19,7 +19,8 @@ impl Tuple {
         out
     }
 
-    /// The tuple after the bounds that a mark puts at a position. A span that is opened is empty until it is closed, so that marks written by rising position give the tuple that has them.
+    /// The tuple after the bounds that a mark puts at a position. A span that is opened is empty until it is closed. So marks
+    /// written by rising position make the tuple that has them.
     pub fn with_mark(&self, m: u16, p: u64) -> Tuple
         requires positive { 1 ≤ p }
         requires small { p ≤ 281474976710657 }
@@ -47,7 +48,7 @@ impl Tuple {
     }
 }
 
-/// The place that says what span there is.
+/// The entry that says what span there is.
 fn place_of(span: Option<Span>) -> Span
     ensures { result ≡ unplaced span }
 {
@@ -57,7 +58,7 @@ fn place_of(span: Option<Span>) -> Span
     }
 }
 
-/// A place after the marker of its variable.
+/// An entry after the marker of its variable.
 fn written(digit: u16, p: u64, span: Option<Span>) -> Option<Span>
     requires positive { 1 ≤ p }
     requires small { p ≤ 281474976710657 }
@@ -76,7 +77,7 @@ fn written(digit: u16, p: u64, span: Option<Span>) -> Option<Span>
     }
 }
 
-/// What the bounds before a position say of a place.
+/// What the bounds before a position say of an entry.
 fn known(p: u64, span: Option<Span>) -> Option<Span>
     requires { IsSpanOr span }
     ensures value { result ≡ cut_one p span }
