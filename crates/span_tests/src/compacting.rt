@@ -6,10 +6,11 @@ use span_run::{Session, Stop};
 use span_types::Steps;
 use std::alloc::Global;
 use std::marker::Brand;
+use std::sync::atomic::{AtomicU64, Ordering};
 use std::sync::ledger::{Blank, Ledger};
 use std::test::Fail;
 use std::thread::Threads;
-use work_gate::OpenGate;
+use work_gate::Gate;
 
 const LINES: [&str; 7] = [
     "text d abracadabra",
@@ -21,14 +22,33 @@ const LINES: [&str; 7] = [
     "list q d after x=[1,2) limit 1",
 ];
 
-/// The number of nodes after each line.
-fn nodes<R: Threads + Sync, P: Ledger, T: Ledger, L: Ledger>(
+/// A gate that counts the nodes whose tables are looked up or computed.
+#[derive(Drop)]
+struct Counting {
+    passed: AtomicU64,
+}
+
+impl Gate for Counting {
+    fn pass(&self, _node: usize) {
+        self.passed.fetch_add(1, Ordering::SeqCst);
+    }
+}
+
+/// After a line: the number of nodes, and how often the gate was passed so far.
+#[derive(Clone, Copy, Debug, PartialEq, Eq)]
+struct Counts {
+    nodes: usize,
+    passed: u64,
+}
+
+/// The counts after each line.
+fn counts_after<R: Threads + Sync, P: Ledger, T: Ledger, L: Ledger>(
     rt: &R,
     alloc: Global,
     pairs: Blank,
     places: Blank,
     looks: Blank,
-) -> Result<[usize; 7], Stop>
+) -> Result<[Counts; 7], Stop>
     requires pairs { (pairs.name ≡ P.name) × (pairs.parts ≡ P.parts) × (0 < P.parts) }
     requires places { (places.name ≡ T.name) × (places.parts ≡ T.parts) × (0 < T.parts) }
     requires looks { (looks.name ≡ L.name) × (looks.parts ≡ L.parts) × (0 < L.parts) }
@@ -39,7 +59,13 @@ fn nodes<R: Threads + Sync, P: Ledger, T: Ledger, L: Ledger>(
     let mut pairs = Steps::<P>::new(pairs);
     let mut places = Steps::<T>::new(places);
     let mut looks = Steps::<L>::new(looks);
-    let mut nodes = [0; 7];
+    let gate = Counting {
+        passed: AtomicU64::new(0),
+    };
+    let mut counts = [Counts {
+        nodes: 0,
+        passed: 0,
+    }; 7];
     for at in 0..7 {
         session.line(
             rt,
@@ -48,19 +74,22 @@ fn nodes<R: Threads + Sync, P: Ledger, T: Ledger, L: Ledger>(
             1,
             &mut sink,
             &mut shelf,
-            &OpenGate,
+            &gate,
             &mut pairs,
             &mut places,
             &mut looks,
         )?;
-        nodes[at] = session.nodes();
+        counts[at] = Counts {
+            nodes: session.nodes(),
+            passed: gate.passed.load(Ordering::SeqCst),
+        };
     }
-    Ok(nodes)
+    Ok(counts)
 }
 
 #[test]
 fn nodes_that_nothing_reaches_go(rt: HostRuntime) -> Result<(), Fail> {
-    let Ok(nodes) = nodes::<HostRuntime, Brand, Brand, Brand>(
+    let Ok(counts) = counts_after::<HostRuntime, Brand, Brand, Brand>(
         &rt,
         rt.alloc(),
         Blank::new(1),
@@ -69,6 +98,12 @@ fn nodes_that_nothing_reaches_go(rt: HostRuntime) -> Result<(), Fail> {
     ) else {
         panic!(rt; "stopped");
     };
-    assert_eq!(rt; (nodes[4], nodes[5], nodes[6]), (20, 15, 15));
+    let [_, _, _, listed, dropped, compacted, listed_again] = counts;
+    assert_eq!(rt;
+        (dropped.nodes, compacted.nodes, listed_again.nodes),
+        (20, 15, 15)
+    );
+    // The tables of the kept nodes stay, so the last page computes none.
+    assert_eq!(rt; (listed.passed, listed_again.passed), (20, 20));
     Ok(())
 }
