@@ -189,7 +189,7 @@ fn random_letters(alloc: Global, count: usize) -> Result<Vec<u8>, NoMemory> {
     Ok(letters)
 }
 
-/// Adds the nodes of `letters` letters.
+/// Loads a text of `count` random letters.
 fn load_letters<L: Ledger>(
     alloc: Global,
     store: &mut Store,
@@ -206,7 +206,8 @@ fn load_letters<L: Ledger>(
     Ok(())
 }
 
-/// The first and the last of the nodes from `from` on that are four letters.
+/// The first and the last of the nodes from `from` on whose text has four letters. All of these have one height, so two
+/// threads that halve it take one each.
 fn words_from(store: &Store, from: usize) -> Option<(usize, usize)> {
     let mut found = None;
     for index in from..store.count() {
@@ -227,7 +228,7 @@ type Growths = (usize, usize, (u64, u64, u64));
 /// The number of nodes that are processed on one thread before it is tested whether threads pay.
 const ON_ONE_THREAD: usize = 4096;
 
-/// The second table computation, of many nodes.
+/// A second table computation, over some 8,000 new nodes, with a gate at two nodes that only two threads can pass.
 fn grown_again<R: Threads + Sync, L: Ledger>(
     rt: &R,
     alloc: Global,
@@ -251,7 +252,7 @@ fn grown_again<R: Threads + Sync, L: Ledger>(
     Ok((remembered, new, gate.counts()))
 }
 
-/// Two growths over nodes that nearly all have their own table, on two workers.
+/// Two table computations with two workers, over nodes of which nearly each has its own table.
 fn two_growths<R: Threads + Sync, L: Ledger>(
     rt: &R,
     alloc: Global,
