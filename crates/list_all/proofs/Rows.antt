@@ -9,7 +9,7 @@ use Rattle.slp_model.specs.Nodes.{IsLive, text_of}
 use Rattle.marker_dfa.specs.Deterministic.{DeterministicAutomaton}
 use Rattle.doc_book.specs.declared.Doc.{Doc}
 use Rattle.list_all.specs.Page.{Page, IsPageOf}
-use Rattle.list_all.specs.Every.{AreEach, ArePages, AreRoots}
+use Rattle.list_all.specs.Pages.{AreEach, ArePages, AreRoots}
 
 -- ---- elements by index
 some-is : {X : Type 0} (x y : X) → Some x ≡ Some y → x ≡ y

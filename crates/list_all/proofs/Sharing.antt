@@ -4,7 +4,7 @@ use Rattle.std.specs.Prelude.{slice_get}
 use Rattle.std.proofs.lemmas.Option.{slice_get_within, get_or_from_slice_get}
 use Rattle.slp_model.specs.declared.NodeId.{NodeId}
 use Rattle.list_all.specs.Page.{Page}
-use Rattle.list_all.specs.Every.{AreEach}
+use Rattle.list_all.specs.Pages.{AreEach}
 use Rattle.list_all.specs.Places.{no_page, pages_at, HasPage, HaveEach}
 
 -- ---- elements by index

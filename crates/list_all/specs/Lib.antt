@@ -1,3 +1,3 @@
 pub mod Page
-pub mod Every
+pub mod Pages
 pub mod Places

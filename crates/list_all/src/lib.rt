@@ -23,12 +23,12 @@
 //! Tested: Two workers run at once.
 #![tactic(auto)]
 
-mod every;
+mod documents;
 mod finder;
 mod found;
 mod shared;
 mod single;
 
-pub use every::pages;
+pub use documents::pages;
 pub use found::{OnePage, Pages};
 pub use single::page;

@@ -40,11 +40,11 @@ ghost use Rattle.slp_model.specs.Thin.{IsThinOf};
 ghost use Rattle.node_store.specs.Stored.{IsNext, IsKept};
 ghost use Rattle.node_store.specs.Blocks.{IsBlockOf};
 
-mod crowd;
+mod hash_clusters;
+mod hashed_nodes;
 mod moves;
 mod narrow;
 mod nodes;
-mod others;
 mod search_tree;
 mod thin;
 

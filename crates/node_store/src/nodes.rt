@@ -6,8 +6,8 @@ ghost use Rattle.node_store.specs.SearchTree.{IsAbsent};
 ghost use Rattle.node_store.specs.Stored.{IsNew};
 ghost use Rattle.node_store.specs.Firsts.{IsIndexed, IsRightWay, IsWay};
 
+use crate::hashed_nodes::HashedNodes;
 use crate::narrow::Narrow;
-use crate::others::Others;
 use slp_model::{Node, NodeId};
 use span_types::NoMemory;
 use std::alloc::Global;
@@ -28,7 +28,7 @@ pub(crate) struct Nodes {
     firsts: Vec<u32>,
     // The same for the first pair that has it on the right and isn't the first one with its left child.
     seconds: Vec<u32>,
-    others: Others,
+    others: HashedNodes,
     // For each of the other nodes its index.
     indices: Vec<u32>,
 }
@@ -64,7 +64,7 @@ impl Nodes {
             all: Vec::new(alloc),
             firsts: Vec::new(alloc),
             seconds: Vec::new(alloc),
-            others: Others::new(alloc),
+            others: HashedNodes::new(alloc),
             indices: Vec::new(alloc),
         }
     }
@@ -77,7 +77,7 @@ impl Nodes {
             all: Vec::with_capacity(alloc, count)?,
             firsts: Vec::with_capacity(alloc, count)?,
             seconds: Vec::with_capacity(alloc, count)?,
-            others: Others::new(alloc),
+            others: HashedNodes::new(alloc),
             indices: Vec::new(alloc),
         })
     }
@@ -168,7 +168,7 @@ fn insert_narrow(
     all: &mut Vec<Narrow>,
     firsts: &mut Vec<u32>,
     seconds: &mut Vec<u32>,
-    others: &mut Others,
+    others: &mut HashedNodes,
     indices: &mut Vec<u32>,
     narrow: Narrow,
 ) -> Result<(usize, bool), NoMemory>
@@ -227,7 +227,7 @@ fn insert_other(
     all: &mut Vec<Narrow>,
     firsts: &mut Vec<u32>,
     seconds: &mut Vec<u32>,
-    others: &mut Others,
+    others: &mut HashedNodes,
     indices: &mut Vec<u32>,
     narrow: Narrow,
 ) -> Result<(usize, bool), NoMemory>

@@ -42,7 +42,7 @@ impl QueryBook {
         ensures missing { IsErrOf result BookRefusal.NoSuchQuery ↔ (value_of (queries_of self.now) name.now ≡ None) }
         ensures cost { looks.new ≤ looks.old + most_looks (value_of (queries_of self.now) name.now) (text_of store.now root) }
     {
-        let (view, dfa) = self.lookout(name, store, root)?;
+        let (view, dfa) = self.view_of(name, store, root)?;
         match Answers::start(alloc, view, dfa, root, looks) {
             Ok(answers) => Ok(answers),
             Err(NoMemory) => Err(BookRefusal::NoMemory),
@@ -77,7 +77,7 @@ impl QueryBook {
         ensures cost { looks.new ≤ looks.old + 2 * most_looks (value_of (queries_of self.now) name.now) (text_of store.now root) }
     {
         let _count = after.count();
-        let (view, dfa) = self.lookout(name, store, root)?;
+        let (view, dfa) = self.view_of(name, store, root)?;
         match Answers::seek(alloc, view, dfa, root, after, looks) {
             Ok(answers) => Ok(answers),
             Err(NoMemory) => Err(BookRefusal::NoMemory),
@@ -105,7 +105,7 @@ impl QueryBook {
         ensures missing { IfErr result (IsMissing (queries_of self.now) name.now) }
         ensures cost { looks.new ≤ looks.old + most_looks (value_of (queries_of self.now) name.now) (text_of store.now root) }
     {
-        let (view, dfa) = self.lookout(name, store, root)?;
+        let (view, dfa) = self.view_of(name, store, root)?;
         Ok(nonempty(view, dfa, root, looks))
     }
 
@@ -133,13 +133,13 @@ impl QueryBook {
         ensures missing { IfErr result (IsMissing (queries_of self.now) name.now) }
         ensures cost { looks.new ≤ looks.old + most_looks (value_of (queries_of self.now) name.now) (text_of store.now root) }
     {
-        let (view, dfa) = self.lookout(name, store, root)?;
+        let (view, dfa) = self.view_of(name, store, root)?;
         Ok(has(view, dfa, root, tuple, looks))
     }
 
     /// The view of the store's nodes with their tables in the query with this name, and the query's automaton. Reads no
     /// node and no table.
-    fn lookout<'a>(
+    fn view_of<'a>(
         &'a self,
         name: &[u8],
         store: &'a Store,

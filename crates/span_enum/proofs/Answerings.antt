@@ -1,5 +1,5 @@
 -- The next answer and what is kept of it, from the walk that completes it.
-use Rattle.span_enum.proofs.Base.{Ahead, Begins, DeterministicAutomaton, EndsIn, Finishes, Found, Gives, Ground, IfSome, IsDeterministic, IsFirst, IsFirstLeft, IsFirstMember, IsFoundAfter, IsGreatestMark, IsGround, IsMember, IsNext}
+use Rattle.span_enum.proofs.Base.{Ahead, Begins, DeterministicAutomaton, EndsIn, Finishes, Found, Gives, EnumerationInput, IfSome, IsDeterministic, IsFirst, IsFirstLeft, IsFirstMember, IsFoundAfter, IsGreatestMark, IsEnumerationInput, IsMember, IsNext}
 use Rattle.span_enum.proofs.Base.{IsStateAt, IsTrailOf, IsTupleOf, List, Mark, Marked, NoEndAfter, NoMemberLeft, None, NoneAfter, Option, Place, Some, Tuple, [], ap, append-nil, arith, blanks, bytes_of, cut, end_mark, ended, height_limit}
 use Rattle.span_enum.proofs.Base.{length, length-bytes, looks_limit, mark_count, reached, step_of, subst, sym, text_ahead, whole_text, word_of, word_over, write_mark, write_word, ℕ, ◌++◌, ◌+◌, ◌∙◌, ◌∷◌, ◌≡◌, ◌≤◌}
 use Rattle.span_enum.proofs.Kept.{leads-on}
@@ -11,7 +11,7 @@ use Rattle.span_enum.proofs.Words.{IsNext-byte, IsNext-fork, IsNext-front, looks
 first-end : (a : DeterministicAutomaton) (auto : IsDeterministic a) (q e : ℕ) → IsGreatestMark a q 256 1 65536 e 0 → IsFirst a q (256 ∷ []) 1 ((e, 256) ∷ []) 0
 first-end a auto q e best = IsFirst-byte a q 256 e 1 0 best.step best.goal (λ n r sn gn. best.most n r (fit-end a auto q n r sn) sn gn)
 
-module _ (g : Ground) (is : IsGround g) (text : IsText (whole_text g)) where
+module _ (g : EnumerationInput) (is : IsEnumerationInput g) (text : IsText (whole_text g)) where
   abbrev a : DeterministicAutomaton
   a = g.dfa.now
 
@@ -104,5 +104,5 @@ module _ (g : Ground) (is : IsGround g) (text : IsText (whole_text g)) where
       )
 
 -- another tuple with the same marks over the text
-pub trail-same : (g : Ground) (t u : Tuple) (ms : List Mark) (hs : List (Option Ahead)) → word_over u 1 (whole_text g) ≡ word_over t 1 (whole_text g) → IsTrailOf g t ms hs → IsTrailOf g u ms hs
+pub trail-same : (g : EnumerationInput) (t u : Tuple) (ms : List Mark) (hs : List (Option Ahead)) → word_over u 1 (whole_text g) ≡ word_over t 1 (whole_text g) → IsTrailOf g t ms hs → IsTrailOf g u ms hs
 trail-same g t u ms hs same is = record { read = is.read; left = is.left; back = is.back; word_is = same ∙ is.word_is; parts = is.parts; count = is.count; kept = is.kept; none = is.none }

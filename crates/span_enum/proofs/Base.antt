@@ -64,13 +64,13 @@ pub use Rattle.span_enum.specs.Pages.{IsListed}
 pub use Rattle.span_enum.specs.Quiet.{AreQuiet, AreQuietFinals, EndsIn, EndsQuietly, LeadQuiet, LeadsQuiet, StayQuiet, StaysQuiet}
 pub use Rattle.span_enum.specs.Sets.{can_reach_of, is_final, is_goal}
 pub use Rattle.span_enum.specs.Trail.{AreAhead, AreGoals, AreKept, AtMost, Begins, Behind, CanEnd, CanFinish, CanFollow, CanGoDown, Completes, Descends, Dies, EndsBehind, Fails, Finds, Finishes, Fits, FitsAt, Followed, Follows, GoesFirst}
-pub use Rattle.span_enum.specs.Trail.{HasRoom, IsAhead, IsFresh, IsGround, IsKept, IsLast, IsMark, IsOver, IsQuietPlace, IsStateAt, IsTrailOf, IsTurned, Join, Keeps, Laid, Lays, Leads, Meets, NoEndAfter, Passed, Passes, PassesPlain}
+pub use Rattle.span_enum.specs.Trail.{HasRoom, IsAhead, IsFresh, IsEnumerationInput, IsKept, IsLast, IsMark, IsOver, IsQuietPlace, IsStateAt, IsTrailOf, IsTurned, Join, Keeps, Laid, Lays, Leads, Meets, NoEndAfter, Passed, Passes, PassesPlain}
 pub use Rattle.span_enum.specs.Trail.{PassesTo, Stands, StandsBefore, Turns, Way, height_at, mark_over, text_ahead, text_at, whole_text}
 pub use Rattle.span_enum.specs.Tuples.{EndsPast, IsBound, IsTupleOf, IsUnmarked, end_mark, reaches, word_of, word_over, write_word}
 pub use Rattle.span_enum.specs.WayDown.{GoesOnAt, child, sibling}
 pub use Rattle.span_enum.specs.Words.{CanRun, IsFirst, IsGreatestMark, IsNoMark}
 pub use Rattle.span_enum.specs.declared.answers.Found.{Found}
-pub use Rattle.span_enum.specs.declared.ground.Ground.{Ground}
+pub use Rattle.span_enum.specs.declared.input.EnumerationInput.{EnumerationInput}
 pub use Rattle.span_enum.specs.declared.sets.Between.{Between}
 pub use Rattle.span_enum.specs.declared.trail.Ahead.{Ahead}
 pub use Rattle.span_enum.specs.declared.trail.Mark.{Mark}

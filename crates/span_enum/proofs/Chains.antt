@@ -1,5 +1,5 @@
 -- The nodes ahead: in the list, in the text, and what is known of the states there.
-use Rattle.span_enum.proofs.Base.{Ahead, AreAhead, AreBetween, AreGoals, Between, CanGoDown, DeterministicAutomaton, Fits, FitsAt, Ground, IsAhead, IsDeterministic, IsGround, IsLook, IsMark, IsNodeAt, IsQuietPlace, IsTable, Join, LeadQuiet}
+use Rattle.span_enum.proofs.Base.{Ahead, AreAhead, AreBetween, AreGoals, Between, CanGoDown, DeterministicAutomaton, Fits, FitsAt, EnumerationInput, IsAhead, IsDeterministic, IsEnumerationInput, IsLook, IsMark, IsNodeAt, IsQuietPlace, IsTable, Join, LeadQuiet}
 use Rattle.span_enum.proofs.Base.{List, Look, Mark, Marked, NodeId, None, Option, Pair, Place, Some, Stands, StandsBefore, [], ap, append_assoc, arith, bytes-append, bytes-plain, bytes_of, child, get_push, height_at, inl, inr, length}
 use Rattle.span_enum.proofs.Base.{length-append, length-take, max, path-on, path-one, path-parts, plain, push_get, push_last, reached, refl, same_Some, sibling, slice_get, slice_get_cases, slice_get_within, states_of, step_of, subst, suc}
 use Rattle.span_enum.proofs.Base.{sym, take, text_ahead, text_at, zero, ℕ, ◌++◌, ◌+◌, ◌-◌, ◌<◌, ◌∙◌, ◌∷◌, ◌≡◌, ◌≤◌}
@@ -48,7 +48,7 @@ between-on a p q s x u goals between v e t is = record {
   onward = is.onward;
 }
 
-pub goals-on : (g : Ground) (p q : ℕ) (s x : List ℕ) (c : List Ahead) (v : Marked) → bytes_of v ≡ s → reached g.dfa.now p v ≡ Some q → AreGoals g p (s ++ x) c → AreGoals g q x c
+pub goals-on : (g : EnumerationInput) (p q : ℕ) (s x : List ℕ) (c : List Ahead) (v : Marked) → bytes_of v ≡ s → reached g.dfa.now p v ≡ Some q → AreGoals g p (s ++ x) c → AreGoals g q x c
 goals-on g p q s x [] v e t h = tt
 goals-on g p q s x (k ∷ c) v e t h =
     let assoc = append_assoc s x (text_at g k.id.index) in (
@@ -72,7 +72,7 @@ between-compose a p s u rest goals mid between one two = record {
 }
 
 -- ---- where the walk is
-pub stands-before : (g : Ground) (hs : List (Option Ahead)) (at : ℕ) (place : Place) (h : Ahead) (c : List Ahead) → Stands g hs at place (h ∷ c) → StandsBefore g hs h place.state c
+pub stands-before : (g : EnumerationInput) (hs : List (Option Ahead)) (at : ℕ) (place : Place) (h : Ahead) (c : List Ahead) → Stands g hs at place (h ∷ c) → StandsBefore g hs h place.state c
 stands-before g hs at place h c s = record {
   ahead = s.ahead.1;
   join = (refl, subst (λ n. Join g (n + length (text_at g h.id.index)) c) (sym s.join.0) s.join.1);
@@ -80,7 +80,7 @@ stands-before g hs at place h c s = record {
   state = s.state;
 }
 
-pub stands-mark : (g : Ground) (hs : List (Option Ahead)) (m : Mark) (c : List Ahead) (n : ℕ) (to : Place) → IsDeterministic g.dfa.now → IsMark g hs m c → step_of g.dfa.now m.state n m.byte ≡ Some to.state
+pub stands-mark : (g : EnumerationInput) (hs : List (Option Ahead)) (m : Mark) (c : List Ahead) (n : ℕ) (to : Place) → IsDeterministic g.dfa.now → IsMark g hs m c → step_of g.dfa.now m.state n m.byte ≡ Some to.state
     → to.next ≡ m.next → IsQuietPlace g to c → Stands g hs (m.at + 1) to c
 stands-mark g hs m c n to auto is step next quiet = record {
   ahead = subst (λ i. AreAhead hs i c) (sym next) is.ahead;
@@ -91,21 +91,21 @@ stands-mark g hs m c n to auto is step next quiet = record {
 }
 
 -- ---- room
-pub fits-take : (g : Ground) (base n : ℕ) (hs : List (Option Ahead)) → Fits g base hs → Fits g base (take n hs)
+pub fits-take : (g : EnumerationInput) (base n : ℕ) (hs : List (Option Ahead)) → Fits g base hs → Fits g base (take n hs)
 fits-take g base n hs f k o le e = f k o le (sym (slice-take n k hs (omega (arith, slice_get_within (take n hs) k o e, length-take n hs))) ∙ e)
 
-fits-push : (g : Ground) (base : ℕ) (hs : List (Option Ahead)) (h : Ahead) → Fits g base hs → height_at g h.id.index + (length hs - base) ≤ 68 → Fits g base (hs ++ Some h ∷ [])
+fits-push : (g : EnumerationInput) (base : ℕ) (hs : List (Option Ahead)) (h : Ahead) → Fits g base hs → height_at g h.id.index + (length hs - base) ≤ 68 → Fits g base (hs ++ Some h ∷ [])
 fits-push g base hs h f le k o from e = elim (get_push hs (Some h) o k e) [
   | inl old ↦ f k o from old
   | inr new ↦ subst (λ z. FitsAt g (k - base) z) new.1 (rw new.0 le)
 ]
 
 -- nothing is after the end
-pub fits-none : (g : Ground) (hs : List (Option Ahead)) → Fits g (length hs) hs
+pub fits-none : (g : EnumerationInput) (hs : List (Option Ahead)) → Fits g (length hs) hs
 fits-none g hs k o le e = absurd (omega (arith, slice_get_within hs k o e))
 
 -- the list is short
-pub fits-short : (g : Ground) (base : ℕ) (hs : List (Option Ahead)) → Fits g base hs → length hs ≤ base + 69
+pub fits-short : (g : EnumerationInput) (base : ℕ) (hs : List (Option Ahead)) → Fits g base hs → length hs ≤ base + 69
 fits-short g base hs f = elim ((slice_get_cases hs (base + 69)).1) [ inr past ↦ past.0 | inl k ↦ absurd (most k.0 (f (base + 69) k.0 (omega arith) k.2)) ]
   where
     most : (o : Option Ahead) → FitsAt g (base + 69 - base) o → ⊥
@@ -114,7 +114,7 @@ fits-short g base hs f = elim ((slice_get_cases hs (base + 69)).1) [ inr past �
 
 -- ---- a pair
 -- a pair ahead and its two children, with their tables
-pub record Fork (g : Ground) (h : Ahead) (l r : NodeId) (left right : Look) : Type 0 where
+pub record Fork (g : EnumerationInput) (h : Ahead) (l r : NodeId) (left right : Look) : Type 0 where
   pub is_ahead : IsAhead g h
   pub pair : IsNodeAt g.view.store.now h.id.index (Pair l r)
   pub left_look : IsLook g.view.store.now g.view.tables.now l.index left.node left.len left.table.now
@@ -123,7 +123,7 @@ pub record Fork (g : Ground) (h : Ahead) (l r : NodeId) (left right : Look) : Ty
   pub left_is : IsTable g.dfa.now (text_at g l.index) left.table.now
   pub right_is : IsTable g.dfa.now (text_at g r.index) right.table.now
 
-pub fork : (g : Ground) → IsGround g → (h : Ahead) → IsAhead g h → (l r : NodeId) (left right : Look) → h.look.node ≡ Pair l r
+pub fork : (g : EnumerationInput) → IsEnumerationInput g → (h : Ahead) → IsAhead g h → (l r : NodeId) (left right : Look) → h.look.node ≡ Pair l r
     → IsLook g.view.store.now g.view.tables.now l.index left.node left.len left.table.now → IsLook g.view.store.now g.view.tables.now r.index right.node right.len right.table.now
     → Fork g h l r left right
 fork g is h ahead l r left right node look-l look-r =
@@ -140,7 +140,7 @@ fork g is h ahead l r left right node look-l look-r =
       right_is = table r.index _ _ _ (omega (arith, pair.2, ahead.live)) look-r;
     }
 
-module _ (g : Ground) (h : Ahead) (l r : NodeId) (left right : Look) (f : Fork g h l r left right) where
+module _ (g : EnumerationInput) (h : Ahead) (l r : NodeId) (left right : Look) (f : Fork g h l r left right) where
   both : text_at g h.id.index ≡ text_at g l.index ++ text_at g r.index
   both = pair-text g.view.store.now h.id.index l r f.pair
 

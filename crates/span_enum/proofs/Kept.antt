@@ -1,5 +1,5 @@
 -- The marks that are kept of a word, and, after them, what comes after a tuple.
-use Rattle.span_enum.proofs.Base.{Ahead, AreKept, Behind, DeterministicAutomaton, Fits, Ground, IsDeterministic, IsGreatestMark, IsKept, IsLast, IsNext, IsNoMark, IsQuietPlace, IsTrailOf, IsTurned, IsUnmarked, Keeps, Leads, List, Lowered}
+use Rattle.span_enum.proofs.Base.{Ahead, AreKept, Behind, DeterministicAutomaton, Fits, EnumerationInput, IsDeterministic, IsGreatestMark, IsKept, IsLast, IsNext, IsNoMark, IsQuietPlace, IsTrailOf, IsTurned, IsUnmarked, Keeps, Leads, List, Lowered}
 use Rattle.span_enum.proofs.Base.{Mark, Marked, NoneAfter, Option, Passed, Place, Some, Tuple, Way, [], ap, append_assoc, append_cancel_left, arith, blanks, bytes-append, bytes-plain, bytes_of, count-more, count-plain, cut, false, length}
 use Rattle.span_enum.proofs.Base.{length-append, length-bytes, length-plain, length-take-le, mark, mark_count, mark_count-append, mark_of, path-on, path-one, plain, plain-append, reached, refl, same-state, step_of, subst, suc, sym, take}
 use Rattle.span_enum.proofs.Base.{take-append-le, take-length, text_ahead, whole_text, word_over, write_mark, write_word, zero, ℕ, ◌*◌, ◌++◌, ◌+◌, ◌-◌, ◌<◌, ◌∙◌, ◌∷◌, ◌≡◌, ◌≤◌}
@@ -8,7 +8,7 @@ use Rattle.span_enum.proofs.Tuples.{few-marks}
 use Rattle.span_enum.proofs.Words.{IsNext-byte, IsNext-fork, IsNext-front, append-same, none-byte, none-fork, none-passed, over-append, over-plain, over-split, read-cut, write_word-append}
 
 -- ---- what is read
-module _ (g : Ground) (w : Marked) (q : ℕ) (back : List ℕ) (leads : Leads g w q back) where
+module _ (g : EnumerationInput) (w : Marked) (q : ℕ) (back : List ℕ) (leads : Leads g w q back) where
   pub leads-on : (v : Marked) (r : ℕ) (u : List ℕ) → back ≡ bytes_of v ++ u → reached g.dfa.now q v ≡ Some r → Leads g (w ++ v) r u
   leads-on v r u parts run = record {
     parts = leads.parts ∙ ap (λ s. bytes_of w ++ s) parts ∙ sym (append_assoc (bytes_of w) (bytes_of v) u) ∙ ap (λ s. s ++ u) (sym (bytes-append w v));
@@ -32,7 +32,7 @@ over-on t at x b u m quiet mark =
 
 -- ---- the marks of a word
 -- letters without marks more
-pub kept-plain : (g : Ground) (n : ℕ) (w : Marked) (ms : List Mark) (hs : List (Option Ahead)) (x : List ℕ) → AreKept g n w ms hs → AreKept g n (w ++ plain x) ms hs
+pub kept-plain : (g : EnumerationInput) (n : ℕ) (w : Marked) (ms : List Mark) (hs : List (Option Ahead)) (x : List ℕ) → AreKept g n w ms hs → AreKept g n (w ++ plain x) ms hs
 kept-plain g zero w ms hs x k = (k.0 ++ x, ap (λ v. v ++ plain x) k.1 ∙ sym (plain-append k.0 x), k.2, k.3)
 kept-plain g (suc n) w ms hs x k =
     let l = k.0 in
@@ -41,7 +41,7 @@ kept-plain g (suc n) w ms hs x k =
     ap (λ v. v ++ plain x) l.word_is ∙ append_assoc l.before ((m.mark, m.byte) ∷ plain l.bare) (plain x) ∙ ap (λ v. l.before ++ (m.mark, m.byte) ∷ v) (sym (plain-append l.bare x)) in
     (record { others = l.others; mark = m; marks_are = l.marks_are; before = l.before; bare = l.bare ++ x; word_is = word; kept = l.kept }, k.1)
 
-pub kept-count : (g : Ground) (n : ℕ) (w : Marked) (ms : List Mark) (hs : List (Option Ahead)) → AreKept g n w ms hs → mark_count w ≡ length ms
+pub kept-count : (g : EnumerationInput) (n : ℕ) (w : Marked) (ms : List Mark) (hs : List (Option Ahead)) → AreKept g n w ms hs → mark_count w ≡ length ms
 kept-count g zero w ms hs k = ap mark_count k.1 ∙ count-plain k.0 ∙ sym (ap length k.2)
 kept-count g (suc n) w ms hs k =
     let l = k.0 in
@@ -50,7 +50,7 @@ kept-count g (suc n) w ms hs k =
     omega (arith, kept-count g n l.before l.others (take m.base hs) k.1, parts, count-more m.mark m.byte (plain l.bare) l.kept.some, count-plain l.bare, ap length l.marks_are, length-append l.others (m ∷ []))
 
 -- few nodes are kept for each mark
-pub kept-short : (g : Ground) (n : ℕ) (w : Marked) (ms : List Mark) (hs : List (Option Ahead)) → AreKept g n w ms hs → length hs ≤ 1 + 69 * length ms
+pub kept-short : (g : EnumerationInput) (n : ℕ) (w : Marked) (ms : List Mark) (hs : List (Option Ahead)) → AreKept g n w ms hs → length hs ≤ 1 + 69 * length ms
 kept-short g zero w ms hs k = omega (arith, k.3)
 kept-short g (suc n) w ms hs k =
     let l = k.0 in
@@ -58,12 +58,12 @@ kept-short g (suc n) w ms hs k =
     omega (arith, kept-short g n l.before l.others (take m.base hs) k.1, length-take-le m.base hs l.kept.low, fits-short g m.base hs l.kept.fits, ap length l.marks_are, length-append l.others (m ∷ []))
 
 -- a tuple of n variables has no more marks
-pub kept-few : (g : Ground) (t : Tuple) (k n : ℕ) (w v : Marked) (ms : List Mark) (hs : List (Option Ahead)) → length t ≡ k → word_over t 1 (whole_text g) ≡ w ++ v → AreKept g n w ms hs
+pub kept-few : (g : EnumerationInput) (t : Tuple) (k n : ℕ) (w v : Marked) (ms : List Mark) (hs : List (Option Ahead)) → length t ≡ k → word_over t 1 (whole_text g) ≡ w ++ v → AreKept g n w ms hs
     → length ms + mark_count v ≤ 2 * k
 kept-few g t k n w v ms hs size word kept = omega (arith, few-marks k t (whole_text g) size, ap mark_count word, mark_count-append w v, kept-count g n w ms hs kept)
 
 -- ---- one mark more, after letters without marks
-module _ (g : Ground) (at : ℕ) (place : Place) (base : ℕ) (word : Marked) (ms more : List Mark) (hs old new : List (Option Ahead)) (c : List Ahead) (b : Behind g at place base word ms hs c) (k : Keeps g base ms more old new)
+module _ (g : EnumerationInput) (at : ℕ) (place : Place) (base : ℕ) (word : Marked) (ms more : List Mark) (hs old new : List (Option Ahead)) (c : List Ahead) (b : Behind g at place base word ms hs c) (k : Keeps g base ms more old new)
     (same : take base old ≡ take base hs) (low : base ≤ length old) (way : Way g new at place.state c k.mark) (some : 0 < k.mark.mark) where
   abbrev m : Mark
   m = k.mark
@@ -113,7 +113,7 @@ last-same ms others m last e is =
     (cc, same.0)
 
 -- the last mark, those before it, and, after it, what comes after the tuple
-pub record Last (g : Ground) (t : Tuple) (others : List Mark) (hs : List (Option Ahead)) (m : Mark) : Type 0 where
+pub record Last (g : EnumerationInput) (t : Tuple) (others : List Mark) (hs : List (Option Ahead)) (m : Mark) : Type 0 where
   pub before : Marked
   pub behind : Marked
   pub word_is : word_over t 1 (whole_text g) ≡ before ++ (m.mark, m.byte) ∷ behind
@@ -122,7 +122,7 @@ pub record Last (g : Ground) (t : Tuple) (others : List Mark) (hs : List (Option
   pub rest : AreKept g count before others (take m.base hs)
   pub none : (q : ℕ) → reached g.dfa.now m.state ((m.mark, m.byte) ∷ []) ≡ Some q → NoneAfter g.dfa.now q (text_ahead g kept.chain) g.finals behind
 
-module _ (g : Ground) (t : Tuple) (ms : List Mark) (hs : List (Option Ahead)) (is : IsTrailOf g t ms hs) where
+module _ (g : EnumerationInput) (t : Tuple) (ms : List Mark) (hs : List (Option Ahead)) (is : IsTrailOf g t ms hs) where
   abbrev a : DeterministicAutomaton
   a = g.dfa.now
 
@@ -169,7 +169,7 @@ module _ (g : Ground) (t : Tuple) (ms : List Mark) (hs : List (Option Ahead)) (i
 abbrev pub lower : Mark → ℕ → Mark
 lower m x = record { at = m.at; mark = x; byte = m.byte; state = m.state; goals = m.goals; next = m.next; base = m.base }
 
-module _ (g : Ground) (t : Tuple) (others : List Mark) (hs : List (Option Ahead)) (m : Mark) (k : Last g t others hs m) where
+module _ (g : EnumerationInput) (t : Tuple) (others : List Mark) (hs : List (Option Ahead)) (m : Mark) (k : Last g t others hs m) where
   abbrev rest : List ℕ
   rest = text_ahead g k.kept.chain
 

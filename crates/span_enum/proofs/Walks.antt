@@ -1,34 +1,34 @@
 -- The walk to the first marked text, and that along the marks of a given tuple.
-use Rattle.span_enum.proofs.Base.{Ahead, AreAhead, AreKept, AtMost, Begins, Behind, CanFinish, CanFollow, CanGoDown, Completes, Descends, Dies, EndsBehind, EndsIn, Fails, Finds, Fits, Followed, Follows, GoesFirst, Ground, HasRoom, IsAhead}
-use Rattle.span_enum.proofs.Base.{IsDeterministic, IsFirst, IsGround, IsOver, IsUnmarked, Lays, Leads, List, Mark, Marked, Meets, None, NoneAfter, Option, Passed, PassesPlain, PassesTo, Place, Some, Stands, StandsBefore, Tuple, Turns, Way}
+use Rattle.span_enum.proofs.Base.{Ahead, AreAhead, AreKept, AtMost, Begins, Behind, CanFinish, CanFollow, CanGoDown, Completes, Descends, Dies, EndsBehind, EndsIn, Fails, Finds, Fits, Followed, Follows, GoesFirst, EnumerationInput, HasRoom, IsAhead}
+use Rattle.span_enum.proofs.Base.{IsDeterministic, IsFirst, IsEnumerationInput, IsOver, IsUnmarked, Lays, Leads, List, Mark, Marked, Meets, None, NoneAfter, Option, Passed, PassesPlain, PassesTo, Place, Some, Stands, StandsBefore, Tuple, Turns, Way}
 use Rattle.span_enum.proofs.Base.{[], ap, append-nil, append_assoc, arith, bytes-append, bytes-none, bytes-plain, bytes_of, cases_lt, count-more, count-plain, cut, drop, false, height-most, height-within, height_at, height_limit}
 use Rattle.span_enum.proofs.Base.{height_limit-right, inl, inr, length, length-append, length-plain, length-take, length-take-le, length-text, mark_count, mark_count-append, mark_of, max, mul-suc, no-state, path-dead, path-on}
 use Rattle.span_enum.proofs.Base.{path-one, plain, reached, refl, same-state, slice_get, slice_get_within, step_of, subst, suc, sym, take, take-append-drop, take-append-le, take-length, take-take, text_ahead, text_at, tree, true}
 use Rattle.span_enum.proofs.Base.{whole_text, word_over, write_mark, write_word, ℕ, ◌*◌, ◌++◌, ◌+◌, ◌-◌, ◌<◌, ◌∙◌, ◌∷◌, ◌≡◌, ◌≤◌}
 use Rattle.span_enum.proofs.Chains.{ahead-most, ahead-move, fits-none, fits-take, slice-take, stands-before}
 use Rattle.span_enum.proofs.Kept.{behind-mark, is-kept, kept-count, kept-few, kept-more, kept-plain, kept-short, leads-on, leads-pass, leads-size, over-on, word-more}
-use Rattle.span_enum.proofs.Roots.{ground-text}
+use Rattle.span_enum.proofs.Roots.{input-text}
 use Rattle.span_enum.proofs.Runs.{goal-from_nothing}
 use Rattle.span_enum.proofs.Tuples.{accepted-few}
 use Rattle.span_enum.proofs.Ways.{Next, back-none, meets-on, next-node, some-mark}
 use Rattle.span_enum.proofs.Words.{none-passed, none-plain, over-append, over-count, over-plain, write-bare, write_word-append}
 
 -- ---- heights
-pub height-short : (g : Ground) (h : Ahead) (len : ℕ) → IsAhead g h → length (text_at g h.id.index) ≤ len → height_at g h.id.index ≤ height_limit len
+pub height-short : (g : EnumerationInput) (h : Ahead) (len : ℕ) → IsAhead g h → length (text_at g h.id.index) ≤ len → height_at g h.id.index ≤ height_limit len
 height-short g h len is le = height-within (tree g.view.store.now h.id.index) len (height_limit len) is.look.balanced (rw (length-text (tree g.view.store.now h.id.index)) at le) (height_limit-right len)
 
-pub height-lowest : (g : Ground) (h : Ahead) → IsAhead g h → height_at g h.id.index ≤ 68
+pub height-lowest : (g : EnumerationInput) (h : Ahead) → IsAhead g h → height_at g h.id.index ≤ 68
 height-lowest g h is = height-most (tree g.view.store.now h.id.index) is.look.balanced (omega (arith, length-text (tree g.view.store.now h.id.index), is.look.len_is, is.look.short))
 
 -- ---- the node at which the walk turns
 -- the walk comes to the node, and the list is cut before it
-pub record Arrives (g : Ground) (hs : List (Option Ahead)) (cut at : ℕ) (from place : Place) (c : List Ahead) (h : Ahead) : Type 0 where
+pub record Arrives (g : EnumerationInput) (hs : List (Option Ahead)) (cut at : ℕ) (from place : Place) (c : List Ahead) (h : Ahead) : Type 0 where
   pub passes : PassesPlain g hs at from place c
   pub turns : Turns place.state passes.passes.back
   pub node : Next g hs at from place c passes.passes h
   pub before : StandsBefore g (take cut hs) h place.state node.rest
 
-pub arrives : (g : Ground) → IsGround g → (hs : List (Option Ahead)) (base cut at : ℕ) (from place : Place) (c : List Ahead) (h : Ahead) → (p : PassesPlain g hs at from place c) × Turns place.state p.passes.back → 0 < place.next
+pub arrives : (g : EnumerationInput) → IsEnumerationInput g → (hs : List (Option Ahead)) (base cut at : ℕ) (from place : Place) (c : List Ahead) (h : Ahead) → (p : PassesPlain g hs at from place c) × Turns place.state p.passes.back → 0 < place.next
     → ((before : ℕ) → place.next ≡ suc before → slice_get hs before ≡ Some (Some h)) → cut ≡ max base (place.next - 1) → Arrives g hs cut at from place c h
 arrives g is hs base cut at from place c h pass some found e =
     let n = next-node g is hs at from place c pass.0.passes h some found in
@@ -36,7 +36,7 @@ arrives g is hs base cut at from place c h pass some found e =
     let low : h.next ≤ cut = omega (arith, e, n.stands.ahead.0.counted, n.stands.ahead.0.earlier) in
     record { passes = pass.0; turns = pass.1; node = n; before = record { ahead = ahead-move hs (take cut hs) cut h.next n.rest (λ i x lt there. slice-take cut i hs lt ∙ there) low k.ahead; join = k.join; goals = k.goals; state = k.state } }
 
-module _ (g : Ground) (hs : List (Option Ahead)) (cut at : ℕ) (from place : Place) (c : List Ahead) (h : Ahead) (a : Arrives g hs cut at from place c h) where
+module _ (g : EnumerationInput) (hs : List (Option Ahead)) (cut at : ℕ) (from place : Place) (c : List Ahead) (h : Ahead) (a : Arrives g hs cut at from place c h) where
   abbrev x : List ℕ
   x = a.passes.passes.front
 
@@ -58,7 +58,7 @@ module _ (g : Ground) (hs : List (Option Ahead)) (cut at : ℕ) (from place : Pl
       (subst (λ b. GoesFirst g from.state c (plain x) place.state b) a.node.back a.passes.first) (d.meets a.node.rest a.before (rw a.node.back at a.passes.can))
 
 -- ---- room for the way down
-pub cut-deep : (g : Ground) (hs : List (Option Ahead)) (at base : ℕ) (h : Ahead) (b : List Ahead) → AreAhead hs at (h ∷ b) → IsAhead g h → base ≤ length hs → Fits g base hs
+pub cut-deep : (g : EnumerationInput) (hs : List (Option Ahead)) (at base : ℕ) (h : Ahead) (b : List Ahead) → AreAhead hs at (h ∷ b) → IsAhead g h → base ≤ length hs → Fits g base hs
     → height_at g h.id.index + (length (take (max base (at - 1)) hs) - base) ≤ 68
 cut-deep g hs at base h b ahead is low fits =
     let within = slice_get_within hs ahead.0.before (Some h) ahead.0.there in
@@ -71,7 +71,7 @@ cut-deep g hs at base h b ahead is low fits =
     ]
 
 -- ---- the rest of the first marked text
-module _ (g : Ground) (from : Place) (base : ℕ) (word : Marked) (marks : List Mark) (hs : List (Option Ahead)) (b : Begins g from base word marks hs) where
+module _ (g : EnumerationInput) (from : Place) (base : ℕ) (word : Marked) (marks : List Mark) (hs : List (Option Ahead)) (b : Begins g from base word marks hs) where
   abbrev c : List Ahead
   c = b.chain
 
@@ -79,10 +79,10 @@ module _ (g : Ground) (from : Place) (base : ℕ) (word : Marked) (marks : List 
   back = text_ahead g c
 
   -- an accepted text has the marks of a tuple
-  pub begins-few : IsGround g → length (whole_text g) ≤ 281474976710656 → AtMost g from.state c (2 * g.dfa.now.variables - length marks)
+  pub begins-few : IsEnumerationInput g → length (whole_text g) ≤ 281474976710656 → AtMost g from.state c (2 * g.dfa.now.variables - length marks)
   begins-few is short w r bytes run goal =
       let on = leads-on g word from.state back b.behind.leads w r [] (sym bytes ∙ sym (append-nil (bytes_of w))) run in
-      let few = accepted-few g.dfa.now is.automaton (whole_text g) (ground-text g is short) g.finals is.all (word ++ w) r (sym (on.parts ∙ append-nil (bytes_of (word ++ w)))) on.ends goal in
+      let few = accepted-few g.dfa.now is.automaton (whole_text g) (input-text g is short) g.finals is.all (word ++ w) r (sym (on.parts ∙ append-nil (bytes_of (word ++ w)))) on.ends goal in
       omega (arith, few, mark_count-append word w, kept-count g b.behind.count word marks (take base hs) b.behind.kept)
 
   pub begins-short : base ≤ 1 + 69 * length marks
@@ -122,10 +122,10 @@ module _ (g : Ground) (from : Place) (base : ℕ) (word : Marked) (marks : List 
     abbrev low : base ≤ length (take cut hs)
     low = omega (arith, length-take cut hs, fit, b.behind.low)
 
-    pub one-more : IsGround g → length (whole_text g) ≤ 281474976710656 → 1 ≤ 2 * g.dfa.now.variables - length marks
+    pub one-more : IsEnumerationInput g → length (whole_text g) ≤ 281474976710656 → 1 ≤ 2 * g.dfa.now.variables - length marks
     one-more is short = arrives-some g hs cut b.at from place c h n (2 * g.dfa.now.variables - length marks) (begins-few is short)
 
-    pub turn-down : (marks_room ahead_room : ℕ) → IsGround g → length (whole_text g) ≤ 281474976710656 → HasRoom g.dfa.now.variables marks_room ahead_room → cut ≡ max base (place.next - 1)
+    pub turn-down : (marks_room ahead_room : ℕ) → IsEnumerationInput g → length (whole_text g) ≤ 281474976710656 → HasRoom g.dfa.now.variables marks_room ahead_room → cut ≡ max base (place.next - 1)
         → CanGoDown g h place.state base marks marks_room (take cut hs) ahead_room
     turn-down marks_room ahead_room is short room e =
         let one = one-more is short in
@@ -188,13 +188,13 @@ module _ (g : Ground) (from : Place) (base : ℕ) (word : Marked) (marks : List 
 
 -- ---- along the marks of a tuple
 -- the walk is before the node over the position
-pub record StandsOver (g : Ground) (t : Tuple) (hs : List (Option Ahead)) (position : ℕ) (to : Place) (ms : List Mark) (h : Ahead) : Type 0 where
+pub record StandsOver (g : EnumerationInput) (t : Tuple) (hs : List (Option Ahead)) (position : ℕ) (to : Place) (ms : List Mark) (h : Ahead) : Type 0 where
   pub rest : List Ahead
   pub follows : Follows g t hs h.at to ms (h ∷ rest)
   pub over : IsOver g h position
   pub quiet : IsUnmarked t h.at position
 
-module _ (g : Ground) (t : Tuple) (hs : List (Option Ahead)) (at : ℕ) (place : Place) (ms : List Mark) (c : List Ahead) (f : Follows g t hs at place ms c) where
+module _ (g : EnumerationInput) (t : Tuple) (hs : List (Option Ahead)) (at : ℕ) (place : Place) (ms : List Mark) (c : List Ahead) (f : Follows g t hs at place ms c) where
   abbrev ahead : List ℕ
   ahead = text_ahead g c
 
@@ -267,7 +267,7 @@ module _ (g : Ground) (t : Tuple) (hs : List (Option Ahead)) (at : ℕ) (place :
       (ap (reached a place.state) words ∙ path-dead (step_of a) place.state (plain near) rest dies) cost
 
 -- what holds of each place where the walk may stand holds of this one
-module _ (g : Ground) (t : Tuple) (hs : List (Option Ahead)) (at : ℕ) (place : Place) (ms : List Mark) (c : List Ahead) (f : Follows g t hs at place ms c) (position : ℕ) (late : at ≤ position) (le : position ≤ length (whole_text g) + 1) (quiet : IsUnmarked t at position) where
+module _ (g : EnumerationInput) (t : Tuple) (hs : List (Option Ahead)) (at : ℕ) (place : Place) (ms : List Mark) (c : List Ahead) (f : Follows g t hs at place ms c) (position : ℕ) (late : at ≤ position) (le : position ≤ length (whole_text g) + 1) (quiet : IsUnmarked t at position) where
   pub most : position ≤ at + length (text_ahead g c)
   most = omega (arith, le, follows-size g t hs at place ms c f)
 
@@ -287,11 +287,11 @@ module _ (g : Ground) (t : Tuple) (hs : List (Option Ahead)) (at : ℕ) (place :
       followed-none g t hs (at + length p.passes.front) to ms [] on (Some to.state) looks looks (none-plain g.dfa.now to.state [] g.finals) refl (omega arith)
 
   -- the node over the position comes next
-  pub over-node : IsGround g → (to : Place) (h : Ahead) → Comes to → 0 < to.next → ((before : ℕ) → to.next ≡ suc before → slice_get hs before ≡ Some (Some h)) → StandsOver g t hs position to ms h
-  over-node ground to h all pos found =
+  pub over-node : IsEnumerationInput g → (to : Place) (h : Ahead) → Comes to → 0 < to.next → ((before : ℕ) → to.next ≡ suc before → slice_get hs before ≡ Some (Some h)) → StandsOver g t hs position to ms h
+  over-node input to h all pos found =
       let there = comes-there to all in
       let p = there.0.passes in
-      let k = next-node g ground hs at place to c p h pos found in
+      let k = next-node g input hs at place to c p h pos found in
       let here : at + length p.front ≡ h.at = sym k.stands.join.0 in
       record {
         rest = k.rest;
@@ -301,7 +301,7 @@ module _ (g : Ground) (t : Tuple) (hs : List (Option Ahead)) (at : ℕ) (place :
       }
 
 -- ---- at the node
-module _ (g : Ground) (t : Tuple) (old : List (Option Ahead)) (position : ℕ) (to : Place) (ms : List Mark) (h : Ahead) (o : StandsOver g t old position to ms h) where
+module _ (g : EnumerationInput) (t : Tuple) (old : List (Option Ahead)) (position : ℕ) (to : Place) (ms : List Mark) (h : Ahead) (o : StandsOver g t old position to ms h) where
   abbrev all : List ℕ
   all = text_ahead g (h ∷ o.rest)
 

@@ -3,24 +3,24 @@ use Rattle.std.specs.Prelude.{◌≡◌, List, Option, Some}
 use Rattle.span_enum.specs.Members.{Tuple, IsFirstMember, NoMemberLeft}
 use Rattle.span_enum.specs.Trail.{whole_text, IsTrail, IsTrailOf, IsStateAt}
 use Rattle.span_enum.specs.Tuples.{word_over}
-use Rattle.span_enum.specs.declared.ground.Ground.{Ground}
+use Rattle.span_enum.specs.declared.input.EnumerationInput.{EnumerationInput}
 use Rattle.span_enum.specs.declared.trail.Ahead.{Ahead}
 use Rattle.span_enum.specs.declared.trail.Mark.{Mark}
 use Rattle.span_enum.specs.declared.answers.Found.{Found}
 
 -- f is the first answer after the cursor, and its marks are kept
-pub record IsFoundAfter (g : Ground) (cursor : Option Tuple) (ms : List Mark) (hs : List (Option Ahead)) (f : Found) : Type 0 where
+pub record IsFoundAfter (g : EnumerationInput) (cursor : Option Tuple) (ms : List Mark) (hs : List (Option Ahead)) (f : Found) : Type 0 where
   pub first : IsFirstMember g.dfa.now (whole_text g) cursor f.tuple
   pub trail : IsTrailOf g f.tuple ms hs
   pub state : IsStateAt g (Some f.tuple) f.state
 
 -- no answer is left after the cursor, and its marks are kept
-pub record IsNoneAfter (g : Ground) (cursor : Option Tuple) (ms : List Mark) (hs : List (Option Ahead)) : Type 0 where
+pub record IsNoneAfter (g : EnumerationInput) (cursor : Option Tuple) (ms : List Mark) (hs : List (Option Ahead)) : Type 0 where
   pub none : NoMemberLeft g.dfa.now (whole_text g) cursor
   pub trail : IsTrail g cursor ms hs
 
 -- f is the first answer after the tuple, and has the same marks over the text
-pub record IsLoweredAtEnd (g : Ground) (t : Tuple) (f : Found) : Type 0 where
+pub record IsLoweredAtEnd (g : EnumerationInput) (t : Tuple) (f : Found) : Type 0 where
   pub first : IsFirstMember g.dfa.now (whole_text g) (Some t) f.tuple
   pub same : word_over f.tuple 1 (whole_text g) ≡ word_over t 1 (whole_text g)
   pub state : IsStateAt g (Some f.tuple) f.state

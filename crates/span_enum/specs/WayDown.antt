@@ -4,7 +4,7 @@ use Rattle.slp_model.specs.declared.NodeId.{NodeId}
 use Rattle.state_tables.specs.declared.view.Look.{Look}
 use Rattle.span_enum.specs.Members.{Tuple}
 use Rattle.span_enum.specs.Trail.{Descends}
-use Rattle.span_enum.specs.declared.ground.Ground.{Ground}
+use Rattle.span_enum.specs.declared.input.EnumerationInput.{EnumerationInput}
 use Rattle.span_enum.specs.declared.sets.Between.{Between}
 use Rattle.span_enum.specs.declared.trail.Ahead.{Ahead}
 use Rattle.span_enum.specs.declared.trail.Mark.{Mark}
@@ -12,7 +12,7 @@ use Rattle.span_enum.specs.declared.trail.Place.{Place}
 
 -- the path down from one node continues at another: a path down from there is, with what lies between, one from the
 -- first
-abbrev pub GoesOnAt : Ground → Ahead → ℕ → Ahead → ℕ → ℕ → List Mark → List (Option Ahead) → List (Option Ahead) → ℕ → ℕ → Type 0
+abbrev pub GoesOnAt : EnumerationInput → Ahead → ℕ → Ahead → ℕ → ℕ → List Mark → List (Option Ahead) → List (Option Ahead) → ℕ → ℕ → Type 0
 GoesOnAt g from p to q base marks old new before after = (more : List Mark) (last : List (Option Ahead)) (end : ℕ) (out out' : Tuple) (place : Place)
     → Descends g to q base marks more new last after end out out' place → Descends g from p base marks more old last before end out out' place
 

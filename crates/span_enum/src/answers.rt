@@ -7,13 +7,13 @@ ghost use Rattle.slp_model.specs.Nodes.{text_of};
 ghost use Rattle.span_enum.specs.Listing.{IsReady};
 ghost use Rattle.span_enum.specs.Members.{IsMember, IsFirstMember, NoMemberLeft, HasMember};
 ghost use Rattle.span_enum.specs.Sets.{is_final};
-ghost use Rattle.span_enum.specs.Trail.{IsGround, whole_text, CanFinish, Finishes, HasRoom, IsFresh, IsStateAt, IsTrailOf, NoEndAfter};
+ghost use Rattle.span_enum.specs.Trail.{IsEnumerationInput, whole_text, CanFinish, Finishes, HasRoom, IsFresh, IsStateAt, IsTrailOf, NoEndAfter};
 ghost use Rattle.span_enum.specs.Answering.{IsFoundAfter, IsLoweredAtEnd, IsNoneAfter};
 ghost use Rattle.span_enum.specs.Words.{CanRun, IsGreatestMark};
 
 use crate::ends::{accepts_end, end_limit, greatest_end};
 use crate::follow::follow;
-use crate::ground::Ground;
+use crate::input::EnumerationInput;
 use crate::onward::complete;
 use crate::trail::{Ahead, Place, Trail, ahead_at, empty_trail, lower_last, lower_to};
 use crate::walk::{can_reach, final_states, state_over};
@@ -35,7 +35,7 @@ use std::sync::ledger::Ledger;
 /// distance and not on the height of the tree.
 #[derive(Drop)]
 pub struct Answers<'a> {
-    ground: Ground<'a>,
+    input: EnumerationInput<'a>,
     last: Option<Tuple>,
     end: u64,
     state: Option<u8>,
@@ -75,11 +75,11 @@ impl<'a> Answers<'a> {
         ensures look { looks.new ≤ looks.old + 1 }
         ensures cost { looks.new ≤ looks.old + looks_limit dfa.now.variables (length (text_of view.entry.store.now root)) }
     {
-        let ground = Ground::new(view, dfa, root);
+        let input = EnumerationInput::new(view, dfa, root);
         let mut trail = empty_trail(alloc, dfa.variables())?;
-        let end = put_root(&ground, &mut trail, looks);
+        let end = put_root(&input, &mut trail, looks);
         Ok(Answers {
-            ground,
+            input,
             last: None,
             end,
             state: None,
@@ -107,17 +107,17 @@ impl<'a> Answers<'a> {
         ensures listing { IfOk result (λ a. a ≡ record { automaton = dfa.now; text = text_of view.entry.store.now root; after = Some after.now }) }
         ensures cost { looks.new ≤ looks.old + 2 * looks_limit dfa.now.variables (length (text_of view.entry.store.now root)) }
     {
-        let ground = Ground::new(view, dfa, root);
+        let input = EnumerationInput::new(view, dfa, root);
         let mut trail = empty_trail(alloc, dfa.variables())?;
-        let end = put_root(&ground, &mut trail, looks);
+        let end = put_root(&input, &mut trail, looks);
         let first = Place {
             state: 0,
             next: trail.ahead.len(),
             quiet: false,
         };
-        let state = follow(&ground, &mut trail, first, after, 1, end, looks);
+        let state = follow(&input, &mut trail, first, after, 1, end, looks);
         Ok(Answers {
-            ground,
+            input,
             last: Some(*after),
             end,
             state,
@@ -142,9 +142,9 @@ impl<'a> Answers<'a> {
         ensures cost { looks.new ≤ looks.old + looks_limit self.old.automaton.variables (length self.old.text) }
     {
         let found = match self.last {
-            None => first_answer(&self.ground, self.end, &mut self.trail, looks),
+            None => first_answer(&self.input, self.end, &mut self.trail, looks),
             Some(t) => answer_after(
-                &self.ground,
+                &self.input,
                 self.end,
                 self.state,
                 &t,
@@ -172,28 +172,32 @@ pub(crate) struct Found {
 }
 
 /// Puts the root ahead of the first letter, and returns the position after the text.
-fn put_root<'a, L: Ledger>(ground: &Ground<'a>, trail: &mut Trail<'a>, looks: &mut Steps<L>) -> u64
-    requires ground { IsGround ground.now }
+fn put_root<'a, L: Ledger>(
+    input: &EnumerationInput<'a>,
+    trail: &mut Trail<'a>,
+    looks: &mut Steps<L>,
+) -> u64
+    requires input { IsEnumerationInput input.now }
     requires ahead { trail.old.ahead.items ≡ [] }
     requires marks { trail.old.marks.items ≡ [] }
     requires room { 0 < trail.old.ahead.capacity }
-    ensures fresh { IsFresh ground.now trail.new.marks.items trail.new.ahead.items }
-    ensures end { result ≡ length (whole_text ground.now) + 1 }
+    ensures fresh { IsFresh input.now trail.new.marks.items trail.new.ahead.items }
+    ensures end { result ≡ length (whole_text input.now) + 1 }
     ensures low { result ≤ 281474976710657 }
     ensures cost { looks.new ≤ looks.old + 1 }
     ensures marks_room { trail.new.marks.capacity ≡ trail.old.marks.capacity }
     ensures ahead_room { trail.new.ahead.capacity ≡ trail.old.ahead.capacity }
 {
-    match ground.root {
+    match input.root {
         None => 1,
         Some(id) => {
-            let look = ground.view.look(id, looks);
+            let look = input.view.look(id, looks);
             trail.ahead.push_reserved(Some(Ahead {
                 id,
                 look,
                 at: 1,
-                goals: ground.finals,
-                quiet: ground.quiet,
+                goals: input.finals,
+                quiet: input.quiet,
                 next: 0,
             }));
             look.len + 1
@@ -218,7 +222,7 @@ fn with_end(dfa: &Dfa, q: u8, tuple: Tuple, end: u64) -> Tuple
 
 /// The first answer after a position of the walk, with these marks before it.
 fn finish<'a, L: Ledger>(
-    ground: &Ground<'a>,
+    input: &EnumerationInput<'a>,
     end: u64,
     trail: &mut Trail<'a>,
     from: Place,
@@ -226,21 +230,21 @@ fn finish<'a, L: Ledger>(
     marks: Tuple,
     looks: &mut Steps<L>,
 ) -> Found
-    requires ground { IsGround ground.now }
-    requires end { end ≡ length (whole_text ground.now) + 1 }
+    requires input { IsEnumerationInput input.now }
+    requires end { end ≡ length (whole_text input.now) + 1 }
     requires low { end ≤ 281474976710657 }
-    requires finish { CanFinish ground.now from base trail.old.marks.items trail.old.ahead.items }
-    requires room { HasRoom ground.now.dfa.now.variables trail.old.marks.capacity trail.old.ahead.capacity }
-    ensures finishes { Finishes ground.now from base trail.old.marks.items trail.new.marks.items trail.old.ahead.items trail.new.ahead.items
+    requires finish { CanFinish input.now from base trail.old.marks.items trail.old.ahead.items }
+    requires room { HasRoom input.now.dfa.now.variables trail.old.marks.capacity trail.old.ahead.capacity }
+    ensures finishes { Finishes input.now from base trail.old.marks.items trail.new.marks.items trail.old.ahead.items trail.new.ahead.items
         looks.old looks.new marks end result }
     ensures marks_room { trail.new.marks.capacity ≡ trail.old.marks.capacity }
     ensures ahead_room { trail.new.ahead.capacity ≡ trail.old.ahead.capacity }
 {
     let mut out = marks;
-    let state = complete(ground, trail, from, base, &mut out, looks);
+    let state = complete(input, trail, from, base, &mut out, looks);
     match state {
         Some(q) => Found {
-            tuple: with_end(ground.dfa, q, out, end),
+            tuple: with_end(input.dfa, q, out, end),
             state,
         },
         None => Found { tuple: out, state },
@@ -248,36 +252,36 @@ fn finish<'a, L: Ledger>(
 }
 
 /// Whether there is an answer, before anything is read.
-fn has_first(ground: &Ground<'_>, trail: &Trail<'_>) -> bool
-    requires ground { IsGround ground.now }
-    requires fresh { IsFresh ground.now trail.now.marks.items trail.now.ahead.items }
-    ensures { IsTrue result ↔ CanRun ground.now.dfa.now 0 (whole_text ground.now) ground.now.finals }
+fn has_first(input: &EnumerationInput<'_>, trail: &Trail<'_>) -> bool
+    requires input { IsEnumerationInput input.now }
+    requires fresh { IsFresh input.now trail.now.marks.items trail.now.ahead.items }
+    ensures { IsTrue result ↔ CanRun input.now.dfa.now 0 (whole_text input.now) input.now.finals }
 {
     let count = trail.ahead.len();
     if count == 0 {
-        return holds(ground.finals, 0);
+        return holds(input.finals, 0);
     }
-    can_reach(ahead_at(trail, count).look.table, 0, ground.finals)
+    can_reach(ahead_at(trail, count).look.table, 0, input.finals)
 }
 
 /// The first answer.
 fn first_answer<'a, L: Ledger>(
-    ground: &Ground<'a>,
+    input: &EnumerationInput<'a>,
     end: u64,
     trail: &mut Trail<'a>,
     looks: &mut Steps<L>,
 ) -> Option<Found>
-    requires ground { IsGround ground.now }
-    requires end { end ≡ length (whole_text ground.now) + 1 }
-    requires fresh { IsFresh ground.now trail.old.marks.items trail.old.ahead.items }
-    requires room { HasRoom ground.now.dfa.now.variables trail.old.marks.capacity trail.old.ahead.capacity }
-    ensures answer { MatchOption result (IsNoneAfter ground.now None trail.new.marks.items trail.new.ahead.items)
-        (IsFoundAfter ground.now None trail.new.marks.items trail.new.ahead.items)
-        × (looks.new ≤ looks.old + looks_limit ground.now.dfa.now.variables (length (whole_text ground.now))) }
+    requires input { IsEnumerationInput input.now }
+    requires end { end ≡ length (whole_text input.now) + 1 }
+    requires fresh { IsFresh input.now trail.old.marks.items trail.old.ahead.items }
+    requires room { HasRoom input.now.dfa.now.variables trail.old.marks.capacity trail.old.ahead.capacity }
+    ensures answer { MatchOption result (IsNoneAfter input.now None trail.new.marks.items trail.new.ahead.items)
+        (IsFoundAfter input.now None trail.new.marks.items trail.new.ahead.items)
+        × (looks.new ≤ looks.old + looks_limit input.now.dfa.now.variables (length (whole_text input.now))) }
     ensures marks_room { trail.new.marks.capacity ≡ trail.old.marks.capacity }
     ensures ahead_room { trail.new.ahead.capacity ≡ trail.old.ahead.capacity }
 {
-    if !has_first(ground, &*trail) {
+    if !has_first(input, &*trail) {
         return None;
     }
     let count = trail.ahead.len();
@@ -286,59 +290,64 @@ fn first_answer<'a, L: Ledger>(
         next: count,
         quiet: false,
     };
-    let none = Tuple::none(ground.dfa.variables());
-    Some(finish(ground, end, trail, first, count, none, looks))
+    let none = Tuple::none(input.dfa.variables());
+    Some(finish(input, end, trail, first, count, none, looks))
 }
 
 /// The first answer strictly after the tuple whose marks are kept. From then on those of the answer are kept.
 fn answer_after<'a, L: Ledger>(
-    ground: &Ground<'a>,
+    input: &EnumerationInput<'a>,
     end: u64,
     state: Option<u8>,
     t: &Tuple,
     trail: &mut Trail<'a>,
     looks: &mut Steps<L>,
 ) -> Option<Found>
-    requires ground { IsGround ground.now }
-    requires end { end ≡ length (whole_text ground.now) + 1 }
+    requires input { IsEnumerationInput input.now }
+    requires end { end ≡ length (whole_text input.now) + 1 }
     requires low { end ≤ 281474976710657 }
-    requires tuple { length t.now ≡ ground.now.dfa.now.variables }
-    requires state { IsStateAt ground.now (Some t.now) state }
-    requires trail { IsTrailOf ground.now t.now trail.old.marks.items trail.old.ahead.items }
-    requires room { HasRoom ground.now.dfa.now.variables trail.old.marks.capacity trail.old.ahead.capacity }
-    ensures answer { MatchOption result (IsNoneAfter ground.now (Some t.now) trail.new.marks.items trail.new.ahead.items)
-        (IsFoundAfter ground.now (Some t.now) trail.new.marks.items trail.new.ahead.items)
-        × (looks.new ≤ looks.old + looks_limit ground.now.dfa.now.variables (length (whole_text ground.now))) }
+    requires tuple { length t.now ≡ input.now.dfa.now.variables }
+    requires state { IsStateAt input.now (Some t.now) state }
+    requires trail { IsTrailOf input.now t.now trail.old.marks.items trail.old.ahead.items }
+    requires room { HasRoom input.now.dfa.now.variables trail.old.marks.capacity trail.old.ahead.capacity }
+    ensures answer { MatchOption result (IsNoneAfter input.now (Some t.now) trail.new.marks.items trail.new.ahead.items)
+        (IsFoundAfter input.now (Some t.now) trail.new.marks.items trail.new.ahead.items)
+        × (looks.new ≤ looks.old + looks_limit input.now.dfa.now.variables (length (whole_text input.now))) }
     ensures marks_room { trail.new.marks.capacity ≡ trail.old.marks.capacity }
     ensures ahead_room { trail.new.ahead.capacity ≡ trail.old.ahead.capacity }
 {
     let _count = t.count();
-    if let Some(found) = lowered_at_end(ground, end, state, t) {
+    if let Some(found) = lowered_at_end(input, end, state, t) {
         return Some(found);
     }
-    let lowered = lower_last(ground, trail, t)?;
-    let turn = lower_to(ground, trail, t, &lowered);
+    let lowered = lower_last(input, trail, t)?;
+    let turn = lower_to(input, trail, t, &lowered);
     let from = Place {
         state: lowered.state,
         next: turn.next,
         quiet: false,
     };
     let marks = t.cut_at(lowered.at).with_mark(lowered.mark, lowered.at);
-    Some(finish(ground, end, trail, from, turn.base, marks, looks))
+    Some(finish(input, end, trail, from, turn.base, marks, looks))
 }
 
 /// The first answer after the tuple, if only its mark at the end is lower.
-fn lowered_at_end(ground: &Ground<'_>, end: u64, state: Option<u8>, t: &Tuple) -> Option<Found>
-    requires ground { IsGround ground.now }
-    requires end { end ≡ length (whole_text ground.now) + 1 }
+fn lowered_at_end(
+    input: &EnumerationInput<'_>,
+    end: u64,
+    state: Option<u8>,
+    t: &Tuple,
+) -> Option<Found>
+    requires input { IsEnumerationInput input.now }
+    requires end { end ≡ length (whole_text input.now) + 1 }
     requires low { end ≤ 281474976710657 }
-    requires tuple { length t.now ≡ ground.now.dfa.now.variables }
-    requires state { IsStateAt ground.now (Some t.now) state }
-    ensures { MatchOption result (NoEndAfter ground.now t.now end) (IsLoweredAtEnd ground.now t.now) }
+    requires tuple { length t.now ≡ input.now.dfa.now.variables }
+    requires state { IsStateAt input.now (Some t.now) state }
+    ensures { MatchOption result (NoEndAfter input.now t.now end) (IsLoweredAtEnd input.now t.now) }
 {
     let _count = t.count();
     let q = state?;
-    let mark = greatest_end(ground.dfa, q, end_limit(t, end))?;
+    let mark = greatest_end(input.dfa, q, end_limit(t, end))?;
     Some(Found {
         tuple: t.cut_at(end).with_mark(mark, end),
         state,

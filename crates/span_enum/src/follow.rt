@@ -1,9 +1,9 @@
 //! Following the marks of a given tuple.
 ghost use Rattle.std.specs.Prelude.{◌≡◌, ℕ, ◌<◌, ◌≤◌, ◌+◌, ◌*◌, ◌-◌, List, length, true, false, MatchOption};
-ghost use Rattle.span_enum.specs.Trail.{IsGround, Stands, PassesTo, EndsBehind, Dies, text_ahead, whole_text, CanGoDown, IsOver, Laid, CanFollow, Followed, HasRoom, height_at};
+ghost use Rattle.span_enum.specs.Trail.{IsEnumerationInput, Stands, PassesTo, EndsBehind, Dies, text_ahead, whole_text, CanGoDown, IsOver, Laid, CanFollow, Followed, HasRoom, height_at};
 ghost use Rattle.span_enum.specs.declared.trail.Ahead.{Ahead};
 
-use crate::ground::Ground;
+use crate::input::EnumerationInput;
 use crate::onward::{go_left, go_right, keep_mark};
 use crate::sets::goals_between;
 use crate::trail::{Ahead, Place, Trail, ahead_at, last_of};
@@ -13,13 +13,18 @@ use span_types::{Steps, Tuple, mark_at};
 use std::sync::ledger::Ledger;
 
 /// Passes the nodes ahead without marks, up to the one over this position, or to the end.
-fn pass_to<'a>(ground: &Ground<'a>, trail: &Trail<'a>, from: Place, position: u64) -> Option<Place>
-    requires ground { IsGround ground.now }
-    requires stands { (at : ℕ) × ((c : List Ahead) × Stands ground.now trail.now.ahead.items at from c × (at ≤ position)
-        × (position ≤ at + length (text_ahead ground.now c))) }
-    ensures { (at : ℕ) (c : List Ahead) → Stands ground.now trail.now.ahead.items at from c → at ≤ position → position ≤ at + length (text_ahead ground.now c)
-        → MatchOption result (Dies ground.now from.state at (text_ahead ground.now c) position)
-        (λ to. (p : PassesTo ground.now trail.now.ahead.items at position from to c) × EndsBehind ground.now position p.passes.back) }
+fn pass_to<'a>(
+    input: &EnumerationInput<'a>,
+    trail: &Trail<'a>,
+    from: Place,
+    position: u64,
+) -> Option<Place>
+    requires input { IsEnumerationInput input.now }
+    requires stands { (at : ℕ) × ((c : List Ahead) × Stands input.now trail.now.ahead.items at from c × (at ≤ position)
+        × (position ≤ at + length (text_ahead input.now c))) }
+    ensures { (at : ℕ) (c : List Ahead) → Stands input.now trail.now.ahead.items at from c → at ≤ position → position ≤ at + length (text_ahead input.now c)
+        → MatchOption result (Dies input.now from.state at (text_ahead input.now c) position)
+        (λ to. (p : PassesTo input.now trail.now.ahead.items at position from to c) × EndsBehind input.now position p.passes.back) }
 {
     let mut place = from;
     while place.next > 0 {
@@ -40,7 +45,7 @@ fn pass_to<'a>(ground: &Ground<'a>, trail: &Trail<'a>, from: Place, position: u6
 /// Descends to the letter at this position, and keeps the tuple's mark there with the nodes that are then ahead.
 /// Returns whether a run reaches the letter. If none does, the caller removes the nodes that were put ahead.
 fn reach<'a, L: Ledger>(
-    ground: &Ground<'a>,
+    input: &EnumerationInput<'a>,
     trail: &mut Trail<'a>,
     here: &mut Ahead<'a>,
     state: u8,
@@ -49,11 +54,11 @@ fn reach<'a, L: Ledger>(
     base: usize,
     looks: &mut Steps<L>,
 ) -> bool
-    requires ground { IsGround ground.now }
-    requires down { CanGoDown ground.now here.old state base trail.old.marks.items trail.old.marks.capacity trail.old.ahead.items trail.old.ahead.capacity }
-    requires over { IsOver ground.now here.old to }
-    ensures laid { Laid ground.now t.now here.old state to base trail.old.marks.items trail.new.marks.items trail.old.ahead.items trail.new.ahead.items result }
-    ensures cost { looks.new ≤ looks.old + 2 * height_at ground.now here.old.id.index }
+    requires input { IsEnumerationInput input.now }
+    requires down { CanGoDown input.now here.old state base trail.old.marks.items trail.old.marks.capacity trail.old.ahead.items trail.old.ahead.capacity }
+    requires over { IsOver input.now here.old to }
+    ensures laid { Laid input.now t.now here.old state to base trail.old.marks.items trail.new.marks.items trail.old.ahead.items trail.new.ahead.items result }
+    ensures cost { looks.new ≤ looks.old + 2 * height_at input.now here.old.id.index }
     ensures room { (trail.new.marks.capacity ≡ trail.old.marks.capacity) × (trail.new.ahead.capacity ≡ trail.old.ahead.capacity) }
 {
     match here.look.node {
@@ -62,17 +67,17 @@ fn reach<'a, L: Ledger>(
             true
         }
         Node::Pair(l, r) => {
-            let left = ground.view.look(l, looks);
-            let right = ground.view.look(r, looks);
+            let left = input.view.look(l, looks);
+            let right = input.view.look(r, looks);
             if to < here.at + left.len {
-                let between = goals_between(ground.dfa, &*here, left.table, right.table, state);
+                let between = goals_between(input.dfa, &*here, left.table, right.table, state);
                 go_left(trail, here, l, &left, r, &right, between);
-                return reach(ground, trail, here, state, t, to, base, looks);
+                return reach(input, trail, here, state, t, to, base, looks);
             }
             match left.table.unmarked(state) {
                 Some(q) => {
                     go_right(here, left.len, r, &right);
-                    reach(ground, trail, here, q, t, to, base, looks)
+                    reach(input, trail, here, q, t, to, base, looks)
                 }
                 None => false,
             }
@@ -83,7 +88,7 @@ fn reach<'a, L: Ledger>(
 /// Keeps the marks of the tuple from a position on, as far as a run follows them. Returns the state at the end of the
 /// text, if a run follows all of them.
 pub(crate) fn follow<'a, L: Ledger>(
-    ground: &Ground<'a>,
+    input: &EnumerationInput<'a>,
     trail: &mut Trail<'a>,
     from: Place,
     t: &Tuple,
@@ -91,32 +96,32 @@ pub(crate) fn follow<'a, L: Ledger>(
     end: u64,
     looks: &mut Steps<L>,
 ) -> Option<u8>
-    requires ground { IsGround ground.now }
-    requires tuple { length t.now ≡ ground.now.dfa.now.variables }
-    requires end { end ≡ length (whole_text ground.now) + 1 }
-    requires can { CanFollow ground.now t.now trail.old.ahead.items at from trail.old.marks.items }
-    requires room { HasRoom ground.now.dfa.now.variables trail.old.marks.capacity trail.old.ahead.capacity }
-    ensures followed { Followed ground.now t.now trail.old.marks.items trail.new.marks.items trail.new.ahead.items looks.old looks.new result }
+    requires input { IsEnumerationInput input.now }
+    requires tuple { length t.now ≡ input.now.dfa.now.variables }
+    requires end { end ≡ length (whole_text input.now) + 1 }
+    requires can { CanFollow input.now t.now trail.old.ahead.items at from trail.old.marks.items }
+    requires room { HasRoom input.now.dfa.now.variables trail.old.marks.capacity trail.old.ahead.capacity }
+    ensures followed { Followed input.now t.now trail.old.marks.items trail.new.marks.items trail.new.ahead.items looks.old looks.new result }
     ensures room { (trail.new.marks.capacity ≡ trail.old.marks.capacity) × (trail.new.ahead.capacity ≡ trail.old.ahead.capacity) }
 {
     let to = first_mark(t, at, end);
-    let place = pass_to(ground, &*trail, from, to)?;
+    let place = pass_to(input, &*trail, from, to)?;
     if place.next == 0 {
         return Some(place.state);
     }
     let mut here = *ahead_at(&*trail, place.next);
     let base = trail.ahead.len();
-    let comes = reach(ground, trail, &mut here, place.state, t, to, base, looks);
+    let comes = reach(input, trail, &mut here, place.state, t, to, base, looks);
     if !comes {
         trail.ahead.truncate(base);
         return None;
     }
     let last = *last_of(&*trail);
-    let state = step(ground.dfa, last.state, last.mark, last.byte)?;
+    let state = step(input.dfa, last.state, last.mark, last.byte)?;
     let behind = Place {
         state,
         next: last.next,
         quiet: false,
     };
-    follow(ground, trail, behind, t, to + 1, end, looks)
+    follow(input, trail, behind, t, to + 1, end, looks)
 }

@@ -51,7 +51,7 @@
 mod answers;
 mod ends;
 mod follow;
-mod ground;
+mod input;
 mod onward;
 mod sets;
 mod trail;

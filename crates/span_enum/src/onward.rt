@@ -8,11 +8,11 @@ ghost use Rattle.state_tables.specs.Table.{marked_of, unmarked_of};
 ghost use Rattle.span_enum.specs.Sets.{can_reach_of};
 ghost use Rattle.span_enum.specs.Words.{IsFork};
 ghost use Rattle.span_enum.specs.OverLeft.{IsOverLeft};
-ghost use Rattle.span_enum.specs.Trail.{IsGround, IsAhead, Stands, CanEnd, CanGo, CanFinish, PassesPlain, Turns, CanGoDown, mark_over, Descends, Completes, HasRoom, whole_text};
+ghost use Rattle.span_enum.specs.Trail.{IsEnumerationInput, IsAhead, Stands, CanEnd, CanGo, CanFinish, PassesPlain, Turns, CanGoDown, mark_over, Descends, Completes, HasRoom, whole_text};
 ghost use Rattle.span_enum.specs.WayDown.{GoesOnAt, child, sibling};
 ghost use Rattle.span_enum.specs.declared.trail.Ahead.{Ahead};
 
-use crate::ground::Ground;
+use crate::input::EnumerationInput;
 use crate::sets::{Between, goals_between};
 use crate::trail::{Ahead, Mark, Place, Trail, ahead_at};
 use crate::walk::greatest_mark;
@@ -54,11 +54,11 @@ fn sole_state(table: &Table, p: u8) -> Option<u8>
 }
 
 /// Passes the nodes ahead up to the first one over which a run with marks leads into a goal.
-fn pass_plain<'a>(ground: &Ground<'a>, trail: &Trail<'a>, from: Place) -> Place
-    requires ground { IsGround ground.now }
-    requires go { CanGo ground.now trail.now.ahead.items from }
-    ensures { (at : ℕ) (c : List Ahead) → Stands ground.now trail.now.ahead.items at from c → CanEnd ground.now from.state c
-        → (p : PassesPlain ground.now trail.now.ahead.items at from result c) × Turns result.state p.passes.back }
+fn pass_plain<'a>(input: &EnumerationInput<'a>, trail: &Trail<'a>, from: Place) -> Place
+    requires input { IsEnumerationInput input.now }
+    requires go { CanGo input.now trail.now.ahead.items from }
+    ensures { (at : ℕ) (c : List Ahead) → Stands input.now trail.now.ahead.items at from c → CanEnd input.now from.state c
+        → (p : PassesPlain input.now trail.now.ahead.items at from result c) × Turns result.state p.passes.back }
 {
     let mut place = from;
     while place.next > 0 {
@@ -133,19 +133,25 @@ enum OverLeft {
 }
 
 /// How the first marked text over a pair passes its left child, if some run over the pair has marks.
-fn over_left(ground: &Ground<'_>, here: &Ahead<'_>, left: &Table, right: &Table, p: u8) -> OverLeft
-    requires ground { IsGround ground.now }
-    requires fork { IsFork ground.now.dfa.now here.now.look.table.now left.now right.now }
-    requires state { p < states_of ground.now.dfa.now }
+fn over_left(
+    input: &EnumerationInput<'_>,
+    here: &Ahead<'_>,
+    left: &Table,
+    right: &Table,
+    p: u8,
+) -> OverLeft
+    requires input { IsEnumerationInput input.now }
+    requires fork { IsFork input.now.dfa.now here.now.look.table.now left.now right.now }
+    requires state { p < states_of input.now.dfa.now }
     requires some { bit_and (marked_of here.now.look.table.now p) here.now.goals ≡ 0 → ⊥ }
-    ensures over { (s u : List ℕ) → IsTable ground.now.dfa.now (s ++ u) here.now.look.table.now → IsTable ground.now.dfa.now s left.now
-        → IsTable ground.now.dfa.now u right.now → IsOverLeft ground.now.dfa.now p s u here.now.goals here.now.quiet left.now right.now result }
+    ensures over { (s u : List ℕ) → IsTable input.now.dfa.now (s ++ u) here.now.look.table.now → IsTable input.now.dfa.now s left.now
+        → IsTable input.now.dfa.now u right.now → IsOverLeft input.now.dfa.now p s u here.now.goals here.now.quiet left.now right.now result }
 {
     let _marked = here.look.table.marked(p);
     if let Some(q) = sole_state(left, p) {
         return OverLeft::Plain(q);
     }
-    let between = goals_between(ground.dfa, here, left, right, p);
+    let between = goals_between(input.dfa, here, left, right, p);
     match plain_into(left, p, between.goals) {
         Some(q) => OverLeft::Plain(q),
         None => OverLeft::Marked(between),
@@ -179,7 +185,7 @@ pub(crate) fn keep_mark<'a>(
 
 /// Keeps the greatest mark at a letter, and writes it. Returns the walk's position after the letter.
 fn place_mark<'a>(
-    ground: &Ground<'a>,
+    input: &EnumerationInput<'a>,
     trail: &mut Trail<'a>,
     here: &Ahead<'a>,
     byte: u8,
@@ -187,17 +193,17 @@ fn place_mark<'a>(
     base: usize,
     out: &mut Tuple,
 ) -> Place
-    requires ground { IsGround ground.now }
-    requires down { CanGoDown ground.now here.now state base trail.old.marks.items trail.old.marks.capacity trail.old.ahead.items trail.old.ahead.capacity }
-    requires byte { IsNodeAt ground.now.view.store.now here.now.id.index (Byte byte) }
+    requires input { IsEnumerationInput input.now }
+    requires down { CanGoDown input.now here.now state base trail.old.marks.items trail.old.marks.capacity trail.old.ahead.items trail.old.ahead.capacity }
+    requires byte { IsNodeAt input.now.view.store.now here.now.id.index (Byte byte) }
     requires some { bit_and (marked_of here.now.look.table.now state) here.now.goals ≡ 0 → ⊥ }
-    ensures descends { (looks : ℕ) → Descends ground.now here.now state base trail.old.marks.items trail.new.marks.items
+    ensures descends { (looks : ℕ) → Descends input.now here.now state base trail.old.marks.items trail.new.marks.items
         trail.old.ahead.items trail.new.ahead.items looks looks out.old out.new result }
     ensures marks_room { trail.new.marks.capacity ≡ trail.old.marks.capacity }
     ensures ahead_room { trail.new.ahead.capacity ≡ trail.old.ahead.capacity }
 {
     let _marked = here.look.table.marked(state);
-    match greatest_mark(ground.dfa, state, byte, here.goals, 65536) {
+    match greatest_mark(input.dfa, state, byte, here.goals, 65536) {
         Some(step) => {
             keep_mark(trail, here, byte, state, step.mark, base);
             *out = out.with_mark(step.mark, here.at);
@@ -213,7 +219,7 @@ fn place_mark<'a>(
 
 /// Moves from a pair to the child over which the first marked text has its first mark. Returns the state before it.
 fn go_down<'a, L: Ledger>(
-    ground: &Ground<'a>,
+    input: &EnumerationInput<'a>,
     trail: &mut Trail<'a>,
     here: &mut Ahead<'a>,
     state: u8,
@@ -221,24 +227,24 @@ fn go_down<'a, L: Ledger>(
     r: NodeId,
     looks: &mut Steps<L>,
 ) -> u8
-    requires ground { IsGround ground.now }
-    requires is_ahead { IsAhead ground.now here.old }
+    requires input { IsEnumerationInput input.now }
+    requires is_ahead { IsAhead input.now here.old }
     requires node { here.old.look.node ≡ Pair l r }
-    requires state { state < states_of ground.now.dfa.now }
+    requires state { state < states_of input.now.dfa.now }
     requires room { length trail.old.ahead.items < trail.old.ahead.capacity }
     requires some { bit_and (marked_of here.old.look.table.now state) here.old.goals ≡ 0 → ⊥ }
-    ensures down { (base : ℕ) → CanGoDown ground.now here.old state base trail.old.marks.items trail.old.marks.capacity trail.old.ahead.items trail.old.ahead.capacity
-        → CanGoDown ground.now here.new result base trail.new.marks.items trail.new.marks.capacity trail.new.ahead.items trail.new.ahead.capacity }
+    ensures down { (base : ℕ) → CanGoDown input.now here.old state base trail.old.marks.items trail.old.marks.capacity trail.old.ahead.items trail.old.ahead.capacity
+        → CanGoDown input.now here.new result base trail.new.marks.items trail.new.marks.capacity trail.new.ahead.items trail.new.ahead.capacity }
     ensures some { bit_and (marked_of here.new.look.table.now result) here.new.goals ≡ 0 → ⊥ }
-    ensures on { (base : ℕ) → GoesOnAt ground.now here.old state here.new result base trail.old.marks.items trail.old.ahead.items trail.new.ahead.items
+    ensures on { (base : ℕ) → GoesOnAt input.now here.old state here.new result base trail.old.marks.items trail.old.ahead.items trail.new.ahead.items
         looks.old looks.new }
     ensures less { here.new.id.index < here.old.id.index }
     ensures marks { trail.new.marks ≡ trail.old.marks }
     ensures room { trail.new.ahead.capacity ≡ trail.old.ahead.capacity }
 {
-    let left = ground.view.look(l, looks);
-    let right = ground.view.look(r, looks);
-    match over_left(ground, &*here, left.table, right.table, state) {
+    let left = input.view.look(l, looks);
+    let right = input.view.look(r, looks);
+    match over_left(input, &*here, left.table, right.table, state) {
         OverLeft::Plain(q) => {
             go_right(here, left.len, r, &right);
             q
@@ -253,7 +259,7 @@ fn go_down<'a, L: Ledger>(
 /// Descends to the first mark of the first marked text over a node, and keeps it with the nodes that are then ahead.
 /// `here` becomes each node on the path in turn.
 fn descend<'a, L: Ledger>(
-    ground: &Ground<'a>,
+    input: &EnumerationInput<'a>,
     trail: &mut Trail<'a>,
     here: &mut Ahead<'a>,
     from: u8,
@@ -261,10 +267,10 @@ fn descend<'a, L: Ledger>(
     out: &mut Tuple,
     looks: &mut Steps<L>,
 ) -> Place
-    requires ground { IsGround ground.now }
-    requires down { CanGoDown ground.now here.old from base trail.old.marks.items trail.old.marks.capacity trail.old.ahead.items trail.old.ahead.capacity }
+    requires input { IsEnumerationInput input.now }
+    requires down { CanGoDown input.now here.old from base trail.old.marks.items trail.old.marks.capacity trail.old.ahead.items trail.old.ahead.capacity }
     requires some { bit_and (marked_of here.old.look.table.now from) here.old.goals ≡ 0 → ⊥ }
-    ensures descends { Descends ground.now here.old from base trail.old.marks.items trail.new.marks.items trail.old.ahead.items trail.new.ahead.items
+    ensures descends { Descends input.now here.old from base trail.old.marks.items trail.new.marks.items trail.old.ahead.items trail.new.ahead.items
         looks.old looks.new out.old out.new result }
     ensures marks_room { trail.new.marks.capacity ≡ trail.old.marks.capacity }
     ensures ahead_room { trail.new.ahead.capacity ≡ trail.old.ahead.capacity }
@@ -272,8 +278,8 @@ fn descend<'a, L: Ledger>(
     let mut state = from;
     'down: loop {
         match here.look.node {
-            Node::Byte(b) => return place_mark(ground, trail, &*here, b, state, base, out),
-            Node::Pair(l, r) => state = go_down(ground, trail, here, state, l, r, looks),
+            Node::Byte(b) => return place_mark(input, trail, &*here, b, state, base, out),
+            Node::Pair(l, r) => state = go_down(input, trail, here, state, l, r, looks),
         }
     }
 }
@@ -281,20 +287,20 @@ fn descend<'a, L: Ledger>(
 /// Writes the marks of the first marked text after the walk's position, and keeps them. Of the nodes ahead the first `base`
 /// stay. Returns the state at the end, or none if a quiet state came first: then no mark is left, not even at the end.
 pub(crate) fn complete<'a, L: Ledger>(
-    ground: &Ground<'a>,
+    input: &EnumerationInput<'a>,
     trail: &mut Trail<'a>,
     from: Place,
     base: usize,
     out: &mut Tuple,
     looks: &mut Steps<L>,
 ) -> Option<u8>
-    requires ground { IsGround ground.now }
-    requires short { length (whole_text ground.now) ≤ 281474976710656 }
-    requires finish { CanFinish ground.now from base trail.old.marks.items trail.old.ahead.items }
-    requires room { HasRoom ground.now.dfa.now.variables trail.old.marks.capacity trail.old.ahead.capacity }
-    ensures completes { Completes ground.now from base trail.old.marks.items trail.new.marks.items trail.old.ahead.items trail.new.ahead.items
+    requires input { IsEnumerationInput input.now }
+    requires short { length (whole_text input.now) ≤ 281474976710656 }
+    requires finish { CanFinish input.now from base trail.old.marks.items trail.old.ahead.items }
+    requires room { HasRoom input.now.dfa.now.variables trail.old.marks.capacity trail.old.ahead.capacity }
+    ensures completes { Completes input.now from base trail.old.marks.items trail.new.marks.items trail.old.ahead.items trail.new.ahead.items
         looks.old looks.new result out.old out.new }
-    ensures within { IfSome result (λ q. q < states_of ground.now.dfa.now) }
+    ensures within { IfSome result (λ q. q < states_of input.now.dfa.now) }
     ensures marks_room { trail.new.marks.capacity ≡ trail.old.marks.capacity }
     ensures ahead_room { trail.new.ahead.capacity ≡ trail.old.ahead.capacity }
 {
@@ -302,16 +308,16 @@ pub(crate) fn complete<'a, L: Ledger>(
         trail.ahead.truncate(base);
         return None;
     }
-    let place = pass_plain(ground, &*trail, from);
+    let place = pass_plain(input, &*trail, from);
     if place.next == 0 {
         trail.ahead.truncate(base);
         return Some(place.state);
     }
     let mut here = *ahead_at(&*trail, place.next);
     trail.ahead.truncate(cut_before(place.next, base));
-    let behind = descend(ground, trail, &mut here, place.state, base, out, looks);
+    let behind = descend(input, trail, &mut here, place.state, base, out, looks);
     let kept = trail.ahead.len();
-    complete(ground, trail, behind, kept, out, looks)
+    complete(input, trail, behind, kept, out, looks)
 }
 
 /// How many nodes stay if the one with this index, counted from 1, is no longer needed: those before it, and at least

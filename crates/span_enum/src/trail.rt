@@ -3,11 +3,11 @@ ghost use Rattle.std.specs.Prelude.{◌≡◌, ℕ, Option, ◌<◌, ◌≤◌, 
 ghost use Rattle.span_enum.specs.Next.{NoneAfter};
 ghost use Rattle.span_enum.specs.Words.{IsNoMark};
 ghost use Rattle.span_enum.specs.Tuples.{word_over};
-ghost use Rattle.span_enum.specs.Trail.{IsGround, HasRoom, IsLast, IsTrailOf, IsTurned, LowersLast, whole_text};
+ghost use Rattle.span_enum.specs.Trail.{IsEnumerationInput, HasRoom, IsLast, IsTrailOf, IsTurned, LowersLast, whole_text};
 ghost use Rattle.span_enum.specs.declared.trail.Ahead.{Ahead};
 ghost use Rattle.span_enum.specs.declared.trail.Mark.{Mark};
 
-use crate::ground::Ground;
+use crate::input::EnumerationInput;
 use crate::walk::{Lowered, greatest_mark};
 use node_store::NodeId;
 use smallvec::SmallVec;
@@ -104,12 +104,12 @@ pub(crate) fn last_of<'t>(trail: &'t Trail<'_>) -> &'t Mark
 }
 
 /// Removes the last mark and the path down to it.
-fn forget_last(ground: &Ground<'_>, trail: &mut Trail<'_>, last: Mark, t: &Tuple)
-    requires ground { IsGround ground.now }
-    requires trail { IsTrailOf ground.now t.now trail.old.marks.items trail.old.ahead.items }
+fn forget_last(input: &EnumerationInput<'_>, trail: &mut Trail<'_>, last: Mark, t: &Tuple)
+    requires input { IsEnumerationInput input.now }
+    requires trail { IsTrailOf input.now t.now trail.old.marks.items trail.old.ahead.items }
     requires last { IsLast trail.old.marks.items last }
-    requires none { (n : ℕ) → IsNoMark ground.now.dfa.now last.state last.byte last.goals last.mark n }
-    ensures trail { IsTrailOf ground.now t.now trail.new.marks.items trail.new.ahead.items }
+    requires none { (n : ℕ) → IsNoMark input.now.dfa.now last.state last.byte last.goals last.mark n }
+    ensures trail { IsTrailOf input.now t.now trail.new.marks.items trail.new.ahead.items }
     ensures less { length trail.new.marks.items < length trail.old.marks.items }
     ensures marks_room { trail.new.marks.capacity ≡ trail.old.marks.capacity }
     ensures ahead_room { trail.new.ahead.capacity ≡ trail.old.ahead.capacity }
@@ -120,19 +120,23 @@ fn forget_last(ground: &Ground<'_>, trail: &mut Trail<'_>, last: Mark, t: &Tuple
 }
 
 /// The last mark that can be lowered, with the lower one. The marks after it are removed.
-pub(crate) fn lower_last(ground: &Ground<'_>, trail: &mut Trail<'_>, t: &Tuple) -> Option<Lowered>
-    requires ground { IsGround ground.now }
-    requires trail { IsTrailOf ground.now t.now trail.old.marks.items trail.old.ahead.items }
-    ensures lowers { MatchOption result (NoneAfter ground.now.dfa.now 0 (whole_text ground.now) ground.now.finals (word_over t.now 1 (whole_text ground.now)))
-        (LowersLast ground.now trail.new.marks.items) }
-    ensures trail { IsTrailOf ground.now t.now trail.new.marks.items trail.new.ahead.items }
+pub(crate) fn lower_last(
+    input: &EnumerationInput<'_>,
+    trail: &mut Trail<'_>,
+    t: &Tuple,
+) -> Option<Lowered>
+    requires input { IsEnumerationInput input.now }
+    requires trail { IsTrailOf input.now t.now trail.old.marks.items trail.old.ahead.items }
+    ensures lowers { MatchOption result (NoneAfter input.now.dfa.now 0 (whole_text input.now) input.now.finals (word_over t.now 1 (whole_text input.now)))
+        (LowersLast input.now trail.new.marks.items) }
+    ensures trail { IsTrailOf input.now t.now trail.new.marks.items trail.new.ahead.items }
     ensures marks_room { trail.new.marks.capacity ≡ trail.old.marks.capacity }
     ensures ahead_room { trail.new.ahead.capacity ≡ trail.old.ahead.capacity }
 {
     while trail.marks.len() > 0 {
         let last = *last_of(&*trail);
         match greatest_mark(
-            ground.dfa,
+            input.dfa,
             last.state,
             last.byte,
             last.goals,
@@ -145,7 +149,7 @@ pub(crate) fn lower_last(ground: &Ground<'_>, trail: &mut Trail<'_>, t: &Tuple) 
                     state: step.state,
                 });
             }
-            None => forget_last(ground, trail, last, t),
+            None => forget_last(input, trail, last, t),
         }
     }
     None
@@ -153,15 +157,15 @@ pub(crate) fn lower_last(ground: &Ground<'_>, trail: &mut Trail<'_>, t: &Tuple) 
 
 /// Replaces the last mark by the lower one, or removes it if the lower one is none.
 pub(crate) fn lower_to(
-    ground: &Ground<'_>,
+    input: &EnumerationInput<'_>,
     trail: &mut Trail<'_>,
     t: &Tuple,
     lowered: &Lowered,
 ) -> Turn
-    requires ground { IsGround ground.now }
-    requires trail { IsTrailOf ground.now t.now trail.old.marks.items trail.old.ahead.items }
-    requires last { LowersLast ground.now trail.old.marks.items lowered.now }
-    ensures turned { IsTurned ground.now t.now lowered.now result trail.new.marks.items trail.new.ahead.items }
+    requires input { IsEnumerationInput input.now }
+    requires trail { IsTrailOf input.now t.now trail.old.marks.items trail.old.ahead.items }
+    requires last { LowersLast input.now trail.old.marks.items lowered.now }
+    ensures turned { IsTurned input.now t.now lowered.now result trail.new.marks.items trail.new.ahead.items }
     ensures marks_room { trail.new.marks.capacity ≡ trail.old.marks.capacity }
     ensures ahead_room { trail.new.ahead.capacity ≡ trail.old.ahead.capacity }
 {

@@ -2,8 +2,8 @@
 pub use Rattle.span_run.proofs.LinesLemmas.{empty_of, lines_cut, lines_one, no_newline}
 pub use Rattle.span_run.proofs.Written.{last, more_of_piece, part, passed, sent_on, starts, stops, waits}
 pub use Rattle.span_run.proofs.ListLemmas.{goes_starts, kept_looks, kept_size, looks_more, moved, page_ends, page_goes_on, page_has_more, page_stops}
-pub use Rattle.span_run.proofs.EveryLemmas.{registered, rest_end, short_all, short_next, sized_at, tuples_end, tuples_left, well_formed}
-pub use Rattle.span_run.proofs.EveryParts.{batch_left, found_sizes, lists_are, lists_every, variables_are}
+pub use Rattle.span_run.proofs.AllListingLemmas.{registered, rest_end, short_all, short_next, sized_at, tuples_end, tuples_left, well_formed}
+pub use Rattle.span_run.proofs.AllListingParts.{batch_left, found_sizes, lists_are, lists_every, variables_are}
 pub use Rattle.span_run.proofs.PageLemmas.{has_cursor, list_free, lists_none, lists_page, named_count, no_word}
 pub use Rattle.span_run.proofs.HeldLemmas.{AreKept-put, AreKept-taken_out, AreLive-put, AreLive-taken_out, head_of-text, length-text_of, live_root, plain-put}
 pub use Rattle.span_run.proofs.HeldLemmas.{plain-taken_out, plain_versions-put, plain_versions-taken_out, version_kept, version_of-plain}

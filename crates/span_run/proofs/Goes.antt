@@ -3,7 +3,7 @@ use Rattle.span_run.proofs.Names.{Accepted, Answer, Answers, ap, AreKept, AreLiv
 use Rattle.span_run.proofs.Names.{covered_of, Doc, Documents, Entry, Err, Files, Goes, Grows, Grows-length, Grows-none, Held, IfErr, IfOk, inl, inr, IsAllowed}
 use Rattle.span_run.proofs.Names.{IsErrAnd, IsHeld, IsOfFile, IsOnce, IsPut, IsSaved, length, List, Named, no_steps, Node}
 use Rattle.span_run.proofs.Names.{AllowsWrites, nodes_of, Ok, open_size, Option, pairs_of, PaysFor, PaysForPart, Places, plain, plain-grows, plain_versions, queries_of, Query, Quiet}
-use Rattle.span_run.proofs.Names.{refl, Refused, Registers, Result, Rose, saved_text, Scene, scene, Serves, State, state_of, Stays, Stop, subst, sum_of, sym}
+use Rattle.span_run.proofs.Names.{refl, Refused, Registers, Result, Rose, saved_text, LineState, line_state, Serves, State, state_of, Stays, Stop, subst, sum_of, sym}
 use Rattle.span_run.proofs.Names.{Tallies, Told, with_documents, with_queries, world, world_at, ℕ, ◌+◌, ◌∙◌, ◌≡◌, ◌≤◌, ◌⊎◌}
 use Rattle.script_syntax.specs.declared.form.Command.TheVariants as form
 use Rattle.span_language.specs.declared.told.Stop.TheVariants as stop
@@ -37,7 +37,7 @@ not_one : {P : Type 0} → ◌≡◌ {A = ℕ} 0 1 → P
 not_one is = let bad : ⊥ = cc is in absurd bad
 
 -- no query is registered, and no node is dropped
-pub none_tallied : (registers compacts : Type 0) (told : Told) (old new : Scene) → IsOnce registers told 0 → IsOnce compacts told 0 → nodes_of old.standing ≤ nodes_of new.standing → pairs_of new.standing + old.pairs ≤ pairs_of old.standing + new.pairs
+pub none_tallied : (registers compacts : Type 0) (told : Told) (old new : LineState) → IsOnce registers told 0 → IsOnce compacts told 0 → nodes_of old.standing ≤ nodes_of new.standing → pairs_of new.standing + old.pairs ≤ pairs_of old.standing + new.pairs
     → Places 0 0 (nodes_of new.standing) old.standing.covered new.standing.covered old.places new.places → Tallies registers compacts told old new
 none_tallied registers compacts told old new none kept nodes pairs placed = record {
   queries = 0;
@@ -83,7 +83,7 @@ grown_answers h store docs number command answer files after faults more looks p
   carries = subst (λ (f : Option Files). Carries (world (state_of h) files) number command answer.told answer.line.items (world (state_of (record h { store = store; docs = docs })) f)) (sym same)
       (subst (λ (st : State). Carries (world (state_of h) files) number command answer.told answer.line.items (world st files)) (sym (grown_state h store docs p q is grows)) carries);
   paid = paid;
-  tallies = none_tallied (Registers command) (Compacts command) answer.told (scene (at h files faults looks p places)) (scene (at (record h { store = store; docs = docs }) after more looks q places)) (never (Registers command) other answer.told) (never (Compacts command) kept answer.told)
+  tallies = none_tallied (Registers command) (Compacts command) answer.told (line_state (at h files faults looks p places)) (line_state (at (record h { store = store; docs = docs }) after more looks q places)) (never (Registers command) other answer.told) (never (Compacts command) kept answer.told)
       (Grows-length h.store store p q grows) (Grows-pairs h.store store p q grows) (none_placed (length store) (covered_of h.book) places);
 }
 
@@ -211,7 +211,7 @@ saved_answers h number file bytes nodes answer files after faults more looks pai
   sound = sound;
   carries = subst (λ (t : Told). Carries (world (state_of h) files) number (form.SaveFile file) t answer.line.items (world (state_of h) after)) (sym accepted) (bytes, nodes, saved, short, writable, written, refl, put);
   paid = (no_steps, refl, none_paid looks pairs pairs refl);
-  tallies = none_tallied (Registers (form.SaveFile file)) (Compacts (form.SaveFile file)) answer.told (scene (at h files faults looks pairs places)) (scene (at h after more looks pairs places)) (never (Registers (form.SaveFile file)) (λ no. no) answer.told) (never (Compacts (form.SaveFile file)) (λ no. no) answer.told)
+  tallies = none_tallied (Registers (form.SaveFile file)) (Compacts (form.SaveFile file)) answer.told (line_state (at h files faults looks pairs places)) (line_state (at h after more looks pairs places)) (never (Registers (form.SaveFile file)) (λ no. no) answer.told) (never (Compacts (form.SaveFile file)) (λ no. no) answer.told)
       (omega arith) (omega arith) (none_placed (length h.store) (covered_of h.book) places);
 }
 
@@ -234,7 +234,7 @@ marked_answers h docs versions number command answer files faults looks pairs pl
   sound = refl;
   carries = carries;
   paid = (no_steps, free, none_paid looks pairs pairs refl);
-  tallies = none_tallied (Registers command) (Compacts command) answer.told (scene (at h files faults looks pairs places)) (scene (at (record h { docs = docs; versions = versions }) files faults looks pairs places)) (never (Registers command) other answer.told) (never (Compacts command) keeps answer.told)
+  tallies = none_tallied (Registers command) (Compacts command) answer.told (line_state (at h files faults looks pairs places)) (line_state (at (record h { docs = docs; versions = versions }) files faults looks pairs places)) (never (Registers command) other answer.told) (never (Compacts command) keeps answer.told)
       (omega arith) (omega arith) (none_placed (length h.store) (covered_of h.book) places);
 }
 
@@ -268,7 +268,7 @@ moved_answers h store docs book number command answer files faults looks more p 
   sound = refl;
   carries = subst (λ (st : State). Carries (world (state_of h) files) number command answer.told answer.line.items (world st files)) (sym (moved_state h store docs book p q is grows same)) carries;
   paid = paid;
-  tallies = none_tallied (Registers command) (Compacts command) answer.told (scene (at h files faults looks p r)) (scene (at (record h { store = store; docs = docs; book = book }) files faults more q s))
+  tallies = none_tallied (Registers command) (Compacts command) answer.told (line_state (at h files faults looks p r)) (line_state (at (record h { store = store; docs = docs; book = book }) files faults more q s))
       (never (Registers command) other answer.told) (never (Compacts command) kept answer.told) (Grows-length h.store store p q grows) (Grows-pairs h.store store p q grows)
       (λ n le. grown_placed (length h.store) r s (covered_of h.book) (covered_of book) partly steps n (omega (arith, le, Grows-length h.store store p q grows)));
 }
@@ -296,9 +296,9 @@ pub same_queries : (h : Held) (book : List Entry) → queries_of book ≡ querie
 same_queries h book same = ap (with_queries (state_of h)) same
 
 pub placed_tallied : (h : Held) (book : List Entry) (command : Command) (told : Told) (files : Option Files) (faults looks more pairs p q : ℕ) → ArePartlyAt (length h.store) (covered_of h.book) (covered_of book) → q + sum_of (covered_of h.book) ≡ p + sum_of (covered_of book)
-    → (Registers command → ⊥) → (Compacts command → ⊥) → Tallies (Registers command) (Compacts command) told (scene (at h files faults looks pairs p)) (scene (at (record h { book = book }) files faults more pairs q))
+    → (Registers command → ⊥) → (Compacts command → ⊥) → Tallies (Registers command) (Compacts command) told (line_state (at h files faults looks pairs p)) (line_state (at (record h { book = book }) files faults more pairs q))
 placed_tallied h book command told files faults looks more pairs p q partly steps other kept =
-    none_tallied (Registers command) (Compacts command) told (scene (at h files faults looks pairs p)) (scene (at (record h { book = book }) files faults more pairs q)) (never (Registers command) other told) (never (Compacts command) kept told)
+    none_tallied (Registers command) (Compacts command) told (line_state (at h files faults looks pairs p)) (line_state (at (record h { book = book }) files faults more pairs q)) (never (Registers command) other told) (never (Compacts command) kept told)
     (omega arith) (omega arith) (grown_placed (length h.store) p q (covered_of h.book) (covered_of book) partly steps)
 
 pub placed_answers : (h : Held) (book : List Entry) (number : ℕ) (command : Command) (answer : Answer) (files : Option Files) (faults looks more pairs p q : ℕ) → IsHeld h → Serves h.store book → queries_of book ≡ queries_of h.book

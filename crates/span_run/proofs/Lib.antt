@@ -2,8 +2,8 @@ pub mod Names
 pub mod LinesLemmas
 pub mod Written
 pub mod ListLemmas
-pub mod EveryLemmas
-pub mod EveryParts
+pub mod AllListingLemmas
+pub mod AllListingParts
 pub mod PageLemmas
 pub mod HeldLemmas
 pub mod PlacesLemmas

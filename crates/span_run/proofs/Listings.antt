@@ -1,6 +1,6 @@
 -- Listings of answers, as lines.
 use Rattle.span_run.proofs.Names.{Accepted, ap, ArePartlyAt, at, Carries, counters, covered_of, Ends, Entry, Files, Held, IfOk, inl, inr, IsHeld, length, List}
-use Rattle.span_run.proofs.Names.{ListsEvery, Named, no_steps, Option, Outlet, plain, queries_of, Query, refl, Result, scene, seen, Serves, Some, standing_of}
+use Rattle.span_run.proofs.Names.{ListsEvery, Named, no_steps, Option, Outlet, plain, queries_of, Query, refl, Result, line_state, seen, Serves, Some, standing_of}
 use Rattle.span_run.proofs.Names.{State, state_of, Stop, subst, sum_of, sym, Tells, Told, value_of, WantsFor, world, Wrote, ℕ, ◌+◌, ◌≡◌}
 use Rattle.script_syntax.specs.declared.form.Command.TheVariants as form
 use Rattle.span_run.proofs.PageLemmas.{list_carries, list_paid}
@@ -21,7 +21,7 @@ module _ (h : Held) (book : List Entry) (number : ℕ) (query name text : List �
       let now = subst (λ (qs : Named Query). Tells Writes number qs query word text n told looks more) same tells in
       let paid = list_paid w number query name text word n there Writes told looks more pairs now in
       let (reply, carries, wrote) = list_carries w number query name text word n there Writes told looks more now in
-      written_ends number (Some command) (scene old) (scene new) before after told reply r
+      written_ends number (Some command) (line_state old) (line_state new) before after told reply r
       (passes_of old new command before after (placed_goes h book command files faults looks more pairs p q is serves partly steps (part_of_paid w command (counters looks pairs) (counters more pairs) paid))) refl (λ nothing. let bad : ⊥ = cc nothing in bad)
       (subst (λ (st : State). Carries w number command told reply (world st files)) (sym (same_queries h book same)) carries) paid
       (placed_tallied h book command told files faults looks more pairs p q partly steps (λ no. no) (λ no. no)) (inr (want, ap (λ (st : State). world st files) (same_queries h book same))) is_told wrote
@@ -35,7 +35,7 @@ module _ (h : Held) (book : List Entry) (number : ℕ) (query name text : List �
       let old = at h files faults looks pairs p in
       let new = at (record h { book = book }) files faults looks pairs q in
       let l = subst (λ (qs : Named Query). ListsEvery (λ reply. Wrote r before reply after) qs query (plain h.store h.docs) n) same lists in
-      written_ends number (Some command) (scene old) (scene new) before after Accepted l.reply r
+      written_ends number (Some command) (line_state old) (line_state new) before after Accepted l.reply r
       (passes_of old new command before after (placed_goes h book command files faults looks looks pairs p q is serves partly steps (not_begun w command looks pairs))) refl (λ nothing. let bad : ⊥ = cc nothing in bad)
       (subst (λ (st : State). Carries w number command Accepted l.reply (world st files)) (sym (same_queries h book same)) (l.query, l.there, l.listed, refl)) (no_steps, refl, none_paid looks pairs pairs refl)
       (placed_tallied h book command Accepted files faults looks looks pairs p q partly steps (λ no. no) (λ no. no)) (inl (λ no. no)) is_told l.writes

@@ -51,7 +51,7 @@ pub use Rattle.span_replace.specs.declared.refusal.ReplaceRefusal.{ReplaceRefusa
 pub use Rattle.span_run.specs.Answers.{Answers, Goes, IsAnswering, IsWellFormed, Stays}
 pub use Rattle.span_run.specs.Asked.{IsAnswered}
 pub use Rattle.span_run.specs.Carried.{Done, HasNoFault, IsDone, IsStopped, Outlet, outlet, Passes, Stopped}
-pub use Rattle.span_run.specs.Every.{AreAnswered, AreShort, every_text, ListsEvery, rest_text}
+pub use Rattle.span_run.specs.AllListing.{AreAnswered, AreShort, every_text, ListsEvery, rest_text}
 pub use Rattle.span_run.specs.Held.{AreKept, IsHeld, IsStanding, nodes_of, pairs_of, plain_versions, Standing, standing_of, state_of}
 pub use Rattle.span_run.specs.Judged.{IsJudged, IsReplied, IsReplyPaid, IsWordPaid, question_of}
 pub use Rattle.span_run.specs.Listing.{HasCursor, Lists, Tells}
@@ -59,9 +59,9 @@ pub use Rattle.span_run.specs.Reading.{IsFileFront, IsLoadPaid, IsOfTheFile, IsN
 pub use Rattle.span_run.specs.Refusing.{IsRefusedFreely}
 pub use Rattle.span_run.specs.Registering.{command_of, IsMade, IsMadeIn, IsOutcome, IsUnmade}
 pub use Rattle.span_run.specs.Replacing.{AreSources, Chooses, Replaces}
-pub use Rattle.span_run.specs.Scene.{counters_in, KeepsTables, Scene, scene, seen, Tallies, world_in}
+pub use Rattle.span_run.specs.LineState.{counters_in, KeepsTables, LineState, line_state, seen, Tallies, world_in}
 pub use Rattle.span_run.specs.Shown.{Assigns, IsDenied, IsFileDenied, IsFormulaRefusal, IsShown, IsTextRefusal, Opens}
-pub use Rattle.span_run.specs.Site.{at, Site, world_at}
+pub use Rattle.span_run.specs.CommandState.{at, CommandState, world_at}
 pub use Rattle.span_run.specs.Words.{IsCursorFor, IsTupleOf, IsUnread, IsUnreadCursor, IsWordRefusal}
 pub use Rattle.span_run.specs.Written.{Ends, IsCut, IsGone, IsSent, IsUpTo, WantsFor, Wrote}
 pub use Rattle.span_run.specs.declared.answer.Answer.{Answer}

@@ -2,7 +2,7 @@
 use Rattle.span_run.proofs.Names.{[], Adds, Allowance, Anywhere, ap, append-nil, append_assoc, Appends, Appends-kept, Appends-nil, Appends-trans, arith, Bool}
 use Rattle.span_run.proofs.Names.{both, both_of, Carried, Command, Counters, Ending, false, Files, Halts, IfSome, InFileLine, inl, inr, is_refused, IsDone, IsFront, IsList}
 use Rattle.span_run.proofs.Names.{IsPaid, IsStanding, IsStopped, Leaves, length, length-append, List, Means, Named, no_lines, no_steps, nodes_of, None, nothing}
-use Rattle.span_run.proofs.Names.{Of, Option, Outlet, Outside, outside, pairs_of, PlacesFew, refl, Rose, Runs, RunsAll, RunsFront, Scene, Some, Standing, start}
+use Rattle.span_run.proofs.Names.{Of, Option, Outlet, Outside, outside, pairs_of, PlacesFew, refl, Rose, Runs, RunsAll, RunsFront, LineState, Some, Standing, start}
 use Rattle.span_run.proofs.Names.{State, Stop, Stopped, subst, suc, Sum, sum_of, sym, take, Told, true, UnlessList, World, world, world_in, ℕ, ◌*◌, ◌++◌, ◌+◌}
 use Rattle.span_run.proofs.Names.{◌-◌, ◌||◌, ◌∙◌, ◌∷◌, ◌≡◌, ◌≤◌, ◌⊎◌}
 use Rattle.std.proofs.Math.Nat.{mul-le-mul_left}
@@ -11,7 +11,7 @@ use Rattle.span_language.specs.declared.told.Stop.TheVariants as stop
 use Rattle.span_run.proofs.PlacesLemmas.{PlacesSoFar, places_go_on, places_few, places_few_part}
 
 -- what is observable of a state and a sink
-abbrev pub told_of : Scene → Outlet → Outside
+abbrev pub told_of : LineState → Outlet → Outside
 told_of s out = outside out.written s.files s.looks s.pairs s.places
 
 -- the state of a run: these lines are left, this is the next one's number, and the output of the first lines was
@@ -123,7 +123,7 @@ few_of sum before after nodes grown few =
     let products : sum.queries * nodes ≤ sum.queries * (256 * (1 + sum.compactions) + (after.counters.pairs - before.counters.pairs)) = mul-le-mul_left sum.queries grown in
     omega (arith, few, products)
 
-module _ (lines left rest : List (List ℕ)) (line : List ℕ) (number : ℕ) (refused : Bool) (before : Outside) (old : Scene) (sink : Outlet) (new : Scene) (after : Outlet) (is : left ≡ line ∷ rest) (at : IsAt lines left number refused old.standing before (told_of old sink)) where
+module _ (lines left rest : List (List ℕ)) (line : List ℕ) (number : ℕ) (refused : Bool) (before : Outside) (old : LineState) (sink : Outlet) (new : LineState) (after : Outlet) (is : left ≡ line ∷ rest) (at : IsAt lines left number refused old.standing before (told_of old sink)) where
   pub goes_on : (told : Told) → IsDone line number old sink new after told → IsAt lines rest (number + 1) (refused || is_refused told) new.standing before (told_of new after)
   goes_on told (meaning, means, d) =
       let one : Sum = record { refused = is_refused told; output = d.finishes.0; cost = d.paid.0; queries = d.tallies.queries; compactions = d.tallies.compactions } in
@@ -204,7 +204,7 @@ module _ (lines left rest : List (List ℕ)) (line : List ℕ) (number : ℕ) (r
   -- an allocation failure: a line of the form `list` was stopped before any of it was written, unless a count increased
   pub stops_wanting : (wants : ℕ) → wants ≤ sink.wants → IsStanding old.standing → IsStanding new.standing → IsStopped line number old sink new after stop.NoMemory → RunsFront (UnlessList wants after.wants) lines before (told_of new after)
   stops_wanting wants later held stands (inl (unread, same, kept)) =
-      subst (λ (s : Scene). RunsFront (UnlessList wants after.wants) lines before (told_of s after)) (sym same)
+      subst (λ (s : LineState). RunsFront (UnlessList wants after.wants) lines before (told_of s after)) (sym same)
       (subst (λ (o : Outlet). RunsFront (UnlessList wants after.wants) lines before (told_of old o)) (sym kept) unbegun)
     where
       unbegun : RunsFront (UnlessList wants after.wants) lines before (told_of old sink)

@@ -2,7 +2,7 @@
 use Rattle.span_run.proofs.Names.{[], Allowance, Answer, Answers, ap, Appends-nil, ArePartlyAt, arith, at, Carried, Carries, Command, Compacts, counters_in}
 use Rattle.span_run.proofs.Names.{covered_of, Done, Ends, Entry, Err, Files, Goes, Held, IfErr, IfOk, inl, inr, IsAllowance, IsAnswering, IsHeld, IsList}
 use Rattle.span_run.proofs.Names.{IsOnce, IsPaid, IsRefused, IsRefusedFreely, Keeps-refl, Leaves, length, List, MatchResult, no_steps, Of, Ok, Option, Outlet}
-use Rattle.span_run.proofs.Names.{Passes, queries_of, Quiet, refl, Refusal, refusal_text, Refused, Registers, Replies, Result, Scene, scene, seen, Serves, Site}
+use Rattle.span_run.proofs.Names.{Passes, queries_of, Quiet, refl, Refusal, refusal_text, Refused, Registers, Replies, Result, LineState, line_state, seen, Serves, CommandState}
 use Rattle.span_run.proofs.Names.{Some, standing_of, State, state_of, Stays, Stop, Stopped, subst, sum_of, sym, Tallies, Told, WantsFor, World, world, world_in, Wrote}
 use Rattle.span_run.proofs.Names.{ℕ, ◌+◌, ◌≡◌, ◌≤◌, ◌⊎◌}
 use Rattle.script_syntax.specs.declared.form.Command.TheVariants as form
@@ -13,7 +13,7 @@ use Rattle.span_run.proofs.BookLemmas.{covered-within}
 use Rattle.span_run.proofs.CarryLemmas.{none_paid}
 use Rattle.span_run.proofs.Goes.{no_shelf, no_sink, none_tallied, refused_answers, same_queries, unplaced}
 
-pub passes_of : (old new : Site) (command : Command) (before after : Outlet) → Goes old command new → before.faults ≤ after.faults → before.wants ≤ after.wants → Passes (Some command) (scene old) before (scene new) after
+pub passes_of : (old new : CommandState) (command : Command) (before after : Outlet) → Goes old command new → before.faults ≤ after.faults → before.wants ≤ after.wants → Passes (Some command) (line_state old) before (line_state new) after
 passes_of old new command before after goes later wants_later = record {
   more_nodes = goes.nodes;
   more_pairs = goes.pairs;
@@ -26,7 +26,7 @@ passes_of old new command before after goes later wants_later = record {
 }
 
 -- a line whose reply was written, or a prefix of it
-pub written_ends : (number : ℕ) (meaning : Option Command) (old new : Scene) (before after : Outlet) (told : Told) (reply : List ℕ) (r : Result Told Stop)
+pub written_ends : (number : ℕ) (meaning : Option Command) (old new : LineState) (before after : Outlet) (told : Told) (reply : List ℕ) (r : Result Told Stop)
     → (before.faults ≤ after.faults → before.wants ≤ after.wants → Passes meaning old before new after) → new.faults ≡ old.faults → Replies meaning → Carried (world_in old) number meaning told reply (world_in new)
     → ((a : Allowance) × IsAllowance (world_in old) meaning a × IsPaid a (counters_in old) (counters_in new)) → Tallies (Of Registers meaning) (Of Compacts meaning) told old new
     → (Of IsList meaning → ⊥) ⊎ (WantsFor r before after × (world_in new ≡ world_in old)) → IfOk r (λ t. t ≡ told) → Wrote r before reply after → Ends number meaning old before new after r
@@ -60,14 +60,14 @@ lists_none (form.List q n w k) answering list = answering
 lists_none _ answering list = list
 
 -- an answer that was written, or wasn't
-pub answer_ends : (old new : Site) (number : ℕ) (command : Command) (answer : Answer) (before after : Outlet) (r : Result Told Stop) → IsAnswering command → Answers old number command new answer
-    → IfOk r (λ t. t ≡ answer.told) → Wrote r before answer.line.items after → Ends number (Some command) (scene old) before (scene new) after r
+pub answer_ends : (old new : CommandState) (number : ℕ) (command : Command) (answer : Answer) (before after : Outlet) (r : Result Told Stop) → IsAnswering command → Answers old number command new answer
+    → IfOk r (λ t. t ≡ answer.told) → Wrote r before answer.line.items after → Ends number (Some command) (line_state old) before (line_state new) after r
 answer_ends old new number command answer before after r answering a is wrote =
-    written_ends number (Some command) (scene old) (scene new) before after answer.told answer.line.items r (passes_of old new command before after a.goes) a.sound (replies command answering) a.carries a.paid a.tallies
+    written_ends number (Some command) (line_state old) (line_state new) before after answer.told answer.line.items r (passes_of old new command before after a.goes) a.sound (replies command answering) a.carries a.paid a.tallies
     (inl (lists_none command answering)) is wrote
 
 -- a command that was stopped before it had an answer
-pub stays_stopped : (old new : Site) (number : ℕ) (command : Command) (before : Outlet) (why : Stop) → IsAnswering command → Stays old number command new why → Stopped number (Some command) (scene old) before (scene new) before why
+pub stays_stopped : (old new : CommandState) (number : ℕ) (command : Command) (before : Outlet) (why : Stop) → IsAnswering command → Stays old number command new why → Stopped number (Some command) (line_state old) before (line_state new) before why
 stays_stopped old new number command before why answering s = record {
   passes = passes_of old new command before before s.goes (omega arith) (omega arith);
   halts = elim s.world [

@@ -1,19 +1,19 @@
 -- A line whose reply was written, and then flushed.
 use Rattle.span_run.proofs.Names.{Appends, Appends-kept, AppendsFront, arith, Carried, Carries, Command, Done, Ends, Err, HasNoFault, IfErr, IfOk, inl, inr, IsDone}
-use Rattle.span_run.proofs.Names.{IsGone, IsOfFile, IsRefused, IsStopped, Keeps, length, List, Means, Ok, Option, Outlet, Passes, Quiet, Replies, Result, Rose, Scene}
+use Rattle.span_run.proofs.Names.{IsGone, IsOfFile, IsRefused, IsStopped, Keeps, length, List, Means, Ok, Option, Outlet, Passes, Quiet, Replies, Result, Rose, LineState}
 use Rattle.span_run.proofs.Names.{Accepted, Refused, refl, Some, None, Stop, Stopped, subst, sym, take, take_all, Told, World, world_in, Wrote, ℕ, ◌∙◌, ◌≡◌, ◌≤◌, ◌⊎◌}
 use Rattle.script_syntax.specs.declared.form.Command.TheVariants as form
 use Rattle.span_language.specs.declared.told.Stop.TheVariants as stop
 
 -- only a line without a command has no reply
-pub quiet_never : (P : Type 0) (number : ℕ) (command : Command) (old new : Scene) (before after : Outlet) (r : Result Told Stop) → (command ≡ form.Nothing → ⊥) → Ends number (Some command) old before new after r
+pub quiet_never : (P : Type 0) (number : ℕ) (command : Command) (old new : LineState) (before after : Outlet) (r : Result Told Stop) → (command ≡ form.Nothing → ⊥) → Ends number (Some command) old before new after r
     → IfOk r (λ told. told ≡ Quiet → P)
 quiet_never P number command old new before after (Ok told) other d =
     λ is. absurd (other (subst (λ (t : Told). Done number (Some command) old before new after t) is d).finishes.1.0)
 quiet_never P number command old new before after (Err why) other s = tt
 
 -- only a line that uses files is stopped by a failure of the file store
-pub shelf_never : (P : Type 0) (number : ℕ) (command : Command) (old new : Scene) (before after : Outlet) (r : Result Told Stop) → (IsOfFile command → ⊥) → Ends number (Some command) old before new after r
+pub shelf_never : (P : Type 0) (number : ℕ) (command : Command) (old new : LineState) (before after : Outlet) (r : Result Told Stop) → (IsOfFile command → ⊥) → Ends number (Some command) old before new after r
     → IfErr r (λ why. why ≡ stop.ShelfFault → P)
 shelf_never P number command old new before after (Ok told) other d = tt
 shelf_never P number command old new before after (Err why) other s = λ is. absurd (other (s.shelf_fault is).0)
@@ -33,7 +33,7 @@ pub no_shelf_wrote : (P : Type 0) (r : Result Told Stop) (before after : Outlet)
 no_shelf_wrote P (Ok told) before after piece sent = tt
 no_shelf_wrote P (Err why) before after piece cut = λ is. absurd (cut.no_shelf is)
 
-module _ (number : ℕ) (meaning : Option Command) (old new : Scene) (before mid after : Outlet) (told : Told) (kept : Keeps mid.written after.written) where
+module _ (number : ℕ) (meaning : Option Command) (old new : LineState) (before mid after : Outlet) (told : Told) (kept : Keeps mid.written after.written) where
   passes_on : mid.faults ≤ after.faults → mid.wants ≤ after.wants → Passes meaning old before new mid → Passes meaning old before new after
   passes_on later wants_later p = record {
     more_nodes = p.more_nodes;
@@ -82,7 +82,7 @@ module _ (number : ℕ) (meaning : Option Command) (old new : Scene) (before mid
       }
 
 -- what holds of a line after its reply was written holds after the flush
-module _ {K : Type 0} (line : List ℕ) (number : ℕ) (old new : Scene) (before mid after : Outlet) (first second third : K) (told : Told) (r : Result Told Stop)
+module _ {K : Type 0} (line : List ℕ) (number : ℕ) (old new : LineState) (before mid after : Outlet) (first second third : K) (told : Told) (r : Result Told Stop)
     (same : IfOk r (λ t. t ≡ told)) (quiet : told ≡ Quiet → (r ≡ Ok Quiet) × (third ≡ second)) (kept : Keeps mid.written after.written) where
   pub line_gone : (gone : ℕ) → (told ≡ Quiet → second ≡ first) → IsGone r (told ≡ Quiet) gone → IfOk r (λ t. ((t ≡ Quiet) × (third ≡ first)) ⊎ (gone ≡ 0))
   line_gone gone still h = by r same h

@@ -16,11 +16,11 @@ use Rattle.span_language.specs.declared.told.Stop.{Stop}
 use Rattle.span_language.specs.declared.told.Stop.TheVariants as stop
 use Rattle.span_run.specs.declared.held.Held.{Held}
 use Rattle.span_run.specs.Held.{IsHeld}
-use Rattle.span_run.specs.Site.{Site, at, world_at, counters_at}
-use Rattle.span_run.specs.Scene.{Tallies, scene}
+use Rattle.span_run.specs.CommandState.{CommandState, at, world_at, counters_at}
+use Rattle.span_run.specs.LineState.{Tallies, line_state}
 
 -- what holds however a command ends: the invariant, and the maximum cost
-pub record Goes (old : Site) (command : Command) (new : Site) : Type 0 where
+pub record Goes (old : CommandState) (command : Command) (new : CommandState) : Type 0 where
   pub held : IsHeld new.held
   pub nodes : (length old.held.store ≤ length new.held.store) ⊎ Compacts command
   pub pairs : pair_count new.held.store + old.pairs ≤ pair_count old.held.store + new.pairs
@@ -30,16 +30,16 @@ pub record Goes (old : Site) (command : Command) (new : Site) : Type 0 where
   pub faults : old.faults ≤ new.faults
 
 -- the command has this answer in the first state, and results in the second: the file store had no failure
-pub record Answers (old : Site) (number : ℕ) (command : Command) (new : Site) (answer : Answer) : Type 0 where
+pub record Answers (old : CommandState) (number : ℕ) (command : Command) (new : CommandState) (answer : Answer) : Type 0 where
   pub goes : Goes old command new
   pub sound : new.faults ≡ old.faults
   pub carries : Carries (world_at old) number command answer.told answer.line.items (world_at new)
   pub paid : PaysFor (world_at old) command (counters_at old) (counters_at new)
-  pub tallies : Tallies (Registers command) (Compacts command) answer.told (scene old) (scene new)
+  pub tallies : Tallies (Registers command) (Compacts command) answer.told (line_state old) (line_state new)
 
 -- the command was stopped for this reason: the state and the files are unchanged, or, for a command without files, as
 -- an answer allows
-pub record Stays (old : Site) (number : ℕ) (command : Command) (new : Site) (why : Stop) : Type 0 where
+pub record Stays (old : CommandState) (number : ℕ) (command : Command) (new : CommandState) (why : Stop) : Type 0 where
   pub goes : Goes old command new
   pub world : (world_at new ≡ world_at old)
       ⊎ ((IsOfFile command → ⊥) × ((told : Told) × (reply : List ℕ) × Carries (world_at old) number command told reply (world_at new)))

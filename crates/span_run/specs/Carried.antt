@@ -10,7 +10,7 @@ use Rattle.span_language.specs.declared.told.Told.{Told}
 use Rattle.span_language.specs.declared.told.Stop.{Stop}
 use Rattle.span_language.specs.declared.told.Stop.TheVariants as stop
 use Rattle.span_run.specs.Held.{nodes_of, pairs_of}
-use Rattle.span_run.specs.Scene.{Scene, Tallies, world_in, counters_in}
+use Rattle.span_run.specs.LineState.{LineState, Tallies, world_in, counters_in}
 
 -- a sink: the bytes written to it, if they are observable, and the numbers of its failures and of its allocation
 -- failures
@@ -23,7 +23,7 @@ abbrev pub outlet : Option (List ℕ) → ℕ → ℕ → Outlet
 outlet written faults wants = record { written = written; faults = faults; wants = wants }
 
 -- what holds however the line ends
-pub record Passes (meaning : Option Command) (old : Scene) (before : Outlet) (new : Scene) (after : Outlet) : Type 0 where
+pub record Passes (meaning : Option Command) (old : LineState) (before : Outlet) (new : LineState) (after : Outlet) : Type 0 where
   pub more_nodes : (nodes_of old.standing ≤ nodes_of new.standing) ⊎ Of Compacts meaning
   pub more_pairs : pairs_of new.standing + old.pairs ≤ pairs_of old.standing + new.pairs
   pub calls : old.pairs ≤ new.pairs
@@ -38,7 +38,7 @@ abbrev pub HasNoFault : Outlet → Outlet → Type 0
 HasNoFault before after = (after.faults ≡ before.faults) × (after.wants ≡ before.wants)
 
 -- the line was executed with this outcome: the file store and the sink had no failure
-pub record Done (number : ℕ) (meaning : Option Command) (old : Scene) (before : Outlet) (new : Scene) (after : Outlet) (told : Told) : Type 0 where
+pub record Done (number : ℕ) (meaning : Option Command) (old : LineState) (before : Outlet) (new : LineState) (after : Outlet) (told : Told) : Type 0 where
   pub passes : Passes meaning old before new after
   pub shelf_sound : new.faults ≡ old.faults
   pub sink_sound : HasNoFault before after
@@ -47,7 +47,7 @@ pub record Done (number : ℕ) (meaning : Option Command) (old : Scene) (before 
   pub tallies : Tallies (Of Registers meaning) (Of Compacts meaning) told old new
 
 -- the line was stopped for this reason
-pub record Stopped (number : ℕ) (meaning : Option Command) (old : Scene) (before : Outlet) (new : Scene) (after : Outlet) (why : Stop) : Type 0 where
+pub record Stopped (number : ℕ) (meaning : Option Command) (old : LineState) (before : Outlet) (new : LineState) (after : Outlet) (why : Stop) : Type 0 where
   pub passes : Passes meaning old before new after
   pub halts : Halts (Carried (world_in old) number meaning) (world_in old) before.written after.written (world_in new)
   pub fault : why ≡ stop.OutFault → Replies meaning × Rose before.faults after.faults
@@ -55,11 +55,11 @@ pub record Stopped (number : ℕ) (meaning : Option Command) (old : Scene) (befo
   pub want : why ≡ stop.NoMemory → (Of IsList meaning → ⊥) ⊎ (Rose before.wants after.wants ⊎ Leaves (world_in old) before.written after.written (world_in new))
 
 -- the line was executed, by its meaning, with this outcome
-abbrev pub IsDone : List ℕ → ℕ → Scene → Outlet → Scene → Outlet → Told → Type 0
+abbrev pub IsDone : List ℕ → ℕ → LineState → Outlet → LineState → Outlet → Told → Type 0
 IsDone line number old before new after told = (meaning : Option Command) × Means line meaning × Done number meaning old before new after told
 
 -- the line was stopped for this reason: if an allocation failed while it was parsed nothing changed, and otherwise by
 -- its meaning
-abbrev pub IsStopped : List ℕ → ℕ → Scene → Outlet → Scene → Outlet → Stop → Type 0
+abbrev pub IsStopped : List ℕ → ℕ → LineState → Outlet → LineState → Outlet → Stop → Type 0
 IsStopped line number old before new after why = ((why ≡ stop.NoMemory) × (new ≡ old) × (after ≡ before))
     ⊎ ((meaning : Option Command) × Means line meaning × Stopped number meaning old before new after why)

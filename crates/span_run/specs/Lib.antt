@@ -2,8 +2,8 @@ pub mod Words
 pub mod Held
 pub mod Exit
 pub mod Codes
-pub mod Site
-pub mod Scene
+pub mod CommandState
+pub mod LineState
 pub mod Answers
 pub mod Subject
 pub mod Carried
@@ -15,5 +15,5 @@ pub mod Reading
 pub mod Asked
 pub mod Judged
 pub mod Listing
-pub mod Every
+pub mod AllListing
 pub mod Replacing

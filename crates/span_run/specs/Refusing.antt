@@ -13,8 +13,8 @@ use Rattle.span_run.specs.declared.held.Held.{Held}
 use Rattle.span_run.specs.Answers.{Answers, StaysFreely}
 use Rattle.span_run.specs.Carried.{Outlet}
 use Rattle.span_run.specs.Held.{IsHeld, standing_of, state_of}
-use Rattle.span_run.specs.Scene.{seen}
-use Rattle.span_run.specs.Site.{at}
+use Rattle.span_run.specs.LineState.{seen}
+use Rattle.span_run.specs.CommandState.{at}
 use Rattle.span_run.specs.Written.{Ends}
 
 -- the command is rejected for this reason, at no cost

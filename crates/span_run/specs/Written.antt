@@ -8,7 +8,7 @@ use Rattle.span_language.specs.declared.told.Told.{Told}
 use Rattle.span_language.specs.declared.told.Stop.{Stop}
 use Rattle.span_language.specs.declared.told.Stop.TheVariants as stop
 use Rattle.span_run.specs.Carried.{Done, HasNoFault, Outlet, Stopped}
-use Rattle.span_run.specs.Scene.{Scene}
+use Rattle.span_run.specs.LineState.{LineState}
 
 -- a piece was written completely, without a failure
 pub record IsSent (before : Outlet) (piece : List ℕ) (after : Outlet) : Type 0 where
@@ -42,5 +42,5 @@ pub record IsUpTo (before after : Outlet) (left whole : List ℕ) : Type 0 where
   pub cut : whole ≡ done ++ left
 
 -- a line with this meaning was executed with the outcome in the result, or it was stopped
-abbrev pub Ends : ℕ → Option Command → Scene → Outlet → Scene → Outlet → Result Told Stop → Type 0
+abbrev pub Ends : ℕ → Option Command → LineState → Outlet → LineState → Outlet → Result Told Stop → Type 0
 Ends number meaning old before new after result = MatchResult result (Done number meaning old before new after) (Stopped number meaning old before new after)

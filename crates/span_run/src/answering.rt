@@ -2,7 +2,7 @@
 ghost use Rattle.std.specs.Prelude.{IfOk, IfErr};
 ghost use Rattle.span_language.specs.Step.{IsShort};
 ghost use Rattle.span_run.specs.Held.{IsHeld};
-ghost use Rattle.span_run.specs.Site.{at};
+ghost use Rattle.span_run.specs.CommandState.{at};
 ghost use Rattle.span_run.specs.Answers.{Answers, IsAnswering, IsWellFormed, Stays};
 
 use crate::answer::Answer;

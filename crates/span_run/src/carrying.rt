@@ -5,14 +5,14 @@ ghost use Rattle.script_syntax.specs.declared.form.Command.TheVariants as form;
 ghost use Rattle.span_language.specs.Step.{IsShort};
 ghost use Rattle.span_run.specs.Answers.{IsAnswering, IsWellFormed};
 ghost use Rattle.span_run.specs.Held.{IsHeld, standing_of};
-ghost use Rattle.span_run.specs.Scene.{seen};
+ghost use Rattle.span_run.specs.LineState.{seen};
 ghost use Rattle.span_run.specs.Carried.{IsDone, IsStopped, outlet};
 ghost use Rattle.span_run.specs.Written.{Ends};
 
+use crate::all_listing::list_all;
 use crate::answering::answer;
 use crate::context::Context;
 use crate::documents::write_names;
-use crate::every::list_all;
 use crate::held::Held;
 use crate::listing::{Page, list};
 use crate::offer::{send, send_out, send_refusal};

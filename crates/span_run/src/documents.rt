@@ -12,7 +12,7 @@ ghost use Rattle.span_run.specs.Carried.{outlet};
 ghost use Rattle.span_run.specs.Answers.{Answers, AnswersFreely, Stays, StaysFreely};
 ghost use Rattle.span_run.specs.Held.{IsHeld};
 ghost use Rattle.span_run.specs.Shown.{Assigns, IsShown, IsGiven, IsDenied};
-ghost use Rattle.span_run.specs.Site.{at};
+ghost use Rattle.span_run.specs.CommandState.{at};
 ghost use Rattle.span_run.specs.Written.{Wrote};
 
 use crate::answer::{Answer, ok_line};

@@ -13,7 +13,7 @@ ghost use Rattle.span_run.specs.Answers.{Answers, Stays};
 ghost use Rattle.span_run.specs.Held.{IsHeld};
 ghost use Rattle.span_run.specs.Reading.{IsFileFront, IsLoadPaid, IsNextPiece, IsSound, IsTurnedAway, MeansFile};
 ghost use Rattle.span_run.specs.Shown.{IsFileDenied, Opens};
-ghost use Rattle.span_run.specs.Site.{at};
+ghost use Rattle.span_run.specs.CommandState.{at};
 
 use crate::answer::Answer;
 use crate::documents::give;

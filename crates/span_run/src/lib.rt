@@ -26,13 +26,13 @@
 //! nodes (`Session::line`).
 #![tactic(auto)]
 
+mod all_listing;
 mod answer;
 mod answering;
 mod carrying;
 mod compacting;
 mod context;
 mod documents;
-mod every;
 mod files;
 mod held;
 mod lines;
@@ -43,13 +43,13 @@ mod reading;
 mod refusing;
 mod registering;
 mod replacing;
+mod run;
 mod session;
 mod subject;
-mod top;
 mod versions;
 mod words;
 
+pub use run::{Status, run};
 pub use session::Session;
 pub use span_language::{Stop, Told};
 pub use span_words::usage_text;
-pub use top::{Status, run};

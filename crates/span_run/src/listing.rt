@@ -14,7 +14,7 @@ ghost use Rattle.span_language.specs.Listed.{tuple_line, first_page_text};
 ghost use Rattle.span_run.specs.Carried.{outlet};
 ghost use Rattle.span_run.specs.Held.{IsHeld, standing_of};
 ghost use Rattle.span_run.specs.Listing.{HasCursor, Lists, Tells};
-ghost use Rattle.span_run.specs.Scene.{seen};
+ghost use Rattle.span_run.specs.LineState.{seen};
 ghost use Rattle.span_run.specs.Subject.{IsSubject};
 ghost use Rattle.span_run.specs.Written.{Ends, WantsFor, Wrote};
 

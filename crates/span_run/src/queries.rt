@@ -11,7 +11,7 @@ ghost use Rattle.span_run.specs.Answers.{Answers, AnswersFreely, Stays, StaysFre
 ghost use Rattle.span_run.specs.Asked.{IsAnswered};
 ghost use Rattle.span_run.specs.Held.{IsHeld};
 ghost use Rattle.span_run.specs.Judged.{IsJudged, IsReplied, IsReplyPaid, IsWordPaid, question_of};
-ghost use Rattle.span_run.specs.Site.{at};
+ghost use Rattle.span_run.specs.CommandState.{at};
 ghost use Rattle.span_run.specs.Subject.{IsSubject};
 ghost use Rattle.span_language.specs.declared.told.Told.TheVariants as told;
 

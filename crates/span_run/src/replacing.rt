@@ -12,7 +12,7 @@ ghost use Rattle.span_replace.specs.Replaced.{AreApart};
 ghost use Rattle.span_run.specs.Answers.{Answers, Stays};
 ghost use Rattle.span_run.specs.Held.{IsHeld, state_of};
 ghost use Rattle.span_run.specs.Replacing.{AreSources, Chooses, HasOneVariable, Replaces};
-ghost use Rattle.span_run.specs.Site.{at};
+ghost use Rattle.span_run.specs.CommandState.{at};
 ghost use Rattle.span_run.specs.Subject.{IsSubject};
 
 use crate::answer::Answer;

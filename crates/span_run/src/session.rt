@@ -2,7 +2,7 @@
 ghost use Rattle.std.specs.Prelude.{◌≡◌, ◌≤◌, ◌⊎◌, [], IfOk, IfErr};
 ghost use Rattle.span_language.specs.State.{nothing};
 ghost use Rattle.span_run.specs.Held.{IsStanding, nodes_of};
-ghost use Rattle.span_run.specs.Scene.{seen};
+ghost use Rattle.span_run.specs.LineState.{seen};
 ghost use Rattle.span_run.specs.Carried.{IsDone, IsStopped, outlet};
 
 use crate::carrying::carry_line;

@@ -14,7 +14,7 @@ use Rattle.span_language.specs.declared.told.Told.{Told}
 use Rattle.span_language.specs.declared.told.Stop.{Stop}
 use Rattle.span_language.specs.declared.told.Stop.TheVariants as stop
 use Rattle.span_run.specs.Held.{Standing, IsStanding}
-use Rattle.span_run.specs.Scene.{Scene}
+use Rattle.span_run.specs.LineState.{LineState}
 use Rattle.span_run.specs.Carried.{IsDone, IsStopped, Outlet}
 use Rattle.span_run.proofs.RunsLemmas.{IsAt, told_of, goes_on, stops_anywhere, stops_in_file, stops_wanting, ends}
 use Rattle.span_talk.specs.Progress.{Does, IsHalted, Place, StandsAt, StopsIn, place}
@@ -60,7 +60,7 @@ stopped_between Ends lines left before p held ends_so at =
       placed = all.placed;
     }
 
-module _ (kept : List ℕ) (number : ℕ) (old : Scene) (sink : Outlet) (new : Scene) (after : Outlet) where
+module _ (kept : List ℕ) (number : ℕ) (old : LineState) (sink : Outlet) (new : LineState) (after : Outlet) where
   done_as : (line : List ℕ) (told : Told) → kept ≡ take 65537 line → IsDone kept number old sink new after told → IsDone line number old sink new after told
   done_as line told is (meaning, means, d) = (meaning, means_kept line meaning (subst (λ (l : List ℕ). Means l meaning) is means), d)
 

@@ -26,8 +26,8 @@
 mod client;
 mod lines;
 mod progress;
-mod top;
+mod talk;
 
 pub use client::{Client, Listener};
 pub use span_run::Status;
-pub use top::talk;
+pub use talk::talk;

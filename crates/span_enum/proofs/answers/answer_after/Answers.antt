@@ -1,21 +1,21 @@
 use Rattle.span_enum.proofs.Base.{NoEndAfter, Some, ap, arith, blanks, length, whole_text, write_mark, write_word, ◌++◌, ◌+◌, ◌∙◌}
-use Rattle.span_enum.proofs.Roots.{ground-text}
+use Rattle.span_enum.proofs.Roots.{input-text}
 use Rattle.span_enum.proofs.Answerings.{answer-found, next-ended, none-ended, trail-same}
 use Rattle.span_enum.proofs.answers.answer_after.Goals as goal
 
 pub returns-in-Some-clause-answer : goal.returns-in-Some-clause-answer
 returns-in-Some-clause-answer g c =
     let found = c.in-Some.ensures in
-    let trail = trail-same c.args.ground.now c.args.t.now c.in-Some.found.tuple c.args.trail.now.marks.items c.args.trail.now.ahead.items found.same c.requires.trail in
+    let trail = trail-same c.args.input.now c.args.t.now c.in-Some.found.tuple c.args.trail.now.marks.items c.args.trail.now.ahead.items found.same c.requires.trail in
     (record { first = found.first; trail = trail; state = found.state }, omega arith)
 
 pub returns-in_err-lowered-clause-answer : goal.returns-in_err-lowered-clause-answer
 returns-in_err-lowered-clause-answer g c =
-    let ground = c.args.ground.now in
-    let text = ground-text ground c.requires.ground (omega (arith, c.requires.end, c.requires.low)) in
+    let input = c.args.input.now in
+    let text = input-text input c.requires.input (omega (arith, c.requires.end, c.requires.low)) in
     rw c.from_residual.ensures (
       record {
-        none = none-ended ground c.requires.ground text c.args.t.now (rw c.requires.end at c.in_default.ensures) (record { size = c.requires.tuple; valid = c.count-count.ensures.tuple }) c.in_err-lowered.ensures.lowers;
+        none = none-ended input c.requires.input text c.args.t.now (rw c.requires.end at c.in_default.ensures) (record { size = c.requires.tuple; valid = c.count-count.ensures.tuple }) c.in_err-lowered.ensures.lowers;
         trail = c.in_err-lowered.ensures.trail;
       },
       omega arith,
@@ -26,12 +26,12 @@ finish-requires-clause-finish g c = (c.lower_to-turn.ensures.turned.word, c.lowe
 
 pub returns-clause-answer : goal.returns-clause-answer
 returns-clause-answer g c =
-    let ground = c.args.ground.now in
-    let text = ground-text ground c.requires.ground (omega (arith, c.requires.end, c.requires.low)) in
+    let input = c.args.input.now in
+    let text = input-text input c.requires.input (omega (arith, c.requires.end, c.requires.low)) in
     let l = c.in_ok-lowered.lowered in
     let turned = c.lower_to-turn.ensures.turned in
     let tuple = c.count-count.ensures.tuple in
-    let noend : NoEndAfter ground c.args.t.now (length (whole_text ground) + 1) = rw c.requires.end at c.in_default.ensures in
-    answer-found ground c.requires.ground text (Some c.args.t.now) (record { size = c.requires.tuple; valid = tuple }) _ _ turned.word _ _ c.args.end _ _ _ _ c.with_mark-marks.result c.finish.result turned.begins
+    let noend : NoEndAfter input c.args.t.now (length (whole_text input) + 1) = rw c.requires.end at c.in_default.ensures in
+    answer-found input c.requires.input text (Some c.args.t.now) (record { size = c.requires.tuple; valid = tuple }) _ _ turned.word _ _ c.args.end _ _ _ _ c.with_mark-marks.result c.finish.result turned.begins
     (c.with_mark-marks.ensures.value ∙ ap (write_mark l.mark l.at) c.cut_at.ensures ∙ turned.written tuple.spans ∙ ap (λ k. write_word 1 turned.word (blanks k)) c.requires.tuple) c.requires.end
-    (λ w r e first best. next-ended ground c.requires.ground text c.args.t.now noend (turned.word ++ w) r e (turned.next w r first) best) c.finish.ensures.finishes
+    (λ w r e first best. next-ended input c.requires.input text c.args.t.now noend (turned.word ++ w) r e (turned.next w r first) best) c.finish.ensures.finishes

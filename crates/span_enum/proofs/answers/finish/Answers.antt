@@ -3,17 +3,17 @@ use Rattle.span_enum.proofs.answers.finish.Goals as goal
 
 pub with_end-requires-clause-ends : goal.with_end-requires-clause-ends
 with_end-requires-clause-ends g c =
-    let ground = c.args.ground.now in
+    let input = c.args.input.now in
     let found = c.in-Some.ensures.completes c.requires.finish.0 c.requires.finish.1 in
-    let final : is_final ground.dfa.now found.state ≡ true = sym (c.requires.ground.all found.state (subst (λ n. n < states_of ground.dfa.now) found.ends c.in-Some.ensures.within)) ∙ found.first.goal in
-    ap (is_final ground.dfa.now) found.ends ∙ final
+    let final : is_final input.dfa.now found.state ≡ true = sym (c.requires.input.all found.state (subst (λ n. n < states_of input.dfa.now) found.ends c.in-Some.ensures.within)) ∙ found.first.goal in
+    ap (is_final input.dfa.now) found.ends ∙ final
 
 pub returns-in-Some-clause-finishes : goal.returns-in-Some-clause-finishes
 returns-in-Some-clause-finishes g c = record {
   written = c.complete-state.new.out;
   mark = c.with_end.ensures.0;
   completes = c.in-Some.ensures.completes;
-  greatest = λ q e. subst (λ n. IsGreatestMark c.args.ground.now.dfa.now n 256 1 65536 c.with_end.ensures.0 0) e c.with_end.ensures.2;
+  greatest = λ q e. subst (λ n. IsGreatestMark c.args.input.now.dfa.now n 256 1 65536 c.with_end.ensures.0 0) e c.with_end.ensures.2;
   tuple_is = c.with_end.ensures.1;
 }
 

@@ -1,5 +1,5 @@
 use Rattle.span_enum.proofs.Base.{Begins, IsFirst, None, [], ap, arith, blanks, false, refl, subst, sym, true≢false, ◌∙◌}
-use Rattle.span_enum.proofs.Roots.{fresh-begins, ground-text, text-short}
+use Rattle.span_enum.proofs.Roots.{fresh-begins, input-text, text-short}
 use Rattle.span_enum.proofs.Runs.{run-from_accepted}
 use Rattle.span_enum.proofs.Tuples.{none-member}
 use Rattle.span_enum.proofs.Answerings.{answer-found, first-ended}
@@ -9,30 +9,30 @@ use Rattle.span_enum.proofs.answers.first_answer.Goals as goal
 
 pub returns-then-not-has_first-clause-answer : goal.returns-then-not-has_first-clause-answer
 returns-then-not-has_first-clause-answer g c =
-    let ground = c.args.ground.now in
-    let text = ground-text ground c.requires.ground (text-short ground _ _ c.requires.fresh) in (
+    let input = c.args.input.now in
+    let text = input-text input c.requires.input (text-short input _ _ c.requires.fresh) in (
       record {
-        none = none-member ground.dfa.now c.requires.ground.automaton _ text None tt (λ run. true≢false (sym (c.if-not-has_first.ensures.1 (run-from_accepted ground.dfa.now c.requires.ground.automaton ground.finals c.requires.ground.all _ run))));
+        none = none-member input.dfa.now c.requires.input.automaton _ text None tt (λ run. true≢false (sym (c.if-not-has_first.ensures.1 (run-from_accepted input.dfa.now c.requires.input.automaton input.finals c.requires.input.all _ run))));
         trail = c.requires.fresh;
       },
       omega arith,
     )
 
 -- the walk is before the first letter
-begins : (g : Over) (c : After-len-count g) → Begins c.args.ground.now (record { state = 0; next = c.len-count.result; quiet = false }) c.len-count.result [] c.args.trail.now.marks.items c.args.trail.now.ahead.items
-begins g c = fresh-begins c.args.ground.now c.args.trail.now.marks.items c.args.trail.now.ahead.items c.len-count.result c.requires.fresh c.len-count.ensures.value (c.if-not-has_first.ensures.0 refl)
+begins : (g : Over) (c : After-len-count g) → Begins c.args.input.now (record { state = 0; next = c.len-count.result; quiet = false }) c.len-count.result [] c.args.trail.now.marks.items c.args.trail.now.ahead.items
+begins g c = fresh-begins c.args.input.now c.args.trail.now.marks.items c.args.trail.now.ahead.items c.len-count.result c.requires.fresh c.len-count.ensures.value (c.if-not-has_first.ensures.0 refl)
 
 pub finish-requires-clause-finish : goal.finish-requires-clause-finish
 finish-requires-clause-finish g c = ([], begins g (goal.at.finish-requires-clause-finish g c).After-len-count)
 
 pub finish-requires-clause-low : goal.finish-requires-clause-low
-finish-requires-clause-low g c = omega (arith, text-short c.args.ground.now _ _ c.requires.fresh, c.requires.end)
+finish-requires-clause-low g c = omega (arith, text-short c.args.input.now _ _ c.requires.fresh, c.requires.end)
 
 pub returns-clause-answer : goal.returns-clause-answer
 returns-clause-answer g c =
-    let ground = c.args.ground.now in
+    let input = c.args.input.now in
     let fresh = c.requires.fresh in
-    let text = ground-text ground c.requires.ground (text-short ground _ _ fresh) in
+    let text = input-text input c.requires.input (text-short input _ _ fresh) in
     let b = begins g (goal.at.returns-clause-answer g c).After-len-count in
-    answer-found ground c.requires.ground text None tt _ _ [] _ _ c.args.end _ _ _ _ c.none-none.result c.finish.result b (c.none-none.ensures ∙ ap blanks c.variables.ensures.value) c.requires.end
-    (λ w r e first best. first-ended ground c.requires.ground text w r e (subst (λ x. IsFirst ground.dfa.now 0 x ground.finals w r) (sym b.behind.leads.parts) first) best) c.finish.ensures.finishes
+    answer-found input c.requires.input text None tt _ _ [] _ _ c.args.end _ _ _ _ c.none-none.result c.finish.result b (c.none-none.ensures ∙ ap blanks c.variables.ensures.value) c.requires.end
+    (λ w r e first best. first-ended input c.requires.input text w r e (subst (λ x. IsFirst input.dfa.now 0 x input.finals w r) (sym b.behind.leads.parts) first) best) c.finish.ensures.finishes

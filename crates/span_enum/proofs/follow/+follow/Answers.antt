@@ -33,10 +33,10 @@ ahead_at-requires g t c =
 
 -- the node over the position
 over : (g : Over) (t : ℕ) (c : After-ahead_at g t)
-    → StandsOver c.args.ground.now c.args.t.now c.args.trail.now.ahead.items c.first_mark-to.result c.in_ok-place.place c.args.trail.now.marks.items c.ahead_at.result.now
+    → StandsOver c.args.input.now c.args.t.now c.args.trail.now.ahead.items c.first_mark-to.result c.in_ok-place.place c.args.trail.now.marks.items c.ahead_at.result.now
 over g t c =
     let first = c.first_mark-to.ensures in
-    over-node _ _ _ _ _ _ _ c.requires.can.1 _ first.from (omega (arith, first.end, c.requires.end)) first.none c.requires.ground c.in_ok-place.place c.ahead_at.result.now
+    over-node _ _ _ _ _ _ _ c.requires.can.1 _ first.from (omega (arith, first.end, c.requires.end)) first.none c.requires.input c.in_ok-place.place c.ahead_at.result.now
     c.in_ok-place.ensures (omega (arith, c.if-place-eq0.false)) c.ahead_at.ensures
 
 -- the end isn't reached, so the tuple has a mark there
@@ -46,7 +46,7 @@ marked g t c = c.first_mark-to.ensures.some (omega (arith, over-early _ _ _ _ _ 
 pub reach-comes-requires-clause-down : goal.reach-comes-requires-clause-down
 reach-comes-requires-clause-down g t c =
     let at = (goal.at.reach-comes-requires-clause-down g t c).After-ahead_at in
-    rw c.len-base.ensures.value (over-down _ _ _ _ _ _ _ (over g t at) c.args.ground.now.dfa.now.variables _ _ c.requires.tuple (marked g t at) c.requires.room)
+    rw c.len-base.ensures.value (over-down _ _ _ _ _ _ _ (over g t at) c.args.input.now.dfa.now.variables _ _ c.requires.tuple (marked g t at) c.requires.room)
 
 pub returns-then-not-comes-clause-followed : goal.returns-then-not-comes-clause-followed
 returns-then-not-comes-clause-followed g t c =
@@ -55,7 +55,7 @@ returns-then-not-comes-clause-followed g t c =
     _ _ (rw c.len-base.ensures.value at c.if-not-comes.ensures.laid) c.reach-comes.ensures.cost)
 
 -- the way down to the position was laid
-laid : (g : Over) (t : ℕ) (c : After-last_of-last g t) → Lays c.args.ground.now c.args.t.now c.ahead_at.result.now c.in_ok-place.place.state c.first_mark-to.result (length c.args.trail.now.ahead.items)
+laid : (g : Over) (t : ℕ) (c : After-last_of-last g t) → Lays c.args.input.now c.args.t.now c.ahead_at.result.now c.in_ok-place.place.state c.first_mark-to.result (length c.args.trail.now.ahead.items)
     c.args.trail.now.marks.items c.reach-comes.new.trail.marks.items c.args.trail.now.ahead.items c.reach-comes.new.trail.ahead.items
 laid g t c = rw c.len-base.ensures.value at c.if-not-comes.ensures.laid
 
@@ -74,20 +74,20 @@ returns-in_err-state-clause-followed g t c =
     let last = (goal.at.returns-in_err-state-clause-followed g t c).After-last_of-last in
     let at = (goal.at.returns-in_err-state-clause-followed g t c).After-ahead_at in
     let m = (laid g t last).keeps.mark in
-    let step : step_of c.args.ground.now.dfa.now m.state m.mark m.byte ≡ None = sym (rw (same g t last) at c.in_err-state.ensures.value) in
+    let step : step_of c.args.input.now.dfa.now m.state m.mark m.byte ≡ None = sym (rw (same g t last) at c.in_err-state.ensures.value) in
     rw c.from_residual-in_err-state.ensures (followed-stuck _ _ _ _ _ _ _ (over g t at) _ _ (laid g t last) (marked g t at) c.args.looks.now c.reach-comes.new.looks step c.reach-comes.ensures.cost)
 
 pub follow-requires : goal.follow-requires
 follow-requires g t c κs within =
     let last = (goal.at.follow-requires g t c).After-last_of-last in
     let at = (goal.at.follow-requires g t c).After-ahead_at in
-    let few = over-few _ _ _ _ _ _ _ (over g t at) c.args.ground.now.dfa.now.variables c.requires.tuple (marked g t at) in
+    let few = over-few _ _ _ _ _ _ _ (over g t at) c.args.input.now.dfa.now.variables c.requires.tuple (marked g t at) in
     let k = laid g t last in
     let more : length c.reach-comes.new.trail.marks.items ≡ length c.args.trail.now.marks.items + 1 = ap length k.keeps.kept ∙ length-append c.args.trail.now.marks.items (k.keeps.mark ∷ []) in
-    let can = lays-goes _ _ _ _ _ _ _ (over g t at) _ _ k (marked g t at) c.requires.ground.automaton c.in_ok-state.state c.last_of-last.result.now (same g t last) (sym c.in_ok-state.ensures.value) in
+    let can = lays-goes _ _ _ _ _ _ _ (over g t at) _ _ k (marked g t at) c.requires.input.automaton c.in_ok-state.state c.last_of-last.result.now (same g t last) (sym c.in_ok-state.ensures.value) in
     let q = c.requires in
     let room = c.reach-comes.ensures.room in
-    (omega (arith, c.decreases, more, few), (within, (q.ground, (q.tuple, (q.end, (can, record { marks_fit = omega (arith, q.room.marks_fit, room); ahead_fits = omega (arith, q.room.ahead_fits, room) }))))))
+    (omega (arith, c.decreases, more, few), (within, (q.input, (q.tuple, (q.end, (can, record { marks_fit = omega (arith, q.room.marks_fit, room); ahead_fits = omega (arith, q.room.ahead_fits, room) }))))))
 
 pub returns-clause-followed : goal.returns-clause-followed
 returns-clause-followed g t c =

@@ -5,7 +5,7 @@ use Rattle.span_enum.proofs.follow.pass_to.Goals.{After-ahead_at-node}
 use Rattle.span_enum.proofs.follow.pass_to.Goals as goal
 
 pub loop-place-init : goal.loop-place-init
-loop-place-init c = λ at k s le. record { passes = passes-none c.args.ground.now c.args.trail.now.ahead.items at c.args.from k s; before = omega arith }
+loop-place-init c = λ at k s le. record { passes = passes-none c.args.input.now c.args.trail.now.ahead.items at c.args.from k s; before = omega arith }
 
 pub ahead_at-node-requires : goal.ahead_at-node-requires
 ahead_at-node-requires c =
@@ -14,9 +14,9 @@ ahead_at-node-requires c =
     next-there c.args.trail.now.ahead.items c.loop-place.place.next p.back p.stands.ahead c.loop-place-test.true
 
 -- the node that comes next
-node : (c : After-ahead_at-node) (at : ℕ) (k : List Ahead) (s : Stands c.args.ground.now c.args.trail.now.ahead.items at c.args.from k) (le : at ≤ c.args.position)
-    → Next c.args.ground.now c.args.trail.now.ahead.items at c.args.from c.loop-place.place k (c.loop-place.invariant at k s le).passes c.ahead_at-node.result.now
-node c at k s le = next-node c.args.ground.now c.requires.ground c.args.trail.now.ahead.items at c.args.from c.loop-place.place k (c.loop-place.invariant at k s le).passes c.ahead_at-node.result.now c.loop-place-test.true c.ahead_at-node.ensures
+node : (c : After-ahead_at-node) (at : ℕ) (k : List Ahead) (s : Stands c.args.input.now c.args.trail.now.ahead.items at c.args.from k) (le : at ≤ c.args.position)
+    → Next c.args.input.now c.args.trail.now.ahead.items at c.args.from c.loop-place.place k (c.loop-place.invariant at k s le).passes c.ahead_at-node.result.now
+node c at k s le = next-node c.args.input.now c.requires.input c.args.trail.now.ahead.items at c.args.from c.loop-place.place k (c.loop-place.invariant at k s le).passes c.ahead_at-node.result.now c.loop-place-test.true c.ahead_at-node.ensures
 
 pub overflow_add-node : goal.overflow_add-node
 overflow_add-node c =
@@ -38,7 +38,7 @@ unmarked-requires c =
 pub returns-in_err-state : goal.returns-in_err-state
 returns-in_err-state c = λ at k s le most.
     let p = c.loop-place.invariant at k s le in
-    rw c.from_residual.ensures (passes-dies c.args.ground.now c.args.trail.now.ahead.items at c.args.position c.args.from c.loop-place.place k p c.ahead_at-node.result.now
+    rw c.from_residual.ensures (passes-dies c.args.input.now c.args.trail.now.ahead.items at c.args.position c.args.from c.loop-place.place k p c.ahead_at-node.result.now
     (node (goal.at.returns-in_err-state c).After-ahead_at-node at k s le) c.if-position-node.false (sym c.in_err-state.ensures.value))
 
 pub loop-place-smaller : goal.loop-place-smaller
@@ -52,8 +52,8 @@ loop-place-preserved c = λ at k s le.
     let n = node (goal.at.loop-place-preserved c).After-ahead_at-node at k s le in
     let p = (c.loop-place.invariant at k s le).passes in
     record {
-      passes = passes-on c.args.ground.now c.requires.ground.automaton c.args.trail.now.ahead.items at c.args.from c.loop-place.place k p c.ahead_at-node.result.now n c.in_ok-state.state (sym c.in_ok-state.ensures.value);
-      before = omega (arith, c.if-position-node.false, n.stands.join.0, n.stands.goals.0.look.len_is, length-append p.front (text_at c.args.ground.now c.ahead_at-node.result.now.id.index));
+      passes = passes-on c.args.input.now c.requires.input.automaton c.args.trail.now.ahead.items at c.args.from c.loop-place.place k p c.ahead_at-node.result.now n c.in_ok-state.state (sym c.in_ok-state.ensures.value);
+      before = omega (arith, c.if-position-node.false, n.stands.join.0, n.stands.goals.0.look.len_is, length-append p.front (text_at c.args.input.now c.ahead_at-node.result.now.id.index));
     }
 
 pub returns : goal.returns

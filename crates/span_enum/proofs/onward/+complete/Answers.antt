@@ -5,7 +5,7 @@ use Rattle.span_enum.proofs.onward.+complete.Goals.{After-cut_before}
 use Rattle.span_enum.proofs.onward.+complete.Goals as goal
 
 pub returns-then-from-clause-completes : goal.returns-then-from-clause-completes
-returns-then-from-clause-completes g t c = rw c.truncate.ensures.items (λ word b. finds-quiet c.args.ground.now c.args.from c.args.base word _ _ b c.args.looks.now c.args.out.now c.if-from.true)
+returns-then-from-clause-completes g t c = rw c.truncate.ensures.items (λ word b. finds-quiet c.args.input.now c.args.from c.args.base word _ _ b c.args.looks.now c.args.out.now c.if-from.true)
 
 pub pass_plain-place-requires-clause-go : goal.pass_plain-place-requires-clause-go
 pass_plain-place-requires-clause-go g t c =
@@ -14,14 +14,14 @@ pass_plain-place-requires-clause-go g t c =
 
 pub returns-then-place-eq0-clause-completes : goal.returns-then-place-eq0-clause-completes
 returns-then-place-eq0-clause-completes g t c =
-    rw c.truncate-then-place-eq0.ensures.items (λ word b. finds-end c.args.ground.now c.args.from c.args.base word _ _ b c.pass_plain-place.result c.args.looks.now c.args.out.now c.if-place-eq0.true
+    rw c.truncate-then-place-eq0.ensures.items (λ word b. finds-end c.args.input.now c.args.from c.args.base word _ _ b c.pass_plain-place.result c.args.looks.now c.args.out.now c.if-place-eq0.true
     (c.pass_plain-place.ensures b.at b.chain b.behind.stands b.can).0)
 
 -- the walk comes to the node at which it turns
-turns : (g : Over) (t : ℕ) (c : After-cut_before g t) (word : Marked) (b : Begins c.args.ground.now c.args.from c.args.base word c.args.trail.now.marks.items c.args.trail.now.ahead.items)
-    → Arrives c.args.ground.now c.args.trail.now.ahead.items c.cut_before.result b.at c.args.from c.pass_plain-place.result b.chain c.ahead_at.result.now
+turns : (g : Over) (t : ℕ) (c : After-cut_before g t) (word : Marked) (b : Begins c.args.input.now c.args.from c.args.base word c.args.trail.now.marks.items c.args.trail.now.ahead.items)
+    → Arrives c.args.input.now c.args.trail.now.ahead.items c.cut_before.result b.at c.args.from c.pass_plain-place.result b.chain c.ahead_at.result.now
 turns g t c word b =
-    arrives c.args.ground.now c.requires.ground c.args.trail.now.ahead.items c.args.base c.cut_before.result b.at c.args.from c.pass_plain-place.result b.chain c.ahead_at.result.now
+    arrives c.args.input.now c.requires.input c.args.trail.now.ahead.items c.args.base c.cut_before.result b.at c.args.from c.pass_plain-place.result b.chain c.ahead_at.result.now
     (c.pass_plain-place.ensures b.at b.chain b.behind.stands b.can) (omega (arith, c.if-place-eq0.false)) c.ahead_at.ensures c.cut_before.ensures.least
 
 pub descend-behind-requires-clause-down : goal.descend-behind-requires-clause-down
@@ -29,24 +29,24 @@ descend-behind-requires-clause-down g t c =
     let b = c.requires.finish.1 in
     let n = turns g t (goal.at.descend-behind-requires-clause-down g t c).After-cut_before c.requires.finish.0 b in
     rw (c.truncate-2.ensures.items, c.truncate-2.ensures.capacity)
-    (turn-down c.args.ground.now c.args.from c.args.base c.requires.finish.0 _ _ b _ _ c.cut_before.result n c.cut_before.ensures.base _ _ c.requires.ground c.requires.short c.requires.room c.cut_before.ensures.least)
+    (turn-down c.args.input.now c.args.from c.args.base c.requires.finish.0 _ _ b _ _ c.cut_before.result n c.cut_before.ensures.base _ _ c.requires.input c.requires.short c.requires.room c.cut_before.ensures.least)
 
 pub complete-requires : goal.complete-requires
 complete-requires g t c κs within =
     let b = c.requires.finish.1 in
     let n = turns g t (goal.at.complete-requires g t c).After-cut_before c.requires.finish.0 b in
     let d = rw c.truncate-2.ensures.items at c.descend-behind.ensures.descends in
-    let one = one-more c.args.ground.now c.args.from c.args.base c.requires.finish.0 _ _ b _ _ c.cut_before.result n c.cut_before.ensures.base c.requires.ground c.requires.short in
+    let one = one-more c.args.input.now c.args.from c.args.base c.requires.finish.0 _ _ b _ _ c.cut_before.result n c.cut_before.ensures.base c.requires.input c.requires.short in
     let number : length c.descend-behind.new.trail.marks.items ≡ length c.args.trail.now.marks.items + 1 = ap length d.keeps.kept ∙ length-append c.args.trail.now.marks.items (d.keeps.mark ∷ []) in
-    let on = begins-on c.args.ground.now c.args.from c.args.base c.requires.finish.0 _ _ b _ _ c.cut_before.result n c.cut_before.ensures.base c.requires.ground.automaton _ _ _ _ _ _ _ d in
+    let on = begins-on c.args.input.now c.args.from c.args.base c.requires.finish.0 _ _ b _ _ c.cut_before.result n c.cut_before.ensures.base c.requires.input.automaton _ _ _ _ _ _ _ d in
     let room = c.requires.room in
     let same = c.descend-behind.ensures in
-    let fits : HasRoom c.args.ground.now.dfa.now.variables c.descend-behind.new.trail.marks.capacity c.descend-behind.new.trail.ahead.capacity =
+    let fits : HasRoom c.args.input.now.dfa.now.variables c.descend-behind.new.trail.marks.capacity c.descend-behind.new.trail.ahead.capacity =
     record { marks_fit = omega (arith, room.marks_fit, same.marks_room); ahead_fits = omega (arith, room.ahead_fits, same.ahead_room, c.truncate-2.ensures.capacity) } in
-    (omega (arith, c.decreases, number, one), (within, (c.requires.ground, (c.requires.short, (rw c.len-kept.ensures.value on, fits)))))
+    (omega (arith, c.decreases, number, one), (within, (c.requires.input, (c.requires.short, (rw c.len-kept.ensures.value on, fits)))))
 
 pub returns-clause-completes : goal.returns-clause-completes
 returns-clause-completes g t c = λ word b.
     let n = turns g t (goal.at.returns-clause-completes g t c).After-cut_before word b in
-    finds-more c.args.ground.now c.args.from c.args.base word _ _ b _ _ c.cut_before.result n c.cut_before.ensures.base c.requires.ground.automaton _ _ _ _ _ _ _
+    finds-more c.args.input.now c.args.from c.args.base word _ _ b _ _ c.cut_before.result n c.cut_before.ensures.base c.requires.input.automaton _ _ _ _ _ _ _
     (rw c.truncate-2.ensures.items at c.descend-behind.ensures.descends) _ _ _ _ _ (rw c.len-kept.ensures.value at c.complete.ensures.completes)

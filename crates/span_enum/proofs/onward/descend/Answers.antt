@@ -4,7 +4,7 @@ use Rattle.span_enum.proofs.onward.descend.Goals as goal
 pub returns-in-Byte-clause-descends : goal.returns-in-Byte-clause-descends
 returns-in-Byte-clause-descends g c =
     let now = c.down.invariant in
-    let last : Descends c.args.ground.now c.down.here c.down.state c.args.base c.args.trail.now.marks.items c.place_mark.new.trail.marks.items c.down.trail.ahead.items c.place_mark.new.trail.ahead.items
+    let last : Descends c.args.input.now c.down.here c.down.state c.args.base c.args.trail.now.marks.items c.place_mark.new.trail.marks.items c.down.trail.ahead.items c.place_mark.new.trail.ahead.items
     c.down.looks c.down.looks c.args.out.now c.place_mark.new.out c.place_mark.result = rw (now.marks, now.out) at (c.place_mark.ensures.descends c.down.looks) in
     now.on _ _ _ _ _ _ last
 

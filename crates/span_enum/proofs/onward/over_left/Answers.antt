@@ -6,7 +6,7 @@ use Rattle.span_enum.proofs.onward.over_left.Goals as goal
 pub returns-in-Some : goal.returns-in-Some
 returns-in-Some c = record {
   over = λ s u it il ir.
-      let a = c.args.ground.now.dfa.now in
+      let a = c.args.input.now.dfa.now in
       let t = c.args.here.now.look.table.now in
       let small : marked_of t c.args.p < 2 ^ 128 = rw c.marked-marked.ensures.value at c.marked-marked.type_inv in
       sole-left a s u t c.args.left.now c.args.right.now c.args.p c.in-Some.q c.args.here.now.goals (tells a _ _ it) (tells a _ _ il) (tells a _ _ ir) c.requires.state small
@@ -16,7 +16,7 @@ returns-in-Some c = record {
 pub returns-in-Some-plain_into : goal.returns-in-Some-plain_into
 returns-in-Some-plain_into c = record {
   over = λ s u it il ir.
-      let a = c.args.ground.now.dfa.now in
+      let a = c.args.input.now.dfa.now in
       let t = c.args.here.now.look.table.now in
       let small : marked_of t c.args.p < 2 ^ 128 = rw c.marked-marked.ensures.value at c.marked-marked.type_inv in
       let plain = c.in-Some-plain_into.ensures.plain in

@@ -5,7 +5,7 @@ use Rattle.span_enum.proofs.onward.pass_plain.Goals.{After-ahead_at-node}
 use Rattle.span_enum.proofs.onward.pass_plain.Goals as goal
 
 pub loop-place-init : goal.loop-place-init
-loop-place-init c = record { passes = λ at k s can. plain-none c.args.ground.now c.args.trail.now.ahead.items at c.args.from k s can }
+loop-place-init c = record { passes = λ at k s can. plain-none c.args.input.now c.args.trail.now.ahead.items at c.args.from k s can }
 
 pub ahead_at-node-requires : goal.ahead_at-node-requires
 ahead_at-node-requires c =
@@ -14,9 +14,9 @@ ahead_at-node-requires c =
     next-there c.args.trail.now.ahead.items c.loop-place.place.next p.passes.back p.passes.stands.ahead c.loop-place-test.true
 
 -- the node that comes next
-node : (c : After-ahead_at-node) (at : ℕ) (k : List Ahead) (p : PassesPlain c.args.ground.now c.args.trail.now.ahead.items at c.args.from c.loop-place.place k)
-    → Next c.args.ground.now c.args.trail.now.ahead.items at c.args.from c.loop-place.place k p.passes c.ahead_at-node.result.now
-node c at k p = next-node c.args.ground.now c.requires.ground c.args.trail.now.ahead.items at c.args.from c.loop-place.place k p.passes c.ahead_at-node.result.now c.loop-place-test.true c.ahead_at-node.ensures
+node : (c : After-ahead_at-node) (at : ℕ) (k : List Ahead) (p : PassesPlain c.args.input.now c.args.trail.now.ahead.items at c.args.from c.loop-place.place k)
+    → Next c.args.input.now c.args.trail.now.ahead.items at c.args.from c.loop-place.place k p.passes c.ahead_at-node.result.now
+node c at k p = next-node c.args.input.now c.requires.input c.args.trail.now.ahead.items at c.args.from c.loop-place.place k p.passes c.ahead_at-node.result.now c.loop-place-test.true c.ahead_at-node.ensures
 
 pub plain_into-requires-clause-state : goal.plain_into-requires-clause-state
 plain_into-requires-clause-state c =
@@ -29,7 +29,7 @@ pub plain_into-requires-clause-can : goal.plain_into-requires-clause-can
 plain_into-requires-clause-can c =
     let go = c.requires.go in
     let p = c.loop-place.invariant.passes go.at go.chain go.stands go.can in
-    can-head c.args.ground.now c.args.trail.now.ahead.items _ _ c.loop-place.place _ p c.ahead_at-node.result.now (node (goal.at.plain_into-requires-clause-can c).After-ahead_at-node go.at go.chain p)
+    can-head c.args.input.now c.args.trail.now.ahead.items _ _ c.loop-place.place _ p c.ahead_at-node.result.now (node (goal.at.plain_into-requires-clause-can c).After-ahead_at-node go.at go.chain p)
 
 pub loop-place-smaller : goal.loop-place-smaller
 loop-place-smaller c =
@@ -42,7 +42,7 @@ pub loop-place-preserved : goal.loop-place-preserved
 loop-place-preserved c = record {
   passes = λ at k s can.
       let p = c.loop-place.invariant.passes at k s can in
-      node-on c.args.ground.now c.requires.ground.automaton c.args.trail.now.ahead.items at c.args.from c.loop-place.place k p c.ahead_at-node.result.now c.in-Some.state
+      node-on c.args.input.now c.requires.input.automaton c.args.trail.now.ahead.items at c.args.from c.loop-place.place k p c.ahead_at-node.result.now c.in-Some.state
       (node (goal.at.loop-place-preserved c).After-ahead_at-node at k p) c.in-Some.ensures.plain.0 c.in-Some.ensures.plain.1;
 }
 

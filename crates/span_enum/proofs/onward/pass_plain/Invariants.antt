@@ -3,7 +3,7 @@ use Rattle.span_enum.proofs.onward.pass_plain.Given as goal
 
 abbrev pub invariant-loop-place : goal.invariant-loop-place
 invariant-loop-place l = record {
-  passes : (at : ℕ) (c : List Ahead) → Stands l.ground l.trail.ahead.items at l.fn.from c → CanEnd l.ground l.fn.from.state c → PassesPlain l.ground l.trail.ahead.items at l.fn.from l.place c;
+  passes : (at : ℕ) (c : List Ahead) → Stands l.input l.trail.ahead.items at l.fn.from c → CanEnd l.input l.fn.from.state c → PassesPlain l.input l.trail.ahead.items at l.fn.from l.place c;
 }
 
 abbrev pub decreases-loop-place : goal.decreases-loop-place

@@ -1,7 +1,7 @@
 use Rattle.std.proofs.Common.{ℕ, ◌+◌, ◌++◌, ◌∷◌, [], List, Bool, sym, subst}
 use Rattle.std.proofs.lemmas.Result.{err_from_is_err_and}
 use Rattle.span_run.specs.Carried.{IsDone, IsStopped, outlet}
-use Rattle.span_run.specs.Scene.{seen}
+use Rattle.span_run.specs.LineState.{seen}
 use Rattle.span_run.proofs.RunsLemmas.{gone_on, gone_still, IsAt, told_of}
 use Rattle.span_talk.proofs.Doing.{does, halts}
 use Rattle.span_talk.proofs.progress.end_line.Goals as goal

@@ -1,0 +1,19 @@
+use Rattle.std.proofs.Common.{◌≡◌, ◌+◌, ◌++◌, ◌∷◌, [], take, sym, subst, get_or, length, length-append, Option, None, List, arith}
+use Rattle.std.proofs.lemmas.List.{take_more}
+use Rattle.slp_model.specs.declared.NodeId.{NodeId}
+use Rattle.list_all.specs.Places.{HaveEach}
+use Rattle.list_all.proofs.Sharing.{have-push}
+use Rattle.list_all.proofs.documents.first_piece.Goals as goal
+
+pub loop-index-preserved : goal.loop-index-preserved
+loop-index-preserved g c =
+    let at = c.loop-index in
+    let pushed = c.in_ok-push.ensures.items in
+    let more : length c.push.new.self.items ≡ at.index + 1 = rw pushed (omega (arith, length-append at.places.items (c.in_ok-place.place ∷ []), at.invariant.count)) in
+    record {
+      pages = c.in_ok-place.ensures.pages;
+      each = rw pushed
+          (subst (λ (rs : List (Option NodeId)). HaveEach (g.F.FindPage.is_page c.args.finder.now) c.place_of.new.found.items rs (at.places.items ++ c.in_ok-place.place ∷ [])) (sym (take_more c.args.roots.now at.index None c.loop-index-test.true))
+          (have-push (g.F.FindPage.is_page c.args.finder.now) at.found.items c.place_of.new.found.items c.in_ok-place.ensures.kept (take at.index c.args.roots.now) at.places.items (get_or c.args.roots.now at.index None) c.in_ok-place.place at.invariant.each c.in_ok-place.ensures.page));
+      count = more;
+    }

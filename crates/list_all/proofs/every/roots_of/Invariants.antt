@@ -1,5 +1,0 @@
-use Rattle.list_all.specs.Every.{AreRoots}
-use Rattle.list_all.proofs.every.roots_of.Given as goal
-
-abbrev pub invariant-loop-index : goal.invariant-loop-index
-invariant-loop-index l = AreRoots l.docs l.first l.index l.roots.items

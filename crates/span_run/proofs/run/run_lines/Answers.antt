@@ -1,0 +1,73 @@
+use Rattle.span_run.proofs.Names.{ap, arith, Bool, err_from_is_err_and, IsStopped, lines_of, outlet, outside, refl, seen, Stop, subst, sym, ◌+◌, ◌∙◌, ◌≡◌}
+use Rattle.span_language.specs.declared.told.Stop.TheVariants as stop
+use Rattle.span_run.proofs.Facts.{at_start, empty_of, ends, goes_on, IsAt, gone_on, gone_still, rose_later, stops_anywhere, stops_in_file, stops_wanting, told_of}
+use Rattle.span_run.proofs.run.run_lines.Goals as goal
+
+pub returns-in_err-told : goal.returns-in_err-told
+returns-in_err-told g c =
+    let k = g.K.Sink in
+    let f = g.F.Shelf in
+    let now = c.loop-rest in
+    let next = c.line.new in
+    let i = now.invariant in
+    let lines = lines_of c.args.script.now in
+    let line = c.next_line.result.0.now in
+    let rest = lines_of c.next_line.result.1.now in
+    let before = outside (k.written c.args.out.now) (f.files c.args.shelf.now) c.args.looks.now c.args.pairs.now c.args.places.now in
+    let old = seen now.session (f.files now.shelf) (f.faults now.shelf) now.looks now.pairs now.places in
+    let sink = outlet (k.written now.out) (k.faults now.out) (k.wants now.out) in
+    let new = seen next.self (f.files next.shelf) (f.faults next.shelf) next.looks next.pairs next.places in
+    let after = outlet (k.written next.out) (k.faults next.out) (k.wants next.out) in
+    let stopped = λ (kind : Stop) (is : c.in_err-told.field-0.0 ≡ kind). subst (λ (why : Stop). IsStopped line now.number old sink new after why) is c.in_err-told.ensures.stopped in
+    let p = err_from_is_err_and c.from_residual.result c.from_residual.ensures.1 in
+    rw (p.1, p.2) (record {
+      done = tt;
+      sound = tt;
+      gone = λ none is. gone_still k.kept next.out now.out (c.in_err-told.ensures.unsent is) (i.gone none);
+      out_fault = λ is.
+          let h = stops_anywhere lines (lines_of now.rest.now) rest line now.number now.refused before old sink new after c.next_line.ensures.lines i.at i.standing c.line.ensures.standing (stopped stop.OutFault is) in
+          (rose_later (k.faults c.args.out.now) sink.faults after.faults (omega (arith, i.faults)) h.0, h.1);
+      shelf_fault = λ is.
+          let h = stops_in_file lines (lines_of now.rest.now) rest line now.number now.refused before old sink new after c.next_line.ensures.lines i.at i.standing c.line.ensures.standing (stopped stop.ShelfFault is) in
+          (rose_later (f.faults c.args.shelf.now) old.faults new.faults (omega (arith, i.shelf_faults)) h.0, h.1);
+      want = λ is.
+          stops_wanting lines (lines_of now.rest.now) rest line now.number now.refused before old sink new after c.next_line.ensures.lines i.at (k.wants c.args.out.now) (omega (arith, i.wants)) i.standing c.line.ensures.standing (stopped stop.NoMemory is);
+    })
+
+pub loop-rest-preserved : goal.loop-rest-preserved
+loop-rest-preserved g c =
+    let k = g.K.Sink in
+    let f = g.F.Shelf in
+    let now = c.loop-rest in
+    let next = c.line.new in
+    let before = outside (k.written c.args.out.now) (f.files c.args.shelf.now) c.args.looks.now c.args.pairs.now c.args.places.now in
+    let old = seen now.session (f.files now.shelf) (f.faults now.shelf) now.looks now.pairs now.places in
+    let sink = outlet (k.written now.out) (k.faults now.out) (k.wants now.out) in
+    let new = seen next.self (f.files next.shelf) (f.faults next.shelf) next.looks next.pairs next.places in
+    let after = outlet (k.written next.out) (k.faults next.out) (k.wants next.out) in
+    let done = c.in_ok-told.ensures.done in
+    let at = goes_on (lines_of c.args.script.now) (lines_of now.rest.now) (lines_of c.next_line.result.1.now) c.next_line.result.0.now now.number now.refused before old sink new after c.next_line.ensures.lines now.invariant.at c.in_ok-told.told done in
+    record {
+      at = subst (λ (b : Bool). IsAt (lines_of c.args.script.now) (lines_of c.next_line.result.1.now) (now.number + 1) b next.self before (told_of new after)) (sym c.with_refusal-refused.ensures) at;
+      standing = c.line.ensures.standing;
+      few = omega (arith, now.invariant.few, c.next_line.ensures.shorter);
+      faults = done.2.sink_sound.0 ∙ now.invariant.faults;
+      wants = done.2.sink_sound.1 ∙ now.invariant.wants;
+      shelf_faults = done.2.shelf_sound ∙ now.invariant.shelf_faults;
+      gone = λ none. gone_on k.kept next.out now.out c.in_ok-told.ensures.gone (now.invariant.gone none);
+    }
+
+pub loop-rest-init : goal.loop-rest-init
+loop-rest-init g c = record {
+  at = at_start (lines_of c.args.script.now) (outside (g.K.Sink.written c.args.out.now) (g.F.Shelf.files c.args.shelf.now) c.args.looks.now c.args.pairs.now c.args.places.now) c.new-session.result c.new-session.ensures.state c.new-session.ensures.covered c.new-session.ensures.store;
+  standing = c.new-session.ensures.standing;
+  few = omega arith;
+  faults = refl;
+  wants = refl;
+  shelf_faults = refl;
+  gone = λ none. none;
+}
+
+pub returns-clause-done : goal.returns-clause-done
+returns-clause-done g c =
+    ends (lines_of c.args.script.now) (lines_of c.loop-rest.rest.now) c.loop-rest.number c.loop-rest.refused c.loop-rest.session (outside (g.K.Sink.written c.args.out.now) (g.F.Shelf.files c.args.shelf.now) c.args.looks.now c.args.pairs.now c.args.places.now) (outside (g.K.Sink.written c.loop-rest.out) (g.F.Shelf.files c.loop-rest.shelf) c.loop-rest.looks c.loop-rest.pairs c.loop-rest.places) (ap lines_of (empty_of c.loop-rest.rest.now c.loop-rest-test.ensures)) c.loop-rest.invariant.standing c.loop-rest.invariant.at
