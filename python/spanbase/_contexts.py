@@ -1,7 +1,8 @@
 """Conditions such as `^`, `\\b` and `(?!..)` become contexts: the trees beside a condition are cut to what it allows."""
 from collections.abc import Iterable
 from dataclasses import dataclass
-from itertools import product
+from itertools import chain, product
+from typing import TypeGuard
 
 from ._nodes import (
     ALL,
@@ -64,13 +65,14 @@ def ways_through(node: Node) -> list[Way]:
     """The ways through a tree, such that no condition stands inside a tree of a way."""
     if not (found := conditions(node)):
         return [[node]]
+    ways: list[Way]
     match node:
         case Cat(parts):
             count = 1
             for part in parts:
                 count *= len(ways_through(part))
             check_count(count, found[0].at)
-            ways = [sum(line, []) for line in product(*map(ways_through, parts))]
+            ways = [list(chain.from_iterable(line)) for line in product(*map(ways_through, parts))]
         case Alt(parts):
             plain = [part for part in parts if not conditions(part)]
             ways = [[alt(plain)]] if plain else []
@@ -96,7 +98,7 @@ def check_count(count: int, at: int) -> None:
         )
 
 
-def is_tree(item: Item) -> bool:
+def is_tree(item: Item) -> TypeGuard[Node]:
     return not isinstance(item, Open | Close | Condition | Look)
 
 
@@ -149,10 +151,10 @@ def unmet_in_loop(at: int) -> NoFormula:
 
 def steps_of(way: Way, at: int) -> list[Step]:
     """The repetitions that a way through a loop's body stands for."""
-    index = next((index for index, item in enumerate(way) if isinstance(item, Condition | Look)), None)
-    if index is None:
+    found_conditions = [(index, item) for index, item in enumerate(way) if isinstance(item, Condition | Look)]
+    if not found_conditions:
         return [Step(FREE, joined(way), FREE)]
-    condition = way[index]
+    index, condition = found_conditions[0]
     before, after = way[:index], way[index + 1 :]
     if isinstance(condition, Look) or any(side.outermost for pair in condition.ways for side in pair):
         raise unmet_in_loop(at)
@@ -189,10 +191,9 @@ def beside(way: Way, side: Side, front: bool) -> list[Way]:
     if side.members == ALL and side.edge and not side.outermost:
         return [way]
     order = range(len(way)) if front else range(len(way) - 1, -1, -1)
-    index = next((index for index in order if is_tree(way[index])), None)
+    index, node = next(((index, item) for index in order if is_tree(item := way[index])), (None, EMPTY))
     if index is None:
         return [way] if side.edge else []
-    node = way[index]
     near, far = (way[:index], way[index + 1 :]) if front else (way[index + 1 :], way[:index])
 
     def around(inner: Node, outside: Way) -> Way:
@@ -202,14 +203,13 @@ def beside(way: Way, side: Side, front: bool) -> list[Way]:
     nothing = empty_part(node)
     rests = beside(far, side, front) if nothing is not None else []
     if side.outermost:
-        one = single_part(node, side.members)
-        ends = beside(far, Side(frozenset(), True), front) if one is not None else []
-        found += [around(one, end) for end in ends]
+        if (one := single_part(node, side.members)) is not None:
+            found += [around(one, end) for end in beside(far, Side(frozenset(), True), front)]
     elif (some := outer_part(node, side.members, front)) is not None:
-        if rests == [far]:
+        if nothing is not None and rests == [far]:
             return [around(alt([some, nothing]), far)]
         found.append(around(some, far))
-    return found + [around(nothing, rest) for rest in rests]
+    return found + [around(nothing, rest) for rest in rests if nothing is not None]
 
 
 # ------------------------------------------------------------------------------------------------- conditions of more bytes
@@ -242,9 +242,9 @@ def splits(node: Node, front: bool) -> list[Split]:
             found: list[Split] = []
             order = range(len(parts)) if front else range(len(parts) - 1, -1, -1)
             for index in order:
-                outer, inner = (parts[:index], parts[index + 1 :]) if front else (parts[index + 1 :], parts[:index])
-                empties = [empty for part in outer if (empty := empty_part(part)) is not None]
-                found += [placed([it for it in empties if it != EMPTY], it, inner) for it in splits(parts[index], front)]
+                before, after = (parts[:index], parts[index + 1 :]) if front else (parts[index + 1 :], parts[:index])
+                empties = [empty for part in before if (empty := empty_part(part)) is not None]
+                found += [placed([it for it in empties if it != EMPTY], it, after) for it in splits(parts[index], front)]
                 if not is_nullable(parts[index]):
                     break
             return found
@@ -255,8 +255,9 @@ def splits(node: Node, front: bool) -> list[Split]:
         case Repeat(_, body):
             return [placed([], split, [Repeat("*", body)]) for split in splits(body, front)]
         case Capture(name, body):
-            ends: tuple[Item, Item] = (Open(name), Close(name)) if front else (Close(name), Open(name))
-            return [placed([ends[0]], split, [ends[1]]) for split in splits(body, front)]
+            outer: list[Item] = [Open(name) if front else Close(name)]
+            inner: list[Item] = [Close(name) if front else Open(name)]
+            return [placed(outer, split, inner) for split in splits(body, front)]
         case _:
             return []
 
@@ -264,18 +265,18 @@ def splits(node: Node, front: bool) -> list[Split]:
 def way_splits(way: Way, front: bool) -> tuple[list[Split], list[Way]]:
     """The splits of a way from a position to the text's edge, and the ways in which it is empty."""
     order = range(len(way)) if front else range(len(way) - 1, -1, -1)
-    index = next((index for index in order if is_tree(way[index])), None)
+    index, node = next(((index, item) for index in order if is_tree(item := way[index])), (None, EMPTY))
     if index is None:
         return [], [way]
     near, far = (way[:index], way[index + 1 :]) if front else (way[index + 1 :], way[:index])
     found: list[Split] = []
-    for split in splits(way[index], front):
+    for split in splits(node, front):
         if front:
             found.append(Split((*near, *split.outside), split.members, (*split.inside, *far)))
         else:
             found.append(Split((*split.outside, *near), split.members, (*far, *split.inside)))
     empties: list[Way] = []
-    if (nothing := empty_part(way[index])) is not None:
+    if (nothing := empty_part(node)) is not None:
         more, ends = way_splits(far, front)
         middle = [nothing] if nothing != EMPTY else []
         for split in more:
@@ -299,8 +300,9 @@ def with_words(way: Way, words: tuple[Word, ...], negative: bool, front: bool, a
             for rest in with_words(list(each.inside), rests, negative, front, at):
                 one = Chars(members)
                 found.append([*each.outside, one, *rest] if front else [*rest, one, *each.outside])
-    if found and all(is_tree(item) for each in found for item in each):
-        return [[alt(cat(each) for each in found)]]
+    trees = [[item for item in each if is_tree(item)] for each in found]
+    if found and trees == found:
+        return [[alt(map(cat, trees))]]
     check_count(len(found), at)
     return found
 
@@ -314,18 +316,16 @@ def classes(members: Bytes, sets: list[Bytes]) -> list[tuple[Bytes, list[int]]]:
     return [(frozenset(found), list(key)) for key, found in by_sets.items()]
 
 
-def stands_outermost(way: Way, index: int) -> bool:
-    """Whether a positive lookahead stands behind everything else that a way matches, or a lookbehind before it."""
-    look = way[index]
+def is_outermost(way: Way, index: int, look: Look) -> bool:
+    """Whether a positive lookahead follows everything else that a way matches, or a lookbehind precedes it."""
     outside = way[:index] if look.behind else way[index + 1 :]
     return not look.negative and [item for item in outside if is_tree(item)] == [ANYTHING]
 
 
-def with_look(way: Way, index: int) -> list[Way]:
-    """The way with what a lookahead or lookbehind asks for in the context beside it."""
-    look = way[index]
+def with_look(way: Way, index: int, look: Look) -> list[Way]:
+    """The way with what a lookahead or lookbehind requires in the context beside it."""
     outside, inside = (way[:index], way[index + 1 :]) if look.behind else (way[index + 1 :], way[:index])
-    if stands_outermost(way, index):
+    if is_outermost(way, index, look):
         here = [item for item in outside if item != ANYTHING]
         bodies = ways_through(look.body)
         if look.behind:
@@ -355,24 +355,23 @@ def no_words(look: Look) -> NoFormula:
 
 def without_conditions(way: Way) -> list[Way]:
     """The way as ways that have no condition, since the trees beside each one are cut to what it allows."""
-    looks = [index for index, item in enumerate(way) if isinstance(item, Look)]
-    index = next((index for index in looks if stands_outermost(way, index)), None)
-    if index is None:
-        index = next((index for index, item in enumerate(way) if isinstance(item, Condition)), None)
-    if index is None:
-        if not looks:
-            return [way]
-        index = looks[0]
-    item, found = way[index], []
-    if isinstance(item, Look):
-        for each in with_look(way, index):
-            found += without_conditions(each)
-        check_count(len(found), item.at)
+    looks = [(index, item) for index, item in enumerate(way) if isinstance(item, Look)]
+    outermost = [(index, look) for index, look in looks if is_outermost(way, index, look)]
+    conditional = [(index, item) for index, item in enumerate(way) if isinstance(item, Condition)]
+    found: list[Way] = []
+    if conditional and not outermost:
+        index, condition = conditional[0]
+        for before, after in condition.ways:
+            for left, right in product(beside(way[:index], before, False), beside(way[index + 1 :], after, True)):
+                found += without_conditions(left + right)
+                check_count(len(found), condition.at)
         return found
-    for before, after in item.ways:
-        for left, right in product(beside(way[:index], before, False), beside(way[index + 1 :], after, True)):
-            found += without_conditions(left + right)
-            check_count(len(found), item.at)
+    if not looks:
+        return [way]
+    index, look = (outermost or looks)[0]
+    for each in with_look(way, index, look):
+        found += without_conditions(each)
+    check_count(len(found), look.at)
     return found
 
 
@@ -389,6 +388,7 @@ def trees_of(way: Way) -> list[Node]:
             body = cat(stack.pop())
             stack[-1].append(Capture(item.name, body))
         else:
+            assert is_tree(item)
             stack[-1].append(item)
     return stack[0]
 
@@ -401,8 +401,8 @@ def factored(rows: list[list[Node]]) -> Node:
     """The alternation of rows of trees, with equal beginnings and ends written once, and captures of a name joined."""
     for front in (True, False):
         groups: dict[Node | None, list[list[Node]]] = {}
-        for row in dict.fromkeys(map(tuple, rows)):
-            groups.setdefault(row[0 if front else -1] if row else None, []).append(list(row))
+        for distinct in dict.fromkeys(tuple(row) for row in rows):
+            groups.setdefault(distinct[0 if front else -1] if distinct else None, []).append(list(distinct))
         rows = []
         for outer, group in groups.items():
             if outer is None or len(group) == 1:

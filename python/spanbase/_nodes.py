@@ -148,6 +148,21 @@ def count_sets(node: Node) -> int:
     return 1 if isinstance(node, Chars) else sum(map(count_sets, children(node)))
 
 
+def is_empty(node: Node) -> bool:
+    """Whether the tree matches no text because of a set without bytes."""
+    match node:
+        case Chars(members):
+            return not members
+        case Cat(parts):
+            return any(map(is_empty, parts))
+        case Alt(parts):
+            return all(map(is_empty, parts))
+        case Repeat("+", body) | Capture(_, body):
+            return is_empty(body)
+        case _:
+            return False
+
+
 def restricted(node: Node, members: Bytes) -> Node:
     """The tree with every set cut to the bytes of `members`, in lookarounds too."""
     match node:

@@ -291,7 +291,10 @@ class RegexReader:
         if most is None:
             return cat([body] * max(least - 1, 0) + [Repeat("+" if least else "*", body)])
         if conditions(body):
-            return cat([body] * least + [reduce(lambda inner, _: optional(cat([body, inner])), range(most - least), EMPTY)])
+            nested: Node = EMPTY
+            for _ in range(most - least):
+                nested = optional(cat([body, nested]))
+            return cat([body] * least + [nested])
         return cat([body] * least + [optional(body)] * (most - least))
 
     # -------------------------------------------------------------------------------------------------------------- atoms

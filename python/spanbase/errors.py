@@ -96,7 +96,22 @@ class BadQuery(Refused, ValueError):
 
 
 class TooManyStates(BadQuery):
-    """The automaton of the query has too many states."""
+    """The automaton of the query has too many states.
+
+    `regex` captures a gap of the regex that was given, such that the program accepts it, or is None where none was found.
+    """
+
+    regex: str | None = None
+
+    def __reduce__(self) -> tuple[Any, ...]:
+        return *super().__reduce__(), {"regex": self.regex}
+
+    def meaning(self) -> str:
+        command = self.command.partition(b" ")[0].decode("ascii", "replace")
+        subject, advice = STATES_ADVICE.get(command, STATES_ADVICE["query"])
+        if self.regex is not None:
+            advice = f"capture a gap, as in {self.regex}"
+        return f"the automaton of the {subject} has too many states; {advice}; or allow more, as by states=1024"
 
 
 class BadTuple(Refused, ValueError):
@@ -243,8 +258,6 @@ MEANINGS = {
     "TooManyPositions": "a formula has at most 512 bytes and sets of bytes",
     "TooManyVariables": "a query has at most 8 variables",
     "NotFunctional": "an answer could meet the variable {0} twice",
-    "TooManyStates": "the automaton of the query has too many states; "
-    "capture a gap of the pattern in a group, or open the database with states=1024",
     "QueryTooLarge": "a query has at most 128 parts, and this one would have {0}",
     "NotOneVariable": "a replacement needs a query of one variable, and this one has {0}",
     "BadTuple": "the cursor is no tuple of spans",
@@ -253,6 +266,17 @@ MEANINGS = {
     "CannotRead": "the file can't be read",
     "CannotWrite": "the file can't be written",
     "FileTooLong": "the file is too long",
+}
+
+# for each command that makes a query: what has the states, and what has fewer of them
+STATES_ADVICE = {
+    "query": ("query", "capture a gap of the pattern in a group, or write a smaller bound"),
+    "join": (
+        "join",
+        "write one regex with the parts in their order, join fewer queries, or list the queries and combine their rows",
+    ),
+    "union": ("union", "list both queries and merge their rows"),
+    "project": ("projection", "keep more variables"),
 }
 
 IMAGE_FAULTS = {

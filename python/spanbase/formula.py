@@ -19,7 +19,7 @@ from ._ends import open_ends
 from ._nodes import (
     ALL,
     NEWLINE,
-    NOTHING,
+    WORD,
     Alt,
     Capture,
     Cat,
@@ -32,6 +32,7 @@ from ._nodes import (
     alt,
     cat,
     conditions,
+    is_empty,
     is_nullable,
     restricted,
     text_of,
@@ -93,6 +94,8 @@ def translate(
     names: bool = True,
     within_lines: bool = False,
     lines: str | None = None,
+    words: bool = False,
+    whole_lines: bool = False,
     ascii_properties: bool = False,
 ) -> Translation:
     """The formula of a regex of Python's `re` with these flags; raises Untranslatable where there is none.
@@ -100,8 +103,9 @@ def translate(
     The regex is found anywhere in a text; with `whole` it must match the whole text. Where it has no named group, the
     variable `capture` has the span of its whole match, unless that is None. Without `names` the names of groups are ignored.
     With `within_lines` the regex matches within a line, and no part of it matches a newline. With `lines` the formula has
-    one more variable, of this name, for the line in which the regex matches so. With `ascii_properties`, `\\p{Lu}` and the
-    like stand for the ASCII characters that have the property.
+    one more variable, of this name, for the line in which the regex matches so. With `words` no word byte stands directly
+    before or after a match, and with `whole_lines` a match begins and ends as its lines do. With `ascii_properties`,
+    `\\p{Lu}` and the like stand for the ASCII characters that have the property.
     """
     given = pattern.encode(errors="surrogateescape") if isinstance(pattern, str) else pattern
     reader = RegexReader(given.decode("latin-1"), letters_of(flags), ascii_properties)
@@ -109,13 +113,21 @@ def translate(
         regex = reader.read()
         if not names:
             regex = without_names(regex)
+        needs_newline = not is_empty(regex)
         if lines is not None or within_lines:
             regex = restricted(regex, ALL - NEWLINE)
+        needs_newline &= is_empty(regex)
         if capture and not variables(regex):
             regex = Capture(capture, regex)
-        if within_lines and lines is None and (conditions(regex) or is_nullable(regex)):
+        if words:
+            regex = cat([NO_WORD_BEFORE, regex, NO_WORD_AFTER])
+        if lines is not None:
+            regex = line_of(regex, lines, whole_lines)
+        elif whole_lines:
+            regex = cat([LINE_BEGIN, regex, LINE_END if within_lines else LINE_END_ANYWHERE])
+        elif within_lines and (conditions(regex) or is_nullable(regex)):
             regex = cat([regex, IN_LINE])
-        node = formula_of(regex, whole) if lines is None else formula_of(line_of(regex, lines), False)
+        node = formula_of(regex, whole and lines is None)
     except NoFormula as error:
         raise Untranslatable(error.why, index_in(pattern, given, error.at or 0), error.hint) from None
     except RecursionError:
@@ -127,15 +139,19 @@ def translate(
         at = index_in(pattern, given, reader.largest[1])
         raise Untranslatable(f"its formula has too much: {error.message}", at, HINTS.get(error.word, HINTS[""])) from None
     warnings = [f"at position {index_in(pattern, given, at)}: {text}" for at, text in reader.warnings]
-    return Translation(formula, tuple(checked.order), (*warnings, *remarks(formula, checked, node)), node)
+    if needs_newline:
+        warnings.append("no line matches, since a line has no newline in it")
+    elif is_empty(node):
+        warnings.append("no text matches")
+    return Translation(formula, tuple(checked.order), (*warnings, *remarks(formula, checked)), node)
 
 
-def with_gaps_captured(pattern: str, flags: int = 0, *, capture: str = "match") -> list[str]:
+def with_gaps_captured(pattern: str | bytes, flags: int = 0, *, capture: str = "match") -> list[str]:
     """The regex with one of its gaps as a named group, such as `(?P<gap>.{0,30})`, the widest gap first; and last with all.
 
     Where a query has too many states, a gap that is captured often leaves it few: its span says how far the match is.
     """
-    given = pattern.encode(errors="surrogateescape")
+    given = pattern.encode(errors="surrogateescape") if isinstance(pattern, str) else pattern
     reader = RegexReader(given.decode("latin-1"), letters_of(flags))
     try:
         regex = reader.read()
@@ -151,7 +167,8 @@ def with_gaps_captured(pattern: str, flags: int = 0, *, capture: str = "match") 
         for name, (start, end, _) in sorted(zip(names, chosen), key=lambda pair: -pair[1][0]):
             text = text[:start] + b"(?P<%s>%s)" % (name.encode(), text[start:end]) + text[end:]
         if not taken:
-            begun = len(re.match(rb"(\(\?[aimsx]+\))*", text)[0])
+            flags_end = re.compile(rb"(?:\(\?[aimsx]+\))*").match(text)
+            begun = flags_end.end() if flags_end else 0
             text = text[:begun] + b"(?P<%s>%s)" % (capture.encode(), text[begun:])
         found.append(text.decode(errors="surrogateescape"))
     return found
@@ -181,16 +198,19 @@ def without_names(node: Node) -> Node:
             return node
 
 
-# what stands behind the last newline of a text is a line only where it isn't empty
+# what follows the last newline of a text is a line only if it isn't empty
 IN_LINE = Condition(((FREE, Side(ALL, False)), (Side(ALL - NEWLINE, False), END)), 0)
+LINE_BEGIN = Condition(((AT_LINE, FREE),), 0)
 LINE_END = Condition(((FREE, Side(NEWLINE, False)), (Side(ALL - NEWLINE, False), END)), 0)
+LINE_END_ANYWHERE = Condition(((FREE, AT_LINE),), 0)
+NO_WORD_BEFORE = Condition(((Side(ALL - WORD, True), FREE),), 0)
+NO_WORD_AFTER = Condition(((FREE, Side(ALL - WORD, True)),), 0)
 
 
-def line_of(regex: Node, name: str) -> Node:
-    """The lines in which the regex matches."""
+def line_of(regex: Node, name: str, is_whole: bool) -> Node:
+    """The lines in which the regex matches, or which it matches as a whole."""
     rest = Repeat("*", Chars(ALL - NEWLINE))
-    begin = Condition(((AT_LINE, FREE),), 0)
-    return cat([begin, Capture(name, cat([rest, regex, rest])), LINE_END])
+    return cat([LINE_BEGIN, Capture(name, regex if is_whole else cat([rest, regex, rest])), LINE_END])
 
 
 def letters_of(flags: int) -> frozenset[str]:
@@ -202,9 +222,9 @@ def index_in(pattern: str | bytes, given: bytes, at: int) -> int:
     return at if isinstance(pattern, bytes) else len(given[:at].decode(errors="surrogateescape"))
 
 
-def remarks(formula: bytes, reader: FormulaReader, node: Node) -> list[str]:
-    """What a user should know of a formula."""
-    found = ["no text matches"] if node == NOTHING else []
+def remarks(formula: bytes, reader: FormulaReader) -> list[str]:
+    """The limits that a formula is close to."""
+    found: list[str] = []
     used = [("bytes", len(formula), LONGEST_FORMULA), ("sets of bytes", reader.sets, MOST_SETS)]
     used.append(("variables", len(reader.order), MOST_VARIABLES))
     for what, count, limit in used:

@@ -2,13 +2,13 @@
 import re
 import weakref
 from bisect import bisect_right
-from collections.abc import Iterator, Mapping, MutableMapping, Sequence
+from collections.abc import Callable, Iterator, Mapping, MutableMapping, Sequence
 from dataclasses import dataclass
-from typing import TYPE_CHECKING, Union, overload
+from typing import TYPE_CHECKING, NamedTuple, Union, overload
 
 from spanbase import formula as translator
 from spanbase.documents import Document, Text, checked_name
-from spanbase.errors import BadTuple, DocumentChanged, SideFileError, UnknownName, refusal
+from spanbase.errors import BadTuple, DocumentChanged, SideFileError, TooManyStates, UnknownName, refusal
 from spanbase.export import Tabular
 from spanbase.lines import lines_and_columns
 from spanbase.shell import MOST_LISTED, Reply
@@ -17,7 +17,19 @@ from spanbase.sidefile import Tree
 if TYPE_CHECKING:
     from spanbase.database import Database
 
-__all__ = ["Page", "Queries", "Query", "Registration", "Row", "Rows", "Span", "query_of_formula", "query_of_regex"]
+__all__ = [
+    "Page",
+    "Queries",
+    "Query",
+    "Registration",
+    "Row",
+    "Rows",
+    "Span",
+    "WithGap",
+    "query_of_formula",
+    "query_of_regex",
+    "query_with_gap",
+]
 
 # a tuple of spans: a row; the text that the script language has for it; or the bounds of each variable, None for no span
 Tuple = Union["Row", str, Mapping[str, "tuple[int, int] | Span | None"]]
@@ -591,8 +603,40 @@ def query_of_regex(
     if isinstance(pattern, re.Pattern):
         flags |= pattern.flags & ~re.UNICODE
         pattern = pattern.pattern
-    found = translator.translate(pattern, int(flags), whole=whole, capture=capture)
-    return query_of_formula(database, found.formula, found.warnings)
+    all_flags = int(flags)
+
+    def translated(regex: str | bytes) -> translator.Translation:
+        return translator.translate(regex, all_flags, whole=whole, capture=capture)
+
+    found = translated(pattern)
+    try:
+        return query_of_formula(database, found.formula, found.warnings)
+    except TooManyStates as error:
+        if better := query_with_gap(database, pattern, translated, all_flags):
+            error.regex = better.regex
+        raise
+
+
+class WithGap(NamedTuple):
+    """A regex with a gap captured, its translation, and its query."""
+
+    regex: str
+    translation: translator.Translation
+    query: Query
+
+
+def query_with_gap(
+    database: "Database", pattern: str | bytes, translate: Callable[[str], translator.Translation], flags: int = 0
+) -> WithGap | None:
+    """The regex with a gap captured such that the program accepts its query, or None where there is none. `translate` makes
+    the formula of a regex."""
+    for regex in translator.with_gaps_captured(pattern, flags):
+        try:
+            found = translate(regex)
+            return WithGap(regex, found, query_of_formula(database, found.formula, found.warnings))
+        except (translator.Untranslatable, TooManyStates):
+            continue
+    return None
 
 
 def query_of_tree(database: "Database", tree: Tree) -> Query:

@@ -8,6 +8,7 @@ An image is named by a digest of its bytes and is never overwritten. The file `m
 together. It is replaced as a whole when all images are there. The answers of an image carry a digest of the query, the limit
 and the image, and are rejected where that isn't the digest of what was asked for.
 """
+import builtins
 import concurrent.futures
 import contextlib
 import dataclasses
@@ -26,6 +27,7 @@ import time
 from collections import deque
 from collections.abc import Callable, Generator, Iterable, Iterator, Mapping, Sequence
 from dataclasses import asdict, dataclass, field
+from functools import partial
 from itertools import count
 from pathlib import Path
 from typing import Any, Protocol, Self
@@ -170,11 +172,12 @@ def _read_shards(path: Path) -> list[_Shard]:
 
 def _shard_of(entry: Mapping[str, Any]) -> _Shard:
     documents = tuple(File(**it) for it in entry["documents"])
+    others = {key: value for key, value in entry.items() if key != "documents"}
     if entry["file"] is None:
         return _Shard(documents, None)
     if not IMAGE_NAME.fullmatch(entry["file"]):
         raise ValueError
-    return _Shard(documents, Image(**{**entry, "documents": documents}))
+    return _Shard(documents, Image(documents=documents, **others))
 
 
 def _write_shards(path: Path, shards: Sequence[_Shard]) -> None:
@@ -705,14 +708,20 @@ def _described(error: BaseException) -> str:
     return f"{type(error).__name__}: {lines[0]}" if lines else type(error).__name__
 
 
-def _in_any_order(engine: _Engine, function: Callable[[Any], Any], tasks: Sequence[Any]) -> Iterator[tuple[Any, Any]]:
+def _ended(queue_of: "queue.SimpleQueue[tuple[Any, Future]]", task: Any, future: Future) -> None:
+    queue_of.put((task, future))
+
+
+def _in_any_order(
+    engine: _Engine, function: Callable[[Any], Any], tasks: Sequence[Any]
+) -> Generator[tuple[Any, Any], None, None]:
     """Tasks with their results, in the order in which they end."""
     ended: queue.SimpleQueue[tuple[Any, Future]] = queue.SimpleQueue()
     futures: list[Future] = []
     try:
         for rank, task in enumerate(tasks):
             futures.append(engine.submit(function, task, rank))
-            futures[-1].add_done_callback(lambda it, task=task: ended.put((task, it)))
+            futures[-1].add_done_callback(partial(_ended, ended, task))
         left = len(tasks)
         while left:
             try:
@@ -915,7 +924,7 @@ class Span:
     start: int
     end: int
     # the bytes, where they were asked for
-    bytes: "bytes | None" = field(default=None, compare=False, repr=False)
+    bytes: builtins.bytes | None = field(default=None, compare=False, repr=False)
 
     def __iter__(self) -> Iterator[int]:
         return iter(self.bounds)
@@ -926,7 +935,7 @@ class Span:
         return self.start, self.end
 
     @property
-    def text(self) -> "bytes":
+    def text(self) -> builtins.bytes:
         """The bytes."""
         if self.bytes is None:
             raise ValueError("the texts were not asked for: ask(.., texts=True) reads them")

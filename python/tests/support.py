@@ -52,6 +52,6 @@ def python_with(module: str) -> str | None:
     """A Python that can import a module: this one, or that of the system."""
     for python in (sys.executable, "/usr/bin/python3"):
         look = f"import importlib.util, sys; sys.exit(importlib.util.find_spec({module!r}) is None)"
-        if Path(python).exists() and subprocess.run([python, "-c", look], check=False).returncode == 0:
+        if Path(python).exists() and subprocess.run([python, "-c", look], capture_output=True, check=False).returncode == 0:
             return python
     return None

@@ -19,7 +19,7 @@ TEXTS: dict[str, bytes] = {
     "bytes": b"caf\xe9 two \xff\r\ntwo\ttwo\r\n",
     "none": b"nothing here\n",
 }
-OPTIONS = ["-n", "-on", "-c", "-i", "-l", "-o", "-L"]
+OPTIONS = ["-n", "-on", "-c", "-i", "-l", "-o", "-L", "-w", "-xn", "-v", "-vc", "-Fo", "-wo", "-vwn", "-xi", "-vl", "-vL", "-Fxv"]
 REGEXES = ["two", "[a-z]+", "^t", "o$", "^$", r"(?<!\w)t\w*", "(t)(?:wo|o)", "zzz", "", "t|tw"]
 
 
@@ -27,8 +27,10 @@ def reference(option: str, regex: str, title: bytes, text: bytes) -> bytes:
     """What grep prints for a file of several, by Python's `re` on each line."""
     lines = text.split(b"\n")
     lines = lines[:-1] if lines[-1] == b"" else lines
-    pattern = re.compile(regex.encode(), re.IGNORECASE if "i" in option else 0)
-    found = [(number, line) for number, line in enumerate(lines, 1) if pattern.search(line)]
+    inner = re.escape(regex) if "F" in option else regex
+    whole = rf"^(?:{inner})$" if "x" in option else rf"(?<!\w)(?:{inner})(?!\w)" if "w" in option else inner
+    pattern = re.compile(whole.encode(), re.IGNORECASE if "i" in option else 0)
+    found = [it for it in enumerate(lines, 1) if bool(pattern.search(it[1])) != ("v" in option)]
     if "c" in option:
         return title + b":%d\n" % len(found)
     if "l" in option or "L" in option:
@@ -70,12 +72,13 @@ class Find(unittest.TestCase):
         """The options of grep on texts with and without a last newline, with bytes that aren't UTF-8, and without any."""
         with folder_with(TEXTS) as folder:
             for number, regex in enumerate(REGEXES):
-                for option in OPTIONS[number % 3 :: 3]:
+                for option in OPTIONS[number % 4 :: 4]:
                     with self.subTest(option=option, regex=regex):
                         status, out, told = ran_here(find_tool.main, option, "-e", regex, *TEXTS, folder=folder)
                         wanted = [reference(option, regex, name.encode(), text) for name, text in TEXTS.items()]
                         self.assertEqual((out, told), (b"".join(wanted), ""))
-                        some = any(reference("-c", regex, b"", text) != b":0\n" for text in TEXTS.values())
+                        counting = "-c" + "".join(it for it in "iwxFv" if it in option)
+                        some = any(reference(counting, regex, b"", text) != b":0\n" for text in TEXTS.values())
                         self.assertEqual(status, 0 if some else 1)
 
     def test_arguments(self):
@@ -106,6 +109,15 @@ class Find(unittest.TestCase):
             (["--count-matches", "--all", "[a-z-]+", "y"], b"7\n"),
             (["--count-matches", "[a-z-]+", "y"], b"3\n"),
             (["--formula", ".*\n$x{c}\n", "y"], b"c\n"),
+            (["--count", "-o", "[a-z-]", "y"], b"5\n"),
+            (["-F", ".", "y"], b""),
+            (["-Foe", "-x", "-e", "-", "y"], b"-x\n-\n-\n"),
+            (["-vU", r"x\n-", "y"], b"c\n"),
+            (["-v", "--formula", ".*$a{x}\n.*$b{c}\n", "y"], b""),
+            (["-vcU", "-", "y", "-"], b"y:1\n(standard input):1\n"),
+            (["-qv", ".", "y"], b""),
+            (["-xUe", r"-x\n--", "y"], b"-x\n--\n"),
+            (["-w", "--csv", "(?P<n>[a-z])", "y"], b"file,n,n_start,n_end\ny,x,1,2\ny,c,6,7\n"),
             (["-io", r"[[:UPPER:]]|\p{Ll}".lower().replace("ll", "Ll"), "--ascii-properties", "y"], b"x\nc\n"),
         ]
         with folder_with(files) as folder:
@@ -217,6 +229,10 @@ class Find(unittest.TestCase):
             (["--formula", "a)", "f"], b"", "BadFormula: `)` closes nothing, at position 1:\n    a)\n     ^\n"),
             (["--formula", "a\n", "f"], b"", "the formula has no variable"),
             ([], b"", "a regex is missing; --help"),
+            (["-v", "-o", "a", "f"], b"", "--invert-match and --only-matching can't be combined, since a line without"),
+            (["--csv", "-c", "a"], b"", "--csv and --count can't be combined, since they are different outputs; --help"),
+            (["--formula", "-w", "a"], b"", "--formula and --word-regexp can't be combined"),
+            (["-v", "--formula", "a\n", "f"], b"", "the formula has no variable"),
             (["--nothing", "a"], b"", "unrecognized arguments: --nothing; --help"),
             (["a", "--image", "image"], b"", "BadImage 2"),
             (["a", "--image", "nowhere"], b"", "NoSuchFile nowhere"),
@@ -227,6 +243,8 @@ class Find(unittest.TestCase):
                 ran = self.found(*words, files=files)
                 self.assertEqual(ran[:2], (2, out))
                 self.assertIn(f"spanbase-find: {told}", ran[2])
+        ran = self.found("a\nb", "f", files=files)
+        self.assertEqual(ran, (1, b"", "spanbase-find: warning: no line matches, since a line has no newline in it\n"))
         self.assertEqual(self.found("-q", "a", "nowhere", "f", files=files)[0], 0)
 
     def test_a_reader_that_goes_away(self):

@@ -5,12 +5,15 @@ import re
 import sys
 from collections.abc import Callable, Iterable, Sequence
 from pathlib import Path
-from typing import NoReturn
+from typing import NoReturn, TypeVar
 
-from spanbase.formula import FormulaError, Translation, Untranslatable
+from spanbase.formula import FormulaError, Untranslatable
+
+Result = TypeVar("Result")
 
 FOUND, NOT_FOUND, TROUBLE, INTERRUPTED = 0, 1, 2, 130
 LONGEST_NAME = 64
+TOO_MANY_STATES = "TooManyStates: the automaton of the query has too many states"
 
 
 class Trouble(Exception):
@@ -78,8 +81,8 @@ def with_place(text: str, position: int | None, message: str, hint: str | None =
     return "\n".join(lines + ([f"    {hint}"] if hint else []))
 
 
-def translated(translate: Callable[[], Translation], pattern: str) -> Translation:
-    """A translation, with the place and the way out of an error in its message."""
+def translated(translate: Callable[[], Result], pattern: str) -> Result:
+    """The result of a translation or check, with the place and the way out of an error in its message."""
     try:
         return translate()
     except Untranslatable as error:

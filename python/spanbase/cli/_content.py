@@ -54,7 +54,7 @@ class Content:
         self.source = source
         self._given = text
         self._text = text
-        self._newlines: spanbase.Query | None = None
+        self._newlines_query: spanbase.Query | None = None
         # a position, and how many newlines stand before it
         self._counted = (0, 0)
 
@@ -81,13 +81,24 @@ class Content:
         """The number of the line in which a position lies, counted from 1."""
         text = self.text()
         if text is None:
-            if self._newlines is None:
-                self._newlines = self.document.own_database().formula(rb".*$newline{\n}.*")
-            return self._newlines.rank(self.document, {"newline": (position, position)}) + 1
+            return self._newlines().rank(self.document, {"newline": (position, position)}) + 1
         at, count = self._counted
         count = count + text.count(b"\n", at, position) if at <= position else text.count(b"\n", 0, position)
         self._counted = (position, count)
         return count + 1
+
+    def _newlines(self) -> spanbase.Query:
+        if self._newlines_query is None:
+            self._newlines_query = self.document.own_database().formula(rb".*$newline{\n}.*")
+        return self._newlines_query
+
+    def line_count(self) -> int:
+        """The number of lines. Bytes after the last newline are a line too."""
+        if self.length == 0:
+            return 0
+        text = self.text() if self.source is not None else self._text
+        newlines = self._newlines().count(self.document) if text is None else text.count(b"\n")
+        return newlines + (self.read(self.length - 1, self.length) != b"\n")
 
     def line_start(self, position: int) -> int:
         """Where the line of a position begins."""

@@ -101,9 +101,9 @@ def changed_lines(old: list[bytes], new: list[bytes]) -> Iterator[tuple[int, int
     if len(old) * len(new) > MOST_COMPARED:
         yield 0, len(old), 0, len(new)
         return
-    for kind, *indices in SequenceMatcher(None, old, new, autojunk=False).get_opcodes():
+    for kind, start, end, new_start, new_end in SequenceMatcher(None, old, new, autojunk=False).get_opcodes():
         if kind != "equal":
-            yield tuple(indices)
+            yield start, end, new_start, new_end
 
 
 def byte_edits(edit: Edit, old: bytes) -> Iterator[Edit]:

@@ -6,6 +6,7 @@ import json
 import re
 import time
 from collections.abc import Iterable, Iterator, Sequence
+from itertools import chain
 from typing import Any, BinaryIO, Protocol
 
 from spanbase.cli._content import Bounds, Content
@@ -73,42 +74,51 @@ class Counts:
         return found
 
 
-class Lines:
-    """The lines that have an answer, each once. `matches` are the spans in them that are coloured."""
+def lines_with(content: Content, answers: Iterable[Answer]) -> Iterator[Bounds]:
+    """The lines in which an answer has a byte, or begins if it is empty, each once."""
+    done = -1
+    for answer in answers:
+        if (span := hull(answer)) is None:
+            continue
+        for start, end in content.lines(*span):
+            if start > done and (start < content.length or start == 0):
+                done = start
+                yield start, end
 
-    def __init__(self, out: BinaryIO, titles: Titles, numbers: bool, binary: bool, counts: bool):
+
+def lines_without(content: Content, answers: Iterable[Answer]) -> Iterator[Bounds]:
+    """The other lines."""
+    at = 0
+    for start, end in chain(lines_with(content, answers), [(content.length, content.length)]):
+        while at < start:
+            stop = content.line_end(at)
+            yield at, stop
+            at = stop + 1
+        at = max(at, end + 1)
+
+
+class Lines:
+    """The chosen lines of a document. `matches` are the spans in them that are coloured."""
+
+    def __init__(self, out: BinaryIO, titles: Titles, numbers: bool, binary: bool):
         self.out = out
         self.titles = titles
         self.numbers = numbers
         self.binary = binary
-        self.counts = counts
         self.found = 0
-        self.matches: Iterator[Answer] = iter(())
 
-    def document(self, title: bytes, content: Content, answers: Iterator[Answer]) -> None:
-        coloured = Coloured(self.matches)
+    def document(self, title: bytes, content: Content, lines: Iterable[Bounds], matches: Iterator[Answer]) -> None:
+        coloured = Coloured(matches)
         before = self.found
-        done = -1
-        for answer in answers:
-            span = hull(answer)
-            if span is None:
-                continue
-            for start, end in content.lines(*span):
-                if start <= done or (start == content.length and start > 0):
-                    continue
-                done = start
-                self.found += 1
-                if self.counts:
-                    continue
-                if self.found == before + 1 and not self.binary and content.is_binary():
-                    self.out.write(b"Binary file " + title + b" matches\n")
-                    return
-                number = content.line_number(start) if self.numbers else None
-                line = content.read(start, end)
-                shown = coloured.line(line, start) if self.titles.coloured else line
-                self.out.write(self.titles.before(title, number) + shown + b"\n")
-        if self.counts:
-            self.out.write(self.titles.before(title) + b"%d\n" % (self.found - before))
+        for start, end in lines:
+            self.found += 1
+            if self.found == before + 1 and not self.binary and content.is_binary():
+                self.out.write(b"Binary file " + title + b" matches\n")
+                return
+            number = content.line_number(start) if self.numbers else None
+            line = content.read(start, end)
+            shown = coloured.line(line, start) if self.titles.coloured else line
+            self.out.write(self.titles.before(title, number) + shown + b"\n")
 
 
 class Coloured:

@@ -5,10 +5,11 @@ from collections.abc import Iterator, Sequence
 from dataclasses import dataclass
 
 import spanbase
-from spanbase.cli._common import Parser, Trouble, translated
+from spanbase.cli._common import TOO_MANY_STATES, Parser, Trouble, translated
 from spanbase.cli._content import Content
 from spanbase.cli._output import Answer, hull
-from spanbase.formula import Translation, Untranslatable, check, translate, with_gaps_captured
+from spanbase.formula import Translation, check, translate
+from spanbase.query import query_with_gap
 
 # how many answers the first page of a document has, and each further one
 FIRST_PAGE, FURTHER_PAGE = 500, 10_000
@@ -36,9 +37,10 @@ class Page:
 class Search:
     """A query, and those of its variables that are shown."""
 
-    def __init__(self, query: spanbase.Query, names: Sequence[str]):
+    def __init__(self, query: spanbase.Query, names: Sequence[str], warnings: Sequence[str] = ()):
         self.query = query
         self.names = tuple(names)
+        self.warnings = tuple(warnings)
         self.places = [query.variables.index(name) for name in self.names]
         entries = [re.escape(name.encode()) + rb"=(?:-|\[(\d+),(\d+)\))" for name in query.variables]
         self.tuple = re.compile(b",".join(entries) or rb"\(\)")
@@ -49,7 +51,9 @@ class Search:
 
     def answer(self, line: bytes) -> Answer:
         """The spans that are shown of a tuple of the program, which counts from 1."""
-        bounds = self.tuple.match(line).groups()
+        found = self.tuple.match(line)
+        assert found is not None
+        bounds = found.groups()
         return tuple(
             (int(bounds[2 * place]) - 1, int(bounds[2 * place + 1]) - 1) if bounds[2 * place] else None
             for place in self.places
@@ -120,6 +124,8 @@ class Pattern:
     ascii_properties: bool = False
     is_formula: bool = False
     split: bool = False
+    words: bool = False
+    whole_lines: bool = False
 
     def translated(self, *, names: bool, lines: str | None = None, text: str | None = None) -> Translation:
         """The translation of the regex, or of another one in its place."""
@@ -130,6 +136,8 @@ class Pattern:
             names=names,
             within_lines=not self.multiline,
             lines=lines,
+            words=self.words,
+            whole_lines=self.whole_lines,
             ascii_properties=self.ascii_properties,
         )
 
@@ -140,7 +148,7 @@ class Pattern:
         found = translated(lambda: self.translated(names=names, lines=lines), self.text)
         shown_names = (lines,) if lines else found.variables
         try:
-            return Search(database.formula(found.formula), shown_names)
+            return Search(database.formula(found.formula), shown_names, found.warnings)
         except spanbase.TooManyStates:
             return self.with_gap(database, shown_names, lines)
 
@@ -151,17 +159,12 @@ class Pattern:
 
     def with_gap(self, database: spanbase.Database, shown_names: tuple[str, ...], lines: str | None) -> Search:
         """The query with a gap captured, such that the program takes it."""
-        why = "TooManyStates: the query's automaton has too many states"
-        for candidate in with_gaps_captured(self.text):
-            try:
-                found = self.translated(names=True, lines=lines, text=candidate)
-                query = database.formula(found.formula)
-            except (Untranslatable, spanbase.TooManyStates):
-                continue
-            if self.split:
-                return Search(query, shown_names)
-            raise Trouble(f"{why}; allow more by --states, or capture a gap, as --split does: {candidate}")
-        raise Trouble(f"{why}; allow more by --states, or search for its parts one by one")
+        found = query_with_gap(database, self.text, lambda text: self.translated(names=True, lines=lines, text=text))
+        if found is None:
+            raise Trouble(f"{TOO_MANY_STATES}; allow more by --states, or search for its parts one by one")
+        if not self.split:
+            raise Trouble(f"{TOO_MANY_STATES}; allow more by --states, or capture a gap, as --split does: {found.regex}")
+        return Search(found.query, shown_names, found.translation.warnings)
 
 
 def add_pattern_options(reader: Parser) -> None:

@@ -13,10 +13,10 @@ import io
 import re
 import sys
 import zlib
-from collections.abc import Iterator, Sequence
+from collections.abc import Iterable, Iterator, Sequence
 from dataclasses import dataclass, field
 from pathlib import Path
-from typing import BinaryIO
+from typing import BinaryIO, cast
 
 from spanbase.cli._common import LONGEST_NAME, OwnFolder, Parser, Tool, Trouble, file_of_language, shown
 
@@ -45,7 +45,7 @@ class Lines:
     """The lines of a file without their ends, but for blank ones, with their numbers."""
 
     file: str
-    stream: BinaryIO
+    stream: Iterable[bytes]
     number: int = 0
     line: bytes = b""
 
@@ -93,10 +93,11 @@ def fastq_records(lines: Lines) -> Iterator[Record]:
         lines.advance()
 
 
-def opened(file: str) -> BinaryIO:
+def opened(file: str) -> io.BufferedReader:
     """The bytes of a file, or of standard input."""
     if file == "-":
-        return sys.stdin.buffer
+        given = sys.stdin.buffer
+        return given if isinstance(given, io.BufferedReader) else io.BufferedReader(cast(io.RawIOBase, given))
     if not Path(file).exists():
         raise Trouble(f"{shown(file)}: there is no such file")
     if Path(file).is_dir():
@@ -106,10 +107,9 @@ def opened(file: str) -> BinaryIO:
 
 def records(file: str) -> Iterator[Record]:
     """The records of a file, packed or not."""
-    with opened(file) as plain:
-        buffered = plain if isinstance(plain, io.BufferedReader) else io.BufferedReader(plain)
+    with opened(file) as buffered:
         packed = buffered.peek(2)[:2] == GZIP
-        lines = Lines(shown(file), gzip.open(buffered) if packed else buffered)
+        lines = Lines(shown(file), gzip.GzipFile(fileobj=buffered) if packed else buffered)
         try:
             if not lines.advance():
                 return

@@ -1,12 +1,11 @@
-"""Finds a regex in files, or in the documents of an image, as grep does.
+"""Searches files, or the documents of an image, for a regex, and prints the lines that match, as grep does.
 
-The regex is one that spanbase-formula takes. It is matched within lines, and `^` and `$` are the ends of lines; -U lets it
-match over several lines. The lines that it is found in are printed. With -o, --csv, --tsv, --json and --count-matches its
-answers are: those of a regex without named groups are the longest matches from left to right, and those of one with named
-groups are all that there are.
+spanbase-formula describes the regexes. A regex matches within lines, and `^` and `$` match at the ends of lines; with -U a
+match may contain newlines. -o, --csv, --tsv, --json and --count-matches print or count answers: without named groups the
+longest matches from left to right, with named groups all ways in which the groups can match.
 
-FILE - is standard input, which is also read where no file is given. With --image the files are names of documents.
-The status is 0 where something was found, 1 where nothing was, and 2 where something was wrong.
+FILE - is standard input, which is also the default. With --image the files are names of documents. The status is 0 if
+something is found, 1 if nothing is found, and 2 on errors.
 """
 import argparse
 import os
@@ -15,51 +14,87 @@ import sys
 from collections.abc import Callable, Iterator, Sequence
 from dataclasses import dataclass, replace
 from fnmatch import fnmatch
+from functools import partial
 from pathlib import Path
 
 import spanbase
 from spanbase.cli._common import FOUND, NOT_FOUND, TROUBLE, Parser, Tool, Trouble, os_trouble, shown, translated
-from spanbase.cli._content import Content, Source, file_kind
-from spanbase.cli._output import Counts, Json, Lines, Matches, Output, Table, Titles
-from spanbase.cli._search import LINE, MATCH, Pattern, Search, Searched, add_pattern_options, longest
+from spanbase.cli._content import Bounds, Content, Source, file_kind
+from spanbase.cli._output import (
+    Answer,
+    Counts,
+    Json,
+    Lines,
+    Matches,
+    Output,
+    Table,
+    Titles,
+    lines_with,
+    lines_without,
+)
+from spanbase.cli._search import LINE, MATCH, Page, Pattern, Search, Searched, add_pattern_options, longest
 
 TOOL = Tool("find")
 STANDARD_INPUT = b"(standard input)"
 # the short options without an argument
-FLAGS = "iUrclLqonHIa0"
+FLAGS = "iwxvFUrclLqonHIa0"
 FILE_OF_LANGUAGE = re.compile(rb"[!-~]{1,255}")
 
 
 def parser() -> Parser:
     reader = Parser("find", __doc__)
     add = reader.add_argument
-    add("-e", "--regexp", action="append", metavar="REGEX", help="a regex; may be given several times")
+    add("-e", "--regexp", action="append", metavar="REGEX", help="a regex, which may begin with -; may be repeated")
+    add("-F", "--fixed-strings", action="store_true", help="the patterns are plain text, and no regexes")
     add("--formula", action="store_true", help="the pattern is a formula, which matches whole texts")
-    add("-i", "--ignore-case", action="store_true", help="letters of ASCII match in either case")
-    add("-U", "--multiline", action="store_true", help="matches may go over several lines")
-    add("-r", "--recursive", action="store_true", help="search all files in folders, by default in the present one")
-    add("-g", "--glob", action="append", default=[], help="with -r: files whose name fits alone; !GLOB leaves out; several")
-    add("--image", metavar="IMAGE", help="search the documents of an image, all or those that are named")
-    add("-c", "--count", action="store_true", help="print how many lines each file has")
-    add("--count-matches", action="store_true", help="print how many answers each file has")
-    add("-l", "--files-with-matches", action="store_true", help="print the names of files with a match")
+    add("-i", "--ignore-case", action="store_true", help="ASCII letters match in either case")
+    add("-w", "--word-regexp", action="store_true", help="no word character is directly before or after a match")
+    add("-x", "--line-regexp", action="store_true", help="a match is a whole line")
+    add("-v", "--invert-match", action="store_true", help="print or count the lines without a match")
+    add("-U", "--multiline", action="store_true", help="matches may span several lines")
+    add("-r", "--recursive", action="store_true", help="search the files in folders, by default in the current one")
+    add("-g", "--glob", action="append", default=[], help="with -r: search files that match; !GLOB excludes; may be repeated")
+    add("--image", metavar="IMAGE", help="search documents of an image, by default all")
+    add("-c", "--count", action="store_true", help="print the number of lines of each file; with -o that of its answers")
+    add("--count-matches", action="store_true", help="print the number of answers in each file")
+    add("-l", "--files-with-matches", action="store_true", help="print the names of files with such a line")
     add("-L", "--files-without-match", action="store_true", help="print the names of files without one")
-    add("-q", "--quiet", action="store_true", help="print nothing, and end with the first match")
-    add("-o", "--only-matching", action="store_true", help="print the answers alone, one line each")
+    add("-q", "--quiet", action="store_true", help="print nothing, and stop at the first match")
+    add("-o", "--only-matching", action="store_true", help="print only the answers, one a line")
     add("-n", "--line-number", action="store_true", help="print line numbers")
-    add("-H", "--with-filename", action="store_true", default=None, help="print names of files, as for several")
-    add("-I", "--no-filename", action="store_false", dest="with_filename", help="print no names of files")
-    add("-0", "--null", action="store_true", help="a byte 0 ends each name of a file")
-    add("-a", "--text", action="store_true", help="print lines of binary files too")
-    add("--json", action="store_true", help="print the messages of ripgrep, a line of JSON each")
-    add("--csv", action="store_true", help="print a table of the answers, with a header")
+    add("-H", "--with-filename", action="store_true", default=None, help="print file names, by default for several files")
+    add("-I", "--no-filename", action="store_false", dest="with_filename", help="print no file names")
+    add("-0", "--null", action="store_true", help="print a null byte after each file name")
+    add("-a", "--text", action="store_true", help="print the lines of binary files too")
+    add("--json", action="store_true", help="print the messages of rg --json")
+    add("--csv", action="store_true", help="print a table of the answers with a header")
     add("--tsv", action="store_true", help="print such a table with tabs")
-    add("--all", action="store_true", help="answers are all matches, and not the longest ones from left to right")
-    add("--longest", action="store_true", help="answers are the longest ones from left to right, with named groups too")
+    add("--all", action="store_true", help="the answers are all matches")
+    add("--longest", action="store_true", help="the answers are the longest matches from left to right")
     add("--color", "--colour", choices=("auto", "always", "never"), default="auto", help="colour names, numbers and matches")
     add_pattern_options(reader)
-    add("words", nargs="*", metavar="REGEX FILE", help="a regex, unless -e gives one, and the files")
+    add("words", nargs="*", metavar="REGEX FILE", help="a regex, unless there is -e, and the files")
     return reader
+
+
+# options that don't go together: the destinations of two groups, of each of which one is set, and why
+CONFLICTS = [
+    (["formula"], ["ignore_case", "word_regexp", "line_regexp", "fixed_strings"], "a formula says itself what it matches"),
+    (
+        ["invert_match"],
+        ["only_matching", "json", "csv", "tsv", "count_matches", "all", "longest"],
+        "a line without a match has no answer",
+    ),
+    (["json"], ["csv", "tsv"], "they are different outputs"),
+    (["csv"], ["tsv"], "they are different outputs"),
+    (
+        ["json", "csv", "tsv"],
+        ["count", "count_matches", "files_with_matches", "files_without_match"],
+        "they are different outputs",
+    ),
+    (["all"], ["longest"], "they choose different answers"),
+    (["image"], ["recursive"], "an image has no folders"),
+]
 
 
 @dataclass
@@ -72,8 +107,8 @@ class Words:
 
 
 def sorted_out(words: Sequence[str]) -> Words:
-    """Takes the arguments apart. argparse takes no `--` and no `-x` as the argument of an option, so -e is read here; and
-    --color may stand without an argument."""
+    """Splits the arguments. argparse accepts neither `--` nor `-x` as the argument of an option, so -e is read here; and
+    --color may have no argument."""
     found = Words([], [], [])
     rest = list(words)
     while rest:
@@ -86,7 +121,7 @@ def sorted_out(words: Sequence[str]) -> Words:
                 found.options.append(f"-{given[1]}")
             value = given[2] or given[3]
             if not value and not rest and "=" not in word:
-                parser().error("-e takes a regex")
+                parser().error("-e needs a regex")
             found.patterns.append(value or (rest.pop(0) if rest and "=" not in word else ""))
         elif word in ("--color", "--colour") and (not rest or rest[0] not in ("auto", "always", "never")):
             found.options.append("--color=auto")
@@ -105,9 +140,15 @@ def arguments(words: Sequence[str] | None) -> argparse.Namespace:
     if not asked.patterns:
         reader.error("a regex is missing")
     if asked.formula and len(asked.patterns) > 1:
-        reader.error("one formula can be searched for")
-    if asked.image and asked.recursive:
-        reader.error("--image and -r don't go together")
+        reader.error("only one formula can be searched for")
+    for some, others, why in CONFLICTS:
+        given_options = [next((it for it in group if getattr(asked, it)), None) for group in (some, others)]
+        if None not in given_options:
+            first, second = ("--" + str(it).replace("_", "-") for it in given_options)
+            reader.error(f"{first} and {second} can't be combined, since {why}")
+    if asked.count and asked.only_matching:
+        # as in ripgrep
+        asked.count, asked.count_matches = False, True
     return asked
 
 
@@ -159,8 +200,8 @@ def loaded(database: spanbase.Database, asked: argparse.Namespace) -> list[Searc
     """The documents of the files. One that can't be read is reported, and the others stay."""
     chosen = list(paths(asked))
     sources = [Source.of(path) if path != b"-" else None for path in chosen]
-    plain = [n for n, source in enumerate(sources) if source and FILE_OF_LANGUAGE.fullmatch(source.path)]
-    replies = dict(zip(plain, database.ask_all([b"load d%d %s" % (n, sources[n].path) for n in plain])))
+    plain = {n: source.path for n, source in enumerate(sources) if source and FILE_OF_LANGUAGE.fullmatch(source.path)}
+    replies = dict(zip(plain, database.ask_all([b"load d%d %s" % (n, path) for n, path in plain.items()])))
     found: list[Searched] = []
     for number, path in enumerate(chosen):
         name, source = f"d{number}", sources[number]
@@ -197,19 +238,14 @@ def is_coloured(asked: argparse.Namespace) -> bool:
     return asked.color == "always" or (asked.color == "auto" and sys.stdout.isatty() and os.environ.get("TERM") != "dumb")
 
 
-def titles(asked: argparse.Namespace, documents: Sequence[Searched]) -> Titles:
+def titles(asked: argparse.Namespace) -> Titles:
     several = asked.recursive or asked.image is not None or len(asked.files) > 1
     shows = several if asked.with_filename is None else asked.with_filename
     return Titles(shows, asked.null, is_coloured(asked))
 
 
-def tested(search: Search, documents: Sequence[Searched]) -> Iterator[tuple[Searched, bool]]:
-    """Whether each document has an answer."""
-    for document in documents:
-        yield document, search.query.test(document.content.document)
-
-
 def counted(search: Search, document: Searched) -> int:
+    """The number of answers."""
     if not search.has_hidden:
         return search.query.count(document.content.document)
     return sum(1 for _ in search.answers(document))
@@ -217,48 +253,93 @@ def counted(search: Search, document: Searched) -> int:
 
 def pattern_of(asked: argparse.Namespace) -> Pattern:
     """What is searched for. Each regex is checked by itself, so that errors name its positions."""
+    texts = [re.escape(text) if asked.fixed_strings else text for text in asked.patterns]
     patterns = [
-        Pattern(text, asked.ignore_case, asked.multiline, asked.ascii_properties, asked.formula, asked.split)
-        for text in asked.patterns
+        Pattern(
+            text,
+            ignore_case=asked.ignore_case,
+            multiline=asked.multiline,
+            ascii_properties=asked.ascii_properties,
+            is_formula=asked.formula,
+            split=asked.split,
+            words=asked.word_regexp,
+            whole_lines=asked.line_regexp,
+        )
+        for text in texts
     ]
     if len(patterns) == 1:
         return patterns[0]
     for each in patterns:
-        translated(lambda it=each: it.translated(names=True), each.text)
-    return replace(patterns[0], text="|".join(f"(?:{text})" for text in asked.patterns))
+        translated(partial(each.translated, names=True), each.text)
+    return replace(patterns[0], text="|".join(f"(?:{text})" for text in texts))
 
 
 def find(database: spanbase.Database, asked: argparse.Namespace, documents: Sequence[Searched]) -> bool:
     """Prints what was asked for, and returns whether something was found."""
     pattern = pattern_of(asked)
-    out, heads = sys.stdout.buffer, titles(asked, documents)
-    by_lines = not (asked.multiline or asked.formula)
+    out, heads = sys.stdout.buffer, titles(asked)
     are_all = not (asked.image and asked.files)
     if asked.json or asked.csv or asked.tsv or asked.only_matching or asked.count_matches:
         if not (asked.quiet or asked.files_with_matches or asked.files_without_match):
-            return print_answers(pattern.search(database, names=True), asked, documents, heads, are_all)
-    search = pattern.search(database, names=False, lines=LINE if by_lines else None)
+            return print_answers(searched(pattern, database, names=True), asked, documents, heads, are_all)
+    lines = ChosenLines(pattern, database, asked.invert_match)
     if asked.quiet:
-        return any(found for _, found in tested(search, documents))
+        return any(map(lines.are_some, documents))
     if asked.files_with_matches or asked.files_without_match:
         some = False
-        for it, found in tested(search, documents):
+        for it in documents:
+            found = lines.are_some(it)
             some |= found
             if found != asked.files_without_match:
                 out.write(heads.line(it.title))
         return some
-    if asked.count and by_lines:
-        return Counts(out, heads).write_all((it.title, counted(search, it)) for it in documents)
-    if not search.names:
-        raise Trouble("the formula has no variable, so there is no line to print; -l and -q tell where it matches")
-    output = Lines(out, heads, asked.line_number, asked.text, asked.count)
-    matches = pattern.search(database, names=False) if heads.coloured and not asked.count else None
-    for document, page in search.pages(documents, are_all):
-        if matches is not None and page.answers:
-            output.matches = longest(matches.answers(document))
-        output.document(document.title, document.content, search.answers(document, page))
+    if not lines.search.names:
+        raise Trouble("the formula has no variable, so it doesn't say which lines match; -l and -q say where it matches")
+    if asked.count:
+        return Counts(out, heads).write_all((it.title, lines.count(it)) for it in documents)
+    output = Lines(out, heads, asked.line_number, asked.text)
+    is_coloured = heads.coloured and not asked.invert_match
+    matches = pattern.search(database, names=False) if is_coloured else None
+    for document, page in lines.search.pages(documents, are_all):
+        spans = longest(matches.answers(document)) if matches is not None and page.answers else iter(())
+        output.document(document.title, document.content, lines.of(document, page), spans)
         document.content.forget()
     return output.found > 0
+
+
+def searched(pattern: Pattern, database: spanbase.Database, *, names: bool, lines: str | None = None) -> Search:
+    """The query of a pattern. Warnings about it are printed."""
+    search = pattern.search(database, names=names, lines=lines)
+    for text in search.warnings:
+        TOOL.say(f"warning: {text}")
+    return search
+
+
+class ChosenLines:
+    """The lines of documents in which a pattern matches, or with `inverts` the other ones."""
+
+    def __init__(self, pattern: Pattern, database: spanbase.Database, inverts: bool):
+        self.by_lines = not (pattern.multiline or pattern.is_formula)
+        self.search = searched(pattern, database, names=False, lines=LINE if self.by_lines else None)
+        self.inverts = inverts
+
+    def of(self, document: Searched, page: Page | None = None) -> Iterator[Bounds]:
+        answers = self.search.answers(document, page)
+        return (lines_without if self.inverts else lines_with)(document.content, answers)
+
+    def count(self, document: Searched) -> int:
+        if not self.by_lines:
+            return sum(1 for _ in self.of(document))
+        found = counted(self.search, document)
+        return document.content.line_count() - found if self.inverts else found
+
+    def are_some(self, document: Searched) -> bool:
+        if not self.inverts:
+            return self.search.query.test(document.content.document)
+        if self.search.names:
+            return self.count(document) > 0
+        # a formula without variables chooses no line
+        raise Trouble("the formula has no variable, so it doesn't say which lines match; -v needs one")
 
 
 def print_answers(
@@ -266,7 +347,10 @@ def print_answers(
 ) -> bool:
     """Prints the answers, or counts them."""
     picks = asked.longest or not (asked.all or asked.formula or search.names != (MATCH,))
-    pick = longest if picks else iter
+
+    def pick(answers: Iterator[Answer]) -> Iterator[Answer]:
+        return longest(answers) if picks else answers
+
     if asked.count_matches:
         if not picks and not search.has_hidden:
             return Counts(sys.stdout.buffer, heads).write_all((it.title, counted(search, it)) for it in documents)

@@ -117,7 +117,7 @@ class Followed:
 
     def start_of_last(self, count: int) -> int:
         """Where the last lines begin. What stands behind the last newline is a line of its own."""
-        end = os.fstat(self.descriptor).st_size
+        end = self.size()
         if count == 0:
             # a line that has begun is read whole
             count, stop = 1, end
@@ -135,6 +135,10 @@ class Followed:
                 return begin + at + 1
             stop = begin
         return 0
+
+    def size(self) -> int:
+        assert self.descriptor is not None
+        return os.fstat(self.descriptor).st_size
 
     def piece(self, position: int, length: int = PIECE) -> bytes:
         assert self.descriptor is not None
@@ -160,7 +164,7 @@ class Followed:
             self.close()
             if self.open():
                 yield from self.grown()
-        elif os.fstat(self.descriptor).st_size < self.position:
+        elif self.size() < self.position:
             TOOL.say(f"{shown(self.path)}: has been truncated; reading it from the beginning")
             yield from self.ended()
             self.position, self.is_new = 0, True

@@ -10,8 +10,8 @@ import argparse
 import sys
 from collections.abc import Callable, Sequence
 
-from spanbase.cli._common import Parser, Tool, Trouble, name_of_language, translated, with_place
-from spanbase.formula import FormulaError, Translation, check, translate, with_gaps_captured
+from spanbase.cli._common import TOO_MANY_STATES, Parser, Tool, Trouble, name_of_language, translated, with_place
+from spanbase.formula import FormulaError, Translation, check, translate
 
 TOOL = Tool("formula")
 
@@ -35,52 +35,26 @@ def parser() -> Parser:
     return reader
 
 
-def accepts(asked: argparse.Namespace) -> Callable[[Translation], bool]:
-    """Whether the program takes the formula, which it rejects where the query has too many states."""
-    import spanbase
-
-    def accepted(found: Translation) -> bool:
-        try:
-            with spanbase.Database(asked.program, workers=asked.workers, states=asked.states) as database:
-                database.formula(found.formula)
-        except spanbase.Refused as refused:
-            if refused.word == "TooManyStates":
-                return False
-            raise Trouble(str(refused)) from None
-        except spanbase.SpanbaseError as error:
-            raise Trouble(str(error)) from None
-        return True
-
-    return accepted
-
-
-def with_few_states(
-    pattern: str, make: Callable[[str], Translation], accepted: Callable[[Translation], bool]
-) -> tuple[str, Translation] | None:
-    """The regex with a gap captured such that the program takes it, and its formula."""
-    for candidate in with_gaps_captured(pattern):
-        try:
-            found = make(candidate)
-        except ValueError:
-            continue
-        if accepted(found):
-            return candidate, found
-    return None
-
-
 def tried(asked: argparse.Namespace, found: Translation, make: Callable[[str], Translation]) -> Translation:
-    """The translation, or with --split one with a gap captured, where the program takes it."""
-    accepted = accepts(asked)
-    if accepted(found):
-        return found
-    better = with_few_states(asked.text, make, accepted)
-    why = "TooManyStates: the query's automaton has too many states"
+    """The translation if the program accepts it, or else with --split one with a gap captured."""
+    import spanbase
+    from spanbase.query import query_with_gap
+
+    try:
+        with spanbase.Database(asked.program, workers=asked.workers, states=asked.states) as database:
+            try:
+                database.formula(found.formula)
+                return found
+            except spanbase.TooManyStates:
+                better = query_with_gap(database, asked.text, make)
+    except spanbase.SpanbaseError as error:
+        raise Trouble(str(error)) from None
     if better is None:
-        raise Trouble(f"{why}; make its repetitions shorter, or search for its parts by queries of their own")
+        raise Trouble(f"{TOO_MANY_STATES}; make its repetitions shorter, or search for its parts by queries of their own")
     if not asked.split:
-        raise Trouble(f"{why}; capture a gap, as --split does: {better[0]}")
-    TOOL.say(f"note: with a gap captured the regex is {better[0]}")
-    return better[1]
+        raise Trouble(f"{TOO_MANY_STATES}; capture a gap, as --split does: {better.regex}")
+    TOOL.say(f"note: with a gap captured the regex is {better.regex}")
+    return better.translation
 
 
 def remarks(asked: argparse.Namespace, found: Translation) -> list[str]:

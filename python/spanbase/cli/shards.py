@@ -79,7 +79,7 @@ def engine(asked: argparse.Namespace) -> Iterator[Any]:
     # what happens to a task is reported with its shard
     logging.getLogger("distributed.client").setLevel(logging.CRITICAL)
     try:
-        client = Client(asked.scheduler, timeout=asked.wait, set_as_default=False)
+        client: Any = Client(asked.scheduler, timeout=asked.wait, set_as_default=False)
     except (OSError, ValueError, TimeoutError) as error:
         raise Trouble(f"there is no scheduler at {asked.scheduler}: {str(error).splitlines()[0]}") from None
     with client:
