@@ -3,11 +3,8 @@ import re
 from dataclasses import dataclass, replace
 from typing import NoReturn
 
-from ._regex import CONTROLS, LONGEST_NAME, MOST_SETS
-
-LONGEST_FORMULA = 2048
-MOST_VARIABLES = 8
-DEEPEST = 64
+from ._regex import CONTROLS
+from .limits import DEEPEST, LONGEST_FORMULA, LONGEST_NAME, MOST_SETS, MOST_VARIABLES
 
 
 @dataclass(frozen=True)

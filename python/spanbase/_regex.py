@@ -36,9 +36,8 @@ from ._nodes import (
     set_text,
     variables,
 )
+from .limits import LONGEST_NAME, MOST_SETS
 
-LONGEST_NAME = 64
-MOST_SETS = 512
 # a lookaround has at most this many words, of at most this many bytes together, to be expanded
 MOST_WORDS = 32
 MOST_WORD_BYTES = 128

@@ -15,9 +15,10 @@ from spanbase import sidefile
 from spanbase.documents import RESERVED, AnyPath, Document, SourceFile, Text, Version, Versions, checked_name
 from spanbase.errors import BadCommand, BadImage, FileRefused, Refused, SideFileError, UnknownName, refusal
 from spanbase.expressions import Expression, Literal, TextLike, compiled, encoded, literal
+from spanbase.limits import LONGEST_LINE, WIDEST_SHOW
 from spanbase.query import Queries, Query, Registration, query_of_formula, query_of_regex
 from spanbase.replacing import chosen_spans, replacing_edits
-from spanbase.shell import LONGEST_LINE, WIDEST_SHOW, Reply, Shell, quoted, shell_path, unquoted
+from spanbase.shell import Reply, Shell, quoted, shell_path, unquoted
 
 __all__ = ["Database", "Saved"]
 

@@ -7,13 +7,7 @@ import re
 from dataclasses import dataclass, field, replace
 from functools import cached_property
 
-from ._check import (
-    LONGEST_FORMULA,
-    MOST_VARIABLES,
-    FormulaError,
-    FormulaReader,
-    check_formula,
-)
+from ._check import FormulaError, FormulaReader, check_formula
 from ._contexts import FREE, NoFormula, formula_of
 from ._ends import open_ends
 from ._nodes import (
@@ -38,8 +32,9 @@ from ._nodes import (
     text_of,
     variables,
 )
+from ._regex import AT_LINE, END, RegexReader
 from .errors import SpanbaseError
-from ._regex import AT_LINE, END, MOST_SETS, RegexReader
+from .limits import LONGEST_FORMULA, MOST_SETS, MOST_VARIABLES
 
 __all__ = ["FormulaError", "Translation", "Untranslatable", "check", "translate", "with_gaps_captured"]
 

@@ -4,7 +4,7 @@ from bisect import bisect_left
 from collections.abc import Collection
 from typing import TYPE_CHECKING
 
-from spanbase.shell import MOST_LISTED
+from spanbase.limits import MOST_LISTED
 
 if TYPE_CHECKING:
     from spanbase.database import Database

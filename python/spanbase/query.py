@@ -10,8 +10,9 @@ from spanbase import formula as translator
 from spanbase.documents import Document, Text, checked_name
 from spanbase.errors import BadTuple, DocumentChanged, SideFileError, TooManyStates, UnknownName, refusal
 from spanbase.export import Tabular
+from spanbase.limits import LONGEST_FORMULA, MOST_LISTED
 from spanbase.lines import lines_and_columns
-from spanbase.shell import MOST_LISTED, Reply
+from spanbase.shell import Reply
 from spanbase.sidefile import Tree
 
 if TYPE_CHECKING:
@@ -35,7 +36,6 @@ __all__ = [
 Tuple = Union["Row", str, Mapping[str, "tuple[int, int] | Span | None"]]
 
 ENTRY = re.compile(rb"([^=,]+)=(?:-|\[(\d+),(\d+)\))")
-LONGEST_FORMULA = 2048
 # an iteration begins with a short page, whose rows come soon, and each next one is longer
 FIRST_PAGE = 100
 PAGE_GROWTH = 10

@@ -3,8 +3,8 @@ import re
 from collections.abc import Iterable, Iterator
 from typing import TYPE_CHECKING
 
+from spanbase.limits import MOST_LISTED
 from spanbase.lines import LAST_POSITION
-from spanbase.shell import MOST_LISTED
 
 if TYPE_CHECKING:
     from spanbase.documents import Document

@@ -47,8 +47,9 @@ from spanbase.errors import (
 from spanbase.export import Tabular
 from spanbase.formula import Translation
 from spanbase.formula import check as variables_of
+from spanbase.limits import LONGEST_FILE, LONGEST_IMAGE, MOST_LISTED, WIDEST_SHOW
 from spanbase.query import Query
-from spanbase.shell import MOST_LISTED, WIDEST_SHOW, Shell, shell_path, unquoted
+from spanbase.shell import Shell, shell_path, unquoted
 
 __all__ = [
     "Answers",
@@ -73,8 +74,6 @@ MANIFEST = "manifest.json"
 UNFINISHED = "manifest.unfinished.json"
 IMAGE_NAME = re.compile(r"\d{4,}-[0-9a-f]{16}\.image")
 OWN_NAME = re.compile(r"\d{4,}-[0-9a-f]{16}\.(image|part)|manifest(\.unfinished)?\.json(\.[0-9a-f]{16}\.part)?")
-LONGEST_FILE = 1 << 32
-LONGEST_IMAGE = 1 << 30
 HASHED_PIECE = 1 << 20
 # so many spans are shown by one exchange with the program
 SHOWN_TOGETHER = 4096

@@ -15,12 +15,9 @@ from pathlib import Path
 from typing import IO, Self
 
 from spanbase.errors import ProgramNotFound, Refused, ShellEnded, refusal
+from spanbase.limits import LONGEST_LINE
 
-__all__ = ["LONGEST_LINE", "MOST_LISTED", "WIDEST_SHOW", "Reply", "Shell", "quoted", "shell_path", "unquoted"]
-
-LONGEST_LINE = 65536
-WIDEST_SHOW = 4096
-MOST_LISTED = 10000
+__all__ = ["LAST_LINES", "REFUSAL", "Reply", "Shell", "has_no_reply", "quoted", "shell_path", "unquoted"]
 
 Reply = list[bytes]
 

@@ -8,7 +8,7 @@ import re
 import subprocess
 import sys
 import tempfile
-from collections.abc import Callable, Iterator, Sequence
+from collections.abc import Callable, Iterable, Iterator, Sequence
 from pathlib import Path
 from types import ModuleType
 from unittest import mock
@@ -16,7 +16,7 @@ from unittest import mock
 TOOLS = Path(__file__).resolve().parent.parent
 sys.path[:0] = [str(TOOLS), str(TOOLS.parent / "python")]
 
-from program import Reply, replies_of, run_script  # noqa: E402
+from spanbase.shell import LAST_LINES, REFUSAL, Reply, has_no_reply  # noqa: E402
 
 PROGRAM = Path(os.environ["SPANBASE_PROGRAM"])
 STAND_IN = TOOLS / "tests/shell"
@@ -86,6 +86,16 @@ def folder_with(files: dict[str | bytes, bytes]) -> Iterator[Path]:
         yield Path(name)
 
 
+def replies_of(commands: Iterable[bytes], lines: Iterator[bytes]) -> Iterator[Reply]:
+    """The replies to the commands, each as its lines, from the lines that the program writes."""
+    for command in commands:
+        ends = LAST_LINES.get(command.split(b" ", 1)[0], frozenset())
+        reply = [] if has_no_reply(command) else [next(lines)]
+        while ends and reply[-1] not in ends and not REFUSAL.fullmatch(reply[0]):
+            reply.append(next(lines))
+        yield reply
+
+
 def replies(
     commands: list[bytes], files: dict[str, bytes] | None = None, kept: dict[str, Path] | None = None
 ) -> list[Reply]:
@@ -93,7 +103,10 @@ def replies(
     with tempfile.TemporaryDirectory() as folder:
         for name, content in (files or {}).items():
             Path(folder, name).write_bytes(content)
-        told = list(replies_of(commands, iter(run_script(PROGRAM, commands, Path(folder)))))
+        script = b"".join(command + b"\n" for command in commands)
+        ran = subprocess.run([PROGRAM], input=script, capture_output=True, cwd=folder, check=False)
+        assert ran.returncode in (0, 1), ran.stderr
+        told = list(replies_of(commands, iter(ran.stdout.split(b"\n")[:-1])))
         for name, place in (kept or {}).items():
             place.write_bytes(Path(folder, name).read_bytes())
         return told

@@ -12,7 +12,6 @@ from spanbase.formula import FormulaError, Untranslatable
 Result = TypeVar("Result")
 
 FOUND, NOT_FOUND, TROUBLE, INTERRUPTED = 0, 1, 2, 130
-LONGEST_NAME = 64
 TOO_MANY_STATES = "TooManyStates: the automaton of the query has too many states"
 
 

@@ -1,11 +1,12 @@
 """Queries of the tools, and their answers."""
+import argparse
 import os
 import re
 from collections.abc import Iterator, Sequence
 from dataclasses import dataclass
 
 import spanbase
-from spanbase.cli._common import TOO_MANY_STATES, Parser, Trouble, translated
+from spanbase.cli._common import TOO_MANY_STATES, Parser, Tool, Trouble, shown, translated
 from spanbase.cli._content import Content
 from spanbase.cli._output import Answer, hull
 from spanbase.formula import Translation, check, translate
@@ -114,6 +115,22 @@ def replies(database: spanbase.Database, lines: Sequence[bytes]) -> list[list[by
     return found
 
 
+def opened(asked: argparse.Namespace, image: str | os.PathLike[str] | None = None) -> spanbase.Database:
+    """A database, with the documents of an image if there is one, by the options of the program."""
+    if image is not None:
+        return spanbase.Database.open(image, asked.program, workers=asked.workers, states=asked.states)
+    return spanbase.Database(asked.program, workers=asked.workers, states=asked.states)
+
+
+def documents_of(database: spanbase.Database, image: str, names: Sequence[str], tool: Tool) -> Iterator[Searched]:
+    """The documents of an image that have these names, or all. A name that it lacks is reported."""
+    for name in names or database.names():
+        if name in database:
+            yield Searched(os.fsencode(name), Content(database[name]))
+        else:
+            tool.trouble(f"{shown(image)} has no document {shown(name)}")
+
+
 @dataclass(frozen=True)
 class Pattern:
     """A regex, or a formula, and how it is matched."""
@@ -174,30 +191,17 @@ def add_pattern_options(reader: Parser) -> None:
     reader.add_program()
 
 
-def longest(answers: Iterator[Answer], empty: bool = False) -> Iterator[Answer]:
-    """From left to right the longest answer at each position, and none that begins in the one before. With `empty`, an empty
-    answer counts too, unless it stands where the one before ends."""
+def longest(answers: Iterator[Answer]) -> Iterator[Answer]:
+    """From left to right the longest answer at each position, without empty ones and those that begin in the previous one."""
     best: Answer | None = None
     start = end = done = 0
-    some = False
     for answer in answers:
         if (span := hull(answer)) is None:
             continue
         if best is not None and span[0] != start:
             yield best
-            best, done, some = None, end, True
-        fits = span[0] >= done and (span[1] > span[0] or (empty and not (some and span[0] == done)))
-        if fits and (best is None or span[1] > end):
+            best, done = None, end
+        if span[0] >= done and span[1] > span[0] and (best is None or span[1] > end):
             best, (start, end) = answer, span
     if best is not None:
         yield best
-
-
-def shortest(answers: Iterator[Answer], empty: bool = False) -> Iterator[Answer]:
-    """From left to right the shortest answer at each position, and none that begins in the one before."""
-    done = 0
-    for answer in answers:
-        span = hull(answer)
-        if span is not None and span[0] >= done and (empty or span[1] > span[0]):
-            yield answer
-            done = span[1]

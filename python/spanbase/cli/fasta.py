@@ -18,11 +18,10 @@ from dataclasses import dataclass, field
 from pathlib import Path
 from typing import BinaryIO, cast
 
-from spanbase.cli._common import LONGEST_NAME, OwnFolder, Parser, Tool, Trouble, file_of_language, shown
+from spanbase.cli._common import OwnFolder, Parser, Tool, Trouble, file_of_language, shown
+from spanbase.limits import LONGEST_FILE, LONGEST_NAME, LONGEST_SCRIPT
 
 TOOL = Tool("fasta")
-LONGEST_FILE = 1 << 32
-LONGEST_SCRIPT = 1 << 24
 LONGEST_HEADER = 1000
 GZIP = b"\x1f\x8b"
 # the document with all sequences, which the script drops at its end

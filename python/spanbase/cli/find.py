@@ -32,7 +32,18 @@ from spanbase.cli._output import (
     lines_with,
     lines_without,
 )
-from spanbase.cli._search import LINE, MATCH, Page, Pattern, Search, Searched, add_pattern_options, longest
+from spanbase.cli._search import (
+    LINE,
+    MATCH,
+    Page,
+    Pattern,
+    Search,
+    Searched,
+    add_pattern_options,
+    documents_of,
+    longest,
+    opened,
+)
 
 TOOL = Tool("find")
 STANDARD_INPUT = b"(standard input)"
@@ -221,16 +232,6 @@ def loaded(database: spanbase.Database, asked: argparse.Namespace) -> list[Searc
     return found
 
 
-def of_image(database: spanbase.Database, asked: argparse.Namespace) -> list[Searched]:
-    found: list[Searched] = []
-    for name in asked.files or database.names():
-        if name in database:
-            found.append(Searched(os.fsencode(name), Content(database[name])))
-        else:
-            TOOL.trouble(f"{shown(asked.image)} has no document {shown(name)}")
-    return found
-
-
 # ------------------------------------------------------------------------------------------------------------------ main
 
 
@@ -378,12 +379,15 @@ def output_of(asked: argparse.Namespace, search: Search, heads: Titles) -> Outpu
 def run(words: Sequence[str] | None) -> int:
     asked = arguments(words)
     try:
-        database = opened(asked)
+        database = opened(asked, asked.image)
     except spanbase.SpanbaseError as error:
         raise Trouble(str(error)) from None
     with database:
         try:
-            documents = of_image(database, asked) if asked.image else loaded(database, asked)
+            if asked.image:
+                documents = list(documents_of(database, asked.image, asked.files, TOOL))
+            else:
+                documents = loaded(database, asked)
             found = find(database, asked, documents)
         except spanbase.SpanbaseError as error:
             if isinstance(error, BrokenPipeError):
@@ -392,13 +396,6 @@ def run(words: Sequence[str] | None) -> int:
     if TOOL.troubles and not (asked.quiet and found):
         return TROUBLE
     return FOUND if found else NOT_FOUND
-
-
-def opened(asked: argparse.Namespace) -> spanbase.Database:
-    how = {"workers": asked.workers, "states": asked.states}
-    if asked.image:
-        return spanbase.Database.open(asked.image, asked.program, **how)
-    return spanbase.Database(asked.program, **how)
 
 
 def main(words: Sequence[str] | None = None) -> int:

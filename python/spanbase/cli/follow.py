@@ -16,7 +16,7 @@ import spanbase
 from spanbase.cli._common import FOUND, NOT_FOUND, Parser, Tool, Trouble, shown
 from spanbase.cli._content import Content
 from spanbase.cli._output import Answer, Titles, hull
-from spanbase.cli._search import LINE, MATCH, Pattern, Search, Searched, add_pattern_options, longest
+from spanbase.cli._search import LINE, MATCH, Pattern, Search, Searched, add_pattern_options, longest, opened
 
 TOOL = Tool("follow")
 # so many bytes of a file are read at once
@@ -273,7 +273,7 @@ def run(words: Sequence[str] | None) -> int:
     if "-" in asked.files:
         reader.error("a stream isn't followed; spanbase-find reads standard input")
     try:
-        with spanbase.Database(asked.program, workers=asked.workers, states=asked.states) as database:
+        with opened(asked) as database:
             return follow(database, asked)
     except spanbase.SpanbaseError as error:
         raise Trouble(str(error)) from None

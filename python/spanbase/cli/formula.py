@@ -10,8 +10,8 @@ import argparse
 import sys
 from collections.abc import Callable, Sequence
 
-from spanbase.cli._common import TOO_MANY_STATES, Parser, Tool, Trouble, name_of_language, translated, with_place
-from spanbase.formula import FormulaError, Translation, check, translate
+from spanbase.cli._common import TOO_MANY_STATES, Parser, Tool, Trouble, name_of_language, translated
+from spanbase.formula import Translation, check, translate
 
 TOOL = Tool("formula")
 
@@ -74,11 +74,7 @@ def remarks(asked: argparse.Namespace, found: Translation) -> list[str]:
 def run(words: Sequence[str] | None) -> int:
     asked = parser().parse_args(words)
     if asked.check:
-        try:
-            names = check(asked.text)
-        except FormulaError as error:
-            raise Trouble(with_place(asked.text, error.position, f"{error.word}: {error.message}")) from None
-        print(" ".join(["ok", *names]))
+        print(" ".join(["ok", *translated(lambda: check(asked.text), asked.text)]))
         return 0
 
     def make(pattern: str) -> Translation:

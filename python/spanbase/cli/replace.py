@@ -18,7 +18,8 @@ from pathlib import Path
 import spanbase
 from spanbase.cli._common import FOUND, NOT_FOUND, TROUBLE, Parser, Tool, Trouble, os_trouble, shown
 from spanbase.cli._content import Content, Source, file_kind
-from spanbase.cli._search import Pattern, Search, Searched, add_pattern_options, longest, shortest
+from spanbase.cli._search import Pattern, Search, Searched, add_pattern_options, documents_of, opened
+from spanbase.replacing import chosen_spans
 
 TOOL = Tool("replace")
 # so many bytes of a text are written at once
@@ -86,11 +87,7 @@ def replacement(text: str, literal: bool) -> bytes:
 def texts(database: spanbase.Database, asked: argparse.Namespace) -> Iterator[Searched]:
     """The documents in which is replaced, each loaded when it is its turn."""
     if asked.image:
-        for name in asked.files or database.names():
-            if name in database:
-                yield Searched(os.fsencode(name), Content(database[name]))
-            else:
-                TOOL.trouble(f"{shown(asked.image)} has no document {shown(name)}")
+        yield from documents_of(database, asked.image, asked.files, TOOL)
         return
     for path in map(os.fsencode, asked.files or ["-"]):
         try:
@@ -154,8 +151,7 @@ def replace_in(database: spanbase.Database, search: Search, document: Searched, 
     """Replaces in one document, and returns whether there was something."""
     original = document.content.document
     if asked.dry_run or asked.count:
-        pick = shortest if asked.first else longest
-        spans = [span for (span,) in pick(search.answers(document), empty=True) if span]
+        spans = list(chosen_spans(search.query, original, longest=not asked.first))
         if asked.count:
             sys.stdout.buffer.write(document.title + b":%d\n" % len(spans))
         else:
@@ -180,12 +176,7 @@ def run(words: Sequence[str] | None) -> int:
     by = replacement(asked.text, asked.literal)
     pattern = Pattern(asked.pattern, asked.ignore_case, asked.multiline, asked.ascii_properties, asked.formula)
     try:
-        how = {"workers": asked.workers, "states": asked.states}
-        if asked.image:
-            database = spanbase.Database.open(asked.image, asked.program, **how)
-        else:
-            database = spanbase.Database(asked.program, **how)
-        with database:
+        with opened(asked, asked.image) as database:
             found = replace_all(database, pattern, asked, by)
     except spanbase.FileRefused as error:
         raise Trouble(os_trouble(error)) from None

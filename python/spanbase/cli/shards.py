@@ -18,9 +18,10 @@ from collections.abc import Iterator, Sequence
 from typing import Any, TextIO
 
 from spanbase import shards
-from spanbase.cli._common import FOUND, NOT_FOUND, TROUBLE, Parser, Tool, Trouble, positive, shown, translated, with_place
+from spanbase.cli._common import FOUND, NOT_FOUND, TROUBLE, Parser, Tool, Trouble, positive, shown, translated
+from spanbase.cli._output import escaped
 from spanbase.errors import SpanbaseError
-from spanbase.formula import FormulaError, Translation, check, translate
+from spanbase.formula import Translation, check, translate
 
 TOOL = Tool("shards")
 
@@ -178,20 +179,13 @@ def ask_parser() -> Parser:
 def query_of(asked: argparse.Namespace) -> Translation | str:
     if not asked.formula:
         return translated(lambda: translate(asked.query, 2 if asked.ignore_case else 0), asked.query)
-    try:
-        check(asked.query)
-    except FormulaError as error:
-        raise Trouble(with_place(asked.query, error.position, f"{error.word}: {error.message}")) from None
+    translated(lambda: check(asked.query), asked.query)
     return str(asked.query)
-
-
-ESCAPES = {ord("\t"): "\\t", ord("\n"): "\\n", ord("\r"): "\\r", ord("\\"): "\\\\"}
-ESCAPES |= {code: f"\\x{code:02x}" for code in [*range(32), 127] if code not in ESCAPES}
 
 
 def field(text: str | bytes) -> str:
     """A text with its control bytes and backslashes escaped, so that it is one field of a line."""
-    return (text if isinstance(text, str) else os.fsdecode(text)).translate(ESCAPES)
+    return os.fsdecode(escaped(os.fsencode(text)))
 
 
 def print_lines(answers: shards.Answers, texts: bool, out: TextIO) -> None:

@@ -30,11 +30,10 @@ from spanbase.cli._common import (
 )
 from spanbase.cli._diff import Edit, edits_between
 from spanbase.cli._output import escaped
-from spanbase.cli._search import LINE, Pattern, add_pattern_options, replies
+from spanbase.cli._search import LINE, Pattern, add_pattern_options, opened, replies
+from spanbase.limits import LONGEST_FILE, LONGEST_SCRIPT
 
 TOOL = Tool("versions")
-LONGEST_FILE = 1 << 32
-LONGEST_SCRIPT = 1 << 24
 # an edit nests at most two operations, and an expression at most 64
 EDITS_A_LINE = 30
 LONGEST_LABEL = 200
@@ -219,7 +218,7 @@ def make(asked: argparse.Namespace, folder: OwnFolder) -> str:
     told = f"{len(lengths)} versions with {sum(lengths)} bytes in all: the first has {lengths[0]}, "
     told += f"and {script.edits} edits insert {len(script.added)}"
     if asked.check:
-        with spanbase.Database(asked.program, workers=asked.workers, states=asked.states) as database:
+        with opened(asked) as database:
             script.check(database, folder.path)
         told += "; the program makes the same lengths and the same last version"
     return told
@@ -228,16 +227,15 @@ def make(asked: argparse.Namespace, folder: OwnFolder) -> str:
 # ------------------------------------------------------------------------------------------------------------- questions
 
 
-def opened(asked: argparse.Namespace, folder: OwnFolder) -> spanbase.Database:
-    """A database with the versions: from the image that the script has saved, where it is newer, or by the script."""
-    how = {"workers": asked.workers, "states": asked.states}
+def made_versions(asked: argparse.Namespace, folder: OwnFolder) -> spanbase.Database:
+    """A database with the versions: from the image that the script has saved if that is newer, or else by the script."""
     script = folder.path / "script"
     lines = script.read_bytes().splitlines()
     saves = [os.fsdecode(line[5:]) for line in lines if line.startswith(b"save ")]
     image = folder.path / saves[-1] if saves else None
     if image and image.is_file() and image.stat().st_mtime_ns > script.stat().st_mtime_ns:
-        return spanbase.Database.open(image, asked.program, **how)
-    database = spanbase.Database(asked.program, **how)
+        return opened(asked, image)
+    database = opened(asked)
     try:
         run_script(database, folder.path, lines)
     except BaseException:
@@ -253,7 +251,7 @@ def containing(asked: argparse.Namespace, folder: OwnFolder) -> bool:
     index = (folder.path / INDEX).read_bytes().splitlines(keepends=True)
     pattern = Pattern(asked.containing, asked.ignore_case, False, asked.ascii_properties, False, asked.split)
     found = False
-    with opened(asked, folder) as database:
+    with made_versions(asked, folder) as database:
         search = pattern.search(database, names=False, lines=LINE)
         for line in index[1:]:
             name = line.split(b"\t", 1)[0].decode()
