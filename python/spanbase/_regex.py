@@ -151,7 +151,7 @@ class RegexReader:
         # the greatest number of sets that a repetition takes, and its index
         self.largest = (0, 0)
         self.has_lazy = False
-        # the beginning, the end and the greatest length of each part that may skip bytes of several lengths
+        # the start and the end of each repetition of a set, and by how much its length varies
         self.gaps: list[tuple[int, int, int]] = []
         self.looks = 0
 
@@ -251,7 +251,8 @@ class RegexReader:
             self.refuse(again, "a repetition is repeated", f"put the first one in a group: (?:{whole}){self.regex[again]}")
         found = self.times(body, *bounds, at)
         least, most = bounds
-        if isinstance(body, Chars) and len(body.members) > 1 and least != most and not possessive and not self.looks:
+        is_gap = isinstance(body, Chars) and len(body.members) > 1 and (least != most or least > 1)
+        if is_gap and not possessive and not self.looks:
             self.gaps.append((start, again, most - least if most is not None else MOST_SETS + 1))
         if not possessive:
             return found

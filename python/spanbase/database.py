@@ -9,7 +9,7 @@ from collections import deque
 from collections.abc import Iterator, Mapping, Sequence
 from itertools import islice
 from pathlib import Path
-from typing import Any, NamedTuple, Self
+from typing import NamedTuple, Self
 
 from spanbase import sidefile
 from spanbase.documents import RESERVED, AnyPath, Document, SourceFile, Text, Version, Versions, checked_name

@@ -98,7 +98,7 @@ class BadQuery(Refused, ValueError):
 class TooManyStates(BadQuery):
     """The automaton of the query has too many states.
 
-    `regex` captures a gap of the regex that was given, such that the program accepts it, or is None where none was found.
+    `regex` is the regex of the query with a gap captured, such that the program accepts it, or None if there is no such gap.
     """
 
     regex: str | None = None
@@ -111,7 +111,7 @@ class TooManyStates(BadQuery):
         subject, advice = STATES_ADVICE.get(command, STATES_ADVICE["query"])
         if self.regex is not None:
             advice = f"capture a gap, as in {self.regex}"
-        return f"the automaton of the {subject} has too many states; {advice}; or allow more, as by states=1024"
+        return f"the automaton of the {subject} has too many states; {advice}; or allow more, by states=1024 or --states 1024"
 
 
 class BadTuple(Refused, ValueError):
@@ -268,7 +268,7 @@ MEANINGS = {
     "FileTooLong": "the file is too long",
 }
 
-# for each command that makes a query: what has the states, and what has fewer of them
+# for each command that makes a query: what has the states, and what needs fewer of them
 STATES_ADVICE = {
     "query": ("query", "capture a gap of the pattern in a group, or write a smaller bound"),
     "join": (
@@ -276,7 +276,7 @@ STATES_ADVICE = {
         "write one regex with the parts in their order, join fewer queries, or list the queries and combine their rows",
     ),
     "union": ("union", "list both queries and merge their rows"),
-    "project": ("projection", "keep more variables"),
+    "project": ("projection", "keep a variable that ends where a gap begins or ends"),
 }
 
 IMAGE_FAULTS = {

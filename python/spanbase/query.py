@@ -7,7 +7,7 @@ from dataclasses import dataclass
 from typing import TYPE_CHECKING, NamedTuple, Union, overload
 
 from spanbase import formula as translator
-from spanbase.documents import Document, Text, checked_name
+from spanbase.documents import Document, checked_name
 from spanbase.errors import BadTuple, DocumentChanged, SideFileError, TooManyStates, UnknownName, refusal
 from spanbase.export import Tabular
 from spanbase.limits import LONGEST_FORMULA, MOST_LISTED

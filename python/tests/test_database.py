@@ -15,7 +15,7 @@ from typing import Any
 import spanbase
 from spanbase import Database, concat
 from spanbase.expressions import Expression
-from tests.support import PROGRAM, SHELL, TIMES, ShellCase, python_with
+from tests.support import PROGRAM, SHELL, TIMES, ShellCase
 
 # what a file can be called
 PATHS = [

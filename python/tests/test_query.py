@@ -3,11 +3,11 @@ import csv
 import gc
 import io
 import json
+import pickle
 import random
 import re
 import subprocess
 import unittest.mock
-from typing import Any
 
 import spanbase
 from spanbase import Database, Query
@@ -290,6 +290,29 @@ class Answers(ShellCase):
         gc.collect()
         told = [database.ask_all([f"test {key} d".encode()])[0] for key in keys[:2]]
         self.assertEqual([type(it) for it in told], [spanbase.UnknownName] * 2)
+
+    def test_advice_for_too_many_states(self) -> None:
+        """The message says what needs fewer states, by the operation, and a regex with a gap captured is tried."""
+        database = self.database()
+        field = r"(?m)^Package: (?P<package>.+)\n(?:.+\n)*{0}: (?P<{0}>.+)$"
+        version, section, depends = (database.query(field.format(it)) for it in ("Version", "Section", "Depends"))
+        gap = "(?P<match>TTGACA(?P<gap>.{0,60})TATAAT)"
+        seven = database.formula("$x{[ab]*}a" + "[ab]" * 6)
+        for make, regex, advice in [
+            (lambda: database.query("TTGACA.{0,60}TATAAT"), gap, f"query has too many states; capture a gap, as in {gap};"),
+            (lambda: database.query(b"a.{9}(?P<x>b)"), "a(?P<gap>.{9})(?P<x>b)", "query has too many states; capture a gap"),
+            (lambda: database.formula("[ab]*a" + "[ab]" * 7), None, "query has too many states; capture a gap of the"),
+            (lambda: version & section & depends, None, "join has too many states; write one regex"),
+            (lambda: seven.project(), None, "projection has too many states; keep a variable"),
+        ]:
+            with self.assertRaises(spanbase.TooManyStates) as refused:
+                make()
+            error = pickle.loads(pickle.dumps(refused.exception))
+            self.assertIn(f"TooManyStates: the automaton of the {advice}", str(error))
+            if regex:
+                self.assertEqual(error.regex, regex)
+                self.assertIn("gap", database.query(error.regex).variables)
+        database.query(field.format("Version").removesuffix("$") + r"\n(?:.+\n)*Depends: (?P<depends>.+)$")
 
     def test_more_states(self) -> None:
         formula = b".*error" + b"[^\n]?" * 12 + b"timeout.*"
