@@ -64,7 +64,7 @@ class FormulaReader:
         for part in reversed(parts):
             shared = [name for name in self.order if name in part.places and name in places]
             if shared and not fault:
-                fault = shared[0], places[shared[0]], "it was captured before in the same row"
+                fault = shared[0], places[shared[0]], "it was captured before in the same sequence"
             places |= part.places
         return Found(places, fault)
 
@@ -108,14 +108,14 @@ class FormulaReader:
     def capture(self, at: int, depth: int) -> Found:
         name = re.compile(r"[A-Za-z_][A-Za-z0-9_.-]*").match(self.formula, self.place)
         if not name or self.formula[name.end() : name.end() + 1] != "{":
-            self.bad(at, "behind `$` stand a name and `{`; the byte itself is `\\$`, and a text's end has no sign")
+            self.bad(at, "a name and `{` must follow `$`; the byte itself is `\\$`, and the end of a text has no symbol")
         if len(name[0]) > LONGEST_NAME:
             self.bad(at, f"the name has more than {LONGEST_NAME} bytes")
         self.place = name.end() + 1
         if name[0] not in self.order:
             self.order.append(name[0])
         body = self.inside(at, depth + 1, "}")
-        inner = name[0], body.places.get(name[0], at), "it stands in a capture of itself"
+        inner = name[0], body.places.get(name[0], at), "it is in a capture of the same variable"
         fault = body.fault or (inner if name[0] in body.places else None)
         return Found(body.places | {name[0]: at}, fault)
 
@@ -139,7 +139,7 @@ class FormulaReader:
             if self.peek() == "-":
                 self.place += 1
                 if first > self.member(at):
-                    self.bad(start, "the range goes from the greater byte to the lesser")
+                    self.bad(start, "the range goes from the greater byte to the smaller")
         self.place += 1
 
     def member(self, at: int) -> int:
@@ -153,7 +153,7 @@ class FormulaReader:
 
 
 def check_formula(formula: bytes) -> FormulaReader:
-    """Reads a formula, or raises the program's refusal of it. TooManyStates is known to the program alone."""
+    """Reads a formula, or raises the program's rejection. Only the program knows TooManyStates."""
     if len(formula) > LONGEST_FORMULA:
         raise FormulaError("FormulaTooLong", f"it has {len(formula)} bytes, and at most {LONGEST_FORMULA} are allowed")
     reader = FormulaReader(formula.decode("latin-1"))
@@ -172,5 +172,5 @@ def check_formula(formula: bytes) -> FormulaReader:
         raise FormulaError("TooManyVariables", why, at)
     if found.fault:
         name, at, why = found.fault
-        raise FormulaError("NotFunctional", f"the variable {name} may be met twice: {why}", at)
+        raise FormulaError("NotFunctional", f"the variable {name} could be assigned twice: {why}", at)
     return reader

@@ -62,7 +62,7 @@ class NoFormula(Exception):
 
 
 def ways_through(node: Node) -> list[Way]:
-    """The ways through a tree, such that no condition stands inside a tree of a way."""
+    """The ways through a tree, such that no condition is inside a tree of a way."""
     if not (found := conditions(node)):
         return [[node]]
     ways: list[Way]
@@ -93,8 +93,8 @@ def check_count(count: int, at: int) -> None:
     if count > MOST_WAYS:
         raise NoFormula(
             at,
-            f"the conditions from here on can be met in more than {MOST_WAYS} combinations",
-            "write its cases as regexes of their own, and search for each of them",
+            f"the assertions from here on can be satisfied in more than {MOST_WAYS} combinations",
+            "write its cases as separate regexes, and search for each of them",
         )
 
 
@@ -144,13 +144,13 @@ def ways_of_loop(sign: str, body: Node, at: int) -> list[Way]:
 def unmet_in_loop(at: int) -> NoFormula:
     return NoFormula(
         at,
-        "this condition under a repetition has neighbours that aren't the same each time",
-        "say by bytes what stands between two repetitions, as in (?:a\\n)+ for (?:^a$\\n?)+",
+        "this assertion under a repetition is satisfied by different neighbours each time",
+        "write the bytes between two repetitions, as in (?:a\\n)+ for (?:^a$\\n?)+",
     )
 
 
 def steps_of(way: Way, at: int) -> list[Step]:
-    """The repetitions that a way through a loop's body stands for."""
+    """The repetitions of a way through a loop's body."""
     found_conditions = [(index, item) for index, item in enumerate(way) if isinstance(item, Condition | Look)]
     if not found_conditions:
         return [Step(FREE, joined(way), FREE)]
@@ -217,8 +217,8 @@ def beside(way: Way, side: Side, front: bool) -> list[Way]:
 
 @dataclass(frozen=True)
 class Split:
-    """A way in which a tree matches a non-empty word: what stands outside of its outermost byte, the set of that byte, and
-    what stands inside of it."""
+    """A way in which a tree matches a non-empty word: the items outside of its outermost byte, the set of that byte, and the
+    items inside of it."""
 
     outside: tuple[Item, ...]
     members: Bytes
@@ -340,16 +340,16 @@ def with_look(way: Way, index: int, look: Look) -> list[Way]:
 def no_words(look: Look) -> NoFormula:
     kind, end = ("lookbehind", "first") if look.behind else ("lookahead", "last")
     if variables(look.body):
-        why, hint = f"a group with a name in a {kind} that doesn't stand {end}", "put the group outside of it"
+        why, hint = f"a named group in a {kind} that isn't {end}", "put the group outside of it"
     elif conditions(look.body):
-        why = f"a {kind} with a condition in it that doesn't stand {end}"
-        hint = r"write the byte that the condition looks at, as in (?!end\W) for (?!end\b)"
+        why = f"a {kind} that contains an assertion and isn't {end}"
+        hint = r"write the byte that the assertion tests, as in (?!end\W) for (?!end\b)"
     elif look.negative:
-        why = f"a negative {kind} of words of any length"
-        hint = "search for the regex without it and for the one with it as text, and take the first answers without the second"
+        why = f"a negative {kind} of unbounded or large length"
+        hint = "search for the regex without it, and for the regex with its content; keep the first answers without the second"
     else:
-        why = f"a {kind} of words of any length that doesn't stand {end}"
-        hint = "write it as a regex of its own, and join both queries"
+        why = f"a {kind} of unbounded or large length that isn't {end}"
+        hint = "write it as a separate regex, and join both queries"
     return NoFormula(look.at, f"{why} has no formula", hint)
 
 

@@ -113,11 +113,11 @@ OTHER_ESCAPES = {
     "H": ("no horizontal space", "write [^ \\t]"),
     "R": ("a line end", "write (?:\\r\\n|\\n|\\r)"),
     "N": ("a byte other than a newline", "write [^\\n]"),
-    "K": ("a new beginning of the match", "name the part behind it, as in foo(?P<part>bar)"),
+    "K": ("a new start of the match", "name the part after it, as in foo(?P<part>bar)"),
     "G": ("the end of the last match", "write the two matches as one regex"),
     "X": ("a character with its marks", "write the bytes that it may have"),
-    "Q": ("a quotation", "escape each sign by a backslash"),
-    "E": ("the end of a quotation", "escape each sign by a backslash"),
+    "Q": ("the start of a quotation", "escape each special character with a backslash"),
+    "E": ("the end of a quotation", "escape each special character with a backslash"),
     "k": ("a backreference", "name both parts, and compare their texts in the answers"),
     "g": ("a backreference", "name both parts, and compare their texts in the answers"),
     "u": ("a character by its number", "write its UTF-8 bytes, as \\xc3\\xa9 for U+00E9"),
@@ -213,14 +213,14 @@ class RegexReader:
             part = self.repeated(atom, at)
             if twice := names & set(variables(part)):
                 name = min(twice)
-                self.refuse(at, f"the group {name} stands twice in one match", "take another name for one of them")
+                self.refuse(at, f"the group name {name} occurs twice in one match", "rename one of the groups")
             names |= set(variables(part))
             parts.append(part)
 
     # -------------------------------------------------------------------------------------------------------- repetitions
 
     def sign(self) -> tuple[int, int | None] | None:
-        """The bounds of a repetition that stands here, if there is one."""
+        """The bounds of the quantifier here, if there is one."""
         at = self.place
         if self.find(r"[*+?]"):
             return {"*": (0, None), "+": (1, None), "?": (0, 1)}[self.regex[at]]
@@ -230,17 +230,17 @@ class RegexReader:
         least = int(found[1] or 0)
         most = least if not found[2] else int(found[3]) if found[3] else None
         if most is not None and least > most:
-            self.refuse(at, f"the repetition has a least number of {least} and a greatest of {most}", "exchange the numbers")
+            self.refuse(at, f"the quantifier has the minimum {least} and the maximum {most}", "exchange the numbers")
         return least, most
 
     def repeated(self, body: Node, start: int) -> Node:
-        """The body with the sign behind it, if there is one."""
+        """The body with the quantifier after it, if there is one."""
         self.skip()
         at = self.place
         if (bounds := self.sign()) is None:
             return body
         if self.regex[start] in "^$" or (self.regex[start] == "\\" and isinstance(body, Condition)):
-            self.refuse(at, "a condition has nothing to repeat", "leave out the sign behind it")
+            self.refuse(at, "an assertion can't be repeated", "omit the quantifier after it")
         possessive = self.take("+")
         lazy = not possessive and self.take("?")
         self.has_lazy |= lazy
@@ -248,7 +248,8 @@ class RegexReader:
         again = self.place
         if self.sign() is not None:
             whole = self.regex[start:again]
-            self.refuse(again, "a repetition is repeated", f"put the first one in a group: (?:{whole}){self.regex[again]}")
+            hint = f"put the first repetition into a group: (?:{whole}){self.regex[again]}"
+            self.refuse(again, "a quantifier follows another one", hint)
         found = self.times(body, *bounds, at)
         least, most = bounds
         is_gap = isinstance(body, Chars) and len(body.members) > 1 and (least != most or least > 1)
@@ -262,12 +263,12 @@ class RegexReader:
             return self.longest_run(body, *bounds, at)
         self.refuse(
             at,
-            "a possessive repetition of more than one byte has no formula: it depends on the order in which a search tries",
-            "leave out the `+` behind the sign, and write behind it what must not follow, as in (?:ab)+(?!a)",
+            "a possessive repetition of more than one byte has no formula: it depends on the search order",
+            "omit the second `+`, and add a lookahead for what must not follow, as in (?:ab)+(?!a)",
         )
 
     def longest_run(self, body: Chars, least: int, most: int | None, at: int) -> Node:
-        """A repetition of one byte that can't be shorter than what stands in the text."""
+        """A repetition of one byte that ends where the next byte doesn't match."""
         stop = Condition(((FREE, other_than(body.members)),), at)
         if most is None:
             return cat([self.times(body, least, None, at), stop])
@@ -300,7 +301,7 @@ class RegexReader:
     # -------------------------------------------------------------------------------------------------------------- atoms
 
     def atom(self) -> Node | None:
-        """An atom, or None where flags stand, which match nothing."""
+        """An atom, or None for flags, which match nothing."""
         at, sign = self.place, self.peek()
         if sign in "*+?" or (sign == "{" and re.compile(r"\{(\d+,?\d*|,\d*)\}").match(self.regex, at)):
             self.refuse(at, f"`{sign}` has nothing before it to repeat", f"write `\\{sign}` for the byte itself")
@@ -341,24 +342,24 @@ class RegexReader:
             lazy, self.has_lazy = self.has_lazy, False
             body = self.rest_of_group(self.flags, at)
             if self.has_lazy:
-                hint = "leave out the lazy sign or the `?>`"
-                self.refuse(at, "an atomic group with a lazy sign has no formula: it depends on the order of a search", hint)
+                hint = "omit the lazy `?` or the `?>`"
+                self.refuse(at, "an atomic group with a lazy quantifier has no formula: it depends on the search order", hint)
             self.has_lazy = lazy
             return self.first_match(body, at)
         self.refuse(at, *self.other_group())
 
     def other_group(self) -> tuple[str, str]:
-        """What the group is that stands here, and what to write instead."""
+        """What the group here is, and what to write instead."""
         if self.follows("P="):
-            return "a backreference has no formula: it asks which text another part matched", COMPARE
+            return "a backreference has no formula: it depends on the text that another part matched", COMPARE
         if self.follows("("):
-            return "a choice by a group has no formula", "write both cases as alternatives, as in (?:(a)b|c) for (a)?(?(1)b|c)"
+            return "a conditional group has no formula", "write both cases as alternatives, as in (?:(a)b|c) for (a)?(?(1)b|c)"
         if self.find(r"[R&0-9+]|P>"):
             return "a recursion has no formula: nested text isn't regular", "write out as many levels as the text has"
         if self.take("|"):
-            return "a branch reset has no formula", "give each branch a group of its own"
+            return "a branch reset has no formula", "use a group of its own in each branch"
         if self.take("'"):
-            return "a group's name stands in `<` and `>`", "write (?P<name>..)"
+            return "the name of a group is between `<` and `>`", "write (?P<name>..)"
         return "this kind of group is unknown", "write (?:..) for a group, and \\(\\? for the bytes themselves"
 
     def rest_of_group(self, flags: frozenset[str], at: int) -> Node:
@@ -378,7 +379,7 @@ class RegexReader:
             self.refuse(at, why, "write a name such as (?P<host>..)")
         body = self.rest_of_group(self.flags, at)
         if name in variables(body):
-            self.refuse(at, f"the group {name} stands in itself", "take another name for one of them")
+            self.refuse(at, f"the group {name} contains a group of the same name", "rename one of the groups")
         return Capture(name, body)
 
     def flagged_group(self, found: re.Match[str], at: int) -> Node | None:
@@ -386,10 +387,10 @@ class RegexReader:
             if letter not in "aimsux" or (letter == "u" and letter in found[1]):
                 known = {
                     "L": "write the letters that you mean as a set",
-                    "u": "leave it out: a regex is about bytes, and a character stands for its UTF-8 bytes",
+                    "u": "omit it: a regex is about bytes, and a character stands for its UTF-8 bytes",
                     "U": "leave it out: all matches are answers, in whatever order a search would try them",
                 }
-                self.refuse(at, f"the flag {letter} isn't one of i, m, s, x", known.get(letter, "leave it out"))
+                self.refuse(at, f"the flag {letter} isn't one of i, m, s, x", known.get(letter, "omit it"))
         flags = (self.flags | frozenset(found[1])) - frozenset("au") - frozenset(found[2] or "")
         if found[3] == ":":
             return self.rest_of_group(flags, at)
@@ -397,8 +398,8 @@ class RegexReader:
         return None
 
     def look(self, sign: str, at: int) -> Node:
-        """A lookahead or lookbehind. One of a single byte is a condition on a neighbour, and one of a condition is that
-        condition."""
+        """A lookahead or lookbehind. One of a single byte is a condition on a neighbour, and one of a condition is the
+        condition itself."""
         lazy = self.has_lazy
         self.looks += 1
         body = self.rest_of_group(self.flags, at)
@@ -421,15 +422,15 @@ class RegexReader:
             return Condition(self.negated(tuple(pairs), at) if negative else tuple(pairs), at)
         if any(isinstance(it, Look) for it in conditions(body)):
             why = f"a {LOOKS[sign]} with another one in it has no formula"
-            self.refuse(at, why, "put them beside each other, as in (?=a)(?!ab) for (?=a(?!b))")
+            self.refuse(at, why, "write one after the other, as in (?=a)(?!ab) for (?=a(?!b))")
         if negative and variables(body):
-            self.refuse(at, f"a group in a {LOOKS[sign]} has no span", "leave out its name")
+            self.refuse(at, f"a group in a {LOOKS[sign]} has no span", "omit its name")
         return Look(body, behind, negative, words_of(body), at)
 
     def negated(self, pairs: Pairs, at: int) -> Pairs:
         """The pairs of neighbours that are none of these."""
         if any(side.outermost for pair in pairs for side in pair):
-            self.refuse(at, "this `$` may stand before a newline that ends the text", "write \\Z, or set the flag m")
+            self.refuse(at, "this `$` also matches before a newline at the end of the text", "write \\Z, or set the flag m")
         found: list[tuple[Side, Side]] = [(FREE, FREE)]
         for left, right in pairs:
             found = [
@@ -443,8 +444,8 @@ class RegexReader:
     # ------------------------------------------------------------------------------------------------------ atomic groups
 
     def first_match(self, body: Node, at: int) -> Node:
-        """The body of an atomic group where it can match in one way alone from each position, or where the first way that
-        a search tries is known by the next byte."""
+        """The body of an atomic group if it can match in only one way from each position, or if the next byte determines
+        the first way that a search tries."""
         parts = list(body.parts) if isinstance(body, Cat) else [body]
         for index, part in enumerate(parts):
             behind = cat(parts[index + 1 :])
@@ -464,8 +465,8 @@ class RegexReader:
             return cat(parts)
         self.refuse(
             at,
-            "this atomic group can match in several ways, and which one counts depends on the order of a search",
-            "write (?:..) for (?>..), and behind it what must not follow, as in (?:a|ab)(?!c)",
+            "this atomic group can match in several ways, and which one counts depends on the search order",
+            "write (?:..) for (?>..), and add a lookahead for what must not follow, as in (?:a|ab)(?!c)",
         )
 
     def run_parts(self, part: Node, at: int) -> list[Node]:
@@ -479,7 +480,7 @@ class RegexReader:
     def escape(self, at: int) -> Node:
         sign = self.peek()
         if not sign:
-            self.refuse(at, "a backslash stands at the end", "write two of them for the byte itself")
+            self.refuse(at, "the regex ends with a backslash", "write two of them for the byte itself")
         if sign in ANCHORS:
             self.place += 1
             return Condition(ANCHORS[sign], at)
@@ -492,18 +493,18 @@ class RegexReader:
         if found := self.find(r"0[0-7]{0,2}|[0-3][0-7][0-7]"):
             return self.letter(int(found[0], 8))
         if sign in "123456789":
-            self.refuse(at, "a backreference has no formula: it asks which text another part matched", COMPARE)
+            self.refuse(at, "a backreference has no formula: it depends on the text that another part matched", COMPARE)
         return self.letter(self.escaped_byte(at))
 
     def escaped_byte(self, at: int) -> int:
-        """The byte of an escape, behind its backslash."""
+        """The byte of an escape, after its backslash."""
         if found := self.find(r"x([0-9a-fA-F]{2})"):
             return int(found[1], 16)
         sign = self.peek()
         self.place += 1
         if sign == "x":
             hint = "write \\x and two hexadecimal digits; for a character its UTF-8 bytes, as \\xc3\\xa9 for U+00E9"
-            self.refuse(at, "\\x has two hexadecimal digits", hint)
+            self.refuse(at, "\\x needs two hexadecimal digits", hint)
         if sign in CONTROLS:
             return CONTROLS[sign]
         if sign.isascii() and sign.isalnum():
@@ -522,7 +523,7 @@ class RegexReader:
             self.refuse(at, f"the property {name} is unknown or has no ASCII part", "write the set of bytes that you mean")
         negated = (found[0][0] == "P") != bool(found[1])
         if not self.ascii_properties:
-            hint = f"write {set_text(members)}, or ask for the ASCII part by ascii_properties=True or --ascii-properties"
+            hint = f"write {set_text(members)}, or choose the ASCII part by ascii_properties=True or --ascii-properties"
             self.refuse(at, f"\\p{{{name}}} is about characters of Unicode, and a regex is about bytes", hint)
         return ALL - members if negated else members
 
@@ -531,7 +532,7 @@ class RegexReader:
     def set(self, at: int) -> Node:
         if found := re.compile(r"\[:(\w+):\]").match(self.regex, at):
             if found[1] in POSIX:
-                self.refuse(at, f"the class {found[1]} stands in a set", f"write [[:{found[1]}:]]")
+                self.refuse(at, f"the class {found[1]} must be inside a set", f"write [[:{found[1]}:]]")
         members: set[int] = set()
         negated = self.take("^")
         first = True
@@ -545,7 +546,7 @@ class RegexReader:
                 last, is_other_class = self.set_item(at)
                 if is_class or is_other_class or min(item) > min(last):
                     written = self.regex[start : self.place]
-                    hint = "write the lesser byte first, and `\\-` for the byte itself"
+                    hint = "write the smaller byte first, and `\\-` for the byte itself"
                     self.refuse(start, f"{written} is no range of bytes", hint)
                 item = frozenset(range(min(item), min(last) + 1))
             members |= item
@@ -560,9 +561,9 @@ class RegexReader:
             return self.posix_class(start, found), True
         self.place += 1
         if sign >= "\x80":
-            self.refuse(start, "a set has bytes, and this character has several", "write (?:a|b) in place of [ab]")
+            self.refuse(start, "a set has bytes, and this character has several", "write (?:a|b) for [ab]")
         if self.regex[start : start + 2] in ("&&", "--", "~~") and start > at + 1:
-            self.warnings.append((start, f"`{sign}{sign}` in a set is the byte `{sign}`, and no operation on sets"))
+            self.warnings.append((start, f"`{sign}{sign}` in a set is the byte `{sign}`; there are no set operations"))
         if sign != "\\":
             return frozenset([ord(sign)]), False
         sign = self.peek()

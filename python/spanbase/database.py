@@ -138,7 +138,7 @@ class Database(Mapping[str, Document]):
         return reply
 
     def ask_all(self, lines: Sequence[bytes]) -> list[Reply | Refused]:
-        """Sends many lines of the script language at once. Returns the reply to each, or its refusal."""
+        """Sends many lines of the script language at once. Returns the reply to each, or its rejection."""
         with self._operation():
             commands = {line.split(b" ", 1)[0] for line in lines}
             if self._snapshots and commands & {b"open", b"back"}:
@@ -212,7 +212,7 @@ class Database(Mapping[str, Document]):
         self._touched.clear()
 
     def _change(self, lines: Sequence[bytes]) -> list[Reply]:
-        """Sends lines whose second word is the document that each may change. Raises the first refusal when all are done."""
+        """Sends lines whose second word is the document that each may change. Raises the first rejection when all are done."""
         before = set(self._touched)
         names = [line.split(b" ", 2)[1].decode() for line in lines]
         self._touched.update(names)
@@ -231,7 +231,7 @@ class Database(Mapping[str, Document]):
             return self._shell.ask(line)
 
     def _request_all(self, lines: Sequence[bytes]) -> list[Reply]:
-        """Sends many lines that change no document. Raises the first refusal when all are done."""
+        """Sends many lines that change no document. Raises the first rejection when all are done."""
         with self._lock:
             self._settle()
             replies: list[Reply] = []
@@ -314,7 +314,7 @@ class Database(Mapping[str, Document]):
         return self._load("load", name, path)
 
     def share(self, name: str, path: AnyPath) -> Document:
-        """Loads a file such that it shares equal parts with other texts, wherever they stand. A program without this command
+        """Loads a file such that it shares equal parts with other texts, at any position. A program without this command
         loads it as `load` does."""
         return self._load("share", name, path)
 
@@ -460,7 +460,7 @@ class Database(Mapping[str, Document]):
             raise UnknownName("NoSuchVersion", (str(name),)) from None
 
     def mark(self, name: str) -> Version:
-        """Keeps the documents as they are now under the name of a version. A name that is present keeps its place among the
+        """Keeps the documents as they are now under the name of a version. An existing name keeps its position among the
         versions."""
         checked_name(name, "version")
         with self._operation():
@@ -647,7 +647,7 @@ class Database(Mapping[str, Document]):
                     os.unlink(new)
 
     def write(self, text: Expression | str, path: AnyPath) -> int:
-        """Writes a document, which may be given by its name, or the text of an expression to a file, and returns its length.
+        """Writes a document or the text of an expression to a file, and returns the length. A str is the name of a document.
 
         The file is replaced atomically and keeps its mode. A device or a pipe is written to.
         """
@@ -753,7 +753,7 @@ def length_of(reply: Reply) -> int:
 
 
 def check_readable(whole: bytes, path: AnyPath) -> None:
-    """Raises the refusal of a file that isn't there or can't be read."""
+    """Raises the rejection if a file doesn't exist or can't be read."""
     try:
         if os.path.isdir(whole):
             raise IsADirectoryError(whole)
@@ -766,7 +766,7 @@ def check_readable(whole: bytes, path: AnyPath) -> None:
 
 
 def with_path(refused: Refused, path: AnyPath) -> Refused:
-    """The refusal with the path that the caller gave, where it is about a file."""
+    """The rejection with the path of the caller, if it is about a file."""
     if not isinstance(refused, FileRefused | BadImage):
         return refused
     given = os.fspath(path)

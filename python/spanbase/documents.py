@@ -85,7 +85,7 @@ def state_of(found: os.stat_result) -> tuple[int, ...]:
 
 @dataclass(eq=False)
 class Text:
-    """A text that one or more documents have. An edit gives a document another one."""
+    """A text of one or more documents. An edit replaces the text of a document."""
 
     length: int
     file: SourceFile | None = None

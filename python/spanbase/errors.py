@@ -1,7 +1,7 @@
 """The exceptions of the package.
 
-All of them are a `SpanbaseError`. A refusal of the program is a `Refused`, whose subclasses are also the built-in exceptions
-that fit: `db["nowhere"]` raises a `KeyError`, and `db.load` of a missing file a `FileNotFoundError`.
+All of them are a `SpanbaseError`. A command that the program rejects raises a `Refused`, whose subclasses are also the
+built-in exceptions that fit: `db["nowhere"]` raises a `KeyError`, and `db.load` of a missing file a `FileNotFoundError`.
 """
 import errno
 import os
@@ -37,11 +37,11 @@ class SpanbaseError(Exception):
 
 
 class Refused(SpanbaseError):
-    """The program refused a command, which has changed nothing.
+    """The program rejected a command, which has changed nothing.
 
-    `word` is the refusal, such as `TooManyStates`, and `values` is what it names, such as a document or a length. `line` is
-    the number of the refused line since the start of the program, or 0 if the package itself refused the command. `command`
-    is the line. `file` is the path as the caller gave it, if the refusal is about a file.
+    `word` is the name of the rejection, such as `TooManyStates`, and `values` is what it names, such as a document or a length.
+    `line` is the number of the line since the start of the program, or 0 if the package itself rejected the command. `command`
+    is the line. `file` is the path as the caller passed it, if the rejection is about a file.
     """
 
     def __init__(
@@ -67,7 +67,7 @@ class Refused(SpanbaseError):
         return f"{refusal_text}: {meaning}" if (meaning := self.meaning()) else refusal_text
 
     def meaning(self) -> str:
-        """The refusal in plain words."""
+        """The rejection in plain words."""
         template = MEANINGS.get(self.word, "")
         try:
             return template.format(*self.values)
@@ -98,7 +98,7 @@ class BadQuery(Refused, ValueError):
 class TooManyStates(BadQuery):
     """The automaton of the query has too many states.
 
-    `regex` is the regex of the query with a gap captured, such that the program accepts it, or None if there is no such gap.
+    `regex` is the regex with a gap captured, such that the program accepts it, or None if there is no such gap.
     """
 
     regex: str | None = None
@@ -119,7 +119,7 @@ class BadTuple(Refused, ValueError):
 
 
 class FileRefused(Refused, OSError):
-    """A file can't be read or written. `file` is its path as the caller gave it."""
+    """A file can't be read or written. `file` is its path as the caller passed it."""
 
     number = errno.EIO
 
@@ -162,7 +162,7 @@ class FileTooLong(FileRefused):
 
 
 class BadImage(Refused, ValueError):
-    """The file is no whole image. `file` is its path as the caller gave it."""
+    """The file is no whole image. `file` is its path as the caller passed it."""
 
     def meaning(self) -> str:
         number = int(self.values[0]) if self.values and self.values[0].isdigit() else 0
@@ -289,7 +289,7 @@ IMAGE_FAULTS = {
     7: "a text would be longer than 2^48 bytes",
     8: "a root is no node",
     9: "a name of a document has a byte that names don't have",
-    10: "a name of a document stands twice",
+    10: "two documents have the same name",
     11: "bytes follow the last document",
     12: "a run has no copy",
 }
@@ -306,6 +306,6 @@ STATUSES = {
 
 
 def refusal(line: int, text: bytes, command: bytes = b"") -> Refused:
-    """The exception for a refusal, given as the text after `line N: `."""
+    """The exception for a rejection, from the text after `line N: `."""
     word, *values = text.decode("ascii", "replace").split(" ")
     return CLASSES.get(word, Refused)(word, values, line, command)

@@ -64,10 +64,10 @@ class Layout:
 class Tabular(ABC):
     """Rows that can be written as a flat table, a record for each row.
 
-    The methods have the same keyword arguments. `texts` gives each variable X a column X with its text, `spans` the columns
+    The methods have the same keyword arguments. With `texts` each variable X has a column X with its text, `spans` the columns
     X_start and X_end with positions from 0, and `lines` the columns X_line and X_column with numbers from 1. `document` puts
     the name of the document first; by default it does so where rows of several documents were asked for. Texts are decoded
-    by `encoding` and `errors`: in UTF-8 with lone surrogates for other bytes, unless something else is given.
+    by `encoding` and `errors`: in UTF-8 with lone surrogates for other bytes, by default.
     """
 
     @abstractmethod

@@ -142,7 +142,7 @@ class Expression(ABC):
 
 @dataclass(frozen=True, eq=False)
 class Literal(Expression):
-    """Bytes that stand in the expression."""
+    """Bytes of the expression itself."""
 
     text: bytes
 

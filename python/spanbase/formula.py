@@ -170,9 +170,9 @@ def with_gaps_captured(pattern: str | bytes, flags: int = 0, *, capture: str = "
 
 
 HINTS = {
-    "TooManyVariables": "leave out the names of groups that you don't need",
-    "TooDeep": "leave out groups that change nothing",
-    "": "write a smaller bound, `*` or `+`, or make two regexes of it",
+    "TooManyVariables": "omit the names of groups that you don't need",
+    "TooDeep": "omit groups that change nothing",
+    "": "write a smaller bound, `*` or `+`, or split it into two regexes",
 }
 
 
@@ -213,7 +213,7 @@ def letters_of(flags: int) -> frozenset[str]:
 
 
 def index_in(pattern: str | bytes, given: bytes, at: int) -> int:
-    """The index in the pattern as it was given, from that of its bytes."""
+    """The index in the pattern, from the index in its bytes."""
     return at if isinstance(pattern, bytes) else len(given[:at].decode(errors="surrogateescape"))
 
 

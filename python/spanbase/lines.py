@@ -41,7 +41,7 @@ def lines_and_columns(
 
 
 def counted(database: "Database", key: str, positions: Collection[int]) -> dict[int, tuple[int, int]]:
-    """The same, by the number of newlines before each position and the place of the last of them."""
+    """The same, by the number of newlines before each position and the position of the last of them."""
     query = database._newline_query()
     ranks = [f"rank {query} {key} x=[{it + 1},{it + 1})".encode() for it in positions]
     before = {it: int(reply[0]) for it, reply in zip(positions, database._request_all(ranks))}

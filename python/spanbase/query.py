@@ -353,7 +353,7 @@ class Query:
 
     @property
     def warnings(self) -> tuple[str, ...]:
-        """What the translation of the regex has to say."""
+        """The warnings of the translation of the regex."""
         return self._registration.warnings
 
     # ----------------------------------------------------------------------------------------------------- algebra

@@ -1,8 +1,8 @@
 """Documents spread over images, and a query that is evaluated on all of them by many processes or many machines.
 
 `make` loads files into images, the *shards*, and `ask` evaluates a query on them and returns the answers in the order of the
-files. Each image is one task. The tasks run on a Dask cluster, on an executor of `concurrent.futures`, or, where neither is
-given, on the processors of this machine.
+files. Each image is one task. The tasks run on a Dask cluster, on an executor of `concurrent.futures`, or, by
+default, on the processors of this machine.
 
 An image is named by a digest of its bytes and is never overwritten. The file `manifest.json` says which images belong
 together. It is replaced as a whole when all images are there. The answers of an image carry a digest of the query, the limit
@@ -91,7 +91,7 @@ AnyPath = str | os.PathLike[str]
 
 @dataclass(frozen=True)
 class File:
-    """A file that an image has as a document. `name` is the path as it was given, and `path` the absolute one."""
+    """A file that an image has as a document. `name` is the path as the caller passed it, and `path` the absolute one."""
 
     name: str
     path: str
@@ -230,7 +230,7 @@ class Failure:
 
 
 class ShardsFailed(SpanbaseError):
-    """Some shards failed. What the others did stands."""
+    """Some shards failed. The results of the others are valid."""
 
     def __init__(self, failures: Sequence[Failure]) -> None:
         super().__init__(tuple(failures))
@@ -356,7 +356,7 @@ class Made:
 
 @dataclass(frozen=True)
 class QueryRefused:
-    """The program's refusal of the query or the cursor, which is that of every shard."""
+    """The program's rejection of the query or the cursor, which is the same for every shard."""
 
     refused: Refused
 
@@ -582,7 +582,7 @@ class _Engine:
 
 
 class _LocalPool(_Engine):
-    """Runs tasks at most so many at a time, each in a process of the program that a thread of this process talks with."""
+    """Runs at most `processes` tasks at a time, each in a process of the program that a thread of this process talks with."""
 
     def __init__(self, processes: int, retries: int) -> None:
         self._retries = retries
@@ -751,10 +751,10 @@ def make(
     patience: float | None = None,
     report: Callable[[Image, bool], object] | None = None,
 ) -> Manifest:
-    """Loads files into at most `shards` images in a folder, which is made where it isn't there.
+    """Loads files into at most `shards` images in a folder, which is created if it doesn't exist.
 
-    Each image has files that stand next to each other, and all have about the same number of bytes. A folder that has files
-    of others is rejected, and so is one that has shards of other files, unless `replace` is set. Images that are there, whose
+    Each image has files that are next to each other, and all have about the same number of bytes. A folder with other files
+    is rejected, and so is one that has shards of other files, unless `replace` is set. Images that are there, whose
     files weren't changed since, stay.
 
     `client` is a client of a Dask cluster, an executor of `concurrent.futures`, or a number of processes of this machine.
@@ -826,7 +826,7 @@ def _documents(files: Iterable[AnyPath | bytes]) -> list[File]:
             elif found.st_size > LONGEST_FILE:
                 faults.append(f"{name} has {found.st_size} bytes, and at most {LONGEST_FILE} can be loaded")
             elif name in names:
-                faults.append(f"{name} is given twice")
+                faults.append(f"{name} occurs twice")
             names.add(name)
             documents.append(File(name, os.path.abspath(name), found.st_size, found.st_mtime_ns))
         except OSError as error:
@@ -839,7 +839,7 @@ def _documents(files: Iterable[AnyPath | bytes]) -> list[File]:
 
 
 def _cut(documents: Sequence[File], shards: int) -> list[tuple[File, ...]]:
-    """At most so many rows of documents, in their order, with about the same number of bytes."""
+    """At most `shards` rows of documents, in their order, with about the same number of bytes."""
     if shards < 1:
         raise ValueError(f"there is at least one shard, not {shards}")
     total = sum(document.bytes for document in documents)
@@ -881,12 +881,12 @@ def _sole_maker(folder: Path) -> Iterator[None]:
 
 
 def _states(documents: Iterable[File]) -> tuple[tuple[str, int, int], ...]:
-    """What tells whether an image of these files can stay."""
+    """What must be unchanged for an image of these files to be kept."""
     return tuple((it.path, it.bytes, it.changed) for it in documents)
 
 
 def _with_names(image: Image | None, documents: tuple[File, ...]) -> Image | None:
-    """The image with the names by which its files are given now."""
+    """The image with the present names of its files."""
     return image and dataclasses.replace(image, documents=documents)
 
 
@@ -1012,10 +1012,10 @@ class Answers(Tabular):
     """The answers of all shards in the order of the documents: an iterator of rows, or by `pages` of documents.
 
     The first `next` starts the tasks. Rows come as soon as all shards before theirs are done. After the last row `ShardsFailed`
-    is raised if shards have failed. A refusal of the query is raised at once. `close`, or the end of a `with`, ends the tasks
+    is raised if shards have failed. A rejection of the query is raised at once. `close`, or the end of a `with`, ends the tasks
     that aren't needed any more.
 
-    Of the pages that were given by now, `count` is the number of rows, and `more` has the documents with more answers than the
+    Of the pages returned so far, `count` is the number of rows, and `more` has the documents with more answers than the
     limit. `failures` has the shards that have failed by now.
     """
 
@@ -1041,7 +1041,7 @@ class Answers(Tabular):
         self.close()
 
     def pages(self) -> Iterator[Page]:
-        """The pages of the documents that weren't given yet."""
+        """The pages of the documents that weren't returned yet."""
         return self._pages
 
     def close(self) -> None:
@@ -1130,8 +1130,8 @@ def ask(
 ) -> Answers:
     """Evaluates a query on the documents of a folder of shards, at most `limit` answers of each, or all where it is None.
 
-    `query` is a query of a database, the translation of a regex, or a formula. With `documents` only these are asked, by the
-    names that `make` was given. With `after`, a row or its cursor, one document is asked for its answers after that one. With
+    `query` is a query of a database, the translation of a regex, or a formula. With `documents` only these are asked, by their
+    names in the list of `make`. With `after`, a row or its cursor, one document is asked for its answers after that one. With
     `texts` the bytes of the spans are read too.
 
     `client`, `program`, `retries` and `patience` are as for `make`; `workers` and `states` are options of the program.
@@ -1190,7 +1190,7 @@ def _formula_command(name: bytes, formula: bytes) -> bytes:
 
 
 def _wanted(manifest: Manifest, documents: Sequence[str] | None) -> list[tuple[int, ...] | None]:
-    """For each shard the places of the documents that are asked, or None for all."""
+    """For each shard the indices of the documents that are asked, or None for all."""
     if documents is None:
         return [None] * len(manifest.images)
     names = set(documents)

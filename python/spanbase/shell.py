@@ -37,7 +37,7 @@ SPECIAL = re.compile(rb'[^ !#-\[\]-~]')
 
 
 def unquoted(shown: bytes) -> bytes:
-    """The bytes for which a text between quotes stands, as `show` prints it."""
+    """The bytes that a text between quotes stands for, as `show` prints it."""
     inner = shown[1:-1]
     if b"\\" not in inner:
         return inner
@@ -156,14 +156,14 @@ class Shell:
         return self._process.pid
 
     def ask(self, line: bytes) -> Reply:
-        """Sends a line and returns the lines of the reply. Raises the refusal, if it is one."""
+        """Sends a line and returns the lines of the reply. Raises the rejection, if it is one."""
         [reply] = self.ask_all([line])
         if isinstance(reply, Refused):
             raise reply
         return reply
 
     def ask_all(self, lines: Sequence[bytes]) -> list[Reply | Refused]:
-        """Sends many lines and returns the reply to each, or its refusal. Replies are read while lines are sent, so that no
+        """Sends many lines and returns the reply to each, or its rejection. Replies are read while lines are sent, so that no
         pipe stays full."""
         for line in lines:
             if b"\n" in line:

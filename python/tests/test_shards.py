@@ -340,7 +340,7 @@ class Making(Folder):
         self.assertEqual(len(self.listed()), len(manifest.images) + 1)
 
     def test_rejected(self) -> None:
-        with self.assertRaisesRegex(shards.ManifestError, "nosuch: No such file.*f0.txt is given twice"):
+        with self.assertRaisesRegex(shards.ManifestError, "nosuch: No such file.*f0.txt occurs twice"):
             self.make("nosuch", "f0.txt", "f0.txt")
         with self.assertRaisesRegex(shards.ManifestError, "no files"):
             shards.make([], "parts")
@@ -391,7 +391,7 @@ class Command(Folder):
             (["ask", "parts", "br", "--after", "match=[2,4)"], 2, b"", b"--after needs one --document"),
             (["ask", "nosuch", "br"], 2, b"", b"there are no shards in nosuch"),
             (["make", "parts", "f0.txt"], 2, b"", b"has shards of other files"),
-            (["make", "parts"], 2, b"", b"give files"),
+            (["make", "parts"], 2, b"", b"name files"),
             (["tell"], 2, b"", b"invalid choice"),
             (["ask", "parts", "br", "--scheduler", "tcp://127.0.0.1:1", "--wait", "1"], 2, b"", b"scheduler"),
         ]

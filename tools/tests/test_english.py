@@ -1,4 +1,4 @@
-"""The pages and comments are in plain English, and tools/english finds what isn't."""
+"""Pages, comments and messages are in plain English, and tools/english finds what isn't."""
 import tempfile
 import unittest
 from pathlib import Path
@@ -28,10 +28,15 @@ FOUND = [
 class English(unittest.TestCase):
     def test_findings(self) -> None:
         for page, wanted in FOUND:
-            found = english.findings(page)
+            found = english.findings(english.blocks_of(page))
             self.assertEqual(len(found), len(wanted), (page, found))
             for line, part in zip(found, wanted):
                 self.assertIn(part, line)
+
+    def test_python(self) -> None:
+        source = 'def f():\n    """It looks at a shelf."""\n    say("no place", f"one that {it} tells of")  # stands\n'
+        found = english.findings(english.python_blocks(source))
+        self.assertEqual([it.split(",")[0] for it in found], ["2: 'looks'", "2: 'shelf'", "3: 'tells'"])
 
     def test_sentences(self) -> None:
         (block,) = english.blocks_of(FOUND[-1][0])
@@ -40,13 +45,20 @@ class English(unittest.TestCase):
     def test_comments(self) -> None:
         with tempfile.TemporaryDirectory() as folder:
             for name, source, line in [
-                ("a.rt", "let shelf = told;\n\n    /// It was\n    /// refused.\n", 3),
-                ("A.antt", "shelf told = told\n-- a shelf\n", 2),
+                ("a.rt", "let shelf = told;
+
+    /// It was
+    /// refused.
+", 3),
+                ("A.antt", "shelf told = told
+-- a shelf
+", 2),
             ]:
                 (file := Path(folder) / name).write_text(source)
-                self.assertEqual([it.partition(":")[0] for it in english.findings_in(file)], [str(line)])
+                found = english.findings(english.blocks_in(file))
+                self.assertEqual([it.partition(":")[0] for it in found], [str(line)])
 
     def test_files(self) -> None:
         for file in english.checked_files():
             with self.subTest(file=file.name):
-                self.assertEqual(english.findings_in(file), [])
+                self.assertEqual(english.findings(english.blocks_in(file)), [])

@@ -70,7 +70,7 @@ class Fasta(unittest.TestCase):
                 self.assertEqual(list((self.folder / "out").iterdir()), [])
         (self.folder / "out/mine").write_bytes(b"mine")
         status, _, told = ran_here(fasta.main, "out", self.write("a.fa", b">a\nA\n"), folder=self.folder)
-        self.assertEqual((status, told), (2, "spanbase-fasta: out has files of others, as mine; give a new folder\n"))
+        self.assertEqual((status, told), (2, "spanbase-fasta: out has files that the tool didn't make, such as mine; name a new folder\n"))
 
     def test_standard_input(self):
         packed = gzip.compress(b">a\nAC\n")

@@ -114,8 +114,8 @@ class Follow(unittest.TestCase):
             self.assertEqual(ran_here(follow_tool.main, "--once", "-o", "A", "-i", "f", folder=folder)[1], b"a\na\n")
             for words, told in [
                 (["a(", "f"], "the group isn't closed"),
-                (["-n", "x", "a", "f"], "-n takes a number of lines"),
-                (["-s", "x", "a", "f"], "'x' is no time in seconds"),
+                (["-n", "x", "a", "f"], "-n needs a number of lines"),
+                (["-s", "x", "a", "f"], "'x' is no number of seconds"),
                 (["a", "-"], "a stream isn't followed"),
                 (["a"], "the following arguments are required: FILE"),
             ]:

@@ -98,11 +98,11 @@ class Replace(unittest.TestCase):
         cases: list[tuple[list[str], bytes, str]] = [
             (["a", "b", "nowhere", "d", "f"], b"b\n", "nowhere: No such file or directory\nspanbase-replace: d: is a folder"),
             (["a(", "b", "f"], b"", "the group isn't closed, at position 1"),
-            (["(?P<x>a)(?P<y>b)", "b", "f"], b"", "one part is replaced, so one group has a name at most"),
-            (["a", r"\1", "f"], b"", r"\1 has no meaning in the text: a replacement is one text for all places"),
-            (["a", "\\", "f"], b"", "\\ has no meaning in the text: write"),
+            (["(?P<x>a)(?P<y>b)", "b", "f"], b"", "a replacement needs at most one named group"),
+            (["a", r"\1", "f"], b"", r"\1 has no meaning in TEXT: the replacement is the same for all matches"),
+            (["a", "\\", "f"], b"", "\\ has no meaning in TEXT: write"),
             (["-i", "a", "b"], b"", "-i needs files; --help"),
-            (["--save", "x", "a", "b", "f"], b"", "--save goes with --image"),
+            (["--save", "x", "a", "b", "f"], b"", "--save needs --image"),
             (["TTGACA.{0,60}TATAAT", "b", "f"], b"", "TooManyStates"),
         ]
         for words, out, told in cases:

@@ -141,18 +141,18 @@ class Versions(unittest.TestCase):
                 before = {it: it.read_bytes() for it in self.folder.rglob("*") if it.is_file()}
                 status, out, told = self.ran(name, "a")
                 self.assertEqual((status, out), (2, b""))
-                self.assertIn("is no folder" if name == "a" else "of others", told)
+                self.assertIn("not a folder" if name == "a" else "the tool didn't make", told)
                 self.assertEqual({it: it.read_bytes() for it in self.folder.rglob("*") if it.is_file()}, before)
 
     def test_bad_input(self):
         (self.folder / "a").write_bytes(b"a")
         cases = [
-            (["out", "a", "nowhere"], "nowhere: there is no such file"),
-            (["out", "."], ".: is no plain file"),
+            (["out", "a", "nowhere"], "nowhere: no such file"),
+            (["out", "."], ".: not a regular file"),
             (["out", "--git", "nowhere", "a"], "git says: fatal"),
             (["out", "--git", ".", "a", "b"], "with --git there is one file"),
             (["out", "a", "--check", "--program", "/nowhere"], "the program /nowhere can't be started"),
-            (["out"], "give files to make a folder, or --containing to ask one"),
+            (["out"], "name files to make a folder, or --containing to ask one"),
             (["--containing", "x", "nowhere"], "nowhere isn't a folder that spanbase-versions made"),
         ]
         for words, said in cases:

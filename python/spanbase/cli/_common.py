@@ -16,7 +16,7 @@ TOO_MANY_STATES = "TooManyStates: the automaton of the query has too many states
 
 
 class Trouble(Exception):
-    """What went wrong, in one clear line, or more for a place in a text."""
+    """What went wrong, in one line, or in several if a position in a text is shown."""
 
 
 class Parser(argparse.ArgumentParser):
@@ -35,8 +35,8 @@ class Parser(argparse.ArgumentParser):
         self.add_argument(
             "--program", "--shell", dest="program", type=Path, metavar="PATH", help="the spanshell that is run"
         )
-        self.add_argument("--workers", type=positive, default=1, metavar="N", help="its workers, by default 1")
-        self.add_argument("--states", type=positive, metavar="N", help="the states that a query may have, by default 128")
+        self.add_argument("--workers", type=positive, default=1, metavar="N", help="its threads, 1 by default")
+        self.add_argument("--states", type=positive, metavar="N", help="the most states of a query, 128 by default")
 
 
 def package_version() -> str:
@@ -47,19 +47,20 @@ def package_version() -> str:
 
 def positive(text: str) -> int:
     if not text.isdecimal() or int(text) == 0:
-        raise argparse.ArgumentTypeError(f"{text!r} isn't a number from 1 on")
+        raise argparse.ArgumentTypeError(f"{text!r} is no positive number")
     return int(text)
 
 
 def name_of_language(text: str) -> str:
     if not re.fullmatch(r"[A-Za-z_][A-Za-z0-9_.-]{0,63}", text):
-        raise argparse.ArgumentTypeError(f"{text!r} isn't a name of the language")
+        what = "1 to 64 ASCII letters, digits, `_`, `.` and `-`, of which the first is a letter or `_`"
+        raise argparse.ArgumentTypeError(f"{text!r} is no name: {what}")
     return text
 
 
 def file_of_language(text: str) -> str:
     if not re.fullmatch(r"[!-~]{1,255}", text):
-        raise argparse.ArgumentTypeError(f"a file of a script has 1 to 255 bytes of ASCII without spaces, unlike {text!r}")
+        raise argparse.ArgumentTypeError(f"{text!r} is no file name of a script: 1 to 255 ASCII characters without spaces")
     return text
 
 
@@ -81,7 +82,7 @@ def with_place(text: str, position: int | None, message: str, hint: str | None =
 
 
 def translated(translate: Callable[[], Result], pattern: str) -> Result:
-    """The result of a translation or check, with the place and the way out of an error in its message."""
+    """The result of a translation or check. The message of an error shows the position and the alternative."""
     try:
         return translate()
     except Untranslatable as error:
@@ -91,7 +92,7 @@ def translated(translate: Callable[[], Result], pattern: str) -> Result:
 
 
 class Tool:
-    """A tool with its name, which says troubles on standard error and remembers that there were some."""
+    """A tool, which reports errors on standard error and counts them."""
 
     def __init__(self, name: str):
         self.name = name
@@ -106,7 +107,7 @@ class Tool:
         self.say(text)
 
     def run(self, main: Callable[[Sequence[str] | None], int], words: Sequence[str] | None) -> int:
-        """The exit status of the tool. A reader of its output that goes away ends it quietly."""
+        """The exit status of the tool. If the reader of its output goes away, it ends quietly."""
         self.troubles = 0
         try:
             status = main(words)
@@ -132,7 +133,7 @@ def os_trouble(error: OSError) -> str:
 
 
 class OwnFolder:
-    """A folder that a tool fills. One that has files of others is refused, so that none of them is overwritten."""
+    """A folder that a tool fills. One with other files is rejected, so that none of them is overwritten."""
 
     def __init__(self, path: Path, tool: str, files: Sequence[str]):
         self.path = path
@@ -140,16 +141,16 @@ class OwnFolder:
         self.files = files
 
     def check(self) -> None:
-        """Raises Trouble where the folder has something that the tool didn't make."""
+        """Raises Trouble if the folder has something that the tool didn't make."""
         if not self.path.exists():
             return
         if not self.path.is_dir():
-            raise Trouble(f"{shown(str(self.path))}: is no folder")
+            raise Trouble(f"{shown(str(self.path))}: not a folder")
         found = sorted(os.listdir(self.path))
         if found and not self.is_own():
-            raise Trouble(f"{self.path} has files of others, as {shown(found[0])}; give a new folder")
+            raise Trouble(f"{self.path} has files that the tool didn't make, such as {shown(found[0])}; name a new folder")
         if others := [name for name in found if name not in self.files and name not in self.saved()]:
-            raise Trouble(f"{self.path} has a file of others, {shown(others[0])}; give a new folder")
+            raise Trouble(f"{self.path} has a file that the tool didn't make, {shown(others[0])}; name a new folder")
 
     def is_own(self) -> bool:
         script = self.path / "script"
@@ -165,7 +166,7 @@ class OwnFolder:
         return images + [f"{image}.queries" for image in images]
 
     def write(self, name: str, pieces: Iterable[bytes]) -> None:
-        """Writes a file as a whole: it is there with all its bytes, or as it was."""
+        """Writes a file atomically."""
         self.path.mkdir(parents=True, exist_ok=True)
         new = self.path / f".{name}.new"
         try:

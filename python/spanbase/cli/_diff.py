@@ -74,7 +74,7 @@ def increasing(numbers: list[int]) -> list[int]:
 
 
 def kept_lines(old: list[bytes], new: list[bytes]) -> list[tuple[int, int]]:
-    """Pairs of equal lines in increasing order, each of which stands once in either text."""
+    """Pairs of equal lines in increasing order. Each occurs once in either text."""
     once = [{line: index for index, line in enumerate(each)} for each in (old, new)]
     counts = [Counter(each) for each in (old, new)]
     lines = [line for line in old if counts[0][line] == counts[1][line] == 1]
@@ -82,8 +82,8 @@ def kept_lines(old: list[bytes], new: list[bytes]) -> list[tuple[int, int]]:
 
 
 def line_edits(old: bytes, new: bytes) -> Iterator[Edit]:
-    """Edits by a diff of lines. Lines that stand once in each text are paired first, and then what is between the pairs is
-    compared where it isn't too long."""
+    """Edits by a diff of lines. Lines that occur once in each text are paired first. Then the lines between the pairs are
+    compared, unless they are too many."""
     lines = [text.splitlines(keepends=True) for text in (old, new)]
     starts = [list(accumulate(map(len, each), initial=0)) for each in lines]
     at, new_at = 0, 0

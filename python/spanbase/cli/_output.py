@@ -20,7 +20,7 @@ NAMED_CONTROLS = {b"\t": rb"\t", b"\n": rb"\n", b"\r": rb"\r", b"\\": rb"\\"}
 
 
 def escaped(text: bytes) -> bytes:
-    """A text with its control bytes and backslashes escaped, so that it stands in one field of one line."""
+    """A text with its control bytes and backslashes escaped, so that it is one field of a line."""
     return CONTROL.sub(lambda it: NAMED_CONTROLS.get(it[0]) or b"\\x%02x" % it[0][0], text)
 
 
@@ -221,7 +221,7 @@ def json_text(text: bytes) -> dict[str, str]:
 
 
 class Json:
-    """The messages of ripgrep's --json: for each file with an answer `begin`, a `match` for the lines of some answers, and
+    """The messages of `rg --json`: for each file with an answer `begin`, a `match` for the lines of some answers, and
     `end`; last a `summary`. A submatch of a regex with named groups has them as `groups`."""
 
     def __init__(self, out: BinaryIO, names: Sequence[str], groups: bool):
@@ -290,7 +290,7 @@ def elapsed(begun: float) -> dict[str, Any]:
 
 
 def blocks(content: Content, answers: Iterator[Answer]) -> Iterator[tuple[int, int, list[Answer]]]:
-    """The answers by the lines that they stand in: where these begin and end, and the answers."""
+    """The answers by their lines: where these begin and end, and the answers."""
     some: list[Answer] = []
     begin = end = -1
     for answer in answers:

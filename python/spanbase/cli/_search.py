@@ -145,7 +145,7 @@ class Pattern:
     whole_lines: bool = False
 
     def translated(self, *, names: bool, lines: str | None = None, text: str | None = None) -> Translation:
-        """The translation of the regex, or of another one in its place."""
+        """The translation of the regex, or of the given text instead of it."""
         return translate(
             self.text if text is None else text,
             re.MULTILINE | (re.IGNORECASE if self.ignore_case else 0),
@@ -186,8 +186,8 @@ class Pattern:
 
 def add_pattern_options(reader: Parser) -> None:
     add = reader.add_argument
-    add("--ascii-properties", action="store_true", help=r"\p{Lu} and the like are the ASCII characters of the property")
-    add("--split", action="store_true", help="with too many states, capture a gap such as .{0,30} to have fewer")
+    add("--ascii-properties", action="store_true", help=r"\p{Lu} and the like match the ASCII characters of the property")
+    add("--split", action="store_true", help="if there are too many states, capture a gap such as .{0,30}")
     reader.add_program()
 
 

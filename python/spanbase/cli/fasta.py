@@ -30,7 +30,7 @@ WHOLE = b"all.sequences"
 
 @dataclass
 class Record:
-    """A sequence in the pieces that stood on its lines."""
+    """A sequence as the pieces of its lines."""
 
     header: bytes
     pieces: list[bytes] = field(default_factory=list)
@@ -41,7 +41,7 @@ class Record:
 
 @dataclass
 class Lines:
-    """The lines of a file without their ends, but for blank ones, with their numbers."""
+    """The non-blank lines of a file, without their ends, with their numbers."""
 
     file: str
     stream: Iterable[bytes]
@@ -121,7 +121,7 @@ def records(file: str) -> Iterator[Record]:
 
 @dataclass
 class Names:
-    """Gives each header a name of its own."""
+    """Makes a name for each header."""
 
     used: set[bytes] = field(default_factory=lambda: {WHOLE})
     next_number: dict[bytes, int] = field(default_factory=dict)

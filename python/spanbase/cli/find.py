@@ -1,8 +1,10 @@
 """Searches files, or the documents of an image, for a regex, and prints the lines that match, as grep does.
 
 spanbase-formula describes the regexes. A regex matches within lines, and `^` and `$` match at the ends of lines; with -U a
-match may contain newlines. -o, --csv, --tsv, --json and --count-matches print or count answers: without named groups the
-longest matches from left to right, with named groups all ways in which the groups can match.
+match may contain newlines.
+
+Options such as -o, --csv and --json print answers. Without named groups these are the longest matches from left to right.
+With named groups they are all ways in which the groups can match.
 
 FILE - is standard input, which is also the default. With --image the files are names of documents. The status is 0 if
 something is found, 1 if nothing is found, and 2 on errors.
@@ -110,7 +112,7 @@ CONFLICTS = [
 
 @dataclass
 class Words:
-    """The arguments: those for argparse, the regexes of -e, and what stands behind `--`."""
+    """The arguments: those for argparse, the regexes of -e, and those after `--`."""
 
     options: list[str]
     patterns: list[str]
@@ -204,7 +206,7 @@ def paths(asked: argparse.Namespace) -> Iterator[bytes]:
             found = walked(name, asked.glob, lambda error: TOOL.trouble(os_trouble(error)))
             yield from (path.removeprefix(b"./") if not asked.files else path for path in found)
         else:
-            TOOL.trouble(f"{shown(name)}: is a folder; -r searches its files")
+            TOOL.trouble(f"{shown(name)}: is a folder; -r searches the files in it")
 
 
 def loaded(database: spanbase.Database, asked: argparse.Namespace) -> list[Searched]:
@@ -295,7 +297,7 @@ def find(database: spanbase.Database, asked: argparse.Namespace, documents: Sequ
                 out.write(heads.line(it.title))
         return some
     if not lines.search.names:
-        raise Trouble("the formula has no variable, so it doesn't say which lines match; -l and -q say where it matches")
+        raise Trouble("the formula has no variable, so it doesn't say which lines match; -l and -q say which files do")
     if asked.count:
         return Counts(out, heads).write_all((it.title, lines.count(it)) for it in documents)
     output = Lines(out, heads, asked.line_number, asked.text)

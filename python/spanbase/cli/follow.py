@@ -1,8 +1,8 @@
 """Follows files as they grow, as `tail -F` does, and prints the new lines in which a regex matches.
 
-What a file has grown by is appended to a document of the database once its line is complete, and what is found behind the
-last answer is printed. A file that is replaced, as by a rotation of logs, or truncated is read from its beginning. One that
-isn't there is waited for. An interrupt ends the tool.
+The new bytes of a file are appended to a document of the database when their line is complete, and the answers in them are
+printed. A file that is replaced, as by log rotation, or truncated is read from its beginning. The tool waits for a file that
+doesn't exist. An interrupt ends it.
 """
 import argparse
 import json
@@ -26,14 +26,14 @@ PIECE = 1 << 20
 def parser() -> Parser:
     reader = Parser("follow", __doc__)
     add = reader.add_argument
-    add("-n", "--lines", default="10", metavar="N", help="begin with the last N lines, by default 10; +N: with line N")
-    add("-o", "--only-matching", action="store_true", help="print the answers alone, the texts of named groups with tabs")
-    add("--json", action="store_true", help="print an object of JSON for each answer")
-    add("-i", "--ignore-case", action="store_true", help="letters of ASCII match in either case")
-    add("-s", "--sleep-interval", type=seconds, default=1.0, metavar="S", help="look for more every S seconds, by default 1")
-    add("--once", action="store_true", help="end where all that the files have was read")
-    add("-H", "--with-filename", action="store_true", default=None, help="print names of files, as for several")
-    add("-I", "--no-filename", action="store_false", dest="with_filename", help="print no names of files")
+    add("-n", "--lines", default="10", metavar="N", help="begin with the last N lines, 10 by default, or with line N for +N")
+    add("-o", "--only-matching", action="store_true", help="print only the answers: the texts of named groups, separated by tabs")
+    add("--json", action="store_true", help="print a JSON object for each answer")
+    add("-i", "--ignore-case", action="store_true", help="ASCII letters match in either case")
+    add("-s", "--sleep-interval", type=seconds, default=1.0, metavar="S", help="read the files every S seconds, 1 by default")
+    add("--once", action="store_true", help="end when the files are read to their ends")
+    add("-H", "--with-filename", action="store_true", default=None, help="print file names, by default for several files")
+    add("-I", "--no-filename", action="store_false", dest="with_filename", help="print no file names")
     add("--keep", metavar="IMAGE", help="save the documents when an interrupt ends the tool")
     add_pattern_options(reader)
     add("pattern", metavar="REGEX")
@@ -47,7 +47,7 @@ def seconds(text: str) -> float:
     except ValueError:
         found = -1.0
     if not 0 <= found < 1e6:
-        raise argparse.ArgumentTypeError(f"{text!r} is no time in seconds")
+        raise argparse.ArgumentTypeError(f"{text!r} is no number of seconds")
     return found
 
 
@@ -116,7 +116,7 @@ class Followed:
         return at
 
     def start_of_last(self, count: int) -> int:
-        """Where the last lines begin. What stands behind the last newline is a line of its own."""
+        """Where the last lines begin. Bytes after the last newline are a line too."""
         end = self.size()
         if count == 0:
             # a line that has begun is read whole
@@ -217,8 +217,8 @@ class Follower:
                 self.write(path, answer, base, text)
 
     def cursor(self, base: int) -> bytes:
-        """A tuple before all answers in the lines from a position on, and behind all others that aren't empty. It stands at
-        the newline before the position."""
+        """A tuple at the newline before a position. It precedes all answers in the lines from there on, and follows all
+        others that aren't empty."""
         return b",".join(b"%s=[%d,%d)" % (name.encode(), base, base) for name in self.search.query.variables)
 
     def answers(self, document: Searched, cursor: bytes | None) -> Iterator[Answer]:
@@ -269,9 +269,9 @@ def run(words: Sequence[str] | None) -> int:
     reader = parser()
     asked = reader.parse_intermixed_args(words)
     if not asked.lines.removeprefix("+").isdecimal():
-        reader.error(f"-n takes a number of lines, or +N, not {asked.lines!r}")
+        reader.error(f"-n needs a number of lines, or +N, not {asked.lines!r}")
     if "-" in asked.files:
-        reader.error("a stream isn't followed; spanbase-find reads standard input")
+        reader.error("standard input can't be followed; spanbase-find reads it")
     try:
         with opened(asked) as database:
             return follow(database, asked)

@@ -1,10 +1,10 @@
-"""Turns a regex into a formula of spanbase, or says where and why it has none and what to write instead.
+"""Translates a regex to a formula of spanbase, or prints where and why it has none and what to write instead.
 
 The regex is one of Python's `re`, with POSIX classes such as [[:alpha:]]. A named group becomes a variable. The answers are
 all spans that the regex can match, and not only those that a search would find first. A formula matches a whole text, so the
-tool puts `.*` on both sides of it; with --whole the regex itself must match the whole text.
+tool adds `.*` on both sides of it; with --whole the regex itself must match the whole text.
 
-Standard output has the formula; notes and errors go to standard error. Status 2 says that there is no formula.
+The formula goes to standard output; notes and errors go to standard error. The status is 2 if there is no formula.
 """
 import argparse
 import sys
@@ -20,16 +20,16 @@ def parser() -> Parser:
     reader = Parser("formula", __doc__)
     add = reader.add_argument
     add("--whole", action="store_true", help="the regex must match the whole text")
-    add("--capture", type=name_of_language, metavar="NAME", help="the variable of the whole match where no group has a name")
-    add("-i", "--ignore-case", action="store_true", help="letters of ASCII match in either case")
-    add("--ascii-properties", action="store_true", help=r"\p{Lu} and the like are the ASCII characters of the property")
+    add("--capture", type=name_of_language, metavar="NAME", help="the variable of the whole match if no group has a name")
+    add("-i", "--ignore-case", action="store_true", help="ASCII letters match in either case")
+    add("--ascii-properties", action="store_true", help=r"\p{Lu} and the like match the ASCII characters of the property")
     add("--query", type=name_of_language, metavar="NAME", help="write the line `query NAME FORMULA`")
-    add("--variables", action="store_true", help="write the variables in a second line")
-    add("--for-replace", action="store_true", help="warn where `replace` would take a match that could be longer")
+    add("--variables", action="store_true", help="write the variables to a second line")
+    add("--for-replace", action="store_true", help="warn if `replace` would choose a match that could be longer")
     add("--try", dest="tried", action="store_true", help="ask the program whether the query has too many states")
-    add("--split", action="store_true", help="with too many states, capture a gap such as .{0,30} to have fewer")
-    add("--quiet", action="store_true", help="no notes and warnings")
-    add("--check", action="store_true", help="the text is a formula: say whether and where it is rejected")
+    add("--split", action="store_true", help="if there are too many states, capture a gap such as .{0,30}")
+    add("--quiet", action="store_true", help="print no notes and warnings")
+    add("--check", action="store_true", help="the text is a formula: write `ok` and its variables, or the rejection")
     reader.add_program()
     add("text", metavar="REGEX")
     return reader
@@ -50,10 +50,10 @@ def tried(asked: argparse.Namespace, found: Translation, make: Callable[[str], T
     except spanbase.SpanbaseError as error:
         raise Trouble(str(error)) from None
     if better is None:
-        raise Trouble(f"{TOO_MANY_STATES}; make its repetitions shorter, or search for its parts by queries of their own")
+        raise Trouble(f"{TOO_MANY_STATES}; write smaller bounds, or search for its parts by separate queries")
     if not asked.split:
         raise Trouble(f"{TOO_MANY_STATES}; capture a gap, as --split does: {better.regex}")
-    TOOL.say(f"note: with a gap captured the regex is {better.regex}")
+    TOOL.say(f"note: the regex with a gap captured: {better.regex}")
     return better.translation
 
 
@@ -63,11 +63,11 @@ def remarks(asked: argparse.Namespace, found: Translation) -> list[str]:
         notes.append("note: no group has a name, so an answer has no span; --capture NAME captures the whole match")
     if asked.for_replace:
         notes += [
-            f"warning: the end of {name} isn't fixed: `replace` takes its first end, and the longest one with `longest`"
+            f"warning: the end of {name} isn't fixed: `replace` chooses the first end, and with `longest` the last one"
             for name in found.open_ends
         ]
         if len(found.variables) != 1:
-            notes.append(f"warning: `replace` takes a query of one variable, and this one has {len(found.variables)}")
+            notes.append(f"warning: `replace` needs a query of one variable, and this one has {len(found.variables)}")
     return notes
 
 

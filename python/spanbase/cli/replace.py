@@ -1,11 +1,11 @@
-"""Replaces what a regex finds in files, or in the documents of an image, as sed does.
+"""Replaces the matches of a regex in files, or in the documents of an image, as sed does.
 
-At each position the longest match is replaced, from left to right. Where the regex has a named group, its span alone is
-replaced. The regex is matched within lines, and `^` and `$` are the ends of lines; -U lets it match over several lines. In
-TEXT, \\n, \\t, \\r, \\\\ and \\xHH stand for bytes; --literal takes it as it is.
+From left to right the longest match at each position is replaced. If the regex has a named group, only the span of the group
+is replaced. A regex matches within lines, and `^` and `$` match at the ends of lines; with -U a match may contain newlines.
+In TEXT, \\n, \\t, \\r, \\\\ and \\xHH stand for bytes; with --literal it has no escapes.
 
-The texts go to standard output, or with -i back into their files. FILE - is standard input, which is also read where no file
-is given. The status is 0 where something was replaced, 1 where nothing was, and 2 where something was wrong.
+Changed texts go to standard output, or with -i into their files. FILE - is standard input, which is also the default. The
+status is 0 if something is replaced, 1 if nothing is replaced, and 2 on errors.
 """
 import argparse
 import os
@@ -31,17 +31,17 @@ NAMED = {b"n": b"\n", b"t": b"\t", b"r": b"\r", b"\\": b"\\"}
 def parser() -> Parser:
     reader = Parser("replace", __doc__)
     add = reader.add_argument
-    add("-i", "--in-place", action="store_true", help="write changed texts back into their files")
-    add("--backup", metavar="SUFFIX", help="with -i: keep each old file under its name and SUFFIX")
-    add("-n", "--dry-run", action="store_true", help="write nothing; print the lines that change, old and new")
-    add("-c", "--count", action="store_true", help="write nothing; print how many places each file has")
-    add("--first", action="store_true", help="replace the shortest match at each position in place of the longest")
-    add("--literal", action="store_true", help="the text has no escapes")
-    add("--ignore-case", action="store_true", help="letters of ASCII match in either case")
-    add("-U", "--multiline", action="store_true", help="matches may go over several lines")
+    add("-i", "--in-place", action="store_true", help="write changed texts into their files")
+    add("--backup", metavar="SUFFIX", help="with -i: keep each old file under its name with SUFFIX")
+    add("-n", "--dry-run", action="store_true", help="write no file; print the lines that change, old and new")
+    add("-c", "--count", action="store_true", help="write no file; print the number of replacements in each file")
+    add("--first", action="store_true", help="replace the shortest match at each position")
+    add("--literal", action="store_true", help="TEXT has no escapes")
+    add("--ignore-case", action="store_true", help="ASCII letters match in either case")
+    add("-U", "--multiline", action="store_true", help="matches may span several lines")
     add("--formula", action="store_true", help="the pattern is a formula with one variable")
-    add("--image", metavar="IMAGE", help="replace in documents of an image, all or those that are named")
-    add("--save", metavar="IMAGE", help="with --image: write the changed image here")
+    add("--image", metavar="IMAGE", help="replace in documents of an image, by default in all")
+    add("--save", metavar="IMAGE", help="with --image: save the changed image here")
     add_pattern_options(reader)
     add("pattern", metavar="REGEX")
     add("text", metavar="TEXT")
@@ -53,18 +53,18 @@ def arguments(words: Sequence[str] | None) -> argparse.Namespace:
     reader = parser()
     asked = reader.parse_intermixed_args(words)
     if asked.split:
-        reader.error("a gap that is captured can't be left out of a replacement, so --split doesn't go with it")
+        reader.error("--split captures a gap, and a replacement needs a single variable")
     if asked.image and asked.in_place:
-        reader.error("-i is about files; --save writes an image")
+        reader.error("-i writes files; --save writes an image")
     if asked.save and not asked.image:
-        reader.error("--save goes with --image")
+        reader.error("--save needs --image")
     if asked.in_place and (not asked.files or "-" in asked.files):
         reader.error("-i needs files")
     return asked
 
 
 def replacement(text: str, literal: bool) -> bytes:
-    """The bytes of the text that is put in."""
+    """The bytes of the replacement."""
     given = os.fsencode(text)
     if literal:
         return given
@@ -74,8 +74,8 @@ def replacement(text: str, literal: bool) -> bytes:
         if len(name) == 3:
             return bytes.fromhex(name[1:].decode())
         if name not in NAMED:
-            hint = "a replacement is one text for all places; " if name.isdigit() or name == b"g" else ""
-            raise Trouble(f"\\{shown(name)} has no meaning in the text: {hint}write \\\\ for a backslash, or take --literal")
+            hint = "the replacement is the same for all matches; " if name.isdigit() or name == b"g" else ""
+            raise Trouble(f"\\{shown(name)} has no meaning in TEXT: {hint}write \\\\ for a backslash, or use --literal")
         return NAMED[name]
 
     return ESCAPE.sub(byte, given)
@@ -85,7 +85,7 @@ def replacement(text: str, literal: bool) -> bytes:
 
 
 def texts(database: spanbase.Database, asked: argparse.Namespace) -> Iterator[Searched]:
-    """The documents in which is replaced, each loaded when it is its turn."""
+    """The documents that are changed, each loaded when it is its turn."""
     if asked.image:
         yield from documents_of(database, asked.image, asked.files, TOOL)
         return
@@ -98,7 +98,7 @@ def texts(database: spanbase.Database, asked: argparse.Namespace) -> Iterator[Se
                 source = Source.of(path)
                 yield Searched(path, Content(database.load("text", path), source))
             elif asked.in_place:
-                TOOL.trouble(f"{shown(path)}: is no regular file, so it can't be replaced")
+                TOOL.trouble(f"{shown(path)}: not a regular file, so it can't be replaced")
             else:
                 given = sys.stdin.buffer.read() if path == b"-" else Path(os.fsdecode(path)).read_bytes()
                 yield Searched(path, Content(database.text("text", given), None, given))
@@ -134,7 +134,7 @@ def write_out(document: spanbase.Document) -> None:
 
 
 def write_back(document: Searched, changed: spanbase.Document, backup: str | None) -> None:
-    """Writes a text into the file that it was loaded from, unless that has changed meanwhile."""
+    """Writes a text to the file that it was loaded from, unless that has changed since."""
     name, source = document.title, document.content.source
     if source is None or Source.of(name) != source:
         TOOL.trouble(f"{shown(name)}: has changed since it was read, so it isn't written")
@@ -148,7 +148,7 @@ def write_back(document: Searched, changed: spanbase.Document, backup: str | Non
 
 
 def replace_in(database: spanbase.Database, search: Search, document: Searched, asked: argparse.Namespace, by: bytes) -> bool:
-    """Replaces in one document, and returns whether there was something."""
+    """Replaces the matches in one document, and returns whether there are any."""
     original = document.content.document
     if asked.dry_run or asked.count:
         spans = list(chosen_spans(search.query, original, longest=not asked.first))
@@ -190,9 +190,9 @@ def run(words: Sequence[str] | None) -> int:
 def replace_all(database: spanbase.Database, pattern: Pattern, asked: argparse.Namespace, by: bytes) -> bool:
     search = pattern.search(database, names=True)
     if len(search.names) != 1:
-        raise Trouble(f"one part is replaced, so one group has a name at most, and this regex has {len(search.names)}")
+        raise Trouble(f"a replacement needs at most one named group, and this regex has {len(search.names)}")
     if asked.first and not asked.formula and pattern.translated(names=True).open_ends:
-        TOOL.say("warning: a match may be longer than what is replaced; leave out --first to replace the longest")
+        TOOL.say("warning: a match may be longer than what is replaced; without --first the longest is replaced")
     found = False
     for document in texts(database, asked):
         try:

@@ -1,14 +1,14 @@
 """Spreads files over images, and evaluates a query on all of them by many processes or many machines.
 
     spanbase-shards make FOLDER FILE ..    loads files into images of a folder
-    spanbase-shards ask FOLDER REGEX       lists the answers of each file, in the order in which `make` was given them
-    spanbase-shards status FOLDER          says which images there are, and whether each is what `make` wrote
+    spanbase-shards ask FOLDER REGEX       lists the answers of each file, in the order of the files
+    spanbase-shards status FOLDER          lists the images, and compares each with what `make` wrote
 
-Each image is one task. The tasks run on this machine, at most so many at a time as --local says, or on the workers of a Dask
-cluster whose scheduler --scheduler names. `spanbase-shards COMMAND --help` lists the options of a command.
+Each image is one task. The tasks run on this machine, --local of them at a time, or on the workers of a Dask cluster whose
+scheduler --scheduler names. `spanbase-shards COMMAND --help` lists the options of a command.
 
-The status is 0 where all went well and `ask` has found something, 1 where it has found nothing, and 2 on errors. One shard
-that fails is named and doesn't stop the others.
+The status is 0 on success, 1 if `ask` finds nothing, and 2 on errors. A shard that fails is reported and doesn't stop the
+others.
 """
 import argparse
 import contextlib
@@ -25,11 +25,11 @@ from spanbase.formula import Translation, check, translate
 
 TOOL = Tool("shards")
 
-MAKE = """Loads files into images of a folder, which is made where it isn't there.
+MAKE = """Loads files into images in a folder, which is created if it doesn't exist.
 
-Each image has files that stand next to each other in the list, and all images have about the same number of bytes. An image
-that is there, whole, and whose files have the sizes and times of change that they had stays as it is; so the same command
-makes what an earlier one couldn't. A folder that has files of others is rejected.
+Each image has files that are next to each other in the list, and all images have about the same number of bytes. The same
+command again makes only the images that are missing or damaged, or whose files have changed in size or time. A folder with
+other files is rejected.
 """
 ASK = """Evaluates a query on all files of a folder of shards, and lists at most --limit answers of each.
 
@@ -123,7 +123,7 @@ def make(words: Sequence[str]) -> int:
     asked = reader.parse_intermixed_args(words)
     files = listed_files(asked)
     if not files:
-        reader.error("give files, or a list of them by --files-from")
+        reader.error("name files, or a list of them by --files-from")
 
     def report(image: shards.Image, made: bool) -> None:
         if not asked.quiet:
@@ -162,9 +162,9 @@ def ask_parser() -> Parser:
     reader = parser("ask", ASK)
     add = reader.add_argument
     add("--formula", action="store_true", help="the query is a formula, which matches whole texts, and no regex")
-    add("-i", "--ignore-case", action="store_true", help="letters of ASCII match in either case")
+    add("-i", "--ignore-case", action="store_true", help="ASCII letters match in either case")
     add("--limit", type=limit, default=100, metavar="N", help="list at most N answers of each file, by default 100, or `all`")
-    add("--document", action="append", metavar="FILE", help="ask this file alone, by the name that `make` was given; repeatable")
+    add("--document", action="append", metavar="FILE", help="ask only this file, by its path in the list of `make`; may be repeated")
     add("--after", metavar="TUPLE", help="list the answers after this one; of one --document")
     add("--texts", action="store_true", help="print the text of each variable too")
     form = reader.add_mutually_exclusive_group()
@@ -276,7 +276,7 @@ def run(words: Sequence[str] | None) -> int:
     reader = Parser("shards", __doc__)
     reader.add_argument("command", choices=list(COMMANDS))
     reader.parse_args(given[:1])
-    reader.error("give a command")
+    reader.error("name a command")
 
 
 def main(words: Sequence[str] | None = None) -> int:

@@ -1,11 +1,11 @@
-"""Makes a script that has each version of a text as a document, every one after the first as an edit of the one before.
+"""Makes a script in which each version of a text is a document, and each one after the first an edit of its predecessor.
 
 The versions are the files in their order, or with --git the revisions of one file in a repository, the oldest first. FOLDER
-is made where it isn't there. It has afterwards `first`, the first version, `added`, all that the edits insert, `index.tsv`,
-a line for each document, and `script`. Run it there:  cd FOLDER && spanbase < script
+is created if it doesn't exist. It then has `first`, the first version; `added`, the bytes that the edits insert; `index.tsv`,
+a line for each document; and `script`. To run it:  cd FOLDER && spanbase < script
 
-With --containing the folder is asked instead: the index's lines of all versions in which a regex matches are printed. The
-status is then 0 where there is one, and 1 where there is none; 2 says that something was wrong.
+With --containing the tool prints the lines of `index.tsv` for the versions in which a regex matches. The status is then 0 if
+there is one, 1 if there is none, and 2 on errors.
 """
 import argparse
 import os
@@ -111,7 +111,7 @@ class Script:
         return expression
 
     def place(self, text: bytes) -> int:
-        """Where the text stands in what is inserted; an equal text is there once."""
+        """The position of the text in `added`, which has equal texts once."""
         if text not in self.places:
             self.places[text] = len(self.added)
             self.added += text
@@ -145,7 +145,7 @@ class Script:
 
 
 def run_script(database: spanbase.Database, folder: Path, lines: Iterable[bytes]) -> None:
-    """Runs a script of a folder, whose files stand in the folder, without its `save`."""
+    """Runs the script of a folder, with the files of the folder, without its `save`."""
     edits: list[bytes] = []
     for line in lines:
         command, _, rest = line.partition(b" ")
@@ -163,7 +163,7 @@ def run_script(database: spanbase.Database, folder: Path, lines: Iterable[bytes]
 def versions_in_files(files: Iterable[Path], prefix: str) -> Iterator[Version]:
     for number, file in enumerate(files, 1):
         if not file.is_file():
-            raise Trouble(f"{shown(str(file))}: " + ("is no plain file" if file.exists() else "there is no such file"))
+            raise Trouble(f"{shown(str(file))}: " + ("not a regular file" if file.exists() else "no such file"))
         if file.stat().st_size > LONGEST_FILE:
             raise Trouble(f"{shown(str(file))}: a file has at most {LONGEST_FILE} bytes")
         yield Version(f"{prefix}{number}", file.read_bytes(), str(file))
@@ -194,7 +194,7 @@ def versions_in_git(repository: Path, file: Path, last: int | None, prefix: str)
 
 def prefix_word(text: str) -> str:
     if not re.fullmatch(r"[A-Za-z_][A-Za-z0-9_.-]{0,20}", text):
-        raise argparse.ArgumentTypeError(f"{text!r} is no beginning of a name")
+        raise argparse.ArgumentTypeError(f"{text!r} can't begin a name")
     return text
 
 
@@ -270,14 +270,14 @@ def parser() -> Parser:
     reader = Parser("versions", __doc__)
     add = reader.add_argument
     add("--git", type=Path, metavar="REPOSITORY", help="the versions are revisions in this repository")
-    add("--last", type=positive, metavar="N", help="with --git: the last N revisions alone")
-    add("--bytes", action="store_true", help="compare changed lines by bytes")
-    add("--name", type=prefix_word, metavar="PREFIX", help="what names begin with: by default v for files, c for revisions")
-    add("--save", type=file_of_language, metavar="IMAGE", help="the script ends by saving this image")
+    add("--last", type=positive, metavar="N", help="with --git: only the last N revisions")
+    add("--bytes", action="store_true", help="compare changed lines byte by byte")
+    add("--name", type=prefix_word, metavar="PREFIX", help="the beginning of names: v for files and c for revisions by default")
+    add("--save", type=file_of_language, metavar="IMAGE", help="end the script with saving this image")
     add("--check", action="store_true", help="run the program on the script and compare")
-    add("--containing", metavar="REGEX", help="print which versions of the folder have a line in which this matches")
-    add("--without", action="store_true", help="with --containing: those that have no such line")
-    add("-i", "--ignore-case", action="store_true", help="with --containing: letters of ASCII match in either case")
+    add("--containing", metavar="REGEX", help="print which versions of the folder have a line that matches")
+    add("--without", action="store_true", help="with --containing: those without such a line")
+    add("-i", "--ignore-case", action="store_true", help="with --containing: ASCII letters match in either case")
     add_pattern_options(reader)
     add("folder", type=Path, metavar="FOLDER")
     add("files", type=Path, metavar="FILE", nargs="*")
@@ -288,7 +288,7 @@ def run(words: Sequence[str] | None) -> int:
     reader = parser()
     asked = reader.parse_intermixed_args(words)
     if bool(asked.files) == (asked.containing is not None):
-        reader.error("give files to make a folder, or --containing to ask one")
+        reader.error("name files to make a folder, or --containing to ask one")
     names = ["first", "added", "script", INDEX, *([asked.save, f"{asked.save}.queries"] if asked.save else [])]
     folder = OwnFolder(asked.folder, "versions", names)
     try:
