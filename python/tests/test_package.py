@@ -7,6 +7,7 @@ import re
 import subprocess
 import sys
 import tempfile
+import textwrap
 import tomllib
 import unittest
 from pathlib import Path
@@ -29,6 +30,12 @@ class Page(ShellCase):
         (_, example), (_, printed) = FENCE.findall(PAGE)[:2]
         ran = run("sh", "-c", example, folder=TOP)
         self.assertEqual((ran.stdout, ran.stderr, ran.returncode), (printed, "", 0))
+
+    def test_example_of_the_module(self) -> None:
+        """The example in the docstring of the package."""
+        example = re.sub(r"^(?!    ).*$", "", spanbase.__doc__ or "", flags=re.MULTILINE)
+        ran = run(sys.executable, "-c", textwrap.dedent(example), folder=TOP / "examples/logs.files")
+        self.assertEqual((ran.stdout, ran.stderr), ("b'10.0.3.9' 2\nb'192.168.1.4' 4\nb'10.0.3.7' 6\n", ""))
 
     def test_session(self) -> None:
         """The other examples are one session."""

@@ -410,17 +410,6 @@ class Command(Folder):
         self.assertEqual(status.returncode, 2)
         self.assertEqual([line.split(b"\t")[4][:20] for line in status.stdout.splitlines()], [b"ok", b"the image is cut: it", b"ok"])
 
-    def test_page(self) -> None:
-        """The first example of docs/SHARDS.md prints what the page says."""
-        for name in ("tools", "examples"):
-            Path(name).symlink_to(TOP / name)
-        example = (TOP / "docs/SHARDS.md").read_text().split("```")[1].strip()
-        for block in example.removeprefix("$ ").split("\n$ "):
-            line, _, output = block.partition("\n")
-            surroundings = {**os.environ, "SPANBASE_SHELL": SHELL}
-            ran = subprocess.run(["sh", "-c", line], capture_output=True, text=True, env=surroundings, check=False)
-            self.assertEqual((ran.stdout + ran.stderr).strip(), output)
-
 
 DASK = python_with("distributed.cli.dask_worker")
 

@@ -64,6 +64,10 @@ def file_of_language(text: str) -> str:
     return text
 
 
+def counted(count: int, one: str, more: str = "") -> str:
+    return f"{count} {one}" if count == 1 else f"{count} {more or one + 's'}"
+
+
 def shown(text: str | bytes) -> str:
     """A text for a message, with what isn't printable escaped."""
     decoded = text if isinstance(text, str) else os.fsdecode(text)

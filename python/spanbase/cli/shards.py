@@ -18,7 +18,7 @@ from collections.abc import Iterator, Sequence
 from typing import Any, TextIO
 
 from spanbase import shards
-from spanbase.cli._common import FOUND, NOT_FOUND, TROUBLE, Parser, Tool, Trouble, positive, shown, translated
+from spanbase.cli._common import FOUND, NOT_FOUND, TROUBLE, Parser, Tool, Trouble, counted, positive, shown, translated
 from spanbase.cli._output import escaped
 from spanbase.errors import SpanbaseError
 from spanbase.formula import Translation, check, translate
@@ -145,10 +145,6 @@ def make(words: Sequence[str]) -> int:
         )
     print(f"{counted(len(made.documents), 'file')} in {counted(len(made.images), 'image')}")
     return FOUND
-
-
-def counted(count: int, one: str, more: str = "") -> str:
-    return f"{count} {one}" if count == 1 else f"{count} {more or one + 's'}"
 
 
 # --------------------------------------------------------------------------------------------------------------------- ask

@@ -24,6 +24,7 @@ from spanbase.cli._common import (
     Parser,
     Tool,
     Trouble,
+    counted,
     file_of_language,
     positive,
     shown,
@@ -215,8 +216,8 @@ def make(asked: argparse.Namespace, folder: OwnFolder) -> str:
     script.finish(asked.save)
     script.write(folder)
     lengths = list(script.lengths.values())
-    told = f"{len(lengths)} versions with {sum(lengths)} bytes in all: the first has {lengths[0]}, "
-    told += f"and {script.edits} edits insert {len(script.added)}"
+    told = f"{counted(len(lengths), 'version')} with {sum(lengths)} bytes in all: the first has {lengths[0]}, "
+    told += f"and {counted(script.edits, 'edit inserts', 'edits insert')} {len(script.added)}"
     if asked.check:
         with opened(asked) as database:
             script.check(database, folder.path)
