@@ -45,14 +45,8 @@ class English(unittest.TestCase):
     def test_comments(self) -> None:
         with tempfile.TemporaryDirectory() as folder:
             for name, source, line in [
-                ("a.rt", "let shelf = told;
-
-    /// It was
-    /// refused.
-", 3),
-                ("A.antt", "shelf told = told
--- a shelf
-", 2),
+                ("a.rt", "let shelf = told;\n\n    /// It was\n    /// refused.\n", 3),
+                ("A.antt", "shelf told = told\n-- a shelf\n", 2),
             ]:
                 (file := Path(folder) / name).write_text(source)
                 found = english.findings(english.blocks_in(file))

@@ -146,7 +146,7 @@ class Made(unittest.TestCase):
             self.assertEqual(ended.returncode, 0, (ended.stdout + ended.stderr).decode())
 
     def test_head(self) -> None:
-        self.assertEqual(english.findings(trusted.HEAD), [])
+        self.assertEqual(english.findings(english.blocks_of(trusted.HEAD)), [])
 
     def test_difference(self) -> None:
         with repository({"page.md": "one\nother\n"}), contextlib.redirect_stdout(io.StringIO()) as out:
