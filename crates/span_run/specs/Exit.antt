@@ -1,7 +1,7 @@
 -- The exit status of the program.
 use Rattle.std.specs.Prelude.{ℕ}
-use Rattle.span_run.specs.declared.run.Status.{Status}
-use Rattle.span_run.specs.declared.run.Status.TheVariants.{Done, SomeRefused, Usage, ScriptFault, OutFault, ShelfFault, NoMemory, ScriptTooLong}
+use Rattle.span_run.specs.declared.run_script.Status.{Status}
+use Rattle.span_run.specs.declared.run_script.Status.TheVariants.{Done, SomeRefused, Usage, ScriptFault, OutFault, ShelfFault, NoMemory, ScriptTooLong}
 
 abbrev pub exit_of : Status → ℕ
 exit_of Done = 0

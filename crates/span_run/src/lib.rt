@@ -43,13 +43,13 @@ mod reading;
 mod refusing;
 mod registering;
 mod replacing;
-mod run;
+mod run_script;
 mod session;
 mod subject;
 mod versions;
 mod words;
 
-pub use run::{Status, run};
+pub use run_script::{Status, run};
 pub use session::Session;
 pub use span_language::{Stop, Told};
 pub use span_words::usage_text;

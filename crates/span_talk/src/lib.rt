@@ -24,10 +24,10 @@
 #![tactic(auto)]
 
 mod client;
+mod conversation;
 mod lines;
 mod progress;
-mod talk;
 
 pub use client::{Client, Listener};
+pub use conversation::talk;
 pub use span_run::Status;
-pub use talk::talk;

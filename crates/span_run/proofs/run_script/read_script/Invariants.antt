@@ -1,5 +1,5 @@
 use Rattle.span_run.proofs.Names.{Consumes, length, ◌+◌, ◌-◌, ◌^◌, ◌≡◌, ◌≤◌}
-use Rattle.span_run.proofs.run.read_script.Given as goal
+use Rattle.span_run.proofs.run_script.read_script.Given as goal
 
 abbrev pub invariant-loop-chunk : goal.invariant-loop-chunk
 invariant-loop-chunk g l = record {

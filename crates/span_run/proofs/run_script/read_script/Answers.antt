@@ -1,5 +1,5 @@
 use Rattle.span_run.proofs.Names.{arith, Consumes-trans, length, length-append, length-take, take, ◌++◌, ◌+◌, ◌^◌, ◌≤◌}
-use Rattle.span_run.proofs.run.read_script.Goals as goal
+use Rattle.span_run.proofs.run_script.read_script.Goals as goal
 
 pub returns-then-is_err-clause-taken : goal.returns-then-is_err-clause-taken
 returns-then-is_err-clause-taken g c = (

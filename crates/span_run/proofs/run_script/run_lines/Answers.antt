@@ -1,7 +1,7 @@
 use Rattle.span_run.proofs.Names.{ap, arith, Bool, err_from_is_err_and, IsStopped, lines_of, outlet, outside, refl, seen, Stop, subst, sym, ◌+◌, ◌∙◌, ◌≡◌}
 use Rattle.span_language.specs.declared.told.Stop.TheVariants as stop
 use Rattle.span_run.proofs.Facts.{at_start, empty_of, ends, goes_on, IsAt, gone_on, gone_still, rose_later, stops_anywhere, stops_in_file, stops_wanting, told_of}
-use Rattle.span_run.proofs.run.run_lines.Goals as goal
+use Rattle.span_run.proofs.run_script.run_lines.Goals as goal
 
 pub returns-in_err-told : goal.returns-in_err-told
 returns-in_err-told g c =

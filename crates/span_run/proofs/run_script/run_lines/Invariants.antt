@@ -1,6 +1,6 @@
 use Rattle.span_run.proofs.Names.{IsStanding, length, lines_of, outside, ◌+◌, ◌≡◌, ◌≤◌}
 use Rattle.span_run.proofs.Facts.{IsAt}
-use Rattle.span_run.proofs.run.run_lines.Given as goal
+use Rattle.span_run.proofs.run_script.run_lines.Given as goal
 
 abbrev pub invariant-loop-rest : goal.invariant-loop-rest
 invariant-loop-rest g l = record {

@@ -1,6 +1,6 @@
 use Rattle.span_run.proofs.Names.{Anywhere, InFileLine, length, lines_of, map, outside, refl, RunsFront, script_of, string_bytes, UnlessList, ◌^◌, ◌≤◌}
 use Rattle.span_run.proofs.Facts.{each_some, none_ran, none_written, of_demo, of_script}
-use Rattle.span_run.proofs.run.run.Goals as goal
+use Rattle.span_run.proofs.run_script.run.Goals as goal
 
 pub returns-in-Err-Usage-clause-usage : goal.returns-in-Err-Usage-clause-usage
 returns-in-Err-Usage-clause-usage g c = λ _. c.in-Err-Usage.ensures.refused c.in-Err-Usage.field-0-is
