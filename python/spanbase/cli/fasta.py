@@ -1,6 +1,6 @@
 """Makes a script with a document for each sequence of FASTA and FASTQ files.
 
-FOLDER is made where it isn't there. It has afterwards `sequences`, all sequences in a row without their line ends, and
+FOLDER is created if it doesn't exist. It then has `sequences`, all sequences in a row without their line ends, and
 `script`, which loads that file and cuts the documents out of it. Run it there:  cd FOLDER && spanbase < script
 
 A document is named by the first word of its sequence's header, with `_` for each byte that a name can't have, and a number
