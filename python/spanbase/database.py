@@ -322,7 +322,7 @@ class Database(Mapping[str, Document]):
         checked_name(name)
         whole = os.path.abspath(os.fsencode(path))
         with self._operation():
-            # a file that can't be read would end programs that lack the refusal for it
+            # a file that can't be read would end programs that lack the rejection for it
             check_readable(whole, path)
             file = SourceFile.of(whole)
             used = command if command == "load" or self.has_command(command) else "load"
@@ -501,7 +501,7 @@ class Database(Mapping[str, Document]):
         """Makes the documents those of a version, which stays."""
         with self._operation():
             wanted, present = self._version(name), self._documents
-            # a document that is assigned keeps its place, and a new one becomes the last
+            # a document that is assigned keeps its position, and a new one becomes the last
             order = [it for it in present if it in wanted] + [it for it in wanted if it not in present]
             kept = present if order == list(wanted) else {}
             lines = [f"drop {it}" for it in present if it not in wanted or it not in kept]
@@ -628,7 +628,7 @@ class Database(Mapping[str, Document]):
         with self._temporary_file(b"parent") as parent:
             os.symlink(os.path.dirname(target), parent)
             try:
-                # a file that can't be written would end programs that lack the refusal for it
+                # a file that can't be written would end programs that lack the rejection for it
                 if os.path.isdir(target):
                     raise IsADirectoryError(target)
                 os.close(os.open(new, os.O_CREAT | os.O_EXCL | os.O_WRONLY, 0o666))

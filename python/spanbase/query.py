@@ -39,7 +39,7 @@ ENTRY = re.compile(rb"([^=,]+)=(?:-|\[(\d+),(\d+)\))")
 # an iteration begins with a short page, whose rows come soon, and each next one is longer
 FIRST_PAGE = 100
 PAGE_GROWTH = 10
-# the first pages of so many documents are asked for together
+# the number of documents whose first pages are asked for together
 DOCUMENTS_TOGETHER = 64
 # spans at most so far apart are read together
 NEAR = 64

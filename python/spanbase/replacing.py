@@ -13,7 +13,7 @@ if TYPE_CHECKING:
 __all__ = ["chosen_spans", "replacing_edits"]
 
 SPAN = re.compile(rb"=\[(\d+),(\d+)\)")
-# an edit has about so many bytes, and a line has at most 65,536
+# about how many bytes an edit has; a line has at most 65,536
 LONG_EDIT = 30_000
 
 

@@ -75,9 +75,9 @@ UNFINISHED = "manifest.unfinished.json"
 IMAGE_NAME = re.compile(r"\d{4,}-[0-9a-f]{16}\.image")
 OWN_NAME = re.compile(r"\d{4,}-[0-9a-f]{16}\.(image|part)|manifest(\.unfinished)?\.json(\.[0-9a-f]{16}\.part)?")
 HASHED_PIECE = 1 << 20
-# so many spans are shown by one exchange with the program
+# the number of spans that are shown by one exchange with the program
 SHOWN_TOGETHER = 4096
-# a local task is submitted when fewer than so many for each process are under way
+# a local task is submitted when fewer than this number for each process are under way
 AHEAD = 4
 # how often an engine is checked while its tasks are awaited, in seconds
 CHECKED_EVERY = 1.0
@@ -1185,7 +1185,7 @@ def _registered(tree: Mapping[str, Any], name: bytes, numbers: Iterator[int]) ->
 
 
 def _formula_command(name: bytes, formula: bytes) -> bytes:
-    # a newline can't stand in a line of a script
+    # a line of a script can't contain a newline
     return b"query %s %s" % (name, formula.replace(b"\n", rb"\n"))
 
 

@@ -11,7 +11,7 @@ import spanbase
 TOP = Path(__file__).resolve().parent.parent.parent
 PROGRAM = os.environ.get("SPANBASE_PROGRAM", "")
 SHELL = os.environ.get("SPANBASE_SHELL", "")
-# the random tests try so many times as many inputs
+# the factor by which the random tests try more inputs
 TIMES = int(os.environ.get("SPANBASE_TIMES", "1"))
 # the commands that a program may lack
 NEW_COMMANDS = ["bytes", "share", "write", "count", "rank", "at", "longest"]

@@ -20,9 +20,9 @@ from spanbase.shell import LAST_LINES, REFUSAL, Reply, has_no_reply  # noqa: E40
 
 PROGRAM = Path(os.environ["SPANBASE_PROGRAM"])
 STAND_IN = TOOLS / "tests/shell"
-# a shell of the language, or what stands in for it where none was given
+# a shell of the language, or its substitute
 SHELL = Path(os.environ.get("SPANBASE_SHELL") or STAND_IN)
-# the random tests try so many times as many inputs
+# the factor by which the random tests try more inputs
 TIMES = int(os.environ.get("SPANBASE_TIMES", "1"))
 
 # a span by its first position and its end, counted from 1, or None for a variable that has no span

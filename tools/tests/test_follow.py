@@ -116,7 +116,7 @@ class Follow(unittest.TestCase):
                 (["a(", "f"], "the group isn't closed"),
                 (["-n", "x", "a", "f"], "-n needs a number of lines"),
                 (["-s", "x", "a", "f"], "'x' is no number of seconds"),
-                (["a", "-"], "a stream isn't followed"),
+                (["a", "-"], "standard input can't be followed"),
                 (["a"], "the following arguments are required: FILE"),
             ]:
                 status, out, said = ran_here(follow_tool.main, *words, folder=folder)

@@ -9,7 +9,7 @@ import spanbase
 
 Bounds = tuple[int, int]
 
-# a document of at most so many bytes is read as a whole
+# the most bytes of a document that is read as a whole
 SHORT = 1 << 26
 # what is read at once of a longer one where the end of a line is sought
 STEP = 1 << 12
@@ -55,7 +55,7 @@ class Content:
         self._given = text
         self._text = text
         self._newlines_query: spanbase.Query | None = None
-        # a position, and how many newlines stand before it
+        # a position, and the number of newlines before it
         self._counted = (0, 0)
 
     def text(self) -> bytes | None:

@@ -10,7 +10,7 @@ from itertools import accumulate
 LONGEST_BY_BYTES = 4000
 # stretches of lines whose numbers have a greater product aren't compared line by line
 MOST_COMPARED = 1_000_000
-# a stretch that an edit keeps has at least so many bytes, else it is written again
+# the fewest bytes that an edit keeps; shorter common parts are replaced
 SHORTEST_KEPT = 8
 
 

@@ -14,7 +14,7 @@ from spanbase.query import query_with_gap
 
 # how many answers the first page of a document has, and each further one
 FIRST_PAGE, FURTHER_PAGE = 500, 10_000
-# so many documents are asked at once where not all are
+# the number of documents that are asked at once, unless all are
 ABREAST = 500
 LINE, MATCH = "line", "match"
 

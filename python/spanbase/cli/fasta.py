@@ -3,9 +3,9 @@
 FOLDER is created if it doesn't exist. It then has `sequences`, all sequences in a row without their line ends, and
 `script`, which loads that file and cuts the documents out of it. Run it there:  cd FOLDER && spanbase < script
 
-A document is named by the first word of its sequence's header, with `_` for each byte that a name can't have, and a number
-behind a name that is there already. A comment before it has the header. Files may be packed by gzip; FILE - is standard
-input. Qualities aren't kept. The status is 0, or 2 where something was wrong.
+A document's name is the first word of its header, with `_` for each byte that a name can't have. If the name exists already,
+a number is appended. A comment in the script has the header. Files may be compressed by gzip; FILE - is standard input.
+Qualities aren't kept. The status is 0, or 2 on errors.
 """
 import argparse
 import gzip

@@ -19,7 +19,7 @@ from spanbase.cli._output import Answer, Titles, hull
 from spanbase.cli._search import LINE, MATCH, Pattern, Search, Searched, add_pattern_options, longest, opened
 
 TOOL = Tool("follow")
-# so many bytes of a file are read at once
+# the most bytes of a file that are read at once
 PIECE = 1 << 20
 
 

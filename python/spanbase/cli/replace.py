@@ -22,7 +22,7 @@ from spanbase.cli._search import Pattern, Search, Searched, add_pattern_options,
 from spanbase.replacing import chosen_spans
 
 TOOL = Tool("replace")
-# so many bytes of a text are written at once
+# the most bytes of a text that are written at once
 PIECE = 1 << 22
 ESCAPE = re.compile(rb"\\(x[0-9a-fA-F]{2}|.|$)", re.DOTALL)
 NAMED = {b"n": b"\n", b"t": b"\t", b"r": b"\r", b"\\": b"\\"}
