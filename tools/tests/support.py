@@ -8,6 +8,7 @@ import re
 import subprocess
 import sys
 import tempfile
+import unittest
 from collections.abc import Callable, Iterable, Iterator, Sequence
 from pathlib import Path
 from types import ModuleType
@@ -22,6 +23,8 @@ PROGRAM = Path(os.environ["SPANBASE_PROGRAM"])
 STAND_IN = TOOLS / "tests/shell"
 # a shell of the language, or its substitute
 SHELL = Path(os.environ.get("SPANBASE_SHELL") or STAND_IN)
+# what needs a shell that runs each line once: the stand-in runs all of them again, when files may have changed
+needs_shell = unittest.skipIf(SHELL == STAND_IN, "no shell is given, and the stand-in runs lines again")
 # the factor by which the random tests try more inputs
 TIMES = int(os.environ.get("SPANBASE_TIMES", "1"))
 

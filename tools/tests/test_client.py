@@ -11,7 +11,7 @@ import time
 import unittest
 from pathlib import Path
 
-from support import PROGRAM, SHELL, STAND_IN, TIMES, TOOLS, tool_as_module
+from support import PROGRAM, SHELL, TIMES, TOOLS, needs_shell, tool_as_module
 
 cases = tool_as_module("run", TOOLS.parent / "cases")
 
@@ -62,7 +62,7 @@ def outcome(run, case) -> tuple[int, bytes, str, dict[str, bytes]]:
         return status, wrote, said.split("\n")[0], cases.files_below(folder) if not case.made else {}
 
 
-@unittest.skipIf(SHELL == STAND_IN, "no shell is given")
+@needs_shell
 class Shell(unittest.TestCase):
     """The shell as a program."""
 

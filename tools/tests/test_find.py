@@ -7,7 +7,7 @@ import sys
 import unittest
 from pathlib import Path
 
-from support import TOOLS, Ran, environment, folder_with, ran_here, replies
+from support import TOOLS, Ran, environment, folder_with, needs_shell, ran_here, replies
 
 from spanbase.cli import find as find_tool
 
@@ -68,6 +68,7 @@ class Find(unittest.TestCase):
         self.assertEqual((status, told), (0, ""))
         return out
 
+    @needs_shell
     def test_as_grep(self):
         """The options of grep on texts with and without a last newline, with bytes that aren't UTF-8, and without any."""
         with folder_with(TEXTS) as folder:
@@ -128,6 +129,7 @@ class Find(unittest.TestCase):
         for words in (["--help"], ["--version"]):
             self.assertEqual(ran_here(find_tool.main, *words)[0], 0)
 
+    @needs_shell
     def test_names(self):
         """Names with spaces, newlines and bytes that aren't UTF-8 are printed as they are."""
         names = [b"a b", b"a\nb", b"\xff.txt", "é".encode(), b"'\"$x", b"n" * 200]

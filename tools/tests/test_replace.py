@@ -4,7 +4,7 @@ import re
 import unittest
 from pathlib import Path
 
-from support import Ran, folder_with, ran_here
+from support import Ran, folder_with, needs_shell, ran_here
 
 from spanbase.cli import replace as replace_tool
 
@@ -72,6 +72,7 @@ class Replace(unittest.TestCase):
         self.assertEqual((status, out), (0, b"\n"))
         self.assertIn("warning: a match may be longer than what is replaced", told)
 
+    @needs_shell
     def test_files(self):
         """With -i changed files are written, with their modes, and others are left alone."""
         names = [b"a b", b"\xff", b"plain", b"other"]
