@@ -75,6 +75,12 @@ class Examples(ShellCase):
             ("some file", "k", 1, "\udcff"), ("some file", "l", 2, None),
         ])  # fmt: skip
 
+    def test_shards(self) -> None:
+        logs = sorted(TOP.glob("examples/*.files/access.log"))
+        ran = run(sys.executable, TOP / "examples/shards", "parts", r"(?m)^(?P<host>[\d.]+) ", *logs, folder=self.folder)
+        counts = [line.split() for line in ran.stdout.splitlines()]
+        self.assertEqual(counts, [["7", "10.0.3.7"], ["4", "10.0.3.9"], ["3", "192.168.1.4"]], ran.stderr)
+
     def test_notebook(self) -> None:
         """Without pandas it shows the same rows."""
         ran = run(sys.executable, "-S", TOP / "examples/notebook.py", folder=self.folder)

@@ -377,7 +377,6 @@ class Command(Folder):
         shown = command("ask", "parts", "a.", "--texts", "-q").stdout.splitlines()
         expected = plain(self.ask(translate("a.")))
         self.assertEqual(len(shown), len(expected))
-        self.assertIn(b"two/a file", command("status", "parts").stdout + b"two/a file")
         self.assertIn(rb"bytes" + b"\tmatch=[2,4)\ta\xff", shown)
         self.assertEqual(command("ask", "parts", "xyz").stdout, b"two/a file\\nof two lines\\t\tmatch=[1,4)\n")
         table: list[tuple[list[str | Path], int, bytes, bytes]] = [
@@ -388,6 +387,7 @@ class Command(Folder):
             (["ask", "parts", ".*$x{ca}.*", "--formula", "--json"], 0, b'{"document": "f0.txt", "x_start": 4, "x_end": 6}\n', b""),
             (["ask", "parts", "a("], 2, b"", b"at position 1"),
             (["ask", "parts", "a)", "--formula"], 2, b"", b"BadFormula"),
+            (["ask", "parts", "a.{0,60}bc"], 2, b"", b"capture a gap, as in (?P<match>a(?P<gap>.{0,60})bc)"),
             (["ask", "parts", "br", "--after", "match=[2,4)"], 2, b"", b"--after needs one --document"),
             (["ask", "nosuch", "br"], 2, b"", b"there are no shards in nosuch"),
             (["make", "parts", "f0.txt"], 2, b"", b"has shards of other files"),

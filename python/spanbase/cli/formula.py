@@ -7,6 +7,7 @@ tool adds `.*` on both sides of it; with --whole the regex itself must match the
 The formula goes to standard output; notes and errors go to standard error. The status is 2 if there is no formula.
 """
 import argparse
+import re
 import sys
 from collections.abc import Callable, Sequence
 
@@ -78,7 +79,7 @@ def run(words: Sequence[str] | None) -> int:
         return 0
 
     def make(pattern: str) -> Translation:
-        flags = 2 if asked.ignore_case else 0
+        flags = re.IGNORECASE if asked.ignore_case else 0
         return translate(
             pattern, flags, whole=asked.whole, capture=asked.capture, ascii_properties=asked.ascii_properties
         )

@@ -13,15 +13,19 @@ others.
 import argparse
 import contextlib
 import os
+import re
 import sys
 from collections.abc import Iterator, Sequence
+from functools import partial
 from typing import Any, TextIO
 
 from spanbase import shards
 from spanbase.cli._common import FOUND, NOT_FOUND, TROUBLE, Parser, Tool, Trouble, counted, positive, shown, translated
 from spanbase.cli._output import escaped
-from spanbase.errors import SpanbaseError
+from spanbase.cli._search import opened
+from spanbase.errors import SpanbaseError, TooManyStates
 from spanbase.formula import Translation, check, translate
+from spanbase.query import query_with_gap
 
 TOOL = Tool("shards")
 
@@ -172,9 +176,21 @@ def ask_parser() -> Parser:
     return reader
 
 
+def translation_of(asked: argparse.Namespace, regex: str) -> Translation:
+    return translate(regex, re.IGNORECASE if asked.ignore_case else 0)
+
+
+def regex_with_gap(asked: argparse.Namespace) -> str | None:
+    """The regex with a gap captured, such that the program accepts it."""
+    with contextlib.suppress(SpanbaseError), opened(asked) as database:
+        found = query_with_gap(database, asked.query, partial(translation_of, asked))
+        return found.regex if found else None
+    return None
+
+
 def query_of(asked: argparse.Namespace) -> Translation | str:
     if not asked.formula:
-        return translated(lambda: translate(asked.query, 2 if asked.ignore_case else 0), asked.query)
+        return translated(lambda: translation_of(asked, asked.query), asked.query)
     translated(lambda: check(asked.query), asked.query)
     return str(asked.query)
 
@@ -224,8 +240,12 @@ def ask(words: Sequence[str]) -> int:
             patience=asked.wait,
             report=lambda failure: TOOL.trouble(shown(str(failure))),
         )
-        with answers, contextlib.suppress(shards.ShardsFailed):
-            print_answers(answers, asked, out)
+        try:
+            with answers, contextlib.suppress(shards.ShardsFailed):
+                print_answers(answers, asked, out)
+        except TooManyStates as error:
+            error.regex = None if asked.formula else regex_with_gap(asked)
+            raise
     if answers.more and not asked.quiet:
         TOOL.say(f"{counted(len(answers.more), 'file has', 'files have')} more answers; --limit all lists them")
     return TROUBLE if answers.failures else FOUND if answers.count else NOT_FOUND
