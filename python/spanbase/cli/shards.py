@@ -81,8 +81,9 @@ def engine(asked: argparse.Namespace) -> Iterator[Any]:
             "--scheduler needs Dask: install python3-distributed of the system and run this with the system's Python, "
             "or install distributed; --local needs nothing"
         ) from None
-    # what happens to a task is reported with its shard
-    logging.getLogger("distributed.client").setLevel(logging.CRITICAL)
+    # what happens to a task is reported with its shard; a timeout inside of Dask may be left to asyncio's log
+    for name in ("distributed.client", "asyncio"):
+        logging.getLogger(name).setLevel(logging.CRITICAL)
     try:
         client: Any = Client(asked.scheduler, timeout=asked.wait, set_as_default=False)
     except (OSError, ValueError, TimeoutError) as error:
