@@ -54,8 +54,8 @@ class Database(Mapping[str, Document]):
     """A database, which is a shell of the program that runs beside this process.
 
     `program` is the shell to start. By default it is `$SPANBASE_SHELL`, or `spanshell` of the repository, or that on the
-    `PATH`. `workers` is the number of threads that prepare queries. `states` is the limit for the automaton of a query, and
-    needs a program that has the option. `folder` is where the private folder for temporary files is created.
+    `PATH`. `workers` is the number of threads that prepare queries. `folder` is where the private folder for temporary files
+    is created.
 
     A database is a mapping from names to documents. `close` ends the program, as do the end of a `with` block, garbage
     collection and the end of this process. What wasn't saved is lost then.
@@ -69,11 +69,9 @@ class Database(Mapping[str, Document]):
         program: AnyPath | None = None,
         *,
         workers: int = 1,
-        states: int | None = None,
         folder: AnyPath | None = None,
     ) -> None:
         arguments = [] if workers == 1 else ["--workers", str(workers)]
-        arguments += [] if states is None else ["--states", str(states)]
         parent = None if folder is None else os.fsdecode(folder)
         self._private = tempfile.TemporaryDirectory(prefix="spanbase-", dir=parent, ignore_cleanup_errors=True)
         self._folder = os.fsencode(os.path.abspath(self._private.name))
@@ -691,14 +689,13 @@ class Database(Mapping[str, Document]):
         program: AnyPath | None = None,
         *,
         workers: int = 1,
-        states: int | None = None,
         folder: AnyPath | None = None,
         side_file: bool = True,
     ) -> Self:
         """A new database with the documents of an image, and with the queries and versions that the file beside it
         describes. Where there is no such file, or with `side_file=False`, it has all documents of the image and no queries
         and versions."""
-        database = cls(program, workers=workers, states=states, folder=folder)
+        database = cls(program, workers=workers, folder=folder)
         try:
             whole = os.path.realpath(os.fsencode(path))
             check_readable(whole, path)

@@ -111,7 +111,7 @@ class TooManyStates(BadQuery):
         subject, advice = STATES_ADVICE.get(command, STATES_ADVICE["query"])
         if self.regex is not None:
             advice = f"capture a gap, as in {self.regex}"
-        return f"the automaton of the {subject} has too many states; {advice}; or allow more, by states=1024 or --states 1024"
+        return f"the automaton of the {subject} has too many states; {advice}"
 
 
 class BadTuple(Refused, ValueError):

@@ -262,15 +262,13 @@ class Program:
 
     path: str | None = None
     workers: int = 1
-    states: int | None = None
 
     @classmethod
-    def of(cls, path: AnyPath | None, workers: int = 1, states: int | None = None) -> Self:
-        return cls(None if path is None else str(shell_path(path)), workers, states)
+    def of(cls, path: AnyPath | None, workers: int = 1) -> Self:
+        return cls(None if path is None else str(shell_path(path)), workers)
 
     def arguments(self) -> list[str]:
-        workers = [] if self.workers == 1 else ["--workers", str(self.workers)]
-        return workers + ([] if self.states is None else ["--states", str(self.states)])
+        return [] if self.workers == 1 else ["--workers", str(self.workers)]
 
 
 @dataclass(frozen=True)
@@ -1123,7 +1121,6 @@ def ask(
     client: Any = None,
     program: AnyPath | None = None,
     workers: int = 1,
-    states: int | None = None,
     retries: int = 2,
     patience: float | None = None,
     report: Callable[[Failure], object] | None = None,
@@ -1134,7 +1131,7 @@ def ask(
     names in the list of `make`. With `after`, a row or its cursor, one document is asked for its answers after that one. With
     `texts` the bytes of the spans are read too.
 
-    `client`, `program`, `retries` and `patience` are as for `make`; `workers` and `states` are options of the program.
+    `client`, `program`, `retries` and `patience` are as for `make`; `workers` is the number of its threads.
     `report` is called with each failure when it is met.
     """
     if limit is not None and limit < 1:
@@ -1147,7 +1144,7 @@ def ask(
         raise refusal(0, b"BadTuple")
     commands, variables = _commands(query)
     question = Question(commands, limit, None if cursor is None else cursor.encode(), texts)
-    tool = Program.of(program, workers, states)
+    tool = Program.of(program, workers)
     tasks = [
         AskTask(shard, os.path.abspath(folder), image.file, image.bytes, image.sha256, len(image.documents), it, question, tool)
         for shard, (image, it) in enumerate(zip(manifest.images, _wanted(manifest, documents), strict=True))

@@ -36,7 +36,6 @@ class Parser(argparse.ArgumentParser):
             "--program", "--shell", dest="program", type=Path, metavar="PATH", help="the spanshell that is run"
         )
         self.add_argument("--workers", type=positive, default=1, metavar="N", help="its threads, 1 by default")
-        self.add_argument("--states", type=positive, metavar="N", help="the most states of a query, 128 by default")
 
 
 def package_version() -> str:

@@ -118,8 +118,8 @@ def replies(database: spanbase.Database, lines: Sequence[bytes]) -> list[list[by
 def opened(asked: argparse.Namespace, image: str | os.PathLike[str] | None = None) -> spanbase.Database:
     """A database, with the documents of an image if there is one, by the options of the program."""
     if image is not None:
-        return spanbase.Database.open(image, asked.program, workers=asked.workers, states=asked.states)
-    return spanbase.Database(asked.program, workers=asked.workers, states=asked.states)
+        return spanbase.Database.open(image, asked.program, workers=asked.workers)
+    return spanbase.Database(asked.program, workers=asked.workers)
 
 
 def documents_of(database: spanbase.Database, image: str, names: Sequence[str], tool: Tool) -> Iterator[Searched]:
@@ -178,9 +178,9 @@ class Pattern:
         """The query with a gap captured, such that the program takes it."""
         found = query_with_gap(database, self.text, lambda text: self.translated(names=True, lines=lines, text=text))
         if found is None:
-            raise Trouble(f"{TOO_MANY_STATES}; allow more by --states, or search for its parts one by one")
+            raise Trouble(f"{TOO_MANY_STATES}; search for its parts one by one")
         if not self.split:
-            raise Trouble(f"{TOO_MANY_STATES}; allow more by --states, or capture a gap, as --split does: {found.regex}")
+            raise Trouble(f"{TOO_MANY_STATES}; capture a gap, as --split does: {found.regex}")
         return Search(found.query, shown_names, found.translation.warnings)
 
 

@@ -42,7 +42,7 @@ def tried(asked: argparse.Namespace, found: Translation, make: Callable[[str], T
     from spanbase.query import query_with_gap
 
     try:
-        with spanbase.Database(asked.program, workers=asked.workers, states=asked.states) as database:
+        with spanbase.Database(asked.program, workers=asked.workers) as database:
             try:
                 database.formula(found.formula)
                 return found
