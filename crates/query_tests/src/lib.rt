@@ -7,8 +7,8 @@
 //! row    abracadabra, with 1, 4 and 64 workers    15 nodes, 15 tables, of which one is distinct
 //! ```
 //!
-//! The crate has only tests, of `marker_nfa`, `marker_dfa`, `table_grow`, `span_algebra`, `span_enum`, `span_replace`,
-//! `query_book` and `list_all`. They are a crate of their own, so that these crates are not proved again when a test
+//! The crate has only tests, of `marker_nfa`, `marker_dfa`, `table_grow`, `pair_memo`, `path_counts`, `count_tables`,
+//! `span_algebra`, `span_enum`, `span_replace`, `query_book` and `list_all`. They are a crate of their own, so that these crates are not proved again when a test
 //! changes, and so that all tests share the formulas. They take little time and memory.
 //!
 //! Proved: Only safety and termination of its tests, which are about the crates that concern queries.
@@ -24,6 +24,8 @@ mod asking;
 mod books;
 #[cfg(test)]
 mod combining;
+#[cfg(test)]
+mod counting;
 #[cfg(test)]
 mod formulas;
 #[cfg(test)]

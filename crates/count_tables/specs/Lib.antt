@@ -1,0 +1,7 @@
+pub mod Branch
+pub mod Search
+pub mod SetView
+pub mod Dictionary
+pub mod Remembered
+pub mod Kept
+pub mod Number

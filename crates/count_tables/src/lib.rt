@@ -1,0 +1,28 @@
+//! The counting tables of a query: for each node of a store, how many marked texts lead over its text from state to state.
+//!
+//! ```text
+//! let mut counts = CountTables::new(alloc, &dfa)?;
+//! counts.grow(alloc, &store, &dfa, &mut places)?;          // the new nodes get their tables
+//! counts.renumber(&moves);                                 // after a compaction: the kept nodes keep their tables
+//! ```
+//!
+//! Each distinct table is kept once under a number, and a node has the number of its table. The number of the composition of two
+//! tables is remembered, so most new nodes take a lookup. A node takes 4 bytes beside its table.
+//!
+//! The tables are those of M. L. Schmid and N. Schweikardt, *Spanner evaluation over SLP-compressed documents*, PODS 2021, with
+//! numbers in place of truth values.
+//!
+//! Proved: After `grow` each node has the counting table of its text, with one step per new node. Each distinct table is
+//! kept once. After a compaction kept nodes have their tables, and tables that no node has are dropped (`renumber`). The
+//! number of answers on a root's text, exactly below 2^64 - 1 (`number`).
+//!
+//! Neither: Memory and time.
+#![tactic(auto)]
+
+mod growth;
+pub mod number;
+mod renumbering;
+mod table_set;
+pub mod tables;
+
+pub use tables::CountTables;

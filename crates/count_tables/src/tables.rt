@@ -1,0 +1,143 @@
+//! The counting tables of the nodes, each distinct one kept once.
+
+ghost use Rattle.std.specs.Prelude.{◌≡◌, ℕ, ◌+◌, ◌-◌, ◌<◌, ◌≤◌, List, [], length, map, IfOk, OnOk, OnErr};
+ghost use Rattle.slp_model.specs.declared.Node.{Node};
+ghost use Rattle.slp_model.specs.Kept.{Keeps};
+ghost use Rattle.slp_model.specs.Thin.{IsThinOf, rank};
+ghost use Rattle.marker_dfa.specs.Deterministic.{DeterministicAutomaton, states_of};
+ghost use Rattle.state_tables.specs.Renumbering.{kept_items};
+ghost use Rattle.count_tables.specs.Dictionary.{AreCountTables, IsCountDictionary, count_of, distinct_of, kept_of, table_of, used_by};
+
+use crate::growth::grow;
+use crate::renumbering::renumber;
+use crate::table_set::TableSet;
+use marker_dfa::Dfa;
+use node_store::{Moves, NodeId, Store};
+use pair_memo::PairMemo;
+use path_counts::CountTable;
+use span_types::{NoMemory, Steps};
+use std::alloc::Global;
+use std::marker::Model;
+use std::sync::ledger::Ledger;
+
+// The maximum number of cached compositions.
+const REMEMBERED: usize = 1 << 16;
+
+/// Each distinct counting table once, under a number from 0, and for each node the number of its table.
+#[derive(Drop)]
+pub struct CountTables {
+    states: u16,
+    kept: TableSet,
+    numbers: Vec<u32>,
+    memo: PairMemo,
+}
+
+impl Model for CountTables {
+    ghost use Rattle.count_tables.specs.Dictionary.{CountDictionary};
+
+    ghost Value = { CountDictionary };
+
+    ghost use Rattle.count_tables.specs.Kept.{AreTables, view_of};
+
+    ghost view = { view_of };
+
+    ghost invariant = { AreTables };
+}
+
+impl CountTables {
+    /// Tables of no node.
+    ///
+    /// # Errors
+    ///
+    /// `NoMemory` if allocation fails.
+    pub fn new(alloc: Global, dfa: &Dfa) -> Result<CountTables, NoMemory>
+        ensures { IfOk result (λ t. t ≡ record { states = states_of dfa.now; kept = []; numbers = [] }) }
+    {
+        Ok(CountTables {
+            states: u16::from(dfa.states()),
+            kept: TableSet::new(alloc),
+            numbers: Vec::new(alloc),
+            memo: PairMemo::new(alloc, REMEMBERED)?,
+        })
+    }
+
+    /// The number of nodes with tables, which are those numbered 0 to count-1.
+    pub fn count(&self) -> usize
+        ensures count { result ≡ count_of self.now }
+        ensures facts { IsCountDictionary self.now }
+    {
+        self.numbers.len()
+    }
+
+    /// The number of kept tables.
+    pub fn distinct(&self) -> usize
+        ensures { result ≡ distinct_of self.now }
+    {
+        self.kept.len()
+    }
+
+    /// The counting table of the node.
+    pub fn table(&self, id: NodeId) -> &CountTable
+        requires { id.index < count_of self.now }
+        ensures { result.now ≡ table_of self.now id.index }
+    {
+        self.kept.at(self.numbers[id.index] as usize)
+    }
+
+    /// Computes the missing tables, so that each node of the store has one. The tables must be those of this automaton and
+    /// of the first nodes of this store.
+    ///
+    /// Each new node is one step, which takes expected constant time if the composition is cached. Nothing is done for the
+    /// other nodes.
+    ///
+    /// # Errors
+    ///
+    /// `NoMemory` if allocation fails. Each node's table is then unchanged, and more tables may be kept.
+    pub fn grow<L: Ledger>(
+        &mut self,
+        alloc: Global,
+        store: &Store,
+        dfa: &Dfa,
+        places: &mut Steps<L>,
+    ) -> Result<(), NoMemory>
+        requires covered { count_of self.old ≤ length store.now }
+        requires states { self.old.states ≡ states_of dfa.now }
+        requires true_tables { AreCountTables dfa.now store.now self.old }
+        ensures all { OnOk result (count_of self.new ≡ length store.now) }
+        ensures meaning { AreCountTables dfa.now store.now self.new }
+        ensures old { (id : ℕ) → id < count_of self.old → table_of self.new id ≡ table_of self.old id }
+        ensures err { OnErr result (self.new.numbers ≡ self.old.numbers) }
+        ensures states { self.new.states ≡ self.old.states }
+        ensures steps_ok { OnOk result (places.new ≡ places.old + (length store.now - count_of self.old)) }
+        ensures steps_err { OnErr result (places.new ≡ places.old) }
+    {
+        grow(
+            alloc,
+            &mut self.kept,
+            &mut self.memo,
+            &mut self.numbers,
+            store,
+            dfa,
+            places,
+        )
+    }
+
+    /// Removes the nodes that a compaction of the store drops, and each table that no kept node has. Every kept node has its
+    /// table under its new id. The tables keep their order and get new numbers.
+    ///
+    /// The tables must be those of the store's first nodes, or of all. Allocates nothing. Takes time linear in the nodes with
+    /// tables and the kept tables.
+    pub fn renumber(&mut self, moves: &Moves)
+        requires { count_of self.old ≤ length moves.now }
+        ensures kept { self.new.kept ≡ kept_items self.old.kept (used_by self.old moves.now) }
+        ensures numbers { self.new.numbers ≡ map (rank (used_by self.old moves.now)) (kept_items self.old.numbers moves.now) }
+        ensures count { count_of self.new ≡ rank moves.now (count_of self.old) }
+        ensures each { (i : ℕ) → i < count_of self.old → Keeps moves.now i → table_of self.new (rank moves.now i) ≡ table_of self.old i }
+        ensures states { self.new.states ≡ self.old.states }
+        ensures tables { (a : DeterministicAutomaton) (ns ms : List Node) → IsThinOf ns moves.now ms → AreCountTables a ns self.old → AreCountTables a ms self.new }
+    {
+        renumber(&mut self.numbers, moves);
+        self.kept.keep_used(&mut self.numbers);
+        self.memo.forget();
+    }
+}

@@ -1,0 +1,10 @@
+pub mod Caps
+pub mod Lists
+pub mod Sums
+pub mod Runs
+pub mod Ways
+pub mod Adding
+pub mod Order
+pub mod Rows
+pub mod Numbers
+pub mod Meanings

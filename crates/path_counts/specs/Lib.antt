@@ -1,0 +1,4 @@
+pub mod Paths
+pub mod Counting
+pub mod Digest
+pub mod Runs

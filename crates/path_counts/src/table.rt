@@ -1,0 +1,321 @@
+//! The counting table of one text.
+
+ghost use Rattle.std.specs.Prelude.{◌↔◌, IsTrue, ◌≡◌, ℕ, ◌+◌, ◌*◌, ◌<◌, ◌≤◌, ◌^◌, ◌==◌, ◌++◌, [], ◌∷◌, List, length, All, IfSome, IfOk, OnOk, slice_index, if◌then◌else◌};
+ghost use Rattle.marker_dfa.specs.Deterministic.{DeterministicAutomaton, IsDeterministic, marks_of, next_of, states_of};
+ghost use Rattle.path_counts.specs.Paths.{stopped};
+ghost use Rattle.path_counts.specs.Digest.{digest_of};
+ghost use Rattle.path_counts.specs.Counting.{AreCounts, IsByteRow, IsComposed, IsComposedRow, IsCountTable, IsCountTableOf, any_number_at, counts_at, hits, number_at, number_by_marks, number_from, number_onward, number_through, onward_from, unmarked_at};
+
+use crate::count::{Count, add, add_counts, is_same, sum_onward, take_counts};
+use crate::digest::{coded, mixed, with_counts};
+use marker_dfa::Dfa;
+use span_types::NoMemory;
+use std::alloc::Global;
+use std::marker::Model;
+
+// The state reached from one state with every mark 0, and the numbers of those reached with some other mark.
+#[derive(Drop)]
+struct Row {
+    unmarked: Option<u16>,
+    counts: Vec<Count>,
+}
+
+impl Model for Row {
+    ghost use Rattle.path_counts.specs.Counting.{CountRow};
+
+    ghost Value = { CountRow };
+
+    ghost view = { λ r. record { unmarked = r.unmarked; counts = r.counts.items } };
+}
+
+/// How many marked texts lead over a text from each state to each state. Contracts see it as a list of rows, one for each state.
+#[derive(Drop)]
+pub struct CountTable {
+    rows: Vec<Row>,
+    digest: u64,
+}
+
+impl Model for CountTable {
+    ghost use Rattle.std.specs.Prelude.{List};
+    ghost use Rattle.path_counts.specs.Counting.{CountRow};
+
+    ghost Value = { List CountRow };
+
+    ghost view = { λ t. t.rows.items };
+
+    ghost use Rattle.path_counts.specs.Digest.{IsDigested};
+
+    ghost invariant = { λ t. IsDigested t.rows.items t.digest };
+}
+
+impl CountTable {
+    /// The number of states.
+    pub fn states(&self) -> u16
+        ensures value { result ≡ length self.now }
+        ensures shape { IsCountTableOf (length self.now) self.now }
+    {
+        self.rows.len() as u16
+    }
+
+    /// The state reached from `p` over the text with every mark 0.
+    pub fn unmarked(&self, p: u16) -> Option<u16>
+        requires { p < length self.now }
+        ensures value { result ≡ unmarked_at self.now p }
+        ensures within { IfSome result (λ q. q < length self.now) }
+    {
+        self.rows[p as usize].unmarked
+    }
+
+    /// The states reached from `p` over the text with some mark other than 0, in order, each with its number.
+    pub fn counts(&self, p: u16) -> &[Count]
+        requires { p < length self.now }
+        ensures value { result.now ≡ counts_at self.now p }
+        ensures counts { AreCounts (length self.now) result.now }
+    {
+        &self.rows[p as usize].counts
+    }
+
+    /// A number by which equal tables are found.
+    pub fn digest(&self) -> u64
+        ensures { result ≡ digest_of self.now }
+    {
+        self.digest
+    }
+
+    /// Whether the tables are the same. It takes constant time where their digests differ.
+    pub fn is_same(&self, other: &CountTable) -> bool
+        ensures { IsTrue result ↔ self.now ≡ other.now }
+    {
+        self.digest == other.digest && is_same_rows(&self.rows, &other.rows)
+    }
+
+    /// The sum over the marked texts that lead on from `p` with some mark, of what `after` says of the state to which each leads.
+    /// It stops at `u64::MAX`.
+    pub fn marked(&self, p: u16, after: &[u64]) -> u64
+        requires state { p < length self.now }
+        requires after { length after.now ≡ length self.now }
+        ensures { result ≡ stopped (number_onward (counts_at self.now p) after.now) }
+    {
+        sum_onward(self.counts(p), after)
+    }
+
+    /// The same sum over all marked texts that lead on from `p`, the one without marks among them.
+    pub fn all(&self, p: u16, after: &[u64]) -> u64
+        requires state { p < length self.now }
+        requires after { length after.now ≡ length self.now }
+        ensures { result ≡ stopped (number_onward (counts_at self.now p) after.now + onward_from (unmarked_at self.now p) after.now) }
+    {
+        let marked = self.marked(p, after);
+        match self.unmarked(p) {
+            Some(q) => marked.saturating_add(after[q as usize]),
+            None => marked,
+        }
+    }
+}
+
+// The digest of some rows.
+fn digest_of(rows: &[Row]) -> u64
+    ensures { result ≡ digest_of rows.now }
+{
+    let mut all = 0;
+    for row in rows {
+        all = with_counts(
+            mixed(mixed(all, coded(row.unmarked)), row.counts.len() as u64),
+            &row.counts,
+        );
+    }
+    all
+}
+
+// Whether the rows are the same.
+fn is_same_rows(rows: &[Row], others: &[Row]) -> bool
+    ensures { IsTrue result ↔ rows.now ≡ others.now }
+{
+    if rows.len() != others.len() {
+        return false;
+    }
+    for index in 0..rows.len() {
+        let (row, other) = (&rows[index], &others[index]);
+        if row.unmarked != other.unmarked || !is_same(&row.counts, &other.counts) {
+            return false;
+        }
+    }
+    true
+}
+
+// Adds the numbers from a state with any marks, times `times`.
+fn add_onward(sums: &mut [u64], table: &CountTable, state: u16, times: u64)
+    requires state { state < length table.now }
+    requires long { length sums.old ≡ length table.now }
+    ensures { (q : ℕ) → q < length sums.old → slice_index sums.new q ≡ stopped (slice_index sums.old q + times * any_number_at table.now state q) }
+{
+    add_counts(sums, table.counts(state), times);
+    if let Some(q) = table.unmarked(state) {
+        add(sums, q, times);
+    }
+}
+
+// Adds each number times those from its state with any marks.
+fn add_through(sums: &mut [u64], counts: &[Count], right: &CountTable)
+    requires long { length sums.old ≡ length right.now }
+    requires within { All (λ c. c.state < length right.now) counts.now }
+    ensures { (q : ℕ) → q < length sums.old → slice_index sums.new q ≡ stopped (slice_index sums.old q + number_through right.now counts.now q) }
+{
+    for count in counts {
+        add_onward(sums, right, count.state, count.number);
+    }
+}
+
+// Adds the numbers from the state, if any, with some mark.
+fn add_from(sums: &mut [u64], table: &CountTable, state: Option<u16>)
+    requires state { IfSome state (λ q. q < length table.now) }
+    requires long { length sums.old ≡ length table.now }
+    ensures { (q : ℕ) → q < length sums.old → slice_index sums.new q ≡ stopped (slice_index sums.old q + number_from table.now state q) }
+{
+    if let Some(q) = state {
+        add_counts(sums, table.counts(q), 1);
+    }
+}
+
+// The row of two texts joined, from that of the left text. The sums are a number for each state, all 0.
+fn composed(
+    alloc: Global,
+    left: &Row,
+    right: &CountTable,
+    sums: &mut [u64],
+) -> Result<Row, NoMemory>
+    requires unmarked { IfSome left.now.unmarked (λ q. q < length right.now) }
+    requires counts { All (λ c. c.state < length right.now) left.now.counts }
+    requires long { length sums.old ≡ length right.now }
+    requires few { length right.now < 2 ^ 16 }
+    requires clear { All (λ n. n ≡ 0) sums.old }
+    ensures row { IfOk result (IsComposedRow right.now left.now) }
+    ensures unmarked { IfOk result (λ r. IfSome r.unmarked (λ q. q < length right.now)) }
+    ensures counts { IfOk result (λ r. AreCounts (length right.now) r.counts) }
+    ensures clear { OnOk result (All (λ n. n ≡ 0) sums.new) }
+{
+    add_from(sums, right, left.unmarked);
+    add_through(sums, &left.counts, right);
+    let unmarked = match left.unmarked {
+        Some(q) => right.unmarked(q),
+        None => None,
+    };
+    Ok(Row {
+        unmarked,
+        counts: take_counts(alloc, sums)?,
+    })
+}
+
+// The rows of two texts joined. The sums are a number for each state, all 0.
+fn composed_rows(
+    alloc: Global,
+    left: &CountTable,
+    right: &CountTable,
+    sums: &mut [u64],
+) -> Result<Vec<Row>, NoMemory>
+    requires states { length left.now ≡ length right.now }
+    requires long { length sums.old ≡ length right.now }
+    requires clear { All (λ n. n ≡ 0) sums.old }
+    ensures composed { IfOk result (λ rows. IsComposed left.now right.now rows.items) }
+    ensures shape { IfOk result (λ rows. IsCountTableOf (length right.now) rows.items) }
+{
+    let mut rows = Vec::with_capacity(alloc, right.states() as usize)?;
+    for row in &left.rows {
+        rows.push(composed(alloc, row, right, sums)?)?;
+    }
+    Ok(rows)
+}
+
+/// The counting table of two texts joined, from the tables of the two.
+///
+/// # Errors
+///
+/// `NoMemory` if an allocation fails.
+pub fn compose(alloc: Global, left: &CountTable, right: &CountTable) -> Result<CountTable, NoMemory>
+    requires { length left.now ≡ length right.now }
+    ensures value { IfOk result (IsComposed left.now right.now) }
+    ensures meaning { IfOk result (λ t. (a : DeterministicAutomaton) (s u : List ℕ) → IsDeterministic a
+        → IsCountTable a s left.now → IsCountTable a u right.now → IsCountTable a (s ++ u) t) }
+{
+    let mut sums = Vec::new(alloc);
+    sums.resize(right.states() as usize, 0)?;
+    let rows = composed_rows(alloc, left, right, &mut sums)?;
+    let digest = digest_of(&rows);
+    Ok(CountTable { rows, digest })
+}
+
+// Adds 1 to the state to which the mark leads, if it isn't 0.
+fn add_mark(sums: &mut [u64], dfa: &Dfa, p: u8, byte: u8, mark: u16)
+    requires automaton { IsDeterministic dfa.now }
+    requires state { p < states_of dfa.now }
+    requires long { length sums.old ≡ states_of dfa.now }
+    ensures { (q : ℕ) → q < length sums.old → slice_index sums.new q ≡ stopped (slice_index sums.old q + (if mark == 0 then 0 else hits (next_of dfa.now p mark byte) q)) }
+{
+    if mark != 0 {
+        if let Some(q) = dfa.next(p, mark, byte) {
+            add(sums, u16::from(q), 1);
+        }
+    }
+}
+
+// Adds 1 for each mark other than 0 that leads on from `p` over the byte.
+fn add_marks(sums: &mut [u64], dfa: &Dfa, p: u8, byte: u8)
+    requires automaton { IsDeterministic dfa.now }
+    requires state { p < states_of dfa.now }
+    requires long { length sums.old ≡ states_of dfa.now }
+    ensures { (q : ℕ) → q < length sums.old → slice_index sums.new q ≡ stopped (slice_index sums.old q + number_by_marks dfa.now p byte q (marks_of dfa.now p byte)) }
+{
+    for mark in dfa.marks(p, byte) {
+        add_mark(sums, dfa, p, byte, *mark);
+    }
+}
+
+// The row of a byte. The sums are a number for each state, all 0.
+fn byte_row(alloc: Global, dfa: &Dfa, p: u8, byte: u8, sums: &mut [u64]) -> Result<Row, NoMemory>
+    requires automaton { IsDeterministic dfa.now }
+    requires state { p < states_of dfa.now }
+    requires long { length sums.old ≡ states_of dfa.now }
+    requires clear { All (λ n. n ≡ 0) sums.old }
+    ensures row { IfOk result (IsByteRow dfa.now byte p) }
+    ensures counts { IfOk result (λ r. AreCounts (states_of dfa.now) r.counts) }
+    ensures clear { OnOk result (All (λ n. n ≡ 0) sums.new) }
+{
+    add_marks(sums, dfa, p, byte);
+    let unmarked = match dfa.next(p, 0, byte) {
+        Some(q) => Some(u16::from(q)),
+        None => None,
+    };
+    Ok(Row {
+        unmarked,
+        counts: take_counts(alloc, sums)?,
+    })
+}
+
+// The rows of a byte. The sums are a number for each state, all 0.
+fn byte_rows(alloc: Global, dfa: &Dfa, byte: u8, sums: &mut [u64]) -> Result<Vec<Row>, NoMemory>
+    requires long { length sums.old ≡ states_of dfa.now }
+    requires clear { All (λ n. n ≡ 0) sums.old }
+    ensures { IfOk result (λ rows. IsCountTable dfa.now (byte ∷ []) rows.items) }
+{
+    let states = dfa.states();
+    let mut rows = Vec::with_capacity(alloc, states as usize)?;
+    for p in 0..states {
+        rows.push(byte_row(alloc, dfa, p, byte, sums)?)?;
+    }
+    Ok(rows)
+}
+
+/// The counting table of one byte. It asks for the automaton's next state once for each state and each mark that leads on there.
+///
+/// # Errors
+///
+/// `NoMemory` if an allocation fails.
+pub fn of_byte(alloc: Global, dfa: &Dfa, byte: u8) -> Result<CountTable, NoMemory>
+    ensures { IfOk result (λ t. IsCountTable dfa.now (byte ∷ []) t) }
+{
+    let mut sums = Vec::new(alloc);
+    sums.resize(dfa.states() as usize, 0)?;
+    let rows = byte_rows(alloc, dfa, byte, &mut sums)?;
+    let digest = digest_of(&rows);
+    Ok(CountTable { rows, digest })
+}
