@@ -6,13 +6,14 @@ use Rattle.script_syntax.specs.Syntax.{Reads, after_words, limit_words, spaced}
 use Rattle.script_syntax.specs.Fields.{Fields, fields_of, word_of}
 use Rattle.line_parts.proofs.Cuts.{NoByte, from_test}
 use Rattle.script_syntax.specs.declared.form.Command.{Command}
-use Rattle.script_syntax.specs.declared.form.Command.TheVariants.{Nothing, Text, LoadFile, LetDoc, DropDoc, Names, Show, Query, Unquery, List as ListDoc, Nonempty, Has, SaveFile, OpenFile, UnionQuery, JoinQuery, ProjectQuery, ListAll, ReplaceDoc, MarkDocs, UnmarkDocs, BackDocs, Compact}
+use Rattle.script_syntax.specs.declared.form.Command.TheVariants.{Nothing, Text, LoadFile, ShareFile, LetDoc, DropDoc, Names, Show, Query, Unquery, List as ListDoc, Nonempty, Has, SaveFile, OpenFile, UnionQuery, JoinQuery, ProjectQuery, ListAll, ReplaceDoc, MarkDocs, UnmarkDocs, BackDocs, Compact}
 use Rattle.script_syntax.specs.declared.keyword.Keyword.{Keyword}
 use Rattle.script_syntax.specs.declared.keyword.Keyword.TheVariants as kw
 
 pub words_plain : (k : Keyword) → NoByte 32 (word_of k)
 words_plain kw.Text = from_test 32 (codes "text") refl
 words_plain kw.Load = from_test 32 (codes "load") refl
+words_plain kw.Share = from_test 32 (codes "share") refl
 words_plain kw.Let = from_test 32 (codes "let") refl
 words_plain kw.Drop = from_test 32 (codes "drop") refl
 words_plain kw.Names = from_test 32 (codes "names") refl
@@ -46,6 +47,7 @@ form_of line Names r = bare (inl r)
 form_of line Compact r = bare (inr r)
 form_of line (Text name bytes) (named, is) = behind kw.Text (name ++ 32 ∷ bytes) is (name, bytes, named, refl, tt)
 form_of line (LoadFile name file) (named, filed, is) = behind kw.Load (name ++ 32 ∷ file) is (name, file, named, refl, filed)
+form_of line (ShareFile name file) (named, filed, is) = behind kw.Share (name ++ 32 ∷ file) is (name, file, named, refl, filed)
 form_of line (LetDoc name expr) (named, is) = behind kw.Let (name ++ 32 ∷ (codes "=" ++ 32 ∷ expr)) is (name, codes "=" ++ 32 ∷ expr, named, refl, (codes "=", expr, refl, refl, tt))
 form_of line (DropDoc name) (named, is) = behind kw.Drop (name) is named
 form_of line (Show name from to) (named, f, t, is) = behind kw.Show (name ++ 32 ∷ (decimal from ++ 32 ∷ decimal to)) is (name, decimal from ++ 32 ∷ decimal to, named, refl, (decimal from, decimal to, (from, record { fits = f; digits = refl }), refl, (to, record { fits = t; digits = refl })))

@@ -16,6 +16,7 @@ use Rattle.script_syntax.proofs.OptionWords.{empty_line}
 pub named_itself : (k : Keyword) → keyword_named (word_of k) ≡ Some k
 named_itself kw.Text = refl
 named_itself kw.Load = refl
+named_itself kw.Share = refl
 named_itself kw.Let = refl
 named_itself kw.Drop = refl
 named_itself kw.Names = refl

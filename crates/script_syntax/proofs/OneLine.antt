@@ -9,7 +9,7 @@ use Rattle.line_parts.proofs.Names.{name_no_space}
 use Rattle.script_syntax.specs.Syntax.{IsAfter, IsLimit, LineText, Reads, after_words, limit_words, spaced}
 use Rattle.script_syntax.specs.Fields.{keyword_named, word_of}
 use Rattle.script_syntax.specs.declared.form.Command.{Command}
-use Rattle.script_syntax.specs.declared.form.Command.TheVariants.{Nothing, Text, LoadFile, LetDoc, DropDoc, Names, Show, Query, Unquery, List as ListDoc, Nonempty, Has, SaveFile, OpenFile, UnionQuery, JoinQuery, ProjectQuery, ListAll, ReplaceDoc, MarkDocs, UnmarkDocs, BackDocs, Compact}
+use Rattle.script_syntax.specs.declared.form.Command.TheVariants.{Nothing, Text, LoadFile, ShareFile, LetDoc, DropDoc, Names, Show, Query, Unquery, List as ListDoc, Nonempty, Has, SaveFile, OpenFile, UnionQuery, JoinQuery, ProjectQuery, ListAll, ReplaceDoc, MarkDocs, UnmarkDocs, BackDocs, Compact}
 use Rattle.script_syntax.specs.declared.keyword.Keyword.{Keyword}
 use Rattle.script_syntax.specs.declared.keyword.Keyword.TheVariants as kw
 use Rattle.script_syntax.proofs.Forms.{words_plain}
@@ -20,6 +20,7 @@ use Rattle.script_syntax.proofs.OptionWords.{word_plain}
 abbrev pub Body : Keyword → List ℕ → Command → Type 0
 Body kw.Text args c = (name : List ℕ) × (bytes : List ℕ) × IsName name × (args ≡ name ++ 32 ∷ bytes) × (c ≡ Text name bytes)
 Body kw.Load args c = (name : List ℕ) × (file : List ℕ) × IsName name × (args ≡ name ++ 32 ∷ file) × (c ≡ LoadFile name file)
+Body kw.Share args c = (name : List ℕ) × (file : List ℕ) × IsName name × (args ≡ name ++ 32 ∷ file) × (c ≡ ShareFile name file)
 Body kw.Let args c = (name : List ℕ) × (expr : List ℕ) × IsName name × (args ≡ name ++ 32 ∷ (codes "=" ++ 32 ∷ expr)) × (c ≡ LetDoc name expr)
 Body kw.Drop args c = c ≡ DropDoc args
 Body kw.Names args c = ⊥
@@ -99,6 +100,7 @@ same_options (Some w) None g (Some n) e = let words : codes "after" ≡ codes "l
 pub one_body : (k : Keyword) (args : List ℕ) (c d : Command) → Body k args c → Body k args d → c ≡ d
 one_body kw.Text args c d (n, b, named, is, e) (m, b', other, is', e') = let p = name_cut n m b b' named other (sym is ∙ is') in e ∙ (λ i. Text (p.0 i) (p.1 i)) ∙ sym e'
 one_body kw.Load args c d (n, b, named, is, e) (m, b', other, is', e') = let p = name_cut n m b b' named other (sym is ∙ is') in e ∙ (λ i. LoadFile (p.0 i) (p.1 i)) ∙ sym e'
+one_body kw.Share args c d (n, b, named, is, e) (m, b', other, is', e') = let p = name_cut n m b b' named other (sym is ∙ is') in e ∙ (λ i. ShareFile (p.0 i) (p.1 i)) ∙ sym e'
 one_body kw.Query args c d (n, b, named, is, e) (m, b', other, is', e') = let p = name_cut n m b b' named other (sym is ∙ is') in e ∙ (λ i. Query (p.0 i) (p.1 i)) ∙ sym e'
 one_body kw.Test args c d (n, b, named, is, e) (m, b', other, is', e') = let p = name_cut n m b b' named other (sym is ∙ is') in e ∙ (λ i. Nonempty (p.0 i) (p.1 i)) ∙ sym e'
 one_body kw.Let args c d (n, b, named, is, e) (m, b', other, is', e') =
@@ -158,6 +160,7 @@ read_form line Names is = names_of is refl
 read_form line Compact is = compact_of is refl
 read_form line (Text n b) (named, is) = behind_of kw.Text (n ++ 32 ∷ b) is (n, b, named, refl, refl)
 read_form line (LoadFile n b) (named, filed, is) = behind_of kw.Load (n ++ 32 ∷ b) is (n, b, named, refl, refl)
+read_form line (ShareFile n b) (named, filed, is) = behind_of kw.Share (n ++ 32 ∷ b) is (n, b, named, refl, refl)
 read_form line (LetDoc n b) (named, is) = behind_of kw.Let (n ++ 32 ∷ (codes "=" ++ 32 ∷ b)) is (n, b, named, refl, refl)
 read_form line (DropDoc n) (named, is) = behind_of kw.Drop n is refl
 read_form line (Show n f t) (named, fit, tit, is) = behind_of kw.Show (n ++ 32 ∷ (decimal f ++ 32 ∷ decimal t)) is (n, f, t, named, fit, tit, refl, refl)
@@ -187,6 +190,7 @@ pub record IsLoud (word : List ℕ) : Type 0 where
 loud_word : (k : Keyword) → IsLoud (word_of k)
 loud_word kw.Text = record { first = 116; rest = codes "ext"; is = refl; loud = λ e. omega (arith, e) }
 loud_word kw.Load = record { first = 108; rest = codes "oad"; is = refl; loud = λ e. omega (arith, e) }
+loud_word kw.Share = record { first = 115; rest = codes "hare"; is = refl; loud = λ e. omega (arith, e) }
 loud_word kw.Let = record { first = 108; rest = codes "et"; is = refl; loud = λ e. omega (arith, e) }
 loud_word kw.Drop = record { first = 100; rest = codes "rop"; is = refl; loud = λ e. omega (arith, e) }
 loud_word kw.Names = record { first = 110; rest = codes "ames"; is = refl; loud = λ e. omega (arith, e) }

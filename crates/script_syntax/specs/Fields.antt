@@ -6,11 +6,12 @@ use Rattle.line_parts.specs.Numbers.{IsNum}
 use Rattle.line_parts.specs.NameList.{IsName, IsNameList}
 use Rattle.script_syntax.specs.Syntax.{IsFile, IsWord, IsAfter, IsLimit, after_words, limit_words, spaced}
 use Rattle.script_syntax.specs.declared.keyword.Keyword.{Keyword}
-use Rattle.script_syntax.specs.declared.keyword.Keyword.TheVariants.{Text, Load, Let, Drop, Names, Show, Query, Unquery, List as ListWord, Test, Has, Save, Open, Union, Join, Project, Listall, Replace, Mark, Unmark, Back, Compact}
+use Rattle.script_syntax.specs.declared.keyword.Keyword.TheVariants.{Text, Load, Share, Let, Drop, Names, Show, Query, Unquery, List as ListWord, Test, Has, Save, Open, Union, Join, Project, Listall, Replace, Mark, Unmark, Back, Compact}
 
 abbrev pub word_of : Keyword → List ℕ
 word_of Text = codes "text"
 word_of Load = codes "load"
+word_of Share = codes "share"
 word_of Let = codes "let"
 word_of Drop = codes "drop"
 word_of Names = codes "names"
@@ -33,7 +34,7 @@ word_of Back = codes "back"
 word_of Compact = codes "compact"
 
 abbrev pub keywords : List Keyword
-keywords = Text ∷ Load ∷ Let ∷ Drop ∷ Names ∷ Show ∷ Query ∷ Unquery ∷ ListWord ∷ Test ∷ Has ∷ Save ∷ Open ∷ Union ∷ Join ∷ Project ∷ Listall ∷ Replace ∷ Mark ∷ Unmark ∷ Back ∷ Compact ∷ []
+keywords = Text ∷ Load ∷ Share ∷ Let ∷ Drop ∷ Names ∷ Show ∷ Query ∷ Unquery ∷ ListWord ∷ Test ∷ Has ∷ Save ∷ Open ∷ Union ∷ Join ∷ Project ∷ Listall ∷ Replace ∷ Mark ∷ Unmark ∷ Back ∷ Compact ∷ []
 
 abbrev pub keyword_named : List ℕ → Option Keyword
 keyword_named word = find (λ k. bytes_eq (word_of k) word) keywords
@@ -71,6 +72,7 @@ Fields (field ∷ next ∷ fields) text = (word : List ℕ) × (rest : List ℕ)
 abbrev pub fields_of : Keyword → List Field
 fields_of Text = Named ∷ Rest ∷ []
 fields_of Load = Named ∷ Filed ∷ []
+fields_of Share = Named ∷ Filed ∷ []
 fields_of Let = Named ∷ Equals ∷ Rest ∷ []
 fields_of Drop = Named ∷ []
 fields_of Names = []

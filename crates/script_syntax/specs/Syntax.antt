@@ -5,7 +5,7 @@ use Rattle.std.specs.Fmt.{decimal}
 use Rattle.span_types.specs.Names.{is_between}
 use Rattle.line_parts.specs.NameList.{IsName, IsNameList}
 use Rattle.script_syntax.specs.declared.form.Command.{Command}
-use Rattle.script_syntax.specs.declared.form.Command.TheVariants.{Nothing, Text, LoadFile, LetDoc, DropDoc, Names, Show, Query, Unquery, List as ListDoc, Nonempty, Has, SaveFile, OpenFile, UnionQuery, JoinQuery, ProjectQuery, ListAll, ReplaceDoc, MarkDocs, UnmarkDocs, BackDocs, Compact}
+use Rattle.script_syntax.specs.declared.form.Command.TheVariants.{Nothing, Text, LoadFile, ShareFile, LetDoc, DropDoc, Names, Show, Query, Unquery, List as ListDoc, Nonempty, Has, SaveFile, OpenFile, UnionQuery, JoinQuery, ProjectQuery, ListAll, ReplaceDoc, MarkDocs, UnmarkDocs, BackDocs, Compact}
 
 -- words with a space between each two
 abbrev pub spaced : List ℕ → List (List ℕ) → List ℕ
@@ -48,6 +48,7 @@ abbrev pub Reads : List ℕ → Command → Type 0
 Reads line Nothing = (line ≡ []) ⊎ (slice_get line 0 ≡ Some 35)
 Reads line (Text name bytes) = IsName name × (line ≡ spaced (codes "text") (name ∷ bytes ∷ []))
 Reads line (LoadFile name file) = IsName name × IsFile file × (line ≡ spaced (codes "load") (name ∷ file ∷ []))
+Reads line (ShareFile name file) = IsName name × IsFile file × (line ≡ spaced (codes "share") (name ∷ file ∷ []))
 Reads line (LetDoc name expr) = IsName name × (line ≡ spaced (codes "let") (name ∷ codes "=" ∷ expr ∷ []))
 Reads line (DropDoc name) = IsName name × (line ≡ spaced (codes "drop") (name ∷ []))
 Reads line Names = line ≡ codes "names"

@@ -49,6 +49,19 @@ pub fn load_of(alloc: Global, args: &[u8]) -> Result<Command, LineRefusal>
     Ok(Command::LoadFile { name, file })
 }
 
+/// `NAME FILE`
+pub fn share_of(alloc: Global, args: &[u8]) -> Result<Command, LineRefusal>
+    ensures ok { IfOk result (λ command. Reads (codes "share " ++ args.now) command) }
+    ensures syntax { IfErr result (λ why. why ≡ LineRefusal.Syntax → Fields (fields_of keyword.Share) args.now → ⊥) }
+{
+    let Some((name, file)) = cut_word(args) else {
+        return Err(LineRefusal::Syntax);
+    };
+    let name = name_of(alloc, name)?;
+    let file = file_of(alloc, file)?;
+    Ok(Command::ShareFile { name, file })
+}
+
 /// `NAME = EXPR`
 pub fn let_of(alloc: Global, args: &[u8]) -> Result<Command, LineRefusal>
     ensures ok { IfOk result (λ command. Reads (codes "let " ++ args.now) command) }

@@ -16,6 +16,11 @@ pub enum Command {
         name: Name,
         file: ByteList,
     },
+    /// `share NAME FILE`: the same, in a tree whose nodes are shared with equal parts of texts at any offset.
+    ShareFile {
+        name: Name,
+        file: ByteList,
+    },
     /// `let NAME = EXPR`: the document gets the value of the expression. Here the expression is any bytes.
     LetDoc {
         name: Name,

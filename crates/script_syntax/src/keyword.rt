@@ -8,6 +8,7 @@ ghost use Rattle.script_syntax.specs.Fields.{keyword_named, word_of};
 pub enum Keyword {
     Text,
     Load,
+    Share,
     Let,
     Drop,
     Names,
@@ -30,9 +31,10 @@ pub enum Keyword {
     Compact,
 }
 
-const KEYWORDS: [Keyword; 22] = [
+const KEYWORDS: [Keyword; 23] = [
     Keyword::Text,
     Keyword::Load,
+    Keyword::Share,
     Keyword::Let,
     Keyword::Drop,
     Keyword::Names,
@@ -62,6 +64,7 @@ fn text_of_keyword(keyword: Keyword) -> &'static [u8]
     match keyword {
         Keyword::Text => b"text",
         Keyword::Load => b"load",
+        Keyword::Share => b"share",
         Keyword::Let => b"let",
         Keyword::Drop => b"drop",
         Keyword::Names => b"names",

@@ -1,0 +1,5 @@
+pub mod WordLemmas
+pub mod SymbolLemmas
+pub mod CostLemmas
+pub mod BlockLemmas
+pub mod SharerLemmas
