@@ -1,8 +1,8 @@
 -- An accepted command has exactly one reply and one resulting world.
 use Rattle.std.proofs.Common.{◌≡◌, ℕ, List, Option, Some, None, length, refl, sym, ◌∙◌, ap, subst}
 use Rattle.span_language.proofs.Names.{AreListed, Command, Documents, Does, Files, given_text, HasAnswer, HasDocuments, HasProjection, IsAccepted, IsAnswer}
-use Rattle.span_language.proofs.Names.{IsListReply, IsRegistered, IsSettled, IsYesOrNo, Join, LetDoc, load_size, LoadFile, names_of, Nothing, open_size, opened_text}
-use Rattle.span_language.proofs.Names.{OpenFile, put, Query, query_text, replaced, SaveFile, Show, shown, shown_text, TupleText, Union, value_of, with_documents}
+use Rattle.span_language.proofs.Names.{IsListReply, IsRegistered, IsSettled, IsYesOrNo, Join, LetDoc, load_size, LoadFile, LoadsFile, names_of, Nothing, open_size, opened_text}
+use Rattle.span_language.proofs.Names.{OpenFile, put, Query, query_text, replaced, SaveFile, ShareFile, Show, shown, shown_text, TupleText, Union, value_of, with_documents}
 use Rattle.span_language.proofs.Names.{with_queries, World, world}
 use Rattle.script_syntax.specs.declared.form.Command.TheVariants as form
 use Rattle.span_language.proofs.Values.{are_told, one_ok, one_value, one_within}
@@ -28,6 +28,10 @@ module _ (old : World) (r s : List ℕ) (n m : World) where
   given name t u e h k =
       (h.0 ∙ ap (given_text name) e ∙ sym k.0, h.1 ∙ ap (λ (z : List ℕ). world (with_documents old.state (put old.state.documents name z)) old.files) e ∙ sym k.1)
 
+  -- and the bytes of a file
+  loaded : (name file : List ℕ) → (old.files ≡ None → ⊥) → LoadsFile old name file r n → LoadsFile old name file s m → Same r s n m
+  loaded name file told (b, h, reply, new) (c, k, reply2, new2) = given name b c (one_within file load_size old.files b c told h k) (reply, new) (reply2, new2)
+
   registered : (name : List ℕ) (q p : Query) → q ≡ p → IsRegistered old n name q r → IsRegistered old m name p s → Same r s n m
   registered name q p e h k = (
     h.0 ∙ ap (λ (z : Query). query_text name (names_of z)) e ∙ sym k.0,
@@ -38,8 +42,8 @@ module _ (old : World) (r s : List ℕ) (n m : World) where
   accepted name q h k = registered name q q refl h.1 k.1
 
 pub one_done : (old : World) (command : Command) (r s : List ℕ) (n m : World) → IsSettled old.files command → Does old command r n → Does old command s m → Same r s n m
-one_done old (LoadFile name file) r s n m settled (b, h, reply, new) (c, k, reply2, new2) =
-    given old r s n m name b c (one_within file load_size old.files b c (are_told old.files (LoadFile name file) tt settled) h k) (reply, new) (reply2, new2)
+one_done old (LoadFile name file) r s n m settled h k = loaded old r s n m name file (are_told old.files (LoadFile name file) tt settled) h k
+one_done old (ShareFile name file) r s n m settled h k = loaded old r s n m name file (are_told old.files (ShareFile name file) tt settled) h k
 one_done old (LetDoc name expr) r s n m settled (e, t, reads, value, reply, new) (f, u, reads2, value2, reply2, new2) =
     given old r s n m name t u (one_text old.state.documents expr e f t u reads reads2 value value2) (reply, new) (reply2, new2)
 one_done old (Show name i j) r s n m settled (b, is, reply, new) (c, it, reply2, new2) =

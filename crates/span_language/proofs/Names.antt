@@ -22,7 +22,7 @@ pub use Rattle.report_text.specs.declared.refusal.Refusal.TheVariants.{BadImage,
 pub use Rattle.script_syntax.proofs.OneLine.{one_command_of}
 pub use Rattle.script_syntax.specs.Syntax.{LineText}
 pub use Rattle.script_syntax.specs.declared.form.Command.{Command}
-pub use Rattle.script_syntax.specs.declared.form.Command.TheVariants.{LetDoc, LoadFile, Nothing, OpenFile, SaveFile, Show}
+pub use Rattle.script_syntax.specs.declared.form.Command.TheVariants.{LetDoc, LoadFile, Nothing, OpenFile, SaveFile, ShareFile, Show}
 pub use Rattle.slp_image.specs.Fields.{kind_of}
 pub use Rattle.slp_image.specs.Image.{image, Meaning}
 pub use Rattle.slp_image.specs.declared.refusal.ImageRefusal.{ImageRefusal}
@@ -36,7 +36,7 @@ pub use Rattle.span_language.specs.Means.{Carried, Means, Step}
 pub use Rattle.span_language.specs.Replies.{given_text, IsEditRefusal, shown}
 pub use Rattle.span_language.specs.Runs.{Adds, is_refused, Runs, Sum}
 pub use Rattle.span_language.specs.State.{Documents, Named, put, value_of, with_documents, with_queries, World, world}
-pub use Rattle.span_language.specs.Step.{Carries, Does, HasDocuments, IsAsked, IsChosenOf, IsCombineRefusal, IsFaulty, IsFileRefused, IsOfFile, IsOversized, IsRefused, IsRegistered, IsReplacing, IsTextRefused, IsUnasked, IsUncombined, IsUnreplaced, IsWithin, IsYesOrNo, load_size, most_spans, open_size}
+pub use Rattle.span_language.specs.Step.{Carries, Does, HasDocuments, IsAsked, IsChosenOf, IsCombineRefusal, IsFaulty, IsFileRefused, IsOfFile, IsOversized, IsRefused, IsRegistered, IsReplacing, IsTextRefused, IsUnasked, IsUncombined, IsUnreplaced, IsWithin, IsYesOrNo, load_size, LoadsFile, most_spans, open_size}
 pub use Rattle.span_language.specs.declared.told.Told.{Told}
 pub use Rattle.span_language.specs.declared.told.Told.TheVariants.{Accepted, Quiet, Refused}
 pub use Rattle.span_replace.specs.Chosen.{chosen}

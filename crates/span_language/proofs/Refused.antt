@@ -1,7 +1,7 @@
 -- A command is either accepted or has exactly one first rejection.
 use Rattle.std.proofs.Common.{◌≡◌, ◌<◌, ◌≤◌, ◌^◌, ◌⊎◌, ℕ, List, Option, Some, None, length, refl, sym, ◌∙◌, ap, subst, inl, inr, arith}
 use Rattle.span_language.proofs.Names.{BadImage, Command, Does, IsAsked, IsCursorOf, IsCursorRefused, IsRefused, IsRegistered, IsSettled, Join, LetDoc, load_size}
-use Rattle.span_language.proofs.Names.{LoadFile, most_spans, open_size, OpenFile, Query, Refusal, replaced, SaveFile, Show, shown, Span, TooLong, TooManyMatches, Tuple, Union}
+use Rattle.span_language.proofs.Names.{LoadFile, most_spans, open_size, OpenFile, Query, Refusal, replaced, SaveFile, ShareFile, Show, shown, Span, TooLong, TooManyMatches, Tuple, Union}
 use Rattle.span_language.proofs.Names.{value_of, World}
 use Rattle.script_syntax.specs.declared.form.Command.TheVariants as form
 use Rattle.span_language.proofs.Accepted.{no_save}
@@ -67,6 +67,7 @@ module _ (old : World) where
 
 pub one_refusal : (old : World) (command : Command) (why other : Refusal) → IsSettled old.files command → IsRefused old command why → IsRefused old command other → why ≡ other
 one_refusal old (LoadFile name file) why other settled h k = one_file_refusal file load_size old.files why other (are_told old.files (LoadFile name file) tt settled) h k
+one_refusal old (ShareFile name file) why other settled h k = one_file_refusal file load_size old.files why other (are_told old.files (ShareFile name file) tt settled) h k
 one_refusal old (LetDoc name expr) why other settled h k = editing old name expr why other h k
 one_refusal old (Show name i j) why other settled h k = one_err (shown old.state.documents name i j) why other h k
 one_refusal old (form.Query name text) why other settled h k = one_text_refusal text why other h k
@@ -84,6 +85,7 @@ one_refusal old _ why other settled h k = first_of (cc, search)
 -- an accepted command isn't rejected
 pub refused_once : (old : World) (command : Command) (r : List ℕ) (n : World) (why : Refusal) → IsSettled old.files command → Does old command r n → IsRefused old command why → ⊥
 refused_once old (LoadFile name file) r n why settled (b, h, reply, new) k = within_read file load_size old.files b why (are_told old.files (LoadFile name file) tt settled) h k
+refused_once old (ShareFile name file) r n why settled (b, h, reply, new) k = within_read file load_size old.files b why (are_told old.files (ShareFile name file) tt settled) h k
 refused_once old (LetDoc name expr) r n why settled (e, t, reads, value, reply, new) (inl k) = k.0 e reads
 refused_once old (LetDoc name expr) r n why settled (e, t, reads, value, reply, new) (inr (f, u, reads2, value2, is2)) = value_once old.state.documents expr e f t u reads reads2 value value2
 refused_once old (Show name i j) r n why settled (b, is, reply, new) k = not_both (shown old.state.documents name i j) b why is k

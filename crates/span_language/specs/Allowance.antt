@@ -1,11 +1,11 @@
 -- The maximum number of table lookups and node constructions of a line.
-use Rattle.std.specs.Prelude.{◌≡◌, ◌⊎◌, ℕ, ◌+◌, ◌*◌, ◌≤◌, List, length, min}
+use Rattle.std.specs.Prelude.{◌≡◌, ◌⊎◌, ℕ, ◌+◌, ◌*◌, ◌/◌, ◌≤◌, List, length, min}
 use Rattle.span_types.specs.Fibonacci.{height_limit, looks_limit}
 use Rattle.span_types.specs.Query.{Query}
 use Rattle.span_types.specs.Rel.{names_of}
 use Rattle.script_syntax.specs.declared.form.Command.{Command}
 use Rattle.script_syntax.specs.declared.form.Command.TheVariants as form
-use Rattle.script_syntax.specs.declared.form.Command.TheVariants.{Text, LoadFile, LetDoc, OpenFile}
+use Rattle.script_syntax.specs.declared.form.Command.TheVariants.{Text, LoadFile, ShareFile, LetDoc, OpenFile}
 use Rattle.report_text.specs.declared.refusal.Refusal.{Refusal}
 use Rattle.slp_image.specs.Image.{image}
 use Rattle.span_enum.specs.Members.{Tuple}
@@ -32,6 +32,10 @@ both_of a b = record { looks = a.looks + b.looks; pairs = a.pairs + b.pairs }
 abbrev pub load_limit : ℕ → ℕ
 load_limit n = n + 4 * (height_limit n + 1)
 
+-- and for sharing them
+abbrev pub share_limit : ℕ → ℕ
+share_limit n = n + (n / 65536 + 1) * (6 * height_limit n + 1)
+
 -- the maximum number of node constructions for this many operations on texts of at most n bytes
 abbrev pub edit_limit : ℕ → ℕ → ℕ
 edit_limit count n = 48 * count * (height_limit n + 1)
@@ -52,11 +56,16 @@ replace_steps c n = record { looks = 3 * (c + 1) * looks_limit 1 n; pairs = 1770
 abbrev pub IsFree : (Refusal → Type 0) → Allowance → Type 0
 IsFree Refuses a = (why : Refusal) × Refuses why × (a ≡ no_steps)
 
+-- nothing if the file is rejected, or the maximum number of node constructions for its length
+abbrev pub IsFileAllowed : World → List ℕ → (ℕ → ℕ) → Allowance → Type 0
+IsFileAllowed old file limit a = IsFree (IsFileRefused old.files file load_size) a
+    ⊎ ((bytes : List ℕ) × IsWithin old.files file load_size bytes × (a ≡ record { looks = 0; pairs = limit (length bytes) }))
+
 -- the allowance of a command, by its step
 abbrev pub IsAllowed : World → Command → Allowance → Type 0
 IsAllowed old (Text name bytes) a = a ≡ record { looks = 0; pairs = load_limit (length bytes) }
-IsAllowed old (LoadFile name file) a = ((why : Refusal) × IsFileRefused old.files file load_size why × (a ≡ no_steps))
-    ⊎ ((bytes : List ℕ) × IsWithin old.files file load_size bytes × (a ≡ record { looks = 0; pairs = load_limit (length bytes) }))
+IsAllowed old (LoadFile name file) a = IsFileAllowed old file load_limit a
+IsAllowed old (ShareFile name file) a = IsFileAllowed old file share_limit a
 IsAllowed old (LetDoc name expr) a = (((e : Expr) → ExprReads expr e → ⊥) × (a ≡ no_steps))
     ⊎ ((e : Expr) × ExprReads expr e × (a ≡ record { looks = 0; pairs = edit_limit (operations e) (greatest old.state.documents e) }))
 IsAllowed old (form.List query name word n) a = IsFree (IsRefused old (form.List query name word n)) a

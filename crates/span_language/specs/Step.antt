@@ -3,7 +3,7 @@ use Rattle.std.specs.Prelude.{◌≡◌, ◌⊎◌, ◌<◌, ℕ, List, [], Opti
 use Rattle.std.specs.Io.KnownBytes.{Appends, Keeps}
 use Rattle.edge_io.specs.Files.{AllowsReads, AllowsWrites, DeniesReads, DeniesWrites, Files, Holds, KeepsOthers, LacksFile}
 use Rattle.script_syntax.specs.declared.form.Command.{Command}
-use Rattle.script_syntax.specs.declared.form.Command.TheVariants.{Nothing, Text, LoadFile, LetDoc, DropDoc, Names, Show, SaveFile, OpenFile}
+use Rattle.script_syntax.specs.declared.form.Command.TheVariants.{Nothing, Text, LoadFile, ShareFile, LetDoc, DropDoc, Names, Show, SaveFile, OpenFile}
 use Rattle.script_syntax.specs.declared.form.Command.TheVariants as form
 use Rattle.edit_expr.specs.declared.expr.Expr.{Expr}
 use Rattle.edit_expr.specs.declared.refusal.EditRefusal.{EditRefusal}
@@ -56,7 +56,7 @@ IsFileRefused files name limit why = (LacksFile files name × (why ≡ NoSuchFil
     ⊎ (DeniesReads files name × (why ≡ CannotRead name))
     ⊎ (IsOversized files name limit × (why ≡ FileTooLong name))
 
--- the maximum length of a file for `load`, and of one for `open` and `save`, in bytes
+-- the maximum length of a file for `load` and `share`, and of one for `open` and `save`, in bytes
 abbrev pub load_size : ℕ
 load_size = 2 ^ 32
 
@@ -166,11 +166,16 @@ HasDocuments old new documents = new ≡ world (with_documents old.state documen
 abbrev pub HasVersions : World → World → Named Documents → Type 0
 HasVersions old new versions = new ≡ world (with_versions old.state versions) old.files
 
+-- the document gets the bytes of the file, which is within the limit
+abbrev pub LoadsFile : World → List ℕ → List ℕ → List ℕ → World → Type 0
+LoadsFile old name file reply new = (bytes : List ℕ) × IsWithin old.files file load_size bytes × (reply ≡ given_text name bytes)
+    × HasDocuments old new (put old.state.documents name bytes)
+
 -- an accepted command has this reply and results in this world: one equation for each command
 abbrev pub Does : World → Command → List ℕ → World → Type 0
 Does old (Text name bytes) reply new = (reply ≡ given_text name bytes) × HasDocuments old new (put old.state.documents name bytes)
-Does old (LoadFile name file) reply new = (bytes : List ℕ) × IsWithin old.files file load_size bytes × (reply ≡ given_text name bytes)
-    × HasDocuments old new (put old.state.documents name bytes)
+Does old (LoadFile name file) reply new = LoadsFile old name file reply new
+Does old (ShareFile name file) reply new = LoadsFile old name file reply new
 Does old (LetDoc name expr) reply new = (e : Expr) × (text : List ℕ) × ExprReads expr e × (eval old.state.documents e ≡ Ok text)
     × (reply ≡ given_text name text) × HasDocuments old new (put old.state.documents name text)
 Does old (DropDoc name) reply new = (text : List ℕ) × (value_of old.state.documents name ≡ Some text)
@@ -207,6 +212,7 @@ abbrev pub IsRefused : World → Command → Refusal → Type 0
 IsRefused old Nothing why = ⊥
 IsRefused old (Text name bytes) why = ⊥
 IsRefused old (LoadFile name file) why = IsFileRefused old.files file load_size why
+IsRefused old (ShareFile name file) why = IsFileRefused old.files file load_size why
 IsRefused old (LetDoc name expr) why = (((e : Expr) → ExprReads expr e → ⊥) × (why ≡ Syntax))
     ⊎ ((e : Expr) × (refusal : EditRefusal) × ExprReads expr e × (eval old.state.documents e ≡ Err refusal) × IsEditRefusal refusal why)
 IsRefused old (DropDoc name) why = (value_of old.state.documents name ≡ None) × (why ≡ NoSuchDocument name)
@@ -249,6 +255,7 @@ IsShort _ = Unit {0}
 -- the command reads or writes a file
 abbrev pub IsOfFile : Command → Type 0
 IsOfFile (LoadFile name file) = Unit {0}
+IsOfFile (ShareFile name file) = Unit {0}
 IsOfFile (SaveFile file) = Unit {0}
 IsOfFile (OpenFile file) = Unit {0}
 IsOfFile _ = ⊥
