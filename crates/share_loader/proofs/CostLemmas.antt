@@ -1,4 +1,4 @@
--- Bounds on pair calls.
+-- Bounds on node constructions.
 use Rattle.std.proofs.Common.{◌≡◌, ◌⊎◌, inl, inr, ℕ, ◌+◌, ◌*◌, ◌/◌, ◌≤◌, arith}
 use Rattle.std.proofs.lemmas.Nat.{mul-le}
 use Rattle.span_types.specs.Fibonacci.{fibonacci, height_limit}

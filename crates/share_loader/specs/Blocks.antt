@@ -30,8 +30,8 @@ ended_text ns t = root_text (root_tree ns t.root)
 abbrev pub taken_text : List Node → Taken → List ℕ
 taken_text ns t = ended_text ns t ++ symbols_text ns t.symbols
 
--- what blocks with `ended` bytes may cost beside one pair call for each byte, where n bytes are the whole text: each but the last one has
--- 65,536 bytes
+-- what blocks with `ended` bytes may cost beside one node construction for each byte, where n bytes are the whole text: each
+-- but the last one has 65,536 bytes
 unfoldable pub blocks_cost : ℕ → ℕ → ℕ
 blocks_cost ended n = ended / 65536 * (6 * height_limit n + 1)
 

@@ -10,7 +10,7 @@ use Rattle.share_loader.specs.declared.words.Entry.{Entry}
 abbrev pub word_height : ℕ → ℕ
 word_height n = if nat_lt n 2 then 0 else if nat_lt n 3 then 1 else if nat_lt n 5 then 2 else 3
 
--- the node with index i has the text s, and is as high as a word of so many bytes
+-- the node with index i has the text s, and is as high as a word of its length
 pub record IsWordAt (ns : List Node) (s : List ℕ) (i : ℕ) : Type 0 where
   pub live : i < length ns
   pub reads : text (tree ns i) ≡ s

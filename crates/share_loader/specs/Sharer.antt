@@ -29,11 +29,11 @@ pub record IsKept (ns : List Node) (k : Kept) : Type 0 where
 abbrev pub kept_count : Kept → ℕ
 kept_count k = length k.taken.symbols + length k.rest
 
--- what the blocks that ended may have cost beside a pair call for each byte
+-- what the blocks that ended may have cost beside one node construction for each byte
 abbrev pub kept_cost : List Node → Kept → ℕ
 kept_cost ns k = blocks_cost (length (ended_text ns k.taken)) (length (taken_text ns k.taken))
 
--- a sharer that may be used with a store of these nodes; after a refusal it keeps nothing
+-- a sharer that may be used with a store of these nodes; after an allocation failure it keeps nothing
 abbrev pub IsSharer : List Node → Option Kept → Type 0
 IsSharer ns None = Unit {0}
 IsSharer ns (Some k) = IsKept ns k
@@ -48,7 +48,7 @@ abbrev pub open_count : Option Kept → ℕ
 open_count None = 0
 open_count (Some k) = kept_count k
 
--- what its blocks may have cost beside a pair call for each byte
+-- what its blocks may have cost beside one node construction for each byte
 abbrev pub ended_cost : List Node → Option Kept → ℕ
 ended_cost ns None = 0
 ended_cost ns (Some k) = kept_cost ns k

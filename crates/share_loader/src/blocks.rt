@@ -19,12 +19,13 @@ use span_types::{NoMemory, Steps};
 use std::alloc::Global;
 use std::sync::ledger::Ledger;
 
-// A block has at least so many words, but for the last one, and at most so many.
+// The minimum number of words of a block other than the last one.
 const LEAST_WORDS: usize = 1 << 16;
 
+// The maximum number of words of a block.
 const MOST_WORDS: usize = 1 << 19;
 
-// A block ends where so many bits of the window's hash are zero.
+// A block ends where this number of bits of the window's hash are zero.
 const BLOCK_BITS: u32 = 17;
 
 /// The blocks that ended, as one root, and the symbols of the words behind them.
@@ -181,8 +182,8 @@ fn take_word<L: Ledger>(
     Ok(len)
 }
 
-/// Takes the words of a text while at least so many bytes are left, and says how many bytes they have. Where the text has three
-/// bytes or is to keep nine, each word has three.
+/// Takes the words of a text while at least `least` bytes are left, and returns how many bytes they have. If the text has
+/// three bytes, or if it keeps nine, each word has at least three.
 pub(crate) fn take_words<L: Ledger>(
     blocks: &mut Blocks,
     store: &mut Store,

@@ -1,10 +1,10 @@
 //! Where words end.
 ghost use Rattle.std.specs.Prelude.{◌≡◌, ◌+◌, ◌<◌, ◌≤◌, ◌⊎◌, length};
 
-/// A word has at least so many bytes, where the text has as many.
+/// The minimum length of a word in bytes, unless the text is shorter.
 pub(crate) const LEAST: usize = 3;
 
-/// A word has at most so many bytes.
+/// The maximum length of a word in bytes.
 pub(crate) const MOST: usize = 8;
 
 #[derive(Clone, Copy, PartialEq, Eq)]
@@ -36,8 +36,9 @@ fn rank(before: u8, after: u8) -> u32 {
     by_kind << 29 | both.wrapping_mul(0x9E37_79B1) >> 6
 }
 
-/// How many bytes the first word of a text has: a word ends where the rank of the two bytes beside its end is least, and at the
-/// last of several such places. At most eight bytes are one word, and nine or more leave at least three to the next one.
+/// How many bytes the first word of a text has: a word ends where the rank of the two bytes beside its end is least, and at
+/// the last of several such positions. At most eight bytes are one word, and nine or more leave at least three to the next
+/// one.
 pub(crate) fn word_len(text: &[u8]) -> usize
     requires { 3 ≤ length text.now }
     ensures least { 3 ≤ result }

@@ -16,7 +16,7 @@ fn hash_of(first: u32, second: u32) -> u64 {
     folded((u64::from(first) << 32 | u64::from(second)) ^ 0x9E37_79B9_7F4A_7C15)
 }
 
-/// The hash of a word of `len` bytes, which are given as a number.
+/// The hash of a word of `len` bytes, which are one number here.
 pub(crate) fn word_hash(bytes: u64, len: u8) -> u64 {
     let first = (bytes >> 32) as u32 ^ u32::from(len) << 8;
     hash_of(first, (bytes & 0xFFFF_FFFF) as u32)

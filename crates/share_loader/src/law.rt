@@ -6,7 +6,8 @@ pub fn sharer_grows()
     ensures { SharerGrows }
 {}
 
-/// What a sharer is before the first byte, and what all blocks of a text may cost beside a pair call for each byte.
+/// What a sharer is before the first byte, and what all blocks of a text may cost beside one node construction for each
+/// byte.
 pub fn sharer_starts()
     ensures { SharerStarts }
 {}

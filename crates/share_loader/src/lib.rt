@@ -1,5 +1,5 @@
-//! Loads a text in pieces so that equal stretches share nodes wherever they stand: the cuts between subtrees follow the bytes,
-//! not their places.
+//! Loads a text in pieces so that equal parts share nodes at any offset: the cuts between subtrees depend on the bytes, and
+//! not on their positions.
 //!
 //! ```text
 //! let mut sharer = Sharer::new(alloc)?;
@@ -8,19 +8,23 @@
 //! let root = sharer.finish(&mut store, &mut pairs)?;       // the same root, whatever the pieces were
 //! ```
 //!
-//! The bytes are cut into words of 3 to 8 bytes, each where the two bytes beside a border fit worst together. A word is a symbol:
-//! a node and a hash. In rounds, neighbouring symbols are paired in groups of two or three, and a group ends where a hash is
-//! least among its neighbours. So two equal stretches are cut alike but at their ends. A text of more than 65,536 words is cut
-//! into blocks, again by a hash of the words there, and each block's root is joined to the blocks before.
+//! The bytes are cut into words of 3 to 8 bytes, each where the two bytes beside the cut fit worst together. A word is a symbol:
+//! a node and a hash. In rounds, neighbouring symbols are paired in groups of two or three. A group ends where a hash is the
+//! least among its neighbours. So two equal parts are cut in the same way, except at their ends. A text of more than 65,536
+//! words is cut into blocks, again by a hash of the words there, and each block's root is joined to the blocks before.
 //!
-//! For n bytes there are at most n + (n/65,536 + 1)·(6·H(n) + 1) pair calls, each of expected constant time. Beside the
-//! store a sharer keeps at most the symbols of one block of 4 MiB, of 16 bytes each, as much room for the next round, and 2 MB for
-//! words that it has seen before.
+//! For n bytes there are at most n + (n/65,536 + 1)·(6·H(n) + 1) calls to `pair`, each of expected constant time. Beside the
+//! store a sharer has the symbols of one block of at most 4 MiB, of 16 bytes each, as much room for the next round, and 2 MB
+//! for words that it has seen before.
 //!
-//! Cuts that follow the content are those of A. Muthitacharoen, B. Chen and D. Mazières, *A low-bandwidth network file system*,
-//! SOSP 2001. Rounds of groups whose borders depend on a few neighbours are locally consistent parsing (S. C. Sahinalp and U.
-//! Vishkin, 1994; K. Mehlhorn, R. Sundar and C. Uhrig, 1997). Here a group joins nodes of nearly equal height, so that the trees are
-//! balanced as those of M. L. Schmid and N. Schweikardt, PODS 2022.
+//! Cuts that depend on the content are those of A. Muthitacharoen, B. Chen and D. Mazières, *A low-bandwidth network file
+//! system*, SOSP 2001. Rounds of groups whose borders depend on a few neighbours are locally consistent parsing (S. C. Sahinalp
+//! and U. Vishkin, 1994; K. Mehlhorn, R. Sundar and C. Uhrig, 1997). Here a group joins nodes of nearly equal height, so that
+//! the trees are balanced as those of M. L. Schmid and N. Schweikardt, PODS 2022.
+//!
+//! Proved: The text of the bytes, for any cutting into pieces, and its cost (`share`, `Sharer`).
+//!
+//! Tested: The same root for any pieces, and that equal parts share nodes.
 #![tactic(auto)]
 
 ghost use Rattle.std.specs.Prelude.{◌≡◌, ◌+◌, ◌*◌, ◌/◌, ◌^◌, ◌≤◌, ◌++◌, length, None, Some, IfOk, OnOk, OnErr, IsErr};
@@ -47,12 +51,12 @@ use std::alloc::Global;
 use std::marker::Model;
 use std::sync::ledger::Ledger;
 
-/// A text that is being loaded into a store so that its stretches are shared.
+/// A text that is being loaded into a store so that its equal parts are shared.
 ///
-/// It keeps the root of the blocks that ended, the symbols of fewer than 2^19 words behind them, and at most 10 bytes that aren't in
-/// a word yet. After a refusal it keeps none, and answers NoMemory to every call. From 4,096 bytes on it also keeps the nodes of
-/// the last words beside their bytes, in 64 KB, and from 262,144 bytes on in 2 MB, where it gets this memory, so that most words
-/// need no pair calls.
+/// It has the root of the blocks that ended, the symbols of fewer than 2^19 words behind them, and at most 10 bytes that aren't
+/// in a word yet. After an error it has none, and returns `NoMemory` from every call. From 4,096 bytes on it also has a cache
+/// of the nodes of the last words, if memory allows. The cache takes 64 KB, and 2 MB from 262,144 bytes on. So most words need
+/// no calls to `pair`.
 #[derive(Drop)]
 pub struct Sharer {
     parts: Option<Parts>,
@@ -74,7 +78,7 @@ impl Sharer {
     ///
     /// # Errors
     ///
-    /// `NoMemory` where none was found.
+    /// `NoMemory` if allocation fails.
     pub fn new(alloc: Global) -> Result<Sharer, NoMemory>
         ensures { IfOk result (λ sharer. sharer ≡ Some unfed) }
     {
@@ -86,16 +90,16 @@ impl Sharer {
         Ok(Sharer { parts: Some(parts) })
     }
 
-    /// Puts a piece after the bytes that were fed, and makes the nodes of all words and blocks that end in it.
+    /// Appends a piece to the bytes that were fed, and makes the nodes of all words and blocks that end in it.
     ///
-    /// The store is the one used before, grown, and all bytes fed are at most 2^48. All calls on one sharer together make at most
-    /// n + (n/65,536 + 1)·(6·H(n) + 1) pair calls, where n bytes were fed: a piece makes at most as many as it has bytes, and as
-    /// there are fewer open symbols and bytes than before, and 6·H(n) + 1 for each 65,536 bytes in blocks.
+    /// The store is the one used before, possibly grown, and all bytes fed are at most 2^48. All calls on one sharer for n bytes
+    /// make at most n + (n/65,536 + 1)·(6·H(n) + 1) calls to `pair`. One call makes at most one for each byte of the piece and
+    /// for each open symbol or byte that it ends, and 6·H(n) + 1 for each 65,536 bytes in blocks.
     ///
     /// # Errors
     ///
-    /// `NoMemory` where none was found, and after an earlier one. The store may have more nodes then, and every later
-    /// call answers `NoMemory`.
+    /// `NoMemory` if allocation fails now or failed in an earlier call. The store may have more nodes then, and every
+    /// later call returns `NoMemory`.
     pub fn feed<L: Ledger>(
         &mut self,
         store: &mut Store,
@@ -120,11 +124,11 @@ impl Sharer {
 
     /// A root of all bytes fed. The tree depends on the bytes alone, and not on the pieces.
     ///
-    /// The store is the one used before, grown.
+    /// The store is the one used before, possibly grown.
     ///
     /// # Errors
     ///
-    /// `NoMemory` where none was found, and after an earlier one. The store may have more nodes then.
+    /// `NoMemory` if allocation fails now or failed in an earlier call. The store may have more nodes then.
     pub fn finish<L: Ledger>(
         self,
         store: &mut Store,
@@ -147,11 +151,11 @@ const FIRST_ROOM: usize = 16;
 
 /// A root of the bytes: a sharer that is fed once.
 ///
-/// There are n bytes, and n is at most 2^48. At most n + (n/65,536 + 1)·(6·H(n) + 1) pair calls are made.
+/// There are n bytes, and n is at most 2^48. At most n + (n/65,536 + 1)·(6·H(n) + 1) calls to `pair` are made.
 ///
 /// # Errors
 ///
-/// `NoMemory` where none was found. The store may have more nodes then.
+/// `NoMemory` if allocation fails. The store may have more nodes then.
 pub fn share<L: Ledger>(
     alloc: Global,
     store: &mut Store,

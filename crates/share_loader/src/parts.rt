@@ -13,11 +13,11 @@ use node_store::{NodeId, Store};
 use span_types::{NoMemory, Steps};
 use std::sync::ledger::Ledger;
 
-// While pieces come, a word is taken where so many bytes are there: then its end is the same whatever follows, and the next word
-// has three bytes at least.
+// While pieces come, a word is taken only if this number of bytes is there. So its end is the same whatever follows, and the
+// next word has at least three bytes.
 const ENOUGH: usize = LEAST + MOST;
 
-// So many bytes of a piece are copied at once.
+// The number of bytes of a piece that are copied at once.
 const CHUNK: usize = 1 << 16;
 
 /// The words that were taken, and the bytes behind them.
@@ -27,7 +27,7 @@ pub(crate) struct Parts {
     pub(crate) rest: Vec<u8>,
 }
 
-// Takes so many bytes away at the front.
+// Takes the first `count` bytes away.
 fn drop_front(text: &mut Vec<u8>, count: usize)
     requires { count ≤ vec_len text.old }
     ensures items { text.new.items ≡ drop count text.old.items }

@@ -139,7 +139,7 @@ fn triple_of<L: Ledger>(
     Ok(three)
 }
 
-// The symbol of a group of so many symbols.
+// The symbol of the group of the first `count` symbols.
 fn group_of<L: Ledger>(
     store: &mut Store,
     symbols: &[Symbol],
@@ -177,7 +177,7 @@ pub(crate) fn push_symbol(symbols: &mut Vec<Symbol>, symbol: Symbol) -> Result<(
 }
 
 /// One round: each group of neighbours becomes one symbol of the next level, so that no symbol is lower than `level + 1`.
-/// There is at most one pair call more than symbols that go away.
+/// There is at most one node construction more than symbols that go away.
 pub(crate) fn round<L: Ledger>(
     store: &mut Store,
     symbols: &[Symbol],
@@ -209,8 +209,8 @@ pub(crate) fn round<L: Ledger>(
 /// The least height of a symbol of a word.
 pub(crate) const WORD_LEVEL: u8 = 2;
 
-/// The node of the whole text of the symbols of words, by rounds until one symbol is left. Each round makes at most one pair call
-/// more than symbols go away, and there are fewer rounds than the node is high.
+/// The node of the whole text of the symbols of words, by rounds until one symbol is left. Each round makes at most one call
+/// to `pair` more than symbols go away, and there are fewer rounds than the node is high.
 pub(crate) fn block_of<L: Ledger>(
     store: &mut Store,
     symbols: &mut Vec<Symbol>,

@@ -12,9 +12,10 @@ use span_types::{NoMemory, Steps};
 use std::alloc::Global;
 use std::sync::ledger::Ledger;
 
-// From so many bytes on a text pays for a small table of its words, and from so many on for a large one.
+// From this number of bytes on a text pays for a small table of its words.
 const SHORT_TEXT: usize = 1 << 12;
 
+// From this number of bytes on it pays for a large one.
 const LONG_TEXT: usize = 1 << 18;
 
 // How many entries the tables have.
@@ -31,7 +32,7 @@ pub(crate) struct Entry {
     pub(crate) index: u32,
 }
 
-/// The nodes of the words that were met last: each word has one place, and a new word of this place takes it.
+/// The nodes of the words that were met last: each word has one index, and a new word replaces the one at its index.
 #[derive(Drop)]
 pub(crate) struct Words {
     pub(crate) entries: Vec<Entry>,
@@ -63,7 +64,7 @@ impl Words {
     }
 }
 
-// So many empty entries, where there are fewer, if there is memory for them.
+// Makes `count` empty entries, unless there are as many, if there is memory for them.
 fn make_entries(entries: &mut Vec<Entry>, count: usize)
     ensures { (nodes : List Node) → AreKnown nodes entries.old.items → AreKnown nodes entries.new.items }
 {
@@ -130,12 +131,12 @@ fn padded(word: &[u8]) -> [u8; MOST]
     bytes
 }
 
-// The place of a hash among so many: its highest bits, in proportion.
+// The index of a hash in the table: its highest bits, in proportion to the table's length.
 fn place_of(entries: &[Entry], hash: u64) -> usize {
     ((hash >> 32).wrapping_mul(entries.len() as u64) >> 32) as usize
 }
 
-// The node of the word, if it stands at its place.
+// The node of the word, if it is at its index.
 fn found(entries: &[Entry], hash: u64, bytes: u64, len: u8) -> Option<NodeId>
     requires { 0 < len }
     ensures { IfSome result (λ id. (nodes : List Node) → AreKnown nodes entries.now → IsWordAt nodes (take len (to_le_bytes w64 bytes)) id.index) }
@@ -148,7 +149,7 @@ fn found(entries: &[Entry], hash: u64, bytes: u64, len: u8) -> Option<NodeId>
     None
 }
 
-// Puts a word at its place, if there is room for words.
+// Puts a word at its index, if there is a table.
 fn note(entries: &mut Vec<Entry>, hash: u64, bytes: u64, len: u8, node: NodeId)
     ensures { (nodes : List Node) → IsWordAt nodes (take len (to_le_bytes w64 bytes)) node.index → AreKnown nodes entries.old.items → AreKnown nodes entries.new.items }
 {

@@ -10,7 +10,8 @@ pub use Rattle.span_run.proofs.HeldLemmas.{plain-taken_out, plain_versions-put, 
 pub use Rattle.span_run.proofs.BookLemmas.{covered-within, query_of, some_value, take_placed}
 pub use Rattle.span_run.proofs.QueryLemmas.{answered, asked_carries, asked_paid, document_is, document_lacks, has_variables, judged, judged_unread, no_kind}
 pub use Rattle.span_run.proofs.QueryLemmas.{none_asked, text_refused, unquery_carries}
-pub use Rattle.span_run.proofs.ReadingLemmas.{front_means, front_paid, is_next, past_limit, whole_means, whole_paid}
+pub use Rattle.span_run.proofs.ReadingLemmas.{front_means, front_paid, is_next, past_limit, whole_means}
+pub use Rattle.span_run.proofs.LoadingLemmas.{load_kinds, shared_within, within_limit}
 pub use Rattle.span_run.proofs.CarryLemmas.{assigned_after, assigned_refusal, assigned_value, back_carries, drop_carries, let_carries, let_paid, load_paid}
 pub use Rattle.span_run.proofs.CarryLemmas.{mark_carries, names_end, names_next, names_rest, none_of_err, not_begun, part_of_paid, show_carries, some_of_ok}
 pub use Rattle.span_run.proofs.CarryLemmas.{text_carries, unmark_carries}

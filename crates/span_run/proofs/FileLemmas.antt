@@ -1,6 +1,6 @@
 -- The effect of loading a file.
-use Rattle.span_run.proofs.Names.{ap, arith, Assigns, BadImage, CannotRead, Carries, counters, Documents, Err, Files, FileTooLong, image, inl, inr, IsFileDenied, IsLoadPaid}
-use Rattle.span_run.proofs.Names.{IsOfTheFile, IsTurnedAway, IsWithin, length, List, load_limit, load_size, Meaning, MeansFile, no_steps, NoSuchFile, Ok, open_size, Opens, Option}
+use Rattle.span_run.proofs.Names.{ap, arith, Assigns, BadImage, CannotRead, Carries, counters, Documents, Err, file_command, Files, FileTooLong, image, inl, inr, IsFileDenied, IsLoadPaid}
+use Rattle.span_run.proofs.Names.{IsOfTheFile, IsTurnedAway, IsWithin, length, limit_of, List, load_size, Meaning, MeansFile, Method, no_steps, NoSuchFile, Ok, open_size, Opens, Option}
 use Rattle.span_run.proofs.Names.{PaysFor, PaysForPart, put, refl, refusal_text, Refused, Result, Some, State, subst, sym, Told, with_documents, World, world}
 use Rattle.span_run.proofs.Names.{ℕ, ◌+◌, ◌∙◌, ◌≡◌, ◌≤◌}
 use Rattle.script_syntax.specs.declared.form.Command.TheVariants as form
@@ -12,18 +12,19 @@ use Rattle.slp_image.specs.declared.refusal.ImageRefusal.TheVariants as fault
 use Rattle.span_run.specs.declared.reading.FileRefusal.{FileRefusal}
 use Rattle.span_run.specs.declared.reading.FileRefusal.TheVariants as turned
 use Rattle.span_run.proofs.CarryLemmas.{only_documents, none_paid}
+use Rattle.span_run.proofs.LoadingLemmas.{load_allowed, load_does, load_refused}
 
-pub load_carries : (st : State) (new : Documents) (number : ℕ) (name file bytes : List ℕ) (told : Told) (reply : List ℕ) (files : Option Files) → IsWithin files file load_size bytes
+pub load_carries : (m : Method) (st : State) (new : Documents) (number : ℕ) (name file bytes : List ℕ) (told : Told) (reply : List ℕ) (files : Option Files) → IsWithin files file load_size bytes
     → Assigns st.documents number name (Ok bytes) told reply new
-    → Carries (world st files) number (form.LoadFile name file) told reply (world (with_documents st new) files)
-load_carries st new number name file bytes told reply files there h = rw h.0.0 (bytes, there, h.0.1, only_documents st (put st.documents name bytes) new files h.1)
+    → Carries (world st files) number (file_command m name file) told reply (world (with_documents st new) files)
+load_carries m st new number name file bytes told reply files there h = rw h.0.0 (load_does m (world st files) name file reply (world (with_documents st new) files) (bytes, there, h.0.1, only_documents st (put st.documents name bytes) new files h.1))
 
-pub load_denied : (w : World) (number : ℕ) (name file : List ℕ) (why : FileRefusal) (told : Told) (reply : List ℕ) → IsTurnedAway w.files file load_size why
-    → IsFileDenied number file why told reply → Carries w number (form.LoadFile name file) told reply w
-load_denied w number name file turned.Absent told reply why h = rw h.0 (NoSuchFile file, inl (why, refl), h.1, refl)
-load_denied w number name file turned.Denied told reply why h = rw h.0 (CannotRead file, inr (inl (why, refl)), h.1, refl)
-load_denied w number name file turned.TooLong told reply why h = rw h.0 (FileTooLong file, inr (inr (why, refl)), h.1, refl)
-load_denied w number name file _ told reply why h = absurd h
+pub load_denied : (m : Method) (w : World) (number : ℕ) (name file : List ℕ) (why : FileRefusal) (told : Told) (reply : List ℕ) → IsTurnedAway w.files file load_size why
+    → IsFileDenied number file why told reply → Carries w number (file_command m name file) told reply w
+load_denied m w number name file turned.Absent told reply why h = rw h.0 (NoSuchFile file, load_refused m w name file (NoSuchFile file) (inl (why, refl)), h.1, refl)
+load_denied m w number name file turned.Denied told reply why h = rw h.0 (CannotRead file, load_refused m w name file (CannotRead file) (inr (inl (why, refl))), h.1, refl)
+load_denied m w number name file turned.TooLong told reply why h = rw h.0 (FileTooLong file, load_refused m w name file (FileTooLong file) (inr (inr (why, refl))), h.1, refl)
+load_denied m w number name file _ told reply why h = absurd h
 
 -- only a rejection about the file itself has a reply
 pub of_the_file : (number : ℕ) (file : List ℕ) (why : FileRefusal) (told : Told) (reply : List ℕ) → IsFileDenied number file why told reply → IsOfTheFile why
@@ -32,21 +33,21 @@ of_the_file number file turned.NoMemory told reply h = h
 of_the_file number file _ told reply h = tt
 
 -- loading a file: no node constructions, or at most the maximum for its length
-pub file_paid : (old : World) (name file bytes : List ℕ) (looks p q : ℕ) → IsWithin old.files file load_size bytes → IsLoadPaid old.files file p q → PaysFor old (form.LoadFile name file) (counters looks p) (counters looks q)
-file_paid old name file bytes looks p q there (inl same) = (record { looks = 0; pairs = load_limit (length bytes) }, inr (bytes, there, refl), record { looks = omega arith; pairs = omega (arith, same) })
-file_paid old name file bytes looks p q there (inr (all, within, paid)) = (record { looks = 0; pairs = load_limit (length all) }, inr (all, within, refl), record { looks = omega arith; pairs = omega (arith, paid) })
+pub file_paid : (m : Method) (old : World) (name file bytes : List ℕ) (looks p q : ℕ) → IsWithin old.files file load_size bytes → IsLoadPaid m old.files file p q → PaysFor old (file_command m name file) (counters looks p) (counters looks q)
+file_paid m old name file bytes looks p q there (inl same) = (record { looks = 0; pairs = limit_of m (length bytes) }, load_allowed m old name file _ (inr (bytes, there, refl)), record { looks = omega arith; pairs = omega (arith, same) })
+file_paid m old name file bytes looks p q there (inr (all, within, paid)) = (record { looks = 0; pairs = limit_of m (length all) }, load_allowed m old name file _ (inr (all, within, refl)), record { looks = omega arith; pairs = omega (arith, paid) })
 
-pub file_refused_paid : (old : World) (name file : List ℕ) (number : ℕ) (why : FileRefusal) (told : Told) (reply : List ℕ) (looks p q : ℕ) → IsTurnedAway old.files file load_size why → IsFileDenied number file why told reply → IsLoadPaid old.files file p q
-    → PaysFor old (form.LoadFile name file) (counters looks p) (counters looks q)
-file_refused_paid old name file number why told reply looks p q turned denied (inr (all, within, paid)) = (record { looks = 0; pairs = load_limit (length all) }, inr (all, within, refl), record { looks = omega arith; pairs = omega (arith, paid) })
-file_refused_paid old name file number turned.Absent told reply looks p q lacks denied (inl same) = (no_steps, inl (NoSuchFile file, inl (lacks, refl), refl), none_paid looks p q same)
-file_refused_paid old name file number turned.Denied told reply looks p q closed denied (inl same) = (no_steps, inl (CannotRead file, inr (inl (closed, refl)), refl), none_paid looks p q same)
-file_refused_paid old name file number turned.TooLong told reply looks p q long denied (inl same) = (no_steps, inl (FileTooLong file, inr (inr (long, refl)), refl), none_paid looks p q same)
-file_refused_paid old name file number _ told reply looks p q h denied (inl same) = absurd denied
+pub file_refused_paid : (m : Method) (old : World) (name file : List ℕ) (number : ℕ) (why : FileRefusal) (told : Told) (reply : List ℕ) (looks p q : ℕ) → IsTurnedAway old.files file load_size why → IsFileDenied number file why told reply → IsLoadPaid m old.files file p q
+    → PaysFor old (file_command m name file) (counters looks p) (counters looks q)
+file_refused_paid m old name file number why told reply looks p q turned denied (inr (all, within, paid)) = (record { looks = 0; pairs = limit_of m (length all) }, load_allowed m old name file _ (inr (all, within, refl)), record { looks = omega arith; pairs = omega (arith, paid) })
+file_refused_paid m old name file number turned.Absent told reply looks p q lacks denied (inl same) = (no_steps, load_allowed m old name file no_steps (inl (NoSuchFile file, inl (lacks, refl), refl)), none_paid looks p q same)
+file_refused_paid m old name file number turned.Denied told reply looks p q closed denied (inl same) = (no_steps, load_allowed m old name file no_steps (inl (CannotRead file, inr (inl (closed, refl)), refl)), none_paid looks p q same)
+file_refused_paid m old name file number turned.TooLong told reply looks p q long denied (inl same) = (no_steps, load_allowed m old name file no_steps (inl (FileTooLong file, inr (inr (long, refl)), refl)), none_paid looks p q same)
+file_refused_paid m old name file number _ told reply looks p q h denied (inl same) = absurd denied
 
-pub file_begun : (old : World) (name file : List ℕ) (looks p q : ℕ) → IsLoadPaid old.files file p q → PaysForPart old (form.LoadFile name file) (counters looks p) (counters looks q)
-file_begun old name file looks p q (inl same) = (no_steps, inl refl, none_paid looks p q same)
-file_begun old name file looks p q (inr (all, within, paid)) = (record { looks = 0; pairs = load_limit (length all) }, inr (inr (all, within, refl)), record { looks = omega arith; pairs = omega (arith, paid) })
+pub file_begun : (m : Method) (old : World) (name file : List ℕ) (looks p q : ℕ) → IsLoadPaid m old.files file p q → PaysForPart old (file_command m name file) (counters looks p) (counters looks q)
+file_begun m old name file looks p q (inl same) = (no_steps, inl refl, none_paid looks p q same)
+file_begun m old name file looks p q (inr (all, within, paid)) = (record { looks = 0; pairs = limit_of m (length all) }, inr (load_allowed m old name file _ (inr (all, within, refl))), record { looks = omega arith; pairs = omega (arith, paid) })
 
 -- the documents are those of an image
 pub open_carries : (st : State) (new : Documents) (number : ℕ) (file bytes : List ℕ) (o : Result Meaning ImageRefusal) (told : Told) (reply : List ℕ) (files : Option Files) → MeansFile files file bytes → (image bytes).answer ≡ o

@@ -1,3 +1,4 @@
+pub mod LoadingLemmas
 pub mod Names
 pub mod LinesLemmas
 pub mod Written

@@ -10,7 +10,6 @@ pub use Rattle.edit_expr.specs.Expressions.{ExprReads}
 pub use Rattle.edit_expr.specs.declared.expr.Expr.{Expr}
 pub use Rattle.list_all.specs.Page.{IsPageOf, Page}
 pub use Rattle.marker_dfa.specs.Deterministic.{DeterministicAutomaton, IsDeterministic}
-pub use Rattle.pair_loader.specs.Pending.{fed, IsLoader, pending_count}
 pub use Rattle.query_book.specs.Answers.{HasAnswer, HasList, HasVariablesOf, IfNamed, IsAnswer, IsListingOf, IsNamed, most_looks}
 pub use Rattle.query_book.specs.Book.{queries_of}
 pub use Rattle.query_book.specs.Combining.{HasPair, IsAccepted}
@@ -42,7 +41,7 @@ pub use Rattle.span_language.specs.Replies.{entry_text, names_text, no_text, ok_
 pub use Rattle.span_language.specs.Runs.{Adds, Anywhere, both, Ending, InFileLine, is_refused, IsFront, no_lines, Outside, outside, PlacesFew, Runs, RunsAll, RunsFront, start, Sum, UnlessList}
 pub use Rattle.span_language.specs.Scripts.{AsksForNoDemo, OfScript, script_of}
 pub use Rattle.span_language.specs.State.{Documents, is_same, Named, nothing, put, State, taken_out, value_of, with_documents, with_queries, with_versions, World, world}
-pub use Rattle.span_language.specs.Step.{AppendsFront, Carries, Does, Finishes, Halts, IsChosenOf, IsCombineRefusal, IsList, IsOfFile, IsOversized, IsPut, IsRefused, IsRegistered, IsReplacing, IsSaved, IsTextRefused, IsWithin, IsYesOrNo, Leaves, load_size, most_spans, open_size}
+pub use Rattle.span_language.specs.Step.{AppendsFront, Carries, Does, Finishes, Halts, IsChosenOf, IsCombineRefusal, IsList, IsOfFile, IsOversized, IsPut, IsRefused, IsRegistered, IsReplacing, IsSaved, IsTextRefused, IsWithin, IsYesOrNo, Leaves, load_size, LoadsFile, most_spans, open_size}
 pub use Rattle.span_language.specs.declared.told.Stop.{Stop}
 pub use Rattle.span_language.specs.declared.told.Told.{Told}
 pub use Rattle.span_language.specs.declared.told.Told.TheVariants.{Accepted, Quiet, Refused}
@@ -52,9 +51,11 @@ pub use Rattle.span_run.specs.Answers.{Answers, Goes, IsAnswering, IsWellFormed,
 pub use Rattle.span_run.specs.Asked.{IsAnswered}
 pub use Rattle.span_run.specs.Carried.{Done, HasNoFault, IsDone, IsStopped, Outlet, outlet, Passes, Stopped}
 pub use Rattle.span_run.specs.AllListing.{AreAnswered, AreShort, every_text, ListsEvery, rest_text}
+pub use Rattle.span_run.specs.declared.loading.Method.{Method}
 pub use Rattle.span_run.specs.Held.{AreKept, IsHeld, IsStanding, nodes_of, pairs_of, plain_versions, Standing, standing_of, state_of}
 pub use Rattle.span_run.specs.Judged.{IsJudged, IsReplied, IsReplyPaid, IsWordPaid, question_of}
 pub use Rattle.span_run.specs.Listing.{HasCursor, Lists, Tells}
+pub use Rattle.span_run.specs.Loading.{fed_to, file_command, IsFileLoader, IsWithinLimit, limit_of, method_of}
 pub use Rattle.span_run.specs.Reading.{IsFileFront, IsLoadPaid, IsOfTheFile, IsNextPiece, IsSound, IsTurnedAway, MeansFile}
 pub use Rattle.span_run.specs.Refusing.{IsRefusedFreely}
 pub use Rattle.span_run.specs.Registering.{command_of, IsMade, IsMadeIn, IsOutcome, IsUnmade}

@@ -1,7 +1,8 @@
 -- The pieces of a file, put together.
-use Rattle.span_run.proofs.Names.{[], AllowsReads, ap, arith, drop, Files, HasPiece, height_limit, Holds, IfSome, image, inr, IsFileFront, IsLoadPaid, IsNextPiece, IsOversized, IsWithin}
-use Rattle.span_run.proofs.Names.{length, length-append, length-drop, length-replicate, length-take, length-take-le, List, load_size, MeansFile, None, open_size, Option, refl}
+use Rattle.span_run.proofs.Names.{[], AllowsReads, ap, arith, drop, Files, HasPiece, Holds, IfSome, image, inr, IsFileFront, IsLoadPaid, IsNextPiece, IsOversized, IsWithin}
+use Rattle.span_run.proofs.Names.{length, length-append, length-drop, length-replicate, length-take, length-take-le, limit_of, List, load_size, MeansFile, Method, None, open_size, Option, refl}
 use Rattle.std.proofs.lemmas.List.{take-append-drop}
+use Rattle.span_run.proofs.LoadingLemmas.{limit_grows}
 use Rattle.span_run.proofs.Names.{replicate, same_Some, Some, subst, sym, take, take-add, take_all, ℕ, ◌*◌, ◌++◌, ◌+◌, ◌<◌, ◌∙◌, ◌∷◌, ◌≡◌, ◌≤◌}
 
 -- bytes after a position are bytes of the file
@@ -73,12 +74,7 @@ pub whole_means : (files : Option Files) (name bytes : List ℕ) → IsWithin fi
 whole_means files name bytes within = record { all = bytes; within = within; same = refl }
 
 -- the maximum cost of loading a prefix of a file
-pub front_paid : (files : Option Files) (name front : List ℕ) (before after : ℕ) → length front ≤ load_size → IsFileFront files name load_size front → after ≤ before + length front → IsLoadPaid files name before after
-front_paid files name front before after short so_far paid =
+pub front_paid : (m : Method) (files : Option Files) (name front : List ℕ) (before after : ℕ) → length front ≤ load_size → IsFileFront files name load_size front → after ≤ before + limit_of m (length front) → IsLoadPaid m files name before after
+front_paid m files name front before after short so_far paid =
     let within = front_within files name load_size front short so_far in
-    inr (within.0, within.1, omega (arith, within.2, paid))
-
--- and the whole file
-pub whole_paid : (files : Option Files) (name front : List ℕ) (before now after : ℕ) → IsWithin files name load_size front → now ≤ before + length front
-    → after ≤ now + 4 * (height_limit (length front) + 1) → IsLoadPaid files name before after
-whole_paid files name front before now after within paid last = inr (front, within, omega (arith, paid, last))
+    inr (within.0, within.1, omega (arith, limit_grows m (length front) (length within.0) within.2, paid))

@@ -1,3 +1,4 @@
+pub mod Loading
 pub mod Words
 pub mod Held
 pub mod Exit

@@ -6,7 +6,8 @@ use Rattle.edge_io.specs.declared.ShelfRefusal.{ShelfRefusal}
 use Rattle.edge_io.specs.declared.ShelfRefusal.TheVariants as shelf
 use Rattle.slp_image.specs.Image.{image}
 use Rattle.span_language.specs.Step.{IsOversized, IsWithin, load_size, open_size}
-use Rattle.span_language.specs.Allowance.{load_limit}
+use Rattle.span_run.specs.Loading.{limit_of}
+use Rattle.span_run.specs.declared.loading.Method.{Method}
 use Rattle.span_run.specs.declared.reading.FileRefusal.{FileRefusal}
 use Rattle.span_run.specs.declared.reading.FileRefusal.TheVariants.{Absent, Denied, TooLong, Failed, NoMemory}
 
@@ -65,5 +66,5 @@ IsNextPiece files name limit at piece = (front : List ℕ) → length front ≡ 
     → IsFileFront files name limit (front ++ piece) × (length piece ≡ 0 → IsWithin files name limit front)
 
 -- the node constructions of loading a file: none, or at most the maximum for its length
-abbrev pub IsLoadPaid : Option Files → List ℕ → ℕ → ℕ → Type 0
-IsLoadPaid files name before after = (after ≡ before) ⊎ ((bytes : List ℕ) × IsWithin files name load_size bytes × (after ≤ before + load_limit (length bytes)))
+abbrev pub IsLoadPaid : Method → Option Files → List ℕ → ℕ → ℕ → Type 0
+IsLoadPaid method files name before after = (after ≡ before) ⊎ ((bytes : List ℕ) × IsWithin files name load_size bytes × (after ≤ before + limit_of method (length bytes)))

@@ -11,6 +11,7 @@ use crate::context::Context;
 use crate::documents::{drop_document, let_document, show, text};
 use crate::files::{load_file, open_file, save_file};
 use crate::held::Held;
+use crate::loading::{Loading, Method};
 use crate::queries::{ask, unquery};
 use crate::registering::{Recipe, register};
 use crate::replacing::{Replacing, replace};
@@ -47,7 +48,14 @@ pub fn answer<R: Threads + Sync, F: Shelf, G: Gate, P: Ledger, T: Ledger, L: Led
     let number = context.number;
     match command {
         Command::Text { name, bytes } => text(held, number, name, bytes, pairs),
-        Command::LoadFile { name, file } => load_file(held, number, name, file, shelf, pairs),
+        Command::LoadFile { name, file } => {
+            let method = Method::Load;
+            load_file(held, number, Loading { name, file, method }, shelf, pairs)
+        }
+        Command::ShareFile { name, file } => {
+            let method = Method::Share;
+            load_file(held, number, Loading { name, file, method }, shelf, pairs)
+        }
         Command::LetDoc { name, expr } => let_document(held, number, name, expr, pairs),
         Command::DropDoc { name } => drop_document(held, number, name),
         Command::Show { name, from, to } => show(held, number, name, from, to),

@@ -11,6 +11,7 @@ ghost use Rattle.span_language.specs.Step.{IsWithin, load_size, open_size};
 ghost use Rattle.span_language.specs.declared.told.Told.TheVariants as told;
 ghost use Rattle.span_run.specs.Answers.{Answers, Stays};
 ghost use Rattle.span_run.specs.Held.{IsHeld};
+ghost use Rattle.span_run.specs.Loading.{file_command};
 ghost use Rattle.span_run.specs.Reading.{IsFileFront, IsLoadPaid, IsNextPiece, IsSound, IsTurnedAway, MeansFile};
 ghost use Rattle.span_run.specs.Shown.{IsFileDenied, Opens};
 ghost use Rattle.span_run.specs.CommandState.{at};
@@ -18,21 +19,21 @@ ghost use Rattle.span_run.specs.CommandState.{at};
 use crate::answer::Answer;
 use crate::documents::give;
 use crate::held::Held;
+use crate::loading::{Loading, Method, feed, finish, start};
 use crate::reading::{FileRefusal, check_size};
 use crate::refusing::refuse;
 use doc_book::Docs;
 use edge_io::{PutRefusal, Shelf};
 use node_store::Store;
-use pair_loader::Loader;
 use report_text::{Refusal, opened_line, saved_line};
 use slp_image::{ImageRefusal, begins_image, read, write};
 use slp_model::NodeId;
 use span_language::Stop;
-use span_types::{ByteList, Name, NoMemory, Steps};
+use span_types::{ByteList, NoMemory, Steps};
 use std::alloc::Global;
 use std::sync::ledger::Ledger;
 
-/// The maximum length of a file for `load`, in bytes.
+/// The maximum length of a file for `load` and `share`, in bytes.
 const MAX_LOAD: u64 = 1 << 32;
 
 /// The maximum length of an image for `open` and `save`, in bytes.
@@ -70,6 +71,7 @@ fn next_piece<F: Shelf>(
 /// Loads a file piece by piece, after its length was checked.
 fn load_pieces<F: Shelf, P: Ledger>(
     alloc: Global,
+    method: Method,
     store: &mut Store,
     name: &[u8],
     shelf: &mut F,
@@ -80,22 +82,22 @@ fn load_pieces<F: Shelf, P: Ledger>(
     ensures live { IfOk result (λ root. IsLive store.new root) }
     ensures ok { IfOk result (λ root. IsWithin (F.files shelf.old) name.now load_size (text_of store.new root)) }
     ensures refused { IfErr result (IsTurnedAway (F.files shelf.old) name.now load_size) }
-    ensures paid { IsLoadPaid (F.files shelf.old) name.now pairs.old pairs.new }
+    ensures paid { IsLoadPaid method (F.files shelf.old) name.now pairs.old pairs.new }
     ensures files { F.files shelf.new ≡ F.files shelf.old }
     ensures later { F.faults shelf.old ≤ F.faults shelf.new }
     ensures fault { IfErr result (λ why. why ≡ FileRefusal.Failed → Rose (F.faults shelf.old) (F.faults shelf.new)) }
     ensures sound { IsSound result (F.faults shelf.old) (F.faults shelf.new) }
 {
-    let mut loader = Loader::new(alloc)?;
+    let mut loader = start(alloc, method)?;
     let mut piece = [0u8; PIECE];
     let mut at = 0u64;
     loop {
         let count = next_piece(shelf, name, MAX_LOAD, at, &mut piece)?;
         if count == 0 {
-            let root = loader.finish(store, pairs)?;
+            let root = finish(loader, store, pairs)?;
             return Ok(root);
         }
-        loader.feed(store, &piece[..count], pairs)?;
+        feed(&mut loader, store, &piece[..count], pairs)?;
         at += count as u64;
     }
 }
@@ -103,6 +105,7 @@ fn load_pieces<F: Shelf, P: Ledger>(
 /// Loads a file of at most 2^32 bytes.
 fn load_from<F: Shelf, P: Ledger>(
     alloc: Global,
+    method: Method,
     store: &mut Store,
     name: &[u8],
     shelf: &mut F,
@@ -112,14 +115,14 @@ fn load_from<F: Shelf, P: Ledger>(
     ensures live { IfOk result (λ root. IsLive store.new root) }
     ensures ok { IfOk result (λ root. IsWithin (F.files shelf.old) name.now load_size (text_of store.new root)) }
     ensures refused { IfErr result (IsTurnedAway (F.files shelf.old) name.now load_size) }
-    ensures paid { IsLoadPaid (F.files shelf.old) name.now pairs.old pairs.new }
+    ensures paid { IsLoadPaid method (F.files shelf.old) name.now pairs.old pairs.new }
     ensures files { F.files shelf.new ≡ F.files shelf.old }
     ensures later { F.faults shelf.old ≤ F.faults shelf.new }
     ensures fault { IfErr result (λ why. why ≡ FileRefusal.Failed → Rose (F.faults shelf.old) (F.faults shelf.new)) }
     ensures sound { IsSound result (F.faults shelf.old) (F.faults shelf.new) }
 {
     check_size(shelf, name, MAX_LOAD)?;
-    let root = load_pieces(alloc, store, name, shelf, pairs)?;
+    let root = load_pieces(alloc, method, store, name, shelf, pairs)?;
     Ok(root)
 }
 
@@ -140,24 +143,24 @@ fn turned_away(alloc: Global, number: u64, file: ByteList, why: FileRefusal) -> 
     Ok(answer)
 }
 
-/// `load NAME FILE`
+/// `load NAME FILE` and `share NAME FILE`
 pub fn load_file<F: Shelf, P: Ledger>(
     held: &mut Held,
     number: u64,
-    name: Name,
-    file: ByteList,
+    loading: Loading,
     shelf: &mut F,
     pairs: &mut Steps<P>,
 ) -> Result<Answer, Stop>
     requires { IsHeld held.old }
     ensures done { (looks places : ℕ) → IfOk result
-        (Answers (at held.old (F.files shelf.old) (F.faults shelf.old) looks pairs.old places) number (form.LoadFile name file)
+        (Answers (at held.old (F.files shelf.old) (F.faults shelf.old) looks pairs.old places) number (file_command loading.method loading.name loading.file)
         (at held.new (F.files shelf.new) (F.faults shelf.new) looks pairs.new places)) }
     ensures stopped { (looks places : ℕ) → IfErr result
-        (Stays (at held.old (F.files shelf.old) (F.faults shelf.old) looks pairs.old places) number (form.LoadFile name file)
+        (Stays (at held.old (F.files shelf.old) (F.faults shelf.old) looks pairs.old places) number (file_command loading.method loading.name loading.file)
         (at held.new (F.files shelf.new) (F.faults shelf.new) looks pairs.new places)) }
 {
-    match load_from(held.alloc, &mut held.store, file.bytes(), shelf, pairs) {
+    let Loading { name, file, method } = loading;
+    match load_from(held.alloc, method, &mut held.store, file.bytes(), shelf, pairs) {
         Ok(root) => {
             let answer = give(held.alloc, &held.store, &mut held.docs, number, name, root)?;
             Ok(answer)

@@ -37,6 +37,7 @@ mod files;
 mod held;
 mod lines;
 mod listing;
+mod loading;
 mod offer;
 mod queries;
 mod reading;

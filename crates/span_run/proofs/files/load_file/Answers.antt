@@ -1,8 +1,7 @@
-use Rattle.span_run.proofs.Names.{ap, AreLive-grows, Assigns, IfOk-weaker, IsLoadPaid, IsTurnedAway, IsWithin, List, load_size, Ok, plain, plain-grows, refl}
+use Rattle.span_run.proofs.Names.{ap, AreLive-grows, Assigns, file_command, IfOk-weaker, IsLoadPaid, IsTurnedAway, IsWithin, List, load_size, Ok, plain, plain-grows, refl}
 use Rattle.span_run.proofs.Names.{state_of, subst, text_of, world, ℕ, ◌∙◌}
-use Rattle.script_syntax.specs.declared.form.Command.TheVariants as form
 use Rattle.span_run.proofs.Facts.{assigned_after, file_begun, file_paid, file_refused_paid, grown_answers, grown_same, grown_stays, grown_stops, if_err_both, of_the_file}
-use Rattle.span_run.proofs.Facts.{load_carries, load_denied, passed_on}
+use Rattle.span_run.proofs.Facts.{load_carries, load_denied, load_kinds, passed_on}
 use Rattle.span_run.proofs.files.load_file.Goals as goal
 
 pub give-requires-clause-live : goal.give-requires-clause-live
@@ -14,11 +13,11 @@ returns-in_err-answer-in-Ok-clause-stopped g c = λ looks places.
     let l = c.load_from in
     let f = g.F.Shelf in
     let files = f.files c.args.shelf.now in
-    let paid : IsLoadPaid files c.args.file c.args.pairs.now l.new.pairs = subst (λ (n : List ℕ). IsLoadPaid files n c.args.pairs.now l.new.pairs) c.bytes.ensures l.ensures.paid in
+    let paid : IsLoadPaid c.args.loading.method files c.args.loading.file c.args.pairs.now l.new.pairs = subst (λ (n : List ℕ). IsLoadPaid c.args.loading.method files n c.args.pairs.now l.new.pairs) c.bytes.ensures l.ensures.paid in
     passed_on c.from_residual.result _ c.from_residual.ensures.1
-    (grown_stops h l.new.store c.give.new.docs c.args.number (form.LoadFile c.args.name c.args.file) files (f.files l.new.shelf) (f.faults c.args.shelf.now) (f.faults l.new.shelf) looks c.args.pairs.now l.new.pairs places c.requires l.ensures.grows c.give.ensures.live
+    (grown_stops h l.new.store c.give.new.docs c.args.number (file_command c.args.loading.method c.args.loading.name c.args.loading.file) files (f.files l.new.shelf) (f.faults c.args.shelf.now) (f.faults l.new.shelf) looks c.args.pairs.now l.new.pairs places c.requires l.ensures.grows c.give.ensures.live
     (ap (plain l.new.store) c.in_err-answer-in-Ok.ensures.err ∙ plain-grows h.store l.new.store c.args.pairs.now l.new.pairs l.ensures.grows h.docs c.requires.live)
-    (file_begun (world (state_of h) files) c.args.name c.args.file looks c.args.pairs.now l.new.pairs paid) l.ensures.files l.ensures.later)
+    (file_begun c.args.loading.method (world (state_of h) files) c.args.loading.name c.args.loading.file looks c.args.pairs.now l.new.pairs paid) l.ensures.files l.ensures.later)
 
 pub returns-in_ok-answer-in-Ok-clause-done : goal.returns-in_ok-answer-in-Ok-clause-done
 returns-in_ok-answer-in-Ok-clause-done g c = λ looks places.
@@ -30,14 +29,15 @@ returns-in_ok-answer-in-Ok-clause-done g c = λ looks places.
     let new = plain l.new.store c.give.new.docs in
     let text = text_of l.new.store c.in-Ok.root in
     let a = c.in_ok-answer-in-Ok in
-    let there : IsWithin files c.args.file load_size text = subst (λ (n : List ℕ). IsWithin files n load_size text) c.bytes.ensures c.in-Ok.ensures.ok in
-    let paid : IsLoadPaid files c.args.file c.args.pairs.now l.new.pairs = subst (λ (n : List ℕ). IsLoadPaid files n c.args.pairs.now l.new.pairs) c.bytes.ensures l.ensures.paid in
-    let assigned : Assigns old c.args.number c.args.name (Ok text) a.answer.told a.answer.line.items new =
-    assigned_after old (plain l.new.store h.docs) new c.args.number c.args.name text text a.answer.told a.answer.line.items
+    let kinds = load_kinds c.args.loading.method c.args.loading.name c.args.loading.file in
+    let there : IsWithin files c.args.loading.file load_size text = subst (λ (n : List ℕ). IsWithin files n load_size text) c.bytes.ensures c.in-Ok.ensures.ok in
+    let paid : IsLoadPaid c.args.loading.method files c.args.loading.file c.args.pairs.now l.new.pairs = subst (λ (n : List ℕ). IsLoadPaid c.args.loading.method files n c.args.pairs.now l.new.pairs) c.bytes.ensures l.ensures.paid in
+    let assigned : Assigns old c.args.number c.args.loading.name (Ok text) a.answer.told a.answer.line.items new =
+    assigned_after old (plain l.new.store h.docs) new c.args.number c.args.loading.name text text a.answer.told a.answer.line.items
     (plain-grows h.store l.new.store c.args.pairs.now l.new.pairs l.ensures.grows h.docs c.requires.live) refl a.ensures.ok in
-    grown_answers h l.new.store c.give.new.docs c.args.number (form.LoadFile c.args.name c.args.file) a.answer files (f.files l.new.shelf) (f.faults c.args.shelf.now) (f.faults l.new.shelf) looks c.args.pairs.now l.new.pairs places c.requires l.ensures.grows c.give.ensures.live (λ no. no) (λ no. no)
-    (file_paid (world (state_of h) files) c.args.name c.args.file text looks c.args.pairs.now l.new.pairs there paid) l.ensures.files c.in-Ok.ensures.sound
-    (load_carries (state_of h) new c.args.number c.args.name c.args.file text a.answer.told a.answer.line.items files there assigned)
+    grown_answers h l.new.store c.give.new.docs c.args.number (file_command c.args.loading.method c.args.loading.name c.args.loading.file) a.answer files (f.files l.new.shelf) (f.faults c.args.shelf.now) (f.faults l.new.shelf) looks c.args.pairs.now l.new.pairs places c.requires l.ensures.grows c.give.ensures.live kinds.1 kinds.2
+    (file_paid c.args.loading.method (world (state_of h) files) c.args.loading.name c.args.loading.file text looks c.args.pairs.now l.new.pairs there paid) l.ensures.files c.in-Ok.ensures.sound
+    (load_carries c.args.loading.method (state_of h) new c.args.number c.args.loading.name c.args.loading.file text a.answer.told a.answer.line.items files there assigned)
 
 pub returns-in-Err : goal.returns-in-Err
 returns-in-Err g c =
@@ -45,16 +45,17 @@ returns-in-Err g c =
     let l = c.load_from in
     let f = g.F.Shelf in
     let files = f.files c.args.shelf.now in
-    let command = form.LoadFile c.args.name c.args.file in
+    let command = file_command c.args.loading.method c.args.loading.name c.args.loading.file in
     let w = world (state_of h) files in
-    let turned : IsTurnedAway files c.args.file load_size c.in-Err.why = subst (λ (n : List ℕ). IsTurnedAway files n load_size c.in-Err.why) c.bytes.ensures c.in-Err.ensures.refused in
-    let paid : IsLoadPaid files c.args.file c.args.pairs.now l.new.pairs = subst (λ (n : List ℕ). IsLoadPaid files n c.args.pairs.now l.new.pairs) c.bytes.ensures l.ensures.paid in
+    let kinds = load_kinds c.args.loading.method c.args.loading.name c.args.loading.file in
+    let turned : IsTurnedAway files c.args.loading.file load_size c.in-Err.why = subst (λ (n : List ℕ). IsTurnedAway files n load_size c.in-Err.why) c.bytes.ensures c.in-Err.ensures.refused in
+    let paid : IsLoadPaid c.args.loading.method files c.args.loading.file c.args.pairs.now l.new.pairs = subst (λ (n : List ℕ). IsLoadPaid c.args.loading.method files n c.args.pairs.now l.new.pairs) c.bytes.ensures l.ensures.paid in
     record {
-      done = λ looks places. IfOk-weaker c.turned_away.result _ _ (λ answer denied. grown_same h l.new.store c.args.number command answer files (f.files l.new.shelf) (f.faults c.args.shelf.now) (f.faults l.new.shelf) looks c.args.pairs.now l.new.pairs places c.requires l.ensures.grows (λ no. no) (λ no. no)
-          (file_refused_paid w c.args.name c.args.file c.args.number c.in-Err.why answer.told answer.line.items looks c.args.pairs.now l.new.pairs turned denied paid) l.ensures.files (c.in-Err.ensures.sound (of_the_file c.args.number c.args.file c.in-Err.why answer.told answer.line.items denied))
-          (load_denied w c.args.number c.args.name c.args.file c.in-Err.why answer.told answer.line.items turned denied)) c.turned_away.ensures.ok;
+      done = λ looks places. IfOk-weaker c.turned_away.result _ _ (λ answer denied. grown_same h l.new.store c.args.number command answer files (f.files l.new.shelf) (f.faults c.args.shelf.now) (f.faults l.new.shelf) looks c.args.pairs.now l.new.pairs places c.requires l.ensures.grows kinds.1 kinds.2
+          (file_refused_paid c.args.loading.method w c.args.loading.name c.args.loading.file c.args.number c.in-Err.why answer.told answer.line.items looks c.args.pairs.now l.new.pairs turned denied paid) l.ensures.files (c.in-Err.ensures.sound (of_the_file c.args.number c.args.loading.file c.in-Err.why answer.told answer.line.items denied))
+          (load_denied c.args.loading.method w c.args.number c.args.loading.name c.args.loading.file c.in-Err.why answer.told answer.line.items turned denied)) c.turned_away.ensures.ok;
       stopped = λ looks places. if_err_both c.turned_away.result _ _ _ (λ why fault sink. grown_stays h l.new.store h.docs c.args.number command files (f.files l.new.shelf) (f.faults c.args.shelf.now) (f.faults l.new.shelf) looks c.args.pairs.now l.new.pairs places why c.requires l.ensures.grows
           (AreLive-grows h.store l.new.store c.args.pairs.now l.new.pairs l.ensures.grows h.docs c.requires.live)
           (plain-grows h.store l.new.store c.args.pairs.now l.new.pairs l.ensures.grows h.docs c.requires.live)
-          (file_begun w c.args.name c.args.file looks c.args.pairs.now l.new.pairs paid) l.ensures.files l.ensures.later (λ is. (tt, c.in-Err.ensures.fault (fault is))) sink) c.turned_away.ensures.fault c.turned_away.ensures.out_fault;
+          (file_begun c.args.loading.method w c.args.loading.name c.args.loading.file looks c.args.pairs.now l.new.pairs paid) l.ensures.files l.ensures.later (λ is. (kinds.0, c.in-Err.ensures.fault (fault is))) sink) c.turned_away.ensures.fault c.turned_away.ensures.out_fault;
     }

@@ -1,7 +1,6 @@
-use Rattle.span_run.proofs.Names.{ap, arith, fed, Files, Grows-none, Grows-trans, IsFileFront, IsNextPiece, IsWithin, length, length-append, length-take-le}
-use Rattle.span_run.proofs.Names.{load_size, Option, refl, root_text, rules, shape-text, subst, sym, take, text_of, ◌++◌, ◌+◌, ◌∙◌, ◌≡◌}
-use Rattle.pair_loader.proofs.BlockLemmas.{new-loader}
-use Rattle.span_run.proofs.Facts.{front_paid, whole_paid}
+use Rattle.span_run.proofs.Names.{ap, arith, fed_to, Files, Grows-none, Grows-trans, inr, IsFileFront, IsLoadPaid, IsNextPiece, IsWithin, length, length-append}
+use Rattle.span_run.proofs.Names.{length-take-le, limit_of, load_size, Method, method_of, Option, refl, rules, subst, sym, take, ℕ, ◌++◌, ◌+◌, ◌∙◌, ◌≡◌, ◌≤◌}
+use Rattle.span_run.proofs.Facts.{front_paid, within_limit}
 use Rattle.span_run.proofs.files.load_pieces.Goals as goal
 
 pub returns-in_err-loader-clause-grows : goal.returns-in_err-loader-clause-grows
@@ -9,14 +8,16 @@ returns-in_err-loader-clause-grows g c = Grows-none c.args.store.now c.args.pair
 
 pub loop-loader-init : goal.loop-loader-init
 loop-loader-init g c =
-    let fresh = new-loader c.args.store.now c.in_ok-loader.loader c.in_ok-loader.ensures in
+    let fresh = c.in_ok-loader.ensures in
+    let none = fresh.none c.args.store.now in
     record {
-      used = fresh.0;
-      at = ap length (sym fresh.1);
+      used = fresh.used c.args.store.now;
+      method = fresh.method_is;
+      at = ap length (sym none);
       within = omega arith;
-      front = subst (IsFileFront (g.F.Shelf.files c.args.shelf.now) c.args.name.now load_size) (sym fresh.1) c.requires;
+      front = subst (IsFileFront (g.F.Shelf.files c.args.shelf.now) c.args.name.now load_size) (sym none) c.requires;
       grows = Grows-none c.args.store.now c.args.pairs.now c.args.pairs.now (omega arith);
-      cost = omega (arith, fresh.2);
+      cost = fresh.free c.args.store.now c.args.pairs.now;
       files = refl;
       sound = refl;
     }
@@ -24,7 +25,10 @@ loop-loader-init g c =
 pub returns-in_err-count-clause-paid : goal.returns-in_err-count-clause-paid
 returns-in_err-count-clause-paid g c =
     let i = c.loop-loader.invariant in
-    front_paid (g.F.Shelf.files c.args.shelf.now) c.args.name.now (fed c.loop-loader.store c.loop-loader.loader) c.args.pairs.now c.loop-loader.pairs (omega (arith, i.at, i.within)) i.front (omega (arith, i.cost))
+    let files = g.F.Shelf.files c.args.shelf.now in
+    subst (λ (m : Method). IsLoadPaid m files c.args.name.now c.args.pairs.now c.loop-loader.pairs) i.method
+    (front_paid (method_of c.loop-loader.loader) files c.args.name.now (fed_to c.loop-loader.store c.loop-loader.loader) c.args.pairs.now c.loop-loader.pairs (omega (arith, i.at, i.within)) i.front
+    (within_limit c.loop-loader.store c.loop-loader.loader c.args.pairs.now c.loop-loader.pairs i.cost))
 
 pub returns-in_err-root-clause-grows : goal.returns-in_err-root-clause-grows
 returns-in_err-root-clause-grows g c = Grows-trans _ _ _ _ _ _ c.loop-loader.invariant.grows c.finish.ensures.grows
@@ -32,24 +36,25 @@ returns-in_err-root-clause-grows g c = Grows-trans _ _ _ _ _ _ c.loop-loader.inv
 pub returns-in_err-root-clause-paid : goal.returns-in_err-root-clause-paid
 returns-in_err-root-clause-paid g c =
     let i = c.loop-loader.invariant in
-    let front = fed c.loop-loader.store c.loop-loader.loader in
+    let front = fed_to c.loop-loader.store c.loop-loader.loader in
     let next = subst (λ (files : Option Files). IsNextPiece files c.args.name.now load_size c.loop-loader.at (take c.in_ok-count.count c.next_piece.new.piece)) i.files c.in_ok-count.ensures.next in
-    whole_paid (g.F.Shelf.files c.args.shelf.now) c.args.name.now front c.args.pairs.now c.loop-loader.pairs c.finish.new.pairs ((next front (sym i.at) i.front).1 (length-take-le _ _ c.in_ok-count.ensures.count.0 ∙ c.if-count-eq0.true)) (omega (arith, i.cost)) c.finish.ensures.cost
+    let files = g.F.Shelf.files c.args.shelf.now in
+    let within = (next front (sym i.at) i.front).1 (length-take-le _ _ c.in_ok-count.ensures.count.0 ∙ c.if-count-eq0.true) in
+    subst (λ (m : Method). IsLoadPaid m files c.args.name.now c.args.pairs.now c.finish.new.pairs) i.method (inr (front, within, c.finish.ensures.cost c.args.pairs.now i.cost))
 
 pub returns-then-count-eq0 : goal.returns-then-count-eq0
 returns-then-count-eq0 g c =
     let i = c.loop-loader.invariant in
     let files = g.F.Shelf.files c.args.shelf.now in
-    let front = fed c.loop-loader.store c.loop-loader.loader in
+    let front = fed_to c.loop-loader.store c.loop-loader.loader in
     let next = subst (λ (files : Option Files). IsNextPiece files c.args.name.now load_size c.loop-loader.at (take c.in_ok-count.count c.next_piece.new.piece)) i.files c.in_ok-count.ensures.next in
     let within = (next front (sym i.at) i.front).1 (length-take-le _ _ c.in_ok-count.ensures.count.0 ∙ c.if-count-eq0.true) in
-    let is : text_of c.finish.new.store c.in_ok-root.root ≡ front = ap root_text c.in_ok-root.ensures.tree ∙ shape-text front in
     record {
       grows = Grows-trans _ _ _ _ _ _ i.grows c.finish.ensures.grows;
       live = search rules;
-      ok = subst (IsWithin files c.args.name.now load_size) (sym is) within;
+      ok = subst (IsWithin files c.args.name.now load_size) (sym c.in_ok-root.ensures.text) within;
       refused = tt;
-      paid = whole_paid files c.args.name.now front c.args.pairs.now c.loop-loader.pairs c.finish.new.pairs within (omega (arith, i.cost)) c.finish.ensures.cost;
+      paid = subst (λ (m : Method). IsLoadPaid m files c.args.name.now c.args.pairs.now c.finish.new.pairs) i.method (inr (front, within, c.finish.ensures.cost c.args.pairs.now i.cost));
       files = c.next_piece.ensures.files ∙ i.files;
       later = omega (arith, i.sound, c.in_ok-count.ensures.sound);
       fault = tt;
@@ -62,28 +67,33 @@ returns-in_err-feed-clause-grows g c = Grows-trans _ _ _ _ _ _ c.loop-loader.inv
 pub returns-in_err-feed-clause-paid : goal.returns-in_err-feed-clause-paid
 returns-in_err-feed-clause-paid g c =
     let i = c.loop-loader.invariant in
-    let front = fed c.loop-loader.store c.loop-loader.loader in
+    let front = fed_to c.loop-loader.store c.loop-loader.loader in
     let piece = take c.in_ok-count.count c.next_piece.new.piece in
     let next = subst (λ (files : Option Files). IsNextPiece files c.args.name.now load_size c.loop-loader.at (take c.in_ok-count.count c.next_piece.new.piece)) i.files c.in_ok-count.ensures.next in
     let size = length-append front piece ∙ ap (λ n. length front + n) (length-take-le c.in_ok-count.count c.next_piece.new.piece c.in_ok-count.ensures.count.0) in
-    front_paid (g.F.Shelf.files c.args.shelf.now) c.args.name.now (front ++ piece) c.args.pairs.now c.feed.new.pairs (omega (arith, size, i.at, c.in_ok-count.ensures.count.1)) (next front (sym i.at) i.front).0
-    (omega (arith, length-append front piece, i.cost, c.feed.ensures.cost))
+    let files = g.F.Shelf.files c.args.shelf.now in
+    let before = c.args.pairs.now in
+    let m = method_of c.loop-loader.loader in
+    let most = subst (λ (n : ℕ). c.feed.new.pairs ≤ before + limit_of m n) (sym (length-append front piece)) (c.feed.ensures.most before i.cost) in
+    subst (λ (k : Method). IsLoadPaid k files c.args.name.now before c.feed.new.pairs) i.method
+    (front_paid m files c.args.name.now (front ++ piece) before c.feed.new.pairs (omega (arith, size, i.at, c.in_ok-count.ensures.count.1)) (next front (sym i.at) i.front).0 most)
 
 pub loop-loader-preserved : goal.loop-loader-preserved
 loop-loader-preserved g c =
     let i = c.loop-loader.invariant in
-    let front = fed c.loop-loader.store c.loop-loader.loader in
+    let front = fed_to c.loop-loader.store c.loop-loader.loader in
     let piece = take c.in_ok-count.count c.next_piece.new.piece in
     let next = subst (λ (files : Option Files). IsNextPiece files c.args.name.now load_size c.loop-loader.at (take c.in_ok-count.count c.next_piece.new.piece)) i.files c.in_ok-count.ensures.next in
     let taken = length-take-le c.in_ok-count.count c.next_piece.new.piece c.in_ok-count.ensures.count.0 in
-    let all : fed c.feed.new.store c.feed.new.self ≡ front ++ piece = c.in_ok-feed.ensures.fed in
+    let all : fed_to c.feed.new.store c.feed.new.loader ≡ front ++ piece = c.in_ok-feed.ensures.fed in
     record {
-      used = c.feed.ensures.used;
+      used = c.in_ok-feed.ensures.used;
+      method = c.in_ok-feed.ensures.method ∙ i.method;
       at = omega (arith, ap length all, length-append front piece, taken, i.at);
       within = omega (arith, c.in_ok-count.ensures.count.1);
       front = subst (IsFileFront (g.F.Shelf.files c.args.shelf.now) c.args.name.now load_size) (sym all) (next front (sym i.at) i.front).0;
       grows = Grows-trans _ _ _ _ _ _ i.grows c.feed.ensures.grows;
-      cost = omega (arith, ap length all, length-append front piece, i.cost, c.feed.ensures.cost);
+      cost = c.in_ok-feed.ensures.cost c.args.pairs.now i.cost;
       files = c.next_piece.ensures.files ∙ i.files;
       sound = c.in_ok-count.ensures.sound ∙ i.sound;
     }
