@@ -160,7 +160,14 @@ pub fn load_file<F: Shelf, P: Ledger>(
         (at held.new (F.files shelf.new) (F.faults shelf.new) looks pairs.new places)) }
 {
     let Loading { name, file, method } = loading;
-    match load_from(held.alloc, method, &mut held.store, file.bytes(), shelf, pairs) {
+    match load_from(
+        held.alloc,
+        method,
+        &mut held.store,
+        file.bytes(),
+        shelf,
+        pairs,
+    ) {
         Ok(root) => {
             let answer = give(held.alloc, &held.store, &mut held.docs, number, name, root)?;
             Ok(answer)

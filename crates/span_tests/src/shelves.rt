@@ -79,11 +79,18 @@ type Row = (
     Status,
 );
 
-const ROWS: [Row; 4] = [
+const ROWS: [Row; 5] = [
     (
         "f",
         b"\x22\x5c\x0a\xff",
         "load d f\nload d nofile\n",
+        "ok d 4 \"\\\"\\\\\\x0a\\xff\"\nline 2: NoSuchFile nofile\n",
+        Status::SomeRefused,
+    ),
+    (
+        "f",
+        b"\x22\x5c\x0a\xff",
+        "share d f\nshare e nofile\n",
         "ok d 4 \"\\\"\\\\\\x0a\\xff\"\nline 2: NoSuchFile nofile\n",
         Status::SomeRefused,
     ),
@@ -219,7 +226,7 @@ struct Faulted {
 
 /// The byte after the limit of a file is read first, then each byte, and last its end. A file is written by one call.
 const FAULTED: [Faulted; 3] = [
-    // Each command on files once, and questions after them.
+    // `load`, `save` and `open` once, and questions after them.
     Faulted {
         name: "f",
         bytes: b"abab",
@@ -234,7 +241,7 @@ const FAULTED: [Faulted; 3] = [
             (89, 89, 52, 79),
         ],
     },
-    // Each command on files except `load`, and listings.
+    // `save` and `open`, and listings.
     Faulted {
         name: "g",
         bytes: b"",
@@ -248,15 +255,16 @@ const FAULTED: [Faulted; 3] = [
     Faulted {
         name: "h",
         bytes: b"abab",
-        script: "text d abab\ntext w X\nquery q .*$x{ab}.*\nquery p $x{a}.*\nunion u q p\njoin j q p\nproject m u ()\ntest m d\nhas q d x=[1,3)\nlist u d limit 2\nlistall m limit 1\nreplace e q d w\nmark v\nlet d = concat(d,e)\nshow d 1 3\nnames\nsave f\nopen f\nload g h\nback v\ndrop w\nunmark v\nunquery j\ncompact\nnames\n",
-        output: "ok d 4 \"abab\"\nok w 1 \"X\"\nok q x\nok p x\nok u x\nok j x\nok m\nyes\nyes\nx=[1,2)\nx=[1,3)\nmore\ndoc d\n()\nend\ndoc w\nend\ndone\nok e 2 \"XX\"\nok\nok d 6 \"ababXX\"\n\"ab\"\nd 6\nw 1\ne 2\nend\nok 3 7\nok 3\nok g 4 \"abab\"\nok\nok\nok\nok\nok\nd 4\ne 2\nend\n",
-        reads: 286,
-        writes: 221,
+        script: "text d abab\ntext w X\nquery q .*$x{ab}.*\nquery p $x{a}.*\nunion u q p\njoin j q p\nproject m u ()\ntest m d\nhas q d x=[1,3)\nlist u d limit 2\nlistall m limit 1\nreplace e q d w\nmark v\nlet d = concat(d,e)\nshow d 1 3\nnames\nsave f\nopen f\nload g h\nshare s h\nback v\ndrop w\nunmark v\nunquery j\ncompact\nnames\n",
+        output: "ok d 4 \"abab\"\nok w 1 \"X\"\nok q x\nok p x\nok u x\nok j x\nok m\nyes\nyes\nx=[1,2)\nx=[1,3)\nmore\ndoc d\n()\nend\ndoc w\nend\ndone\nok e 2 \"XX\"\nok\nok d 6 \"ababXX\"\n\"ab\"\nd 6\nw 1\ne 2\nend\nok 3 7\nok 3\nok g 4 \"abab\"\nok s 4 \"abab\"\nok\nok\nok\nok\nok\nd 4\ne 2\nend\n",
+        reads: 296,
+        writes: 235,
         calls: &[
             (1, 1, 167, 0),
             (2, 128, 174, 125),
             (129, 134, 179, 125),
-            (135, 135, 220, 125),
+            (135, 140, 193, 125),
+            (141, 141, 234, 125),
         ],
     },
 ];
@@ -340,11 +348,11 @@ fn each_call_of_a_shelf_fails(rt: HostRuntime) -> Result<(), Fail> {
 
 /// A script over a file store in which `closed` can't be read and `shut` can't be written.
 const CLOSED: &str =
-    "load d closed\nopen closed\ntext d a\nsave shut\nsave open\nload e missing\nnames\n";
+    "load d closed\nshare d closed\nopen closed\ntext d a\nsave shut\nsave open\nload e missing\nnames\n";
 
 const CLOSED_OUTPUT: &str =
-    "line 1: CannotRead closed\nline 2: CannotRead closed\nok d 1 \"a\"\nline 4: CannotWrite shut\nok 1 1\n\
-    line 6: NoSuchFile missing\nd 1\nend\n";
+    "line 1: CannotRead closed\nline 2: CannotRead closed\nline 3: CannotRead closed\nok d 1 \"a\"\n\
+    line 5: CannotWrite shut\nok 1 1\nline 7: NoSuchFile missing\nd 1\nend\n";
 
 #[test]
 fn names_that_are_closed(rt: HostRuntime) -> Result<(), Fail> {
@@ -391,6 +399,7 @@ fn nothing_is_saved_after_output_that_failed(rt: HostRuntime) -> Result<(), Fail
         "list q d\nsave f\n",
         "names\nsave f\n",
         "load d g\nsave f\n",
+        "share d g\nsave f\n",
         "load d g)\nsave f\n",
     ] {
         let (status, saved) = ran_kept_back(&rt, alloc, script)?;

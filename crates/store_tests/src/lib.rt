@@ -33,4 +33,6 @@ mod ranges;
 #[cfg(test)]
 mod roots;
 #[cfg(test)]
+mod shares;
+#[cfg(test)]
 mod tried;

@@ -4,7 +4,7 @@ use Rattle.span_run.proofs.files.load_pieces.Given as goal
 abbrev pub invariant-loop-loader : goal.invariant-loop-loader
 invariant-loop-loader g l = record {
   used : IsFileLoader l.store l.loader;
-  method : method_of l.loader ≡ l.method;
+  method : method_of l.loader ≡ l.fn.method;
   at : l.at ≡ length (fed_to l.store l.loader);
   within : l.at ≤ load_size;
   front : IsFileFront (g.F.Shelf.files l.fn.shelf) l.name load_size (fed_to l.store l.loader);
