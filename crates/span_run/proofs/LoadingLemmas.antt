@@ -1,6 +1,6 @@
 -- The two ways of making a tree of a file's bytes.
-use Rattle.span_run.proofs.Names.{ap, arith, Does, fed_to, file_command, IsAllowed, IsFileLoader, IsOfFile, IsRefused, IsWithinLimit, length, limit_of, List, LoadsFile}
-use Rattle.span_run.proofs.Names.{Method, method_of, Node, None, Option, refl, Refusal, Some, World, ℕ, ◌+◌, ◌≡◌, ◌≤◌}
+use Rattle.span_run.proofs.Names.{arith, Does, fed_to, file_command, IsAllowed, IsOfFile, IsRefused, IsWithinLimit, length, limit_of, List, LoadsFile}
+use Rattle.span_run.proofs.Names.{Method, method_of, Node, None, Option, refl, Refusal, Some, World, ℕ, ◌+◌, ◌≤◌}
 use Rattle.share_loader.proofs.CostLemmas.{all-grows, limit-grows}
 use Rattle.share_loader.proofs.SharerLemmas.{all_cost-is, kept-within}
 use Rattle.share_loader.specs.Blocks.{all_cost}

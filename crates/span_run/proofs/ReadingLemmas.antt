@@ -3,7 +3,7 @@ use Rattle.span_run.proofs.Names.{[], AllowsReads, ap, arith, drop, Files, HasPi
 use Rattle.span_run.proofs.Names.{length, length-append, length-drop, length-replicate, length-take, length-take-le, limit_of, List, load_size, MeansFile, Method, None, open_size, Option, refl}
 use Rattle.std.proofs.lemmas.List.{take-append-drop}
 use Rattle.span_run.proofs.LoadingLemmas.{limit_grows}
-use Rattle.span_run.proofs.Names.{replicate, same_Some, Some, subst, sym, take, take-add, take_all, ℕ, ◌*◌, ◌++◌, ◌+◌, ◌<◌, ◌∙◌, ◌∷◌, ◌≡◌, ◌≤◌}
+use Rattle.span_run.proofs.Names.{replicate, same_Some, Some, subst, sym, take, take-add, take_all, ℕ, ◌++◌, ◌+◌, ◌<◌, ◌∙◌, ◌∷◌, ◌≡◌, ◌≤◌}
 
 -- bytes after a position are bytes of the file
 bytes_behind : (files : Option Files) (name : List ℕ) (from count : ℕ) (into : List ℕ) → 0 < count → count ≤ length into

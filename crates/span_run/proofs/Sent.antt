@@ -1,7 +1,7 @@
 -- A line whose reply was written, and then flushed.
 use Rattle.span_run.proofs.Names.{Appends, Appends-kept, AppendsFront, arith, Carried, Carries, Command, Done, Ends, Err, HasNoFault, IfErr, IfOk, inl, inr, IsDone}
-use Rattle.span_run.proofs.Names.{IsGone, IsOfFile, IsRefused, IsStopped, Keeps, length, List, Means, Ok, Option, Outlet, Passes, Quiet, Replies, Result, Rose, LineState}
-use Rattle.span_run.proofs.Names.{Accepted, Refused, refl, Some, None, Stop, Stopped, subst, sym, take, take_all, Told, World, world_in, Wrote, ℕ, ◌∙◌, ◌≡◌, ◌≤◌, ◌⊎◌}
+use Rattle.span_run.proofs.Names.{IsGone, IsOfFile, IsStopped, Keeps, length, List, Ok, Option, Outlet, Passes, Quiet, Replies, Result, Rose, LineState}
+use Rattle.span_run.proofs.Names.{Accepted, Refused, refl, Some, Stop, Stopped, subst, sym, take_all, Told, world_in, Wrote, ℕ, ◌∙◌, ◌≡◌, ◌≤◌, ◌⊎◌}
 use Rattle.script_syntax.specs.declared.form.Command.TheVariants as form
 use Rattle.span_language.specs.declared.told.Stop.TheVariants as stop
 

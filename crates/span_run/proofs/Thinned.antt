@@ -1,6 +1,6 @@
 -- The state after a compaction.
 use Rattle.span_run.proofs.Names.{[], Accepted, AllByRecursion, Answer, Answers, ap, arith, at, Bool, Carries, Compacts, covered_of, Doc, Entry, false, Files}
-use Rattle.span_run.proofs.Names.{Held, inl, inr, IsHeld, length, List, map, Named, no_steps, Node, ok_text, Option, pair_weight, Places, queries_of, refl}
+use Rattle.span_run.proofs.Names.{Held, inr, IsHeld, length, List, map, Named, no_steps, Node, ok_text, Option, pair_weight, Places, queries_of, refl}
 use Rattle.span_run.proofs.Names.{Registers, Serves, State, state_of, subst, suc, sum_by-cons, sum_of, sym, Told, true, world, zero, ℕ, ◌*◌, ◌+◌, ◌-◌, ◌∙◌, ◌∷◌}
 use Rattle.span_run.proofs.Names.{◌≡◌, ◌≤◌}
 use Rattle.slp_model.proofs.RankLemmas.{rank-most}

@@ -13,7 +13,7 @@ use Rattle.span_run.specs.declared.loading.Method.TheVariants as method
 use Rattle.span_run.specs.declared.loading.FileLoader.{FileLoader}
 use Rattle.span_run.specs.declared.loading.FileLoader.TheVariants.{Load, Share}
 
--- the command that gives a document the bytes of a file
+-- the command that sets the text of a document to the bytes of a file
 abbrev pub file_command : Method → List ℕ → List ℕ → Command
 file_command method.Load name file = form.LoadFile name file
 file_command method.Share name file = form.ShareFile name file

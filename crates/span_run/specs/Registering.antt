@@ -13,7 +13,7 @@ use Rattle.script_syntax.specs.declared.form.Command.TheVariants as form
 use Rattle.span_language.specs.State.{Named, put}
 use Rattle.span_language.specs.Step.{IsTextRefused, IsUncombined}
 use Rattle.span_types.specs.declared.refusal.NoMemory.{NoMemory}
-use Rattle.span_types.specs.Query.{Join, Project, Query, Union}
+use Rattle.span_types.specs.Query.{Join, Query, Union}
 use Rattle.span_run.specs.declared.registering.Recipe.{Recipe}
 use Rattle.span_run.specs.declared.registering.Recipe.TheVariants as recipe
 

@@ -1,4 +1,4 @@
-use Rattle.span_run.proofs.Names.{AllowsWrites, ap, arith, CannotWrite, DeniesWrites, Doc, Holds, inr, IsPut, KeepsOthers, length, length-map, List, plain, refl, rules, saved_text, subst, sym, text_of, ℕ, ◌++◌, ◌∙◌}
+use Rattle.span_run.proofs.Names.{AllowsWrites, ap, arith, DeniesWrites, Doc, Holds, inr, IsPut, KeepsOthers, length, length-map, List, plain, refl, rules, saved_text, subst, sym, text_of, ℕ, ◌++◌, ◌∙◌}
 use Rattle.span_run.proofs.Names.{◌≡◌}
 use Rattle.script_syntax.specs.declared.form.Command.TheVariants as form
 use Rattle.span_language.specs.declared.told.Stop.TheVariants as stop
