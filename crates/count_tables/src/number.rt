@@ -2,7 +2,7 @@
 
 ghost use Rattle.std.specs.Prelude.{◌≡◌, ◌<◌, All};
 ghost use Rattle.marker_dfa.specs.Deterministic.{states_of};
-ghost use Rattle.span_enum.specs.Listing.{text_of};
+ghost use Rattle.slp_model.specs.Nodes.{text_of};
 ghost use Rattle.path_counts.specs.Paths.{stopped};
 ghost use Rattle.count_tables.specs.Number.{IsCounted, IsNumber, endings, weighted};
 
