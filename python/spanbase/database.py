@@ -31,9 +31,9 @@ WIDEST_SHOWN = 1 << 18
 # the edits of a replacement that are sent together
 EDITS_TOGETHER = 64
 
-# lines that only a program with the command doesn't answer by Syntax; they all fail, and so change nothing
+# lines that only a program with the command doesn't answer by Syntax; all but that of `bytes` fail, and so change nothing
 PROBES = {
-    "bytes": b"share _spanbase.probe _spanbase.probe",
+    "bytes": b'bytes _spanbase.probe ""',
     "share": b"share _spanbase.probe _spanbase.probe",
     "write": b"write _spanbase.probe _spanbase.probe",
     "count": b"count _spanbase.probe _spanbase.probe",
@@ -154,6 +154,8 @@ class Database(Mapping[str, Document]):
         if command not in self._commands:
             try:
                 self._request(PROBES[command])
+                self._request(b"drop _spanbase.probe")
+                self._commands[command] = True
             except BadCommand:
                 self._commands[command] = False
             except Refused:
