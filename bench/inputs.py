@@ -158,7 +158,8 @@ def text_scripts(name, formula, size):
         at = 1 + size * part // 101
         edits += [f"let d = insert(delete(d,{at},{at + 1}),e,{at})", f"list q d after {cursor('n', at)} limit 10"]
     image = load + ["save image", "open image", "names"]
-    return {f"{name}_load": load, f"{name}_ask": ask, f"{name}_edits": edits, f"{name}_image": image}
+    scripts = {f"{name}_load": load, f"{name}_ask": ask, f"{name}_edits": edits, f"{name}_image": image}
+    return scripts | {f"shared_{name}": [f"share d {name}"]}
 
 
 def make_texts(folder, quick, files):
@@ -167,7 +168,7 @@ def make_texts(folder, quick, files):
     texts = {name: (make_text(size), formula) for name, (make_text, formula) in REAL_TEXTS.items()}
     texts |= {f"text{place}": (file.read_bytes(), LINES) for place, file in enumerate(files)}
     for name, (text, formula) in texts.items():
-        for old in folder.glob(f"{name}_*.script"):
+        for old in [*folder.glob(f"{name}_*.script"), *folder.glob(f"shared_{name}.script")]:
             old.unlink()
         if len(text) < 1000:
             continue
@@ -184,6 +185,33 @@ def files_script(folder, name, count):
         (folder / name / f"{place}").write_bytes(text)
         lines.append(f"load d{place} {name}/{place}")
     return lines
+
+
+def shifted_versions(text, count):
+    """Versions of a text that each lack 37 more of its first bytes."""
+    return [text[37 * version :] for version in range(count)]
+
+
+def mutated_genomes(text, count, changes=30, seed=8):
+    """A genome, and copies of it with this number of letters replaced, removed or inserted in each."""
+    rng = random.Random(seed)
+    genomes = [text]
+    for _ in range(count):
+        copy = bytearray(text)
+        for _ in range(changes):
+            at, kind = rng.randrange(len(copy)), rng.random()
+            copy[at : at + (kind < 0.9)] = rng.choice("ACGT").encode() if kind < 0.8 or kind >= 0.9 else b""
+        genomes.append(bytes(copy))
+    return genomes
+
+
+def collection_scripts(folder, name, texts):
+    """A collection of similar files, each loaded as a document of its own: by `load`, and by `share`."""
+    (folder / name).mkdir(exist_ok=True)
+    for place, text in enumerate(texts):
+        (folder / name / f"{place}").write_bytes(text)
+    scripts = {f"{name}_load": "load", name: "share"}
+    return {script: [f"{command} d{place} {name}/{place}" for place in range(len(texts))] for script, command in scripts.items()}
 
 
 # -------------------------------------------------------------------------------------------------------------- scripts
@@ -549,6 +577,13 @@ def make(folder, quick, huge, files):
     write_script(folder / "listall.script", listed_versions_script("prose", size, words, count))
     write_script(folder / "marked.script", marked_script("prose", size, words, count))
     write_script(folder / "marks.script", marks_script(count))
+    collections = {
+        "versions_files": shifted_versions(text[:100_000], 20 if quick else 200),
+        "mutated_genomes": mutated_genomes(genome(50_000, seed=9), 10 if quick else 100),
+    }
+    for name, texts in collections.items():
+        for script, lines in collection_scripts(folder, name, texts).items():
+            write_script(folder / f"{script}.script", lines)
     text, lines = compositions_script("chance", size // 4)
     (folder / "chance").write_bytes(text)
     write_script(folder / "compositions.script", lines)
