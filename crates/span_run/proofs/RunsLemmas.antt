@@ -1,14 +1,14 @@
 -- One step of a run: a line.
 use Rattle.span_run.proofs.Names.{[], Adds, Allowance, Anywhere, ap, append-nil, append_assoc, Appends, Appends-kept, Appends-nil, Appends-trans, arith, Bool}
 use Rattle.span_run.proofs.Names.{both, both_of, Carried, Command, Counters, Ending, false, Files, Halts, IfSome, InFileLine, inl, inr, is_refused, IsDone, IsFront, IsList}
-use Rattle.span_run.proofs.Names.{IsPaid, IsStanding, IsStopped, Leaves, length, length-append, List, Means, Named, no_lines, no_steps, nodes_of, None, nothing}
-use Rattle.span_run.proofs.Names.{Of, Option, Outlet, Outside, outside, pairs_of, PlacesFew, refl, Rose, Runs, RunsAll, RunsFront, LineState, Some, Standing, start}
+use Rattle.span_run.proofs.Names.{IsPaid, IsSessionModel, IsStopped, Leaves, length, length-append, List, Means, Named, no_lines, no_steps, nodes_of, None, nothing}
+use Rattle.span_run.proofs.Names.{Of, Option, Outlet, Outside, outside, pairs_of, PlacesFew, refl, Rose, Runs, RunsAll, RunsFront, LineState, Some, SessionModel, start}
 use Rattle.span_run.proofs.Names.{State, Stop, Stopped, subst, suc, Sum, sum_of, sym, take, Told, true, UnlessList, World, world, world_in, ℕ, ◌*◌, ◌++◌, ◌+◌}
 use Rattle.span_run.proofs.Names.{◌-◌, ◌||◌, ◌∙◌, ◌∷◌, ◌≡◌, ◌≤◌, ◌⊎◌}
 use Rattle.std.proofs.Math.Nat.{mul-le-mul_left}
 use Rattle.slp_model.specs.Nodes.{pair_count}
 use Rattle.span_language.specs.declared.told.Stop.TheVariants as stop
-use Rattle.span_run.proofs.PlacesLemmas.{PlacesSoFar, places_go_on, places_few, places_few_part}
+use Rattle.session_state.proofs.PlacesLemmas.{PlacesSoFar, places_go_on, places_few, places_few_part}
 
 -- what is observable of a state and a sink
 abbrev pub told_of : LineState → Outlet → Outside
@@ -16,7 +16,7 @@ told_of s out = outside out.written s.files s.looks s.pairs s.places
 
 -- the state of a run: these lines are left, this is the next one's number, and the output of the first lines was
 -- written
-pub record IsAt (lines left : List (List ℕ)) (number : ℕ) (refused : Bool) (st : Standing) (before now : Outside) : Type 0 where
+pub record IsAt (lines left : List (List ℕ)) (number : ℕ) (refused : Bool) (st : SessionModel) (before now : Outside) : Type 0 where
   pub done : List (List ℕ)
   pub cut : lines ≡ done ++ left
   pub counted : number ≡ 1 + length done
@@ -89,7 +89,7 @@ pub each_some : (o : Option (List ℕ)) (P : List ℕ → Type 0) → ((x : List
 each_some None P h = tt
 each_some (Some x) P h = h x
 
-pub at_start : (lines : List (List ℕ)) (before : Outside) (st : Standing) → st.state ≡ nothing → st.covered ≡ [] → st.store ≡ [] → IsAt lines lines 1 false st before before
+pub at_start : (lines : List (List ℕ)) (before : Outside) (st : SessionModel) → st.state ≡ nothing → st.covered ≡ [] → st.store ≡ [] → IsAt lines lines 1 false st before before
 unfolding pair_count
 at_start lines before st is none new = record {
   done = [];
@@ -123,8 +123,8 @@ few_of sum before after nodes grown few =
     let products : sum.queries * nodes ≤ sum.queries * (256 * (1 + sum.compactions) + (after.counters.pairs - before.counters.pairs)) = mul-le-mul_left sum.queries grown in
     omega (arith, few, products)
 
-module _ (lines left rest : List (List ℕ)) (line : List ℕ) (number : ℕ) (refused : Bool) (before : Outside) (old : LineState) (sink : Outlet) (new : LineState) (after : Outlet) (is : left ≡ line ∷ rest) (at : IsAt lines left number refused old.standing before (told_of old sink)) where
-  pub goes_on : (told : Told) → IsDone line number old sink new after told → IsAt lines rest (number + 1) (refused || is_refused told) new.standing before (told_of new after)
+module _ (lines left rest : List (List ℕ)) (line : List ℕ) (number : ℕ) (refused : Bool) (before : Outside) (old : LineState) (sink : Outlet) (new : LineState) (after : Outlet) (is : left ≡ line ∷ rest) (at : IsAt lines left number refused old.model before (told_of old sink)) where
+  pub goes_on : (told : Told) → IsDone line number old sink new after told → IsAt lines rest (number + 1) (refused || is_refused told) new.model before (told_of new after)
   goes_on told (meaning, means, d) =
       let one : Sum = record { refused = is_refused told; output = d.finishes.0; cost = d.paid.0; queries = d.tallies.queries; compactions = d.tallies.compactions } in
       let adds : Adds (world_in old) number line one (world_in new) = record {
@@ -147,7 +147,7 @@ module _ (lines left rest : List (List ℕ)) (line : List ℕ) (number : ℕ) (r
         wrote = Appends-trans before.written sink.written after.written at.sum.output d.finishes.0 at.wrote d.finishes.2;
         paid = both_paid at.sum.cost d.paid.0 before.counters (told_of old sink).counters (told_of new after).counters at.paid d.paid.2;
         dropped = at.dropped + d.tallies.dropped;
-        placed = places_go_on at.sum.queries at.dropped d.tallies.queries d.tallies.dropped old.standing new.standing before.places old.places new.places d.tallies.nodes at.placed d.tallies.placed;
+        placed = places_go_on at.sum.queries at.dropped d.tallies.queries d.tallies.dropped old.model new.model before.places old.places new.places d.tallies.nodes at.placed d.tallies.placed;
         grown = omega (arith, at.grown, d.tallies.pairs);
       }
 
@@ -167,11 +167,11 @@ module _ (lines left rest : List (List ℕ)) (line : List ℕ) (number : ℕ) (r
   part_written meaning (inr (told, reply, carried, (n, wrote))) = Appends-trans before.written sink.written after.written at.sum.output (take n reply) at.wrote wrote
 
   -- a run that is stopped in this line
-  stops : (Ends : Ending) (why : Stop) (meaning : Option Command) → IsStanding old.standing → IsStanding new.standing → Means line meaning → Stopped number meaning old sink new after why → (h : HaltsAt meaning) → Ends meaning (part_of meaning h) old.files new.files
+  stops : (Ends : Ending) (why : Stop) (meaning : Option Command) → IsSessionModel old.model → IsSessionModel new.model → Means line meaning → Stopped number meaning old sink new after why → (h : HaltsAt meaning) → Ends meaning (part_of meaning h) old.files new.files
       → RunsFront Ends lines before (told_of new after)
-  stops Ends why meaning held stands means s h ends =
-      let n = 256 + pairs_of old.standing + (new.pairs - old.pairs) in
-      let few : nodes_of new.standing ≤ n = omega (arith, stands.few, s.passes.more_pairs, s.passes.calls) in
+  stops Ends why meaning session stands means s h ends =
+      let n = 256 + pairs_of old.model + (new.pairs - old.pairs) in
+      let few : nodes_of new.model ≤ n = omega (arith, stands.few, s.passes.more_pairs, s.passes.calls) in
       let bound : n + at.dropped ≤ 256 * (1 + at.sum.compactions) + (new.pairs - before.counters.pairs) = omega (arith, at.grown, s.passes.calls) in
       record {
         done = at.done;
@@ -186,24 +186,24 @@ module _ (lines left rest : List (List ℕ)) (line : List ℕ) (number : ℕ) (r
         wrote = part_written meaning h;
         paid = both_paid at.sum.cost s.passes.begun.0 before.counters (told_of old sink).counters (told_of new after).counters at.paid s.passes.begun.2;
         placed = few_of at.sum before (told_of new after) (n + at.dropped) bound
-            (places_few_part at.sum.queries at.dropped old.standing new.standing before.places old.places new.places n (omega (arith, held.few)) few at.placed s.passes.placed);
+            (places_few_part at.sum.queries at.dropped old.model new.model before.places old.places new.places n (omega (arith, session.few)) few at.placed s.passes.placed);
       }
 
   -- a failure of the sink may stop it anywhere
-  pub stops_anywhere : IsStanding old.standing → IsStanding new.standing → IsStopped line number old sink new after stop.OutFault → Rose sink.faults after.faults × RunsFront Anywhere lines before (told_of new after)
-  stops_anywhere held stands (inl (other, same, kept)) = let bad : ⊥ = cc other in absurd bad
-  stops_anywhere held stands (inr (meaning, means, s)) = ((s.fault refl).1, stops Anywhere stop.OutFault meaning held stands means s s.halts tt)
+  pub stops_anywhere : IsSessionModel old.model → IsSessionModel new.model → IsStopped line number old sink new after stop.OutFault → Rose sink.faults after.faults × RunsFront Anywhere lines before (told_of new after)
+  stops_anywhere session stands (inl (other, same, kept)) = let bad : ⊥ = cc other in absurd bad
+  stops_anywhere session stands (inr (meaning, means, s)) = ((s.fault refl).1, stops Anywhere stop.OutFault meaning session stands means s s.halts tt)
 
   -- a failure of the file store stops a line that uses files, of which nothing was written
-  pub stops_in_file : IsStanding old.standing → IsStanding new.standing → IsStopped line number old sink new after stop.ShelfFault → Rose old.faults new.faults × RunsFront InFileLine lines before (told_of new after)
-  stops_in_file held stands (inl (other, same, kept)) = let bad : ⊥ = cc other in absurd bad
-  stops_in_file held stands (inr (meaning, means, s)) =
+  pub stops_in_file : IsSessionModel old.model → IsSessionModel new.model → IsStopped line number old sink new after stop.ShelfFault → Rose old.faults new.faults × RunsFront InFileLine lines before (told_of new after)
+  stops_in_file session stands (inl (other, same, kept)) = let bad : ⊥ = cc other in absurd bad
+  stops_in_file session stands (inr (meaning, means, s)) =
       let file = s.shelf_fault refl in
-      (file.1, stops InFileLine stop.ShelfFault meaning held stands means s (inl file.2) (file.0, refl, ap (λ (w : World). w.files) file.2.world))
+      (file.1, stops InFileLine stop.ShelfFault meaning session stands means s (inl file.2) (file.0, refl, ap (λ (w : World). w.files) file.2.world))
 
   -- an allocation failure: a line of the form `list` was stopped before any of it was written, unless a count increased
-  pub stops_wanting : (wants : ℕ) → wants ≤ sink.wants → IsStanding old.standing → IsStanding new.standing → IsStopped line number old sink new after stop.NoMemory → RunsFront (UnlessList wants after.wants) lines before (told_of new after)
-  stops_wanting wants later held stands (inl (unread, same, kept)) =
+  pub stops_wanting : (wants : ℕ) → wants ≤ sink.wants → IsSessionModel old.model → IsSessionModel new.model → IsStopped line number old sink new after stop.NoMemory → RunsFront (UnlessList wants after.wants) lines before (told_of new after)
+  stops_wanting wants later session stands (inl (unread, same, kept)) =
       subst (λ (s : LineState). RunsFront (UnlessList wants after.wants) lines before (told_of s after)) (sym same)
       (subst (λ (o : Outlet). RunsFront (UnlessList wants after.wants) lines before (told_of old o)) (sym kept) unbegun)
     where
@@ -220,17 +220,17 @@ module _ (lines left rest : List (List ℕ)) (line : List ℕ) (number : ℕ) (r
         next = inl (refl, refl, refl, (λ no. absurd no));
         wrote = subst (λ (l : List ℕ). Appends before.written sink.written l) (sym (append-nil at.sum.output)) at.wrote;
         paid = both_paid at.sum.cost no_steps before.counters (told_of old sink).counters (told_of old sink).counters at.paid (none_paid (told_of old sink).counters);
-        placed = few_of at.sum before (told_of old sink) (256 + pairs_of old.standing + at.dropped) (omega (arith, at.grown))
-            (places_few at.sum.queries at.dropped old.standing before.places old.places (256 + pairs_of old.standing) held held.few at.placed);
+        placed = few_of at.sum before (told_of old sink) (256 + pairs_of old.model + at.dropped) (omega (arith, at.grown))
+            (places_few at.sum.queries at.dropped old.model before.places old.places (256 + pairs_of old.model) session session.few at.placed);
       }
-  stops_wanting wants later held stands (inr (meaning, means, s)) = by (s.want refl)
+  stops_wanting wants later session stands (inr (meaning, means, s)) = by (s.want refl)
     where
       by : (Of IsList meaning → ⊥) ⊎ (Rose sink.wants after.wants ⊎ Leaves (world_in old) sink.written after.written (world_in new)) → RunsFront (UnlessList wants after.wants) lines before (told_of new after)
-      by (inl other) = stops (UnlessList wants after.wants) stop.NoMemory meaning held stands means s s.halts (λ list. absurd (other list))
-      by (inr (inl rose)) = stops (UnlessList wants after.wants) stop.NoMemory meaning held stands means s s.halts (λ list. inl (rose_later wants sink.wants after.wants later rose))
-      by (inr (inr left)) = stops (UnlessList wants after.wants) stop.NoMemory meaning held stands means s (inl left) (λ list. inr refl)
+      by (inl other) = stops (UnlessList wants after.wants) stop.NoMemory meaning session stands means s s.halts (λ list. absurd (other list))
+      by (inr (inl rose)) = stops (UnlessList wants after.wants) stop.NoMemory meaning session stands means s s.halts (λ list. inl (rose_later wants sink.wants after.wants later rose))
+      by (inr (inr left)) = stops (UnlessList wants after.wants) stop.NoMemory meaning session stands means s (inl left) (λ list. inr refl)
 
-pub ends : (lines left : List (List ℕ)) (number : ℕ) (refused : Bool) (st : Standing) (before now : Outside) → left ≡ [] → IsStanding st → IsAt lines left number refused st before now → RunsAll lines refused before now
+pub ends : (lines left : List (List ℕ)) (number : ℕ) (refused : Bool) (st : SessionModel) (before now : Outside) → left ≡ [] → IsSessionModel st → IsAt lines left number refused st before now → RunsAll lines refused before now
 ends lines left number refused st before now none is at =
     let all : lines ≡ at.done = at.cut ∙ ap (λ (l : List (List ℕ)). at.done ++ l) none ∙ append-nil at.done in
     record {

@@ -22,35 +22,13 @@
 //! PODS 2021. Texts are edited as in their *Query Evaluation over SLP-Represented Document Databases with Complex
 //! Document Editing*, PODS 2022.
 //!
-//! Proved: The main theorem (`run`). What one line replies, changes and costs, and that `compact` leaves only reachable
-//! nodes (`Session::line`).
+//! Proved: The main theorem (`run`).
 #![tactic(auto)]
 
-mod all_listing;
-mod answer;
-mod answering;
-mod carrying;
-mod compacting;
-mod context;
-mod documents;
-mod files;
-mod held;
 mod lines;
-mod listing;
-mod loading;
-mod offer;
-mod queries;
-mod reading;
-mod refusing;
-mod registering;
-mod replacing;
 mod run_script;
-mod session;
-mod subject;
-mod versions;
-mod words;
 
 pub use run_script::{Status, run};
-pub use session::Session;
 pub use span_language::{Stop, Told};
+pub use span_session::Session;
 pub use span_words::usage_text;

@@ -2,16 +2,16 @@
 ghost use Rattle.std.specs.Prelude.{◌≡◌, ◌⊎◌, ◌+◌, ◌^◌, ◌<◌, ◌≤◌, ◌||◌, true, false, None, Some, IfOk, IfErr, IfSome, MatchResult, OnOk, length, map, string_bytes};
 ghost use Rattle.edge_io.specs.Causes.{Rose};
 ghost use Rattle.span_words.specs.Words.{Refused};
-ghost use Rattle.span_run.specs.Reading.{TakesAtMost};
+ghost use Rattle.span_run.specs.Taken.{TakesAtMost};
 ghost use Rattle.span_language.specs.Lines.{lines_of};
 ghost use Rattle.span_language.specs.Runs.{is_refused, outside, Anywhere, InFileLine, UnlessList, RunsAll, RunsFront};
 ghost use Rattle.span_language.specs.Scripts.{script_of, AsksForNoDemo, OfScript};
 
-use crate::context::Lent;
 use crate::lines::next_line;
-use crate::session::Session;
 use edge_io::{Shelf, Sink, Source};
+use session_state::Lent;
 use span_language::{Stop, Told};
+use span_session::Session;
 use span_types::Steps;
 use span_words::{WordsRefusal, read_words};
 use std::alloc::Global;

@@ -13,9 +13,9 @@ use Rattle.span_language.specs.Runs.{Ending, Outside, RunsFront, is_refused}
 use Rattle.span_language.specs.declared.told.Told.{Told}
 use Rattle.span_language.specs.declared.told.Stop.{Stop}
 use Rattle.span_language.specs.declared.told.Stop.TheVariants as stop
-use Rattle.span_run.specs.Held.{Standing, IsStanding}
-use Rattle.span_run.specs.LineState.{LineState}
-use Rattle.span_run.specs.Carried.{IsDone, IsStopped, Outlet}
+use Rattle.session_state.specs.SessionState.{SessionModel, IsSessionModel}
+use Rattle.session_state.specs.LineState.{LineState}
+use Rattle.session_state.specs.Carried.{IsDone, IsStopped, Outlet}
 use Rattle.span_run.proofs.RunsLemmas.{IsAt, told_of, goes_on, stops_anywhere, stops_in_file, stops_wanting, ends}
 use Rattle.span_talk.specs.Progress.{Does, IsHalted, Place, StandsAt, StopsIn, place}
 use Rattle.span_talk.proofs.Cuts.{short_take}
@@ -25,7 +25,7 @@ means_kept line None h = λ command text. h command (subst (λ (l : List ℕ). L
 means_kept line (Some command) h = subst (λ (l : List ℕ). LineText l command) (short_take 65537 line (omega (arith, h.short))) h
 
 -- the lines that follow may be known before they are executed
-pub further : (lines more : List (List ℕ)) (number : ℕ) (refused : Bool) (st : Standing) (before now : Outside) → IsAt lines [] number refused st before now → IsAt (lines ++ more) more number refused st before now
+pub further : (lines more : List (List ℕ)) (number : ℕ) (refused : Bool) (st : SessionModel) (before now : Outside) → IsAt lines [] number refused st before now → IsAt (lines ++ more) more number refused st before now
 further lines more number refused st before now at = record {
   done = at.done;
   cut = ap (λ (l : List (List ℕ)). l ++ more) (at.cut ∙ append-nil at.done);
@@ -41,10 +41,10 @@ further lines more number refused st before now at = record {
 }
 
 -- a run that was stopped when no line had begun
-pub stopped_between : (Ends : Ending) (lines left : List (List ℕ)) (before : Outside) (p : Place) → IsStanding p.standing → Ends None [] p.now.files p.now.files → StandsAt lines before p
+pub stopped_between : (Ends : Ending) (lines left : List (List ℕ)) (before : Outside) (p : Place) → IsSessionModel p.model → Ends None [] p.now.files p.now.files → StandsAt lines before p
     → RunsFront Ends (lines ++ left) before p.now
-stopped_between Ends lines left before p held ends_so at =
-    let all = ends lines [] p.number p.refused p.standing before p.now refl held at in
+stopped_between Ends lines left before p session ends_so at =
+    let all = ends lines [] p.number p.refused p.model before p.now refl session at in
     record {
       done = lines;
       left = left;
@@ -69,9 +69,9 @@ module _ (kept : List ℕ) (number : ℕ) (old : LineState) (sink : Outlet) (new
   stopped_as line why is (inr (meaning, means, s)) = inr (meaning, means_kept line meaning (subst (λ (l : List ℕ). Means l meaning) is means), s)
 
   pub does : (refused : Bool) (told : Told) → IsDone kept number old sink new after told
-      → Does kept (place number refused old.standing (told_of old sink)) (place (number + 1) (refused || is_refused told) new.standing (told_of new after))
+      → Does kept (place number refused old.model (told_of old sink)) (place (number + 1) (refused || is_refused told) new.model (told_of new after))
   does refused told done = λ line lines before is at.
-      goes_on (lines ++ line ∷ []) (line ∷ []) [] line number refused before old sink new after refl (further lines (line ∷ []) number refused old.standing before (told_of old sink) at) told (done_as line told is done)
+      goes_on (lines ++ line ∷ []) (line ∷ []) [] line number refused before old sink new after refl (further lines (line ∷ []) number refused old.model before (told_of old sink) at) told (done_as line told is done)
 
   out_rose : IsStopped kept number old sink new after stop.OutFault → Rose sink.faults after.faults
   out_rose (inl (other, same, unsaid)) = let bad : ⊥ = cc other in absurd bad
@@ -82,19 +82,19 @@ module _ (kept : List ℕ) (number : ℕ) (old : LineState) (sink : Outlet) (new
   shelf_rose (inr (meaning, means, s)) = (s.shelf_fault refl).1
 
   -- the run is stopped as the line was
-  pub halts : (refused : Bool) (why : Stop) → IsStanding old.standing → IsStanding new.standing → IsStopped kept number old sink new after why
-      → IsHalted (λ Ends. StopsIn Ends kept (place number refused old.standing (told_of old sink)) (told_of new after)) sink old.faults after new.faults why
-  halts refused why held stands stopped = record {
+  pub halts : (refused : Bool) (why : Stop) → IsSessionModel old.model → IsSessionModel new.model → IsStopped kept number old sink new after why
+      → IsHalted (λ Ends. StopsIn Ends kept (place number refused old.model (told_of old sink)) (told_of new after)) sink old.faults after new.faults why
+  halts refused why session stands stopped = record {
     out_fault = λ is.
         let s = subst (λ (w : Stop). IsStopped kept number old sink new after w) is stopped in
-        (out_rose s, λ line lines more before same at. (stops_anywhere (lines ++ line ∷ more) (line ∷ more) more line number refused before old sink new after refl (begun line lines more before at) held stands (stopped_as line stop.OutFault same s)).1);
+        (out_rose s, λ line lines more before same at. (stops_anywhere (lines ++ line ∷ more) (line ∷ more) more line number refused before old sink new after refl (begun line lines more before at) session stands (stopped_as line stop.OutFault same s)).1);
     shelf_fault = λ is.
         let s = subst (λ (w : Stop). IsStopped kept number old sink new after w) is stopped in
-        (shelf_rose s, λ line lines more before same at. (stops_in_file (lines ++ line ∷ more) (line ∷ more) more line number refused before old sink new after refl (begun line lines more before at) held stands (stopped_as line stop.ShelfFault same s)).1);
+        (shelf_rose s, λ line lines more before same at. (stops_in_file (lines ++ line ∷ more) (line ∷ more) more line number refused before old sink new after refl (begun line lines more before at) session stands (stopped_as line stop.ShelfFault same s)).1);
     want = λ is wants few line lines more before same at.
         let s = subst (λ (w : Stop). IsStopped kept number old sink new after w) is stopped in
-        stops_wanting (lines ++ line ∷ more) (line ∷ more) more line number refused before old sink new after refl (begun line lines more before at) wants few held stands (stopped_as line stop.NoMemory same s);
+        stops_wanting (lines ++ line ∷ more) (line ∷ more) more line number refused before old sink new after refl (begun line lines more before at) wants few session stands (stopped_as line stop.NoMemory same s);
   }
     where
-      begun : (line : List ℕ) (lines more : List (List ℕ)) (before : Outside) → StandsAt lines before (place number refused old.standing (told_of old sink)) → IsAt (lines ++ line ∷ more) (line ∷ more) number refused old.standing before (told_of old sink)
-      begun line lines more before at = further lines (line ∷ more) number refused old.standing before (told_of old sink) at
+      begun : (line : List ℕ) (lines more : List (List ℕ)) (before : Outside) → StandsAt lines before (place number refused old.model (told_of old sink)) → IsAt (lines ++ line ∷ more) (line ∷ more) number refused old.model before (told_of old sink)
+      begun line lines more before at = further lines (line ∷ more) number refused old.model before (told_of old sink) at

@@ -7,7 +7,7 @@ use Rattle.std.proofs.lemmas.List.{append-nil}
 use Rattle.span_language.specs.State.{nothing, world}
 use Rattle.span_language.specs.Lines.{lines_of}
 use Rattle.span_language.specs.Runs.{Ending, Outside, Runs, RunsAll, RunsFront, start}
-use Rattle.span_run.specs.Held.{Standing, IsStanding}
+use Rattle.session_state.specs.SessionState.{SessionModel, IsSessionModel}
 use Rattle.span_run.proofs.LinesLemmas.{no_newline}
 use Rattle.span_run.proofs.RunsLemmas.{at_start, ends}
 use Rattle.span_talk.specs.Talk.{AreReplied, HaveRun, OfSent, whole_lines}
@@ -16,7 +16,7 @@ use Rattle.span_talk.proofs.Cuts.{ended_with, ended_without, kept_goes_on, line_
 use Rattle.span_talk.proofs.Doing.{stopped_between}
 use Rattle.span_talk.proofs.Known.{of_sent}
 
-pub begins : (before : Outside) (st : Standing) (kept : List ℕ) → kept ≡ [] → st.state ≡ nothing → st.covered ≡ [] → st.store ≡ [] → IsTalking [] before kept (place 1 false st before)
+pub begins : (before : Outside) (st : SessionModel) (kept : List ℕ) → kept ≡ [] → st.state ≡ nothing → st.covered ≡ [] → st.store ≡ [] → IsTalking [] before kept (place 1 false st before)
 begins before st kept none state covered store = record { done = []; begun = []; cut = nothing_cut; kept_is = none; at = at_start [] before st state covered store }
 
 module _ (bytes : List ℕ) (before : Outside) (kept : List ℕ) (p : Place) (t : IsTalking bytes before kept p) where
@@ -45,9 +45,9 @@ module _ (bytes : List ℕ) (before : Outside) (kept : List ℕ) (p : Place) (t 
         in subst (λ (l : List (List ℕ)). RunsFront Ends l before after) (sym lines) (stops (t.begun ++ part) t.done (lines_of tail) before kept_of t.at)
 
   -- stopped when no further line had begun
-  pub stops_here : (Ends : Ending) (tail : List ℕ) → IsStanding p.standing → Ends None [] p.now.files p.now.files → RunsFront Ends (lines_of (bytes ++ tail)) before p.now
-  stops_here Ends tail held so =
-      subst (λ (l : List (List ℕ)). RunsFront Ends l before p.now) (sym (t.cut.lines tail)) (stopped_between Ends t.done (lines_of (t.begun ++ tail)) before p held so t.at)
+  pub stops_here : (Ends : Ending) (tail : List ℕ) → IsSessionModel p.model → Ends None [] p.now.files p.now.files → RunsFront Ends (lines_of (bytes ++ tail)) before p.now
+  stops_here Ends tail session so =
+      subst (λ (l : List (List ℕ)). RunsFront Ends l before p.now) (sym (t.cut.lines tail)) (stopped_between Ends t.done (lines_of (t.begun ++ tail)) before p session so t.at)
 
   -- the replies to the complete lines were written, and the number is that of the next line
   pub replied : AreReplied (whole_lines bytes) before p.now.written × (p.number ≡ 1 + length (whole_lines bytes))
@@ -55,29 +55,29 @@ module _ (bytes : List ℕ) (before : Outside) (kept : List ℕ) (p : Place) (t 
       let same : whole_lines bytes ≡ t.at.done = whole_is bytes t.done t.begun t.cut ∙ t.at.cut ∙ append-nil t.at.done in (
         record {
           sum = t.at.sum;
-          mid = world p.standing.state p.now.files;
-          ran = subst (λ (l : List (List ℕ)). Runs (start before) 1 l t.at.sum (world p.standing.state p.now.files)) (sym same) t.at.ran;
+          mid = world p.model.state p.now.files;
+          ran = subst (λ (l : List (List ℕ)). Runs (start before) 1 l t.at.sum (world p.model.state p.now.files)) (sym same) t.at.ran;
           wrote = t.at.wrote;
         },
         t.at.counted ∙ ap (λ (l : List (List ℕ)). 1 + length l) (sym same),
       )
 
-  pub have_run : IsStanding p.standing → HaveRun (whole_lines bytes) before p.now
-  have_run held = (p.refused, subst (λ (l : List (List ℕ)). RunsAll l p.refused before p.now) (sym (whole_is bytes t.done t.begun t.cut)) (ends t.done [] p.number p.refused p.standing before p.now refl held t.at))
+  pub have_run : IsSessionModel p.model → HaveRun (whole_lines bytes) before p.now
+  have_run session = (p.refused, subst (λ (l : List (List ℕ)). RunsAll l p.refused before p.now) (sym (whole_is bytes t.done t.begun t.cut)) (ends t.done [] p.number p.refused p.model before p.now refl session t.at))
 
   -- the end of the bytes, if no line has begun, and if one has
-  pub ends_so : IsStanding p.standing → kept ≡ [] → RunsAll (lines_of bytes) p.refused before p.now
-  ends_so held none =
+  pub ends_so : IsSessionModel p.model → kept ≡ [] → RunsAll (lines_of bytes) p.refused before p.now
+  ends_so session none =
       let begun : t.begun ≡ [] = none_kept 65537 t.begun (omega arith) (sym t.kept_is ∙ none) in
-      subst (λ (l : List (List ℕ)). RunsAll l p.refused before p.now) (sym (ended_without bytes t.done t.begun t.cut begun)) (ends t.done [] p.number p.refused p.standing before p.now refl held t.at)
+      subst (λ (l : List (List ℕ)). RunsAll l p.refused before p.now) (sym (ended_without bytes t.done t.begun t.cut begun)) (ends t.done [] p.number p.refused p.model before p.now refl session t.at)
 
   last_of : 0 < length kept → lines_of bytes ≡ t.done ++ t.begun ∷ []
   last_of some = ended_with bytes t.done t.begun t.cut (some_begun 65537 t.begun (omega (arith, some, ap length t.kept_is)))
 
-  pub ends_with_last : (new : Place) → IsStanding new.standing → 0 < length kept → Does kept p new → RunsAll (lines_of bytes) new.refused before new.now
-  ends_with_last new held some does =
+  pub ends_with_last : (new : Place) → IsSessionModel new.model → 0 < length kept → Does kept p new → RunsAll (lines_of bytes) new.refused before new.now
+  ends_with_last new session some does =
       subst (λ (l : List (List ℕ)). RunsAll l new.refused before new.now) (sym (last_of some))
-      (ends (t.done ++ t.begun ∷ []) [] new.number new.refused new.standing before new.now refl held (does t.begun t.done before t.kept_is t.at))
+      (ends (t.done ++ t.begun ∷ []) [] new.number new.refused new.model before new.now refl session (does t.begun t.done before t.kept_is t.at))
 
   pub stops_in_last : (Ends : Ending) (after : Outside) → 0 < length kept → StopsIn Ends kept p after → RunsFront Ends (lines_of bytes) before after
   stops_in_last Ends after some stops =
@@ -89,9 +89,9 @@ module _ (piece read rest : List ℕ) (kept : List ℕ) (p : Place) (kept_now : 
   split bytes tail = ap (λ l. bytes ++ (l ++ tail)) is ∙ ap (λ l. bytes ++ l) (append_assoc read rest tail) ∙ sym (append_assoc bytes read (rest ++ tail))
 
   -- stopped when nothing of the rest had begun
-  pub stops_between : (Ends : Ending) → IsStanding now.standing → Ends None [] now.now.files now.now.files → StopsWithin Ends piece kept p now.now
-  stops_between Ends held so = λ bytes tail before t.
-      subst (λ l. RunsFront Ends (lines_of l) before now.now) (sym (split bytes tail)) (stops_here (bytes ++ read) before kept_now now (hears bytes before t) Ends (rest ++ tail) held so)
+  pub stops_between : (Ends : Ending) → IsSessionModel now.model → Ends None [] now.now.files now.now.files → StopsWithin Ends piece kept p now.now
+  stops_between Ends session so = λ bytes tail before t.
+      subst (λ l. RunsFront Ends (lines_of l) before now.now) (sym (split bytes tail)) (stops_here (bytes ++ read) before kept_now now (hears bytes before t) Ends (rest ++ tail) session so)
 
   -- the rest belongs to the line that has begun
   pub hears_rest : (kept_after : List ℕ) → All (λ b. b ≢ 10) rest → kept_after ≡ take 65537 (kept_now ++ rest) → Hears piece kept p kept_after now

@@ -5,8 +5,8 @@ use Rattle.span_language.specs.Lines.{lines_of}
 use Rattle.span_language.specs.Runs.{Anywhere, Ending, InFileLine, Outside, RunsAll, RunsFront, UnlessList}
 use Rattle.span_language.specs.declared.told.Stop.{Stop}
 use Rattle.span_language.specs.declared.told.Stop.TheVariants as stop
-use Rattle.span_run.specs.Carried.{Outlet}
-use Rattle.span_run.specs.Held.{Standing}
+use Rattle.session_state.specs.Carried.{Outlet}
+use Rattle.session_state.specs.SessionState.{SessionModel}
 use Rattle.span_run.proofs.LinesLemmas.{NoNewline}
 use Rattle.span_run.proofs.RunsLemmas.{IsAt}
 use Rattle.span_talk.specs.Talk.{whole_lines}
@@ -16,11 +16,11 @@ use Rattle.span_talk.specs.declared.progress.Progress.{Progress}
 pub record Place : Type 0 where
   pub number : ℕ
   pub refused : Bool
-  pub standing : Standing
+  pub model : SessionModel
   pub now : Outside
 
-abbrev pub place : ℕ → Bool → Standing → Outside → Place
-place number refused standing now = record { number = number; refused = refused; standing = standing; now = now }
+abbrev pub place : ℕ → Bool → SessionModel → Outside → Place
+place number refused model now = record { number = number; refused = refused; model = model; now = now }
 
 -- the state of a conversation, with this observable of the environment
 abbrev pub stands : Progress → Outside → Place
@@ -28,7 +28,7 @@ stands p now = place p.number p.refused p.session now
 
 -- these lines ran, and resulted in this state
 abbrev pub StandsAt : List (List ℕ) → Outside → Place → Type 0
-StandsAt lines before p = IsAt lines [] p.number p.refused p.standing before p.now
+StandsAt lines before p = IsAt lines [] p.number p.refused p.model before p.now
 
 -- these bytes are those lines and the beginning of one more
 pub record IsCut (bytes : List ℕ) (done : List (List ℕ)) (begun : List ℕ) : Type 0 where

@@ -4,8 +4,8 @@ ghost use Rattle.std.specs.Io.KnownBytes.{IsAtEnd};
 ghost use Rattle.edge_io.specs.Causes.{Rose};
 ghost use Rattle.span_language.specs.Lines.{lines_of};
 ghost use Rattle.span_language.specs.Runs.{is_refused, outside, Anywhere, InFileLine, UnlessList, RunsAll, RunsFront};
-ghost use Rattle.span_run.specs.Carried.{outlet};
-ghost use Rattle.span_run.specs.Held.{IsStanding};
+ghost use Rattle.session_state.specs.Carried.{outlet};
+ghost use Rattle.session_state.specs.SessionState.{IsSessionModel};
 ghost use Rattle.span_talk.specs.Talk.{whole_lines, AreServed, HaveRun, OfHeard, OfSent};
 ghost use Rattle.span_talk.specs.Progress.{stands, Does, Finishes, Hears, IsHalted, IsTalking, StopsAtEnd, StopsIn, StopsWithin};
 
@@ -62,9 +62,9 @@ fn end_line<R: Threads + Sync, K: Sink, F: Shelf, G: Gate, P: Ledger, T: Ledger,
 ) -> Result<(), Stop>
     requires least { 1 ≤ workers }
     requires most { workers ≤ 64 }
-    requires standing { IsStanding progress.old.session }
+    requires model { IsSessionModel progress.old.session }
     requires few { progress.old.number < 2 ^ 63 }
-    ensures standing { IsStanding progress.new.session }
+    ensures model { IsSessionModel progress.new.session }
     ensures next { OnOk result (progress.new.number ≡ progress.old.number + 1) }
     ensures empty { OnOk result (progress.new.kept.items ≡ []) }
     ensures later { K.faults out.old ≤ K.faults out.new }
@@ -114,10 +114,10 @@ fn hear_piece<R: Threads + Sync, K: Sink, F: Shelf, G: Gate, P: Ledger, T: Ledge
 ) -> Result<(), Stop>
     requires least { 1 ≤ workers }
     requires most { workers ≤ 64 }
-    requires standing { IsStanding progress.old.session }
+    requires model { IsSessionModel progress.old.session }
     requires few { progress.old.number + length piece.now < 2 ^ 63 }
     requires kept { length progress.old.kept.items ≤ 65537 }
-    ensures standing { IsStanding progress.new.session }
+    ensures model { IsSessionModel progress.new.session }
     ensures next { OnOk result (progress.new.number ≤ progress.old.number + length piece.now) }
     ensures kept { OnOk result (length progress.new.kept.items ≤ 65537) }
     ensures later { K.faults out.old ≤ K.faults out.new }
@@ -170,7 +170,7 @@ fn hear_all<
 ) -> Result<Progress, End>
     requires least { 1 ≤ workers }
     requires most { workers ≤ 64 }
-    ensures standing { IfOk result (λ progress. IsStanding progress.session) }
+    ensures model { IfOk result (λ progress. IsSessionModel progress.session) }
     ensures few { IfOk result (λ progress. progress.number < 2 ^ 63) }
     ensures later { K.faults out.old ≤ K.faults out.new }
     ensures wants_later { K.wants out.old ≤ K.wants out.new }
@@ -259,7 +259,7 @@ fn finish<R: Threads + Sync, K: Sink, F: Shelf, G: Gate, P: Ledger, T: Ledger, L
 ) -> Result<bool, Stop>
     requires least { 1 ≤ workers }
     requires most { workers ≤ 64 }
-    requires standing { IsStanding progress.old.session }
+    requires model { IsSessionModel progress.old.session }
     requires few { progress.old.number < 2 ^ 63 }
     ensures done { IfOk result (λ refused. Finishes refused progress.old.kept.items
         (stands progress.old (outside (K.written out.old) (F.files shelf.old) looks.old pairs.old places.old))

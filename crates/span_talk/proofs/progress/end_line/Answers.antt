@@ -1,7 +1,7 @@
 use Rattle.std.proofs.Common.{ℕ, ◌+◌, ◌++◌, ◌∷◌, [], List, Bool, sym, subst}
 use Rattle.std.proofs.lemmas.Result.{err_from_is_err_and}
-use Rattle.span_run.specs.Carried.{IsDone, IsStopped, outlet}
-use Rattle.span_run.specs.LineState.{seen}
+use Rattle.session_state.specs.Carried.{IsDone, IsStopped, outlet}
+use Rattle.session_state.specs.LineState.{seen}
 use Rattle.span_run.proofs.RunsLemmas.{gone_on, gone_still, IsAt, told_of}
 use Rattle.span_talk.proofs.Doing.{does, halts}
 use Rattle.span_talk.proofs.progress.end_line.Goals as goal
@@ -18,7 +18,7 @@ returns-in_err-told-clause-stopped g c =
     let new = seen n.self (f.files n.shelf) (f.faults n.shelf) n.looks n.pairs n.places in
     let after = outlet (k.written n.out) (k.faults n.out) (k.wants n.out) in
     let p = err_from_is_err_and c.from_residual.result c.from_residual.ensures.1 in
-    rw (p.1, p.2) (halts a.progress.now.kept.items number old sink new after a.progress.now.refused _ c.requires.standing c.line.ensures.standing
+    rw (p.1, p.2) (halts a.progress.now.kept.items number old sink new after a.progress.now.refused _ c.requires.model c.line.ensures.model
     (subst (λ (l : List ℕ). IsStopped l number old sink new after c.in_err-told.field-0.0) c.deref.ensures.value c.in_err-told.ensures.stopped))
 
 pub returns-clause-done : goal.returns-clause-done

@@ -1,7 +1,7 @@
 use Rattle.std.proofs.Common.{arith}
 use Rattle.std.proofs.lemmas.Result.{err_from_is_err_and}
 use Rattle.span_language.specs.Runs.{outside}
-use Rattle.span_run.specs.Carried.{outlet}
+use Rattle.session_state.specs.Carried.{outlet}
 use Rattle.span_talk.specs.Progress.{place}
 use Rattle.span_talk.proofs.Cuts.{none_by, some_by}
 use Rattle.span_talk.proofs.Ends.{halted_later}
@@ -11,7 +11,7 @@ use Rattle.span_talk.proofs.progress.finish.Goals as goal
 pub returns-then-is_empty-clause-done : goal.returns-then-is_empty-clause-done
 returns-then-is_empty-clause-done g c =
     let kept = c.args.progress.now.kept in
-    λ sent before t. ends_so sent before kept.items _ t c.requires.standing (none_by kept.items kept.len (omega (arith, kept.ok.0)) c.if-is_empty.ensures)
+    λ sent before t. ends_so sent before kept.items _ t c.requires.model (none_by kept.items kept.len (omega (arith, kept.ok.0)) c.if-is_empty.ensures)
 
 pub returns-in_err-end_line-clause-stopped : goal.returns-in_err-end_line-clause-stopped
 returns-in_err-end_line-clause-stopped g c =
@@ -31,7 +31,7 @@ returns-clause-done g c =
     let kept = c.args.progress.now.kept in
     let some = some_by kept.items kept.len (omega (arith, kept.ok.0)) c.if-is_empty.ensures in
     let new = place n.progress.number n.progress.refused n.progress.session (outside (g.K.Sink.written n.out) (g.F.Shelf.files n.shelf) n.looks n.pairs n.places) in
-    λ sent before t. ends_with_last sent before kept.items _ t new c.end_line.ensures.standing some c.in_ok-end_line.ensures.done
+    λ sent before t. ends_with_last sent before kept.items _ t new c.end_line.ensures.model some c.in_ok-end_line.ensures.done
 
 pub returns-in_err-end_line-clause-gone : goal.returns-in_err-end_line-clause-gone
 returns-in_err-end_line-clause-gone g c =

@@ -2,14 +2,14 @@ use Rattle.std.proofs.Common.{◌++◌, ◌∙◌, inl, [], arith, ap, length, l
 use Rattle.std.proofs.KnownBytes.{Consumes-nil, Consumes-trans, Consumes-kept}
 use Rattle.span_language.specs.Lines.{lines_of}
 use Rattle.span_language.specs.Runs.{outside, RunsFront}
-use Rattle.span_run.specs.Carried.{outlet}
+use Rattle.session_state.specs.Carried.{outlet}
 use Rattle.span_run.proofs.RunsLemmas.{rose_later}
 use Rattle.span_talk.specs.Talk.{AreServed, OfSent, moment}
 use Rattle.span_talk.specs.Progress.{IsHalted}
 use Rattle.span_talk.proofs.Ends.{halted_later, kept_or, same_stop}
 use Rattle.span_talk.proofs.Known.{more_served, none_served}
 use Rattle.span_talk.proofs.Talking.{begins, have_run, replied, stops_sent}
-use Rattle.span_talk.proofs.progress.hear_all.Given.{Over}
+use Rattle.span_talk.proofs.progress.hear_all.DocumentReply.{Over}
 use Rattle.span_talk.proofs.progress.hear_all.Goals.{After-hear, In-Err-hear_piece}
 use Rattle.span_talk.proofs.progress.hear_all.Goals as goal
 
@@ -21,7 +21,7 @@ pieces-init g c =
     let s = c.new-session in
     record {
       so_far = ([], Consumes-nil (t.left a.client.now), refl, begins before s.result c.new-kept.result.items c.new-kept.ensures.items s.ensures.state s.ensures.covered s.ensures.store);
-      standing = s.ensures.standing;
+      model = s.ensures.model;
       next = omega arith;
       kept = omega (arith, ap length c.new-kept.ensures.items);
       served = none_served (t.left a.client.now) before (t.moments a.client.now);
@@ -38,7 +38,7 @@ returns-in-Err-clause-fault g c =
     let i = c.pieces.invariant in
     λ _. (
       rose_later (t.faults c.args.client.now) (t.faults c.pieces.client) (t.faults c.hear.new.self) (omega (arith, i.client_faults)) c.in-Err.ensures.cause.failed,
-      (i.so_far.0, Consumes-kept (t.left c.args.client.now) (t.left c.pieces.client) (t.left c.hear.new.self) i.so_far.0 i.so_far.1 c.in-Err.ensures.bytes, have_run i.so_far.0 _ _ _ i.so_far.3 i.standing),
+      (i.so_far.0, Consumes-kept (t.left c.args.client.now) (t.left c.pieces.client) (t.left c.hear.new.self) i.so_far.0 i.so_far.1 c.in-Err.ensures.bytes, have_run i.so_far.0 _ _ _ i.so_far.3 i.model),
     )
 
 -- the replies to all complete lines had been written when the client was called
@@ -100,7 +100,7 @@ pieces-preserved g c =
         omega (arith, i.so_far.2, count, length-append bytes piece),
         o.ensures.done bytes _ i.so_far.3,
       );
-      standing = c.hear_piece.ensures.standing;
+      model = c.hear_piece.ensures.model;
       next = omega (arith, i.next, o.ensures.next, count);
       kept = o.ensures.kept;
       served = served g (goal.at.pieces-preserved g c).After-hear;
@@ -114,7 +114,7 @@ pieces-preserved g c =
 pub returns-clause-too_long : goal.returns-clause-too_long
 returns-clause-too_long g c =
     let i = c.pieces.invariant in
-    λ _. (i.so_far.0, i.so_far.1, (omega (arith, i.so_far.2), have_run i.so_far.0 _ _ _ i.so_far.3 i.standing))
+    λ _. (i.so_far.0, i.so_far.1, (omega (arith, i.so_far.2), have_run i.so_far.0 _ _ _ i.so_far.3 i.model))
 
 pub returns-in-Err-clause-gone : goal.returns-in-Err-clause-gone
 returns-in-Err-clause-gone g c = λ none. inl (c.pieces.invariant.gone none)

@@ -1,7 +1,7 @@
 use Rattle.std.proofs.Common.{◌≡◌, ℕ, ◌+◌, ◌-◌, ◌^◌, ◌≤◌, List, length}
 use Rattle.std.specs.Io.KnownBytes.{Consumes}
 use Rattle.span_language.specs.Runs.{outside}
-use Rattle.span_run.specs.Held.{IsStanding}
+use Rattle.session_state.specs.SessionState.{IsSessionModel}
 use Rattle.span_talk.specs.Talk.{AreServed}
 use Rattle.span_talk.specs.Progress.{IsTalking, place}
 use Rattle.span_talk.proofs.progress.hear_all.Given as goal
@@ -11,7 +11,7 @@ invariant-pieces g l = record {
   so_far : (bytes : List ℕ) × Consumes (g.C.Client.left l.fn.client) (g.C.Client.left l.client) bytes × (l.heard ≡ length bytes)
       × IsTalking bytes (outside (g.K.Sink.written l.fn.out) (g.F.Shelf.files l.fn.shelf) l.fn.looks l.fn.pairs l.fn.places) l.progress.kept.items
       (place l.progress.number l.progress.refused l.progress.session (outside (g.K.Sink.written l.out) (g.F.Shelf.files l.shelf) l.looks l.pairs l.places));
-  standing : IsStanding l.progress.session;
+  model : IsSessionModel l.progress.session;
   next : l.progress.number ≤ 1 + l.heard;
   kept : length l.progress.kept.items ≤ 65537;
   served : AreServed (g.C.Client.left l.fn.client) (outside (g.K.Sink.written l.fn.out) (g.F.Shelf.files l.fn.shelf) l.fn.looks l.fn.pairs l.fn.places) (g.C.Client.moments l.fn.client) (g.C.Client.moments l.client);

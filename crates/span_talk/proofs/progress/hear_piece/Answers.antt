@@ -1,7 +1,7 @@
 use Rattle.std.proofs.Common.{◌∙◌, ◌≢◌, All, arith, rules, ap, length, length-append, ◌∷◌}
 use Rattle.std.proofs.lemmas.Result.{err_from_is_err_and}
 use Rattle.span_language.specs.Runs.{outside}
-use Rattle.span_run.specs.Carried.{outlet}
+use Rattle.session_state.specs.Carried.{outlet}
 use Rattle.span_talk.specs.Progress.{place}
 use Rattle.span_talk.proofs.Ends.{halted_later, halted_wanting, kept_on}
 use Rattle.span_talk.proofs.Talking.{hears_line, hears_rest, stops_between, stops_line}
@@ -10,12 +10,12 @@ use Rattle.span_talk.proofs.progress.hear_piece.Goals as goal
 pub returns-in_err-keep-clause-stopped : goal.returns-in_err-keep-clause-stopped
 returns-in_err-keep-clause-stopped g c =
     let i = c.lines.invariant in
-    halted_wanting _ _ _ _ _ _ c.from_residual.ensures.1 (λ Ends none. stops_between _ _ _ _ _ _ _ i.so_far.1 i.so_far.2 Ends i.standing (none _))
+    halted_wanting _ _ _ _ _ _ c.from_residual.ensures.1 (λ Ends none. stops_between _ _ _ _ _ _ _ i.so_far.1 i.so_far.2 Ends i.model (none _))
 
 pub returns-in_err-keep-2-clause-stopped : goal.returns-in_err-keep-2-clause-stopped
 returns-in_err-keep-2-clause-stopped g c =
     let i = c.lines.invariant in
-    halted_wanting _ _ _ _ _ _ c.from_residual-in_err-keep-2.ensures.1 (λ Ends none. stops_between _ _ _ _ _ _ _ i.so_far.1 i.so_far.2 Ends i.standing (none _))
+    halted_wanting _ _ _ _ _ _ c.from_residual-in_err-keep-2.ensures.1 (λ Ends none. stops_between _ _ _ _ _ _ _ i.so_far.1 i.so_far.2 Ends i.model (none _))
 
 pub returns-in_err-end_line-clause-stopped : goal.returns-in_err-end_line-clause-stopped
 returns-in_err-end_line-clause-stopped g c =
@@ -34,7 +34,7 @@ lines-preserved g c =
     let new = place n.progress.number n.progress.refused n.progress.session (outside (g.K.Sink.written n.out) (g.F.Shelf.files n.shelf) n.looks n.pairs n.places) in
     record {
       so_far = hears_line _ _ _ _ _ _ _ i.so_far.1 i.so_far.2 _ _ _ c.in-Some.ensures.0 c.in-Some.ensures.1 c.in_ok-keep.ensures.kept new n.progress.kept.items e.empty e.done;
-      standing = c.end_line.ensures.standing;
+      model = c.end_line.ensures.model;
       next = omega (arith, i.next, e.next, ap length c.in-Some.ensures.0, length-append c.in-Some.parts.0.now (10 ∷ c.in-Some.parts.1.now));
       kept = omega (arith, ap length e.empty);
       faults = e.sound.0 ∙ i.faults;

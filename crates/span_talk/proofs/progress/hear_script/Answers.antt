@@ -1,12 +1,12 @@
 use Rattle.std.proofs.Common.{◌∙◌, arith}
 use Rattle.span_language.specs.Lines.{lines_of}
 use Rattle.span_language.specs.Runs.{outside, RunsAll, RunsFront}
-use Rattle.span_run.specs.Carried.{outlet}
+use Rattle.session_state.specs.Carried.{outlet}
 use Rattle.span_talk.specs.Talk.{OfSent}
 use Rattle.span_talk.specs.Progress.{IsHalted}
 use Rattle.span_talk.proofs.Ends.{halted_later, kept_or, same_stop}
 use Rattle.span_talk.proofs.Known.{each_sent}
-use Rattle.span_talk.proofs.progress.hear_script.Given.{Over}
+use Rattle.span_talk.proofs.progress.hear_script.DocumentReply.{Over}
 use Rattle.span_talk.proofs.progress.hear_script.Goals.{In-Err}
 use Rattle.span_talk.proofs.progress.hear_script.Goals as goal
 

@@ -1,0 +1,10 @@
+pub mod AllListingLemmas
+pub mod AllListingParts
+pub mod Facts
+pub mod ListLemmas
+pub mod Listings
+pub mod Names
+pub mod PageLemmas
+pub mod QueryLemmas
+pub mod Registered
+pub mod ReplaceLemmas

@@ -1,0 +1,9 @@
+pub mod AllListing
+pub mod Asked
+pub mod Judged
+pub mod Listing
+pub mod Refused
+pub mod Registering
+pub mod Replacing
+pub mod Subject
+pub mod Words

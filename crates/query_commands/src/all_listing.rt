@@ -1,0 +1,279 @@
+//! The command `listall`: lists the answers of a query on every document. Documents are processed in batches, and a
+//! batch's lines are written before the next batch is computed.
+ghost use Rattle.std.specs.Prelude.{◌≡◌, ◌≤◌, ◌+◌, ◌++◌, ℕ, List, Option, Some, None, true, false, length, slice_get, OnOk, IfOk, IfErr};
+ghost use Rattle.std.specs.List.{flat_map};
+ghost use Rattle.edge_io.specs.Files.{Files};
+ghost use Rattle.doc_book.specs.Texts.{AreLive, plain};
+ghost use Rattle.script_syntax.specs.declared.form.Command.TheVariants as form;
+ghost use Rattle.span_enum.specs.Members.{Tuple as ATuple};
+ghost use Rattle.query_book.specs.Book.{queries_of};
+ghost use Rattle.query_book.specs.Named.{value_of};
+ghost use Rattle.query_book.specs.Serving.{Covers};
+ghost use Rattle.span_language.specs.Listed.{doc_line, last_line, page_text, tuple_line};
+ghost use Rattle.session_state.specs.Carried.{outlet};
+ghost use Rattle.query_commands.specs.AllListing.{AreAnswered, AreShort, IsRegistered, IsAllListing, ListsEvery, every_text, rest_text};
+ghost use Rattle.session_state.specs.SessionState.{IsConsistent, model_of};
+ghost use Rattle.session_state.specs.LineState.{seen};
+ghost use Rattle.session_state.specs.Written.{Ends, IsCut, IsUpTo, Wrote};
+
+use crate::listing::write_tuple;
+use doc_book::Docs;
+use edge_io::Sink;
+use list_all::pages;
+use marker_dfa::Dfa;
+use node_store::Store;
+use query_book::QueryBook;
+use report_text::Refusal;
+use session_state::{Context, SessionState, close, offer, root_len, write_rejection};
+use span_language::{Stop, Told};
+use span_types::{Name, NoMemory, Steps, Tuple, Vars};
+use state_tables::View;
+use std::alloc::Global;
+use std::sync::ledger::Ledger;
+use std::thread::Threads;
+use work_gate::Gate;
+
+/// The number of documents in a batch.
+const BATCH: usize = 64;
+
+/// Whether a query has this name.
+fn has_query(book: &QueryBook, query: &Name) -> bool
+    ensures there { result ≡ true → IsRegistered (queries_of book.now) query.now }
+    ensures missing { result ≡ false → value_of (queries_of book.now) query.now ≡ None }
+{
+    match book.vars(query.bytes()) {
+        Ok(_) => true,
+        Err(_) => false,
+    }
+}
+
+/// Reads each text's length. No text is longer than the 2^48 bytes for which the automata are specified.
+fn check_lengths(store: &Store, docs: &Docs)
+    requires { AreLive store.now docs.now }
+    ensures { AreShort store.now docs.now }
+{
+    for place in 0..docs.count() {
+        let (_, root) = docs.at(place);
+        let _len = root_len(store, root);
+    }
+}
+
+/// A document's line.
+fn line_of(alloc: Global, name: &Name) -> Result<Vec<u8>, NoMemory>
+    ensures { IfOk result (λ line. line.items ≡ doc_line name.now) }
+{
+    let mut line = b"doc ".to_vec(alloc)?;
+    line.extend_from_slice(name.bytes())?;
+    line.push(b'\n')?;
+    Ok(line)
+}
+
+/// The last line of a page.
+fn last_of(more: bool) -> &'static [u8]
+    ensures { result.now ≡ last_line more }
+{
+    if more { b"more\n" } else { b"end\n" }
+}
+
+/// Writes the lines of a page's tuples.
+fn write_tuples<K: Sink>(tuples: &[Tuple], vars: &Vars, out: &mut K) -> Result<(), Stop>
+    requires { (place : ℕ) (t : ATuple) → slice_get tuples.now place ≡ Some t → length vars.now ≡ length t }
+    ensures { Wrote result (outlet (K.written out.old) (K.faults out.old) (K.wants out.old)) (flat_map (tuple_line vars.now) tuples.now)
+        (outlet (K.written out.new) (K.faults out.new) (K.wants out.new)) }
+{
+    for tuple in tuples {
+        write_tuple(tuple, vars, out)?;
+    }
+    Ok(())
+}
+
+/// Writes a document's line and its page.
+fn write_document<K: Sink>(
+    alloc: Global,
+    name: &Name,
+    tuples: &[Tuple],
+    more: bool,
+    vars: &Vars,
+    out: &mut K,
+) -> Result<(), Stop>
+    requires { (place : ℕ) (t : ATuple) → slice_get tuples.now place ≡ Some t → length vars.now ≡ length t }
+    ensures { Wrote result (outlet (K.written out.old) (K.faults out.old) (K.wants out.old)) (doc_line name.now ++ page_text vars.now tuples.now more)
+        (outlet (K.written out.new) (K.faults out.new) (K.wants out.new)) }
+{
+    let line = line_of(alloc, name)?;
+    offer(out, &line)?;
+    write_tuples(tuples, vars, out)?;
+    offer(out, last_of(more))
+}
+
+/// The parameters of a listing on every document: the query's automaton with the tables of all nodes, its variables,
+/// the documents, and the maximum number of answers for each document.
+#[derive(Clone, Copy)]
+struct AllListing<'a> {
+    alloc: Global,
+    view: View<'a>,
+    dfa: &'a Dfa,
+    docs: &'a Docs,
+    vars: &'a Vars,
+    limit: u16,
+}
+
+/// Finds the pages of `count` documents from index `first` on, and writes their lines.
+fn list_batch<R: Threads + Sync, K: Sink, G: Gate>(
+    context: Context<'_, R, G>,
+    all_listing: AllListing<'_>,
+    first: usize,
+    count: usize,
+    out: &mut K,
+) -> Result<(), Stop>
+    requires places { first + count ≤ length all_listing.docs.now }
+    requires all_listing { IsAllListing all_listing.dfa.now all_listing.view.store.now all_listing.view.tables.now all_listing.docs.now all_listing.vars.now all_listing.limit }
+    ensures done { OnOk result ((lists : List (List ATuple)) → AreAnswered all_listing.entry.dfa.now all_listing.entry.view.store.now all_listing.entry.docs.now lists
+        → IsUpTo (outlet (K.written out.old) (K.faults out.old) (K.wants out.old)) (outlet (K.written out.new) (K.faults out.new) (K.wants out.new))
+        (rest_text all_listing.entry.vars.now all_listing.entry.limit all_listing.entry.docs.now lists (first + count))
+        (rest_text all_listing.entry.vars.now all_listing.entry.limit all_listing.entry.docs.now lists first)) }
+    ensures stopped { IfErr result (λ why. (lists : List (List ATuple))
+        → AreAnswered all_listing.entry.dfa.now all_listing.entry.view.store.now all_listing.entry.docs.now lists
+        → IsCut (outlet (K.written out.old) (K.faults out.old) (K.wants out.old))
+        (rest_text all_listing.entry.vars.now all_listing.entry.limit all_listing.entry.docs.now lists first)
+        (outlet (K.written out.new) (K.faults out.new) (K.wants out.new)) why) }
+{
+    let _all = all_listing.docs.count();
+    let found = pages(
+        context.lent.rt,
+        all_listing.alloc,
+        all_listing.view,
+        all_listing.dfa,
+        all_listing.docs,
+        first,
+        count,
+        all_listing.limit,
+        context.lent.workers,
+        context.lent.gate,
+    )?;
+    for place in 0..count {
+        let (name, _) = all_listing.docs.at(first + place);
+        write_document(
+            all_listing.alloc,
+            name,
+            found.tuples(place),
+            found.more(place),
+            all_listing.vars,
+            out,
+        )?;
+    }
+    Ok(())
+}
+
+/// Writes each document's line and its page, and finally the line `done`.
+fn list_documents<R: Threads + Sync, K: Sink, G: Gate>(
+    context: Context<'_, R, G>,
+    all_listing: AllListing<'_>,
+    out: &mut K,
+) -> Result<Told, Stop>
+    requires all_listing { IsAllListing all_listing.dfa.now all_listing.view.store.now all_listing.view.tables.now all_listing.docs.now all_listing.vars.now all_listing.limit }
+    ensures told { IfOk result (λ told. told ≡ Told.Accepted) }
+    ensures wrote { (lists : List (List ATuple)) → AreAnswered all_listing.entry.dfa.now all_listing.entry.view.store.now all_listing.entry.docs.now lists
+        → Wrote result (outlet (K.written out.old) (K.faults out.old) (K.wants out.old))
+        (every_text all_listing.entry.vars.now all_listing.entry.limit all_listing.entry.docs.now lists)
+        (outlet (K.written out.new) (K.faults out.new) (K.wants out.new)) }
+{
+    let all = all_listing.docs.count();
+    let mut first = 0;
+    while first < all {
+        let count = (all - first).min(BATCH);
+        list_batch(context, all_listing, first, count, out)?;
+        first += count;
+    }
+    close(out, b"done\n")
+}
+
+/// Writes the pages of the query with this name on every document.
+fn list_query<R: Threads + Sync, K: Sink, G: Gate>(
+    context: Context<'_, R, G>,
+    alloc: Global,
+    store: &Store,
+    book: &QueryBook,
+    docs: &Docs,
+    query: &Name,
+    limit: u16,
+    out: &mut K,
+) -> Result<Told, Stop>
+    requires covers { Covers store.now book.now }
+    requires live { AreLive store.now docs.now }
+    requires there { IsRegistered (queries_of book.now) query.now }
+    requires some { 1 ≤ limit }
+    requires few { limit ≤ 10000 }
+    ensures told { IfOk result (λ told. told ≡ Told.Accepted) }
+    ensures wrote { ListsEvery (λ reply. Wrote result (outlet (K.written out.old) (K.faults out.old) (K.wants out.old)) reply
+        (outlet (K.written out.new) (K.faults out.new) (K.wants out.new))) (queries_of book.now) query.now (plain store.now docs.now) limit }
+{
+    check_lengths(store, docs);
+    let name = query.bytes();
+    match book.parts(name, store) {
+        Ok((view, dfa)) => match book.vars(name) {
+            Ok(vars) => {
+                let all_listing = AllListing {
+                    alloc,
+                    view,
+                    dfa,
+                    docs,
+                    vars,
+                    limit,
+                };
+                list_documents(context, all_listing, out)
+            }
+            Err(_) => unreachable!(),
+        },
+        Err(_) => unreachable!(),
+    }
+}
+
+/// `listall Q`, optionally with `limit NUM`, which is 1 to 10,000. Its table lookups are not counted, but the tables
+/// that it computes are.
+pub fn list_all<R: Threads + Sync, K: Sink, G: Gate, T: Ledger>(
+    context: Context<'_, R, G>,
+    session: &mut SessionState,
+    query: Name,
+    limit: u16,
+    out: &mut K,
+    places: &mut Steps<T>,
+) -> Result<Told, Stop>
+    requires session { IsConsistent session.old }
+    requires some { 1 ≤ limit }
+    requires few { limit ≤ 10000 }
+    ensures session { IsConsistent session.new }
+    ensures ends { (files : Option Files) (faults looks pairs : ℕ) → Ends context.entry.number (Some (form.ListAll query limit))
+        (seen (model_of session.old) files faults looks pairs places.old)
+        (outlet (K.written out.old) (K.faults out.old) (K.wants out.old))
+        (seen (model_of session.new) files faults looks pairs places.new)
+        (outlet (K.written out.new) (K.faults out.new) (K.wants out.new)) result }
+{
+    if has_query(&session.book, &query) {
+        session.book.grow_all(
+            context.lent.rt,
+            session.alloc,
+            &session.store,
+            context.lent.workers,
+            context.lent.gate,
+            places,
+        )?;
+        list_query(
+            context,
+            session.alloc,
+            &session.store,
+            &session.book,
+            &session.docs,
+            &query,
+            limit,
+            out,
+        )
+    } else {
+        write_rejection(
+            session,
+            context.number,
+            &Refusal::NoSuchQuery { name: query },
+            out,
+        )
+    }
+}

@@ -1,0 +1,324 @@
+-- Facts about the session's state, for commands that add nodes, compute tables, or do neither.
+use Rattle.session_state.proofs.Names.{Accepted, Answer, Answers, ap, AreKept, AreLive, AreLive-grows, ArePartlyAt, arith, at, Carries, Command, Compacts, counters}
+use Rattle.session_state.proofs.Names.{covered_of, Doc, Documents, Entry, Err, Files, Goes, Grows, Grows-length, Grows-none, SessionState, IfErr, IfOk, inl, inr, IsAllowed}
+use Rattle.session_state.proofs.Names.{IsErrAnd, IsConsistent, IsOfFile, IsOnce, IsPut, IsSaved, length, List, Named, no_steps, Node}
+use Rattle.session_state.proofs.Names.{AllowsWrites, nodes_of, Ok, open_size, Option, pairs_of, PaysFor, PaysForPart, Places, plain, plain-grows, plain_versions, queries_of, Query, Quiet}
+use Rattle.session_state.proofs.Names.{refl, Refused, Registers, Result, Rose, saved_text, LineState, line_state, Serves, State, state_of, Stays, Stop, subst, sum_of, sym}
+use Rattle.session_state.proofs.Names.{Tallies, Told, with_documents, with_queries, world, world_at, ℕ, ◌+◌, ◌∙◌, ◌≡◌, ◌≤◌, ◌⊎◌}
+use Rattle.script_syntax.specs.declared.form.Command.TheVariants as form
+use Rattle.span_language.specs.declared.told.Stop.TheVariants as stop
+use Rattle.session_state.proofs.StateLemmas.{AreKept-grows, Grows-pairs, plain_versions-grows}
+use Rattle.session_state.proofs.PlacesLemmas.{none_placed, none_placed_part}
+use Rattle.session_state.proofs.BookLemmas.{covered-within, grown_placed, grown_placed_part, serves-grows}
+use Rattle.session_state.proofs.PaidLemmas.{none_paid, not_begun, part_of_paid}
+
+-- an allocation failed in a call, and the error is propagated
+pub passed_on : {T : Type 0} (r : Result T Stop) (P : Stop → Type 0) → IsErrAnd r (λ e. e ≡ stop.NoMemory) → P stop.NoMemory → IfErr r P
+passed_on (Ok x) P h p = tt
+passed_on (Err e) P h p = subst P (sym h) p
+
+pub if_err_both : {T E : Type 0} (r : Result T E) (P Q S : E → Type 0) → ((x : E) → P x → Q x → S x) → IfErr r P → IfErr r Q → IfErr r S
+if_err_both (Ok x) P Q S f h k = tt
+if_err_both (Err e) P Q S f h k = f e h k
+
+-- a command of another kind
+pub never : (kind : Type 0) → (kind → ⊥) → (told : Told) → IsOnce kind told 0
+never kind other Quiet = refl
+never kind other Accepted = inr (other, refl)
+never kind other Refused = refl
+
+pub once_accepted : (kind : Type 0) → kind → (told : Told) → told ≡ Accepted → IsOnce kind told 1
+once_accepted kind is told accepted = subst (λ (t : Told). IsOnce kind t 1) (sym accepted) (inl (is, refl))
+
+pub refused_never : (kind : Type 0) (told : Told) → told ≡ Refused → IsOnce kind told 0
+refused_never kind told refused = subst (λ (t : Told). IsOnce kind t 0) (sym refused) refl
+
+not_one : {P : Type 0} → ◌≡◌ {A = ℕ} 0 1 → P
+not_one is = let bad : ⊥ = cc is in absurd bad
+
+-- no query is registered, and no node is dropped
+pub none_tallied : (registers compacts : Type 0) (told : Told) (old new : LineState) → IsOnce registers told 0 → IsOnce compacts told 0 → nodes_of old.model ≤ nodes_of new.model → pairs_of new.model + old.pairs ≤ pairs_of old.model + new.pairs
+    → Places 0 0 (nodes_of new.model) old.model.covered new.model.covered old.places new.places → Tallies registers compacts told old new
+none_tallied registers compacts told old new none kept nodes pairs placed = record {
+  queries = 0;
+  registered = none;
+  compactions = 0;
+  compacted = kept;
+  dropped = 0;
+  none_dropped = λ _. refl;
+  reached = not_one;
+  kept = not_one;
+  nodes = omega (arith, nodes);
+  pairs = omega (arith, pairs);
+  placed = placed;
+}
+
+-- ---- the store has more nodes, and the documents changed
+pub grown_goes : (h : SessionState) (store : List Node) (docs : List Doc) (command : Command) (files after : Option Files) (faults more looks p q places : ℕ) → IsConsistent h → Grows h.store store p q → AreLive store docs
+    → PaysForPart (world_at (at h files faults looks p places)) command (counters looks p) (counters looks q) → faults ≤ more
+    → Goes (at h files faults looks p places) command (at (record h { store = store; docs = docs }) after more looks q places)
+grown_goes h store docs command files after faults more looks p q places is grows live begun later =
+    let serves = serves-grows h.store store p q h.book grows is.serves in
+    record {
+      session = record { live = live; kept = AreKept-grows h.store store p q grows h.versions is.kept; serves = serves };
+      nodes = inl (Grows-length h.store store p q grows);
+      pairs = Grows-pairs h.store store p q grows;
+      calls = omega (arith, grows.paid);
+      begun = begun;
+      placed = none_placed_part (length h.store) (length store) (covered_of h.book) places (covered-within store h.book serves);
+      faults = later;
+    }
+
+-- other documents in a store with more nodes only change the state
+pub grown_state : (h : SessionState) (store : List Node) (docs : List Doc) (p q : ℕ) → IsConsistent h → Grows h.store store p q → state_of (record h { store = store; docs = docs }) ≡ with_documents (state_of h) (plain store docs)
+grown_state h store docs p q is grows = ap (λ (v : Named Documents). record { documents = plain store docs; queries = queries_of h.book; versions = v }) (plain_versions-grows h.store store p q grows h.versions is.kept)
+
+pub grown_answers : (h : SessionState) (store : List Node) (docs : List Doc) (number : ℕ) (command : Command) (answer : Answer) (files after : Option Files) (faults more looks p q places : ℕ) → IsConsistent h → Grows h.store store p q → AreLive store docs
+    → (Registers command → ⊥) → (Compacts command → ⊥) → PaysFor (world (state_of h) files) command (counters looks p) (counters looks q) → after ≡ files → more ≡ faults
+    → Carries (world (state_of h) files) number command answer.told answer.line.items (world (with_documents (state_of h) (plain store docs)) files)
+    → Answers (at h files faults looks p places) number command (at (record h { store = store; docs = docs }) after more looks q places) answer
+grown_answers h store docs number command answer files after faults more looks p q places is grows live other kept paid same sound carries = record {
+  goes = grown_goes h store docs command files after faults more looks p q places is grows live (part_of_paid (world (state_of h) files) command (counters looks p) (counters looks q) paid) (omega (arith, sound));
+  sound = sound;
+  carries = subst (λ (f : Option Files). Carries (world (state_of h) files) number command answer.told answer.line.items (world (state_of (record h { store = store; docs = docs })) f)) (sym same)
+      (subst (λ (st : State). Carries (world (state_of h) files) number command answer.told answer.line.items (world st files)) (sym (grown_state h store docs p q is grows)) carries);
+  paid = paid;
+  tallies = none_tallied (Registers command) (Compacts command) answer.told (line_state (at h files faults looks p places)) (line_state (at (record h { store = store; docs = docs }) after more looks q places)) (never (Registers command) other answer.told) (never (Compacts command) kept answer.told)
+      (Grows-length h.store store p q grows) (Grows-pairs h.store store p q grows) (none_placed (length store) (covered_of h.book) places);
+}
+
+-- only the store has more nodes
+pub grown_same : (h : SessionState) (store : List Node) (number : ℕ) (command : Command) (answer : Answer) (files after : Option Files) (faults more looks p q places : ℕ) → IsConsistent h → Grows h.store store p q
+    → (Registers command → ⊥) → (Compacts command → ⊥) → PaysFor (world (state_of h) files) command (counters looks p) (counters looks q) → after ≡ files → more ≡ faults
+    → Carries (world (state_of h) files) number command answer.told answer.line.items (world (state_of h) files)
+    → Answers (at h files faults looks p places) number command (at (record h { store = store }) after more looks q places) answer
+grown_same h store number command answer files after faults more looks p q places is grows other kept paid same sound carries =
+    grown_answers h store h.docs number command answer files after faults more looks p q places is grows (AreLive-grows h.store store p q grows h.docs is.live) other kept paid same sound
+    (subst (λ (d : Documents). Carries (world (state_of h) files) number command answer.told answer.line.items (world (with_documents (state_of h) d) files)) (sym (plain-grows h.store store p q grows h.docs is.live)) carries)
+
+-- the same state and the same files are the same world
+same_world : {st su : State} {f g : Option Files} → st ≡ su → f ≡ g → world st f ≡ world su g
+same_world same files = λ i. world (same i) (files i)
+
+-- and the documents have the same texts
+pub grown_stays : (h : SessionState) (store : List Node) (docs : List Doc) (number : ℕ) (command : Command) (files after : Option Files) (faults more looks p q places : ℕ) (why : Stop) → IsConsistent h → Grows h.store store p q → AreLive store docs
+    → plain store docs ≡ plain h.store h.docs → PaysForPart (world (state_of h) files) command (counters looks p) (counters looks q) → after ≡ files → faults ≤ more
+    → (why ≡ stop.ShelfFault → IsOfFile command × Rose faults more) → (why ≡ stop.OutFault → ⊥)
+    → Stays (at h files faults looks p places) number command (at (record h { store = store; docs = docs }) after more looks q places) why
+grown_stays h store docs number command files after faults more looks p q places why is grows live texts begun same later shelf sink = record {
+  goes = grown_goes h store docs command files after faults more looks p q places is grows live begun later;
+  world = inl (same_world (grown_state h store docs p q is grows ∙ ap (with_documents (state_of h)) texts) same);
+  shelf = shelf;
+  sink = sink;
+}
+
+pub no_shelf : {P : Type 0} → stop.NoMemory ≡ stop.ShelfFault → P
+no_shelf is = let bad : ⊥ = cc is in absurd bad
+
+pub no_sink : stop.NoMemory ≡ stop.OutFault → ⊥
+no_sink is = cc is
+
+pub grown_stops : (h : SessionState) (store : List Node) (docs : List Doc) (number : ℕ) (command : Command) (files after : Option Files) (faults more looks p q places : ℕ) → IsConsistent h → Grows h.store store p q → AreLive store docs
+    → plain store docs ≡ plain h.store h.docs → PaysForPart (world (state_of h) files) command (counters looks p) (counters looks q) → after ≡ files → faults ≤ more
+    → Stays (at h files faults looks p places) number command (at (record h { store = store; docs = docs }) after more looks q places) stop.NoMemory
+grown_stops h store docs number command files after faults more looks p q places is grows live texts begun same later =
+    grown_stays h store docs number command files after faults more looks p q places stop.NoMemory is grows live texts begun same later no_shelf no_sink
+
+-- ---- only the documents changed
+pub free_answers : (h : SessionState) (docs : List Doc) (number : ℕ) (command : Command) (answer : Answer) (files : Option Files) (faults looks pairs places : ℕ) → IsConsistent h → AreLive h.store docs
+    → (Registers command → ⊥) → (Compacts command → ⊥) → IsAllowed (world (state_of h) files) command no_steps
+    → Carries (world (state_of h) files) number command answer.told answer.line.items (world (with_documents (state_of h) (plain h.store docs)) files)
+    → Answers (at h files faults looks pairs places) number command (at (record h { docs = docs }) files faults looks pairs places) answer
+free_answers h docs number command answer files faults looks pairs places is live other kept free carries =
+    grown_answers h h.store docs number command answer files files faults faults looks pairs pairs places is (Grows-none h.store pairs pairs (omega arith)) live other kept (no_steps, free, none_paid looks pairs pairs refl) refl refl carries
+
+-- nothing was done
+pub stays : (h : SessionState) (number : ℕ) (command : Command) (files : Option Files) (faults looks pairs places : ℕ) → IsConsistent h
+    → Stays (at h files faults looks pairs places) number command (at h files faults looks pairs places) stop.NoMemory
+stays h number command files faults looks pairs places is =
+    grown_stops h h.store h.docs number command files files faults faults looks pairs pairs places is (Grows-none h.store pairs pairs (omega arith)) is.live refl (not_begun (world (state_of h) files) command looks pairs) refl (omega arith)
+
+-- ---- the store and the counters are unchanged
+still_goes : (h : SessionState) (docs : List Doc) (versions : Named (List Doc)) (book : List Entry) (command : Command) (files after : Option Files) (faults more looks pairs places : ℕ) → IsConsistent h
+    → IsConsistent (record h { docs = docs; versions = versions; book = book }) → faults ≤ more
+    → Goes (at h files faults looks pairs places) command (at (record h { docs = docs; versions = versions; book = book }) after more looks pairs places)
+still_goes h docs versions book command files after faults more looks pairs places is now later = record {
+  session = now;
+  nodes = inl (omega arith);
+  pairs = omega arith;
+  calls = omega arith;
+  begun = not_begun (world (state_of h) files) command looks pairs;
+  placed = none_placed_part (length h.store) (length h.store) (covered_of h.book) places (covered-within h.store h.book is.serves);
+  faults = later;
+}
+
+-- ---- the queries changed
+pub booked_answers : (h : SessionState) (book : List Entry) (number : ℕ) (command : Command) (answer : Answer) (files : Option Files) (faults looks pairs places count : ℕ) → IsConsistent h → Serves h.store book
+    → IsAllowed (world (state_of h) files) command no_steps → IsOnce (Registers command) answer.told count → IsOnce (Compacts command) answer.told 0
+    → Places count 0 (length h.store) (covered_of h.book) (covered_of book) places places
+    → Carries (world (state_of h) files) number command answer.told answer.line.items (world (with_queries (state_of h) (queries_of book)) files)
+    → Answers (at h files faults looks pairs places) number command (at (record h { book = book }) files faults looks pairs places) answer
+booked_answers h book number command answer files faults looks pairs places count is serves free registered kept placed carries = record {
+  goes = still_goes h h.docs h.versions book command files files faults faults looks pairs places is (record { live = is.live; kept = is.kept; serves = serves }) (omega arith);
+  sound = refl;
+  carries = carries;
+  paid = (no_steps, free, none_paid looks pairs pairs refl);
+  tallies = record {
+    queries = count;
+    registered = registered;
+    compactions = 0;
+    compacted = kept;
+    dropped = 0;
+    none_dropped = λ _. refl;
+    reached = not_one;
+    kept = not_one;
+    nodes = omega arith;
+    pairs = omega arith;
+    placed = placed;
+  };
+}
+
+pub booked_stops : (h : SessionState) (book : List Entry) (number : ℕ) (command : Command) (files : Option Files) (faults looks pairs places : ℕ) → IsConsistent h → Serves h.store book
+    → (state_of (record h { book = book }) ≡ state_of h) ⊎ ((IsOfFile command → ⊥) × ((told : Told) × (reply : List ℕ) × Carries (world (state_of h) files) number command told reply (world (state_of (record h { book = book })) files)))
+    → Stays (at h files faults looks pairs places) number command (at (record h { book = book }) files faults looks pairs places) stop.NoMemory
+booked_stops h book number command files faults looks pairs places is serves state = record {
+  goes = still_goes h h.docs h.versions book command files files faults faults looks pairs places is (record { live = is.live; kept = is.kept; serves = serves }) (omega arith);
+  world = elim state [ inl same ↦ inl (same_world same refl) | inr more ↦ inr more ];
+  shelf = no_shelf;
+  sink = no_sink;
+}
+
+-- a rejected command
+pub refused_answers : (h : SessionState) (number : ℕ) (command : Command) (answer : Answer) (files : Option Files) (faults looks pairs places : ℕ) → IsConsistent h → answer.told ≡ Refused → IsAllowed (world (state_of h) files) command no_steps
+    → Carries (world (state_of h) files) number command answer.told answer.line.items (world (state_of h) files)
+    → Answers (at h files faults looks pairs places) number command (at h files faults looks pairs places) answer
+refused_answers h number command answer files faults looks pairs places is refused free carries =
+    booked_answers h h.book number command answer files faults looks pairs places 0 is is.serves free (refused_never (Registers command) answer.told refused) (refused_never (Compacts command) answer.told refused) (none_placed (length h.store) (covered_of h.book) places) carries
+
+-- the same answers over an unchanged file store
+pub same_shelf : (h : SessionState) (number : ℕ) (command : Command) (r : Result Answer Stop) (files after : Option Files) (faults more looks pairs places : ℕ) → after ≡ files → more ≡ faults
+    → IfOk r (Answers (at h files faults looks pairs places) number command (at h files faults looks pairs places)) → IfOk r (Answers (at h files faults looks pairs places) number command (at h after more looks pairs places))
+same_shelf h number command r files after faults more looks pairs places same sound answers =
+    subst (λ (f : Option Files). IfOk r (Answers (at h files faults looks pairs places) number command (at h f more looks pairs places))) (sym same)
+    (subst (λ (n : ℕ). IfOk r (Answers (at h files faults looks pairs places) number command (at h files n looks pairs places))) (sym sound) answers)
+
+-- ---- the files changed
+pub saved_answers : (h : SessionState) (number : ℕ) (file bytes : List ℕ) (nodes : ℕ) (answer : Answer) (files after : Option Files) (faults more looks pairs places : ℕ) → IsConsistent h → IsSaved (plain h.store h.docs) bytes nodes
+    → length bytes ≤ open_size → AllowsWrites files file → answer.told ≡ Accepted → answer.line.items ≡ saved_text (length (plain h.store h.docs)) nodes → IsPut files file bytes after → more ≡ faults
+    → Answers (at h files faults looks pairs places) number (form.SaveFile file) (at h after more looks pairs places) answer
+saved_answers h number file bytes nodes answer files after faults more looks pairs places is saved short writable accepted written put sound = record {
+  goes = still_goes h h.docs h.versions h.book (form.SaveFile file) files after faults more looks pairs places is is (omega (arith, sound));
+  sound = sound;
+  carries = subst (λ (t : Told). Carries (world (state_of h) files) number (form.SaveFile file) t answer.line.items (world (state_of h) after)) (sym accepted) (bytes, nodes, saved, short, writable, written, refl, put);
+  paid = (no_steps, refl, none_paid looks pairs pairs refl);
+  tallies = none_tallied (Registers (form.SaveFile file)) (Compacts (form.SaveFile file)) answer.told (line_state (at h files faults looks pairs places)) (line_state (at h after more looks pairs places)) (never (Registers (form.SaveFile file)) (λ no. no) answer.told) (never (Compacts (form.SaveFile file)) (λ no. no) answer.told)
+      (omega arith) (omega arith) (none_placed (length h.store) (covered_of h.book) places);
+}
+
+pub saved_stays : (h : SessionState) (number : ℕ) (file : List ℕ) (files after : Option Files) (faults more looks pairs places : ℕ) (why : Stop) → IsConsistent h → after ≡ files → faults ≤ more → (why ≡ stop.ShelfFault → Rose faults more) → (why ≡ stop.OutFault → ⊥)
+    → Stays (at h files faults looks pairs places) number (form.SaveFile file) (at h after more looks pairs places) why
+saved_stays h number file files after faults more looks pairs places why is same later shelf sink = record {
+  goes = still_goes h h.docs h.versions h.book (form.SaveFile file) files after faults more looks pairs places is is later;
+  world = inl (same_world refl same);
+  shelf = λ e. (tt, shelf e);
+  sink = sink;
+}
+
+-- ---- the versions changed, and possibly the documents
+pub marked_answers : (h : SessionState) (docs : List Doc) (versions : Named (List Doc)) (number : ℕ) (command : Command) (answer : Answer) (files : Option Files) (faults looks pairs places : ℕ) → IsConsistent h → AreLive h.store docs → AreKept h.store versions
+    → (Registers command → ⊥) → (Compacts command → ⊥) → IsAllowed (world (state_of h) files) command no_steps
+    → Carries (world (state_of h) files) number command answer.told answer.line.items (world (state_of (record h { docs = docs; versions = versions })) files)
+    → Answers (at h files faults looks pairs places) number command (at (record h { docs = docs; versions = versions }) files faults looks pairs places) answer
+marked_answers h docs versions number command answer files faults looks pairs places is live kept other keeps free carries = record {
+  goes = still_goes h docs versions h.book command files files faults faults looks pairs places is (record { live = live; kept = kept; serves = is.serves }) (omega arith);
+  sound = refl;
+  carries = carries;
+  paid = (no_steps, free, none_paid looks pairs pairs refl);
+  tallies = none_tallied (Registers command) (Compacts command) answer.told (line_state (at h files faults looks pairs places)) (line_state (at (record h { docs = docs; versions = versions }) files faults looks pairs places)) (never (Registers command) other answer.told) (never (Compacts command) keeps answer.told)
+      (omega arith) (omega arith) (none_placed (length h.store) (covered_of h.book) places);
+}
+
+-- ---- tables were computed, then the store got nodes and the documents changed
+moved_goes : (h : SessionState) (store : List Node) (docs : List Doc) (book : List Entry) (command : Command) (files : Option Files) (faults looks more p q r s : ℕ) → IsConsistent h → Grows h.store store p q → AreLive store docs → Serves h.store book
+    → ArePartlyAt (length h.store) (covered_of h.book) (covered_of book) → s + sum_of (covered_of h.book) ≡ r + sum_of (covered_of book)
+    → PaysForPart (world (state_of h) files) command (counters looks p) (counters more q)
+    → Goes (at h files faults looks p r) command (at (record h { store = store; docs = docs; book = book }) files faults more q s)
+moved_goes h store docs book command files faults looks more p q r s is grows live serves partly steps begun = record {
+  session = record { live = live; kept = AreKept-grows h.store store p q grows h.versions is.kept; serves = serves-grows h.store store p q book grows serves };
+  nodes = inl (Grows-length h.store store p q grows);
+  pairs = Grows-pairs h.store store p q grows;
+  calls = omega (arith, grows.paid);
+  begun = begun;
+  placed = λ n few le. grown_placed_part (length h.store) r s (covered_of h.book) (covered_of book) (covered-within h.store book serves) partly steps n few few;
+  faults = omega arith;
+}
+
+moved_state : (h : SessionState) (store : List Node) (docs : List Doc) (book : List Entry) (p q : ℕ) → IsConsistent h → Grows h.store store p q → queries_of book ≡ queries_of h.book
+    → state_of (record h { store = store; docs = docs; book = book }) ≡ with_documents (state_of h) (plain store docs)
+moved_state h store docs book p q is grows same =
+    ap (λ (qs : Named Query). record { documents = plain store docs; queries = qs; versions = plain_versions store h.versions }) same ∙ grown_state h store docs p q is grows
+
+pub moved_answers : (h : SessionState) (store : List Node) (docs : List Doc) (book : List Entry) (number : ℕ) (command : Command) (answer : Answer) (files : Option Files) (faults looks more p q r s : ℕ) → IsConsistent h → Grows h.store store p q → AreLive store docs → Serves h.store book
+    → queries_of book ≡ queries_of h.book → ArePartlyAt (length h.store) (covered_of h.book) (covered_of book) → s + sum_of (covered_of h.book) ≡ r + sum_of (covered_of book)
+    → (Registers command → ⊥) → (Compacts command → ⊥) → PaysFor (world (state_of h) files) command (counters looks p) (counters more q)
+    → Carries (world (state_of h) files) number command answer.told answer.line.items (world (with_documents (state_of h) (plain store docs)) files)
+    → Answers (at h files faults looks p r) number command (at (record h { store = store; docs = docs; book = book }) files faults more q s) answer
+moved_answers h store docs book number command answer files faults looks more p q r s is grows live serves same partly steps other kept paid carries = record {
+  goes = moved_goes h store docs book command files faults looks more p q r s is grows live serves partly steps (part_of_paid (world (state_of h) files) command (counters looks p) (counters more q) paid);
+  sound = refl;
+  carries = subst (λ (st : State). Carries (world (state_of h) files) number command answer.told answer.line.items (world st files)) (sym (moved_state h store docs book p q is grows same)) carries;
+  paid = paid;
+  tallies = none_tallied (Registers command) (Compacts command) answer.told (line_state (at h files faults looks p r)) (line_state (at (record h { store = store; docs = docs; book = book }) files faults more q s))
+      (never (Registers command) other answer.told) (never (Compacts command) kept answer.told) (Grows-length h.store store p q grows) (Grows-pairs h.store store p q grows)
+      (λ n le. grown_placed (length h.store) r s (covered_of h.book) (covered_of book) partly steps n (omega (arith, le, Grows-length h.store store p q grows)));
+}
+
+pub moved_stops : (h : SessionState) (store : List Node) (docs : List Doc) (book : List Entry) (number : ℕ) (command : Command) (files : Option Files) (faults looks more p q r s : ℕ) → IsConsistent h → Grows h.store store p q → AreLive store docs → Serves h.store book
+    → queries_of book ≡ queries_of h.book → ArePartlyAt (length h.store) (covered_of h.book) (covered_of book) → s + sum_of (covered_of h.book) ≡ r + sum_of (covered_of book)
+    → plain store docs ≡ plain h.store h.docs → PaysForPart (world (state_of h) files) command (counters looks p) (counters more q)
+    → Stays (at h files faults looks p r) number command (at (record h { store = store; docs = docs; book = book }) files faults more q s) stop.NoMemory
+moved_stops h store docs book number command files faults looks more p q r s is grows live serves same partly steps texts begun = record {
+  goes = moved_goes h store docs book command files faults looks more p q r s is grows live serves partly steps begun;
+  world = inl (same_world (moved_state h store docs book p q is grows same ∙ ap (with_documents (state_of h)) texts) refl);
+  shelf = no_shelf;
+  sink = no_sink;
+}
+
+-- ---- only tables were computed
+pub placed_goes : (h : SessionState) (book : List Entry) (command : Command) (files : Option Files) (faults looks more pairs p q : ℕ) → IsConsistent h → Serves h.store book
+    → ArePartlyAt (length h.store) (covered_of h.book) (covered_of book) → q + sum_of (covered_of h.book) ≡ p + sum_of (covered_of book)
+    → PaysForPart (world (state_of h) files) command (counters looks pairs) (counters more pairs)
+    → Goes (at h files faults looks pairs p) command (at (record h { book = book }) files faults more pairs q)
+placed_goes h book command files faults looks more pairs p q is serves partly steps begun =
+    moved_goes h h.store h.docs book command files faults looks more pairs pairs p q is (Grows-none h.store pairs pairs (omega arith)) is.live serves partly steps begun
+
+pub same_queries : (h : SessionState) (book : List Entry) → queries_of book ≡ queries_of h.book → state_of (record h { book = book }) ≡ state_of h
+same_queries h book same = ap (with_queries (state_of h)) same
+
+pub placed_tallied : (h : SessionState) (book : List Entry) (command : Command) (told : Told) (files : Option Files) (faults looks more pairs p q : ℕ) → ArePartlyAt (length h.store) (covered_of h.book) (covered_of book) → q + sum_of (covered_of h.book) ≡ p + sum_of (covered_of book)
+    → (Registers command → ⊥) → (Compacts command → ⊥) → Tallies (Registers command) (Compacts command) told (line_state (at h files faults looks pairs p)) (line_state (at (record h { book = book }) files faults more pairs q))
+placed_tallied h book command told files faults looks more pairs p q partly steps other kept =
+    none_tallied (Registers command) (Compacts command) told (line_state (at h files faults looks pairs p)) (line_state (at (record h { book = book }) files faults more pairs q)) (never (Registers command) other told) (never (Compacts command) kept told)
+    (omega arith) (omega arith) (grown_placed (length h.store) p q (covered_of h.book) (covered_of book) partly steps)
+
+pub placed_answers : (h : SessionState) (book : List Entry) (number : ℕ) (command : Command) (answer : Answer) (files : Option Files) (faults looks more pairs p q : ℕ) → IsConsistent h → Serves h.store book → queries_of book ≡ queries_of h.book
+    → ArePartlyAt (length h.store) (covered_of h.book) (covered_of book) → q + sum_of (covered_of h.book) ≡ p + sum_of (covered_of book)
+    → (Registers command → ⊥) → (Compacts command → ⊥) → PaysFor (world (state_of h) files) command (counters looks pairs) (counters more pairs)
+    → Carries (world (state_of h) files) number command answer.told answer.line.items (world (state_of h) files)
+    → Answers (at h files faults looks pairs p) number command (at (record h { book = book }) files faults more pairs q) answer
+placed_answers h book number command answer files faults looks more pairs p q is serves same partly steps other kept paid carries =
+    moved_answers h h.store h.docs book number command answer files faults looks more pairs pairs p q is (Grows-none h.store pairs pairs (omega arith)) is.live serves same partly steps other kept paid carries
+
+pub placed_stops : (h : SessionState) (book : List Entry) (number : ℕ) (command : Command) (files : Option Files) (faults looks more pairs p q : ℕ) → IsConsistent h → Serves h.store book → queries_of book ≡ queries_of h.book
+    → ArePartlyAt (length h.store) (covered_of h.book) (covered_of book) → q + sum_of (covered_of h.book) ≡ p + sum_of (covered_of book)
+    → PaysForPart (world (state_of h) files) command (counters looks pairs) (counters more pairs)
+    → Stays (at h files faults looks pairs p) number command (at (record h { book = book }) files faults more pairs q) stop.NoMemory
+placed_stops h book number command files faults looks more pairs p q is serves same partly steps begun =
+    moved_stops h h.store h.docs book number command files faults looks more pairs pairs p q is (Grows-none h.store pairs pairs (omega arith)) is.live serves same partly steps refl begun
+
+-- and the allocation of some of them failed
+pub unplaced : (h : SessionState) (book : List Entry) (number : ℕ) (command : Command) (files : Option Files) (faults looks pairs p q : ℕ) → IsConsistent h → Serves h.store book → queries_of book ≡ queries_of h.book
+    → ArePartlyAt (length h.store) (covered_of h.book) (covered_of book) → q + sum_of (covered_of h.book) ≡ p + sum_of (covered_of book)
+    → Stays (at h files faults looks pairs p) number command (at (record h { book = book }) files faults looks pairs q) stop.NoMemory
+unplaced h book number command files faults looks pairs p q is serves same partly steps =
+    placed_stops h book number command files faults looks looks pairs p q is serves same partly steps (not_begun (world (state_of h) files) command looks pairs)

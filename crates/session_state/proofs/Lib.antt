@@ -1,0 +1,10 @@
+pub mod DocumentLemmas
+pub mod BookLemmas
+pub mod Facts
+pub mod Goes
+pub mod StateLemmas
+pub mod Names
+pub mod PaidLemmas
+pub mod PlacesLemmas
+pub mod EndsLemmas
+pub mod Written

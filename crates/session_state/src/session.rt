@@ -1,0 +1,49 @@
+//! The state of a session.
+ghost use Rattle.std.specs.Prelude.{◌≡◌, []};
+ghost use Rattle.query_book.specs.Serving.{covered_of};
+ghost use Rattle.session_state.specs.SessionState.{IsConsistent, state_of};
+ghost use Rattle.span_language.specs.State.{nothing};
+
+use doc_book::Docs;
+use doc_versions::Versions;
+use node_store::Store;
+use query_book::QueryBook;
+use std::alloc::Global;
+
+/// Named documents, queries and versions over one store of nodes.
+#[derive(Drop)]
+pub struct SessionState {
+    pub alloc: Global,
+    pub store: Store,
+    pub docs: Docs,
+    pub book: QueryBook,
+    pub versions: Versions,
+}
+
+impl SessionState {
+    /// No nodes, no documents, no queries and no versions.
+    pub fn new(alloc: Global) -> SessionState
+        ensures state { state_of result ≡ nothing }
+        ensures session { IsConsistent result }
+        ensures store { result.store ≡ [] }
+        ensures covered { covered_of result.book ≡ [] }
+    {
+        SessionState {
+            alloc,
+            store: Store::new(alloc),
+            docs: Docs::new(alloc),
+            book: QueryBook::new(alloc),
+            versions: Versions::new(alloc),
+        }
+    }
+
+    /// Makes access to documents and versions by index take constant time, for a command that visits all of them.
+    /// Changes nothing else, and allocates nothing. Takes constant time if nothing was removed since the last call, and
+    /// otherwise O(n log n) time for n documents and versions.
+    pub fn settle(&mut self)
+        ensures { self.new ≡ self.old }
+    {
+        self.docs.settle();
+        self.versions.settle();
+    }
+}

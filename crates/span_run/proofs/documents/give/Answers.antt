@@ -1,9 +1,0 @@
-use Rattle.span_run.proofs.Names.{ap, AreLive, plain, subst, sym, ◌∙◌}
-use Rattle.span_run.proofs.Facts.{AreLive-put, plain-put}
-use Rattle.span_run.proofs.documents.give.Goals as goal
-
-pub returns-clause-live : goal.returns-clause-live
-returns-clause-live c = subst (AreLive c.args.store.now) (sym c.in_ok-set.ensures.ok) (AreLive-put c.args.store.now c.args.docs.now c.args.name c.args.root c.requires.live c.requires.root)
-
-pub returns-clause-ok : goal.returns-clause-ok
-returns-clause-ok c = (c.in_ok-answer.ensures, ap (plain c.args.store.now) c.in_ok-set.ensures.ok ∙ plain-put c.args.store.now c.args.docs.now c.args.name c.args.root)

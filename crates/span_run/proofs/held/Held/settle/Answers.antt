@@ -1,4 +1,0 @@
-use Rattle.span_run.proofs.held.Held.settle.Goals as goal
-
-pub returns : goal.returns
-returns c = λ i. record c.args.self.now { docs = c.settle.ensures i; versions = c.settle-2.ensures i }

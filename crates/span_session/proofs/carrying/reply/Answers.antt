@@ -1,0 +1,30 @@
+use Rattle.span_session.proofs.Names.{at, refl}
+use Rattle.span_session.proofs.Facts.{answer_ends, each_err, no_shelf_wrote, passed, stays_stopped}
+use Rattle.span_session.proofs.carrying.reply.Goals as goal
+
+pub returns-in_err-answer : goal.returns-in_err-answer
+returns-in_err-answer g c =
+    let f = g.F.Shelf in
+    let n = c.answer.new in
+    let stopped = c.in_err-answer.ensures.stopped in
+    record {
+      session = stopped.goes.session;
+      unsent = each_err c.from_residual.result _ (λ _ _. refl);
+      ends = passed c.from_residual.result _ _ _ c.from_residual.ensures.1 (stays_stopped
+          (at c.args.session.now (f.files c.args.shelf.now) (f.faults c.args.shelf.now) c.args.looks.now c.args.pairs.now c.args.places.now)
+          (at n.session (f.files n.shelf) (f.faults n.shelf) n.looks n.pairs n.places) c.args.context.number c.args.command _ _ c.requires.answering stopped);
+    }
+
+pub returns : goal.returns
+returns g c =
+    let f = g.F.Shelf in
+    let n = c.answer.new in
+    let answers = c.in_ok-answer.ensures.done in
+    record {
+      session = answers.goes.session;
+      unsent = no_shelf_wrote _ c.send.result _ _ _ c.send.ensures.wrote;
+      ends = answer_ends
+          (at c.args.session.now (f.files c.args.shelf.now) (f.faults c.args.shelf.now) c.args.looks.now c.args.pairs.now c.args.places.now)
+          (at n.session (f.files n.shelf) (f.faults n.shelf) n.looks n.pairs n.places)
+          c.args.context.number c.args.command c.in_ok-answer.answer _ _ c.send.result c.requires.answering answers c.send.ensures.told c.send.ensures.wrote;
+    }

@@ -1,0 +1,23 @@
+use Rattle.span_session.proofs.Names.{IfErr, IfOk, IsDone, IsStopped, outlet, seen, SessionModel, model_of, subst}
+use Rattle.span_session.proofs.Facts.{covered-within}
+use Rattle.span_session.proofs.session.Session.line.Goals as goal
+
+pub returns-clause-done : goal.returns-clause-done
+returns-clause-done g c =
+    let k = g.K.Sink in
+    let f = g.F.Shelf in
+    let n = c.carry_line-told.new in
+    subst (λ (s : SessionModel). IfOk c.carry_line-told.result (IsDone c.args.line.now c.args.number (seen s (f.files c.args.shelf.now) (f.faults c.args.shelf.now) c.args.looks.now c.args.pairs.now c.args.places.now) (outlet (k.written c.args.out.now) (k.faults c.args.out.now) (k.wants c.args.out.now)) (seen (model_of n.session) (f.files n.shelf) (f.faults n.shelf) n.looks n.pairs n.places) (outlet (k.written n.out) (k.faults n.out) (k.wants n.out)))) c.self.view_is
+    c.carry_line-told.ensures.done
+
+pub returns-clause-stopped : goal.returns-clause-stopped
+returns-clause-stopped g c =
+    let k = g.K.Sink in
+    let f = g.F.Shelf in
+    let n = c.carry_line-told.new in
+    subst (λ (s : SessionModel). IfErr c.carry_line-told.result (IsStopped c.args.line.now c.args.number (seen s (f.files c.args.shelf.now) (f.faults c.args.shelf.now) c.args.looks.now c.args.pairs.now c.args.places.now) (outlet (k.written c.args.out.now) (k.faults c.args.out.now) (k.wants c.args.out.now)) (seen (model_of n.session) (f.files n.shelf) (f.faults n.shelf) n.looks n.pairs n.places) (outlet (k.written n.out) (k.faults n.out) (k.wants n.out)))) c.self.view_is
+    c.carry_line-told.ensures.stopped
+
+pub returns-clause-model : goal.returns-clause-model
+returns-clause-model g c =
+    record { few = c.count.ensures.few; within = covered-within c.carry_line-told.new.session.store c.carry_line-told.new.session.book c.carry_line-told.ensures.session.serves }
