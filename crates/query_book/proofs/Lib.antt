@@ -12,5 +12,6 @@ pub mod Growth
 pub mod Covered
 pub mod Lists
 pub mod Lent
+pub mod InHand
 pub mod Renumbered
 pub mod Used

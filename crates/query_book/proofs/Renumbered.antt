@@ -1,5 +1,5 @@
 -- Facts about the map's queries when their tables are renumbered.
-use Rattle.std.proofs.Common.{◌≡◌, ℕ, zero, suc, ◌<◌, ◌≤◌, Bool, List, [], ◌∷◌, length, get_or, slice_get, Some, Contains, sym, ap, subst, ◌∙◌, arith}
+use Rattle.std.proofs.Common.{◌≡◌, ℕ, zero, suc, ◌≤◌, Bool, List, [], ◌∷◌, length, slice_get, Some, Contains, sym, ap, subst, ◌∙◌, arith}
 use Rattle.std.specs.Prelude.{unwrap_or}
 use Rattle.std.specs.Option.{option_map}
 use Rattle.span_types.specs.Query.{query_of}
@@ -7,9 +7,7 @@ use Rattle.slp_model.specs.declared.Node.{Node}
 use Rattle.slp_model.specs.Thin.{rank, IsThinOf}
 use Rattle.slp_model.proofs.RankLemmas.{rank-most}
 use Rattle.marker_dfa.specs.Deterministic.{states_of}
-use Rattle.state_tables.specs.Table.{Row, compose_of}
-use Rattle.state_tables.specs.Dictionary.{Dictionary, AreTables, count_of}
-use Rattle.table_grow.specs.Remembering.{Entry as Remembered, IsTrueEntry}
+use Rattle.state_tables.specs.Dictionary.{AreTables, count_of}
 use Rattle.query_book.specs.declared.entry.Entry.{Entry}
 use Rattle.query_book.specs.declared.entry.TabledQuery.{TabledQuery}
 use Rattle.query_book.specs.Named.{Named}

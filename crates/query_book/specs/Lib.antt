@@ -12,4 +12,5 @@ pub mod Kept
 pub mod Making
 pub mod Growing
 pub mod Parts
+pub mod InHand
 pub mod Renumbering

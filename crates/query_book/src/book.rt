@@ -14,7 +14,7 @@ ghost use Rattle.query_book.specs.Kept.{IsSound};
 ghost use Rattle.query_book.specs.Renumbering.{IsPlanFor, UseEachTable, ranked};
 
 use crate::compiled::{Compiled, compile};
-use crate::entry::{Entry, TabledQuery, fresh_entry};
+use crate::entry::{Entry, Lent, TabledQuery, fresh_entry};
 use crate::growing::grow_entries;
 use crate::refusal::{BookRefusal, QueryRefusal};
 use crate::renumbering::renumber_entries;
@@ -82,6 +82,25 @@ impl QueryBook {
         Ok(())
     }
 
+    /// Registers a compiled query under this name. An existing name keeps its index and gets the new query, and a new
+    /// name goes last. The query has no tables yet. After an error the registry is unchanged.
+    ///
+    /// # Errors
+    ///
+    /// `NoMemory` if allocation fails.
+    pub fn register(&mut self, alloc: Global, name: Name, query: Compiled) -> Result<(), NoMemory>
+        requires { IsCompiled query }
+        ensures ok { OnOk result (queries_of self.new ≡ put (queries_of self.old) name (query_of query.tree)) }
+        ensures covered { OnOk result (covered_of self.new ≡ put (covered_of self.old) name 0) }
+        ensures serves { (ns : List Node) → Serves ns self.old → Serves ns self.new }
+        ensures distinct { OnOk result (AreDistinctNames (queries_of self.new)) }
+        ensures err { OnErr result (self.new ≡ self.old) }
+    {
+        let entry = fresh_entry(alloc, name, query)?;
+        self.put(alloc, entry)?;
+        Ok(())
+    }
+
     /// Removes the query with this name. Each later query moves down by one index. Takes amortised
     /// O(log n) time for n queries.
     ///
@@ -138,7 +157,14 @@ impl QueryBook {
         ensures steps { places.new + sum_of (covered_of self.old) ≡ places.old + sum_of (covered_of self.new) }
     {
         self.by_name.settle();
-        grow_entries(rt, alloc, &mut self.by_name, store, workers, gate, places)
+        let lent = Lent {
+            rt,
+            alloc,
+            store,
+            workers,
+            gate,
+        };
+        grow_entries(lent, &mut self.by_name, places)
     }
 
     /// Renumbers the tables when the store is compacted: each query keeps exactly the tables of the kept nodes, under
@@ -165,25 +191,6 @@ impl QueryBook {
             Some(tabled) => Ok(tabled),
             None => Err(BookRefusal::NoSuchQuery),
         }
-    }
-
-    /// Registers a query under this name, without tables.
-    pub(crate) fn register(
-        &mut self,
-        alloc: Global,
-        name: Name,
-        query: Compiled,
-    ) -> Result<(), NoMemory>
-        requires { IsCompiled query }
-        ensures ok { OnOk result (queries_of self.new ≡ put (queries_of self.old) name (query_of query.tree)) }
-        ensures covered { OnOk result (covered_of self.new ≡ put (covered_of self.old) name 0) }
-        ensures serves { (ns : List Node) → Serves ns self.old → Serves ns self.new }
-        ensures distinct { OnOk result (AreDistinctNames (queries_of self.new)) }
-        ensures err { OnErr result (self.new ≡ self.old) }
-    {
-        let entry = fresh_entry(alloc, name, query)?;
-        self.put(alloc, entry)?;
-        Ok(())
     }
 
     /// Removes the entry with this name.

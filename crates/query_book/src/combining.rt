@@ -123,8 +123,17 @@ impl QueryBook {
         Ok(())
     }
 
-    /// The union of the queries with these names.
-    fn union_of(&self, alloc: Global, left: &[u8], right: &[u8]) -> Result<Compiled, CombineRefusal>
+    /// The union of the queries with these names. `register` registers the result.
+    ///
+    /// # Errors
+    ///
+    /// As for `union`.
+    pub fn union_of(
+        &self,
+        alloc: Global,
+        left: &[u8],
+        right: &[u8],
+    ) -> Result<Compiled, CombineRefusal>
         requires left { IsName left.now }
         requires right { IsName right.now }
         ensures tree { IfOk result (λ c. HasPair Union (queries_of self.now) left.now right.now (λ q. IsAccepted q × (query_of c.tree ≡ q))) }
@@ -136,8 +145,17 @@ impl QueryBook {
         united(alloc, left, right)
     }
 
-    /// The join of the queries with these names.
-    fn join_of(&self, alloc: Global, left: &[u8], right: &[u8]) -> Result<Compiled, CombineRefusal>
+    /// The join of the queries with these names. `register` registers the result.
+    ///
+    /// # Errors
+    ///
+    /// As for `join`.
+    pub fn join_of(
+        &self,
+        alloc: Global,
+        left: &[u8],
+        right: &[u8],
+    ) -> Result<Compiled, CombineRefusal>
         requires left { IsName left.now }
         requires right { IsName right.now }
         ensures tree { IfOk result (λ c. HasPair Join (queries_of self.now) left.now right.now (λ q. IsAccepted q × (query_of c.tree ≡ q))) }
@@ -149,8 +167,12 @@ impl QueryBook {
         joined(alloc, left, right)
     }
 
-    /// The projection of the query with this name.
-    fn projection_of(
+    /// The projection of the query with this name. `register` registers the result.
+    ///
+    /// # Errors
+    ///
+    /// As for `project`.
+    pub fn projection_of(
         &self,
         alloc: Global,
         source: &[u8],

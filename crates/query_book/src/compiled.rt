@@ -2,6 +2,7 @@
 ghost use Rattle.std.specs.Prelude.{◌≡◌, MatchResult, IfOk, IfErr};
 ghost use Rattle.span_types.specs.FormulaTree.{tree_of};
 ghost use Rattle.span_types.specs.Query.{Leaf, query_of};
+ghost use Rattle.span_types.specs.Rel.{names_of};
 ghost use Rattle.marker_nfa.specs.Occurrences.{IsWithinLimits};
 ghost use Rattle.marker_dfa.specs.Refusals.{IfTooMany};
 ghost use Rattle.query_book.specs.Occurrences.{CountIsAbove};
@@ -15,7 +16,7 @@ use marker_nfa::of_formula;
 use span_types::{Formula, QueryTree, Vars};
 use std::alloc::Global;
 
-/// A query, the number of its leaves and operations, the names of its variables, and its automaton.
+/// A compiled query: its tree, the number of its leaves and operations, the names of its variables, and its automaton.
 #[derive(Drop)]
 pub struct Compiled {
     pub(crate) tree: QueryTree,
@@ -24,13 +25,23 @@ pub struct Compiled {
     pub(crate) dfa: Dfa,
 }
 
-/// Compiles the text of a formula.
+impl Compiled {
+    /// The names of the query's variables, in the order of their numbers.
+    pub fn vars(&self) -> &Vars
+        requires { IsCompiled self.now }
+        ensures { result.now ≡ names_of (query_of self.now.tree) }
+    {
+        &self.vars
+    }
+}
+
+/// Compiles the text of a formula. `QueryBook::register` registers the result.
 ///
 /// # Errors
 ///
 /// The first error of the text, `TooManyStates` exactly if the formula's automaton would have more than 128 states, or
 /// `NoMemory` if allocation fails.
-pub(crate) fn compile(alloc: Global, text: &[u8]) -> Result<Compiled, QueryRefusal>
+pub fn compile(alloc: Global, text: &[u8]) -> Result<Compiled, QueryRefusal>
     ensures { MatchResult result (IsCompiledOf text.now) (IsRefused text.now) }
 {
     match read(alloc, text) {

@@ -11,7 +11,7 @@ use crate::compiled::Compiled;
 use node_store::Store;
 use span_types::{Name, NoMemory, Steps};
 use state_tables::Tables;
-use std::alloc::Global;
+use std::alloc::{AllocError, Global};
 use std::sync::ledger::Ledger;
 use std::thread::Threads;
 use table_grow::{Memory, grow};
@@ -35,6 +35,26 @@ pub struct Entry {
     pub(crate) tabled: TabledQuery,
 }
 
+/// What the computation of tables needs apart from the queries: the runtime, the allocator, the store, the maximum
+/// number of pieces that run at once, and the gate.
+pub(crate) struct Lent<'a, R: Threads + Sync, G: Gate> {
+    pub(crate) rt: &'a R,
+    pub(crate) alloc: Global,
+    pub(crate) store: &'a Store,
+    pub(crate) workers: u8,
+    pub(crate) gate: &'a G,
+    ghost least: { 1 ≤ workers },
+    ghost most: { workers ≤ 64 },
+}
+
+impl<'a, R: Threads + Sync, G: Gate> Clone for Lent<'a, R, G> {
+    fn clone(&self) -> Result<Self, AllocError> {
+        Ok(*self)
+    }
+}
+
+impl<'a, R: Threads + Sync, G: Gate> Copy for Lent<'a, R, G> {}
+
 /// An entry without tables.
 pub(crate) fn fresh_entry(alloc: Global, name: Name, query: Compiled) -> Result<Entry, NoMemory>
     requires { IsCompiled query }
@@ -52,31 +72,25 @@ pub(crate) fn fresh_entry(alloc: Global, name: Name, query: Compiled) -> Result<
 
 /// Computes the query's missing tables, so that each node of the store has one.
 pub(crate) fn grow_query<R: Threads + Sync, G: Gate, L: Ledger>(
-    rt: &R,
-    alloc: Global,
+    lent: Lent<'_, R, G>,
     tabled: &mut TabledQuery,
-    store: &Store,
-    workers: u8,
-    gate: &G,
     places: &mut Steps<L>,
 ) -> Result<(), NoMemory>
-    requires least { 1 ≤ workers }
-    requires most { workers ≤ 64 }
     requires sound { IsSound tabled.old }
-    requires served { IsServed store.now tabled.old }
-    ensures all { OnOk result (Grows store.now tabled.old tabled.new) }
-    ensures some { MayGrow store.now tabled.old tabled.new }
+    requires served { IsServed lent.store.now tabled.old }
+    ensures all { OnOk result (Grows lent.entry.store.now tabled.old tabled.new) }
+    ensures some { MayGrow lent.entry.store.now tabled.old tabled.new }
     ensures steps { places.new + count_of tabled.old.tables ≡ places.old + count_of tabled.new.tables }
 {
     grow(
-        rt,
-        alloc,
+        lent.rt,
+        lent.alloc,
         &mut tabled.tables,
-        store,
+        lent.store,
         &tabled.query.dfa,
         &mut tabled.memory,
-        workers,
-        gate,
+        lent.workers,
+        lent.gate,
         places,
     )
 }

@@ -4,12 +4,17 @@
 //! ```text
 //! book.add(alloc, name, b".*$x{ab}.*")?;                   // `name` is called "q"
 //! book.grow_all(&rt, alloc, &store, workers, &gate, &mut places)?;
-//! let yes = book.test(b"q", &store, root, &mut looks)?;    // whether q has an answer on the root's text
+//! let ready = book.ready(b"q", &store)?;                   // or Err(BookRefusal::NoSuchQuery)
+//! let yes = ready.test(root, &mut looks);                  // whether q has an answer on the root's text
 //! book.remove(b"q")?;                                      // or Err(BookRefusal::NoSuchQuery)
 //! ```
 //!
 //! A query is compiled once, and its tables serve every text in the store. After nodes were added to the store,
 //! `grow_all` computes one table for each query and new node. `union`, `join` and `project` copy their operands.
+//! `compile`, `union_of`, `join_of` and `projection_of` compile a query without registering it.
+//!
+//! `ready` finds a query once for several evaluations on the texts of a store. `start`, `seek`, `test`, `has` and
+//! `parts` find it by its name each time.
 //!
 //! `test` and `has` of a query with k variables on a text of n bytes take at most B(k, n) table lookups. Here B(k, n) =
 //! 4·(2k+1)·(H(n)+3), and H(n) is the greatest height of a balanced tree of n bytes. They allocate nothing. A lookup by
@@ -33,6 +38,7 @@ mod combining;
 mod compiled;
 mod entry;
 mod growing;
+mod in_hand;
 mod keeping;
 pub mod law;
 mod parts;
@@ -41,4 +47,6 @@ mod refusal;
 mod renumbering;
 
 pub use book::QueryBook;
+pub use compiled::{Compiled, compile};
+pub use in_hand::Ready;
 pub use refusal::{BookRefusal, CombineRefusal, QueryRefusal};

@@ -34,8 +34,7 @@ impl QueryBook {
         ensures query { IfOk result (λ p. IsNamed (queries_of self.now) name.now (HasAnswersOf p.1.now)) }
         ensures missing { IfErr result (IsMissing (queries_of self.now) name.now) }
     {
-        let tabled = self.tabled(name)?;
-        let _states = tabled.query.dfa.states();
-        Ok((tabled.tables.view(store), &tabled.query.dfa))
+        let ready = self.ready(name, store)?;
+        Ok((ready.view(), ready.dfa()))
     }
 }

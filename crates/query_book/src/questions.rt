@@ -1,20 +1,16 @@
 //! Evaluation of registered queries.
-ghost use Rattle.std.specs.Prelude.{◌≡◌, ◌↔◌, ◌+◌, ◌*◌, ◌<◌, ◌≤◌, None, Some, All, length, IfOk, IfErr, IsTrue, IsErrOf};
+ghost use Rattle.std.specs.Prelude.{◌≡◌, ◌↔◌, ◌+◌, ◌*◌, ◌≤◌, None, Some, IfOk, IfErr, IsTrue, IsErrOf};
 ghost use Rattle.slp_model.specs.Nodes.{IsLive, text_of};
-ghost use Rattle.marker_dfa.specs.Deterministic.{IsDeterministic};
-ghost use Rattle.span_enum.specs.Listing.{IsReady};
 ghost use Rattle.query_book.specs.Named.{value_of};
-ghost use Rattle.query_book.specs.Answers.{Defines, HasAnswer, HasList, HasVariablesOf, IfNamed, IsAnswer, IsListingOf, IsNamed, most_looks};
+ghost use Rattle.query_book.specs.Answers.{HasAnswer, HasList, HasVariablesOf, IfNamed, IsAnswer, IsListingOf, IsNamed, most_looks};
 ghost use Rattle.query_book.specs.Book.{IsMissing, queries_of};
 ghost use Rattle.query_book.specs.Serving.{Covers};
 
 use crate::book::QueryBook;
 use crate::refusal::BookRefusal;
-use marker_dfa::Dfa;
 use node_store::{NodeId, Store};
-use span_enum::{Answers, has, nonempty};
-use span_types::{NoMemory, Steps, Tuple};
-use state_tables::View;
+use span_enum::Answers;
+use span_types::{Steps, Tuple};
 use std::alloc::Global;
 use std::sync::ledger::Ledger;
 
@@ -42,11 +38,8 @@ impl QueryBook {
         ensures missing { IsErrOf result BookRefusal.NoSuchQuery ↔ (value_of (queries_of self.now) name.now ≡ None) }
         ensures cost { looks.new ≤ looks.old + most_looks (value_of (queries_of self.now) name.now) (text_of store.now root) }
     {
-        let (view, dfa) = self.view_of(name, store, root)?;
-        match Answers::start(alloc, view, dfa, root, looks) {
-            Ok(answers) => Ok(answers),
-            Err(NoMemory) => Err(BookRefusal::NoMemory),
-        }
+        let ready = self.ready(name, store)?;
+        Ok(ready.start(alloc, root, looks)?)
     }
 
     /// An iterator over the answers of the query with this name on the root's text, before the first one that comes
@@ -76,12 +69,8 @@ impl QueryBook {
         ensures missing { IsErrOf result BookRefusal.NoSuchQuery ↔ (value_of (queries_of self.now) name.now ≡ None) }
         ensures cost { looks.new ≤ looks.old + 2 * most_looks (value_of (queries_of self.now) name.now) (text_of store.now root) }
     {
-        let _count = after.count();
-        let (view, dfa) = self.view_of(name, store, root)?;
-        match Answers::seek(alloc, view, dfa, root, after, looks) {
-            Ok(answers) => Ok(answers),
-            Err(NoMemory) => Err(BookRefusal::NoMemory),
-        }
+        let ready = self.ready(name, store)?;
+        Ok(ready.seek(alloc, root, after, looks)?)
     }
 
     /// Whether the query with this name has an answer on the root's text. Allocates nothing.
@@ -105,8 +94,8 @@ impl QueryBook {
         ensures missing { IfErr result (IsMissing (queries_of self.now) name.now) }
         ensures cost { looks.new ≤ looks.old + most_looks (value_of (queries_of self.now) name.now) (text_of store.now root) }
     {
-        let (view, dfa) = self.view_of(name, store, root)?;
-        Ok(nonempty(view, dfa, root, looks))
+        let ready = self.ready(name, store)?;
+        Ok(ready.test(root, looks))
     }
 
     /// Whether the tuple is an answer of the query with this name on the root's text. Allocates nothing.
@@ -133,31 +122,7 @@ impl QueryBook {
         ensures missing { IfErr result (IsMissing (queries_of self.now) name.now) }
         ensures cost { looks.new ≤ looks.old + most_looks (value_of (queries_of self.now) name.now) (text_of store.now root) }
     {
-        let (view, dfa) = self.view_of(name, store, root)?;
-        Ok(has(view, dfa, root, tuple, looks))
-    }
-
-    /// The view of the store's nodes with their tables in the query with this name, and the query's automaton. Reads no
-    /// node and no table.
-    fn view_of<'a>(
-        &'a self,
-        name: &[u8],
-        store: &'a Store,
-        root: Option<NodeId>,
-    ) -> Result<(View<'a>, &'a Dfa), BookRefusal>
-        requires covers { Covers store.now self.now }
-        requires live { IsLive store.now root }
-        ensures ready { IfOk result (λ p. IsReady p.1.now p.0.store.now p.0.tables.now root) }
-        ensures store { IfOk result (λ p. p.0.store.now ≡ store.now) }
-        ensures query { IfOk result (λ p. IsNamed (queries_of self.now) name.now (λ q. Defines q p.1.now)) }
-        ensures automaton { IfOk result (λ p. IsDeterministic p.1.now) }
-        ensures bytes { IfOk result (λ _. All (λ b. b < 256) (text_of store.now root)) }
-        ensures short { length (text_of store.now root) ≤ 281474976710656 }
-        ensures missing { IfErr result (IsMissing (queries_of self.now) name.now) }
-    {
-        let _nodes = store.count();
-        let tabled = self.tabled(name)?;
-        let _states = tabled.query.dfa.states();
-        Ok((tabled.tables.view(store), &tabled.query.dfa))
+        let ready = self.ready(name, store)?;
+        Ok(ready.has(root, tuple, looks))
     }
 }

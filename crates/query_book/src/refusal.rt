@@ -44,6 +44,16 @@ pub enum BookRefusal {
     NoMemory,
 }
 
+impl From<NoMemory> for BookRefusal {
+    ghost use Rattle.query_book.specs.declared.refusal.BookRefusal.TheVariants.{NoMemory};
+
+    ghost from_gives = { λ _ e. e ≡ NoMemory };
+
+    fn from(_: NoMemory) -> Self {
+        BookRefusal::NoMemory
+    }
+}
+
 /// Why an operation on queries failed.
 #[derive(Debug, Drop, Error)]
 pub enum CombineRefusal {

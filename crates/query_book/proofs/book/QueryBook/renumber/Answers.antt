@@ -2,7 +2,7 @@ use Rattle.std.proofs.Common.{ap, ◌∙◌, subst, sym, List, length}
 use Rattle.query_book.specs.declared.entry.Entry.{Entry}
 use Rattle.query_book.specs.Book.{entries_of, queries_of}
 use Rattle.query_book.specs.Kept.{AreSound}
-use Rattle.query_book.specs.Renumbering.{AreWithin, UseEachTable, ranked}
+use Rattle.query_book.specs.Renumbering.{AreWithin, ranked}
 use Rattle.query_book.specs.Serving.{Serves, covered_of}
 use Rattle.query_book.proofs.Renumbered.{within-all, sound-after, serves-after, used-after, queries-after, covered-after}
 use Rattle.query_book.proofs.book.QueryBook.renumber.Goals as goal
