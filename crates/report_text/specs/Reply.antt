@@ -46,6 +46,10 @@ saved_text docs nodes = codes "ok " ++ decimal docs ++ 32 ∷ decimal nodes ++ 1
 abbrev pub opened_text : ℕ → List ℕ
 opened_text docs = codes "ok " ++ decimal docs ++ 10 ∷ []
 
+-- `ok LEN`
+abbrev pub written_text : ℕ → List ℕ
+written_text len = codes "ok " ++ decimal len ++ 10 ∷ []
+
 -- the word of a rejection and its values, each after a space
 abbrev pub why_text : Refusal → List ℕ
 why_text Syntax = codes "Syntax"

@@ -17,7 +17,9 @@ mod refusal;
 mod reply;
 
 pub use refusal::{Refusal, refusal_line};
-pub use reply::{doc_line, name_line, opened_line, query_line, saved_line, shown_line};
+pub use reply::{
+    doc_line, name_line, opened_line, query_line, saved_line, shown_line, written_line,
+};
 
 #[cfg(test)]
 mod tests;

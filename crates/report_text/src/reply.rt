@@ -1,6 +1,6 @@
 // The lines of replies.
 ghost use Rattle.std.specs.Prelude.{◌≡◌, ◌++◌, ◌∷◌, [], IfOk, OnOk, OnErr};
-ghost use Rattle.report_text.specs.Reply.{doc_text, name_text, opened_text, query_text, saved_text, shown_text};
+ghost use Rattle.report_text.specs.Reply.{doc_text, name_text, opened_text, query_text, saved_text, shown_text, written_text};
 
 use crate::pieces::{push_line, push_number, push_quoted};
 use span_types::{Name, NoMemory, Vars};
@@ -148,12 +148,12 @@ pub fn saved_line(alloc: Global, docs: u64, nodes: u64, into: &mut Vec<u8>) -> R
     Ok(())
 }
 
-fn opened_line_of(alloc: Global, docs: u64) -> Result<Vec<u8>, NoMemory>
-    ensures { IfOk result (λ line. line.items ≡ opened_text docs) }
+fn count_line_of(alloc: Global, count: u64) -> Result<Vec<u8>, NoMemory>
+    ensures { IfOk result (λ line. line.items ≡ opened_text count) }
 {
     let mut line = Vec::new(alloc);
     line.extend_from_slice(b"ok ")?;
-    push_number(docs, &mut line)?;
+    push_number(count, &mut line)?;
     line.push(b'\n')?;
     Ok(line)
 }
@@ -167,7 +167,21 @@ pub fn opened_line(alloc: Global, docs: u64, into: &mut Vec<u8>) -> Result<(), N
     ensures ok { OnOk result (into.new.items ≡ into.old.items ++ opened_text docs) }
     ensures unchanged { OnErr result (into.new.items ≡ into.old.items) }
 {
-    let line = opened_line_of(alloc, docs)?;
+    let line = count_line_of(alloc, docs)?;
+    push_line(&line, into)?;
+    Ok(())
+}
+
+/// Appends `ok LEN` and a newline to `into`.
+///
+/// # Errors
+///
+/// `NoMemory` if allocation fails; `into` is then unchanged.
+pub fn written_line(alloc: Global, len: u64, into: &mut Vec<u8>) -> Result<(), NoMemory>
+    ensures ok { OnOk result (into.new.items ≡ into.old.items ++ written_text len) }
+    ensures unchanged { OnErr result (into.new.items ≡ into.old.items) }
+{
+    let line = count_line_of(alloc, len)?;
     push_line(&line, into)?;
     Ok(())
 }

@@ -1,7 +1,7 @@
 -- Where the fields of a form are not there.
 use Rattle.std.proofs.Common.{◌≡◌, ◌≢◌, ℕ, Bool, true, false, List, [], ◌∷◌, ◌++◌, refl, sym, ◌∙◌, subst, arith, codes}
 use Rattle.std.specs.Prelude.{All}
-use Rattle.script_syntax.specs.Fields.{Field, Named, Filed, Worded, Numbered, Equals, Varied, Rest, Paged, Limited, Fits, Fields}
+use Rattle.script_syntax.specs.Fields.{Field, Named, Filed, Worded, Numbered, Equals, Varied, Quoted, Rest, Paged, Limited, Longest, Fits, Fields}
 use Rattle.line_parts.proofs.Cuts.{num_plain, NoByte, from_all, from_test, no_cut, one_cut}
 use Rattle.line_parts.proofs.Names.{name_no_space}
 
@@ -12,9 +12,11 @@ is_inner Equals = true
 is_inner Filed = false
 is_inner Worded = false
 is_inner Varied = false
+is_inner Quoted = false
 is_inner Rest = false
 is_inner Paged = false
 is_inner Limited = false
+is_inner Longest = false
 
 no_inner : false ≡ true → ⊥
 no_inner e = let bad : ⊥ = cc in bad
@@ -26,9 +28,11 @@ plain Equals e w h = subst (NoByte 32) (sym h) (from_test 32 (codes "=") refl)
 plain Filed e w h = absurd (no_inner e)
 plain Worded e w h = absurd (no_inner e)
 plain Varied e w h = absurd (no_inner e)
+plain Quoted e w h = absurd (no_inner e)
 plain Rest e w h = absurd (no_inner e)
 plain Paged e w h = absurd (no_inner e)
 plain Limited e w h = absurd (no_inner e)
+plain Longest e w h = absurd (no_inner e)
 
 -- a text without a space has not two fields
 pub one_field : (text : List ℕ) (f g : Field) (fs : List Field) → All (λ b. b ≢ 32) text → Fields (f ∷ g ∷ fs) text → ⊥
@@ -53,7 +57,11 @@ pub bad_second : (text a b c : List ℕ) (f g h : Field) (fs : List Field) → t
 bad_second text a b c f g h fs cut all_a all_b inner_f inner_g bad =
     bad_rest text a (b ++ 32 ∷ c) f g (h ∷ fs) cut all_a inner_f (bad_first (b ++ 32 ∷ c) b c g h fs refl all_b inner_g bad)
 
+pub bad_after : (text a b c : List ℕ) (f g h : Field) (fs : List Field) → text ≡ a ++ 32 ∷ (b ++ 32 ∷ c) → All (λ b. b ≢ 32) a → All (λ b. b ≢ 32) b
+    → is_inner f ≡ true → is_inner g ≡ true → (Fields (h ∷ fs) c → ⊥) → Fields (f ∷ g ∷ h ∷ fs) text → ⊥
+bad_after text a b c f g h fs cut all_a all_b inner_f inner_g bad =
+    bad_rest text a (b ++ 32 ∷ c) f g (h ∷ fs) cut all_a inner_f (bad_rest (b ++ 32 ∷ c) b c g h fs refl all_b inner_g bad)
+
 pub bad_third : (text a b c : List ℕ) (f g h : Field) → text ≡ a ++ 32 ∷ (b ++ 32 ∷ c) → All (λ b. b ≢ 32) a → All (λ b. b ≢ 32) b
     → is_inner f ≡ true → is_inner g ≡ true → (Fits h c → ⊥) → Fields (f ∷ g ∷ h ∷ []) text → ⊥
-bad_third text a b c f g h cut all_a all_b inner_f inner_g bad =
-    bad_rest text a (b ++ 32 ∷ c) f g (h ∷ []) cut all_a inner_f (bad_rest (b ++ 32 ∷ c) b c g h [] refl all_b inner_g bad)
+bad_third text a b c f g h cut all_a all_b inner_f inner_g bad = bad_after text a b c f g h [] cut all_a all_b inner_f inner_g bad

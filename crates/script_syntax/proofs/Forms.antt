@@ -2,11 +2,11 @@
 use Rattle.std.proofs.Common.{◌≡◌, ℕ, List, [], ◌∷◌, ◌++◌, refl, codes, inl, inr}
 use Rattle.std.specs.Prelude.{◌⊎◌, Some, slice_get}
 use Rattle.std.specs.Fmt.{decimal}
-use Rattle.script_syntax.specs.Syntax.{Reads, after_words, limit_words, spaced}
+use Rattle.script_syntax.specs.Syntax.{Reads, after_words, limit_words, longest_words, spaced}
 use Rattle.script_syntax.specs.Fields.{Fields, fields_of, word_of}
 use Rattle.line_parts.proofs.Cuts.{NoByte, from_test}
 use Rattle.script_syntax.specs.declared.form.Command.{Command}
-use Rattle.script_syntax.specs.declared.form.Command.TheVariants.{Nothing, Text, LoadFile, ShareFile, LetDoc, DropDoc, Names, Show, Query, Unquery, List as ListDoc, Nonempty, Has, SaveFile, OpenFile, UnionQuery, JoinQuery, ProjectQuery, ListAll, ReplaceDoc, MarkDocs, UnmarkDocs, BackDocs, Compact}
+use Rattle.script_syntax.specs.declared.form.Command.TheVariants.{Nothing, Text, LoadFile, ShareFile, QuotedText, WriteFile, LetDoc, DropDoc, Names, Show, Query, Unquery, List as ListDoc, Nonempty, Has, SaveFile, OpenFile, UnionQuery, JoinQuery, ProjectQuery, ListAll, ReplaceDoc, MarkDocs, UnmarkDocs, BackDocs, Compact}
 use Rattle.script_syntax.specs.declared.keyword.Keyword.{Keyword}
 use Rattle.script_syntax.specs.declared.keyword.Keyword.TheVariants as kw
 
@@ -14,6 +14,8 @@ pub words_plain : (k : Keyword) → NoByte 32 (word_of k)
 words_plain kw.Text = from_test 32 (codes "text") refl
 words_plain kw.Load = from_test 32 (codes "load") refl
 words_plain kw.Share = from_test 32 (codes "share") refl
+words_plain kw.Bytes = from_test 32 (codes "bytes") refl
+words_plain kw.Write = from_test 32 (codes "write") refl
 words_plain kw.Let = from_test 32 (codes "let") refl
 words_plain kw.Drop = from_test 32 (codes "drop") refl
 words_plain kw.Names = from_test 32 (codes "names") refl
@@ -48,6 +50,8 @@ form_of line Compact r = bare (inr r)
 form_of line (Text name bytes) (named, is) = behind kw.Text (name ++ 32 ∷ bytes) is (name, bytes, named, refl, tt)
 form_of line (LoadFile name file) (named, filed, is) = behind kw.Load (name ++ 32 ∷ file) is (name, file, named, refl, filed)
 form_of line (ShareFile name file) (named, filed, is) = behind kw.Share (name ++ 32 ∷ file) is (name, file, named, refl, filed)
+form_of line (QuotedText name bytes) (named, quoted, items, is) = behind kw.Bytes (name ++ 32 ∷ quoted) is (name, quoted, named, refl, (bytes, items))
+form_of line (WriteFile name file) (named, filed, is) = behind kw.Write (name ++ 32 ∷ file) is (name, file, named, refl, filed)
 form_of line (LetDoc name expr) (named, is) = behind kw.Let (name ++ 32 ∷ (codes "=" ++ 32 ∷ expr)) is (name, codes "=" ++ 32 ∷ expr, named, refl, (codes "=", expr, refl, refl, tt))
 form_of line (DropDoc name) (named, is) = behind kw.Drop (name) is named
 form_of line (Show name from to) (named, f, t, is) = behind kw.Show (name ++ 32 ∷ (decimal from ++ 32 ∷ decimal to)) is (name, decimal from ++ 32 ∷ decimal to, named, refl, (decimal from, decimal to, (from, record { fits = f; digits = refl }), refl, (to, record { fits = t; digits = refl })))
@@ -62,7 +66,8 @@ form_of line (UnionQuery name left right) (n, l, r, is) = behind kw.Union (name 
 form_of line (JoinQuery name left right) (n, l, r, is) = behind kw.Join (name ++ 32 ∷ (left ++ 32 ∷ right)) is (name, left ++ 32 ∷ right, n, refl, (left, right, l, refl, r))
 form_of line (ProjectQuery name source keep) (n, l, r, is) = behind kw.Project (name ++ 32 ∷ (source ++ 32 ∷ keep)) is (name, source ++ 32 ∷ keep, n, refl, (source, keep, l, refl, r))
 form_of line (ListAll query limit) (queried, given, lim, is) = behind kw.Listall (spaced query (limit_words given)) is (query, given, limit, queried, lim, refl)
-form_of line (ReplaceDoc name query source by) (n, q, s, b, is) = behind kw.Replace (name ++ 32 ∷ (query ++ 32 ∷ (source ++ 32 ∷ by))) is (name, query ++ 32 ∷ (source ++ 32 ∷ by), n, refl, (query, source ++ 32 ∷ by, q, refl, (source, by, s, refl, b)))
+form_of line (ReplaceDoc name query source by longest) (n, q, s, b, is) = behind kw.Replace (name ++ 32 ∷ (query ++ 32 ∷ (source ++ 32 ∷ spaced by (longest_words longest)))) is
+    (name, query ++ 32 ∷ (source ++ 32 ∷ spaced by (longest_words longest)), n, refl, (query, source ++ 32 ∷ spaced by (longest_words longest), q, refl, (source, spaced by (longest_words longest), s, refl, (by, longest, b, refl))))
 form_of line (MarkDocs name) (named, is) = behind kw.Mark (name) is named
 form_of line (UnmarkDocs name) (named, is) = behind kw.Unmark (name) is named
 form_of line (BackDocs name) (named, is) = behind kw.Back (name) is named

@@ -17,6 +17,8 @@ pub named_itself : (k : Keyword) → keyword_named (word_of k) ≡ Some k
 named_itself kw.Text = refl
 named_itself kw.Load = refl
 named_itself kw.Share = refl
+named_itself kw.Bytes = refl
+named_itself kw.Write = refl
 named_itself kw.Let = refl
 named_itself kw.Drop = refl
 named_itself kw.Names = refl

@@ -1,15 +1,17 @@
 -- A line is one command.
-use Rattle.std.proofs.Common.{◌≡◌, ◌≢◌, ℕ, ◌<◌, ◌^◌, List, [], ◌∷◌, ◌++◌, refl, sym, ◌∙◌, ap, subst, arith, codes, inl, inr}
+use Rattle.std.proofs.Common.{◌≡◌, ◌≢◌, ℕ, ◌<◌, ◌^◌, Bool, true, false, List, [], ◌∷◌, ◌++◌, refl, sym, ◌∙◌, ap, subst, arith, codes, inl, inr}
 use Rattle.std.specs.Prelude.{Option, Some, None, ◌⊎◌, slice_get}
 use Rattle.std.specs.Fmt.{decimal}
 use Rattle.std.proofs.lemmas.Fmt.{decimal_injective}
 use Rattle.line_parts.specs.NameList.{IsName}
 use Rattle.line_parts.proofs.Cuts.{NoByte, from_test, decimal_plain, no_cut, one_cut}
 use Rattle.line_parts.proofs.Names.{name_no_space}
-use Rattle.script_syntax.specs.Syntax.{IsAfter, IsLimit, LineText, Reads, after_words, limit_words, spaced}
+use Rattle.script_syntax.specs.Syntax.{IsAfter, IsLimit, LineText, Reads, after_words, limit_words, longest_words, spaced}
+use Rattle.script_syntax.specs.Quoted.{IsQuoted}
+use Rattle.script_syntax.proofs.Items.{one_quoted}
 use Rattle.script_syntax.specs.Fields.{keyword_named, word_of}
 use Rattle.script_syntax.specs.declared.form.Command.{Command}
-use Rattle.script_syntax.specs.declared.form.Command.TheVariants.{Nothing, Text, LoadFile, ShareFile, LetDoc, DropDoc, Names, Show, Query, Unquery, List as ListDoc, Nonempty, Has, SaveFile, OpenFile, UnionQuery, JoinQuery, ProjectQuery, ListAll, ReplaceDoc, MarkDocs, UnmarkDocs, BackDocs, Compact}
+use Rattle.script_syntax.specs.declared.form.Command.TheVariants.{Nothing, Text, LoadFile, ShareFile, QuotedText, WriteFile, LetDoc, DropDoc, Names, Show, Query, Unquery, List as ListDoc, Nonempty, Has, SaveFile, OpenFile, UnionQuery, JoinQuery, ProjectQuery, ListAll, ReplaceDoc, MarkDocs, UnmarkDocs, BackDocs, Compact}
 use Rattle.script_syntax.specs.declared.keyword.Keyword.{Keyword}
 use Rattle.script_syntax.specs.declared.keyword.Keyword.TheVariants as kw
 use Rattle.script_syntax.proofs.Forms.{words_plain}
@@ -21,6 +23,8 @@ abbrev pub Body : Keyword → List ℕ → Command → Type 0
 Body kw.Text args c = (name : List ℕ) × (bytes : List ℕ) × IsName name × (args ≡ name ++ 32 ∷ bytes) × (c ≡ Text name bytes)
 Body kw.Load args c = (name : List ℕ) × (file : List ℕ) × IsName name × (args ≡ name ++ 32 ∷ file) × (c ≡ LoadFile name file)
 Body kw.Share args c = (name : List ℕ) × (file : List ℕ) × IsName name × (args ≡ name ++ 32 ∷ file) × (c ≡ ShareFile name file)
+Body kw.Bytes args c = (name : List ℕ) × (quoted : List ℕ) × (bytes : List ℕ) × IsName name × IsQuoted quoted bytes × (args ≡ name ++ 32 ∷ quoted) × (c ≡ QuotedText name bytes)
+Body kw.Write args c = (name : List ℕ) × (file : List ℕ) × IsName name × (args ≡ name ++ 32 ∷ file) × (c ≡ WriteFile name file)
 Body kw.Let args c = (name : List ℕ) × (expr : List ℕ) × IsName name × (args ≡ name ++ 32 ∷ (codes "=" ++ 32 ∷ expr)) × (c ≡ LetDoc name expr)
 Body kw.Drop args c = c ≡ DropDoc args
 Body kw.Names args c = ⊥
@@ -37,8 +41,8 @@ Body kw.Union args c = (name : List ℕ) × (left : List ℕ) × (right : List �
 Body kw.Join args c = (name : List ℕ) × (left : List ℕ) × (right : List ℕ) × IsName name × IsName left × (args ≡ name ++ 32 ∷ (left ++ 32 ∷ right)) × (c ≡ JoinQuery name left right)
 Body kw.Project args c = (name : List ℕ) × (source : List ℕ) × (keep : List ℕ) × IsName name × IsName source × (args ≡ name ++ 32 ∷ (source ++ 32 ∷ keep)) × (c ≡ ProjectQuery name source keep)
 Body kw.Listall args c = (query : List ℕ) × (given : Option ℕ) × (limit : ℕ) × IsName query × IsLimit given limit × (args ≡ spaced query (limit_words given)) × (c ≡ ListAll query limit)
-Body kw.Replace args c = (name : List ℕ) × (query : List ℕ) × (source : List ℕ) × (by : List ℕ) × IsName name × IsName query × IsName source
-    × (args ≡ name ++ 32 ∷ (query ++ 32 ∷ (source ++ 32 ∷ by))) × (c ≡ ReplaceDoc name query source by)
+Body kw.Replace args c = (name : List ℕ) × (query : List ℕ) × (source : List ℕ) × (by : List ℕ) × (longest : Bool) × IsName name × IsName query × IsName source × IsName by
+    × (args ≡ name ++ 32 ∷ (query ++ 32 ∷ (source ++ 32 ∷ spaced by (longest_words longest)))) × (c ≡ ReplaceDoc name query source by longest)
 Body kw.Mark args c = c ≡ MarkDocs args
 Body kw.Unmark args c = c ≡ UnmarkDocs args
 Body kw.Back args c = c ≡ BackDocs args
@@ -82,6 +86,16 @@ same_limit_words (Some j) (Some k) m n lim other e =
     let high_too = other.1 in
     lim.2 ∙ decimal_injective j k (omega (arith, high)) (omega (arith, high_too)) digits ∙ sym other.2
 
+longest_plain : (longest : Bool) → AllPlain (longest_words longest)
+longest_plain false = tt
+longest_plain true = (from_test 32 (codes "longest") refl, tt)
+
+same_longest : (x y : Bool) → longest_words x ≡ longest_words y → x ≡ y
+same_longest false false e = refl
+same_longest true true e = refl
+same_longest false true e = let bad : ⊥ = cc in absurd bad
+same_longest true false e = let bad : ⊥ = cc in absurd bad
+
 -- two words are not one where they begin otherwise
 first_byte : (a b : ℕ) (xs ys : List ℕ) → a ∷ xs ≡ b ∷ ys → a ≡ b
 first_byte a b xs ys e = cc
@@ -101,6 +115,11 @@ pub one_body : (k : Keyword) (args : List ℕ) (c d : Command) → Body k args c
 one_body kw.Text args c d (n, b, named, is, e) (m, b', other, is', e') = let p = name_cut n m b b' named other (sym is ∙ is') in e ∙ (λ i. Text (p.0 i) (p.1 i)) ∙ sym e'
 one_body kw.Load args c d (n, b, named, is, e) (m, b', other, is', e') = let p = name_cut n m b b' named other (sym is ∙ is') in e ∙ (λ i. LoadFile (p.0 i) (p.1 i)) ∙ sym e'
 one_body kw.Share args c d (n, b, named, is, e) (m, b', other, is', e') = let p = name_cut n m b b' named other (sym is ∙ is') in e ∙ (λ i. ShareFile (p.0 i) (p.1 i)) ∙ sym e'
+one_body kw.Write args c d (n, b, named, is, e) (m, b', other, is', e') = let p = name_cut n m b b' named other (sym is ∙ is') in e ∙ (λ i. WriteFile (p.0 i) (p.1 i)) ∙ sym e'
+one_body kw.Bytes args c d (n, t, b, named, items, is, e) (m, t', b', other, items', is', e') =
+    let p = name_cut n m t t' named other (sym is ∙ is') in
+    let q = one_quoted t' b b' (subst (λ z. IsQuoted z b) p.1 items) items' in
+    e ∙ (λ i. QuotedText (p.0 i) (q i)) ∙ sym e'
 one_body kw.Query args c d (n, b, named, is, e) (m, b', other, is', e') = let p = name_cut n m b b' named other (sym is ∙ is') in e ∙ (λ i. Query (p.0 i) (p.1 i)) ∙ sym e'
 one_body kw.Test args c d (n, b, named, is, e) (m, b', other, is', e') = let p = name_cut n m b b' named other (sym is ∙ is') in e ∙ (λ i. Nonempty (p.0 i) (p.1 i)) ∙ sym e'
 one_body kw.Let args c d (n, b, named, is, e) (m, b', other, is', e') =
@@ -130,11 +149,15 @@ one_body kw.Join args c d (n, l, r, named, lnamed, is, e) (m, l', r', other, lot
     let p = name_cut n m (l ++ 32 ∷ r) (l' ++ 32 ∷ r') named other (sym is ∙ is') in let q = name_cut l l' r r' lnamed lother p.1 in e ∙ (λ i. JoinQuery (p.0 i) (q.0 i) (q.1 i)) ∙ sym e'
 one_body kw.Project args c d (n, l, r, named, lnamed, is, e) (m, l', r', other, lother, is', e') =
     let p = name_cut n m (l ++ 32 ∷ r) (l' ++ 32 ∷ r') named other (sym is ∙ is') in let q = name_cut l l' r r' lnamed lother p.1 in e ∙ (λ i. ProjectQuery (p.0 i) (q.0 i) (q.1 i)) ∙ sym e'
-one_body kw.Replace args c d (n, l, r, b, named, lnamed, rnamed, is, e) (m, l', r', b', other, lother, rother, is', e') =
-    let p = name_cut n m (l ++ 32 ∷ (r ++ 32 ∷ b)) (l' ++ 32 ∷ (r' ++ 32 ∷ b')) named other (sym is ∙ is') in
-    let q = name_cut l l' (r ++ 32 ∷ b) (r' ++ 32 ∷ b') lnamed lother p.1 in
-    let s = name_cut r r' b b' rnamed rother q.1 in
-    e ∙ (λ i. ReplaceDoc (p.0 i) (q.0 i) (s.0 i) (s.1 i)) ∙ sym e'
+one_body kw.Replace args c d (n, l, r, b, x, named, lnamed, rnamed, bnamed, is, e) (m, l', r', b', x', other, lother, rother, bother, is', e') =
+    let w : List ℕ = spaced b (longest_words x) in
+    let w' : List ℕ = spaced b' (longest_words x') in
+    let p = name_cut n m (l ++ 32 ∷ (r ++ 32 ∷ w)) (l' ++ 32 ∷ (r' ++ 32 ∷ w')) named other (sym is ∙ is') in
+    let q = name_cut l l' (r ++ 32 ∷ w) (r' ++ 32 ∷ w') lnamed lother p.1 in
+    let s = name_cut r r' w w' rnamed rother q.1 in
+    let t = same_words b b' (longest_words x) (longest_words x') (name_no_space b bnamed) (longest_plain x) (name_no_space b' bother) (longest_plain x') s.1 in
+    let u = same_longest x x' t.1 in
+    e ∙ (λ i. ReplaceDoc (p.0 i) (q.0 i) (s.0 i) (t.0 i) (u i)) ∙ sym e'
 one_body kw.Listall args c d (n, g, l, named, lim, is, e) (m, g', l', other, lim', is', e') =
     let p = same_words n m (limit_words g) (limit_words g') (name_no_space n named) (limit_fits g l lim) (name_no_space m other) (limit_fits g' l' lim') (sym is ∙ is') in
     let limits = same_limit_words g g' l l' lim lim' p.1 in
@@ -161,6 +184,8 @@ read_form line Compact is = compact_of is refl
 read_form line (Text n b) (named, is) = behind_of kw.Text (n ++ 32 ∷ b) is (n, b, named, refl, refl)
 read_form line (LoadFile n b) (named, filed, is) = behind_of kw.Load (n ++ 32 ∷ b) is (n, b, named, refl, refl)
 read_form line (ShareFile n b) (named, filed, is) = behind_of kw.Share (n ++ 32 ∷ b) is (n, b, named, refl, refl)
+read_form line (QuotedText n b) (named, quoted, items, is) = behind_of kw.Bytes (n ++ 32 ∷ quoted) is (n, quoted, b, named, items, refl, refl)
+read_form line (WriteFile n b) (named, filed, is) = behind_of kw.Write (n ++ 32 ∷ b) is (n, b, named, refl, refl)
 read_form line (LetDoc n b) (named, is) = behind_of kw.Let (n ++ 32 ∷ (codes "=" ++ 32 ∷ b)) is (n, b, named, refl, refl)
 read_form line (DropDoc n) (named, is) = behind_of kw.Drop n is refl
 read_form line (Show n f t) (named, fit, tit, is) = behind_of kw.Show (n ++ 32 ∷ (decimal f ++ 32 ∷ decimal t)) is (n, f, t, named, fit, tit, refl, refl)
@@ -175,7 +200,8 @@ read_form line (UnionQuery n l r) (named, lnamed, rnamed, is) = behind_of kw.Uni
 read_form line (JoinQuery n l r) (named, lnamed, rnamed, is) = behind_of kw.Join (n ++ 32 ∷ (l ++ 32 ∷ r)) is (n, l, r, named, lnamed, refl, refl)
 read_form line (ProjectQuery n l r) (named, lnamed, kept, is) = behind_of kw.Project (n ++ 32 ∷ (l ++ 32 ∷ r)) is (n, l, r, named, lnamed, refl, refl)
 read_form line (ListAll q l) (queried, g, lim, is) = behind_of kw.Listall (spaced q (limit_words g)) is (q, g, l, queried, lim, refl, refl)
-read_form line (ReplaceDoc n l r b) (named, lnamed, rnamed, bnamed, is) = behind_of kw.Replace (n ++ 32 ∷ (l ++ 32 ∷ (r ++ 32 ∷ b))) is (n, l, r, b, named, lnamed, rnamed, refl, refl)
+read_form line (ReplaceDoc n l r b x) (named, lnamed, rnamed, bnamed, is) =
+    behind_of kw.Replace (n ++ 32 ∷ (l ++ 32 ∷ (r ++ 32 ∷ spaced b (longest_words x)))) is (n, l, r, b, x, named, lnamed, rnamed, bnamed, refl, refl)
 read_form line (MarkDocs n) (named, is) = behind_of kw.Mark n is refl
 read_form line (UnmarkDocs n) (named, is) = behind_of kw.Unmark n is refl
 read_form line (BackDocs n) (named, is) = behind_of kw.Back n is refl
@@ -191,6 +217,8 @@ loud_word : (k : Keyword) → IsLoud (word_of k)
 loud_word kw.Text = record { first = 116; rest = codes "ext"; is = refl; loud = λ e. omega (arith, e) }
 loud_word kw.Load = record { first = 108; rest = codes "oad"; is = refl; loud = λ e. omega (arith, e) }
 loud_word kw.Share = record { first = 115; rest = codes "hare"; is = refl; loud = λ e. omega (arith, e) }
+loud_word kw.Bytes = record { first = 98; rest = codes "ytes"; is = refl; loud = λ e. omega (arith, e) }
+loud_word kw.Write = record { first = 119; rest = codes "rite"; is = refl; loud = λ e. omega (arith, e) }
 loud_word kw.Let = record { first = 108; rest = codes "et"; is = refl; loud = λ e. omega (arith, e) }
 loud_word kw.Drop = record { first = 100; rest = codes "rop"; is = refl; loud = λ e. omega (arith, e) }
 loud_word kw.Names = record { first = 110; rest = codes "ames"; is = refl; loud = λ e. omega (arith, e) }

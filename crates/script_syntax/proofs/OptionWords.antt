@@ -1,13 +1,13 @@
 -- The options of `list` and `listall`.
-use Rattle.std.proofs.Common.{◌≡◌, ◌≢◌, ℕ, ◌<◌, ◌≤◌, true, false, List, [], ◌∷◌, ◌++◌, length, refl, sym, ◌∙◌, ap, subst, arith, codes, inl, inr}
+use Rattle.std.proofs.Common.{◌≡◌, ◌≢◌, ℕ, ◌<◌, ◌≤◌, Bool, true, false, List, [], ◌∷◌, ◌++◌, length, refl, sym, ◌∙◌, ap, subst, arith, codes, inl, inr}
 use Rattle.std.specs.Prelude.{All, Option, Some, None, slice_get, ◌==◌, not, nat_le}
 use Rattle.std.specs.List.{list_all}
 use Rattle.std.specs.Fmt.{decimal}
 use Rattle.std.proofs.lemmas.Fmt.{decimal_injective}
 use Rattle.line_parts.specs.Numbers.{IsNum}
-use Rattle.script_syntax.specs.Syntax.{IsLimit, IsWord, Reads, after_words, limit_words, spaced}
+use Rattle.script_syntax.specs.Syntax.{IsLimit, IsWord, Reads, after_words, limit_words, longest_words, spaced}
 use Rattle.line_parts.specs.NameList.{IsName}
-use Rattle.script_syntax.specs.Fields.{Fits, Paged, Limited, word_of}
+use Rattle.script_syntax.specs.Fields.{Fits, Paged, Limited, Longest, word_of}
 use Rattle.script_syntax.specs.declared.form.Command.{Command}
 use Rattle.line_parts.proofs.Cuts.{to_all, both, NoByte, from_all, from_test, no_cut, one_cut}
 use Rattle.line_parts.proofs.Names.{name_no_space}
@@ -71,6 +71,20 @@ behind_after name options w more cut all (word, given, limit, named, worded, lim
 
 pub bare_after : (name options : List ℕ) → All (λ b. b ≢ 32) options → HasAfter name options → ⊥
 bare_after name options all (word, given, limit, named, worded, lim, is) = no_cut 32 (codes "after") (spaced word (limit_words given)) (subst (NoByte 32) is (from_all 32 options all))
+
+pub not_longest : (text word option : List ℕ) → text ≡ word ++ 32 ∷ option → All (λ b. b ≢ 32) word → (option ≡ codes "longest" → ⊥)
+    → (other : List ℕ) (longest : Bool) → All (λ b. b ≢ 32) other → text ≡ spaced other (longest_words longest) → ⊥
+not_longest text word option cut all bad other false plain is = no_cut 32 word option (subst (NoByte 32) (sym is ∙ cut) (from_all 32 other plain))
+not_longest text word option cut all bad other true plain is =
+    bad (one_cut 32 word option other (codes "longest") (from_all 32 word all) (from_all 32 other plain) (sym cut ∙ is)).1
+
+pub no_longest : (text : List ℕ) → ((word : List ℕ) (longest : Bool) → All (λ b. b ≢ 32) word → text ≡ spaced word (longest_words longest) → ⊥) → Fits Longest text → ⊥
+no_longest text bad (name, longest, named, is) = bad name longest (to_all 32 name (name_no_space name named)) is
+
+pub bad_longest_name : (text w : List ℕ) (longest : Bool) → All (λ b. b ≢ 32) w → text ≡ spaced w (longest_words longest) → (IsName w → ⊥) → Fits Longest text → ⊥
+bad_longest_name text w longest all cut bad (name, other, named, is) =
+    let same = first_word name w (longest_words other) (longest_words longest) (name_no_space name named) (from_all 32 w all) (sym is ∙ cut) in
+    bad (subst IsName same named)
 
 plain_if : (xs : List ℕ) → list_all (λ b. not (b == 32)) xs ≡ true → NoByte 32 xs
 plain_if [] h = tt

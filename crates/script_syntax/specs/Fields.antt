@@ -1,17 +1,20 @@
 -- The arguments after the keyword of a form, field by field.
-use Rattle.std.specs.Prelude.{◌≡◌, ℕ, List, [], ◌∷◌, ◌++◌, Option, codes}
+use Rattle.std.specs.Prelude.{◌≡◌, ℕ, Bool, List, [], ◌∷◌, ◌++◌, Option, codes}
 use Rattle.std.specs.List.{find}
 use Rattle.std.specs.Str.{bytes_eq}
 use Rattle.line_parts.specs.Numbers.{IsNum}
 use Rattle.line_parts.specs.NameList.{IsName, IsNameList}
-use Rattle.script_syntax.specs.Syntax.{IsFile, IsWord, IsAfter, IsLimit, after_words, limit_words, spaced}
+use Rattle.script_syntax.specs.Syntax.{IsFile, IsWord, IsAfter, IsLimit, after_words, limit_words, longest_words, spaced}
+use Rattle.script_syntax.specs.Quoted.{IsQuoted}
 use Rattle.script_syntax.specs.declared.keyword.Keyword.{Keyword}
-use Rattle.script_syntax.specs.declared.keyword.Keyword.TheVariants.{Text, Load, Share, Let, Drop, Names, Show, Query, Unquery, List as ListWord, Test, Has, Save, Open, Union, Join, Project, Listall, Replace, Mark, Unmark, Back, Compact}
+use Rattle.script_syntax.specs.declared.keyword.Keyword.TheVariants.{Text, Load, Share, Bytes, Write, Let, Drop, Names, Show, Query, Unquery, List as ListWord, Test, Has, Save, Open, Union, Join, Project, Listall, Replace, Mark, Unmark, Back, Compact}
 
 abbrev pub word_of : Keyword → List ℕ
 word_of Text = codes "text"
 word_of Load = codes "load"
 word_of Share = codes "share"
+word_of Bytes = codes "bytes"
+word_of Write = codes "write"
 word_of Let = codes "let"
 word_of Drop = codes "drop"
 word_of Names = codes "names"
@@ -34,12 +37,13 @@ word_of Back = codes "back"
 word_of Compact = codes "compact"
 
 abbrev pub keywords : List Keyword
-keywords = Text ∷ Load ∷ Share ∷ Let ∷ Drop ∷ Names ∷ Show ∷ Query ∷ Unquery ∷ ListWord ∷ Test ∷ Has ∷ Save ∷ Open ∷ Union ∷ Join ∷ Project ∷ Listall ∷ Replace ∷ Mark ∷ Unmark ∷ Back ∷ Compact ∷ []
+keywords = Text ∷ Load ∷ Share ∷ Bytes ∷ Write ∷ Let ∷ Drop ∷ Names ∷ Show ∷ Query ∷ Unquery ∷ ListWord ∷ Test ∷ Has ∷ Save ∷ Open ∷ Union ∷ Join ∷ Project ∷ Listall ∷ Replace ∷ Mark ∷ Unmark ∷ Back ∷ Compact ∷ []
 
 abbrev pub keyword_named : List ℕ → Option Keyword
 keyword_named word = find (λ k. bytes_eq (word_of k) word) keywords
 
--- `Paged` is a name and the options of `list`, `Limited` a name and the option of `listall`
+-- `Paged` is a name and the options of `list`, `Limited` a name and the option of `listall`, `Longest` a name and the
+-- option of `replace`
 pub data Field : Type 0 where
   Named : Field
   Filed : Field
@@ -47,9 +51,11 @@ pub data Field : Type 0 where
   Numbered : Field
   Equals : Field
   Varied : Field
+  Quoted : Field
   Rest : Field
   Paged : Field
   Limited : Field
+  Longest : Field
 
 abbrev pub Fits : Field → List ℕ → Type 0
 Fits Named text = IsName text
@@ -58,10 +64,12 @@ Fits Worded text = IsWord text
 Fits Numbered text = (n : ℕ) × IsNum text n
 Fits Equals text = text ≡ codes "="
 Fits Varied text = IsNameList text
+Fits Quoted text = (bytes : List ℕ) × IsQuoted text bytes
 Fits Rest text = Unit {0}
 Fits Paged text = (name : List ℕ) × (after : Option (List ℕ)) × (given : Option ℕ) × (limit : ℕ)
     × IsName name × IsAfter after × IsLimit given limit × (text ≡ spaced name (after_words after ++ limit_words given))
 Fits Limited text = (name : List ℕ) × (given : Option ℕ) × (limit : ℕ) × IsName name × IsLimit given limit × (text ≡ spaced name (limit_words given))
+Fits Longest text = (name : List ℕ) × (longest : Bool) × IsName name × (text ≡ spaced name (longest_words longest))
 
 -- the fields, with a space between each two
 abbrev pub Fields : List Field → List ℕ → Type 0
@@ -73,6 +81,8 @@ abbrev pub fields_of : Keyword → List Field
 fields_of Text = Named ∷ Rest ∷ []
 fields_of Load = Named ∷ Filed ∷ []
 fields_of Share = Named ∷ Filed ∷ []
+fields_of Bytes = Named ∷ Quoted ∷ []
+fields_of Write = Named ∷ Filed ∷ []
 fields_of Let = Named ∷ Equals ∷ Rest ∷ []
 fields_of Drop = Named ∷ []
 fields_of Names = []
@@ -88,7 +98,7 @@ fields_of Union = Named ∷ Named ∷ Named ∷ []
 fields_of Join = Named ∷ Named ∷ Named ∷ []
 fields_of Project = Named ∷ Named ∷ Varied ∷ []
 fields_of Listall = Limited ∷ []
-fields_of Replace = Named ∷ Named ∷ Named ∷ Named ∷ []
+fields_of Replace = Named ∷ Named ∷ Named ∷ Longest ∷ []
 fields_of Mark = Named ∷ []
 fields_of Unmark = Named ∷ []
 fields_of Back = Named ∷ []

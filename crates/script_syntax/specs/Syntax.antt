@@ -1,11 +1,12 @@
 -- The forms of a line.
-use Rattle.std.specs.Prelude.{◌≡◌, ◌⊎◌, ℕ, ◌<◌, ◌≤◌, ◌^◌, Bool, true, List, [], ◌∷◌, ◌++◌, Option, Some, None, length, codes, slice_get, nat_le, ◌&&◌, ◌==◌, not}
+use Rattle.std.specs.Prelude.{◌≡◌, ◌⊎◌, ℕ, ◌<◌, ◌≤◌, ◌^◌, Bool, true, false, List, [], ◌∷◌, ◌++◌, Option, Some, None, length, codes, slice_get, nat_le, ◌&&◌, ◌==◌, not}
 use Rattle.std.specs.List.{list_all}
 use Rattle.std.specs.Fmt.{decimal}
 use Rattle.span_types.specs.Names.{is_between}
 use Rattle.line_parts.specs.NameList.{IsName, IsNameList}
+use Rattle.script_syntax.specs.Quoted.{IsQuoted}
 use Rattle.script_syntax.specs.declared.form.Command.{Command}
-use Rattle.script_syntax.specs.declared.form.Command.TheVariants.{Nothing, Text, LoadFile, ShareFile, LetDoc, DropDoc, Names, Show, Query, Unquery, List as ListDoc, Nonempty, Has, SaveFile, OpenFile, UnionQuery, JoinQuery, ProjectQuery, ListAll, ReplaceDoc, MarkDocs, UnmarkDocs, BackDocs, Compact}
+use Rattle.script_syntax.specs.declared.form.Command.TheVariants.{Nothing, Text, LoadFile, ShareFile, QuotedText, WriteFile, LetDoc, DropDoc, Names, Show, Query, Unquery, List as ListDoc, Nonempty, Has, SaveFile, OpenFile, UnionQuery, JoinQuery, ProjectQuery, ListAll, ReplaceDoc, MarkDocs, UnmarkDocs, BackDocs, Compact}
 
 -- words with a space between each two
 abbrev pub spaced : List ℕ → List (List ℕ) → List ℕ
@@ -43,12 +44,19 @@ abbrev pub IsLimit : Option ℕ → ℕ → Type 0
 IsLimit None limit = limit ≡ 100
 IsLimit (Some n) limit = (1 ≤ n) × (n ≤ 10000) × (limit ≡ n)
 
+-- the words of `longest`, if present
+abbrev pub longest_words : Bool → List (List ℕ)
+longest_words false = []
+longest_words true = codes "longest" ∷ []
+
 -- the line is this command: one equation for each form
 abbrev pub Reads : List ℕ → Command → Type 0
 Reads line Nothing = (line ≡ []) ⊎ (slice_get line 0 ≡ Some 35)
 Reads line (Text name bytes) = IsName name × (line ≡ spaced (codes "text") (name ∷ bytes ∷ []))
 Reads line (LoadFile name file) = IsName name × IsFile file × (line ≡ spaced (codes "load") (name ∷ file ∷ []))
 Reads line (ShareFile name file) = IsName name × IsFile file × (line ≡ spaced (codes "share") (name ∷ file ∷ []))
+Reads line (QuotedText name bytes) = IsName name × (quoted : List ℕ) × IsQuoted quoted bytes × (line ≡ spaced (codes "bytes") (name ∷ quoted ∷ []))
+Reads line (WriteFile name file) = IsName name × IsFile file × (line ≡ spaced (codes "write") (name ∷ file ∷ []))
 Reads line (LetDoc name expr) = IsName name × (line ≡ spaced (codes "let") (name ∷ codes "=" ∷ expr ∷ []))
 Reads line (DropDoc name) = IsName name × (line ≡ spaced (codes "drop") (name ∷ []))
 Reads line Names = line ≡ codes "names"
@@ -65,8 +73,8 @@ Reads line (UnionQuery name left right) = IsName name × IsName left × IsName r
 Reads line (JoinQuery name left right) = IsName name × IsName left × IsName right × (line ≡ spaced (codes "join") (name ∷ left ∷ right ∷ []))
 Reads line (ProjectQuery name source keep) = IsName name × IsName source × IsNameList keep × (line ≡ spaced (codes "project") (name ∷ source ∷ keep ∷ []))
 Reads line (ListAll query limit) = IsName query × (given : Option ℕ) × IsLimit given limit × (line ≡ spaced (codes "listall") (query ∷ limit_words given))
-Reads line (ReplaceDoc name query source by) = IsName name × IsName query × IsName source × IsName by
-    × (line ≡ spaced (codes "replace") (name ∷ query ∷ source ∷ by ∷ []))
+Reads line (ReplaceDoc name query source by longest) = IsName name × IsName query × IsName source × IsName by
+    × (line ≡ spaced (codes "replace") (name ∷ query ∷ source ∷ by ∷ longest_words longest))
 Reads line (MarkDocs name) = IsName name × (line ≡ spaced (codes "mark") (name ∷ []))
 Reads line (UnmarkDocs name) = IsName name × (line ≡ spaced (codes "unmark") (name ∷ []))
 Reads line (BackDocs name) = IsName name × (line ≡ spaced (codes "back") (name ∷ []))

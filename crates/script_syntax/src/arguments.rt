@@ -4,7 +4,9 @@ ghost use Rattle.script_syntax.specs.declared.keyword.Keyword.TheVariants as key
 ghost use Rattle.script_syntax.specs.Syntax.{Reads};
 ghost use Rattle.script_syntax.specs.Fields.{Fields, fields_of};
 
+use crate::options::longest_of;
 use crate::parts::{file_of, name_of, three_words, vars_of, word_of};
+use crate::quoted::quoted_of;
 use crate::{Command, LineRefusal};
 use line_parts::{cut_word, is_same, number};
 use span_types::ByteList;
@@ -60,6 +62,32 @@ pub fn share_of(alloc: Global, args: &[u8]) -> Result<Command, LineRefusal>
     let name = name_of(alloc, name)?;
     let file = file_of(alloc, file)?;
     Ok(Command::ShareFile { name, file })
+}
+
+/// `NAME QUOTED`
+pub fn bytes_of(alloc: Global, args: &[u8]) -> Result<Command, LineRefusal>
+    ensures ok { IfOk result (λ command. Reads (codes "bytes " ++ args.now) command) }
+    ensures syntax { IfErr result (λ why. why ≡ LineRefusal.Syntax → Fields (fields_of keyword.Bytes) args.now → ⊥) }
+{
+    let Some((name, quoted)) = cut_word(args) else {
+        return Err(LineRefusal::Syntax);
+    };
+    let name = name_of(alloc, name)?;
+    let bytes = quoted_of(alloc, quoted)?;
+    Ok(Command::QuotedText { name, bytes })
+}
+
+/// `NAME FILE`
+pub fn write_of(alloc: Global, args: &[u8]) -> Result<Command, LineRefusal>
+    ensures ok { IfOk result (λ command. Reads (codes "write " ++ args.now) command) }
+    ensures syntax { IfErr result (λ why. why ≡ LineRefusal.Syntax → Fields (fields_of keyword.Write) args.now → ⊥) }
+{
+    let Some((name, file)) = cut_word(args) else {
+        return Err(LineRefusal::Syntax);
+    };
+    let name = name_of(alloc, name)?;
+    let file = file_of(alloc, file)?;
+    Ok(Command::WriteFile { name, file })
 }
 
 /// `NAME = EXPR`
@@ -228,7 +256,7 @@ pub fn open_of(alloc: Global, args: &[u8]) -> Result<Command, LineRefusal>
     Ok(Command::OpenFile { file })
 }
 
-/// `NAME NAME NAME NAME`
+/// `NAME NAME NAME NAME longest`, in which the option may be missing.
 pub fn replace_of(alloc: Global, args: &[u8]) -> Result<Command, LineRefusal>
     ensures ok { IfOk result (λ command. Reads (codes "replace " ++ args.now) command) }
     ensures syntax { IfErr result (λ why. why ≡ LineRefusal.Syntax → Fields (fields_of keyword.Replace) args.now → ⊥) }
@@ -236,7 +264,10 @@ pub fn replace_of(alloc: Global, args: &[u8]) -> Result<Command, LineRefusal>
     let Some((name, query, rest)) = three_words(args) else {
         return Err(LineRefusal::Syntax);
     };
-    let Some((source, by)) = cut_word(rest) else {
+    let Some((source, rest)) = cut_word(rest) else {
+        return Err(LineRefusal::Syntax);
+    };
+    let Some((by, longest)) = longest_of(rest) else {
         return Err(LineRefusal::Syntax);
     };
     let name = name_of(alloc, name)?;
@@ -248,5 +279,6 @@ pub fn replace_of(alloc: Global, args: &[u8]) -> Result<Command, LineRefusal>
         query,
         source,
         by,
+        longest,
     })
 }

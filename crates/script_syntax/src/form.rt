@@ -21,6 +21,16 @@ pub enum Command {
         name: Name,
         file: ByteList,
     },
+    /// `bytes NAME QUOTED`: the document gets the bytes for which the quoted text stands.
+    QuotedText {
+        name: Name,
+        bytes: ByteList,
+    },
+    /// `write NAME FILE`: the file gets the text of the document.
+    WriteFile {
+        name: Name,
+        file: ByteList,
+    },
     /// `let NAME = EXPR`: the document gets the value of the expression. Here the expression is any bytes.
     LetDoc {
         name: Name,
@@ -99,13 +109,15 @@ pub enum Command {
         query: Name,
         limit: u16,
     },
-    /// `replace NAME NAME NAME NAME`: the document `name` gets the text of `source`, in which the text of `by` replaces
-    /// the spans that the query chooses.
+    /// `replace NAME NAME NAME NAME`, then optionally `longest`: the document `name` gets the text of `source`, in which
+    /// the text of `by` replaces the spans that the query chooses. With `longest` it chooses, among the spans with the
+    /// same start, the one with the greatest end.
     ReplaceDoc {
         name: Name,
         query: Name,
         source: Name,
         by: Name,
+        longest: bool,
     },
     /// `mark NAME`: keeps the documents as a version.
     MarkDocs {

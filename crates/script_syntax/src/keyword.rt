@@ -9,6 +9,8 @@ pub enum Keyword {
     Text,
     Load,
     Share,
+    Bytes,
+    Write,
     Let,
     Drop,
     Names,
@@ -31,10 +33,12 @@ pub enum Keyword {
     Compact,
 }
 
-const KEYWORDS: [Keyword; 23] = [
+const KEYWORDS: [Keyword; 25] = [
     Keyword::Text,
     Keyword::Load,
     Keyword::Share,
+    Keyword::Bytes,
+    Keyword::Write,
     Keyword::Let,
     Keyword::Drop,
     Keyword::Names,
@@ -65,6 +69,8 @@ fn text_of_keyword(keyword: Keyword) -> &'static [u8]
         Keyword::Text => b"text",
         Keyword::Load => b"load",
         Keyword::Share => b"share",
+        Keyword::Bytes => b"bytes",
+        Keyword::Write => b"write",
         Keyword::Let => b"let",
         Keyword::Drop => b"drop",
         Keyword::Names => b"names",

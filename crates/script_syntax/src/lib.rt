@@ -23,6 +23,7 @@ mod keyword;
 pub mod law;
 mod options;
 mod parts;
+mod quoted;
 mod syntax;
 
 pub use form::Command;

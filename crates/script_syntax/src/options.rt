@@ -1,10 +1,10 @@
-// The options of `list` and `listall`.
-ghost use Rattle.std.specs.Prelude.{◌≡◌, ◌≢◌, ◌∷◌, ◌++◌, ◌≤◌, ℕ, All, IfOk, IfErr, MatchOption, Option, List, codes};
+// The options of `list`, `listall` and `replace`.
+ghost use Rattle.std.specs.Prelude.{◌≡◌, ◌≢◌, ◌∷◌, ◌++◌, ◌≤◌, ℕ, Bool, All, IfOk, IfErr, MatchOption, Option, List, codes};
 ghost use Rattle.std.specs.Fmt.{decimal};
 ghost use Rattle.line_parts.specs.Numbers.{IsNum};
 ghost use Rattle.line_parts.specs.NameList.{IsName};
 ghost use Rattle.script_syntax.specs.declared.keyword.Keyword.TheVariants as keyword;
-ghost use Rattle.script_syntax.specs.Syntax.{IsLimit, IsAfter, IsWord, Reads, after_words, limit_words, spaced};
+ghost use Rattle.script_syntax.specs.Syntax.{IsLimit, IsAfter, IsWord, Reads, after_words, limit_words, longest_words, spaced};
 ghost use Rattle.script_syntax.specs.Fields.{Fields, Fits, Limited, Paged, fields_of};
 
 use crate::parts::{name_of, word_of};
@@ -46,6 +46,20 @@ fn limited(text: &[u8]) -> Option<(&[u8], u16)>
     };
     let limit = limit_of(options)?;
     Some((word, limit))
+}
+
+/// A word, and `longest` after it if present.
+pub fn longest_of(text: &[u8]) -> Option<(&[u8], bool)>
+    ensures { MatchOption result ((word : List ℕ) (longest : Bool) → All (λ b. b ≢ 32) word → text.now ≡ spaced word (longest_words longest) → ⊥)
+        (λ p. All (λ b. b ≢ 32) p.0.now × (text.now ≡ spaced p.0.now (longest_words p.1))) }
+{
+    let Some((word, option)) = cut_word(text) else {
+        return Some((text, false));
+    };
+    if !is_same(option, b"longest") {
+        return None;
+    }
+    Some((word, true))
 }
 
 /// `NAME limit NUM`, in which the option may be missing.

@@ -6,8 +6,9 @@ ghost use Rattle.script_syntax.specs.declared.form.Command.{Command};
 
 use crate::Command;
 use crate::arguments::{
-    back_of, drop_of, has_of, join_of, let_of, load_of, mark_of, open_of, project_of, query_of,
-    replace_of, save_of, share_of, show_of, test_of, text_of, union_of, unmark_of, unquery_of,
+    back_of, bytes_of, drop_of, has_of, join_of, let_of, load_of, mark_of, open_of, project_of,
+    query_of, replace_of, save_of, share_of, show_of, test_of, text_of, union_of, unmark_of,
+    unquery_of, write_of,
 };
 use crate::keyword::{Keyword, keyword_of};
 use crate::options::{list_of, listall_of};
@@ -50,6 +51,8 @@ fn behind_keyword(alloc: Global, keyword: Keyword, args: &[u8]) -> Result<Comman
         Keyword::Text => text_of(alloc, args),
         Keyword::Load => load_of(alloc, args),
         Keyword::Share => share_of(alloc, args),
+        Keyword::Bytes => bytes_of(alloc, args),
+        Keyword::Write => write_of(alloc, args),
         Keyword::Let => let_of(alloc, args),
         Keyword::Drop => drop_of(alloc, args),
         Keyword::Show => show_of(alloc, args),
