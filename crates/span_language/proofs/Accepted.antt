@@ -1,9 +1,9 @@
 -- An accepted command has exactly one reply and one resulting world.
 use Rattle.std.proofs.Common.{◌≡◌, ℕ, List, Option, Some, None, length, refl, sym, ◌∙◌, ap, subst}
 use Rattle.span_language.proofs.Names.{AreListed, Command, Documents, Does, Files, given_text, HasAnswer, HasDocuments, HasProjection, IsAccepted, IsAnswer}
-use Rattle.span_language.proofs.Names.{IsListReply, IsRegistered, IsSettled, IsYesOrNo, Join, LetDoc, load_size, LoadFile, LoadsFile, names_of, Nothing, open_size, opened_text}
+use Rattle.span_language.proofs.Names.{IsListReply, IsOfFile, IsPutting, IsRegistered, IsSettled, IsYesOrNo, Join, LetDoc, load_size, LoadFile, LoadsFile, names_of, Nothing, open_size, opened_text}
 use Rattle.span_language.proofs.Names.{OpenFile, put, Query, query_text, replaced, SaveFile, ShareFile, Show, shown, shown_text, TupleText, Union, value_of, with_documents}
-use Rattle.span_language.proofs.Names.{with_queries, World, world}
+use Rattle.span_language.proofs.Names.{with_queries, World, world, WriteFile}
 use Rattle.script_syntax.specs.declared.form.Command.TheVariants as form
 use Rattle.span_language.proofs.Values.{are_told, one_ok, one_value, one_within}
 use Rattle.span_language.proofs.Images.{one_image}
@@ -17,9 +17,9 @@ use Rattle.span_language.proofs.Listings.{one_choice, one_list_reply, one_listed
 abbrev pub Same : List ℕ → List ℕ → World → World → Type 0
 Same r s n m = (r ≡ s) × (n ≡ m)
 
-pub no_save : (files : Option Files) (file : List ℕ) → IsSettled files (SaveFile file) → ⊥
-no_save None file settled = settled tt
-no_save (Some all) file settled = settled file refl
+pub no_put : (files : Option Files) (command : Command) → IsPutting command → IsOfFile command → IsSettled files command → ⊥
+no_put None command puts of settled = settled of
+no_put (Some all) command puts of settled = settled puts
 
 module _ (old : World) (r s : List ℕ) (n m : World) where
   -- a text is assigned to the document
@@ -30,7 +30,7 @@ module _ (old : World) (r s : List ℕ) (n m : World) where
 
   -- and the bytes of a file
   loaded : (name file : List ℕ) → (old.files ≡ None → ⊥) → LoadsFile old name file r n → LoadsFile old name file s m → Same r s n m
-  loaded name file told (b, h, reply, new) (c, k, reply2, new2) = given name b c (one_within file load_size old.files b c told h k) (reply, new) (reply2, new2)
+  loaded name file told (b, h, gives) (c, k, gives2) = given name b c (one_within file load_size old.files b c told h k) gives gives2
 
   registered : (name : List ℕ) (q p : Query) → q ≡ p → IsRegistered old n name q r → IsRegistered old m name p s → Same r s n m
   registered name q p e h k = (
@@ -68,7 +68,8 @@ one_done old (form.Has query name word) r s n m settled (q, t, x, h, text, reply
           (λ a b. one_answer (IsAnswer q t x) r s a (subst (λ z. IsYesOrNo (IsAnswer q t z) s) (one_tuple q word y x b.0 text) b.1)),
       new ∙ sym new2,
     )
-one_done old (SaveFile file) r s n m settled h k = absurd (no_save old.files file settled)
+one_done old (SaveFile file) r s n m settled h k = absurd (no_put old.files (SaveFile file) tt tt settled)
+one_done old (WriteFile name file) r s n m settled h k = absurd (no_put old.files (WriteFile name file) tt tt settled)
 one_done old (OpenFile file) r s n m settled (b, d, nodes, h, holds, reply, new) (c, e, count, k, has, reply2, new2) =
     let bytes = one_within file open_size old.files b c (are_told old.files (OpenFile file) tt settled) h k in
     let docs = one_image b c d e nodes count bytes holds has in
@@ -76,9 +77,9 @@ one_done old (OpenFile file) r s n m settled (b, d, nodes, h, holds, reply, new)
 one_done old (form.ListAll query limit) r s n m settled (q, there, reply, new) (p, there2, reply2, new2) =
     let e = one_value (value_of old.state.queries query) p q there2 there in
     (one_listed q limit old.state.documents r s reply (subst (λ z. AreListed z limit old.state.documents s) e reply2), new ∙ sym new2)
-one_done old (form.ReplaceDoc name query source by) r s n m settled (q, t, w, spans, h, is, few, short, reply, new) (p, u, v, spans2, k, is2, few2, short2, reply2, new2) =
+one_done old (form.ReplaceDoc name query source by longest) r s n m settled (q, t, w, spans, h, is, few, short, reply, new) (p, u, v, spans2, k, is2, few2, short2, reply2, new2) =
     let e = one_replacing old query source by q p t u w v h k in
-    let chosen = one_choice q p t u spans spans2 e.0 e.1 is is2 in
+    let chosen = one_choice longest q p t u spans spans2 e.0 e.1 is is2 in
     given old r s n m name (replaced t spans w) (replaced u spans2 v) (λ i. replaced (e.1 i) (chosen i) (e.2 i)) (reply, new) (reply2, new2)
 one_done old (form.BackDocs name) r s n m settled (d, there, reply, new) (e, there2, reply2, new2) =
     (reply ∙ sym reply2, new ∙ ap (λ (z : Documents). world (with_documents old.state z) old.files) (one_value (value_of old.state.versions name) d e there there2) ∙ sym new2)

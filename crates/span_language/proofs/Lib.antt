@@ -7,6 +7,8 @@ pub mod Questions
 pub mod Texts
 pub mod Combinations
 pub mod Listings
+pub mod Shown
+pub mod Written
 pub mod Accepted
 pub mod Refused
 pub mod Lines

@@ -1,8 +1,9 @@
--- A line has exactly one reply, unless it is a `save`.
+-- A line has exactly one reply, unless it is a `save`; a `write` changes the files in one way.
 use Rattle.std.proofs.Common.{◌≡◌, ◌⊎◌, ℕ, List, Option, Some, None, refl, sym, ◌∙◌, ap, subst, inl, inr}
 use Rattle.span_language.proofs.Names.{Accepted, Carried, Carries, Command, Does, HasOneReply, IsRefused, IsSettled, IsSettledLine, LineText, Means, one_command_of}
-use Rattle.span_language.proofs.Names.{Quiet, refusal_text, Refused, SaveFile, Saves, Step, Told, World}
+use Rattle.span_language.proofs.Names.{Files, Quiet, refusal_text, Refused, SaveFile, Saves, Step, Told, World, WriteFile, WritesOnce}
 use Rattle.span_language.proofs.Accepted.{one_done}
+use Rattle.span_language.proofs.Written.{one_write}
 use Rattle.span_language.proofs.Refused.{one_refusal, refused_once}
 
 -- equal outcomes, equal replies and equal worlds
@@ -51,5 +52,12 @@ saves old number line file told reply new text (a, means, h) =
         inl (refl, record { state = state; bytes = bytes; nodes = nodes; image = saved; short = short; writable = writable; put = put; replied = replied })
     by Refused (why, h, replied, is) = inr (refl, is)
 
+writes : (old : World) (files : Files) (number : ℕ) (line name file : List ℕ) (told told2 : Told) (r s : List ℕ) (n m : World) → old.files ≡ Some files
+    → LineText line (WriteFile name file) → Step old number line told r n → Step old number line told2 s m → WritesOnce told told2 r s n m
+writes old files number line name file told told2 r s n m are text (a, means, h) (b, means2, k) =
+    one_write old files number name file are told told2 r s n m
+    (subst (λ (c : Option Command). Carried old number c told r n) (one_meaning line a (Some (WriteFile name file)) means text) h)
+    (subst (λ (c : Option Command). Carried old number c told2 s m) (one_meaning line b (Some (WriteFile name file)) means2 text) k)
+
 pub has_one_reply : HasOneReply
-has_one_reply = record { one = one_line; save = saves }
+has_one_reply = record { one = one_line; write = writes; save = saves }

@@ -16,13 +16,13 @@ pub use Rattle.query_book.specs.Keeping.{HasOther, IsVarsText}
 pub use Rattle.query_book.specs.Occurrences.{CountIsAbove}
 pub use Rattle.query_book.specs.Registering.{IsQueryOf}
 pub use Rattle.query_book.specs.declared.refusal.CombineRefusal.{CombineRefusal}
-pub use Rattle.report_text.specs.Reply.{opened_text, query_text, refusal_text, shown_text}
+pub use Rattle.report_text.specs.Reply.{opened_text, query_text, quoted, refusal_text, shown_byte, shown_text, written_text}
 pub use Rattle.report_text.specs.declared.refusal.Refusal.{Refusal}
 pub use Rattle.report_text.specs.declared.refusal.Refusal.TheVariants.{BadImage, NoSuchQuery, QueryTooLarge, TooLong, TooManyMatches}
 pub use Rattle.script_syntax.proofs.OneLine.{one_command_of}
 pub use Rattle.script_syntax.specs.Syntax.{LineText}
 pub use Rattle.script_syntax.specs.declared.form.Command.{Command}
-pub use Rattle.script_syntax.specs.declared.form.Command.TheVariants.{LetDoc, LoadFile, Nothing, OpenFile, SaveFile, ShareFile, Show}
+pub use Rattle.script_syntax.specs.declared.form.Command.TheVariants.{LetDoc, LoadFile, Nothing, OpenFile, QuotedText, SaveFile, ShareFile, Show, Text, WriteFile}
 pub use Rattle.slp_image.specs.Fields.{kind_of}
 pub use Rattle.slp_image.specs.Image.{image, Meaning}
 pub use Rattle.slp_image.specs.declared.refusal.ImageRefusal.{ImageRefusal}
@@ -30,16 +30,17 @@ pub use Rattle.span_cursor.proofs.TupleLemmas.{one_tuple_of}
 pub use Rattle.span_cursor.specs.Tuples.{TupleText}
 pub use Rattle.span_enum.specs.Members.{Tuple}
 pub use Rattle.span_language.specs.Cursors.{IsCursorOf, IsCursorRefused}
-pub use Rattle.span_language.specs.Laws.{AreSettled, ChangesNothing, HasOneOutput, HasOneReply, IsSettled, IsSettledLine, Saves}
+pub use Rattle.span_language.specs.Laws.{AreSameFiles, AreSettled, ChangesNothing, HasOneOutput, HasOneReply, IsSettled, IsSettledLine, ReadsShown, Saves, WritesOnce}
 pub use Rattle.span_language.specs.Listed.{AreListed, doc_line, IsListReply, IsPageOf, page_text}
 pub use Rattle.span_language.specs.Means.{Carried, Means, Step}
 pub use Rattle.span_language.specs.Replies.{given_text, IsEditRefusal, shown}
 pub use Rattle.span_language.specs.Runs.{Adds, is_refused, Runs, Sum}
 pub use Rattle.span_language.specs.State.{Documents, Named, put, value_of, with_documents, with_queries, World, world}
-pub use Rattle.span_language.specs.Step.{Carries, Does, HasDocuments, IsAsked, IsChosenOf, IsCombineRefusal, IsFaulty, IsFileRefused, IsOfFile, IsOversized, IsRefused, IsRegistered, IsReplacing, IsTextRefused, IsUnasked, IsUncombined, IsUnreplaced, IsWithin, IsYesOrNo, load_size, LoadsFile, most_spans, open_size}
+pub use Rattle.span_language.specs.Step.{Carries, Does, GivesText, HasDocuments, IsAsked, IsCombineRefusal, IsFaulty, IsFileRefused, IsOfFile, IsOversized, IsPut, IsPutting, IsRefused, IsRegistered, IsReplacing, IsTakenOf, IsTextRefused, IsUnasked, IsUncombined, IsUnreplaced, IsUnwritten, IsWithin, IsYesOrNo, load_size, LoadsFile, most_spans, open_size, WritesFile}
 pub use Rattle.span_language.specs.declared.told.Told.{Told}
 pub use Rattle.span_language.specs.declared.told.Told.TheVariants.{Accepted, Quiet, Refused}
 pub use Rattle.span_replace.specs.Chosen.{chosen}
+pub use Rattle.span_replace.specs.Longest.{AreLongestFrom, IsLongest, IsNextLongest, IsBeyond, IsPreferred}
 pub use Rattle.span_replace.specs.Replaced.{replaced}
 pub use Rattle.span_types.proofs.LeafLaws.{one-query-list}
 pub use Rattle.span_types.proofs.PageLaws.{one-page}

@@ -1,13 +1,14 @@
--- A list of lines has exactly one output, unless a `save` is among them.
+-- A list of lines has exactly one output, unless a `save` or a `write` is among them.
 use Rattle.std.proofs.Common.{◌≡◌, ◌||◌, ℕ, ◌+◌, List, [], ◌∷◌, ◌++◌, Option, Some, None, sym, ◌∙◌, ap, subst}
 use Rattle.span_language.proofs.Names.{Accepted, Adds, AreSettled, Carries, Command, Does, Files, HasOneOutput, is_refused, IsSettled, IsSettledLine, Nothing, Quiet}
-use Rattle.span_language.proofs.Names.{Refused, Runs, SaveFile, Step, Sum, Told, World}
-use Rattle.span_language.proofs.Accepted.{no_save}
+use Rattle.span_language.proofs.Names.{Refused, Runs, SaveFile, Step, Sum, Told, World, WriteFile}
+use Rattle.span_language.proofs.Accepted.{no_put}
 use Rattle.span_language.proofs.Lines.{one_line}
 
 done_keeps : (old : World) (command : Command) (r : List ℕ) (n : World) → IsSettled old.files command → Does old command r n → n.files ≡ old.files
 done_keeps old Nothing r n settled h = absurd h
-done_keeps old (SaveFile file) r n settled h = absurd (no_save old.files file settled)
+done_keeps old (SaveFile file) r n settled h = absurd (no_put old.files (SaveFile file) tt tt settled)
+done_keeps old (WriteFile name file) r n settled h = absurd (no_put old.files (WriteFile name file) tt tt settled)
 done_keeps old _ r n settled h = cc
 
 carry_keeps : (old : World) (number : ℕ) (command : Command) (told : Told) (r : List ℕ) (n : World) → IsSettled old.files command → Carries old number command told r n → n.files ≡ old.files

@@ -1,10 +1,10 @@
 -- A command is either accepted or has exactly one first rejection.
-use Rattle.std.proofs.Common.{◌≡◌, ◌<◌, ◌≤◌, ◌^◌, ◌⊎◌, ℕ, List, Option, Some, None, length, refl, sym, ◌∙◌, ap, subst, inl, inr, arith}
+use Rattle.std.proofs.Common.{◌≡◌, ◌<◌, ◌≤◌, ◌^◌, ◌⊎◌, ℕ, Bool, List, Option, Some, None, length, refl, sym, ◌∙◌, ap, subst, inl, inr, arith}
 use Rattle.span_language.proofs.Names.{BadImage, Command, Does, IsAsked, IsCursorOf, IsCursorRefused, IsRefused, IsRegistered, IsSettled, Join, LetDoc, load_size}
 use Rattle.span_language.proofs.Names.{LoadFile, most_spans, open_size, OpenFile, Query, Refusal, replaced, SaveFile, ShareFile, Show, shown, Span, TooLong, TooManyMatches, Tuple, Union}
-use Rattle.span_language.proofs.Names.{value_of, World}
+use Rattle.span_language.proofs.Names.{value_of, World, WriteFile}
 use Rattle.script_syntax.specs.declared.form.Command.TheVariants as form
-use Rattle.span_language.proofs.Accepted.{no_save}
+use Rattle.span_language.proofs.Accepted.{no_put}
 use Rattle.span_language.proofs.Values.{are_told, no_value, not_both, one_err, one_file_refusal, one_within, within_read}
 use Rattle.span_language.proofs.Images.{image_once, one_fault}
 use Rattle.span_language.proofs.Expressions.{one_edit_refusal, text_once as value_once}
@@ -57,13 +57,14 @@ module _ (old : World) where
   asked_refused query name word limit q t c why h of (inr (p, u, k, is)) =
       both_asked old query name q p t u (λ z _. IsCursorOf z word c) (λ z _. IsCursorRefused z word why) ⊥ h k of is (cursor_once q word c why)
 
-  replacing : (name query source by : List ℕ) (why other : Refusal) → IsRefused old (form.ReplaceDoc name query source by) why → IsRefused old (form.ReplaceDoc name query source by) other → why ≡ other
-  replacing name query source by why other (inl h) (inl k) = one_unreplaced old query source by why other h k
-  replacing name query source by why other (inl h) (inr (p, u, v, spans, k, is, past)) = absurd (replacing_once old query source by p u v why k h)
-  replacing name query source by why other (inr (q, t, w, spans, h, is, past)) (inl k) = absurd (replacing_once old query source by q t w other h k)
-  replacing name query source by why other (inr (q, t, w, spans, h, is, past)) (inr (p, u, v, spans2, k, is2, past2)) =
+  replacing : (name query source by : List ℕ) (longest : Bool) (why other : Refusal) → IsRefused old (form.ReplaceDoc name query source by longest) why
+      → IsRefused old (form.ReplaceDoc name query source by longest) other → why ≡ other
+  replacing name query source by longest why other (inl h) (inl k) = one_unreplaced old query source by why other h k
+  replacing name query source by longest why other (inl h) (inr (p, u, v, spans, k, is, past)) = absurd (replacing_once old query source by p u v why k h)
+  replacing name query source by longest why other (inr (q, t, w, spans, h, is, past)) (inl k) = absurd (replacing_once old query source by q t w other h k)
+  replacing name query source by longest why other (inr (q, t, w, spans, h, is, past)) (inr (p, u, v, spans2, k, is2, past2)) =
       let e = one_replacing old query source by q p t u w v h k in
-      much t w spans why other past (as_first t u w v spans spans2 other e.1 e.2 (one_choice q p t u spans spans2 e.0 e.1 is is2) past2)
+      much t w spans why other past (as_first t u w v spans spans2 other e.1 e.2 (one_choice longest q p t u spans spans2 e.0 e.1 is is2) past2)
 
 pub one_refusal : (old : World) (command : Command) (why other : Refusal) → IsSettled old.files command → IsRefused old command why → IsRefused old command other → why ≡ other
 one_refusal old (LoadFile name file) why other settled h k = one_file_refusal file load_size old.files why other (are_told old.files (LoadFile name file) tt settled) h k
@@ -77,15 +78,16 @@ one_refusal old (form.ProjectQuery name source keep) why other settled h k = one
 one_refusal old (form.List query name word limit) why other settled h k = listing old query name word limit why other h k
 one_refusal old (form.Nonempty query name) why other settled h k = one_unasked old query name why other h k
 one_refusal old (form.Has query name word) why other settled h k = listing old query name (Some word) 0 why other h k
-one_refusal old (SaveFile file) why other settled h k = absurd (no_save old.files file settled)
+one_refusal old (SaveFile file) why other settled h k = absurd (no_put old.files (SaveFile file) tt tt settled)
+one_refusal old (WriteFile name file) why other settled h k = absurd (no_put old.files (WriteFile name file) tt tt settled)
 one_refusal old (OpenFile file) why other settled h k = opening old file why other (are_told old.files (OpenFile file) tt settled) h k
-one_refusal old (form.ReplaceDoc name query source by) why other settled h k = replacing old name query source by why other h k
+one_refusal old (form.ReplaceDoc name query source by longest) why other settled h k = replacing old name query source by longest why other h k
 one_refusal old _ why other settled h k = first_of (cc, search)
 
 -- an accepted command isn't rejected
 pub refused_once : (old : World) (command : Command) (r : List ℕ) (n : World) (why : Refusal) → IsSettled old.files command → Does old command r n → IsRefused old command why → ⊥
-refused_once old (LoadFile name file) r n why settled (b, h, reply, new) k = within_read file load_size old.files b why (are_told old.files (LoadFile name file) tt settled) h k
-refused_once old (ShareFile name file) r n why settled (b, h, reply, new) k = within_read file load_size old.files b why (are_told old.files (ShareFile name file) tt settled) h k
+refused_once old (LoadFile name file) r n why settled (b, h, gives) k = within_read file load_size old.files b why (are_told old.files (LoadFile name file) tt settled) h k
+refused_once old (ShareFile name file) r n why settled (b, h, gives) k = within_read file load_size old.files b why (are_told old.files (ShareFile name file) tt settled) h k
 refused_once old (LetDoc name expr) r n why settled (e, t, reads, value, reply, new) (inl k) = k.0 e reads
 refused_once old (LetDoc name expr) r n why settled (e, t, reads, value, reply, new) (inr (f, u, reads2, value2, is2)) = value_once old.state.documents expr e f t u reads reads2 value value2
 refused_once old (Show name i j) r n why settled (b, is, reply, new) k = not_both (shown old.state.documents name i j) b why is k
@@ -96,14 +98,15 @@ refused_once old (form.ProjectQuery name source keep) r n why settled h k = proj
 refused_once old (form.List query name word limit) r n why settled (q, t, h, is, new) k = asked_refused old query name word limit q t is.cursor why h is.cursor_is k
 refused_once old (form.Nonempty query name) r n why settled (q, t, h, is, new) k = asked_once old query name q t why h k
 refused_once old (form.Has query name word) r n why settled (q, t, x, h, text, reply, new) k = asked_refused old query name (Some word) 0 q t (Some x) why h (x, text, refl) k
-refused_once old (SaveFile file) r n why settled h k = absurd (no_save old.files file settled)
+refused_once old (SaveFile file) r n why settled h k = absurd (no_put old.files (SaveFile file) tt tt settled)
+refused_once old (WriteFile name file) r n why settled h k = absurd (no_put old.files (WriteFile name file) tt tt settled)
 refused_once old (OpenFile file) r n why settled (b, d, nodes, h, holds, reply, new) (inl k) = within_read file open_size old.files b why (are_told old.files (OpenFile file) tt settled) h k
 refused_once old (OpenFile file) r n why settled (b, d, nodes, h, holds, reply, new) (inr (c, kind, k, fault, is)) =
     image_once b c d nodes kind (one_within file open_size old.files b c (are_told old.files (OpenFile file) tt settled) h k) holds fault
-refused_once old (form.ReplaceDoc name query source by) r n why settled (q, t, w, spans, h, is, few, short, reply, new) (inl k) = replacing_once old query source by q t w why h k
-refused_once old (form.ReplaceDoc name query source by) r n why settled (q, t, w, spans, h, is, few, short, reply, new) (inr (p, u, v, spans2, k, is2, past)) =
+refused_once old (form.ReplaceDoc name query source by longest) r n why settled (q, t, w, spans, h, is, few, short, reply, new) (inl k) = replacing_once old query source by q t w why h k
+refused_once old (form.ReplaceDoc name query source by longest) r n why settled (q, t, w, spans, h, is, few, short, reply, new) (inr (p, u, v, spans2, k, is2, past)) =
     let e = one_replacing old query source by q p t u w v h k in
-    not_much t w spans why few short (as_first t u w v spans spans2 why e.1 e.2 (one_choice q p t u spans spans2 e.0 e.1 is is2) past)
+    not_much t w spans why few short (as_first t u w v spans spans2 why e.1 e.2 (one_choice longest q p t u spans spans2 e.0 e.1 is is2) past)
 refused_once old (form.ListAll query limit) r n why settled (q, there, reply, new) k = no_value (value_of old.state.queries query) q there k.0
 refused_once old (form.DropDoc name) r n why settled (t, there, reply, new) k = no_value (value_of old.state.documents name) t there k.0
 refused_once old (form.Unquery name) r n why settled (q, there, reply, new) k = no_value (value_of old.state.queries name) q there k.0

@@ -1,11 +1,11 @@
 -- The maximum number of table lookups and node constructions of a line.
-use Rattle.std.specs.Prelude.{◌≡◌, ◌⊎◌, ℕ, ◌+◌, ◌*◌, ◌/◌, ◌≤◌, List, length, min}
+use Rattle.std.specs.Prelude.{◌≡◌, ◌⊎◌, ℕ, Bool, if◌then◌else◌, ◌+◌, ◌*◌, ◌/◌, ◌≤◌, List, length, min}
 use Rattle.span_types.specs.Fibonacci.{height_limit, looks_limit}
 use Rattle.span_types.specs.Query.{Query}
 use Rattle.span_types.specs.Rel.{names_of}
 use Rattle.script_syntax.specs.declared.form.Command.{Command}
 use Rattle.script_syntax.specs.declared.form.Command.TheVariants as form
-use Rattle.script_syntax.specs.declared.form.Command.TheVariants.{Text, LoadFile, ShareFile, LetDoc, OpenFile}
+use Rattle.script_syntax.specs.declared.form.Command.TheVariants.{Text, LoadFile, ShareFile, QuotedText, LetDoc, OpenFile}
 use Rattle.report_text.specs.declared.refusal.Refusal.{Refusal}
 use Rattle.slp_image.specs.Image.{image}
 use Rattle.span_enum.specs.Members.{Tuple}
@@ -15,7 +15,7 @@ use Rattle.edit_expr.specs.Expressions.{ExprReads}
 use Rattle.edit_expr.specs.Eval.{greatest, operations}
 use Rattle.span_language.specs.State.{World}
 use Rattle.span_language.specs.Listed.{IsListReply}
-use Rattle.span_language.specs.Step.{IsWithin, IsAsked, IsChosenOf, IsFileRefused, IsRefused, IsReplacing, IsUnreplaced, load_size, most_spans, open_size}
+use Rattle.span_language.specs.Step.{IsWithin, IsAsked, IsFileRefused, IsRefused, IsReplacing, IsTakenOf, IsUnreplaced, load_size, most_spans, open_size}
 use Rattle.span_types.specs.declared.tuple.Span.{Span}
 
 pub record Allowance : Type 0 where
@@ -48,9 +48,9 @@ answer_limit q text = looks_limit (length (names_of q)) (length text)
 abbrev pub answers_steps : ℕ → Query → List ℕ → Allowance
 answers_steps count q text = record { looks = count * answer_limit q text; pairs = 0 }
 
--- the maximum number of steps for replacing c chosen spans of a text of n bytes
-abbrev pub replace_steps : ℕ → ℕ → Allowance
-replace_steps c n = record { looks = 3 * (c + 1) * looks_limit 1 n; pairs = 1770 * (c + 1) }
+-- the maximum number of steps for replacing c of the longest or of the chosen spans of a text of n bytes
+abbrev pub replace_steps : Bool → ℕ → ℕ → Allowance
+replace_steps longest c n = record { looks = (if longest then 8 else 3) * (c + 1) * looks_limit 1 n; pairs = 1770 * (c + 1) }
 
 -- nothing if the command is rejected
 abbrev pub IsFree : (Refusal → Type 0) → Allowance → Type 0
@@ -64,6 +64,7 @@ IsFileAllowed old file limit a = IsFree (IsFileRefused old.files file load_size)
 -- the allowance of a command, by its step
 abbrev pub IsAllowed : World → Command → Allowance → Type 0
 IsAllowed old (Text name bytes) a = a ≡ record { looks = 0; pairs = load_limit (length bytes) }
+IsAllowed old (QuotedText name bytes) a = a ≡ record { looks = 0; pairs = load_limit (length bytes) }
 IsAllowed old (LoadFile name file) a = IsFileAllowed old file load_limit a
 IsAllowed old (ShareFile name file) a = IsFileAllowed old file share_limit a
 IsAllowed old (LetDoc name expr) a = (((e : Expr) → ExprReads expr e → ⊥) × (a ≡ no_steps))
@@ -76,9 +77,9 @@ IsAllowed old (form.Has query name word) a = IsFree (IsRefused old (form.Has que
     ⊎ ((q : Query) × (text : List ℕ) × (tuple : Tuple) × IsAsked old query name q text × TupleText word (names_of q) tuple × (a ≡ answers_steps 1 q text))
 IsAllowed old (OpenFile file) a = ((why : Refusal) × IsFileRefused old.files file open_size why × (a ≡ no_steps))
     ⊎ ((bytes : List ℕ) × IsWithin old.files file open_size bytes × (a ≡ record { looks = 0; pairs = (image bytes).cost }))
-IsAllowed old (form.ReplaceDoc name query source by) a = IsFree (IsUnreplaced old query source by) a
-    ⊎ ((q : Query) × (text other : List ℕ) × (spans : List Span) × IsReplacing old query source by q text other × IsChosenOf q text spans
-    × (a ≡ replace_steps (min (length spans) most_spans) (length text)))
+IsAllowed old (form.ReplaceDoc name query source by longest) a = IsFree (IsUnreplaced old query source by) a
+    ⊎ ((q : Query) × (text other : List ℕ) × (spans : List Span) × IsReplacing old query source by q text other × IsTakenOf longest q text spans
+    × (a ≡ replace_steps longest (min (length spans) most_spans) (length text)))
 IsAllowed old _ a = a ≡ no_steps
 
 -- the counters of table lookups and node constructions

@@ -113,8 +113,8 @@ IsPart Ends old number left part cost files = ((part ≡ []) × (cost ≡ no_ste
 abbrev pub Anywhere : Ending
 Anywhere meaning part before after = Unit {0}
 
--- in a line of the form `load`, `share`, `save` or `open`: nothing of its reply was written, and the observable files are
--- unchanged
+-- in a line of the form `load`, `share`, `write`, `save` or `open`: nothing of its reply was written, and the observable
+-- files are unchanged
 abbrev pub InFileLine : Ending
 InFileLine meaning part before after = Of IsOfFile meaning × (part ≡ []) × (after ≡ before)
 

@@ -1,9 +1,9 @@
 -- The effect of a line.
-use Rattle.std.specs.Prelude.{◌≡◌, ◌⊎◌, ◌<◌, ℕ, List, [], Option, Some, None, Ok, Err, IfSome, take, length, ◌≤◌, ◌^◌}
+use Rattle.std.specs.Prelude.{◌≡◌, ◌⊎◌, ◌<◌, ℕ, Bool, true, false, List, [], Option, Some, None, Ok, Err, take, length, ◌≤◌, ◌^◌}
 use Rattle.std.specs.Io.KnownBytes.{Appends, Keeps}
 use Rattle.edge_io.specs.Files.{AllowsReads, AllowsWrites, DeniesReads, DeniesWrites, Files, Holds, KeepsOthers, LacksFile}
 use Rattle.script_syntax.specs.declared.form.Command.{Command}
-use Rattle.script_syntax.specs.declared.form.Command.TheVariants.{Nothing, Text, LoadFile, ShareFile, LetDoc, DropDoc, Names, Show, SaveFile, OpenFile}
+use Rattle.script_syntax.specs.declared.form.Command.TheVariants.{Nothing, Text, LoadFile, ShareFile, QuotedText, WriteFile, LetDoc, DropDoc, Names, Show, SaveFile, OpenFile}
 use Rattle.script_syntax.specs.declared.form.Command.TheVariants as form
 use Rattle.edit_expr.specs.declared.expr.Expr.{Expr}
 use Rattle.edit_expr.specs.declared.refusal.EditRefusal.{EditRefusal}
@@ -24,13 +24,14 @@ use Rattle.slp_image.specs.Fields.{kind_of}
 use Rattle.slp_image.specs.Image.{image}
 use Rattle.slp_image.specs.Save.{SaveForm}
 use Rattle.slp_image.specs.declared.refusal.ImageRefusal.{ImageRefusal}
-use Rattle.report_text.specs.Reply.{shown_text, query_text, saved_text, opened_text, refusal_text}
+use Rattle.report_text.specs.Reply.{shown_text, query_text, saved_text, opened_text, written_text, refusal_text}
 use Rattle.report_text.specs.declared.refusal.Refusal.{Refusal}
 use Rattle.report_text.specs.declared.refusal.Refusal.TheVariants.{Syntax, NoSuchDocument, NoSuchQuery, FormulaTooLong, BadFormula, TooDeep, TooManyPositions, TooManyVariables, NotFunctional, TooManyStates, NoSuchFile, FileTooLong, CannotRead, CannotWrite, BadImage, QueryTooLarge, OtherVariables, NoSuchVersion, NotOneVariable, TooManyMatches, TooLong}
 use Rattle.span_language.specs.State.{World, Documents, Named, world, value_of, put, taken_out, with_documents, with_queries, with_versions}
 use Rattle.span_language.specs.Cursors.{IsCursorRefused, IsTupleRefused}
 use Rattle.span_language.specs.Listed.{AreListed, IsListReply}
 use Rattle.span_replace.specs.Chosen.{chosen}
+use Rattle.span_replace.specs.Longest.{IsLongest}
 use Rattle.span_replace.specs.Replaced.{replaced}
 use Rattle.span_types.specs.declared.tuple.Span.{Span}
 use Rattle.span_language.specs.Replies.{ok_text, yes_text, no_text, given_text, names_text, shown, IsEditRefusal}
@@ -56,7 +57,8 @@ IsFileRefused files name limit why = (LacksFile files name × (why ≡ NoSuchFil
     ⊎ (DeniesReads files name × (why ≡ CannotRead name))
     ⊎ (IsOversized files name limit × (why ≡ FileTooLong name))
 
--- the maximum length of a file for `load` and `share`, and of one for `open` and `save`, in bytes
+-- the maximum length of a file for `load` and `share` and of a text for `write`, and of a file for `open` and `save`, in
+-- bytes
 abbrev pub load_size : ℕ
 load_size = 2 ^ 32
 
@@ -77,6 +79,23 @@ IsSaveRefused files documents name why = (bytes : List ℕ) × (nodes : ℕ) × 
 pub record IsPut (old : Option Files) (name bytes : List ℕ) (new : Option Files) : Type 0 where
   pub held : Holds new name bytes
   pub others : KeepsOthers old new name
+
+-- the text of a document is written to the file, and nothing else changes
+pub record WritesFile (old : World) (name file reply : List ℕ) (new : World) : Type 0 where
+  pub text : List ℕ
+  pub document : value_of old.state.documents name ≡ Some text
+  pub short : length text ≤ load_size
+  pub writable : AllowsWrites old.files file
+  pub replied : reply ≡ written_text (length text)
+  pub state : new.state ≡ old.state
+  pub put : IsPut old.files file text new.files
+
+-- why a `write` is rejected, the first reason: the document doesn't exist, its text is too long, or the file may not be
+-- written
+abbrev pub IsUnwritten : World → List ℕ → List ℕ → Refusal → Type 0
+IsUnwritten old name file why = ((value_of old.state.documents name ≡ None) × (why ≡ NoSuchDocument name))
+    ⊎ ((text : List ℕ) × (value_of old.state.documents name ≡ Some text)
+    × (((load_size < length text) × (why ≡ FileTooLong file)) ⊎ ((length text ≤ load_size) × DeniesWrites old.files file × (why ≡ CannotWrite file))))
 
 -- the number of the first fault of an image
 pub record IsFaulty (bytes : List ℕ) (kind : ℕ) : Type 0 where
@@ -146,6 +165,17 @@ pub record IsChosenOf (q : Query) (s : List ℕ) (spans : List Span) : Type 0 wh
   pub answers : IsAnswersOf q s all
   pub is : spans ≡ chosen all
 
+-- the longest spans of a query's answers on a text
+pub record IsLongestOf (q : Query) (s : List ℕ) (spans : List Span) : Type 0 where
+  pub all : List Tuple
+  pub answers : IsAnswersOf q s all
+  pub is : IsLongest all spans
+
+-- the spans of a query's answers on a text that are replaced: the longest, or the first that don't overlap
+abbrev pub IsTakenOf : Bool → Query → List ℕ → List Span → Type 0
+IsTakenOf false q s spans = IsChosenOf q s spans
+IsTakenOf true q s spans = IsLongestOf q s spans
+
 -- the maximum number of replaced spans
 abbrev pub most_spans : ℕ
 most_spans = 32768
@@ -166,16 +196,21 @@ HasDocuments old new documents = new ≡ world (with_documents old.state documen
 abbrev pub HasVersions : World → World → Named Documents → Type 0
 HasVersions old new versions = new ≡ world (with_versions old.state versions) old.files
 
+-- the document gets these bytes
+abbrev pub GivesText : World → List ℕ → List ℕ → List ℕ → World → Type 0
+GivesText old name bytes reply new = (reply ≡ given_text name bytes) × HasDocuments old new (put old.state.documents name bytes)
+
 -- the document gets the bytes of the file, which is within the limit
 abbrev pub LoadsFile : World → List ℕ → List ℕ → List ℕ → World → Type 0
-LoadsFile old name file reply new = (bytes : List ℕ) × IsWithin old.files file load_size bytes × (reply ≡ given_text name bytes)
-    × HasDocuments old new (put old.state.documents name bytes)
+LoadsFile old name file reply new = (bytes : List ℕ) × IsWithin old.files file load_size bytes × GivesText old name bytes reply new
 
 -- an accepted command has this reply and results in this world: one equation for each command
 abbrev pub Does : World → Command → List ℕ → World → Type 0
-Does old (Text name bytes) reply new = (reply ≡ given_text name bytes) × HasDocuments old new (put old.state.documents name bytes)
+Does old (Text name bytes) reply new = GivesText old name bytes reply new
+Does old (QuotedText name bytes) reply new = GivesText old name bytes reply new
 Does old (LoadFile name file) reply new = LoadsFile old name file reply new
 Does old (ShareFile name file) reply new = LoadsFile old name file reply new
+Does old (WriteFile name file) reply new = WritesFile old name file reply new
 Does old (LetDoc name expr) reply new = (e : Expr) × (text : List ℕ) × ExprReads expr e × (eval old.state.documents e ≡ Ok text)
     × (reply ≡ given_text name text) × HasDocuments old new (put old.state.documents name text)
 Does old (DropDoc name) reply new = (text : List ℕ) × (value_of old.state.documents name ≡ Some text)
@@ -196,8 +231,8 @@ Does old (SaveFile file) reply new = (bytes : List ℕ) × (nodes : ℕ) × IsSa
 Does old (OpenFile file) reply new = (bytes : List ℕ) × (documents : Documents) × (nodes : ℕ) × IsWithin old.files file open_size bytes
     × ((image bytes).answer ≡ Ok (record { documents = documents; nodes = nodes })) × (reply ≡ opened_text (length documents)) × HasDocuments old new documents
 Does old (form.ListAll query n) reply new = (q : Query) × (value_of old.state.queries query ≡ Some q) × AreListed q n old.state.documents reply × (new ≡ old)
-Does old (form.ReplaceDoc name query source by) reply new = (q : Query) × (text other : List ℕ) × (spans : List Span)
-    × IsReplacing old query source by q text other × IsChosenOf q text spans × (length spans ≤ most_spans) × (length (replaced text spans other) ≤ 2 ^ 48)
+Does old (form.ReplaceDoc name query source by longest) reply new = (q : Query) × (text other : List ℕ) × (spans : List Span)
+    × IsReplacing old query source by q text other × IsTakenOf longest q text spans × (length spans ≤ most_spans) × (length (replaced text spans other) ≤ 2 ^ 48)
     × (reply ≡ given_text name (replaced text spans other)) × HasDocuments old new (put old.state.documents name (replaced text spans other))
 Does old (form.MarkDocs name) reply new = (reply ≡ ok_text) × HasVersions old new (put old.state.versions name old.state.documents)
 Does old (form.UnmarkDocs name) reply new = (documents : Documents) × (value_of old.state.versions name ≡ Some documents)
@@ -211,8 +246,10 @@ Does old Nothing reply new = ⊥
 abbrev pub IsRefused : World → Command → Refusal → Type 0
 IsRefused old Nothing why = ⊥
 IsRefused old (Text name bytes) why = ⊥
+IsRefused old (QuotedText name bytes) why = ⊥
 IsRefused old (LoadFile name file) why = IsFileRefused old.files file load_size why
 IsRefused old (ShareFile name file) why = IsFileRefused old.files file load_size why
+IsRefused old (WriteFile name file) why = IsUnwritten old name file why
 IsRefused old (LetDoc name expr) why = (((e : Expr) → ExprReads expr e → ⊥) × (why ≡ Syntax))
     ⊎ ((e : Expr) × (refusal : EditRefusal) × ExprReads expr e × (eval old.state.documents e ≡ Err refusal) × IsEditRefusal refusal why)
 IsRefused old (DropDoc name) why = (value_of old.state.documents name ≡ None) × (why ≡ NoSuchDocument name)
@@ -232,8 +269,8 @@ IsRefused old (SaveFile file) why = IsSaveRefused old.files old.state.documents 
 IsRefused old (OpenFile file) why = IsFileRefused old.files file open_size why
     ⊎ ((bytes : List ℕ) × (kind : ℕ) × IsWithin old.files file open_size bytes × IsFaulty bytes kind × (why ≡ BadImage kind))
 IsRefused old (form.ListAll query n) why = (value_of old.state.queries query ≡ None) × (why ≡ NoSuchQuery query)
-IsRefused old (form.ReplaceDoc name query source by) why = IsUnreplaced old query source by why
-    ⊎ ((q : Query) × (text other : List ℕ) × (spans : List Span) × IsReplacing old query source by q text other × IsChosenOf q text spans
+IsRefused old (form.ReplaceDoc name query source by longest) why = IsUnreplaced old query source by why
+    ⊎ ((q : Query) × (text other : List ℕ) × (spans : List Span) × IsReplacing old query source by q text other × IsTakenOf longest q text spans
     × (((most_spans < length spans) × (why ≡ TooManyMatches))
     ⊎ ((length spans ≤ most_spans) × (2 ^ 48 < length (replaced text spans other)) × (why ≡ TooLong (length (replaced text spans other))))))
 IsRefused old (form.MarkDocs name) why = ⊥
@@ -247,15 +284,17 @@ Carries old number command Quiet reply new = (command ≡ Nothing) × (reply ≡
 Carries old number command Accepted reply new = Does old command reply new
 Carries old number command Refused reply new = (why : Refusal) × IsRefused old command why × (reply ≡ refusal_text number why) × (new ≡ old)
 
--- the bytes of a `text` command are at most 2^16, which the length of a line ensures
+-- the bytes of a `text` or `bytes` command are at most 2^16, which the length of a line ensures
 abbrev pub IsShort : Command → Type 0
 IsShort (Text name bytes) = length bytes ≤ 2 ^ 16
+IsShort (QuotedText name bytes) = length bytes ≤ 2 ^ 16
 IsShort _ = Unit {0}
 
 -- the command reads or writes a file
 abbrev pub IsOfFile : Command → Type 0
 IsOfFile (LoadFile name file) = Unit {0}
 IsOfFile (ShareFile name file) = Unit {0}
+IsOfFile (WriteFile name file) = Unit {0}
 IsOfFile (SaveFile file) = Unit {0}
 IsOfFile (OpenFile file) = Unit {0}
 IsOfFile _ = ⊥
@@ -265,9 +304,11 @@ abbrev pub IsList : Command → Type 0
 IsList (form.List query name after limit) = Unit {0}
 IsList _ = ⊥
 
--- the command saves to this file
-abbrev pub IsSave : List ℕ → Command → Type 0
-IsSave file command = command ≡ SaveFile file
+-- the command writes to a file
+abbrev pub IsPutting : Command → Type 0
+IsPutting (SaveFile file) = Unit {0}
+IsPutting (WriteFile name file) = Unit {0}
+IsPutting _ = ⊥
 
 -- the observable bytes are extended by a prefix of these
 abbrev pub AppendsFront : Option (List ℕ) → Option (List ℕ) → List ℕ → Type 0

@@ -22,7 +22,8 @@
 //! Databases with Complex Document Editing*, PODS 2022.
 //!
 //! Proved: The definitions that `run` cites, and their laws. A rejected line changes nothing (`law::refusals`). A line
-//! has one reply, except for `save` (`law::replies`, `law::outputs`).
+//! has one reply, except for `save` (`law::replies`, `law::outputs`). `bytes` reads what `show` prints
+//! (`law::shown_texts`).
 #![tactic(auto)]
 
 pub mod law;

@@ -1,4 +1,5 @@
 pub mod Chosen
+pub mod Longest
 pub mod Replaced
 pub mod Cursor
 pub mod Outcomes
