@@ -46,7 +46,7 @@ pub use Rattle.span_language.specs.Counts.{Compacts, Registers}
 pub use Rattle.span_language.specs.Listed.{AreListed, IsListReply, doc_line, done_line, first_page_text, last_line, page_text, tuple_line}
 pub use Rattle.span_language.specs.Replies.{no_text, ok_text, yes_text}
 pub use Rattle.span_language.specs.State.{Documents, Named, State, World, put, taken_out, value_of, with_documents, with_queries, world}
-pub use Rattle.span_language.specs.Step.{Carries, Does, IsChosenOf, IsOfFile, IsRefused, IsRegistered, IsReplacing, IsTextRefused, IsYesOrNo, most_spans}
+pub use Rattle.span_language.specs.Step.{Carries, Does, IsTakenOf, IsOfFile, IsRefused, IsRegistered, IsReplacing, IsTextRefused, IsYesOrNo, most_spans}
 pub use Rattle.span_language.specs.declared.told.Stop.{Stop}
 pub use Rattle.span_language.specs.declared.told.Told.{Told}
 pub use Rattle.span_language.specs.declared.told.Told.TheVariants.{Accepted, Quiet, Refused}
@@ -58,6 +58,7 @@ pub use Rattle.span_types.specs.Query.{Join, Project, Query, Union}
 pub use Rattle.span_types.specs.Rel.{names_of}
 pub use Rattle.span_types.specs.declared.tuple.Span.{Span}
 pub use Rattle.state_tables.specs.Dictionary.{AreTables, Dictionary, count_of}
+pub use Rattle.std.proofs.Common.{if◌then◌else◌}
 pub use Rattle.std.proofs.Common.{Bool, Contains, Err, IfErr, IfOk, IsErr, IsErrAnd, IsOk, IsSome, IsTrue, List, MatchOption}
 pub use Rattle.std.proofs.Common.{MatchResult, None, Ok, OnErr, OnOk, Option, Result, Some, [], ap, append_assoc, arith}
 pub use Rattle.std.proofs.Common.{drop, false, get_or, inl, inr, length, map, min, nat_lt, option_map, refl, rules}

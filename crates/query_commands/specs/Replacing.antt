@@ -1,5 +1,5 @@
 -- The effect and the cost of the parts of a replacement.
-use Rattle.std.specs.Prelude.{◌≡◌, ◌⊎◌, ℕ, ◌+◌, ◌*◌, ◌<◌, ◌≤◌, ◌^◌, List, Some, length, min, Result}
+use Rattle.std.specs.Prelude.{Bool, if◌then◌else◌, ◌≡◌, ◌⊎◌, ℕ, ◌+◌, ◌*◌, ◌<◌, ◌≤◌, ◌^◌, List, Some, length, min, Result}
 use Rattle.doc_book.specs.Docs as book
 use Rattle.report_text.specs.Reply.{refusal_text}
 use Rattle.report_text.specs.declared.refusal.Refusal.TheVariants as refusal
@@ -10,7 +10,7 @@ use Rattle.span_types.specs.Fibonacci.{looks_limit}
 use Rattle.span_types.specs.Query.{Query}
 use Rattle.span_types.specs.Rel.{names_of}
 use Rattle.span_language.specs.State.{Documents, Named, put, value_of}
-use Rattle.span_language.specs.Step.{IsChosenOf, most_spans}
+use Rattle.span_language.specs.Step.{IsTakenOf, most_spans}
 use Rattle.span_language.specs.declared.told.Told.{Told}
 use Rattle.span_language.specs.declared.told.Told.TheVariants.{Refused}
 use Rattle.session_state.specs.DocumentReply.{IsDocumentReply}
@@ -31,14 +31,15 @@ pub record AreSources (h : SessionState) (query source by : List ℕ) (s : Sourc
   pub name : s.query ≡ query
   pub variable : HasOneVariable (queries_of h.book) query
 
--- the spans of a query on a text were chosen, or there are too many
-pub record Chooses (queries : Named Query) (query text : List ℕ) (result : Result (List Span) ReplaceRefusal) (before after : ℕ) : Type 0 where
+-- the spans of a query on a text that are replaced, the longest ones or the first that don't overlap, or there are too
+-- many
+pub record Chooses (longest : Bool) (queries : Named Query) (query text : List ℕ) (result : Result (List Span) ReplaceRefusal) (before after : ℕ) : Type 0 where
   pub of : Query
   pub there : value_of queries query ≡ Some of
   pub spans : List Span
-  pub chosen : IsChosenOf of text spans
+  pub chosen : IsTakenOf longest of text spans
   pub choice : IsChoice spans result
-  pub cost : after ≤ before + 3 * (min (length spans) most_spans + 1) * looks_limit 1 (length text)
+  pub cost : after ≤ before + (if longest then 8 else 3) * (min (length spans) most_spans + 1) * looks_limit 1 (length text)
 
 -- the document has the text, or the reply states that it would be too long
 abbrev pub Replaces : Documents → ℕ → List ℕ → List ℕ → Told → List ℕ → Documents → Type 0

@@ -22,7 +22,7 @@ use report_text::Refusal;
 use session_state::{Answer, Context, SessionState, reject, root_len, set_document};
 use slp_model::NodeId;
 use span_language::Stop;
-use span_replace::{Chosen, ReplaceRefusal, chosen, replaced};
+use span_replace::{Chosen, ReplaceRefusal, chosen, longest, replaced};
 use span_types::{Name, NoMemory, Steps};
 use std::alloc::Global;
 use std::sync::ledger::Ledger;
@@ -30,13 +30,14 @@ use std::thread::Threads;
 use work_gate::Gate;
 
 /// The arguments of a replacement: the document that gets the result, the query, the document whose spans are replaced,
-/// and the document whose text replaces them.
+/// the document whose text replaces them, and whether of the spans with the same start the longest is replaced.
 #[derive(Drop)]
 pub struct Replacing {
     pub name: Name,
     pub query: Name,
     pub source: Name,
     pub by: Name,
+    pub longest: bool,
 }
 
 /// The inputs of a replacement: the query, the root of the text whose spans are replaced, and the root of the text that
@@ -76,22 +77,29 @@ fn find_sources(
     Ok(Sources { query, root, other })
 }
 
-/// The chosen spans of a query of one variable on a root's text.
+/// The spans of a query of one variable on a root's text that are replaced.
 fn choose<L: Ledger>(
     subject: Subject<'_>,
     query: &Name,
+    long: bool,
     looks: &mut Steps<L>,
 ) -> Result<Chosen, ReplaceRefusal>
     requires subject { IsSubject subject.store.now subject.book.now subject.root }
     requires one { HasOneVariable (queries_of subject.book.now) query.now }
-    ensures choice { Chooses (queries_of subject.entry.book.now) query.now (text_of subject.entry.store.now subject.entry.root)
+    ensures choice { Chooses long (queries_of subject.entry.book.now) query.now (text_of subject.entry.store.now subject.entry.root)
         result looks.old looks.new }
     ensures apart { IfOk result (λ spans. AreApart (length (text_of subject.entry.store.now subject.entry.root)) spans) }
 {
     // States a property of the store: a text has at most the 2^48 bytes for which the automaton is specified.
     let _len = root_len(subject.store, subject.root);
     match subject.book.parts(query.bytes(), subject.store) {
-        Ok((view, dfa)) => chosen(subject.alloc, view, dfa, subject.root, looks),
+        Ok((view, dfa)) => {
+            if long {
+                longest(subject.alloc, view, dfa, subject.root, looks)
+            } else {
+                chosen(subject.alloc, view, dfa, subject.root, looks)
+            }
+        }
         Err(_) => unreachable!(),
     }
 }
@@ -132,7 +140,7 @@ fn put_in_place<P: Ledger>(
     }
 }
 
-/// `replace NAME Q DOC BY`
+/// `replace NAME Q DOC BY`, optionally with `longest`
 pub fn replace<R: Threads + Sync, G: Gate, P: Ledger, T: Ledger, L: Ledger>(
     context: Context<'_, R, G>,
     session: &mut SessionState,
@@ -144,11 +152,11 @@ pub fn replace<R: Threads + Sync, G: Gate, P: Ledger, T: Ledger, L: Ledger>(
     requires { IsConsistent session.old }
     ensures done { (files : Option Files) (faults : ℕ) → IfOk result
         (Answers (at session.old files faults looks.old pairs.old places.old) context.entry.number
-        (form.ReplaceDoc asked.name asked.query asked.source asked.by)
+        (form.ReplaceDoc asked.name asked.query asked.source asked.by asked.longest)
         (at session.new files faults looks.new pairs.new places.new)) }
     ensures stopped { (files : Option Files) (faults : ℕ) → IfErr result
         (Stays (at session.old files faults looks.old pairs.old places.old) context.entry.number
-        (form.ReplaceDoc asked.name asked.query asked.source asked.by)
+        (form.ReplaceDoc asked.name asked.query asked.source asked.by asked.longest)
         (at session.new files faults looks.new pairs.new places.new)) }
 {
     let number = context.number;
@@ -157,6 +165,7 @@ pub fn replace<R: Threads + Sync, G: Gate, P: Ledger, T: Ledger, L: Ledger>(
         query,
         source,
         by,
+        longest: long,
     } = asked;
     match find_sources(session, query, source, by) {
         Ok(sources) => {
@@ -174,7 +183,7 @@ pub fn replace<R: Threads + Sync, G: Gate, P: Ledger, T: Ledger, L: Ledger>(
                 book: &session.book,
                 root: sources.root,
             };
-            match choose(subject, &sources.query, looks) {
+            match choose(subject, &sources.query, long, looks) {
                 Ok(spans) => {
                     let answer = put_in_place(
                         session.alloc,

@@ -40,7 +40,7 @@ pub use Rattle.span_language.specs.Step.{Carries, Does, GivesText, HasDocuments,
 pub use Rattle.span_language.specs.declared.told.Told.{Told}
 pub use Rattle.span_language.specs.declared.told.Told.TheVariants.{Accepted, Quiet, Refused}
 pub use Rattle.span_replace.specs.Chosen.{chosen}
-pub use Rattle.span_replace.specs.Longest.{AreLongestFrom, IsLongest, IsNextLongest, IsBeyond, IsPreferred}
+pub use Rattle.span_replace.specs.Longest.{longest}
 pub use Rattle.span_replace.specs.Replaced.{replaced}
 pub use Rattle.span_types.proofs.LeafLaws.{one-query-list}
 pub use Rattle.span_types.proofs.PageLaws.{one-page}

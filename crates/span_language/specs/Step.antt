@@ -31,7 +31,7 @@ use Rattle.span_language.specs.State.{World, Documents, Named, world, value_of, 
 use Rattle.span_language.specs.Cursors.{IsCursorRefused, IsTupleRefused}
 use Rattle.span_language.specs.Listed.{AreListed, IsListReply}
 use Rattle.span_replace.specs.Chosen.{chosen}
-use Rattle.span_replace.specs.Longest.{IsLongest}
+use Rattle.span_replace.specs.Longest.{longest}
 use Rattle.span_replace.specs.Replaced.{replaced}
 use Rattle.span_types.specs.declared.tuple.Span.{Span}
 use Rattle.span_language.specs.Replies.{ok_text, yes_text, no_text, given_text, names_text, shown, IsEditRefusal}
@@ -169,7 +169,7 @@ pub record IsChosenOf (q : Query) (s : List ℕ) (spans : List Span) : Type 0 wh
 pub record IsLongestOf (q : Query) (s : List ℕ) (spans : List Span) : Type 0 where
   pub all : List Tuple
   pub answers : IsAnswersOf q s all
-  pub is : IsLongest all spans
+  pub is : spans ≡ longest all
 
 -- the spans of a query's answers on a text that are replaced: the longest, or the first that don't overlap
 abbrev pub IsTakenOf : Bool → Query → List ℕ → List Span → Type 0

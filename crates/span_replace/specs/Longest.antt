@@ -1,30 +1,25 @@
--- The longest spans, which `longest` replaces.
-use Rattle.std.specs.Prelude.{◌≡◌, ◌≢◌, ◌⊎◌, ◌<◌, ◌≤◌, List, [], ◌∷◌, Option, Some, None, Contains}
+-- The longest of the spans that start at one position, from the left.
+use Rattle.std.specs.Prelude.{nat_le, nat_lt, ◌==◌, ◌&&◌, not, Bool, true, List, [], ◌∷◌, Option, Some, None, if◌then◌else◌}
+use Rattle.std.specs.List.{list_any}
 use Rattle.span_types.specs.declared.tuple.Span.{Span}
 use Rattle.span_enum.specs.Members.{Tuple}
 use Rattle.span_replace.specs.Chosen.{spans_in}
 
--- the span starts at or past the end of the last one, if there is one, and isn't the empty span at that end
-abbrev pub IsBeyond : Option Span → Span → Type 0
-IsBeyond None q = Unit {0}
-IsBeyond (Some last) q = (last.end ≤ q.start) × (q ≢ record { start = last.end; end = last.end })
+-- whether q starts at or past the end of the last span taken, if any, and isn't the empty span at that end
+abbrev pub may_follow : Option Span → Span → Bool
+may_follow None q = true
+may_follow (Some l) q = nat_le l.end q.start && not ((q.start == l.end) && (q.end == l.end))
 
--- the span has the lesser start, or the same start and no lesser end
-abbrev pub IsPreferred : Span → Span → Type 0
-IsPreferred q r = (q.start < r.start) ⊎ ((q.start ≡ r.start) × (r.end ≤ q.end))
+-- whether none of the spans starts where q does and ends after it
+abbrev pub is_longest : Span → List Span → Bool
+is_longest q qs = not (list_any (λ r. (r.start == q.start) && nat_lt q.end r.end) qs)
 
--- among the spans past the last one, the one with the least start, and of those the one with the greatest end
-pub record IsNextLongest (spans : List Span) (last : Option Span) (q : Span) : Type 0 where
-  pub member : Contains spans q
-  pub past : IsBeyond last q
-  pub preferred : (r : Span) → Contains spans r → IsBeyond last r → IsPreferred q r
+-- of spans in mark order that may follow the last one taken, the one with the least start and, among those of that start, the
+-- greatest end. Then the same of those after it, and so on
+abbrev pub longest_from : Option Span → List Span → List Span
+longest_from last [] = []
+longest_from last (q ∷ qs) = if may_follow last q && is_longest q qs then q ∷ longest_from (Some q) qs else longest_from last qs
 
--- the first is next after the last one, each other one is next after the one before it, and no span is past the final
--- one
-abbrev pub AreLongestFrom : List Span → Option Span → List Span → Type 0
-AreLongestFrom spans last [] = (r : Span) → Contains spans r → IsBeyond last r → ⊥
-AreLongestFrom spans last (q ∷ qs) = IsNextLongest spans last q × AreLongestFrom spans (Some q) qs
-
--- Longest, of the list of all answers of one variable
-abbrev pub IsLongest : List Tuple → List Span → Type 0
-IsLongest all spans = AreLongestFrom (spans_in all) None spans
+-- Longest, of the list of all answers of one variable in mark order
+abbrev pub longest : List Tuple → List Span
+longest all = longest_from None (spans_in all)

@@ -95,6 +95,7 @@ pub fn answer<R: Threads + Sync, F: Shelf, G: Gate, P: Ledger, T: Ledger, L: Led
             query,
             source,
             by,
+            longest,
         } => replace(
             context,
             session,
@@ -103,6 +104,7 @@ pub fn answer<R: Threads + Sync, F: Shelf, G: Gate, P: Ledger, T: Ledger, L: Led
                 query,
                 source,
                 by,
+                longest,
             },
             pairs,
             places,
