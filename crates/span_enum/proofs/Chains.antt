@@ -153,10 +153,10 @@ module _ (g : EnumerationInput) (h : Ahead) (l r : NodeId) (left right : Look) (
   pub fork-height : height_at g h.id.index ≡ max (height_at g l.index) (height_at g r.index) + 1
   fork-height = pair-height g.view.store.now h.id.index l r f.pair
 
-  ahead-right : IsAhead g (sibling h r left right)
+  pub ahead-right : IsAhead g (sibling h r left right)
   ahead-right = record { live = omega (arith, f.pair.2, f.is_ahead.live); look = f.right_look; positive = omega (arith, f.is_ahead.positive); low = omega (arith, f.is_ahead.low, fork-size) }
 
-  ahead-left : (between : Between) (next : ℕ) → IsAhead g (child h l left between next)
+  pub ahead-left : (between : Between) (next : ℕ) → IsAhead g (child h l left between next)
   ahead-left between next = record { live = omega (arith, f.pair.1, f.is_ahead.live); look = f.left_look; positive = f.is_ahead.positive; low = omega (arith, f.is_ahead.low, fork-size, f.left_look.len_is) }
 
   module _ (hs : List (Option Ahead)) (q : ℕ) (c : List Ahead) (s : StandsBefore g hs h q c) where

@@ -11,3 +11,5 @@ mod Tuples
 mod Walks
 mod Ways
 mod Words
+mod Agreed
+mod LastEnds

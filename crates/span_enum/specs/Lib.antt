@@ -1,6 +1,7 @@
 pub mod Letters
 pub mod Members
 pub mod Pages
+pub mod LastEnd
 pub mod Listing
 pub mod ListingView
 pub mod Sets
@@ -10,6 +11,7 @@ pub mod Next
 pub mod Between
 pub mod Quiet
 pub mod Ends
+pub mod Agreement
 pub mod OverLeft
 pub mod Trail
 pub mod WayDown

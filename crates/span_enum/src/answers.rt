@@ -6,16 +6,18 @@ ghost use Rattle.marker_dfa.specs.Deterministic.{states_of};
 ghost use Rattle.slp_model.specs.Nodes.{text_of};
 ghost use Rattle.span_enum.specs.Listing.{IsReady};
 ghost use Rattle.span_enum.specs.Members.{IsMember, IsFirstMember, NoMemberLeft, HasMember};
+ghost use Rattle.span_enum.specs.LastEnd.{HasStart, IsLastEnd};
 ghost use Rattle.span_enum.specs.Sets.{is_final};
 ghost use Rattle.span_enum.specs.Trail.{IsEnumerationInput, whole_text, CanFinish, Finishes, HasRoom, IsFresh, IsStateAt, IsTrailOf, NoEndAfter};
 ghost use Rattle.span_enum.specs.Answering.{IsFoundAfter, IsLoweredAtEnd, IsNoneAfter};
 ghost use Rattle.span_enum.specs.Words.{CanRun, IsGreatestMark};
 
+use crate::agreement::last_end_from;
 use crate::ends::{accepts_end, end_limit, greatest_end};
 use crate::follow::follow;
 use crate::input::EnumerationInput;
 use crate::onward::complete;
-use crate::trail::{Ahead, Place, Trail, ahead_at, empty_trail, lower_last, lower_to};
+use crate::trail::{Ahead, Place, Trail, ahead_at, clear, empty_trail, lower_last, lower_to};
 use crate::walk::{can_reach, final_states, state_over};
 use marker_dfa::Dfa;
 use node_store::NodeId;
@@ -110,12 +112,7 @@ impl<'a> Answers<'a> {
         let input = EnumerationInput::new(view, dfa, root);
         let mut trail = empty_trail(alloc, dfa.variables())?;
         let end = put_root(&input, &mut trail, looks);
-        let first = Place {
-            state: 0,
-            next: trail.ahead.len(),
-            quiet: false,
-        };
-        let state = follow(&input, &mut trail, first, after, 1, end, looks);
+        let state = follow_whole(&input, end, &mut trail, after, looks);
         Ok(Answers {
             input,
             last: Some(*after),
@@ -125,11 +122,33 @@ impl<'a> Answers<'a> {
         })
     }
 
+    /// Moves to before the first answer that comes strictly after the tuple, as `seek` does, and from any position. It
+    /// allocates nothing, and makes at most 2·B(k, n) table lookups.
+    pub fn reseek<L: Ledger>(&mut self, after: &Tuple, looks: &mut Steps<L>)
+        requires { length after.now ≡ self.old.automaton.variables }
+        ensures listing { self.new ≡ record self.old { after = Some after.now } }
+        ensures cost { looks.new ≤ looks.old + 2 * looks_limit self.old.automaton.variables (length self.old.text) }
+    {
+        self.last = Some(*after);
+        self.state = follow_anew(&self.input, self.end, &mut self.trail, after, looks);
+    }
+
     /// The last answer returned. If there is none, the tuple of `seek`, and otherwise none.
     pub fn cursor(&self) -> Option<Tuple>
         ensures { result ≡ self.now.after }
     {
         self.last
+    }
+
+    /// The greatest end of the answers whose span starts at this position, for an automaton of one variable. There is such
+    /// an answer. It allocates nothing, and makes at most B(1, n) table lookups.
+    pub fn last_end<L: Ledger>(&self, start: u64, looks: &mut Steps<L>) -> u64
+        requires one { self.now.automaton.variables ≡ 1 }
+        requires some { HasStart self.now.automaton self.now.text start }
+        ensures end { IsLastEnd self.now.automaton self.now.text start result }
+        ensures cost { looks.new ≤ looks.old + looks_limit 1 (length self.now.text) }
+    {
+        last_end_from(&self.input, self.end, start, looks)
     }
 
     /// The next answer. It allocates nothing. After `None` it always returns `None`.
@@ -203,6 +222,58 @@ fn put_root<'a, L: Ledger>(
             look.len + 1
         }
     }
+}
+
+/// Keeps the marks of the tuple from the first letter on, as far as a run follows them. Returns the state at the end of the
+/// text, if a run follows all of them.
+fn follow_whole<'a, L: Ledger>(
+    input: &EnumerationInput<'a>,
+    end: u64,
+    trail: &mut Trail<'a>,
+    t: &Tuple,
+    looks: &mut Steps<L>,
+) -> Option<u8>
+    requires input { IsEnumerationInput input.now }
+    requires end { end ≡ length (whole_text input.now) + 1 }
+    requires tuple { length t.now ≡ input.now.dfa.now.variables }
+    requires fresh { IsFresh input.now trail.old.marks.items trail.old.ahead.items }
+    requires room { HasRoom input.now.dfa.now.variables trail.old.marks.capacity trail.old.ahead.capacity }
+    ensures state { IsStateAt input.now (Some t.now) result }
+    ensures trail { IsTrailOf input.now t.now trail.new.marks.items trail.new.ahead.items }
+    ensures cost { looks.new ≤ looks.old + looks_limit input.now.dfa.now.variables (length (whole_text input.now)) }
+    ensures marks_room { trail.new.marks.capacity ≡ trail.old.marks.capacity }
+    ensures ahead_room { trail.new.ahead.capacity ≡ trail.old.ahead.capacity }
+{
+    let first = Place {
+        state: 0,
+        next: trail.ahead.len(),
+        quiet: false,
+    };
+    follow(input, trail, first, t, 1, end, looks)
+}
+
+/// Keeps the marks of the tuple in place of what is kept. Returns the state at the end of the text, if a run follows all
+/// of them.
+fn follow_anew<'a, L: Ledger>(
+    input: &EnumerationInput<'a>,
+    end: u64,
+    trail: &mut Trail<'a>,
+    t: &Tuple,
+    looks: &mut Steps<L>,
+) -> Option<u8>
+    requires input { IsEnumerationInput input.now }
+    requires end { end ≡ length (whole_text input.now) + 1 }
+    requires tuple { length t.now ≡ input.now.dfa.now.variables }
+    requires room { HasRoom input.now.dfa.now.variables trail.old.marks.capacity trail.old.ahead.capacity }
+    ensures state { IsStateAt input.now (Some t.now) result }
+    ensures trail { IsTrailOf input.now t.now trail.new.marks.items trail.new.ahead.items }
+    ensures cost { looks.new ≤ looks.old + 2 * looks_limit input.now.dfa.now.variables (length (whole_text input.now)) }
+    ensures marks_room { trail.new.marks.capacity ≡ trail.old.marks.capacity }
+    ensures ahead_room { trail.new.ahead.capacity ≡ trail.old.ahead.capacity }
+{
+    clear(trail);
+    let _end = put_root(input, trail, looks);
+    follow_whole(input, end, trail, t, looks)
 }
 
 /// The tuple with the greatest mark with which the text may end in the state.

@@ -3,7 +3,7 @@
 //! `Answers::start(alloc, view, &dfa, root, &mut looks)?` is an iterator before the first answer, `seek` one after any
 //! tuple, and each `next(&mut looks)` returns the next answer. It makes at most B(k, n) table lookups, and fewer for a
 //! near answer. It allocates nothing: the memory for the marks of an answer and for the nodes ahead of them is
-//! allocated at the start.
+//! allocated at the start. `reseek` moves the iterator to after any tuple, with the memory that it has.
 //!
 //! An answer is a text with marks at some letters. Of the last answer each mark is kept, with its letter, the state
 //! before the letter, and the node that comes next: the first of the nodes ahead, which have all letters after this one
@@ -42,12 +42,13 @@
 //! known to be quiet: from them the rest is accepted without marks and only so. When the walk reaches one, the answer is
 //! complete, and the nodes ahead aren't passed.
 //!
-//! Proved: The first answer after the cursor, or none; whether there is one; whether a tuple is one; the lookups of
-//! each (`Answers`, `nonempty`, `has`).
+//! Proved: The first answer after the cursor, or none; whether there is one; whether a tuple is one; the greatest end of the
+//! answers with a start; the lookups of each (`Answers`, `nonempty`, `has`).
 //!
 //! Tested: That `next` allocates nothing.
 #![tactic(auto)]
 
+mod agreement;
 mod answers;
 mod ends;
 mod follow;

@@ -84,6 +84,17 @@ pub(crate) fn empty_trail<'a>(alloc: Global, variables: u8) -> Result<Trail<'a>,
     Ok(Trail { marks, ahead })
 }
 
+/// Removes everything that is kept. The room for it stays.
+pub(crate) fn clear(trail: &mut Trail<'_>)
+    ensures marks { trail.new.marks.items ≡ [] }
+    ensures ahead { trail.new.ahead.items ≡ [] }
+    ensures marks_room { trail.new.marks.capacity ≡ trail.old.marks.capacity }
+    ensures ahead_room { trail.new.ahead.capacity ≡ trail.old.ahead.capacity }
+{
+    trail.marks.truncate(0);
+    trail.ahead.truncate(0);
+}
+
 /// The node with this index in the list, counted from 1.
 pub(crate) fn ahead_at<'t, 'a>(trail: &'t Trail<'a>, place: usize) -> &'t Ahead<'a>
     requires { (before : ℕ) × ((h : Ahead) × (place ≡ suc before) × (slice_get trail.now.ahead.items before ≡ Some (Some h))) }

@@ -66,7 +66,14 @@ pub(crate) fn step(dfa: &Dfa, p: u8, mark: u16, byte: u8) -> Option<u8>
 }
 
 // The state after the mark and the byte, if the mark is below the limit and that state is a goal.
-fn step_to_goal(dfa: &Dfa, p: u8, byte: u8, mark: u16, goals: u128, limit: u32) -> Option<u8>
+pub(crate) fn step_to_goal(
+    dfa: &Dfa,
+    p: u8,
+    byte: u8,
+    mark: u16,
+    goals: u128,
+    limit: u32,
+) -> Option<u8>
     requires { p < states_of dfa.now }
     ensures step { MatchOption result (IsNoMark dfa.now p byte goals limit mark) (λ q.
         (step_of dfa.now p mark byte ≡ Some q) × (member goals q ≡ true) × (mark < limit)) }
