@@ -1,6 +1,6 @@
 -- The spans that are found one after the other are the chosen ones.
 use Rattle.std.proofs.Common.{◌≡◌, ℕ, suc, ◌+◌, ◌*◌, ◌<◌, ◌≤◌, ◌⊎◌, inl, inr, min, List, [], ◌∷◌, ◌++◌, length, length-append, append_assoc, Option, Some, None, MatchOption, Contains, refl, sym, ap, subst, ◌∙◌, arith}
-use Rattle.std.proofs.Math.Nat.{mul-le-mul_right}
+use Rattle.std.proofs.Math.Nat.{mul-le-mul_left, mul-le-mul_right}
 use Rattle.span_types.specs.Fibonacci.{looks_limit}
 use Rattle.span_types.specs.declared.tuple.Span.{Span}
 use Rattle.span_types.specs.Places.{IsSpan}
@@ -61,7 +61,7 @@ in-has ((Some x ∷ u) ∷ ts) q c = by (in-has ts q) (split-member (Some x ∷ 
     by rest (inl e) = inl cc
     by rest (inr k) = inr (rest k)
 
-span-lies : (n : ℕ) (q : Span) → n ≤ 281474976710656 → Lies n (one q) → IsSpan q
+pub span-lies : (n : ℕ) (q : Span) → n ≤ 281474976710656 → Lies n (one q) → IsSpan q
 span-lies n q short h = let f = h 0 q refl in record { positive = f.0; ordered = f.1; small = omega (arith, f.2) }
 
 sorted-in : (n : ℕ) (ts : List Tuple) → n ≤ 281474976710656 → IsRising ts → AreOf n ts → AreSorted (spans_in ts)
@@ -102,25 +102,29 @@ pub record Picks (a : DeterministicAutomaton) (s : List ℕ) (spans : List Span)
 abbrev pub Finds : DeterministicAutomaton → List ℕ → Option Tuple → Option Span → Type 0
 Finds a s cursor next = MatchOption next (NoSpanLeft a s cursor) (λ q. IsFirstMember a s cursor (one q))
 
-append-nil : (xs : List Span) → xs ++ [] ≡ xs
+pub append-nil : (xs : List Span) → xs ++ [] ≡ xs
 append-nil [] = refl
 append-nil (x ∷ xs) = ap (λ l. x ∷ l) (append-nil xs)
+
+-- the same of an equal automaton, text and cursor
+pub finds-same : (a b : DeterministicAutomaton) (s u : List ℕ) (c d : Option Tuple) (o : Option Span) → a ≡ b → s ≡ u → c ≡ d → Finds a s c o → Finds b u d o
+finds-same a b s u c d o ea es ec f = subst (λ z. Finds b u z o) ec (subst (λ z. Finds b z c o) es (subst (λ z. Finds z s c o) ea f))
 
 module _ (a : DeterministicAutomaton) (s : List ℕ) (single : a.variables ≡ 1) (short : length s ≤ 281474976710656) where
   module _ (all : List Tuple) (answers : AreAnswersOf a s all) where
     are : AreOf (length s) all
     are t k = let m = (answers.members t).0 k in (m.size ∙ single, m.lies)
 
-    sorted : AreSorted (spans_in all)
+    pub sorted : AreSorted (spans_in all)
     sorted = sorted-in (length s) all short answers.rising are
 
-    member : (q : Span) → Has (spans_in all) q → IsMember a s (one q)
+    pub member : (q : Span) → Has (spans_in all) q → IsMember a s (one q)
     member q h = (answers.members (one q)).0 (has-in (length s) all q are h)
 
-    has : (q : Span) → IsMember a s (one q) → Has (spans_in all) q
+    pub has : (q : Span) → IsMember a s (one q) → Has (spans_in all) q
     has q m = in-has all q ((answers.members (one q)).1 m)
 
-    one-inj : (q r : Span) → one q ≡ one r → q ≡ r
+    pub one-inj : (q r : Span) → one q ≡ one r → q ≡ r
     one-inj q r e = cc
 
     found-after : (c : Span) → IsSpan c → (o : Option Span) → Finds a s (Some (one c)) o → picked c (spans_in all) ≡ upcoming o (spans_in all)
@@ -192,16 +196,35 @@ module _ (a : DeterministicAutomaton) (s : List ℕ) (spans : List Span) (all : 
 pub some-looks : (n : ℕ) → 1 ≤ looks_limit 1 n
 some-looks n = omega arith
 
-pub paid-first : (old mid new k b : ℕ) → mid ≤ old + 1 → new ≤ mid + 2 * b → 1 ≤ b → k ≡ 0 → new ≤ old + 3 * (k + 1) * b
-paid-first old mid new k b h l some zero = subst (λ n. new ≤ old + 3 * (n + 1) * b) (sym zero) (omega (arith, h, l, some))
-
-pub paid-next : (old mid new k more b : ℕ) → mid ≤ old + 3 * (k + 1) * b → new ≤ mid + 3 * b → more ≡ k + 1 → new ≤ old + 3 * (more + 1) * b
-paid-next old mid new k more b h l is = subst (λ n. new ≤ old + 3 * (n + 1) * b) (sym is) (omega (arith, h, l, by))
+-- each span costs each times b, and the last search costs last times b
+pub paid-next : (each last old mid new k more b : ℕ) → mid ≤ old + (each * k + last) * b → new ≤ mid + each * b → more ≡ k + 1 → new ≤ old + (each * more + last) * b
+paid-next each last old mid new k more b h l is = subst (λ n. new ≤ old + (each * n + last) * b) (sym is) (omega (arith, h, l, by))
   where
-    by : 3 * (k + 1 + 1) * b ≡ 3 * (k + 1) * b + 3 * b
+    by : (each * (k + 1) + last) * b ≡ (each * k + last) * b + each * b
     by = grind arith
 
-pub paid-most : (old new k c b : ℕ) → new ≤ old + 3 * (k + 1) * b → k ≤ c → k ≤ 32768 → new ≤ old + 3 * (min c 32768 + 1) * b
-paid-most old new k c b h first second =
-    let l : 3 * (k + 1) ≤ 3 * (min c 32768 + 1) = omega (arith, first, second) in
+pub paid-first : (each last old new k b : ℕ) → new ≤ old + last * b → k ≡ 0 → new ≤ old + (each * k + last) * b
+paid-first each last old new k b h zero = subst (λ n. new ≤ old + (each * n + last) * b) (sym zero) (omega (arith, h, by))
+  where
+    by : (each * 0 + last) * b ≡ last * b
+    by = grind arith
+
+pub paid-most : (each last old new k c b : ℕ) → new ≤ old + (each * k + last) * b → k ≤ c → k ≤ 32768 → new ≤ old + (each * min c 32768 + last) * b
+paid-most each last old new k c b h first second =
+    let m : k ≤ min c 32768 = omega (arith, first, second) in
+    let l : each * k + last ≤ each * min c 32768 + last = omega (arith, mul-le-mul_left each m) in
     omega (arith, h, mul-le-mul_right b l)
+
+-- two table lookups come before
+pub paid-whole : (each last whole old start mid new m b : ℕ) → start ≤ old + 1 → mid ≤ start + 1 → new ≤ mid + (each * m + last) * b → 1 ≤ b → each ≤ whole → last + 2 ≤ whole → new ≤ old + whole * (m + 1) * b
+paid-whole each last whole old start mid new m b first second l some more rest =
+    let x : each * m ≤ whole * m = mul-le-mul_right m more in
+    let y : each * m + (last + 2) ≤ whole * m + whole = omega (arith, x, rest) in
+    let z : (each * m + (last + 2)) * b ≤ (whole * m + whole) * b = mul-le-mul_right b y in
+    omega (arith, first, second, l, some, z, left, right)
+  where
+    left : (each * m + (last + 2)) * b ≡ (each * m + last) * b + 2 * b
+    left = grind arith
+
+    right : whole * (m + 1) * b ≡ (whole * m + whole) * b
+    right = grind arith

@@ -3,3 +3,5 @@ mod Picked
 mod Choices
 mod Grown
 mod Spliced
+mod Taken
+mod LongestChoices

@@ -38,7 +38,7 @@ not-both q r (inl h) (inr k) = omega (arith, h, k.0)
 not-both q r (inr h) (inl k) = omega (arith, h.0, k)
 not-both q r (inr h) (inr k) = omega (arith, h.1, k.1)
 
-decide : (a b : Span) → IsBefore a b ⊎ (IsBefore a b → ⊥)
+pub decide : (a b : Span) → IsBefore a b ⊎ (IsBefore a b → ⊥)
 decide a b = by (order a b)
   where
     by : (a ≡ b) ⊎ (IsBefore a b ⊎ IsBefore b a) → IsBefore a b ⊎ (IsBefore a b → ⊥)

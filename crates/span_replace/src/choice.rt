@@ -15,13 +15,13 @@ use crate::spans::Chosen;
 use marker_dfa::Dfa;
 use node_store::NodeId;
 use span_enum::Answers;
-use span_types::{NoMemory, Span, Steps, Tuple};
+use span_types::{Span, Steps, Tuple};
 use state_tables::View;
 use std::alloc::Global;
 use std::sync::ledger::Ledger;
 
 /// The maximum number of spans that are chosen.
-const MOST: usize = 32768;
+pub(crate) const MOST: usize = 32768;
 
 /// The greatest position in a text.
 const LAST: u64 = 281474976710657;
@@ -53,20 +53,44 @@ pub fn chosen<L: Ledger>(
 {
     let _states = dfa.states();
     check_text(&view, dfa, root, looks);
+    let mut answers = Answers::start(alloc, view, dfa, root, looks)?;
+    all_chosen(alloc, &mut answers, looks)
+}
+
+/// The chosen spans of an iterator that hasn't returned any answer.
+fn all_chosen<L: Ledger>(
+    alloc: Global,
+    answers: &mut Answers<'_>,
+    looks: &mut Steps<L>,
+) -> Result<Chosen, ReplaceRefusal>
+    requires start { answers.old.after ≡ None }
+    requires one { answers.old.automaton.variables ≡ 1 }
+    requires short { length answers.old.text ≤ 281474976710656 }
+    requires list { (all : List ATuple) × AreAnswersOf answers.old.automaton answers.old.text all }
+    ensures choice { (all : List ATuple) → AreAnswersOf answers.old.automaton answers.old.text all → IsChoice (meaning.chosen all) result }
+    ensures apart { IfOk result (λ spans. AreApart (length answers.old.text) spans) }
+    ensures cost { (all : List ATuple) → AreAnswersOf answers.old.automaton answers.old.text all
+        → looks.new ≤ looks.old + (3 * min (length (meaning.chosen all)) 32768 + 1) * looks_limit 1 (length answers.old.text) }
+{
     let mut spans = Vec::new(alloc);
-    let mut next = first_span(alloc, view, dfa, root, looks)?;
+    let mut next = next_span(answers, looks);
     while let Some(span) = next {
         if spans.len() == MOST {
             return Err(ReplaceRefusal::TooManyMatches);
         }
         spans.push(span)?;
-        next = span_after(alloc, view, dfa, root, span, looks)?;
+        next = span_after(answers, &cursor_past(span), looks);
     }
     Ok(Chosen { spans })
 }
 
 /// Looks up the root, which shows that its text isn't too long, so that no position is past the greatest one.
-fn check_text<L: Ledger>(view: &View<'_>, dfa: &Dfa, root: Option<NodeId>, looks: &mut Steps<L>)
+pub(crate) fn check_text<L: Ledger>(
+    view: &View<'_>,
+    dfa: &Dfa,
+    root: Option<NodeId>,
+    looks: &mut Steps<L>,
+)
     requires { IsReady dfa.now view.now.store.now view.now.tables.now root }
     ensures short { length (text_of view.now.store.now root) ≤ 281474976710656 }
     ensures bytes { All (λ b. b < 256) (text_of view.now.store.now root) }
@@ -75,47 +99,6 @@ fn check_text<L: Ledger>(view: &View<'_>, dfa: &Dfa, root: Option<NodeId>, looks
     if let Some(id) = root {
         let _look = view.look(id, looks);
     }
-}
-
-/// The first answer that is a span.
-fn first_span<L: Ledger>(
-    alloc: Global,
-    view: View<'_>,
-    dfa: &Dfa,
-    root: Option<NodeId>,
-    looks: &mut Steps<L>,
-) -> Result<Option<Span>, NoMemory>
-    requires ready { IsReady dfa.now view.store.now view.tables.now root }
-    requires one { dfa.now.variables ≡ 1 }
-    ensures span { IfOk result (λ o. MatchOption o (NoSpanLeft dfa.now (text_of view.entry.store.now root) None)
-        (λ q. IsFirstMember dfa.now (text_of view.entry.store.now root) None (Some q ∷ []))) }
-    ensures place { IfOk result IsSpanOr }
-    ensures cost { looks.new ≤ looks.old + 2 * looks_limit 1 (length (text_of view.entry.store.now root)) }
-{
-    let mut answers = Answers::start(alloc, view, dfa, root, looks)?;
-    Ok(next_span(&mut answers, looks))
-}
-
-/// The first answer that is a span and comes after the one that was chosen, at or past its end.
-fn span_after<L: Ledger>(
-    alloc: Global,
-    view: View<'_>,
-    dfa: &Dfa,
-    root: Option<NodeId>,
-    taken: Span,
-    looks: &mut Steps<L>,
-) -> Result<Option<Span>, NoMemory>
-    requires ready { IsReady dfa.now view.store.now view.tables.now root }
-    requires one { dfa.now.variables ≡ 1 }
-    requires span { IsSpan taken }
-    ensures span { IfOk result (λ o. MatchOption o (NoSpanLeft dfa.now (text_of view.entry.store.now root) (Some (Some (past taken) ∷ [])))
-        (λ q. IsFirstMember dfa.now (text_of view.entry.store.now root) (Some (Some (past taken) ∷ [])) (Some q ∷ []))) }
-    ensures place { IfOk result IsSpanOr }
-    ensures cost { looks.new ≤ looks.old + 3 * looks_limit 1 (length (text_of view.entry.store.now root)) }
-{
-    let cursor = cursor_past(taken);
-    let mut answers = Answers::seek(alloc, view, dfa, root, &cursor, looks)?;
-    Ok(next_span(&mut answers, looks))
 }
 
 /// The tuple after which the next span is searched.
@@ -143,8 +126,10 @@ fn span_past(taken: Span) -> Span
 }
 
 /// The first answer that is left, if it is a span. The answer without a span comes last.
-fn next_span<L: Ledger>(answers: &mut Answers<'_>, looks: &mut Steps<L>) -> Option<Span>
+pub(crate) fn next_span<L: Ledger>(answers: &mut Answers<'_>, looks: &mut Steps<L>) -> Option<Span>
     requires { answers.old.automaton.variables ≡ 1 }
+    ensures automaton { answers.new.automaton ≡ answers.old.automaton }
+    ensures text { answers.new.text ≡ answers.old.text }
     ensures span { MatchOption result (NoSpanLeft answers.old.automaton answers.old.text answers.old.after)
         (λ q. IsFirstMember answers.old.automaton answers.old.text answers.old.after (Some q ∷ [])) }
     ensures place { IsSpanOr result }
@@ -154,4 +139,23 @@ fn next_span<L: Ledger>(answers: &mut Answers<'_>, looks: &mut Steps<L>) -> Opti
         Some(tuple) => tuple.span(0),
         None => None,
     }
+}
+
+/// The first answer that is a span and comes after the cursor.
+fn span_after<L: Ledger>(
+    answers: &mut Answers<'_>,
+    cursor: &Tuple,
+    looks: &mut Steps<L>,
+) -> Option<Span>
+    requires one { answers.old.automaton.variables ≡ 1 }
+    requires tuple { length cursor.now ≡ 1 }
+    ensures automaton { answers.new.automaton ≡ answers.old.automaton }
+    ensures text { answers.new.text ≡ answers.old.text }
+    ensures span { MatchOption result (NoSpanLeft answers.old.automaton answers.old.text (Some cursor.now))
+        (λ q. IsFirstMember answers.old.automaton answers.old.text (Some cursor.now) (Some q ∷ [])) }
+    ensures place { IsSpanOr result }
+    ensures cost { looks.new ≤ looks.old + 3 * looks_limit 1 (length answers.old.text) }
+{
+    answers.reseek(cursor, looks);
+    next_span(answers, looks)
 }
