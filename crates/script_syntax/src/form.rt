@@ -21,7 +21,7 @@ pub enum Command {
         name: Name,
         file: ByteList,
     },
-    /// `bytes NAME QUOTED`: the document gets the bytes for which the quoted text stands.
+    /// `bytes NAME QUOTED`: the document gets the bytes that the quoted text denotes.
     QuotedText {
         name: Name,
         bytes: ByteList,

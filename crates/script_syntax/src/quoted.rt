@@ -45,7 +45,7 @@ fn hex_digit(b: u8) -> Option<HexDigit>
     }
 }
 
-/// The byte for which two hexadecimal digits stand, and the bytes after them.
+/// The byte that two hexadecimal digits denote, and the bytes after them.
 fn hex_byte(text: &[u8]) -> Option<(u8, &[u8])>
     ensures { MatchOption result ((high low h l : ℕ) (rest : List ℕ) → hex_value high ≡ Some h → hex_value low ≡ Some l → text.now ≡ high ∷ low ∷ rest → ⊥)
         (λ p. (high low h l : ℕ) × (hex_value high ≡ Some h) × (hex_value low ≡ Some l) × (p.0 ≡ 16 * h + l) × (text.now ≡ high ∷ low ∷ p.1.now)) }
@@ -57,7 +57,7 @@ fn hex_byte(text: &[u8]) -> Option<(u8, &[u8])>
     Some((16 * high.value + low.value, rest))
 }
 
-/// The byte for which an item stands at the start of the text, and the bytes after the item.
+/// The byte that the item at the start of the text denotes, and the bytes after the item.
 fn item(text: &[u8]) -> Option<(u8, &[u8])>
     ensures { MatchOption result ((b : ℕ) (rest : List ℕ) → StartsWith text.now b rest → ⊥) (λ p. StartsWith text.now p.0 p.1.now) }
 {
@@ -78,7 +78,7 @@ fn item(text: &[u8]) -> Option<(u8, &[u8])>
     Some((byte, more))
 }
 
-/// The bytes for which the items of a text stand.
+/// The bytes that the items of a text denote.
 fn items_of(alloc: Global, text: &[u8]) -> Result<Option<Vec<u8>>, NoMemory>
     ensures { IfOk result (λ found. MatchOption found ((bytes : List ℕ) → AreItems text.now bytes → ⊥) (λ bytes. AreItems text.now bytes.items)) }
 {
@@ -94,7 +94,7 @@ fn items_of(alloc: Global, text: &[u8]) -> Result<Option<Vec<u8>>, NoMemory>
     Ok(Some(bytes))
 }
 
-/// A QUOTED: the bytes for which it stands.
+/// A QUOTED: the bytes that it denotes.
 pub fn quoted_of(alloc: Global, text: &[u8]) -> Result<ByteList, LineRefusal>
     ensures ok { IfOk result (λ bytes. IsQuoted text.now bytes) }
     ensures syntax { IfErr result (λ why. why ≡ LineRefusal.Syntax → (bytes : List ℕ) → IsQuoted text.now bytes → ⊥) }

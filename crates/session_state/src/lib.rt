@@ -6,7 +6,7 @@
 //! let outcome = send(answer, &mut out)?;                   // the whole reply is written to the sink
 //! ```
 //!
-//! The crates of commands stand on this one. A command takes the state and the counters that it uses, and returns an
+//! The crates of commands use this one. A command takes the state and the counters that it uses, and returns an
 //! `Answer`, or writes its reply line by line (`offer`, `close`). Its contract is `Answers` or `Ends`: the reply and the
 //! new state are those of the language's definition, and the counters rise by at most its allowance.
 //!
