@@ -3,7 +3,7 @@ ghost use Rattle.std.specs.Prelude.{◌≡◌, ◌<◌};
 ghost use Rattle.query_tests.specs.OneLetter.{IsOneLetter};
 
 use crate::one_letter::{A, OneLetter};
-use span_replace::{Chosen, ReplaceRefusal, chosen, replaced};
+use span_replace::{Chosen, ReplaceRefusal, chosen, longest, replaced};
 use span_types::{Span, Steps};
 use std::alloc::Global;
 use std::marker::Brand;
@@ -15,7 +15,7 @@ fn is_first(spans: &Chosen) -> bool {
     taken.len() == 1 && taken[0] == Span { start: 1, end: 2 }
 }
 
-/// Whether this span is deleted, which leaves the empty text.
+/// Whether this span is also the only longest one, and is deleted, which leaves the empty text.
 fn deletes<L: Ledger>(
     alloc: Global,
     letter: &mut OneLetter,
@@ -24,8 +24,9 @@ fn deletes<L: Ledger>(
     requires { IsOneLetter letter.old.dfa letter.old.store letter.old.tables }
 {
     let spans = chosen(alloc, letter.view(), &letter.dfa, Some(A), steps)?;
+    let long = longest(alloc, letter.view(), &letter.dfa, Some(A), steps)?;
     let left = replaced(&mut letter.store, Some(A), &spans, None, steps)?;
-    Ok(is_first(&spans) && left.is_none())
+    Ok(is_first(&spans) && is_first(&long) && left.is_none())
 }
 
 fn asked<L: Ledger>(alloc: Global, blank: Blank) -> Result<bool, ReplaceRefusal>
