@@ -5,3 +5,8 @@ pub mod Dropping
 pub mod Numbers
 pub mod Weights
 pub mod Roots
+pub mod Places
+pub mod ByteChoice
+pub mod Finding
+pub mod PartSearch
+pub mod RootSearch

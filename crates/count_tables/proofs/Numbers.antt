@@ -56,7 +56,7 @@ module _ (a : DeterministicAutomaton) (auto : IsDeterministic a) (s : List ℕ) 
   pub words-rise : AllPairs Precedes (runs (next_of a) (marks_of a) false (endings_at a) s 0)
   words-rise = runs-rise (next_of a) (marks_of a) (are_marks a auto) (endings_at a) endings-rise false s 0
 
-  is-tuple : (t : Tuple) → IsMember a s t → IsTuple t
+  pub is-tuple : (t : Tuple) → IsMember a s t → IsTuple t
   is-tuple t m = record { few = omega (arith, m.size, auto.few_variables); spans = are-spans (length s) t short m.lies }
 
   -- the word of a member is one of them

@@ -5,3 +5,4 @@ pub mod Dictionary
 pub mod Remembered
 pub mod Kept
 pub mod Number
+pub mod Place

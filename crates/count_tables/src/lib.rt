@@ -4,6 +4,8 @@
 //! let mut counts = CountTables::new(alloc, &dfa)?;
 //! counts.grow(alloc, &store, &dfa, &mut places)?;          // the new nodes get their tables
 //! counts.renumber(&moves);                                 // after a compaction: the kept nodes keep their tables
+//! let number = counts.number(&store, &dfa, root);          // how many answers there are
+//! let third = counts.nth(alloc, &store, &dfa, root, 3, &mut looks)?;
 //! ```
 //!
 //! Each distinct table is kept once under a number, and a node has the number of its table. The number of the composition of two
@@ -14,13 +16,16 @@
 //!
 //! Proved: After `grow` each node has the counting table of its text, with one step per new node. Each distinct table is
 //! kept once. After a compaction kept nodes have their tables, and tables that no node has are dropped (`renumber`). The
-//! number of answers on a root's text, exactly below 2^64 - 1 (`number`).
+//! number of answers on a root's text, exactly below 2^64 - 1 (`number`). The answer at a position of the list of answers in mark
+//! order, or that there are fewer, with at most B(k, n) table lookups (`nth`).
 //!
 //! Neither: Memory and time.
 #![tactic(auto)]
 
 mod growth;
+pub mod nth;
 pub mod number;
+mod part;
 mod renumbering;
 mod table_set;
 pub mod tables;
