@@ -9,7 +9,7 @@ use Rattle.span_talk.specs.Progress.{IsHalted}
 use Rattle.span_talk.proofs.Ends.{halted_later, kept_or, same_stop}
 use Rattle.span_talk.proofs.Known.{more_served, none_served}
 use Rattle.span_talk.proofs.Talking.{begins, have_run, replied, stops_sent}
-use Rattle.span_talk.proofs.progress.hear_all.DocumentReply.{Over}
+use Rattle.span_talk.proofs.progress.hear_all.Given.{Over}
 use Rattle.span_talk.proofs.progress.hear_all.Goals.{After-hear, In-Err-hear_piece}
 use Rattle.span_talk.proofs.progress.hear_all.Goals as goal
 

@@ -6,7 +6,7 @@ use Rattle.span_talk.specs.Talk.{OfSent}
 use Rattle.span_talk.specs.Progress.{IsHalted}
 use Rattle.span_talk.proofs.Ends.{halted_later, kept_or, same_stop}
 use Rattle.span_talk.proofs.Known.{each_sent}
-use Rattle.span_talk.proofs.progress.hear_script.DocumentReply.{Over}
+use Rattle.span_talk.proofs.progress.hear_script.Given.{Over}
 use Rattle.span_talk.proofs.progress.hear_script.Goals.{In-Err}
 use Rattle.span_talk.proofs.progress.hear_script.Goals as goal
 
