@@ -8,7 +8,7 @@ use std::thread::Threads;
 /// A script, its whole output and its status.
 type Row = (&'static str, &'static str, Status);
 
-const ROWS: [Row; 30] = [
+const ROWS: [Row; 32] = [
     (
         "text d abracadabra\n",
         "ok d 11 \"abracadabra\"\n",
@@ -130,6 +130,16 @@ const ROWS: [Row; 30] = [
     (
         "text d aa\ntext w -\nquery q .*$x{a*}.*\nreplace e q d w\nquery r $x{a}$y{a}\nreplace e r d w\n",
         "ok d 2 \"aa\"\nok w 1 \"-\"\nok q x\nok e 5 \"-----\"\nok r x y\nline 6: NotOneVariable 2\n",
+        Status::SomeRefused,
+    ),
+    (
+        "text d baaac\ntext w x\nquery q .*$x{a*}.*\nreplace e q d w longest\nreplace e q d w shortest\n",
+        "ok d 5 \"baaac\"\nok w 1 \"x\"\nok q x\nok e 5 \"xbxcx\"\nline 5: Syntax\n",
+        Status::SomeRefused,
+    ),
+    (
+        "bytes d \"a\\nb\\x00\\\"\"\nshow d 1 6\nbytes d \"a\n",
+        "ok d 5 \"a\\x0ab\\x00\\\"\"\n\"a\\x0ab\\x00\\\"\"\nline 3: Syntax\n",
         Status::SomeRefused,
     ),
     (
