@@ -11,9 +11,11 @@ use Rattle.slp_model.specs.declared.NodeId.{NodeId}
 use Rattle.slp_model.specs.declared.Node.{Node}
 use Rattle.slp_model.specs.Tree.{height}
 use Rattle.slp_model.specs.Nodes.{tree}
-use Rattle.state_tables.specs.Dictionary.{Dictionary}
-use Rattle.table_grow.specs.Filling.{Filling, number_in}
-use Rattle.table_grow.specs.Growing.{IsDue, IsPlacedUnder, StillPlaced, OnlyPlaced, PlacedBelow, FreeFrom}
+use Rattle.slp_model.specs.declared.Node.TheVariants.{Pair}
+use Rattle.slp_model.specs.Nodes.{IsSound}
+use Rattle.slp_model.proofs.NodesLemmas.{node-at}
+use Rattle.table_grow.specs.Filling.{AreDue, Assigns, Filling, IsDue, IsFilledTo, IsFilledUnder, assigned}
+use Rattle.table_grow.proofs.Growing.{same-nodes}
 use Rattle.table_grow.specs.Layers.{IsLayer, IsOfHeight, AreLayers}
 
 -- ---- one more node
@@ -99,69 +101,75 @@ put-list f L b v w id now view lt at e =
     map_set f L b v ∙ ap (set (map f L) b) (e ∙ ap (λ l. l ++ id ∷ []) same) ∙ ap (λ z. slice_set z b (slice_index_or z b [] ++ id ∷ [])) view
 
 -- ---- one height
--- the nodes of a layer are due once each lower node is placed
-due-layer : (nodes : List Node) (d : Dictionary) (f : Filling) (from to high : ℕ) (id : NodeId) → to ≤ length nodes → IsPlacedUnder nodes d f from to high
-    → IsOfHeight nodes from to high id → IsDue nodes d f id
-due-layer nodes d f from to high id end at is = record {
-  new = let a = at.new in let b = is.new in omega (arith, a, b);
-  live = let live = is.live in omega (arith, live, end);
-  children = λ l r pair.
-      let live = is.live in
-      let lb = pair.1 in
-      let rb = pair.2 in
-      let tall : height (tree nodes id.index) ≡ max (height (tree nodes l.index)) (height (tree nodes r.index)) + 1 = ap height pair.0 in
-      let h = is.high_is in (
-        at.under l.index (omega (arith, lb, live)) (omega (arith, tall, h, le-max_left (height (tree nodes l.index)) (height (tree nodes r.index)))),
-        at.under r.index (omega (arith, rb, live)) (omega (arith, tall, h, le-max_right (height (tree nodes l.index)) (height (tree nodes r.index)))),
-      );
-}
-
-pub due-all : (nodes : List Node) (d : Dictionary) (f : Filling) (from to high : ℕ) (ids : List NodeId) → to ≤ length nodes → IsPlacedUnder nodes d f from to high
-    → IsLayer nodes from to high ids → All (IsDue nodes d f) ids
-due-all nodes d f from to high ids end at layer = λ k x h. due-layer nodes d f from to high (get_or ids k x) end at (layer.each k x h)
-
--- none of them is placed yet
-pub free-all : (nodes : List Node) (d : Dictionary) (f : Filling) (from to high : ℕ) (ids : List NodeId) → IsPlacedUnder nodes d f from to high
-    → IsLayer nodes from to high ids → All (λ (id : NodeId). number_in d f id.index ≡ None) ids
-free-all nodes d f from to high ids at layer = λ k x h. let is = layer.each k x h in let high_is = is.high_is in at.above (get_or ids k x).index is.new is.live (omega (arith, high_is))
-
--- each occurs once
-pub once-all : (nodes : List Node) (known bound high : ℕ) (ids : List NodeId) → IsLayer nodes known bound high ids → AllPairs (λ (x y : NodeId). x.index ≢ y.index) ids
-once-all nodes known bound high ids layer = λ i j d lt h. let up = layer.rising i j d lt h in λ e. absurd (omega (arith, up, e))
-
 -- before the first height
-pub placed-first : (nodes : List Node) (d : Dictionary) (f : Filling) (from to : ℕ) → f.known ≤ from → from ≤ to → PlacedBelow d f from → FreeFrom d f from → IsPlacedUnder nodes d f from to 0
-placed-first nodes d f from to new range before free = record {
-  new = new;
-  before = before;
+pub under-first : (s : Filling) (from to : ℕ) → from ≤ to → IsFilledTo s from → IsFilledUnder s from to 0
+under-first s from to range at = record {
+  new = at.new;
+  before = at.placed;
   under = λ id live low. absurd (omega (arith, low));
-  above = λ id late live low. free id (omega (arith, new, late)) late;
-  behind = λ id known far. free id known (omega (arith, range, far));
+  above = λ id late live low. at.free id (let new = at.new in omega (arith, new, late)) late;
+  behind = λ id known far. at.free id known (omega (arith, range, far));
 }
 
--- after the layer is placed, the next height may be worked
-pub placed-next : (nodes : List Node) (d e : Dictionary) (f g : Filling) (from to high : ℕ) (ids : List NodeId)
-    → IsPlacedUnder nodes d f from to high → IsLayer nodes from to high ids
-    → StillPlaced d f e g → All (λ (id : NodeId). IsSome (number_in e g id.index)) ids → OnlyPlaced d f e g ids → IsPlacedUnder nodes e g from to (high + 1)
-placed-next nodes d e f g from to high ids at layer still placed only = record {
-  new = rw still.known at.new;
-  before = λ id lt. still.still id (at.before id lt);
-  under = λ id live low. elim (cases_lt (height (tree nodes id)) high) [
-    | inl lower ↦ still.still id (at.under id live lower)
-    | inr ge ↦ elim (cases_lt id from) [
-      | inl early ↦ still.still id (at.before id early)
-      | inr late ↦
-          let name : NodeId = record { index = id } in
-          let here : IsOfHeight nodes from to high name = record { new = late; live = live; high_is = omega (arith, low, ge) } in
-          let in_ids : Contains ids name = layer.all name here in
-          subst (λ (x : NodeId). IsSome (number_in e g x.index)) in_ids.2 (placed in_ids.0 name in_ids.1)
-    ]
+-- after the last one
+pub under-last : (s : Filling) (from to : ℕ) (layers : List (List NodeId)) → from ≤ to → AreLayers s.nodes from to layers → IsFilledUnder s from to 69 → IsFilledTo s to
+under-last s from to layers range are at = record {
+  new = let new = at.new in omega (arith, new, range);
+  placed = λ id live. elim (cases_lt id from) [
+    | inl early ↦ at.before id early
+    | inr late ↦ at.under id live (are.low id late live)
   ];
-  above = λ id late live low.
-      only id (λ k x h. let is = layer.each k x h in let high_is = is.high_is in
-      λ same. let seen : height (tree nodes id) ≡ high = ap (λ n. height (tree nodes n)) (sym same) ∙ high_is in absurd (omega (arith, seen, low)))
-      ∙ at.above id late live (omega (arith, low));
-  behind = λ id new far.
-      only id (λ k x h. let is = layer.each k x h in let live = is.live in λ same. absurd (omega (arith, same, live, far)))
-      ∙ at.behind id (subst (λ n. n ≤ id) still.known new) far;
+  free = at.behind;
 }
+
+module _ (s : Filling) (from to high : ℕ) (ids : List NodeId) (at : IsFilledUnder s from to high) (layer : IsLayer s.nodes from to high ids) where
+  -- the nodes of a layer are due once each lower node is assigned
+  pub due-layer : IsSound s.nodes → to ≤ length s.nodes → AreDue s ids
+  due-layer sound end = record {
+    each = λ k x h.
+        let id = get_or ids k x in
+        let is = layer.each k x h in
+        let live = is.live in
+        let high_is = is.high_is in
+        record {
+          new = let a = at.new in let b = is.new in omega (arith, a, b);
+          live = omega (arith, live, end);
+          free = at.above id.index is.new live (omega (arith, high_is));
+          children = λ l r node.
+              let pair = node-at s.nodes id.index (Pair l r) sound node in
+              let lb = pair.1 in
+              let rb = pair.2 in
+              let tall : height (tree s.nodes id.index) ≡ max (height (tree s.nodes l.index)) (height (tree s.nodes r.index)) + 1 = ap height pair.0 in (
+                at.under l.index (omega (arith, lb, live)) (omega (arith, tall, high_is, le-max_left (height (tree s.nodes l.index)) (height (tree s.nodes r.index)))),
+                at.under r.index (omega (arith, rb, live)) (omega (arith, tall, high_is, le-max_right (height (tree s.nodes l.index)) (height (tree s.nodes r.index)))),
+              );
+        };
+    once = λ i j d lt h. let up = layer.rising i j d lt h in λ e. absurd (omega (arith, up, e));
+  }
+
+  -- after the layer is assigned, the next height may be processed
+  pub under-next : (t : Filling) → Assigns s t ids → IsFilledUnder t from to (high + 1)
+  under-next t all =
+      let nodes = same-nodes s t all.continues in
+      let known = all.continues.known in
+      record {
+        new = rw known at.new;
+        before = λ id lt. all.continues.still id (at.before id lt);
+        under = λ id live. rw nodes (λ low. elim (cases_lt (height (tree s.nodes id)) high) [
+          | inl lower ↦ all.continues.still id (at.under id live lower)
+          | inr ge ↦ elim (cases_lt id from) [
+            | inl early ↦ all.continues.still id (at.before id early)
+            | inr late ↦
+                let name : NodeId = record { index = id } in
+                let in_ids : Contains ids name = layer.all name (record { new = late; live = live; high_is = omega (arith, low, ge) }) in
+                subst (λ (x : NodeId). IsSome (assigned t x.index)) in_ids.2 (all.placed in_ids.0 name in_ids.1)
+          ]
+        ]);
+        above = λ id late live. rw nodes (λ low.
+            all.others id (λ k x h. let high_is = (layer.each k x h).high_is in
+            λ same. let seen : height (tree s.nodes id) ≡ high = ap (λ n. height (tree s.nodes n)) (sym same) ∙ high_is in absurd (omega (arith, seen, low)))
+            ∙ at.above id late live (omega (arith, low)));
+        behind = λ id new far.
+            all.others id (λ k x h. let live = (layer.each k x h).live in λ same. absurd (omega (arith, same, live, far)))
+            ∙ at.behind id (subst (λ n. n ≤ id) known new) far;
+      }

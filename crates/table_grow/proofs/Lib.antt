@@ -1,6 +1,6 @@
 pub mod Remembered
-pub mod Placed
 pub mod Growing
+pub mod Placed
 pub mod Layering
 pub mod Scheduling
 pub mod Spots

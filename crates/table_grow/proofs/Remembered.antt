@@ -9,7 +9,7 @@ use Rattle.std.specs.Option.{is_some}
 use Rattle.std.proofs.lemmas.List.{take_all}
 use Rattle.std.proofs.lemmas.List.Elements.{All-weaker}
 use Rattle.std.proofs.lemmas.Option.{IfSome_then}
-use Rattle.table_grow.specs.Front.{AreAmong}
+use Rattle.table_grow.specs.Cache.{AreAmong}
 use Rattle.table_grow.specs.Remembering.{Entry}
 
 abbrev pub pair_eq : ℕ × ℕ → ℕ × ℕ → Bool

@@ -1,74 +1,112 @@
--- What a contract sees of a filler: how many nodes had tables, and an entry for each new node.
-use Rattle.std.specs.Prelude.{◌≡◌, ℕ, ◌+◌, ◌-◌, ◌<◌, ◌≤◌, nat_lt, List, length, map, ◌++◌, Option, Some, None, IsSome, slice_get, slice_index_or, slice_set, if◌then◌else◌}
+-- What a contract sees of a `Filling`, and what holds while the tables of new nodes are computed.
+use Rattle.std.specs.Prelude.{◌≡◌, ◌≢◌, ℕ, ◌<◌, ◌≤◌, List, length, Option, Some, None, IsSome, IfSome, All, AllPairs, slice_get, slice_index_or}
 use Rattle.slp_model.specs.declared.NodeId.{NodeId}
 use Rattle.slp_model.specs.declared.Node.{Node}
 use Rattle.slp_model.specs.declared.Node.TheVariants.{Pair}
-use Rattle.slp_model.specs.Tree.{text}
-use Rattle.slp_model.specs.Nodes.{tree}
-use Rattle.marker_dfa.specs.Deterministic.{DeterministicAutomaton}
+use Rattle.slp_model.specs.Tree.{text, height}
+use Rattle.slp_model.specs.Nodes.{tree, IsSound}
+use Rattle.marker_dfa.specs.Deterministic.{DeterministicAutomaton, IsDeterministic, states_of}
 use Rattle.state_tables.specs.Table.{Row, compose_of}
 use Rattle.state_tables.specs.Meaning.{IsTable}
-use Rattle.state_tables.specs.Dictionary.{Dictionary, count_of, distinct_of, number_of, kept_of}
+use Rattle.state_tables.specs.Dictionary.{AreTables, Dictionary, count_of, distinct_of, kept_of}
+use Rattle.table_grow.specs.Assignment.{AreKept, Assignment, ChildrenPlaced, Fits, HasTrueTable, number_in}
+use Rattle.table_grow.specs.Remembering.{AreTrueEntries, Entry}
 
--- an entry is empty, or it has the number of a kept table
+-- an automaton, nodes, their tables, which new nodes are assigned, and cached compositions
 pub record Filling : Type 0 where
-  pub known : ℕ
-  pub places : List (Option ℕ)
+  pub automaton : DeterministicAutomaton
+  pub nodes : List Node
+  pub tables : Dictionary
+  pub filler : Assignment
+  pub entries : List Entry
+
+-- the filling of these parts
+abbrev pub filling_of : DeterministicAutomaton → List Node → Dictionary → Assignment → List Entry → Filling
+filling_of a nodes d f es = record { automaton = a; nodes = nodes; tables = d; filler = f; entries = es }
 
 -- the number of the node's table, if the node is old or assigned
-abbrev pub number_in : Dictionary → Filling → ℕ → Option ℕ
-number_in d f id = if nat_lt id f.known then Some (number_of d id) else slice_index_or f.places (id - f.known) None
+abbrev pub assigned : Filling → ℕ → Option ℕ
+assigned s id = number_in s.tables s.filler id
 
--- the node's entry has this number
-abbrev pub with_place : Filling → ℕ → ℕ → Filling
-with_place f id n = record f { places = slice_set f.places (id - f.known) (Some n) }
+-- the table is that of the node's text
+abbrev pub IsTableOfNode : Filling → ℕ → List Row → Type 0
+IsTableOfNode s id t = IsTable s.automaton (text (tree s.nodes id)) t
 
--- the conditions of every call: the store, the tables, the room and the numbers fit the filler
-pub record Fits (nodes : List Node) (d : Dictionary) (f : Filling) : Type 0 where
-  pub nodes_fit : length nodes ≡ f.known + length f.places
-  pub tables_fit : count_of d ≡ f.known
-  pub room_fits : length f.places ≤ d.room
-  pub kept_fit : (i n : ℕ) → slice_index_or f.places i None ≡ Some n → n < distinct_of d
+-- the kept table of this number is that of the node's text
+pub record IsNumberOf (s : Filling) (id n : ℕ) : Type 0 where
+  pub within : n < distinct_of s.tables
+  pub table : IsTableOfNode s id (kept_of s.tables n)
 
--- the children of a node are old or assigned
-abbrev pub ChildrenPlaced : List Node → Dictionary → Filling → ℕ → Type 0
-ChildrenPlaced nodes d f id = (l r : NodeId) → slice_get nodes id ≡ Some (Pair l r) → IsSome (number_in d f l.index) × IsSome (number_in d f r.index)
+-- what holds of each filling: old and assigned nodes have the tables of their texts, and the cached compositions are true
+pub record IsReady (s : Filling) : Type 0 where
+  pub automaton : IsDeterministic s.automaton
+  pub sound : IsSound s.nodes
+  pub fits : Fits s.nodes s.tables s.filler
+  pub states : s.tables.states ≡ states_of s.automaton
+  pub all : (id : ℕ) → HasTrueTable s.automaton s.nodes s.tables s.filler id
+  pub entries : AreTrueEntries s.tables s.entries
 
--- an old or assigned node has the table of its text
-abbrev pub HasTrueTable : DeterministicAutomaton → List Node → Dictionary → Filling → ℕ → Type 0
-HasTrueTable a nodes d f id = (n : ℕ) → number_in d f id ≡ Some n → IsTable a (text (tree nodes id)) (kept_of d n)
+-- the node is new and not assigned, and its children are old or assigned
+pub record IsDue (s : Filling) (id : NodeId) : Type 0 where
+  pub new : s.filler.known ≤ id.index
+  pub live : id.index < length s.nodes
+  pub free : assigned s id.index ≡ None
+  pub children : ChildrenPlaced s.nodes s.tables s.filler id.index
 
--- the children of a node have the tables of their texts
-abbrev pub ChildrenTrue : DeterministicAutomaton → List Node → Dictionary → Filling → ℕ → Type 0
-ChildrenTrue a nodes d f id = (l r : NodeId) → slice_get nodes id ≡ Some (Pair l r) → HasTrueTable a nodes d f l.index × HasTrueTable a nodes d f r.index
+-- so is each of these nodes, and no two are one
+pub record AreDue (s : Filling) (ids : List NodeId) : Type 0 where
+  pub each : All (IsDue s) ids
+  pub once : AllPairs (λ x y. x.index ≢ y.index) ids
 
--- the table of a pair is the composition of its children's tables
-abbrev pub IsComposed : List Node → Dictionary → Filling → ℕ → List Row → Type 0
-IsComposed nodes d f id t = (l r : NodeId) (m n : ℕ) → slice_get nodes id ≡ Some (Pair l r)
-    → number_in d f l.index ≡ Some m → number_in d f r.index ≡ Some n → t ≡ compose_of (kept_of d m) (kept_of d n)
+-- the node is a pair, and these are the numbers of its children's tables
+pub record AreParts (s : Filling) (id : ℕ) (p : ℕ × ℕ) : Type 0 where
+  pub left : NodeId
+  pub right : NodeId
+  pub node : slice_get s.nodes id ≡ Some (Pair left right)
+  pub left_is : assigned s left.index ≡ Some p.0
+  pub right_is : assigned s right.index ≡ Some p.1
+  pub left_within : p.0 < distinct_of s.tables
+  pub right_within : p.1 < distinct_of s.tables
 
--- the table is kept under a number, which the node's entry has
-pub record PlacesTable (d : Dictionary) (f g : Filling) (id : ℕ) (t : List Row) : Type 0 where
-  pub number : ℕ
-  pub within : number < distinct_of d
-  pub table : kept_of d number ≡ t
-  pub place : g ≡ with_place f id number
+-- more tables are kept, and old and assigned nodes stay so
+pub record Continues (s t : Filling) : Type 0 where
+  pub kept : AreKept s.tables t.tables
+  pub same : t ≡ record s { tables = t.tables; filler = t.filler; entries = t.entries }
+  pub known : t.filler.known ≡ s.filler.known
+  pub still : (id : ℕ) → IsSome (assigned s id) → IsSome (assigned t id)
 
--- the number in an entry
-abbrev pub number_of_place : Option ℕ → ℕ
-number_of_place None = 0
-number_of_place (Some n) = n
+-- this node is assigned, and no other
+pub record AssignsOne (s t : Filling) (id : NodeId) : Type 0 where
+  pub continues : Continues s t
+  pub placed : IsSome (assigned t id.index)
+  pub others : (j : ℕ) → id.index ≢ j → assigned t j ≡ assigned s j
 
--- every new node is assigned
-abbrev pub AllPlaced : Filling → Type 0
-AllPlaced f = (i : ℕ) → i < length f.places → IsSome (slice_index_or f.places i None)
+-- these nodes are assigned, and no others
+pub record Assigns (s t : Filling) (ids : List NodeId) : Type 0 where
+  pub continues : Continues s t
+  pub placed : All (λ id. IsSome (assigned t id.index)) ids
+  pub others : (j : ℕ) → All (λ id. id.index ≢ j) ids → assigned t j ≡ assigned s j
 
--- the tables after the assigned numbers are pushed in order
-abbrev pub finished : Dictionary → Filling → Dictionary
-finished d f = record d { numbers = d.numbers ++ map number_of_place f.places; room = d.room - length f.places }
+-- the nodes below the bound are old or assigned, and no further new one
+pub record IsFilledTo (s : Filling) (bound : ℕ) : Type 0 where
+  pub new : s.filler.known ≤ bound
+  pub placed : (id : ℕ) → id < bound → IsSome (assigned s id)
+  pub free : (id : ℕ) → s.filler.known ≤ id → bound ≤ id → assigned s id ≡ None
 
--- the kept tables keep their numbers, and nothing else changes
-pub record AreKept (d e : Dictionary) : Type 0 where
-  pub kept : (n : ℕ) → n < distinct_of d → kept_of e n ≡ kept_of d n
-  pub more : distinct_of d ≤ distinct_of e
-  pub same : e ≡ record d { kept = e.kept }
+-- every node is old or assigned
+abbrev pub IsFilled : Filling → Type 0
+IsFilled s = (id : ℕ) → id < length s.nodes → IsSome (assigned s id)
+
+-- the nodes from `from` on and before `to` are assigned by rising height: those before them and the lower ones are old or assigned, and no further new one
+pub record IsFilledUnder (s : Filling) (from to top : ℕ) : Type 0 where
+  pub new : s.filler.known ≤ from
+  pub before : (id : ℕ) → id < from → IsSome (assigned s id)
+  pub under : (id : ℕ) → id < to → height (tree s.nodes id) < top → IsSome (assigned s id)
+  pub above : (id : ℕ) → from ≤ id → id < to → top ≤ height (tree s.nodes id) → assigned s id ≡ None
+  pub behind : (id : ℕ) → s.filler.known ≤ id → to ≤ id → assigned s id ≡ None
+
+-- the parts of tables and a cache before any new node is assigned
+pub record Starts (a : DeterministicAutomaton) (nodes : List Node) (d : Dictionary) (es : List Entry) (s : Filling) : Type 0 where
+  pub same : s ≡ filling_of a nodes (record d { room = s.tables.room }) s.filler es
+  pub known : s.filler.known ≡ count_of d
+  pub filled : IsFilledTo s (count_of d)

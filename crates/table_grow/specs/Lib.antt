@@ -1,8 +1,8 @@
 pub mod Remembering
-pub mod Front
-pub mod Filling
+pub mod Cache
+pub mod Assignment
 pub mod FillerView
+pub mod Filling
 pub mod Schedule
-pub mod Growing
 pub mod Layers
 pub mod Pieces

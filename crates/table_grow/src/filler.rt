@@ -5,7 +5,7 @@ ghost use Rattle.slp_model.specs.Tree.{text};
 ghost use Rattle.slp_model.specs.Nodes.{tree};
 ghost use Rattle.state_tables.specs.Meaning.{IsTable};
 ghost use Rattle.state_tables.specs.Dictionary.{GainsTable, count_of, distinct_of, kept_of};
-ghost use Rattle.table_grow.specs.Filling.{AllPlaced, AreKept, ChildrenPlaced, ChildrenTrue, Fits, IsComposed, PlacesTable, finished, number_in, with_place};
+ghost use Rattle.table_grow.specs.Assignment.{AllPlaced, AreKept, ChildrenPlaced, ChildrenTrue, Fits, IsComposed, PlacesTable, finished, number_in, with_place};
 
 use marker_dfa::Dfa;
 use node_store::{Node, NodeId, Store};
@@ -26,9 +26,9 @@ pub struct Filler {
 }
 
 impl Model for Filler {
-    ghost use Rattle.table_grow.specs.Filling.{Filling};
+    ghost use Rattle.table_grow.specs.Assignment.{Assignment};
 
-    ghost Value = { Filling };
+    ghost Value = { Assignment };
 
     ghost use Rattle.table_grow.specs.FillerView.{view_of};
 
@@ -140,30 +140,6 @@ impl Filler {
         self.set(tables, id, number);
     }
 
-    /// The same as `place`, and returns the number of the table.
-    pub(crate) fn place_numbered(
-        &mut self,
-        tables: &mut Tables,
-        store: &Store,
-        id: NodeId,
-        table: Table,
-    ) -> Result<usize, NoMemory>
-        requires fits { Fits store.now tables.old self.old }
-        requires new { self.old.known ≤ id.index }
-        requires live { id.index < length store.now }
-        requires free { number_in tables.old self.old id.index ≡ None }
-        requires children { ChildrenPlaced store.now tables.old self.old id.index }
-        requires states { length table ≡ tables.old.states }
-        ensures number { IfOk result (λ n. (n < distinct_of tables.new) × (kept_of tables.new n ≡ table) × (self.new ≡ with_place self.old id.index n)) }
-        ensures err { OnErr result ((self.new ≡ self.old) × (tables.new ≡ tables.old)) }
-        ensures kept { AreKept tables.old tables.new }
-        ensures gains { OnOk result (GainsTable tables.old.kept tables.new.kept table) }
-    {
-        let number = tables.keep(table)?;
-        self.set(tables, id, number);
-        Ok(number)
-    }
-
     /// Keeps the table of a new node, and assigns it to the node. The node has none assigned yet, and its children are old
     /// or assigned. No node's table changes.
     ///
@@ -188,7 +164,8 @@ impl Filler {
         ensures kept { AreKept tables.old tables.new }
         ensures gains { OnOk result (GainsTable tables.old.kept tables.new.kept table) }
     {
-        self.place_numbered(tables, store, id, table)?;
+        let number = tables.keep(table)?;
+        self.set(tables, id, number);
         Ok(())
     }
 

@@ -1,18 +1,17 @@
 //! All new nodes get their tables, in the order of their ids or by rising height in pieces.
 
-ghost use Rattle.std.specs.Prelude.{◌≡◌, ◌≢◌, ℕ, ◌+◌, ◌-◌, ◌<◌, ◌≤◌, length, All, AllPairs, None, IsSome, OnOk, OnErr};
+ghost use Rattle.std.specs.Prelude.{◌≡◌, ◌≢◌, ℕ, ◌+◌, ◌-◌, ◌<◌, ◌≤◌, length, All, AllPairs, OnOk, OnErr};
 ghost use Rattle.marker_dfa.specs.Deterministic.{states_of};
 ghost use Rattle.state_tables.specs.Dictionary.{AreTables, count_of, table_of};
-ghost use Rattle.table_grow.specs.Filling.{AreKept, number_in};
+ghost use Rattle.table_grow.specs.Filling.{Assigns, Continues, IsDue, IsFilled, IsFilledTo};
 ghost use Rattle.table_grow.specs.Remembering.{AreTrueEntries};
-ghost use Rattle.table_grow.specs.Growing.{FreeFrom, IsDue, IsReady, OnlyPlaced, PlacedBelow, StillPlaced};
 
-use crate::filler::Filler;
-use crate::found::work_on;
+use crate::filling::{Filling, Growth};
+use crate::found::find;
 use crate::layers::{HEIGHTS, Layers};
 use crate::memory::Memory;
 use crate::pieces::in_pieces;
-use crate::place::{place_one, place_piece};
+use crate::place::{place_found, place_piece};
 use marker_dfa::Dfa;
 use node_store::{NodeId, Store};
 use span_types::{NoMemory, Steps};
@@ -24,133 +23,97 @@ use work_gate::Gate;
 
 // Assigns tables to the nodes from `from` on and before `to` in the order of their ids, on this thread.
 fn in_order<G: Gate>(
-    alloc: Global,
-    filler: &mut Filler,
-    tables: &mut Tables,
-    store: &Store,
-    dfa: &Dfa,
-    memory: &mut Memory,
+    filling: &mut Filling,
     gate: &G,
     from: usize,
     to: usize,
 ) -> Result<(), NoMemory>
-    requires ready { IsReady dfa.now store.now tables.old filler.old memory.old }
-    requires new { filler.old.known ≤ from }
+    requires filled { IsFilledTo filling.old from }
     requires range { from ≤ to }
-    requires live { to ≤ length store.now }
-    requires placed { PlacedBelow tables.old filler.old from }
-    requires free { FreeFrom tables.old filler.old from }
-    ensures entries { AreTrueEntries tables.new memory.new }
-    ensures kept { AreKept tables.old tables.new }
-    ensures ready { OnOk result (IsReady dfa.now store.now tables.new filler.new memory.new) }
-    ensures known { OnOk result (filler.new.known ≡ filler.old.known) }
-    ensures placed { OnOk result (PlacedBelow tables.new filler.new to) }
-    ensures free { OnOk result (FreeFrom tables.new filler.new to) }
+    requires live { to ≤ length filling.old.nodes }
+    ensures continues { Continues filling.old filling.new }
+    ensures filled { OnOk result (IsFilledTo filling.new to) }
 {
+    let _ = filling.growth();
     for index in from..to {
         let id = NodeId { index };
-        let done = work_on(alloc, filler, tables, store, dfa, memory, gate, id)?;
-        place_one(filler, tables, store, dfa, memory, done)?;
+        gate.pass(index);
+        let found = find(filling, id)?;
+        place_found(filling, id, found)?;
     }
     Ok(())
 }
 
 /// The number of nodes of a height that are worth a thread, if each has its share of rows to compose.
-const WORTH: usize = 512;
+const NODES_WORTH_A_THREAD: usize = 512;
 
 /// The number of rows that are composed in the time that it takes to start a thread, some 50 microseconds.
-const ROWS_OF_THREAD: usize = 1 << 13;
+const ROWS_WORTH_A_THREAD: usize = 1 << 13;
 
 /// At most this many new nodes are always cut in two while the cache is empty, so that a gate sees two threads on the
 /// shortest texts.
-const FEWEST: usize = 8;
+const NODES_ALWAYS_CUT: usize = 8;
 
 // The cost of the tables of this many nodes, in rows.
 fn rows_of(dfa: &Dfa, nodes: usize) -> usize {
-    nodes.saturating_mul(ROWS.saturating_add(dfa.states() as usize))
+    nodes.saturating_mul(ROWS_PER_NODE.saturating_add(dfa.states() as usize))
 }
 
 // Whether this many nodes are processed in pieces while the cache is empty.
 fn starts_in_pieces(dfa: &Dfa, nodes: usize) -> bool {
-    nodes <= FEWEST || rows_of(dfa, nodes) >= ROWS_OF_THREAD
+    nodes <= NODES_ALWAYS_CUT || rows_of(dfa, nodes) >= ROWS_WORTH_A_THREAD
 }
 
 // The number of pieces in which at most `count` nodes of one height are processed, of `nodes` in all heights. While the
 // cache is empty each node may need a table of its own.
-fn pieces_of(dfa: &Dfa, memory: &Memory, workers: u8, nodes: usize, count: usize) -> u8 {
-    if memory.len() != 0 {
-        return workers.min((count / WORTH).min(64) as u8);
+fn pieces_of(filling: &Filling, workers: u8, nodes: usize, count: usize) -> u8 {
+    if filling.cached() != 0 {
+        return workers.min((count / NODES_WORTH_A_THREAD).min(64) as u8);
     }
-    if nodes <= FEWEST {
+    if nodes <= NODES_ALWAYS_CUT {
         return workers.min(2);
     }
-    workers.min((rows_of(dfa, count) / ROWS_OF_THREAD).min(64) as u8)
+    workers.min((rows_of(filling.growth().dfa, count) / ROWS_WORTH_A_THREAD).min(64) as u8)
 }
 
-// Assigns tables to some new nodes in pieces. None of them is assigned yet, and all of their children are.
+// Assigns tables to some new nodes in pieces.
 fn place_some<R: Threads + Sync, G: Gate>(
     rt: &R,
-    alloc: Global,
-    filler: &mut Filler,
-    tables: &mut Tables,
-    store: &Store,
-    dfa: &Dfa,
-    memory: &mut Memory,
-    workers: u8,
+    filling: &mut Filling,
     gate: &G,
     ids: &[NodeId],
+    workers: u8,
 ) -> Result<(), NoMemory>
-    requires ready { IsReady dfa.now store.now tables.old filler.old memory.old }
-    requires due { All (IsDue store.now tables.old filler.old) ids.now }
-    requires free { All (λ id. number_in tables.old filler.old id.index ≡ None) ids.now }
+    requires each { All (IsDue filling.old) ids.now }
     requires once { AllPairs (λ x y. x.index ≢ y.index) ids.now }
-    ensures entries { AreTrueEntries tables.new memory.new }
-    ensures kept { AreKept tables.old tables.new }
-    ensures ready { OnOk result (IsReady dfa.now store.now tables.new filler.new memory.new) }
-    ensures still { OnOk result (StillPlaced tables.old filler.old tables.new filler.new) }
-    ensures placed { OnOk result (All (λ id. IsSome (number_in tables.new filler.new id.index)) ids.now) }
-    ensures others { OnOk result (OnlyPlaced tables.old filler.old tables.new filler.new ids.now) }
+    ensures continues { Continues filling.old filling.new }
+    ensures all { OnOk result (Assigns filling.old filling.new ids.now) }
 {
-    let piece = in_pieces(
-        rt, alloc, filler, tables, store, dfa, memory, gate, ids, workers,
-    )?;
-    place_piece(alloc, filler, tables, store, dfa, memory, ids, piece)
+    let piece = in_pieces(rt, &filling.finder(), gate, ids, workers)?;
+    place_piece(filling, ids, piece)
 }
 
 // Assigns tables to the nodes from `from` on and before `to` by rising height, each height in pieces.
 fn by_height<R: Threads + Sync, G: Gate>(
     rt: &R,
-    alloc: Global,
-    filler: &mut Filler,
-    tables: &mut Tables,
-    store: &Store,
-    dfa: &Dfa,
-    memory: &mut Memory,
-    workers: u8,
+    filling: &mut Filling,
     gate: &G,
+    workers: u8,
     from: usize,
     to: usize,
 ) -> Result<(), NoMemory>
-    requires ready { IsReady dfa.now store.now tables.old filler.old memory.old }
-    requires new { filler.old.known ≤ from }
+    requires filled { IsFilledTo filling.old from }
     requires range { from ≤ to }
-    requires live { to ≤ length store.now }
-    requires placed { PlacedBelow tables.old filler.old from }
-    requires free { FreeFrom tables.old filler.old from }
-    ensures entries { AreTrueEntries tables.new memory.new }
-    ensures kept { AreKept tables.old tables.new }
-    ensures ready { OnOk result (IsReady dfa.now store.now tables.new filler.new memory.new) }
-    ensures known { OnOk result (filler.new.known ≡ filler.old.known) }
-    ensures placed { OnOk result (PlacedBelow tables.new filler.new to) }
-    ensures free { OnOk result (FreeFrom tables.new filler.new to) }
+    requires live { to ≤ length filling.old.nodes }
+    ensures continues { Continues filling.old filling.new }
+    ensures filled { OnOk result (IsFilledTo filling.new to) }
 {
+    let Growth { alloc, store, .. } = filling.growth();
     let layers = Layers::new(alloc, store, from, to)?;
     for height in 0..HEIGHTS {
         let ids = layers.of_height(height);
-        let pieces = pieces_of(dfa, memory, workers, to - from, ids.len());
-        place_some(
-            rt, alloc, filler, tables, store, dfa, memory, pieces, gate, ids,
-        )?;
+        let pieces = pieces_of(filling, workers, to - from, ids.len());
+        place_some(rt, filling, gate, ids, pieces)?;
     }
     Ok(())
 }
@@ -158,60 +121,50 @@ fn by_height<R: Threads + Sync, G: Gate>(
 // Assigns tables to the nodes from `from` on and before `to`. With one worker no thread is started and no height is read.
 fn place_part<R: Threads + Sync, G: Gate>(
     rt: &R,
-    alloc: Global,
-    filler: &mut Filler,
-    tables: &mut Tables,
-    store: &Store,
-    dfa: &Dfa,
-    memory: &mut Memory,
-    workers: u8,
+    filling: &mut Filling,
     gate: &G,
+    workers: u8,
     from: usize,
     to: usize,
 ) -> Result<(), NoMemory>
-    requires ready { IsReady dfa.now store.now tables.old filler.old memory.old }
-    requires new { filler.old.known ≤ from }
+    requires filled { IsFilledTo filling.old from }
     requires range { from ≤ to }
-    requires live { to ≤ length store.now }
-    requires placed { PlacedBelow tables.old filler.old from }
-    requires free { FreeFrom tables.old filler.old from }
-    ensures entries { AreTrueEntries tables.new memory.new }
-    ensures kept { AreKept tables.old tables.new }
-    ensures ready { OnOk result (IsReady dfa.now store.now tables.new filler.new memory.new) }
-    ensures known { OnOk result (filler.new.known ≡ filler.old.known) }
-    ensures placed { OnOk result (PlacedBelow tables.new filler.new to) }
-    ensures free { OnOk result (FreeFrom tables.new filler.new to) }
+    requires live { to ≤ length filling.old.nodes }
+    ensures continues { Continues filling.old filling.new }
+    ensures filled { OnOk result (IsFilledTo filling.new to) }
 {
     if workers == 1 {
-        in_order(alloc, filler, tables, store, dfa, memory, gate, from, to)
+        in_order(filling, gate, from, to)
     } else {
-        by_height(
-            rt, alloc, filler, tables, store, dfa, memory, workers, gate, from, to,
-        )
+        by_height(rt, filling, gate, workers, from, to)
     }
 }
 
 /// The number of rows of new tables per node from which pieces pay. What a node costs besides its rows is as much.
-const ROWS: usize = 16;
+const ROWS_PER_NODE: usize = 16;
 
 // Whether this many new tables for this many nodes are worth pieces. If there are few, pieces would compose the same
 // ones.
 fn pays(dfa: &Dfa, fresh: usize, nodes: usize) -> bool {
-    fresh.saturating_mul(dfa.states() as usize) >= nodes.saturating_mul(ROWS)
+    fresh.saturating_mul(dfa.states() as usize) >= nodes.saturating_mul(ROWS_PER_NODE)
 }
 
 /// The number of nodes that are processed on one thread before it is tested whether pieces pay.
-const ASKED: usize = 1 << 12;
+const NODES_IN_ORDER: usize = 1 << 12;
 
 /// The number of nodes that are processed in pieces before the next test, so that what is found for them takes little
 /// memory.
-const PLACED_AT_ONCE: usize = 1 << 15;
+const NODES_IN_PIECES: usize = 1 << 15;
 
 // The number of nodes that are processed before the next test.
 fn part_len(in_pieces: bool) -> usize
     ensures { 0 < result }
 {
-    if in_pieces { PLACED_AT_ONCE } else { ASKED }
+    if in_pieces {
+        NODES_IN_PIECES
+    } else {
+        NODES_IN_ORDER
+    }
 }
 
 // Assigns tables to all new nodes, some at a time. The first ones are processed in pieces if the cache is empty and they cost more
@@ -219,35 +172,25 @@ fn part_len(in_pieces: bool) -> usize
 // that no node had.
 fn place_new<R: Threads + Sync, G: Gate>(
     rt: &R,
-    alloc: Global,
-    filler: &mut Filler,
-    tables: &mut Tables,
-    store: &Store,
-    dfa: &Dfa,
-    memory: &mut Memory,
-    workers: u8,
+    filling: &mut Filling,
     gate: &G,
+    workers: u8,
 ) -> Result<(), NoMemory>
-    requires ready { IsReady dfa.now store.now tables.old filler.old memory.old }
-    requires free { FreeFrom tables.old filler.old 0 }
-    ensures entries { AreTrueEntries tables.new memory.new }
-    ensures kept { AreKept tables.old tables.new }
-    ensures ready { OnOk result (IsReady dfa.now store.now tables.new filler.new memory.new) }
-    ensures known { OnOk result (filler.new.known ≡ filler.old.known) }
-    ensures placed { OnOk result (PlacedBelow tables.new filler.new (length store.now)) }
+    requires { IsFilledTo filling.old filling.old.filler.known }
+    ensures continues { Continues filling.old filling.new }
+    ensures filled { OnOk result (IsFilled filling.new) }
 {
-    let mut from = filler.known();
-    let mut most = ASKED;
-    let new = store.count() - from;
-    let mut in_pieces = memory.len() == 0 && starts_in_pieces(dfa, new.min(ASKED));
-    while from < store.count() {
-        let to = from + (store.count() - from).min(most);
+    let Growth { store, dfa, .. } = filling.growth();
+    let count = store.count();
+    let mut from = filling.known();
+    let mut most = NODES_IN_ORDER;
+    let mut in_pieces = filling.cached() == 0 && starts_in_pieces(dfa, (count - from).min(most));
+    while from < count {
+        let to = from + (count - from).min(most);
         let at_once = if in_pieces { workers } else { 1 };
-        let before = tables.distinct();
-        place_part(
-            rt, alloc, filler, tables, store, dfa, memory, at_once, gate, from, to,
-        )?;
-        in_pieces = pays(dfa, tables.distinct().saturating_sub(before), to - from);
+        let before = filling.distinct();
+        place_part(rt, filling, gate, at_once, from, to)?;
+        in_pieces = pays(dfa, filling.distinct().saturating_sub(before), to - from);
         most = part_len(in_pieces);
         from = to;
     }
@@ -298,18 +241,7 @@ pub fn grow<R: Threads + Sync, G: Gate, L: Ledger>(
     ensures steps_err { OnErr result (places.new ≡ places.old) }
 {
     let _ = tables.count();
-    let mut filler = Filler::new(alloc, tables, store)?;
-    place_new(
-        rt,
-        alloc,
-        &mut filler,
-        tables,
-        store,
-        dfa,
-        memory,
-        workers,
-        gate,
-    )?;
-    filler.finish(tables, places);
-    Ok(())
+    let mut filling = Filling::open(Growth { alloc, store, dfa }, tables, memory)?;
+    let done = place_new(rt, &mut filling, gate, workers);
+    filling.close(done, tables, memory, places)
 }

@@ -28,6 +28,7 @@
 #![tactic(auto)]
 
 pub mod filler;
+mod filling;
 pub mod found;
 pub mod growth;
 mod layers;

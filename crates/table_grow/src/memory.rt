@@ -1,7 +1,7 @@
 //! A cache of compositions of kept tables.
 
 ghost use Rattle.std.specs.Prelude.{◌≡◌, ◌⊎◌, ◌≤◌, ◌<◌, [], List, length, IfOk, IfSome, Contains};
-ghost use Rattle.table_grow.specs.Front.{AreAmong};
+ghost use Rattle.table_grow.specs.Cache.{AreAmong};
 ghost use Rattle.table_grow.specs.Remembering.{Entry};
 
 use lru::LruCache;
@@ -10,24 +10,23 @@ use std::alloc::Global;
 use std::marker::Model;
 use std::num::NonZeroUsize;
 
-/// A direct-mapped cache in front: some compositions, each in the entry of its two tables. It has 4,096 entries once it
-/// has any.
-pub(crate) type Front = Vec<Option<((usize, usize), usize)>>;
+/// A direct-mapped cache: some compositions, each in the entry of its two tables. It has 4,096 entries once it has any.
+pub(crate) type Cache = Vec<Option<((usize, usize), usize)>>;
 
 /// A cache of compositions: for two kept tables, by their numbers, the number of their composition, for the
 /// compositions noted last.
 #[derive(Drop)]
 pub struct Memory {
-    cache: LruCache<(usize, usize), usize>,
-    // Some of these compositions, each in the entry of its two tables. It is searched first.
-    front: Front,
+    compositions: LruCache<(usize, usize), usize>,
+    // Some of them, which are searched first.
+    cache: Cache,
 }
 
-// The entries take 128 KB.
-const PLACES: usize = 4096;
+// The number of entries of the direct-mapped cache. They take 128 KB.
+const CACHE_ENTRIES: usize = 4096;
 
-// Fewer compositions are not put in front.
-const FEW: usize = 64;
+// The number of compositions from which some are written to the direct-mapped cache.
+const CACHED_FROM: usize = 64;
 
 impl Model for Memory {
     ghost use Rattle.std.specs.Prelude.{List};
@@ -35,11 +34,11 @@ impl Model for Memory {
 
     ghost Value = { List Entry };
 
-    ghost use Rattle.table_grow.specs.Front.{AreAmong};
+    ghost use Rattle.table_grow.specs.Cache.{AreAmong};
 
-    ghost view = { λ m. m.cache.entries };
+    ghost view = { λ m. m.compositions.entries };
 
-    ghost invariant = { λ m. AreAmong m.front.items m.cache.entries };
+    ghost invariant = { λ m. AreAmong m.cache.items m.compositions.entries };
 }
 
 impl Memory {
@@ -55,8 +54,8 @@ impl Memory {
     {
         match NonZeroUsize::new(size) {
             Some(size) => Ok(Memory {
-                cache: LruCache::sparse(alloc, size)?,
-                front: Vec::new(alloc),
+                compositions: LruCache::sparse(alloc, size)?,
+                cache: Vec::new(alloc),
             }),
             None => unreachable!(),
         }
@@ -66,7 +65,7 @@ impl Memory {
     pub fn len(&self) -> usize
         ensures { result ≡ length self.now }
     {
-        self.cache.len()
+        self.compositions.len()
     }
 
     /// Removes all entries, whose numbers are stale once tables are renumbered (`Tables::renumber`). The cache keeps
@@ -74,31 +73,32 @@ impl Memory {
     pub fn forget(&mut self)
         ensures { self.new ≡ [] }
     {
+        self.compositions.clear();
         self.cache.clear();
-        self.front.clear();
     }
 
     /// The number of the composition, if it is cached. The cache is unchanged.
     pub(crate) fn recall(&self, left: usize, right: usize) -> Option<usize>
         ensures { IfSome result (λ number. Contains self.now ((left, right), number)) }
     {
-        match found(&self.front, left, right) {
+        match cached(&self.cache, left, right) {
             Some(number) => Some(number),
-            None => self.cache.peek(&(left, right)).copied(),
+            None => self.compositions.peek(&(left, right)).copied(),
         }
     }
 
-    /// The same, and a composition that was found is put into its entry in front. The cached compositions are
-    /// unchanged.
-    pub(crate) fn recall_in_front(&mut self, left: usize, right: usize) -> Option<usize>
+    /// The same, and a composition that was found is written to its entry, so that it is found faster the next time. The
+    /// compositions are unchanged.
+    pub(crate) fn recall_again(&mut self, left: usize, right: usize) -> Option<usize>
         ensures found { IfSome result (λ number. Contains self.old ((left, right), number)) }
         ensures same { self.new ≡ self.old }
     {
-        if let Some(number) = found(&self.front, left, right) {
+        if let Some(number) = cached(&self.cache, left, right) {
             return Some(number);
         }
-        let number = *self.cache.peek(&(left, right))?;
-        note(&mut self.front, self.cache.len(), left, right, number);
+        let number = *self.compositions.peek(&(left, right))?;
+        let count = self.compositions.len();
+        write_to_cache(&mut self.cache, count, left, right, number);
         Some(number)
     }
 
@@ -106,23 +106,23 @@ impl Memory {
     pub(crate) fn remember(&mut self, left: usize, right: usize, number: usize)
         ensures { (e : Entry) → Contains self.new e → Contains self.old e ⊎ (e ≡ ((left, right), number)) }
     {
-        leave_room(&mut self.cache, &mut self.front);
-        put(&mut self.cache, &mut self.front, left, right, number);
+        leave_room(&mut self.compositions, &mut self.cache);
+        put(&mut self.compositions, &mut self.cache, left, right, number);
     }
 }
 
 // The entry of two tables, by a multiplicative hash of their numbers (D. E. Knuth, The Art of Computer Programming,
 // volume 3, section 6.4).
-fn place(left: usize, right: usize) -> usize {
+fn entry_of(left: usize, right: usize) -> usize {
     let mixed = left.wrapping_mul(0x9E37_79B9_7F4A_7C15).wrapping_add(right);
     mixed.wrapping_mul(0x9E37_79B9_7F4A_7C15) >> 52
 }
 
 /// The number of the composition, if it is in its entry.
-pub(crate) fn found(front: &Front, left: usize, right: usize) -> Option<usize>
-    ensures { IfSome result (λ number. (es : List Entry) → AreAmong front.now.items es → Contains es ((left, right), number)) }
+pub(crate) fn cached(cache: &Cache, left: usize, right: usize) -> Option<usize>
+    ensures { IfSome result (λ number. (es : List Entry) → AreAmong cache.now.items es → Contains es ((left, right), number)) }
 {
-    let ((first, second), number) = (*front.get(place(left, right))?)?;
+    let ((first, second), number) = (*cache.get(entry_of(left, right))?)?;
     if first == left && second == right {
         Some(number)
     } else {
@@ -130,48 +130,55 @@ pub(crate) fn found(front: &Front, left: usize, right: usize) -> Option<usize>
     }
 }
 
-/// Writes a composition to its entry, if memory allows and enough compositions are cached for the entries to pay.
-pub(crate) fn note(front: &mut Front, remembered: usize, left: usize, right: usize, number: usize)
-    ensures { (es : List Entry) → Contains es ((left, right), number) → AreAmong front.old.items es → AreAmong front.new.items es }
+/// Writes a composition to its entry, if memory allows and there are enough compositions, by `count`, for the entries
+/// to pay.
+pub(crate) fn write_to_cache(
+    cache: &mut Cache,
+    count: usize,
+    left: usize,
+    right: usize,
+    number: usize,
+)
+    ensures { (es : List Entry) → Contains es ((left, right), number) → AreAmong cache.old.items es → AreAmong cache.new.items es }
 {
-    if front.is_empty() && (remembered < FEW || front.resize(PLACES, None).is_err()) {
+    if cache.is_empty() && (count < CACHED_FROM || cache.resize(CACHE_ENTRIES, None).is_err()) {
         return;
     }
-    if let Some(found) = front.get_mut(place(left, right)) {
+    if let Some(found) = cache.get_mut(entry_of(left, right)) {
         *found = Some(((left, right), number));
     }
 }
 
-// Empties a full cache.
-fn leave_room(cache: &mut LruCache<(usize, usize), usize>, front: &mut Front)
-    ensures room { length cache.new.entries < cache.new.cap }
-    ensures fewer { (e : Entry) → Contains cache.new.entries e → Contains cache.old.entries e }
-    ensures among { AreAmong front.old.items cache.old.entries → AreAmong front.new.items cache.new.entries }
+// Removes all compositions if there is no room for another.
+fn leave_room(compositions: &mut LruCache<(usize, usize), usize>, cache: &mut Cache)
+    ensures room { length compositions.new.entries < compositions.new.cap }
+    ensures fewer { (e : Entry) → Contains compositions.new.entries e → Contains compositions.old.entries e }
+    ensures among { AreAmong cache.old.items compositions.old.entries → AreAmong cache.new.items compositions.new.entries }
 {
-    if cache.len() == cache.cap().get() {
+    if compositions.len() == compositions.cap().get() {
+        compositions.clear();
         cache.clear();
-        front.clear();
     }
 }
 
 // Adds a composition, for which there is room.
 fn put(
-    cache: &mut LruCache<(usize, usize), usize>,
-    front: &mut Front,
+    compositions: &mut LruCache<(usize, usize), usize>,
+    cache: &mut Cache,
     left: usize,
     right: usize,
     number: usize,
 )
-    requires { length cache.old.entries < cache.old.cap }
-    ensures more { (e : Entry) → Contains cache.new.entries e → Contains cache.old.entries e ⊎ (e ≡ ((left, right), number)) }
-    ensures among { AreAmong front.old.items cache.old.entries → AreAmong front.new.items cache.new.entries }
+    requires { length compositions.old.entries < compositions.old.cap }
+    ensures more { (e : Entry) → Contains compositions.new.entries e → Contains compositions.old.entries e ⊎ (e ≡ ((left, right), number)) }
+    ensures among { AreAmong cache.old.items compositions.old.entries → AreAmong cache.new.items compositions.new.entries }
 {
-    if cache.contains(&(left, right)) {
+    if compositions.contains(&(left, right)) {
         return;
     }
-    let remembered = cache.len();
-    match cache.put((left, right), number) {
-        Ok(_) => note(front, remembered, left, right, number),
+    let count = compositions.len();
+    match compositions.put((left, right), number) {
+        Ok(_) => write_to_cache(cache, count, left, right, number),
         Err(_) => {}
     }
 }

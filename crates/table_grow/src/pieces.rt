@@ -1,26 +1,17 @@
 //! The tables of the new nodes of one height, computed in pieces at once from finished tables.
 
-ghost use Rattle.std.specs.Prelude.{◌≡◌, ◌+◌, ◌<◌, ◌^◌, ◌++◌, ◌∷◌, [], All, length, map, IfOk};
+ghost use Rattle.std.specs.Prelude.{◌≡◌, ◌+◌, ◌<◌, ◌^◌, ◌++◌, All, length, map, IfOk, IfSome};
 ghost use Rattle.std.specs.Thread.{IsSync};
-ghost use Rattle.table_grow.specs.Growing.{IsDue, IsReady};
-ghost use Rattle.table_grow.specs.Pieces.{AreMade, AreOwn, Extends, IsPiece, IsSpot, IsWithin, shifted};
+ghost use Rattle.table_grow.specs.Filling.{AreParts, IsDue, IsReady, filling_of};
+ghost use Rattle.table_grow.specs.Pieces.{AreMade, AreOwn, Extends, IsAdded, IsPiece, IsSpot, IsWithin, shifted};
 
-use crate::filler::Filler;
-use crate::memory::{Front, Memory, found, note};
-use marker_dfa::Dfa;
-use node_store::{Node, NodeId, Store};
+use crate::filling::{Finder, Growth};
+use crate::found::Made;
+use crate::memory::{Cache, cached, write_to_cache};
+use node_store::NodeId;
 use span_types::NoMemory;
-use state_tables::{Table, Tables};
-use std::alloc::Global;
 use std::thread::Threads;
 use work_gate::{Gate, halves};
-
-/// A computed table: that of a byte, or the composition of two kept tables, with their numbers.
-#[derive(Drop)]
-pub struct Made {
-    pub parts: Option<(usize, usize)>,
-    pub table: Table,
-}
 
 /// Where the table of a node is: among the kept tables, by its number, or among those that were computed, by its index.
 #[derive(Clone, Copy)]
@@ -37,85 +28,67 @@ pub struct Piece {
     pub made: Vec<Made>,
 }
 
-// Appends a table to those that were computed, and returns its index.
-fn push_made(made: &mut Vec<Made>, one: Made) -> Result<usize, NoMemory>
-    ensures place { IfOk result (λ place. place ≡ length made.old.items) }
-    ensures made { IfOk result (λ _. made.new.items ≡ made.old.items ++ one ∷ []) }
+// Computes the table of the node from its parts, adds it to those that were computed, and returns its index.
+fn push_computed(
+    finder: &Finder,
+    made: &mut Vec<Made>,
+    id: NodeId,
+    parts: Option<(usize, usize)>,
+) -> Result<usize, NoMemory>
+    requires due { IsDue finder.now id }
+    requires parts { IfSome parts (AreParts finder.now id.index) }
+    ensures { IfOk result (IsAdded finder.now made.old.items made.new.items id parts) }
 {
-    let place = made.len();
+    let one = finder.compute(id, parts)?;
+    let index = made.len();
     made.push(one)?;
-    Ok(place)
+    Ok(index)
 }
 
 // Where the table of the node is. It is computed only if neither the cache nor the piece has it.
 fn spot_of(
-    alloc: Global,
-    filler: &Filler,
-    tables: &Tables,
-    store: &Store,
-    dfa: &Dfa,
-    memory: &Memory,
-    own: &mut Front,
+    finder: &Finder,
+    own: &mut Cache,
     made: &mut Vec<Made>,
     id: NodeId,
 ) -> Result<Spot, NoMemory>
-    requires ready { IsReady dfa.now store.now tables.now filler.now memory.now }
-    requires due { IsDue store.now tables.now filler.now id }
-    requires made { AreMade dfa.now tables.now made.old.items }
+    requires due { IsDue finder.now id }
+    requires made { AreMade finder.now.tables made.old.items }
     requires own { AreOwn own.old.items made.old.items }
-    ensures made { IfOk result (λ _. AreMade dfa.now tables.now made.new.items) }
+    ensures made { IfOk result (λ _. AreMade finder.now.tables made.new.items) }
     ensures own { IfOk result (λ _. AreOwn own.new.items made.new.items) }
     ensures kept { IfOk result (λ _. Extends made.old.items made.new.items) }
-    ensures spot { IfOk result (IsSpot dfa.now store.now tables.now filler.now made.new.items id) }
+    ensures spot { IfOk result (IsSpot finder.now made.new.items id) }
 {
-    let _ = dfa.states();
-    match store.node(id) {
-        Node::Byte(_) => {
-            let table = filler.compute(alloc, tables, store, dfa, id)?;
-            let place = push_made(made, Made { parts: None, table })?;
-            Ok(Spot::Made(place))
-        }
-        Node::Pair(left, right) => {
-            let left = filler.number(tables, store, left);
-            let right = filler.number(tables, store, right);
-            if let Some(number) = memory.recall(left, right) {
+    let parts = finder.parts(id);
+    match parts {
+        None => Ok(Spot::Made(push_computed(finder, made, id, parts)?)),
+        Some((left, right)) => {
+            if let Some(number) = finder.recall(left, right) {
                 return Ok(Spot::Kept(number));
             }
-            if let Some(place) = found(own, left, right) {
-                return Ok(Spot::Made(place));
+            if let Some(index) = cached(own, left, right) {
+                return Ok(Spot::Made(index));
             }
-            let table = filler.compute(alloc, tables, store, dfa, id)?;
-            let parts = Some((left, right));
-            let place = push_made(made, Made { parts, table })?;
-            note(own, place, left, right, place);
-            Ok(Spot::Made(place))
+            let index = push_computed(finder, made, id, parts)?;
+            write_to_cache(own, index, left, right, index);
+            Ok(Spot::Made(index))
         }
     }
 }
 
 // Where the tables of the nodes are, found on this thread.
-fn one_piece<G: Gate>(
-    alloc: Global,
-    filler: &Filler,
-    tables: &Tables,
-    store: &Store,
-    dfa: &Dfa,
-    memory: &Memory,
-    gate: &G,
-    ids: &[NodeId],
-) -> Result<Piece, NoMemory>
-    requires ready { IsReady dfa.now store.now tables.now filler.now memory.now }
-    requires due { All (IsDue store.now tables.now filler.now) ids.now }
-    ensures { IfOk result (IsPiece dfa.now store.now tables.now filler.now ids.now) }
+fn one_piece<G: Gate>(finder: &Finder, gate: &G, ids: &[NodeId]) -> Result<Piece, NoMemory>
+    requires { All (IsDue finder.now) ids.now }
+    ensures { IfOk result (IsPiece finder.now ids.now) }
 {
+    let alloc = finder.alloc();
     let mut own = Vec::new(alloc);
     let mut made = Vec::new(alloc);
     let mut spots = Vec::with_capacity(alloc, ids.len())?;
     for id in ids {
         gate.pass(id.index);
-        let spot = spot_of(
-            alloc, filler, tables, store, dfa, memory, &mut own, &mut made, *id,
-        )?;
+        let spot = spot_of(finder, &mut own, &mut made, *id)?;
         spots.push(spot)?;
     }
     Ok(Piece { spots, made })
@@ -129,7 +102,7 @@ fn shift(spot: Spot, before: usize, count: usize) -> Spot
 {
     match spot {
         Spot::Kept(number) => Spot::Kept(number),
-        Spot::Made(place) => Spot::Made(before + place),
+        Spot::Made(index) => Spot::Made(before + index),
     }
 }
 
@@ -160,63 +133,55 @@ fn joined(first: Piece, second: Piece) -> Result<Piece, NoMemory>
 /// Where the tables of the nodes are, found in at most `workers` pieces at once.
 pub(crate) fn in_pieces<R: Threads + Sync, G: Gate>(
     rt: &R,
-    alloc: Global,
-    filler: &Filler,
-    tables: &Tables,
-    store: &Store,
-    dfa: &Dfa,
-    memory: &Memory,
+    finder: &Finder,
     gate: &G,
     ids: &[NodeId],
     workers: u8,
 ) -> Result<Piece, NoMemory>
-    requires ready { IsReady dfa.now store.now tables.now filler.now memory.now }
-    requires due { All (IsDue store.now tables.now filler.now) ids.now }
-    ensures { IfOk result (IsPiece dfa.now store.now tables.now filler.now ids.now) }
+    requires { All (IsDue finder.now) ids.now }
+    ensures { IfOk result (IsPiece finder.now ids.now) }
 {
     if workers <= 1 || ids.len() <= 1 {
-        return one_piece(alloc, filler, tables, store, dfa, memory, gate, ids);
+        return one_piece(finder, gate, ids);
     }
+    let Finder {
+        growth: Growth { alloc, store, dfa },
+        filler,
+        tables,
+        memory,
+    } = *finder;
     let (left, right) = ids.split_at(ids.len() / 2);
     let (first, second) = halves(
         rt,
         || -> Result<Piece, NoMemory>
             requires sync { IsSync R.row × IsSync G.row }
-            requires ready { IsReady dfa.now store.now tables.now filler.now memory.now }
-            requires due { All (IsDue store.now tables.now filler.now) left.now }
-            ensures piece { IfOk result (IsPiece dfa.entry.now store.entry.now tables.entry.now filler.entry.now left.entry.now) }
+            requires ready { IsReady (filling_of dfa.now store.now tables.now filler.now memory.now) }
+            requires due { All (IsDue (filling_of dfa.now store.now tables.now filler.now memory.now)) left.now }
+            ensures piece { IfOk result (IsPiece (filling_of dfa.entry.now store.entry.now tables.entry.now filler.entry.now memory.entry.now) left.entry.now) }
         {
-            in_pieces(
-                rt,
-                alloc,
+            let growth = Growth { alloc, store, dfa };
+            let finder = Finder {
+                growth,
                 filler,
                 tables,
-                store,
-                dfa,
                 memory,
-                gate,
-                left,
-                workers / 2,
-            )
+            };
+            in_pieces(rt, &finder, gate, left, workers / 2)
         },
         || -> Result<Piece, NoMemory>
             requires sync { IsSync R.row × IsSync G.row }
-            requires ready { IsReady dfa.now store.now tables.now filler.now memory.now }
-            requires due { All (IsDue store.now tables.now filler.now) right.now }
-            ensures piece { IfOk result (IsPiece dfa.entry.now store.entry.now tables.entry.now filler.entry.now right.entry.now) }
+            requires ready { IsReady (filling_of dfa.now store.now tables.now filler.now memory.now) }
+            requires due { All (IsDue (filling_of dfa.now store.now tables.now filler.now memory.now)) right.now }
+            ensures piece { IfOk result (IsPiece (filling_of dfa.entry.now store.entry.now tables.entry.now filler.entry.now memory.entry.now) right.entry.now) }
         {
-            in_pieces(
-                rt,
-                alloc,
+            let growth = Growth { alloc, store, dfa };
+            let finder = Finder {
+                growth,
                 filler,
                 tables,
-                store,
-                dfa,
                 memory,
-                gate,
-                right,
-                workers - workers / 2,
-            )
+            };
+            in_pieces(rt, &finder, gate, right, workers - workers / 2)
         },
     );
     joined(first?, second?)

@@ -1,129 +1,52 @@
 //! Assigns and caches the tables that were found.
 
-ghost use Rattle.std.specs.Prelude.{◌≡◌, ◌≢◌, [], ℕ, ◌<◌, ◌≤◌, length, All, AllPairs, IfOk, OnOk, None, Some, IsSome};
-ghost use Rattle.marker_dfa.specs.Deterministic.{states_of};
-ghost use Rattle.state_tables.specs.Dictionary.{distinct_of, kept_of};
-ghost use Rattle.table_grow.specs.Filling.{AreKept, ChildrenPlaced, number_in};
-ghost use Rattle.table_grow.specs.Remembering.{AreTrueEntries};
-ghost use Rattle.table_grow.specs.Growing.{IsDone, IsDue, IsFound, IsPlacedAt, IsReady, OnlyPlaced, StillPlaced};
-ghost use Rattle.table_grow.specs.Pieces.{AreMade, AreNumbers, AreSpots, HasNumber, IsMade, IsPiece, number_at};
+ghost use Rattle.std.specs.Prelude.{◌≡◌, IfOk, OnOk, IsSome, Some};
+ghost use Rattle.table_grow.specs.Assignment.{AreKept};
+ghost use Rattle.table_grow.specs.Filling.{AreDue, Assigns, AssignsOne, Continues, IsDue};
+ghost use Rattle.table_grow.specs.Pieces.{AreMade, AreNumbers, AreSpots, HasNumber, IsFound, IsPiece, number_at};
 
-use crate::filler::Filler;
-use crate::found::{Done, Found};
-use crate::memory::Memory;
-use crate::pieces::{Made, Piece, Spot};
-use marker_dfa::Dfa;
-use node_store::{NodeId, Store};
+use crate::filling::Filling;
+use crate::found::{Found, Made};
+use crate::pieces::{Piece, Spot};
+use node_store::NodeId;
 use span_types::NoMemory;
-use state_tables::Tables;
-use std::alloc::Global;
 
-// Assigns the table that was found, caches the composition, and returns the table's number.
-fn place_found(
-    filler: &mut Filler,
-    tables: &mut Tables,
-    store: &Store,
-    dfa: &Dfa,
-    memory: &mut Memory,
-    id: NodeId,
-    found: Found,
-) -> Result<usize, NoMemory>
-    requires ready { IsReady dfa.now store.now tables.old filler.old memory.old }
-    requires new { filler.old.known ≤ id.index }
-    requires live { id.index < length store.now }
-    requires free { number_in tables.old filler.old id.index ≡ None }
-    requires children { ChildrenPlaced store.now tables.old filler.old id.index }
-    requires found { IsFound dfa.now store.now tables.old id.index found }
-    ensures number { IfOk result (IsPlacedAt dfa.now store.now tables.new filler.old filler.new id.index) }
-    ensures entries { AreTrueEntries tables.new memory.new }
-    ensures kept { AreKept tables.old tables.new }
+/// Assigns the table that was found for a new node, and caches the composition.
+pub(crate) fn place_found(filling: &mut Filling, id: NodeId, found: Found) -> Result<(), NoMemory>
+    requires due { IsDue filling.old id }
+    requires found { IsFound filling.old id.index found }
+    ensures continues { Continues filling.old filling.new }
+    ensures one { OnOk result (AssignsOne filling.old filling.new id) }
 {
     match found {
         Found::Kept(number) => {
-            filler.place_kept(tables, store, id, number);
-            Ok(number)
+            filling.assign(id, number);
+            Ok(())
         }
-        Found::Made(table) => filler.place_numbered(tables, store, id, table),
-        Found::Composed(left, right, table) => {
-            let number = filler.place_numbered(tables, store, id, table)?;
-            memory.remember(left, right, number);
-            Ok(number)
+        Found::New(made) => {
+            let number = filling.keep(made, true)?;
+            filling.assign(id, number);
+            Ok(())
         }
     }
-}
-
-/// Assigns what was found for a new node, which isn't assigned yet and whose children are old or assigned.
-pub(crate) fn place_one(
-    filler: &mut Filler,
-    tables: &mut Tables,
-    store: &Store,
-    dfa: &Dfa,
-    memory: &mut Memory,
-    done: Done,
-) -> Result<(), NoMemory>
-    requires ready { IsReady dfa.now store.now tables.old filler.old memory.old }
-    requires done { IsDone dfa.now store.now tables.old filler.old done }
-    requires free { number_in tables.old filler.old done.id.index ≡ None }
-    ensures entries { AreTrueEntries tables.new memory.new }
-    ensures kept { AreKept tables.old tables.new }
-    ensures ready { OnOk result (IsReady dfa.now store.now tables.new filler.new memory.new) }
-    ensures known { OnOk result (filler.new.known ≡ filler.old.known) }
-    ensures placed { OnOk result (IsSome (number_in tables.new filler.new done.id.index)) }
-    ensures others { OnOk result ((j : ℕ) → done.id.index ≢ j → number_in tables.new filler.new j ≡ number_in tables.old filler.old j) }
-{
-    let _ = tables.count();
-    place_found(filler, tables, store, dfa, memory, done.id, done.found)?;
-    Ok(())
-}
-
-// Keeps a table that was computed, caches the composition if it is among the last, and returns the table's number.
-fn keep_one(
-    tables: &mut Tables,
-    dfa: &Dfa,
-    memory: &mut Memory,
-    one: Made,
-    is_last: bool,
-) -> Result<usize, NoMemory>
-    requires states { tables.old.states ≡ states_of dfa.now }
-    requires entries { AreTrueEntries tables.old memory.old }
-    requires made { IsMade dfa.now tables.old one }
-    ensures number { IfOk result (λ n. (n < distinct_of tables.new) × (kept_of tables.new n ≡ one.table)) }
-    ensures entries { AreTrueEntries tables.new memory.new }
-    ensures kept { AreKept tables.old tables.new }
-{
-    let Made { parts, table } = one;
-    let number = tables.keep(table)?;
-    match parts {
-        Some((left, right)) if is_last => memory.remember(left, right, number),
-        _ => {}
-    }
-    Ok(number)
 }
 
 /// The number of compositions that are cached of those that were computed at once. More would soon fill a cache of
 /// 4,096, which is emptied when it is full.
-const LAST: usize = 2048;
+const CACHED_AT_ONCE: usize = 2048;
 
 // Keeps the tables that were computed, caches the last compositions, and returns the tables' numbers.
-fn keep_made(
-    alloc: Global,
-    tables: &mut Tables,
-    dfa: &Dfa,
-    memory: &mut Memory,
-    made: Vec<Made>,
-) -> Result<Vec<usize>, NoMemory>
-    requires states { tables.old.states ≡ states_of dfa.now }
-    requires entries { AreTrueEntries tables.old memory.old }
-    requires made { AreMade dfa.now tables.old made.items }
-    ensures numbers { IfOk result (λ numbers. AreNumbers tables.new made.items numbers.items) }
-    ensures entries { AreTrueEntries tables.new memory.new }
-    ensures kept { AreKept tables.old tables.new }
+fn keep_made(filling: &mut Filling, made: Vec<Made>) -> Result<Vec<usize>, NoMemory>
+    requires made { AreMade filling.old.tables made.items }
+    ensures numbers { IfOk result (λ numbers. AreNumbers filling.new.tables made.items numbers.items) }
+    ensures kept { AreKept filling.old.tables filling.new.tables }
+    ensures same { filling.new ≡ record filling.old { tables = filling.new.tables; entries = filling.new.entries } }
 {
     let count = made.len();
-    let mut numbers = Vec::with_capacity(alloc, count)?;
+    let mut numbers = Vec::with_capacity(filling.growth().alloc, count)?;
     for one in made {
-        let is_last = numbers.len().saturating_add(LAST) >= count;
-        let number = keep_one(tables, dfa, memory, one, is_last)?;
+        let is_last = numbers.len().saturating_add(CACHED_AT_ONCE) >= count;
+        let number = filling.keep(one, is_last)?;
         numbers.push(number)?;
     }
     Ok(numbers)
@@ -136,63 +59,35 @@ fn number_of(numbers: &[usize], spot: Spot) -> usize
 {
     match spot {
         Spot::Kept(number) => number,
-        Spot::Made(place) => numbers[place],
+        Spot::Made(index) => numbers[index],
     }
 }
 
 // Assigns to each node the number of its table.
-fn place_spots(
-    filler: &mut Filler,
-    tables: &Tables,
-    store: &Store,
-    dfa: &Dfa,
-    spots: &[Spot],
-    numbers: &[usize],
-    ids: &[NodeId],
-)
-    requires ready { IsReady dfa.now store.now tables.now filler.old [] }
-    requires due { All (IsDue store.now tables.now filler.old) ids.now }
-    requires free { All (λ id. number_in tables.now filler.old id.index ≡ None) ids.now }
-    requires once { AllPairs (λ x y. x.index ≢ y.index) ids.now }
-    requires numbers { AreSpots (HasNumber dfa.now store.now tables.now filler.old numbers.now) ids.now spots.now }
-    ensures ready { IsReady dfa.now store.now tables.now filler.new [] }
-    ensures still { StillPlaced tables.now filler.old tables.now filler.new }
-    ensures placed { All (λ id. IsSome (number_in tables.now filler.new id.index)) ids.now }
-    ensures others { OnlyPlaced tables.now filler.old tables.now filler.new ids.now }
+fn place_spots(filling: &mut Filling, spots: &[Spot], numbers: &[usize], ids: &[NodeId])
+    requires due { AreDue filling.old ids.now }
+    requires numbers { AreSpots (HasNumber filling.old numbers.now) ids.now spots.now }
+    ensures { Assigns filling.old filling.new ids.now }
 {
-    let _ = tables.count();
     for index in 0..ids.len() {
         let number = number_of(numbers, spots[index]);
-        filler.place_kept(tables, store, ids[index], number);
+        filling.assign(ids[index], number);
     }
 }
 
-/// Assigns the tables that were found for some new nodes, none of which is assigned yet and all of whose children are.
+/// Assigns the tables that were found for some new nodes.
 pub(crate) fn place_piece(
-    alloc: Global,
-    filler: &mut Filler,
-    tables: &mut Tables,
-    store: &Store,
-    dfa: &Dfa,
-    memory: &mut Memory,
+    filling: &mut Filling,
     ids: &[NodeId],
     piece: Piece,
 ) -> Result<(), NoMemory>
-    requires ready { IsReady dfa.now store.now tables.old filler.old memory.old }
-    requires due { All (IsDue store.now tables.old filler.old) ids.now }
-    requires free { All (λ id. number_in tables.old filler.old id.index ≡ None) ids.now }
-    requires once { AllPairs (λ x y. x.index ≢ y.index) ids.now }
-    requires piece { IsPiece dfa.now store.now tables.old filler.old ids.now piece }
-    ensures entries { AreTrueEntries tables.new memory.new }
-    ensures kept { AreKept tables.old tables.new }
-    ensures ready { OnOk result (IsReady dfa.now store.now tables.new filler.new memory.new) }
-    ensures still { OnOk result (StillPlaced tables.old filler.old tables.new filler.new) }
-    ensures placed { OnOk result (All (λ id. IsSome (number_in tables.new filler.new id.index)) ids.now) }
-    ensures others { OnOk result (OnlyPlaced tables.old filler.old tables.new filler.new ids.now) }
+    requires due { AreDue filling.old ids.now }
+    requires piece { IsPiece filling.old ids.now piece }
+    ensures continues { Continues filling.old filling.new }
+    ensures all { OnOk result (Assigns filling.old filling.new ids.now) }
 {
-    let _ = tables.count();
     let Piece { spots, made } = piece;
-    let numbers = keep_made(alloc, tables, dfa, memory, made)?;
-    place_spots(filler, tables, store, dfa, &spots, &numbers, ids);
+    let numbers = keep_made(filling, made)?;
+    place_spots(filling, &spots, &numbers, ids);
     Ok(())
 }

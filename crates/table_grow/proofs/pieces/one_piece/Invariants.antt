@@ -4,7 +4,7 @@ use Rattle.table_grow.proofs.pieces.one_piece.Given as goal
 
 abbrev pub invariant-loop-id : goal.invariant-loop-id
 invariant-loop-id g l = record {
-  made : AreMade l.dfa l.tables l.made.items;
+  made : AreMade l.finder.tables l.made.items;
   own : AreOwn l.own.items l.made.items;
-  spots : AreSpots (IsSpot l.dfa l.store l.tables l.filler l.made.items) (take l.id-index l.ids) l.spots.items;
+  spots : AreSpots (IsSpot l.finder l.made.items) (take l.id-index l.ids) l.spots.items;
 }

@@ -1,21 +1,23 @@
-use Rattle.std.proofs.Common.{sym, subst, []}
-use Rattle.state_tables.specs.Dictionary.{AreTables}
-use Rattle.table_grow.proofs.Growing.{ready-new, free-new, all-placed, finished-true, entries-none}
+use Rattle.std.proofs.Common.{◌≡◌, ◌+◌, ◌-◌, ◌<◌, ◌∙◌, ℕ, List, [], length, subst, sym, OnErr, OnOk}
+use Rattle.state_tables.specs.Dictionary.{AreTables, count_of}
+use Rattle.table_grow.specs.Filling.{IsFilledTo}
+use Rattle.table_grow.proofs.Placed.{Since, since-start}
 use Rattle.table_grow.proofs.schedule.fill.Goals as goal
+use Rattle.table_grow.proofs.schedule.fill.Goals.{After-drop-memory-inside-3}
 
-pub fill_new-requires-clause-ready : goal.fill_new-requires-clause-ready
-fill_new-requires-clause-ready g c =
-    ready-new c.args.dfa.now c.args.store.now c.args.tables.now c.new.new.tables c.in_ok-filler.filler [] c.requires.true_tables (entries-none c.args.tables.now)
-    c.requires.states c.in_ok-filler.ensures.fits c.in_ok-filler.ensures.empty c.new.ensures.same
+since : (g : _) (c : After-drop-memory-inside-3 g) → Since c.args.dfa.now c.args.store.now c.args.tables.now c.fill_new-done.new.filling
+since g c = since-start c.args.dfa.now c.args.store.now c.args.tables.now c.in_ok-memory.memory c.in_ok-filling.filling c.fill_new-done.new.filling c.count.ensures.facts c.in_ok-filling.ensures.starts c.fill_new-done.ensures.continues
 
-pub fill_new-requires-clause-free : goal.fill_new-requires-clause-free
-fill_new-requires-clause-free g c = free-new c.new.new.tables c.in_ok-filler.filler c.in_ok-filler.ensures.empty
-
-pub finish-requires-clause-all_placed : goal.finish-requires-clause-all_placed
-finish-requires-clause-all_placed g c = all-placed c.args.store.now c.fill_new.new.tables c.fill_new.new.filler c.in_ok-fill_new.ensures.ready.fits c.in_ok-fill_new.ensures.placed
+pub returns-clause-all : goal.returns-clause-all
+returns-clause-all g c = subst (λ ns. OnOk c.close.result (count_of c.close.new.tables ≡ length ns)) (since g c).nodes_are c.close.ensures.all
 
 pub returns-clause-meaning : goal.returns-clause-meaning
 returns-clause-meaning g c =
-    subst (AreTables c.args.dfa.now c.args.store.now) (sym c.finish.ensures.finished)
-    (finished-true c.args.dfa.now c.args.store.now c.fill_new.new.tables c.fill_new.new.filler c.in_ok-fill_new.ensures.ready.fits c.in_ok-fill_new.ensures.ready.all
-    (all-placed c.args.store.now c.fill_new.new.tables c.fill_new.new.filler c.in_ok-fill_new.ensures.ready.fits c.in_ok-fill_new.ensures.placed))
+    let at = since g c in
+    subst (λ a. AreTables a c.args.store.now c.close.new.tables) at.automaton (subst (λ ns. AreTables c.fill_new-done.new.filling.automaton ns c.close.new.tables) at.nodes_are c.close.ensures.meaning)
+
+pub returns-clause-old : goal.returns-clause-old
+returns-clause-old g c = λ id h. c.close.ensures.old id (subst (λ (ns : List ℕ). id < length ns) (sym (since g c).numbers) h) ∙ (since g c).old id h
+
+pub returns-clause-err : goal.returns-clause-err
+returns-clause-err g c = subst (λ ns. OnErr c.close.result (c.close.new.tables.numbers ≡ ns)) (since g c).numbers c.close.ensures.err

@@ -1,32 +1,23 @@
-use Rattle.std.proofs.Common.{◌∙◌}
+use Rattle.std.proofs.Common.{get_or, subst}
 use Rattle.slp_model.specs.declared.NodeId.{NodeId}
-use Rattle.table_grow.specs.Growing.{StillPlaced}
-use Rattle.table_grow.proofs.Growing.{kept-trans, still-others}
-use Rattle.table_grow.proofs.Scheduling.{schedule-children, schedule-below, only-next, placed-next}
+use Rattle.table_grow.specs.Filling.{AssignsOne, Filling}
+use Rattle.table_grow.proofs.Growing.{assigns-next}
+use Rattle.table_grow.proofs.Scheduling.{due-scheduled, filled-scheduled}
 use Rattle.table_grow.proofs.schedule.fill_new.Goals as goal
 
-pub fill_one-requires-clause-children : goal.fill_one-requires-clause-children
-fill_one-requires-clause-children c =
-    schedule-children c.args.store.now c.loop-id.tables c.loop-id.filler c.args.filler.now.known c.loop-id.id-index c.args.schedule.now (record { index = 0 }) c.requires.schedule
-    c.loop-id.invariant.known c.loop-id-test.true c.loop-id.invariant.placed
+abbrev none : NodeId
+none = record { index = 0 }
+
+pub find-requires : goal.find-requires
+find-requires c =
+    due-scheduled c.args.filling.now c.loop-id.filling c.loop-id.id-index c.args.schedule.now c.requires.schedule c.loop-id.invariant none c.loop-id-test.true c.requires.filled
 
 pub loop-id-preserved : goal.loop-id-preserved
 loop-id-preserved c =
     let at = c.loop-id in
-    let ids = c.args.schedule.now in
-    let zero_id : NodeId = record { index = 0 } in
-    let after = c.in_ok-fill_one.ensures in
-    let still : StillPlaced at.tables at.filler c.fill_one.new.tables c.fill_one.new.filler =
-    still-others at.tables c.fill_one.new.tables at.filler c.fill_one.new.filler _ after.known after.placed after.others in
-    record {
-      ready = after.ready;
-      kept = kept-trans c.args.tables.now at.tables c.fill_one.new.tables at.invariant.kept c.fill_one.ensures.kept;
-      known = after.known ∙ at.invariant.known;
-      placed = placed-next at.tables c.fill_one.new.tables at.filler c.fill_one.new.filler at.id-index ids zero_id c.loop-id-test.true at.invariant.placed still after.placed;
-      only = only-next c.args.tables.now at.tables c.fill_one.new.tables c.args.filler.now at.filler c.fill_one.new.filler at.id-index ids zero_id c.loop-id-test.true at.invariant.only after.others;
-    }
+    let now = c.place_found.new.filling in
+    assigns-next c.args.filling.now at.filling now at.id-index c.args.schedule.now none c.loop-id-test.true at.invariant
+    (subst (λ (s : Filling). AssignsOne s now (get_or c.args.schedule.now at.id-index none)) c.find.ensures.same c.in_ok-place_found.ensures.one)
 
-pub returns-clause-placed : goal.returns-clause-placed
-returns-clause-placed c =
-    schedule-below c.args.store.now c.loop-id.tables c.loop-id.filler c.args.filler.now.known c.loop-id.id-index c.args.schedule.now c.requires.schedule
-    c.loop-id.invariant.known c.loop-id-test.false c.loop-id.invariant.placed
+pub returns-clause-filled : goal.returns-clause-filled
+returns-clause-filled c = filled-scheduled c.args.filling.now c.loop-id.filling c.loop-id.id-index c.args.schedule.now c.requires.schedule c.loop-id.invariant c.loop-id-test.false

@@ -1,6 +1,6 @@
 use Rattle.std.proofs.Common.{◌≡◌, ◌+◌, ◌-◌, ◌++◌, map, take}
 use Rattle.state_tables.specs.Coded.{step_of}
-use Rattle.table_grow.specs.Filling.{number_of_place}
+use Rattle.table_grow.specs.Assignment.{number_of_place}
 use Rattle.table_grow.proofs.filler.Filler.finish.Given as goal
 
 abbrev pub invariant-loop-place : goal.invariant-loop-place
