@@ -1,12 +1,11 @@
 -- Facts about a whole command, from its parts.
-use Rattle.text_commands.proofs.Names.{[], Accepted, ap, append_assoc, arith, Assigns, at_drop_all, Carries, codes, Command, Counters, counters, Doc, Documents}
-use Rattle.text_commands.proofs.Names.{drop, edit_limit, entry_text, Err, eval, Expr, ExprReads, Files, flat_map, greatest, height_limit, inl, inr, IsEditRejectionReply, IsPaid}
-use Rattle.text_commands.proofs.Names.{IsShown, IsUpTo, length, List, load_limit, Named, names_text, no_steps, Node, NodeId, None, NoSuchDocument, Ok, ok_or}
-use Rattle.text_commands.proofs.Names.{ok_text, operations, Option, option_map_or, Outcome, Outlet, PaysFor, PaysForPart, plain, put, refl, Refusal, Result}
+use Rattle.text_commands.proofs.Names.{[], Accepted, ap, append_assoc, arith, Assigns, at_drop_all, Carries, codes, counters, Doc, Documents}
+use Rattle.text_commands.proofs.Names.{drop, edit_limit, entry_text, Err, eval, Expr, ExprReads, Files, flat_map, greatest, height_limit, inl, inr, IsEditRejectionReply}
+use Rattle.text_commands.proofs.Names.{IsShown, IsUpTo, length, List, load_limit, Named, names_text, Node, NoSuchDocument, Ok}
+use Rattle.text_commands.proofs.Names.{ok_text, operations, Option, option_map_or, Outcome, Outlet, PaysFor, plain, put, refl, Refusal, Result}
 use Rattle.text_commands.proofs.Names.{shown_range, slice_get, Some, State, subst, sym, taken_out, text_of, Told, value_of, with_documents, with_versions, World}
 use Rattle.text_commands.proofs.Names.{world, ℕ, ◌*◌, ◌++◌, ◌+◌, ◌∙◌, ◌∷◌, ◌≡◌, ◌≤◌, ◌⊎◌}
 use Rattle.report_text.proofs.Vars.{drop_at}
-use Rattle.doc_book.specs.declared.Missing.{Missing}
 use Rattle.session_state.proofs.DocumentLemmas.{only_documents}
 use Rattle.edit_expr.specs.declared.refusal.EditRefusal.{EditRefusal}
 use Rattle.edit_expr.specs.declared.refusal.EditRefusal.TheVariants as edit

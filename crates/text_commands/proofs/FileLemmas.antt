@@ -18,7 +18,7 @@ use Rattle.text_commands.proofs.LoadingLemmas.{load_allowed, load_does, load_ref
 pub load_carries : (m : Method) (st : State) (new : Documents) (number : ℕ) (name file bytes : List ℕ) (told : Told) (reply : List ℕ) (files : Option Files) → IsWithin files file load_size bytes
     → Assigns st.documents number name (Ok bytes) told reply new
     → Carries (world st files) number (file_command m name file) told reply (world (with_documents st new) files)
-load_carries m st new number name file bytes told reply files there h = rw h.0.0 (load_does m (world st files) name file reply (world (with_documents st new) files) (bytes, there, h.0.1, only_documents st (put st.documents name bytes) new files h.1))
+load_carries m st new number name file bytes told reply files there h = rw h.0.0 (load_does m (world st files) name file reply (world (with_documents st new) files) (bytes, there, (h.0.1, only_documents st (put st.documents name bytes) new files h.1)))
 
 pub load_denied : (m : Method) (w : World) (number : ℕ) (name file : List ℕ) (why : FileRefusal) (told : Told) (reply : List ℕ) → IsFileRejection w.files file load_size why
     → IsFileRejectionReply number file why told reply → Carries w number (file_command m name file) told reply w

@@ -2,6 +2,7 @@ pub mod CarryLemmas
 pub mod Facts
 pub mod FileLemmas
 pub mod LoadingLemmas
+pub mod GivenLemmas
 pub mod Names
 pub mod ReadingLemmas
 pub mod Thinned

@@ -1,6 +1,5 @@
 -- Files that are read in pieces.
 use Rattle.std.specs.Prelude.{◌≡◌, ◌⊎◌, ℕ, ◌+◌, ◌≤◌, List, ◌++◌, Option, Some, IfSome, IsFalse, MatchResult, Result, length, take}
-use Rattle.std.specs.Io.KnownBytes.{Consumes}
 use Rattle.edge_io.specs.Files.{DeniesReads, Files, LacksFile, file_of, reads_closed}
 use Rattle.edge_io.specs.declared.ShelfRefusal.{ShelfRefusal}
 use Rattle.edge_io.specs.declared.ShelfRefusal.TheVariants as shelf

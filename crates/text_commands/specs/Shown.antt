@@ -2,11 +2,6 @@
 use Rattle.std.specs.Prelude.{◌≡◌, ℕ, List, length, Some, Result, Ok, Err}
 use Rattle.edit_expr.specs.Eval.{Outcome}
 use Rattle.edit_expr.specs.declared.refusal.EditRefusal.{EditRefusal}
-use Rattle.formula_syntax.specs.declared.refusal.FormulaRefusal.{FormulaRefusal}
-use Rattle.formula_syntax.specs.declared.refusal.FormulaRefusal.TheVariants as formula
-use Rattle.query_book.specs.declared.refusal.QueryRefusal.{QueryRefusal}
-use Rattle.query_book.specs.declared.refusal.QueryRefusal.TheVariants as query
-use Rattle.report_text.specs.declared.refusal.Refusal.TheVariants as refusal
 use Rattle.slp_image.specs.Fields.{kind_of}
 use Rattle.slp_image.specs.Image.{Meaning}
 use Rattle.slp_image.specs.declared.refusal.ImageRefusal.{ImageRefusal}

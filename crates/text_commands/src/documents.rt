@@ -35,7 +35,7 @@ use std::sync::ledger::Ledger;
 /// The maximum number of bytes that `show` writes.
 const MAX_WIDTH: u64 = 4096;
 
-/// `text NAME BYTES`
+/// `text NAME BYTES` and `bytes NAME QUOTED`, which differ only in how the line has the bytes.
 pub fn text<P: Ledger>(
     session: &mut SessionState,
     number: u64,
@@ -50,6 +50,12 @@ pub fn text<P: Ledger>(
         (at session.new files faults looks pairs.new places)) }
     ensures stopped { (files : Option Files) (faults looks places : ℕ) → IfErr result
         (Stays (at session.old files faults looks pairs.old places) number (form.Text name content)
+        (at session.new files faults looks pairs.new places)) }
+    ensures quoted_done { (files : Option Files) (faults looks places : ℕ) → IfOk result
+        (Answers (at session.old files faults looks pairs.old places) number (form.QuotedText name content)
+        (at session.new files faults looks pairs.new places)) }
+    ensures quoted_stopped { (files : Option Files) (faults looks places : ℕ) → IfErr result
+        (Stays (at session.old files faults looks pairs.old places) number (form.QuotedText name content)
         (at session.new files faults looks pairs.new places)) }
 {
     let root = load(session.alloc, &mut session.store, content.bytes(), pairs)?;
