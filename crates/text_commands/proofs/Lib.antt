@@ -6,3 +6,4 @@ pub mod GivenLemmas
 pub mod Names
 pub mod ReadingLemmas
 pub mod Thinned
+pub mod WritingLemmas

@@ -19,9 +19,11 @@ mod files;
 mod loaders;
 mod reading;
 mod versions;
+mod writing;
 
 pub use compacting::compact;
 pub use documents::{drop_document, let_document, show, text, write_names};
 pub use files::{load_file, open_file, save_file};
 pub use loaders::{Loading, Method};
 pub use versions::{back, mark, unmark};
+pub use writing::write_file;
