@@ -3,4 +3,5 @@ pub use Rattle.query_commands.proofs.AllListingLemmas.{well_formed}
 pub use Rattle.session_state.proofs.BookLemmas.{covered-within}
 pub use Rattle.session_state.proofs.EndsLemmas.{answer_ends, is_answering, line_ends, quiet_done, stays_stopped, still_ends}
 pub use Rattle.session_state.proofs.Written.{passed}
+pub use Rattle.span_session.proofs.Lengths.{short_of}
 pub use Rattle.span_session.proofs.Sent.{each_err, line_done, line_stopped, no_shelf_wrote, quiet_never, refused_loud, shelf_never}

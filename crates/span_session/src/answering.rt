@@ -15,7 +15,7 @@ use std::sync::ledger::Ledger;
 use std::thread::Threads;
 use text_commands::{
     Loading, Method, back, compact, drop_document, let_document, load_file, mark, open_file,
-    save_file, show, text, unmark,
+    save_file, show, text, unmark, write_file,
 };
 use work_gate::Gate;
 
@@ -63,6 +63,8 @@ pub fn answer<R: Threads + Sync, F: Shelf, G: Gate, P: Ledger, T: Ledger, L: Led
                 pairs,
             )
         }
+        Command::QuotedText { name, bytes } => text(session, number, name, bytes, pairs),
+        Command::WriteFile { name, file } => write_file(session, number, name, file, shelf),
         Command::LetDoc { name, expr } => let_document(session, number, name, expr, pairs),
         Command::DropDoc { name } => drop_document(session, number, name),
         Command::Show { name, from, to } => show(session, number, name, from, to),

@@ -79,7 +79,7 @@ type Row = (
     Status,
 );
 
-const ROWS: [Row; 5] = [
+const ROWS: [Row; 6] = [
     (
         "f",
         b"\x22\x5c\x0a\xff",
@@ -92,6 +92,13 @@ const ROWS: [Row; 5] = [
         b"\x22\x5c\x0a\xff",
         "share d f\nshare e nofile\n",
         "ok d 4 \"\\\"\\\\\\x0a\\xff\"\nline 2: NoSuchFile nofile\n",
+        Status::SomeRefused,
+    ),
+    (
+        "f",
+        b"abcd",
+        "load d f\nlet d = concat(d,d)\nwrite d g\nload e g\nwrite d f\nshare d f\nwrite x g\n",
+        "ok d 4 \"abcd\"\nok d 8 \"abcdabcd\"\nok 8\nok e 8 \"abcdabcd\"\nok 8\nok d 8 \"abcdabcd\"\nline 7: NoSuchDocument x\n",
         Status::SomeRefused,
     ),
     (
@@ -348,11 +355,11 @@ fn each_call_of_a_shelf_fails(rt: HostRuntime) -> Result<(), Fail> {
 
 /// A script over a file store in which `closed` can't be read and `shut` can't be written.
 const CLOSED: &str =
-    "load d closed\nshare d closed\nopen closed\ntext d a\nsave shut\nsave open\nload e missing\nnames\n";
+    "load d closed\nshare d closed\nopen closed\ntext d a\nsave shut\nsave open\nload e missing\nnames\nwrite d shut\n";
 
 const CLOSED_OUTPUT: &str =
     "line 1: CannotRead closed\nline 2: CannotRead closed\nline 3: CannotRead closed\nok d 1 \"a\"\n\
-    line 5: CannotWrite shut\nok 1 1\nline 7: NoSuchFile missing\nd 1\nend\n";
+    line 5: CannotWrite shut\nok 1 1\nline 7: NoSuchFile missing\nd 1\nend\nline 9: CannotWrite shut\n";
 
 #[test]
 fn names_that_are_closed(rt: HostRuntime) -> Result<(), Fail> {

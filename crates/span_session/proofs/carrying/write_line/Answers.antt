@@ -1,6 +1,9 @@
 use Rattle.span_session.proofs.Names.{inl, inr, None, refl, Refused, rules, Some}
-use Rattle.span_session.proofs.Facts.{line_ends, no_shelf_wrote, refused_loud, still_ends, well_formed}
+use Rattle.span_session.proofs.Facts.{line_ends, no_shelf_wrote, refused_loud, short_of, still_ends, well_formed}
 use Rattle.span_session.proofs.carrying.write_line.Goals as goal
+
+pub carry-requires-clause-short : goal.carry-requires-clause-short
+carry-requires-clause-short g c = let given = short_of c.args.line.now c.in-Ok.command c.in-Ok.ensures.ok.short c.in-Ok.ensures.ok.form in search rules
 
 pub carry-requires-clause-well_formed : goal.carry-requires-clause-well_formed
 carry-requires-clause-well_formed g c = let given = well_formed c.args.line.now c.in-Ok.command c.in-Ok.ensures.ok.form in search rules
