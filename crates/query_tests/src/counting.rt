@@ -7,7 +7,7 @@ use node_store::Store;
 use pair_loader::load;
 use pair_memo::PairMemo;
 use path_counts::{Count, compose, of_byte};
-use span_types::{NoMemory, Span, Steps};
+use span_types::{NoMemory, Steps};
 use std::alloc::Global;
 use std::marker::Brand;
 use std::sync::ledger::{Blank, Ledger};
@@ -102,68 +102,6 @@ fn numbers_of_answers(rt: HostRuntime) -> Result<(), Fail> {
     for (formula, text, number) in ROWS {
         let found = counted::<Brand>(rt.alloc(), Blank::new(1), formula, text)?;
         assert!(rt; found.0 == number, "{number} {found:?}");
-    }
-    Ok(())
-}
-
-/// The first span of the answer at a position of the list, or none if there are fewer answers.
-fn placed<L: Ledger>(
-    alloc: Global,
-    blank: Blank,
-    formula: &[u8],
-    text: &[u8],
-    place: u64,
-) -> Result<Option<Span>, NoMemory>
-    requires name { blank.name ≡ L.name }
-    requires parts { blank.parts ≡ L.parts }
-    requires some { 0 < L.parts }
-    requires first { 1 ≤ place }
-    requires last { place ≤ 100 }
-{
-    if text.len() > 100 {
-        return Err(NoMemory);
-    }
-    let dfa = automaton_of(alloc, formula)?;
-    let mut steps = Steps::<L>::new(blank);
-    let mut store = Store::new(alloc);
-    let root = load(alloc, &mut store, text, &mut steps)?;
-    let mut counts = CountTables::new(alloc, &dfa)?;
-    counts.grow(alloc, &store, &dfa, &mut steps)?;
-    match counts.nth(alloc, &store, &dfa, root, place, &mut steps)? {
-        Some(tuple) => if tuple.count() == 0 {
-            Ok(None)
-        } else {
-            Ok(tuple.span(0))
-        },
-        None => Ok(None),
-    }
-}
-
-/// A formula, a text, a position of the list of answers, and the bounds of the first span of the answer there.
-const PLACES: [(&[u8], &[u8], u64, (u64, u64)); 12] = [
-    (b".*$x{a.}.*", b"abracadabra", 1, (1, 3)),
-    (b".*$x{a.}.*", b"abracadabra", 3, (6, 8)),
-    (b".*$x{a.}.*", b"abracadabra", 4, (8, 10)),
-    (b".*$x{a.}.*", b"abracadabra", 5, (0, 0)),
-    (b"b", b"abracadabra", 1, (0, 0)),
-    (b".*$x{.*}.*", b"abc", 1, (1, 1)),
-    (b".*$x{.*}.*", b"abc", 4, (1, 4)),
-    (b".*$x{.*}.*", b"abc", 5, (2, 2)),
-    (b".*$x{.*}.*", b"abc", 10, (4, 4)),
-    (b".*$x{.*}.*", b"abc", 11, (0, 0)),
-    (b".*$x{.*}.*", b"", 1, (1, 1)),
-    (b".*$x{.*}.*", b"", 2, (0, 0)),
-];
-
-#[test]
-fn answers_at_places(rt: HostRuntime) -> Result<(), Fail> {
-    for (formula, text, place, bounds) in PLACES {
-        let found = placed::<Brand>(rt.alloc(), Blank::new(1), formula, text, place)?;
-        let bounds_found = match found {
-            Some(span) => (span.start, span.end),
-            None => (0, 0),
-        };
-        assert!(rt; bounds_found == bounds, "{bounds:?} {found:?}");
     }
     Ok(())
 }
