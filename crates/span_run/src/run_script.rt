@@ -238,8 +238,8 @@ pub fn run<
         ≡ outside (K.written out.old) (F.files shelf.old) looks.old pairs.old places.old) }
 
     // What was written is a prefix of the whole output. A failure of the file store stops a line of the form `load`,
-    // `share`, `save` or `open` before any of its reply is written, and leaves the files unchanged. An allocation
-    // failure stops a `list` before any of its reply is written, unless the sink's allocation failed.
+    // `share`, `write`, `save` or `open` before any of its reply is written, and leaves the files unchanged. An
+    // allocation failure stops a `list` before any of its reply is written, unless the sink's allocation failed.
     ensures front { result ≡ Status.OutFault → OfScript (map string_bytes words.now) (S.left script.old)
         (λ bytes. RunsFront Anywhere (lines_of bytes)
         (outside (K.written out.old) (F.files shelf.old) looks.old pairs.old places.old)

@@ -69,8 +69,8 @@ impl Session {
     /// # Errors
     ///
     /// - `OutFault` only if the line has a reply and the sink failed in this call.
-    /// - `ShelfFault` only if the line is of the form `load`, `share`, `save` or `open`, and the file store failed in this
-    ///   call. Nothing of the reply is then written.
+    /// - `ShelfFault` only if the line is of the form `load`, `share`, `write`, `save` or `open`, and the file store
+    ///   failed in this call. Nothing of the reply is then written.
     /// - `NoMemory` if allocation fails.
     ///
     /// After an error the state is that before the line or that after it.

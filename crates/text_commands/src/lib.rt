@@ -6,9 +6,10 @@
 //! ```
 //!
 //! Each command is one function. A file is read in pieces of 65,536 bytes, so the memory that a load takes grows with
-//! the new nodes and not with the file. An expression costs the node constructions of its operations, as in M. L. Schmid
-//! and N. Schweikardt, *Query Evaluation over SLP-Represented Document Databases with Complex Document Editing*, PODS
-//! 2022.
+//! the new nodes and not with the file. `write` writes such pieces, so its memory doesn't grow with the text.
+//!
+//! An expression costs the node constructions of its operations, as in M. L. Schmid and N. Schweikardt, *Query
+//! Evaluation over SLP-Represented Document Databases with Complex Document Editing*, PODS 2022.
 //!
 //! Proved: What each of these commands replies, changes and costs. `compact` leaves only reachable nodes.
 #![tactic(auto)]
