@@ -7,9 +7,6 @@ use Rattle.lru.proofs.CallerLemmas.{Contains-lookup, Contains-put_entries}
 use Rattle.std.specs.Map.{lookup_entry}
 use Rattle.std.specs.Option.{is_some}
 use Rattle.std.proofs.lemmas.List.{take_all}
-use Rattle.std.proofs.lemmas.List.Elements.{All-weaker}
-use Rattle.std.proofs.lemmas.Option.{IfSome_then}
-use Rattle.pair_memo.specs.Front.{AreAmong}
 use Rattle.pair_memo.specs.Entries.{Entry}
 
 abbrev pub pair_eq : ℕ × ℕ → ℕ × ℕ → Bool
@@ -51,10 +48,6 @@ pub after-put : {A E : Type 0} (r : Result A E) (before after : LruCache (ℕ ×
     → (e : Entry) → Contains after.entries e → Contains before.entries e ⊎ (e ≡ (k, n))
 after-put (Ok v) before after k n ok err e h = put-entry before k n e (subst (λ c. Contains c.entries e) ok h)
 after-put (Err v) before after k n ok err e h = inl (subst (λ c. Contains c.entries e) err h)
-
--- more entries
-pub among-more : (places : List (Option Entry)) (es fs : List Entry) → ((e : Entry) → Contains es e → Contains fs e) → AreAmong places es → AreAmong places fs
-among-more places es fs more h = All-weaker (λ (p : Option Entry). IfSome p (Contains es)) (λ (p : Option Entry). IfSome p (Contains fs)) (λ p q. IfSome_then p q (λ x i. more x i)) places h
 
 no-entry : (test : ℕ × ℕ → Bool) (es : List Entry) → lookup test es ≡ None → lookup_entry test es ≡ None
 no-entry test [] h = refl

@@ -1,7 +1,7 @@
 -- What stays true while new nodes are assigned.
-use Rattle.std.proofs.Common.{◌≡◌, ◌≢◌, ◌⊎◌, inl, inr, ℕ, ◌+◌, ◌-◌, ◌<◌, ◌≤◌, nat_lt, refl, ap, sym, subst, ◌∙◌, arith, List, [], ◌∷◌, ◌++◌, length, map, set, take, get_or, Option, Some, None, IsSome, All, AllPairs, Contains, if◌then◌else◌}
-use Rattle.std.specs.Prelude.{slice_get, slice_set, slice_index, slice_index_or}
-use Rattle.std.proofs.lemmas.List.{get_or-set_same, get_or-set_other, length-set, get_or-map, length-map, get_or-append-add, length-append, take_more}
+use Rattle.std.proofs.Common.{◌≡◌, ◌≢◌, ◌⊎◌, inl, inr, ℕ, ◌+◌, ◌-◌, ◌<◌, ◌≤◌, refl, ap, sym, subst, ◌∙◌, arith, List, [], ◌∷◌, ◌++◌, length, set, take, get_or, Some, None, IsSome, All, AllPairs}
+use Rattle.std.specs.Prelude.{slice_get, slice_set, slice_index_or}
+use Rattle.std.proofs.lemmas.List.{get_or-set_same, get_or-set_other, length-set, length-append, take_more}
 use Rattle.std.proofs.lemmas.List.Elements.{All-push}
 use Rattle.std.proofs.Math.ListN.{get_or-append}
 use Rattle.std.proofs.lemmas.Bool.{lt-ltb, le-ltb, cases_lt, cases_eq}
@@ -9,15 +9,11 @@ use Rattle.std.proofs.Math.Seq.{get_or-append_seam}
 use Rattle.slp_model.specs.declared.NodeId.{NodeId}
 use Rattle.slp_model.specs.declared.Node.{Node}
 use Rattle.slp_model.specs.declared.Node.TheVariants.{Pair}
-use Rattle.slp_model.specs.Tree.{text}
-use Rattle.slp_model.specs.Nodes.{tree, IsSound}
 use Rattle.slp_model.proofs.NodesLemmas.{node-at}
-use Rattle.marker_dfa.specs.Deterministic.{DeterministicAutomaton, IsDeterministic, states_of}
-use Rattle.state_tables.specs.Table.{Row, compose_of}
-use Rattle.state_tables.specs.Meaning.{IsTable}
-use Rattle.state_tables.specs.Dictionary.{Dictionary, IsDictionary, AreTables, kept_of, distinct_of, count_of, number_of, table_of}
-use Rattle.table_grow.specs.Remembering.{Entry, IsTrueEntry, AreTrueEntries}
-use Rattle.table_grow.specs.Assignment.{Assignment, ChildrenPlaced, number_in, with_place, Fits, AllPlaced, number_of_place, finished, AreKept}
+use Rattle.state_tables.specs.Dictionary.{Dictionary, IsDictionary, kept_of, distinct_of, count_of, number_of}
+use Rattle.pair_memo.specs.Entries.{Entry}
+use Rattle.table_grow.specs.Remembering.{AreTrueEntries}
+use Rattle.table_grow.specs.Assignment.{Assignment, number_in, with_place, Fits, AreKept}
 use Rattle.table_grow.specs.Filling.{Assigns, AssignsOne, Continues, Filling, IsDue, IsFilledTo, IsNumberOf, IsReady, IsTableOfNode, assigned, filling_of}
 
 -- ---- more tables are kept

@@ -1,5 +1,5 @@
 -- The new nodes by height, and what the work on one height gives the next.
-use Rattle.std.proofs.Common.{◌≡◌, ◌≢◌, inl, inr, ℕ, ◌+◌, ◌<◌, ◌≤◌, ap, sym, subst, ◌∙◌, arith, List, [], ◌∷◌, ◌++◌, length, map, set, get_or, max, None, IsSome, All, AllPairs, Contains, replicate}
+use Rattle.std.proofs.Common.{◌≡◌, ◌≢◌, inl, inr, ℕ, ◌+◌, ◌<◌, ◌≤◌, ap, sym, subst, ◌∙◌, arith, List, [], ◌∷◌, ◌++◌, length, map, set, get_or, max, IsSome, Contains, replicate}
 use Rattle.std.specs.Prelude.{slice_set, slice_index_or}
 use Rattle.std.proofs.Math.Nat.{le-max_left, le-max_right}
 use Rattle.std.proofs.lemmas.Bool.{cases_lt, cases_eq}
@@ -14,7 +14,7 @@ use Rattle.slp_model.specs.Nodes.{tree}
 use Rattle.slp_model.specs.declared.Node.TheVariants.{Pair}
 use Rattle.slp_model.specs.Nodes.{IsSound}
 use Rattle.slp_model.proofs.NodesLemmas.{node-at}
-use Rattle.table_grow.specs.Filling.{AreDue, Assigns, Filling, IsDue, IsFilledTo, IsFilledUnder, assigned}
+use Rattle.table_grow.specs.Filling.{AreDue, Assigns, Filling, IsFilledTo, IsFilledUnder, assigned}
 use Rattle.table_grow.proofs.Growing.{same-nodes}
 use Rattle.table_grow.specs.Layers.{IsLayer, IsOfHeight, AreLayers}
 

@@ -1,4 +1,3 @@
-pub mod Remembered
 pub mod Growing
 pub mod Placed
 pub mod Layering

@@ -14,11 +14,12 @@ use Rattle.slp_model.specs.Nodes.{tree, IsSound}
 use Rattle.slp_model.proofs.NodesLemmas.{node-at}
 use Rattle.marker_dfa.specs.Deterministic.{DeterministicAutomaton, IsDeterministic, states_of}
 use Rattle.state_tables.specs.Table.{Row, compose_of}
-use Rattle.state_tables.specs.Dictionary.{AreTables, Dictionary, IsDictionary, count_of, distinct_of, kept_of, number_of, table_of}
+use Rattle.state_tables.specs.Dictionary.{AreTables, Dictionary, IsDictionary, count_of, kept_of, number_of, table_of}
 use Rattle.state_tables.proofs.Meanings.{IsTable-compose}
-use Rattle.table_grow.specs.Remembering.{AreTrueEntries, Entry, IsTrueEntry}
-use Rattle.table_grow.specs.Assignment.{AllPlaced, AreKept, Assignment, Fits, IsComposed, finished, number_in, number_of_place}
-use Rattle.table_grow.specs.Filling.{AreParts, Continues, Filling, IsFilledTo, IsNumberOf, IsReady, IsTableOfNode, Starts, assigned, filling_of}
+use Rattle.pair_memo.specs.Entries.{Entry}
+use Rattle.table_grow.specs.Remembering.{AreTrueEntries, IsTrueEntry}
+use Rattle.table_grow.specs.Assignment.{AllPlaced, Assignment, Fits, IsComposed, finished, number_in, number_of_place}
+use Rattle.table_grow.specs.Filling.{AreParts, Continues, Filling, IsNumberOf, IsReady, IsTableOfNode, Starts, filling_of}
 use Rattle.table_grow.specs.Pieces.{IsComposition}
 use Rattle.table_grow.proofs.Growing.{entries-same}
 

@@ -1,20 +1,19 @@
 -- Pieces: one more table that was computed, one more node, and two pieces joined.
-use Rattle.std.proofs.Common.{zero, suc, ◌≡◌, ◌≢◌, ℕ, ◌⊎◌, inl, inr, ◌+◌, ◌<◌, ◌≤◌, refl, ap, sym, subst, ◌∙◌, arith, List, [], ◌∷◌, ◌++◌, length, map, take, get_or, Option, Some, IfSome, All, AllPairs, Contains}
+use Rattle.std.proofs.Common.{zero, suc, ◌≡◌, ◌≢◌, ℕ, ◌⊎◌, inl, inr, ◌+◌, ◌<◌, refl, ap, sym, subst, ◌∙◌, arith, List, [], ◌∷◌, ◌++◌, length, map, take, get_or, Option, Some, IfSome, All, AllPairs, Contains}
 use Rattle.std.proofs.lemmas.List.{get_or-take, length-take-le}
 use Rattle.std.proofs.lemmas.List.Elements.{Contains-append_left, Contains-push, Contains-push_cases}
 use Rattle.std.specs.Prelude.{slice_get}
 use Rattle.std.proofs.lemmas.Option.{slice_get_within, IfSome_then}
 use Rattle.slp_model.specs.declared.NodeId.{NodeId}
-use Rattle.state_tables.specs.Table.{compose_of}
 use Rattle.state_tables.specs.Dictionary.{Dictionary, distinct_of, kept_of}
 use Rattle.table_grow.specs.Assignment.{AreKept}
-use Rattle.table_grow.specs.Cache.{AreAmong}
+use Rattle.pair_memo.specs.Cache.{AreAmong}
 use Rattle.table_grow.specs.Filling.{AreDue, AreParts, Assigns, Filling, IsDue, IsNumberOf, IsReady, IsTableOfNode}
 use Rattle.table_grow.specs.Pieces.{AreMade, AreNumbers, AreOwn, AreSpots, Extends, HasNumber, IsAdded, IsComposition, IsMade, IsPiece, IsSpot, IsWithin, StandAmong, number_at, shifted}
-use Rattle.table_grow.specs.Remembering.{Entry}
+use Rattle.pair_memo.specs.Entries.{Entry}
 use Rattle.table_grow.proofs.Growing.{continues-kept, number-kept-in, same-nodes}
 use Rattle.table_grow.proofs.Placed.{parts-table}
-use Rattle.table_grow.proofs.Remembered.{among-more}
+use Rattle.pair_memo.proofs.CallerLemmas.{among-more}
 use Rattle.table_grow.specs.declared.found.Made.{Made}
 use Rattle.table_grow.specs.declared.pieces.Piece.{Piece}
 use Rattle.table_grow.specs.declared.pieces.Spot.{Spot}

@@ -1,16 +1,17 @@
 -- What a contract sees of a `Filling`, and what holds while the tables of new nodes are computed.
-use Rattle.std.specs.Prelude.{◌≡◌, ◌≢◌, ℕ, ◌<◌, ◌≤◌, List, length, Option, Some, None, IsSome, IfSome, All, AllPairs, slice_get, slice_index_or}
+use Rattle.std.specs.Prelude.{◌≡◌, ◌≢◌, ℕ, ◌<◌, ◌≤◌, List, length, Option, Some, None, IsSome, All, AllPairs, slice_get}
 use Rattle.slp_model.specs.declared.NodeId.{NodeId}
 use Rattle.slp_model.specs.declared.Node.{Node}
 use Rattle.slp_model.specs.declared.Node.TheVariants.{Pair}
 use Rattle.slp_model.specs.Tree.{text, height}
 use Rattle.slp_model.specs.Nodes.{tree, IsSound}
 use Rattle.marker_dfa.specs.Deterministic.{DeterministicAutomaton, IsDeterministic, states_of}
-use Rattle.state_tables.specs.Table.{Row, compose_of}
+use Rattle.state_tables.specs.Table.{Row}
 use Rattle.state_tables.specs.Meaning.{IsTable}
-use Rattle.state_tables.specs.Dictionary.{AreTables, Dictionary, count_of, distinct_of, kept_of}
+use Rattle.state_tables.specs.Dictionary.{Dictionary, count_of, distinct_of, kept_of}
 use Rattle.table_grow.specs.Assignment.{AreKept, Assignment, ChildrenPlaced, Fits, HasTrueTable, number_in}
-use Rattle.table_grow.specs.Remembering.{AreTrueEntries, Entry}
+use Rattle.pair_memo.specs.Entries.{Entry}
+use Rattle.table_grow.specs.Remembering.{AreTrueEntries}
 
 -- an automaton, nodes, their tables, which new nodes are assigned, and cached compositions
 pub record Filling : Type 0 where

@@ -1,5 +1,4 @@
 pub mod Remembering
-pub mod Cache
 pub mod Assignment
 pub mod FillerView
 pub mod Filling

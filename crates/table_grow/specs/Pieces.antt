@@ -3,9 +3,9 @@ use Rattle.std.specs.Prelude.{◌≡◌, ℕ, ◌+◌, ◌<◌, List, [], ◌∷
 use Rattle.slp_model.specs.declared.NodeId.{NodeId}
 use Rattle.state_tables.specs.Table.{Row, compose_of}
 use Rattle.state_tables.specs.Dictionary.{Dictionary, distinct_of, kept_of}
-use Rattle.table_grow.specs.Cache.{AreAmong}
+use Rattle.pair_memo.specs.Cache.{AreAmong}
 use Rattle.table_grow.specs.Filling.{Filling, IsNumberOf, IsTableOfNode}
-use Rattle.table_grow.specs.Remembering.{Entry}
+use Rattle.pair_memo.specs.Entries.{Entry}
 use Rattle.table_grow.specs.declared.found.Found.{Found}
 use Rattle.table_grow.specs.declared.found.Found.TheVariants as found
 use Rattle.table_grow.specs.declared.found.Made.{Made}

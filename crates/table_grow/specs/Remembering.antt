@@ -1,10 +1,8 @@
 -- Cached compositions: two kept tables by their numbers, and the number of their composition.
-use Rattle.std.specs.Prelude.{◌≡◌, ℕ, ◌<◌, List, Contains}
+use Rattle.std.specs.Prelude.{◌≡◌, ◌<◌, List, Contains}
+use Rattle.pair_memo.specs.Entries.{Entry}
 use Rattle.state_tables.specs.Table.{compose_of}
 use Rattle.state_tables.specs.Dictionary.{Dictionary, distinct_of, kept_of}
-
-abbrev pub Entry : Type 0
-Entry = (ℕ × ℕ) × ℕ
 
 -- the kept table of the third number is the composition of the kept tables of the first two
 pub record IsTrueEntry (d : Dictionary) (e : Entry) : Type 0 where

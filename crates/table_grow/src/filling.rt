@@ -9,9 +9,9 @@ ghost use Rattle.table_grow.specs.Pieces.{IsMade};
 
 use crate::filler::Filler;
 use crate::found::Made;
-use crate::memory::Memory;
 use marker_dfa::Dfa;
 use node_store::{Node, NodeId, Store};
+use pair_memo::PairMemo;
 use span_types::{NoMemory, Steps};
 use state_tables::Tables;
 use std::alloc::Global;
@@ -33,7 +33,7 @@ pub(crate) struct Finder<'a> {
     pub(crate) growth: Growth<'a>,
     pub(crate) filler: &'a Filler,
     pub(crate) tables: &'a Tables,
-    pub(crate) memory: &'a Memory,
+    pub(crate) memory: &'a PairMemo,
 }
 
 impl<'a> Model for Finder<'a> {
@@ -92,7 +92,7 @@ impl<'a> Finder<'a> {
     pub(crate) fn recall(&self, left: usize, right: usize) -> Option<usize>
         ensures { IfSome result (λ n. IsTrueEntry self.now.tables ((left, right), n)) }
     {
-        self.memory.recall(left, right)
+        self.memory.peek(left, right)
     }
 }
 
@@ -103,7 +103,7 @@ pub(crate) struct Filling<'a> {
     pub(crate) growth: Growth<'a>,
     filler: Filler,
     tables: Tables,
-    memory: Memory,
+    memory: PairMemo,
 }
 
 impl<'a> Model for Filling<'a> {
@@ -119,7 +119,7 @@ impl<'a> Model for Filling<'a> {
 // Keeps a table that was computed, caches the composition if `caches`, and returns the table's number.
 fn keep_one(
     tables: &mut Tables,
-    memory: &mut Memory,
+    memory: &mut PairMemo,
     one: Made,
     caches: bool,
 ) -> Result<usize, NoMemory>
@@ -132,7 +132,7 @@ fn keep_one(
     let Made { parts, table } = one;
     let number = tables.keep(table)?;
     match parts {
-        Some((left, right)) if caches => memory.remember(left, right, number),
+        Some((left, right)) if caches => memory.note(left, right, number),
         _ => {}
     }
     Ok(number)
@@ -149,7 +149,7 @@ impl<'a> Filling<'a> {
     pub(crate) fn open(
         growth: Growth<'a>,
         tables: &mut Tables,
-        memory: &mut Memory,
+        memory: &mut PairMemo,
     ) -> Result<Filling<'a>, NoMemory>
         requires covered { count_of tables.old ≤ length growth.store.now }
         requires states { tables.old.states ≡ states_of growth.dfa.now }
@@ -162,7 +162,7 @@ impl<'a> Filling<'a> {
         let _ = growth.dfa.states();
         let _ = growth.store.count();
         let filler = Filler::new(growth.alloc, tables, growth.store)?;
-        let spare = Memory::new(growth.alloc, 1)?;
+        let spare = PairMemo::new(growth.alloc, 1)?;
         let empty = Tables::new(growth.alloc, growth.dfa);
         Ok(Filling {
             growth,
@@ -177,7 +177,7 @@ impl<'a> Filling<'a> {
         self,
         done: Result<(), NoMemory>,
         tables: &mut Tables,
-        memory: &mut Memory,
+        memory: &mut PairMemo,
         places: &mut Steps<L>,
     ) -> Result<(), NoMemory>
         requires filled { OnOk done (IsFilled self) }
@@ -247,7 +247,7 @@ impl<'a> Filling<'a> {
         ensures same { self.new ≡ self.old }
     {
         let (left, right) = parts?;
-        self.memory.recall_again(left, right)
+        self.memory.find(left, right)
     }
 
     /// Keeps a table that was computed, caches the composition if `caches`, and returns the table's number.

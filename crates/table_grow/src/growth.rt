@@ -9,11 +9,11 @@ ghost use Rattle.table_grow.specs.Remembering.{AreTrueEntries};
 use crate::filling::{Filling, Growth};
 use crate::found::find;
 use crate::layers::{HEIGHTS, Layers};
-use crate::memory::Memory;
 use crate::pieces::in_pieces;
 use crate::place::{place_found, place_piece};
 use marker_dfa::Dfa;
 use node_store::{NodeId, Store};
+use pair_memo::PairMemo;
 use span_types::{NoMemory, Steps};
 use state_tables::Tables;
 use std::alloc::Global;
@@ -220,7 +220,7 @@ pub fn grow<R: Threads + Sync, G: Gate, L: Ledger>(
     tables: &mut Tables,
     store: &Store,
     dfa: &Dfa,
-    memory: &mut Memory,
+    memory: &mut PairMemo,
     workers: u8,
     gate: &G,
     places: &mut Steps<L>,

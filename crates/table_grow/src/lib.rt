@@ -32,12 +32,12 @@ mod filling;
 pub mod found;
 pub mod growth;
 mod layers;
-pub mod memory;
 mod pieces;
 mod place;
 pub mod schedule;
 
 pub use filler::Filler;
 pub use growth::grow;
-pub use memory::Memory;
+/// A cache of compositions: for two kept tables, by their numbers, the number of their composition.
+pub use pair_memo::PairMemo as Memory;
 pub use schedule::fill;

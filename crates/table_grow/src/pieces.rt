@@ -7,8 +7,8 @@ ghost use Rattle.table_grow.specs.Pieces.{AreMade, AreOwn, Extends, IsAdded, IsP
 
 use crate::filling::{Finder, Growth};
 use crate::found::Made;
-use crate::memory::{Cache, cached, write_to_cache};
 use node_store::NodeId;
+use pair_memo::PairCache;
 use span_types::NoMemory;
 use std::thread::Threads;
 use work_gate::{Gate, halves};
@@ -48,15 +48,15 @@ fn push_computed(
 // Where the table of the node is. It is computed only if neither the cache nor the piece has it.
 fn spot_of(
     finder: &Finder,
-    own: &mut Cache,
+    own: &mut PairCache,
     made: &mut Vec<Made>,
     id: NodeId,
 ) -> Result<Spot, NoMemory>
     requires due { IsDue finder.now id }
     requires made { AreMade finder.now.tables made.old.items }
-    requires own { AreOwn own.old.items made.old.items }
+    requires own { AreOwn own.old made.old.items }
     ensures made { IfOk result (λ _. AreMade finder.now.tables made.new.items) }
-    ensures own { IfOk result (λ _. AreOwn own.new.items made.new.items) }
+    ensures own { IfOk result (λ _. AreOwn own.new made.new.items) }
     ensures kept { IfOk result (λ _. Extends made.old.items made.new.items) }
     ensures spot { IfOk result (IsSpot finder.now made.new.items id) }
 {
@@ -67,11 +67,11 @@ fn spot_of(
             if let Some(number) = finder.recall(left, right) {
                 return Ok(Spot::Kept(number));
             }
-            if let Some(index) = cached(own, left, right) {
+            if let Some(index) = own.find(left, right) {
                 return Ok(Spot::Made(index));
             }
             let index = push_computed(finder, made, id, parts)?;
-            write_to_cache(own, index, left, right, index);
+            own.note(left, right, index, index);
             Ok(Spot::Made(index))
         }
     }
@@ -83,7 +83,7 @@ fn one_piece<G: Gate>(finder: &Finder, gate: &G, ids: &[NodeId]) -> Result<Piece
     ensures { IfOk result (IsPiece finder.now ids.now) }
 {
     let alloc = finder.alloc();
-    let mut own = Vec::new(alloc);
+    let mut own = PairCache::new(alloc);
     let mut made = Vec::new(alloc);
     let mut spots = Vec::with_capacity(alloc, ids.len())?;
     for id in ids {

@@ -8,10 +8,10 @@ ghost use Rattle.table_grow.specs.Schedule.{IsSchedule};
 
 use crate::filling::{Filling, Growth};
 use crate::found::find;
-use crate::memory::Memory;
 use crate::place::place_found;
 use marker_dfa::Dfa;
 use node_store::{NodeId, Store};
+use pair_memo::PairMemo;
 use span_types::{NoMemory, Steps};
 use state_tables::Tables;
 use std::alloc::Global;
@@ -60,7 +60,7 @@ pub fn fill<L: Ledger>(
     ensures steps_err { OnErr result (places.new ≡ places.old) }
 {
     let _ = tables.count();
-    let mut memory = Memory::new(alloc, CACHED)?;
+    let mut memory = PairMemo::new(alloc, CACHED)?;
     let mut filling = Filling::open(Growth { alloc, store, dfa }, tables, &mut memory)?;
     let done = fill_new(&mut filling, schedule);
     filling.close(done, tables, &mut memory, places)

@@ -2,7 +2,8 @@ use Rattle.std.proofs.Common.{◌≡◌, ◌<◌, ◌≤◌, ◌⊎◌, inl, inr
 use Rattle.state_tables.specs.Table.{Row}
 use Rattle.state_tables.specs.Dictionary.{Dictionary, distinct_of, kept_of}
 use Rattle.table_grow.specs.Pieces.{IsComposition}
-use Rattle.table_grow.specs.Remembering.{AreTrueEntries, Entry, IsTrueEntry}
+use Rattle.pair_memo.specs.Entries.{Entry}
+use Rattle.table_grow.specs.Remembering.{AreTrueEntries, IsTrueEntry}
 use Rattle.table_grow.proofs.Growing.{entries-kept}
 use Rattle.table_grow.proofs.filling.keep_one.Goals as goal
 
@@ -25,8 +26,8 @@ returns-in-Some-clause-entries c =
     let made : IfSome (Some (c.in-Some.left, c.in-Some.right)) (IsComposition c.args.tables.now c.args.one.table) =
     subst (λ (o : Option (ℕ × ℕ)). IfSome o (IsComposition c.args.tables.now c.args.one.table)) c.in-Some.is c.requires.made.composed in
     let number = c.in_ok-number.ensures.number in
-    entries-more c.args.tables.now c.keep.new.self c.args.memory.now c.remember.new.self (c.in-Some.left, c.in-Some.right) c.in_ok-number.number c.args.one.table
-    c.keep.ensures.kept c.keep.ensures.more c.requires.entries made number.0 number.1 c.remember.ensures
+    entries-more c.args.tables.now c.keep.new.self c.args.memory.now c.note.new.self (c.in-Some.left, c.in-Some.right) c.in_ok-number.number c.args.one.table
+    c.keep.ensures.kept c.keep.ensures.more c.requires.entries made number.0 number.1 c.note.ensures
 
 pub returns-else-caches-clause-entries : goal.returns-else-caches-clause-entries
 returns-else-caches-clause-entries c = entries-kept c.args.tables.now c.keep.new.self c.args.memory.now c.keep.ensures.kept c.keep.ensures.more c.requires.entries

@@ -1,9 +1,6 @@
-use Rattle.std.proofs.Common.{◌≡◌, ◌∙◌, List, ap, sym, subst}
-use Rattle.slp_model.specs.declared.Node.{Node}
-use Rattle.slp_model.specs.Nodes.{IsSound}
-use Rattle.table_grow.specs.Layers.{AreLayers, IsLayer}
+use Rattle.table_grow.specs.Layers.{IsLayer}
 use Rattle.table_grow.proofs.Growing.{continues-refl, continues-trans, same-nodes}
-use Rattle.table_grow.proofs.Layering.{due-layer, under-first, under-last, under-next}
+use Rattle.table_grow.proofs.Layering.{due-layer, under-first, under-next}
 use Rattle.table_grow.proofs.growth.by_height.Goals as goal
 
 pub loop-height-init : goal.loop-height-init

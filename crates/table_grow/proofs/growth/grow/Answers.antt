@@ -1,6 +1,5 @@
-use Rattle.std.proofs.Common.{◌≡◌, ◌+◌, ◌-◌, ◌<◌, ◌∙◌, ℕ, List, [], length, ap, subst, sym, OnErr, OnOk}
+use Rattle.std.proofs.Common.{◌≡◌, ◌<◌, ◌∙◌, ℕ, List, length, ap, subst, sym, OnErr, OnOk}
 use Rattle.state_tables.specs.Dictionary.{AreTables, Dictionary, count_of}
-use Rattle.table_grow.specs.Filling.{IsFilledTo}
 use Rattle.table_grow.specs.Remembering.{AreTrueEntries}
 use Rattle.table_grow.proofs.Growing.{entries-same}
 use Rattle.table_grow.proofs.Placed.{Since, since-start}

@@ -1,7 +1,7 @@
 use Rattle.std.proofs.Common.{sym, subst, List}
 use Rattle.table_grow.specs.Pieces.{AreNumbers, AreSpots, HasNumber, IsSpot}
 use Rattle.table_grow.specs.declared.pieces.Spot.{Spot}
-use Rattle.table_grow.proofs.Growing.{assigns-after, due-kept}
+use Rattle.table_grow.proofs.Growing.{due-kept}
 use Rattle.table_grow.proofs.Spots.{spot-number, spots-kept}
 use Rattle.table_grow.proofs.place.place_piece.Goals as goal
 

@@ -1,6 +1,5 @@
-use Rattle.std.proofs.Common.{◌≡◌, ◌+◌, ◌-◌, ◌<◌, ◌∙◌, ℕ, List, [], length, subst, sym, OnErr, OnOk}
+use Rattle.std.proofs.Common.{◌≡◌, ◌<◌, ◌∙◌, ℕ, List, length, subst, sym, OnErr, OnOk}
 use Rattle.state_tables.specs.Dictionary.{AreTables, count_of}
-use Rattle.table_grow.specs.Filling.{IsFilledTo}
 use Rattle.table_grow.proofs.Placed.{Since, since-start}
 use Rattle.table_grow.proofs.schedule.fill.Goals as goal
 use Rattle.table_grow.proofs.schedule.fill.Goals.{After-drop-memory-inside-3}

@@ -1,6 +1,6 @@
 use Rattle.std.proofs.Common.{sym, subst}
 use Rattle.table_grow.specs.Filling.{Filling, IsDue, IsNumberOf, filling_of}
-use Rattle.table_grow.proofs.Growing.{assigns-one, ready-assigned}
+use Rattle.table_grow.proofs.Growing.{ready-assigned}
 use Rattle.table_grow.proofs.filling.Filling.assign.Goals as goal
 
 pub place_kept-requires-clause-children : goal.place_kept-requires-clause-children

@@ -1,7 +1,4 @@
-use Rattle.std.proofs.Common.{◌≡◌, ◌≤◌, ◌∙◌, ap, refl, sym, subst, arith}
-use Rattle.state_tables.specs.Dictionary.{Dictionary, count_of}
-use Rattle.table_grow.proofs.Growing.{old-some}
-use Rattle.table_grow.proofs.Placed.{filled-new, ready-new}
+use Rattle.table_grow.proofs.Placed.{ready-new}
 use Rattle.table_grow.proofs.filling.Filling.open.Goals as goal
 
 pub invariant_of-result : goal.invariant_of-result

@@ -1,0 +1,80 @@
+//! A direct-mapped cache of numbers under pairs of numbers.
+ghost use Rattle.std.specs.Prelude.{◌≡◌, [], List, IfSome, Contains};
+ghost use Rattle.pair_memo.specs.Cache.{AreAmong};
+ghost use Rattle.pair_memo.specs.Entries.{Entry};
+
+use std::alloc::Global;
+use std::marker::Model;
+
+// The number of slots. They take 128 KB.
+const SLOTS: usize = 4096;
+
+// The number of entries from which the slots pay.
+const PAYS_FROM: usize = 64;
+
+/// Some entries, each in the slot of its pair, so that a lookup is one comparison. A new entry replaces the one in its
+/// slot. It has 4,096 slots once it has an entry. Contracts see it as the list of its slots.
+#[derive(Drop)]
+pub struct PairCache {
+    slots: Vec<Option<((usize, usize), usize)>>,
+}
+
+impl Model for PairCache {
+    ghost use Rattle.std.specs.Prelude.{List, Option};
+    ghost use Rattle.pair_memo.specs.Entries.{Entry};
+
+    ghost Value = { List (Option Entry) };
+
+    ghost view = { λ c. c.slots.items };
+}
+
+impl PairCache {
+    /// A cache without entries. Nothing is allocated.
+    pub fn new(alloc: Global) -> PairCache
+        ensures { result ≡ [] }
+    {
+        PairCache {
+            slots: Vec::new(alloc),
+        }
+    }
+
+    /// The number of the pair, if it is in its slot.
+    #[inline(always)]
+    pub fn find(&self, left: usize, right: usize) -> Option<usize>
+        ensures { IfSome result (λ number. (es : List Entry) → AreAmong self.now es → Contains es ((left, right), number)) }
+    {
+        let ((first, second), number) = (*self.slots.get(slot_of(left, right))?)?;
+        if first == left && second == right {
+            Some(number)
+        } else {
+            None
+        }
+    }
+
+    /// Writes an entry to its slot, if memory allows. Until `count`, the number of entries that its user has, is 64, the
+    /// cache stays empty: it wouldn't pay.
+    pub fn note(&mut self, left: usize, right: usize, number: usize, count: usize)
+        ensures { (es : List Entry) → Contains es ((left, right), number) → AreAmong self.old es → AreAmong self.new es }
+    {
+        if self.slots.is_empty() && (count < PAYS_FROM || self.slots.resize(SLOTS, None).is_err()) {
+            return;
+        }
+        if let Some(slot) = self.slots.get_mut(slot_of(left, right)) {
+            *slot = Some(((left, right), number));
+        }
+    }
+
+    /// Removes all entries. Allocates nothing.
+    pub fn forget(&mut self)
+        ensures { self.new ≡ [] }
+    {
+        self.slots.clear();
+    }
+}
+
+// The slot of a pair, by a multiplicative hash of its numbers (D. E. Knuth, The Art of Computer Programming, volume 3,
+// section 6.4).
+fn slot_of(left: usize, right: usize) -> usize {
+    let mixed = left.wrapping_mul(0x9E37_79B9_7F4A_7C15).wrapping_add(right);
+    mixed.wrapping_mul(0x9E37_79B9_7F4A_7C15) >> 52
+}
