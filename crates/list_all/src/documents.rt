@@ -20,6 +20,13 @@ use std::alloc::Global;
 use std::thread::Threads;
 use work_gate::{Gate, halves};
 
+/// The roots of consecutive documents, and the index of the first.
+#[derive(Clone, Copy)]
+struct RootRange<'a> {
+    roots: &'a [Option<NodeId>],
+    first: usize,
+}
+
 /// The roots of `count` documents, from index `first` on.
 fn roots_of(
     alloc: Global,
@@ -39,23 +46,22 @@ fn roots_of(
     Ok(roots)
 }
 
-/// Finds the pages of the roots in order, on this thread. Equal roots share one page. The first root has index `at`.
+/// Finds the pages of the documents in order, on this thread. Equal roots share one page.
 fn one_piece<F: FindPage, G: Gate>(
     alloc: Global,
     finder: &F,
-    roots: &[Option<NodeId>],
-    at: usize,
+    documents: RootRange<'_>,
     gate: &G,
 ) -> Result<Shared, NoMemory>
-    requires can { All (F.can_find finder.now) roots.now }
-    requires places { at + length roots.now < 2 ^ 64 }
-    ensures { IfOk result (λ pages. HaveEach (F.is_page finder.now) pages.found.items roots.now pages.places.items) }
+    requires can { All (F.can_find finder.now) documents.roots.now }
+    requires places { documents.first + length documents.roots.now < 2 ^ 64 }
+    ensures { IfOk result (λ pages. HaveEach (F.is_page finder.now) pages.found.items documents.entry.roots.now pages.places.items) }
 {
     let mut seen = IndexSet::new(alloc);
     let mut found = Vec::new(alloc);
-    let mut places = Vec::with_capacity(alloc, roots.len())?;
-    for (index, root) in roots.iter().enumerate() {
-        gate.pass(at + index);
+    let mut places = Vec::with_capacity(alloc, documents.roots.len())?;
+    for (index, root) in documents.roots.iter().enumerate() {
+        gate.pass(documents.first + index);
         let place = place_of(alloc, finder, &mut seen, &mut found, *root)?;
         places.push(place)?;
     }
@@ -67,19 +73,19 @@ fn in_pieces<R: Threads + Sync, F: FindPage, G: Gate>(
     rt: &R,
     alloc: Global,
     finder: &F,
-    roots: &[Option<NodeId>],
-    at: usize,
+    documents: RootRange<'_>,
     workers: u8,
     gate: &G,
 ) -> Result<Shared, NoMemory>
-    requires can { All (F.can_find finder.now) roots.now }
-    requires places { at + length roots.now < 2 ^ 64 }
-    ensures { IfOk result (λ pages. HaveEach (F.is_page finder.now) pages.found.items roots.now pages.places.items) }
+    requires can { All (F.can_find finder.now) documents.roots.now }
+    requires places { documents.first + length documents.roots.now < 2 ^ 64 }
+    ensures { IfOk result (λ pages. HaveEach (F.is_page finder.now) pages.found.items documents.entry.roots.now pages.places.items) }
 {
-    if workers <= 1 || roots.len() <= 1 {
-        return one_piece(alloc, finder, roots, at, gate);
+    if workers <= 1 || documents.roots.len() <= 1 {
+        return one_piece(alloc, finder, documents, gate);
     }
-    let (left, right) = roots.split_at(roots.len() / 2);
+    let at = documents.first;
+    let (left, right) = documents.roots.split_at(documents.roots.len() / 2);
     let middle = at + left.len();
     let (first, second) = halves(
         rt,
@@ -88,22 +94,24 @@ fn in_pieces<R: Threads + Sync, F: FindPage, G: Gate>(
             requires can { All (F.can_find finder.now) left.now }
             requires places { at + length left.now < 2 ^ 64 }
             ensures pages { IfOk result (λ pages. HaveEach (F.is_page finder.entry.now) pages.found.items left.entry.now pages.places.items) }
-        { in_pieces(rt, alloc, finder, left, at, workers / 2, gate) },
+        {
+            let first_half = RootRange {
+                roots: left,
+                first: at,
+            };
+            in_pieces(rt, alloc, finder, first_half, workers / 2, gate)
+        },
         || -> Result<Shared, NoMemory>
             requires sync { IsSync R.row × IsSync F.row × IsSync G.row }
             requires can { All (F.can_find finder.now) right.now }
             requires places { middle + length right.now < 2 ^ 64 }
             ensures pages { IfOk result (λ pages. HaveEach (F.is_page finder.entry.now) pages.found.items right.entry.now pages.places.items) }
         {
-            in_pieces(
-                rt,
-                alloc,
-                finder,
-                right,
-                middle,
-                workers - workers / 2,
-                gate,
-            )
+            let second_half = RootRange {
+                roots: right,
+                first: middle,
+            };
+            in_pieces(rt, alloc, finder, second_half, workers - workers / 2, gate)
         },
     );
     joined(first?, second?)
@@ -131,24 +139,23 @@ fn last_cost(found: &[OnePage]) -> usize {
 fn first_piece<F: FindPage, G: Gate>(
     alloc: Global,
     finder: &F,
-    roots: &[Option<NodeId>],
-    at: usize,
+    documents: RootRange<'_>,
     gate: &G,
 ) -> Result<Shared, NoMemory>
-    requires can { All (F.can_find finder.now) roots.now }
-    requires places { at + length roots.now < 2 ^ 64 }
-    ensures pages { IfOk result (λ pages. HaveEach (F.is_page finder.now) pages.found.items (take (length pages.places.items) roots.now) pages.places.items) }
-    ensures few { IfOk result (λ pages. length pages.places.items ≤ length roots.now) }
+    requires can { All (F.can_find finder.now) documents.roots.now }
+    requires places { documents.first + length documents.roots.now < 2 ^ 64 }
+    ensures pages { IfOk result (λ pages. HaveEach (F.is_page finder.now) pages.found.items (take (length pages.places.items) documents.entry.roots.now) pages.places.items) }
+    ensures few { IfOk result (λ pages. length pages.places.items ≤ length documents.entry.roots.now) }
 {
     let mut seen = IndexSet::new(alloc);
     let mut found = Vec::new(alloc);
     let mut places = Vec::new(alloc);
     let mut cost: usize = 0;
-    for (index, root) in roots.iter().enumerate() {
+    for (index, root) in documents.roots.iter().enumerate() {
         if cost >= ANSWERS_OF_THREAD {
             return Ok(Shared { found, places });
         }
-        gate.pass(at + index);
+        gate.pass(documents.first + index);
         let before = found.len();
         let place = place_of(alloc, finder, &mut seen, &mut found, *root)?;
         places.push(place)?;
@@ -170,22 +177,25 @@ fn in_worthy_pieces<R: Threads + Sync, F: FindPage, G: Gate>(
     rt: &R,
     alloc: Global,
     finder: &F,
-    roots: &[Option<NodeId>],
-    at: usize,
+    documents: RootRange<'_>,
     workers: u8,
     gate: &G,
 ) -> Result<Shared, NoMemory>
-    requires can { All (F.can_find finder.now) roots.now }
-    requires places { at + length roots.now < 2 ^ 64 }
-    ensures { IfOk result (λ pages. HaveEach (F.is_page finder.now) pages.found.items roots.now pages.places.items) }
+    requires can { All (F.can_find finder.now) documents.roots.now }
+    requires places { documents.first + length documents.roots.now < 2 ^ 64 }
+    ensures { IfOk result (λ pages. HaveEach (F.is_page finder.now) pages.found.items documents.entry.roots.now pages.places.items) }
 {
-    if workers <= 1 || roots.len() <= FEWEST {
-        return in_pieces(rt, alloc, finder, roots, at, workers, gate);
+    if workers <= 1 || documents.roots.len() <= FEWEST {
+        return in_pieces(rt, alloc, finder, documents, workers, gate);
     }
-    let first = first_piece(alloc, finder, roots, at, gate)?;
-    let (front, rest) = roots.split_at(first.places.len());
-    let pieces = pieces_of(&first.found, rest.len(), workers);
-    let second = in_pieces(rt, alloc, finder, rest, at + front.len(), pieces, gate)?;
+    let first = first_piece(alloc, finder, documents, gate)?;
+    let (front, roots) = documents.roots.split_at(first.places.len());
+    let pieces = pieces_of(&first.found, roots.len(), workers);
+    let rest = RootRange {
+        roots,
+        first: documents.first + front.len(),
+    };
+    let second = in_pieces(rt, alloc, finder, rest, pieces, gate)?;
     joined(first, second)
 }
 
@@ -227,6 +237,10 @@ pub fn pages<R: Threads + Sync, G: Gate>(
     let _all = docs.count();
     let roots = roots_of(alloc, docs, first, count)?;
     let finder = Finder { view, dfa, limit };
-    let shared = in_worthy_pieces(rt, alloc, &finder, &roots, first, workers, gate)?;
+    let documents = RootRange {
+        roots: &roots,
+        first,
+    };
+    let shared = in_worthy_pieces(rt, alloc, &finder, documents, workers, gate)?;
     Ok(Pages { shared })
 }

@@ -11,29 +11,36 @@ use marker_dfa::Dfa;
 use marker_nfa::{Edge, End};
 use span_types::NoMemory;
 
-/// Appends the step of a state by a mark and the bytes of a class to a list, if there is one.
+/// A copy of an operand's automaton. `places` has for each variable of the operation its index in the operand, if it is
+/// there. `base` is the number of the copy's first state.
+#[derive(Clone, Copy)]
+pub struct OperandCopy<'a> {
+    pub dfa: &'a Dfa,
+    pub places: &'a [Option<u8>],
+    pub base: u16,
+}
+
+/// Appends the step of a state by a mark and the bytes of a class to a list, if there is one, as an edge from `from`.
 fn push_edge(
-    dfa: &Dfa,
-    places: &[Option<u8>],
+    copy: OperandCopy<'_>,
     from: u16,
-    base: u16,
     state: u8,
     class: &Class,
     mark: u16,
     edges: &mut Vec<Edge>,
 ) -> Result<(), NoMemory>
-    requires few { length places.now ≤ 8 }
-    requires places { ArePlaces places.now }
-    requires base { base ≤ 1000 }
-    requires state { state < states_of dfa.now }
-    ensures { IfOk result (λ _. Adds edges.old.items edges.new.items (IsEdgeBy dfa.now places.now from base state class.now mark)) }
+    requires few { length copy.places.now ≤ 8 }
+    requires places { ArePlaces copy.places.now }
+    requires base { copy.base ≤ 1000 }
+    requires state { state < states_of copy.dfa.now }
+    ensures { IfOk result (λ _. Adds edges.old.items edges.new.items (IsEdgeBy copy.entry.dfa.now copy.entry.places.now from copy.entry.base state class.now mark)) }
 {
-    if let Some(next) = dfa.next(state, mark, class.first) {
+    if let Some(next) = copy.dfa.next(state, mark, class.first) {
         edges.push(Edge {
             from,
-            mark: mark_at(places, mark),
+            mark: mark_at(copy.places, mark),
             letters: class.letters,
-            to: base + u16::from(next),
+            to: copy.base + u16::from(next),
         })?;
     }
     Ok(())
@@ -41,113 +48,95 @@ fn push_edge(
 
 /// Appends the steps of a state by the bytes of a class to a list.
 fn push_class(
-    dfa: &Dfa,
-    places: &[Option<u8>],
+    copy: OperandCopy<'_>,
     from: u16,
-    base: u16,
     state: u8,
     class: &Class,
     edges: &mut Vec<Edge>,
 ) -> Result<(), NoMemory>
-    requires few { length places.now ≤ 8 }
-    requires places { ArePlaces places.now }
-    requires base { base ≤ 1000 }
-    requires state { state < states_of dfa.now }
-    ensures { IfOk result (λ _. Adds edges.old.items edges.new.items (IsEdgeOf dfa.now places.now from base state class.now)) }
+    requires few { length copy.places.now ≤ 8 }
+    requires places { ArePlaces copy.places.now }
+    requires base { copy.base ≤ 1000 }
+    requires state { state < states_of copy.dfa.now }
+    ensures { IfOk result (λ _. Adds edges.old.items edges.new.items (IsEdgeOf copy.entry.dfa.now copy.entry.places.now from copy.entry.base state class.now)) }
 {
-    let states = dfa.states();
-    for mark in dfa.marks(state, class.first) {
-        push_edge(dfa, places, from, base, state, class, *mark, edges)?;
+    let states = copy.dfa.states();
+    for mark in copy.dfa.marks(state, class.first) {
+        push_edge(copy, from, state, class, *mark, edges)?;
     }
     Ok(())
 }
 
 /// Appends the steps of a state to a list.
 fn push_state(
-    dfa: &Dfa,
-    places: &[Option<u8>],
+    copy: OperandCopy<'_>,
     from: u16,
-    base: u16,
     state: u8,
     classes: &[Class],
     edges: &mut Vec<Edge>,
 ) -> Result<(), NoMemory>
-    requires few { length places.now ≤ 8 }
-    requires places { ArePlaces places.now }
-    requires base { base ≤ 1000 }
-    requires state { state < states_of dfa.now }
-    ensures { IfOk result (λ _. Adds edges.old.items edges.new.items (IsEdgeAmong dfa.now places.now from base state classes.now)) }
+    requires few { length copy.places.now ≤ 8 }
+    requires places { ArePlaces copy.places.now }
+    requires base { copy.base ≤ 1000 }
+    requires state { state < states_of copy.dfa.now }
+    ensures { IfOk result (λ _. Adds edges.old.items edges.new.items (IsEdgeAmong copy.entry.dfa.now copy.entry.places.now from copy.entry.base state classes.now)) }
 {
     for class in classes {
-        push_class(dfa, places, from, base, state, class, edges)?;
+        push_class(copy, from, state, class, edges)?;
     }
     Ok(())
 }
 
-/// Appends the edges of a copy to a list: those of its states, which begin at `base`, and those of its start also from
-/// state 0.
+/// Appends the edges of a copy to a list: those of its states, which begin at `base`, and those of its start also
+/// from state 0.
 pub fn push_edges(
-    dfa: &Dfa,
-    places: &[Option<u8>],
-    base: u16,
+    copy: OperandCopy<'_>,
     classes: &[Class],
     edges: &mut Vec<Edge>,
 ) -> Result<(), NoMemory>
-    requires few { length places.now ≤ 8 }
-    requires places { ArePlaces places.now }
-    requires base { base ≤ 1000 }
-    ensures { IfOk result (λ _. Adds edges.old.items edges.new.items (IsCopiedEdge dfa.now places.now base classes.now)) }
+    requires few { length copy.places.now ≤ 8 }
+    requires places { ArePlaces copy.places.now }
+    requires base { copy.base ≤ 1000 }
+    ensures { IfOk result (λ _. Adds edges.old.items edges.new.items (IsCopiedEdge copy.entry.dfa.now copy.entry.places.now copy.entry.base classes.now)) }
 {
-    for state in 0..dfa.states() {
-        push_state(
-            dfa,
-            places,
-            base + u16::from(state),
-            base,
-            state,
-            classes,
-            edges,
-        )?;
+    for state in 0..copy.dfa.states() {
+        let from = copy.base + u16::from(state);
+        push_state(copy, from, state, classes, edges)?;
     }
-    push_state(dfa, places, 0, base, 0, classes, edges)
+    push_state(copy, 0, 0, classes, edges)
 }
 
 /// Appends the ends of a state to a list.
 fn push_state_ends(
-    dfa: &Dfa,
-    places: &[Option<u8>],
+    copy: OperandCopy<'_>,
     from: u16,
     state: u8,
     ends: &mut Vec<End>,
 ) -> Result<(), NoMemory>
-    requires few { length places.now ≤ 8 }
-    requires places { ArePlaces places.now }
-    requires state { state < states_of dfa.now }
-    ensures { IfOk result (λ _. Adds ends.old.items ends.new.items (IsEndOf dfa.now places.now from state)) }
+    requires few { length copy.places.now ≤ 8 }
+    requires places { ArePlaces copy.places.now }
+    requires state { state < states_of copy.dfa.now }
+    ensures { IfOk result (λ _. Adds ends.old.items ends.new.items (IsEndOf copy.entry.dfa.now copy.entry.places.now from state)) }
 {
-    for mark in dfa.ends(state) {
+    for mark in copy.dfa.ends(state) {
         ends.push(End {
             state: from,
-            mark: mark_at(places, *mark),
+            mark: mark_at(copy.places, *mark),
         })?;
     }
     Ok(())
 }
 
 /// Appends the ends of a copy to a list, in the same way.
-pub fn push_ends(
-    dfa: &Dfa,
-    places: &[Option<u8>],
-    base: u16,
-    ends: &mut Vec<End>,
-) -> Result<(), NoMemory>
-    requires few { length places.now ≤ 8 }
-    requires places { ArePlaces places.now }
-    requires base { base ≤ 1000 }
-    ensures { IfOk result (λ _. Adds ends.old.items ends.new.items (IsCopiedEnd dfa.now places.now base)) }
+pub fn push_ends(copy: OperandCopy<'_>, ends: &mut Vec<End>) -> Result<(), NoMemory>
+    requires few { length copy.places.now ≤ 8 }
+    requires places { ArePlaces copy.places.now }
+    requires base { copy.base ≤ 1000 }
+    ensures { IfOk result (λ _. Adds ends.old.items ends.new.items (IsCopiedEnd copy.entry.dfa.now copy.entry.places.now copy.entry.base)) }
 {
-    for state in 0..dfa.states() {
-        push_state_ends(dfa, places, base + u16::from(state), state, ends)?;
+    for state in 0..copy.dfa.states() {
+        let from = copy.base + u16::from(state);
+        push_state_ends(copy, from, state, ends)?;
     }
-    push_state_ends(dfa, places, 0, 0, ends)
+    push_state_ends(copy, 0, 0, ends)
 }

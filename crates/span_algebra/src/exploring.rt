@@ -10,10 +10,10 @@ ghost use Rattle.span_algebra.specs.TreeAutomaton.{JoinStep, join_size};
 
 use crate::classes::Class;
 use crate::joints::meeting_of;
+use crate::names::Operand;
 use crate::pairs::put_targets;
-use crate::product::edges_of;
+use crate::product::{Sides, edges_of};
 use crate::refusal::AlgebraRefusal;
-use marker_dfa::Dfa;
 use marker_nfa::Edge;
 use span_types::{NoMemory, Vars};
 use std::alloc::Global;
@@ -45,32 +45,35 @@ fn put_edges(edges: &mut Vec<Edge>, more: &[Edge]) -> Result<(), NoMemory>
 /// The pairs that are reached and their edges. It ends at the 129th pair.
 pub fn explore(
     alloc: Global,
-    left: &Dfa,
-    left_names: &Vars,
-    right: &Dfa,
-    right_names: &Vars,
+    left: Operand<'_>,
+    right: Operand<'_>,
     names: &Vars,
     classes: &[Class],
 ) -> Result<Explored, AlgebraRefusal>
-    requires left { length left_names.now ≡ left.now.variables }
-    requires right { length right_names.now ≡ right.now.variables }
-    requires names { names.now ≡ both_names left_names.now right_names.now }
-    requires of_left { AreClasses left.now classes.now }
-    requires of_right { AreClasses right.now classes.now }
-    ensures explored { IfOk result (IsExplored left.now left_names.now right.now right_names.now classes.now) }
-    ensures refused { IfErr result (IsRefused 0 (CountIsAbove 128 (join_size left.now) (JoinStep left.now left_names.now right.now right_names.now))) }
+    requires left { length left.names.now ≡ left.dfa.now.variables }
+    requires right { length right.names.now ≡ right.dfa.now.variables }
+    requires names { names.now ≡ both_names left.names.now right.names.now }
+    requires of_left { AreClasses left.dfa.now classes.now }
+    requires of_right { AreClasses right.dfa.now classes.now }
+    ensures explored { IfOk result (IsExplored left.entry.dfa.now left.entry.names.now right.entry.dfa.now right.entry.names.now classes.now) }
+    ensures refused { IfErr result (IsRefused 0 (CountIsAbove 128 (join_size left.entry.dfa.now) (JoinStep left.entry.dfa.now left.entry.names.now right.entry.dfa.now right.entry.names.now))) }
 {
-    let left_states = left.states();
-    let right_states = right.states();
-    let left_count = left_names.count();
-    let right_count = right_names.count();
+    let left_states = left.dfa.states();
+    let right_states = right.dfa.states();
+    let left_count = left.names.count();
+    let right_count = right.names.count();
     let count = names.count();
-    let meeting = meeting_of(alloc, left_names, right_names, names)?;
+    let meeting = meeting_of(alloc, left.names, right.names, names)?;
+    let sides = Sides {
+        left: left.dfa,
+        right: right.dfa,
+        meeting: &meeting,
+    };
     let mut pairs = start_pairs(alloc)?;
     let mut edges = Vec::new(alloc);
     let mut done = 0;
     'pairs: while done < pairs.len() {
-        let found = edges_of(alloc, left, right, &meeting, pairs[done], classes)?;
+        let found = edges_of(alloc, sides, pairs[done], classes)?;
         put_targets(&mut pairs, &found)?;
         put_edges(&mut edges, &found)?;
         done += 1;

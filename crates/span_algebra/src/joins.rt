@@ -15,9 +15,9 @@ use crate::classes::{Class, classes_of};
 use crate::determined::determined;
 use crate::exploring::explore;
 use crate::joints::meeting_of;
-use crate::names::names_of_both;
+use crate::names::{Operand, names_of_both};
 use crate::pairs::numbered;
-use crate::product::ends_of;
+use crate::product::{Sides, ends_of};
 use crate::refusal::AlgebraRefusal;
 use marker_dfa::Dfa;
 use marker_nfa::Nfa;
@@ -27,31 +27,34 @@ use std::alloc::Global;
 /// The occurrences of a join that are reached: pairs of a left and a right state, each by its index.
 fn join_nfa(
     alloc: Global,
-    left: &Dfa,
-    left_names: &Vars,
-    right: &Dfa,
-    right_names: &Vars,
+    left: Operand<'_>,
+    right: Operand<'_>,
     names: &Vars,
     classes: &[Class],
 ) -> Result<Nfa, AlgebraRefusal>
-    requires left { length left_names.now ≡ left.now.variables }
-    requires right { length right_names.now ≡ right.now.variables }
-    requires names { names.now ≡ both_names left_names.now right_names.now }
-    requires of_left { AreClasses left.now classes.now }
-    requires of_right { AreClasses right.now classes.now }
-    ensures made { IfOk result (IsJoinNfa left.now left_names.now right.now right_names.now) }
+    requires left { length left.names.now ≡ left.dfa.now.variables }
+    requires right { length right.names.now ≡ right.dfa.now.variables }
+    requires names { names.now ≡ both_names left.names.now right.names.now }
+    requires of_left { AreClasses left.dfa.now classes.now }
+    requires of_right { AreClasses right.dfa.now classes.now }
+    ensures made { IfOk result (IsJoinNfa left.entry.dfa.now left.entry.names.now right.entry.dfa.now right.entry.names.now) }
     ensures letters { IfOk result (λ nfa. AreLettersOf nfa.edges (letters_of classes.now)) }
-    ensures refused { IfErr result (IsRefused 0 (CountIsAbove 128 (join_size left.now) (JoinStep left.now left_names.now right.now right_names.now))) }
+    ensures refused { IfErr result (IsRefused 0 (CountIsAbove 128 (join_size left.entry.dfa.now) (JoinStep left.entry.dfa.now left.entry.names.now right.entry.dfa.now right.entry.names.now))) }
 {
-    let left_states = left.states();
-    let right_states = right.states();
-    let left_count = left_names.count();
-    let right_count = right_names.count();
+    let left_states = left.dfa.states();
+    let right_states = right.dfa.states();
+    let left_count = left.names.count();
+    let right_count = right.names.count();
     let variables = names.count();
-    let meeting = meeting_of(alloc, left_names, right_names, names)?;
-    let explored = explore(alloc, left, left_names, right, right_names, names, classes)?;
+    let meeting = meeting_of(alloc, left.names, right.names, names)?;
+    let explored = explore(alloc, left, right, names, classes)?;
     let edges = numbered(alloc, &explored.pairs, &explored.edges)?;
-    let ends = ends_of(alloc, left, right, &meeting, &explored.pairs)?;
+    let sides = Sides {
+        left: left.dfa,
+        right: right.dfa,
+        meeting: &meeting,
+    };
+    let ends = ends_of(alloc, sides, &explored.pairs)?;
     let states = explored.pairs.len() as u16;
     Ok(Nfa::of_parts(alloc, states, variables, &edges, &ends)?)
 }
@@ -59,27 +62,25 @@ fn join_nfa(
 /// The automaton of a join, whose variables have these names.
 fn join_dfa(
     alloc: Global,
-    left: &Dfa,
-    left_names: &Vars,
-    right: &Dfa,
-    right_names: &Vars,
+    left: Operand<'_>,
+    right: Operand<'_>,
     names: &Vars,
 ) -> Result<Dfa, AlgebraRefusal>
-    requires left { length left_names.now ≡ left.now.variables }
-    requires right { length right_names.now ≡ right.now.variables }
-    requires names { names.now ≡ both_names left_names.now right_names.now }
-    ensures automaton { IfOk result (IsAutomatonOf (join_size left.now) (JoinStep left.now left_names.now right.now right_names.now) (JoinEnd left.now left_names.now right.now right_names.now)) }
-    ensures answers { IfOk result (GivesJoin left.now left_names.now right.now right_names.now (both_names left_names.now right_names.now)) }
-    ensures few { IfOk result (λ _. CountIsAbove 128 (join_size left.now) (JoinStep left.now left_names.now right.now right_names.now) → ⊥) }
-    ensures refused { IfErr result (IsRefused (length (both_names left_names.now right_names.now)) (CountIsAbove 128 (join_size left.now) (JoinStep left.now left_names.now right.now right_names.now))) }
+    requires left { length left.names.now ≡ left.dfa.now.variables }
+    requires right { length right.names.now ≡ right.dfa.now.variables }
+    requires names { names.now ≡ both_names left.names.now right.names.now }
+    ensures automaton { IfOk result (IsAutomatonOf (join_size left.entry.dfa.now) (JoinStep left.entry.dfa.now left.entry.names.now right.entry.dfa.now right.entry.names.now) (JoinEnd left.entry.dfa.now left.entry.names.now right.entry.dfa.now right.entry.names.now)) }
+    ensures answers { IfOk result (GivesJoin left.entry.dfa.now left.entry.names.now right.entry.dfa.now right.entry.names.now (both_names left.entry.names.now right.entry.names.now)) }
+    ensures few { IfOk result (λ _. CountIsAbove 128 (join_size left.entry.dfa.now) (JoinStep left.entry.dfa.now left.entry.names.now right.entry.dfa.now right.entry.names.now) → ⊥) }
+    ensures refused { IfErr result (IsRefused (length (both_names left.entry.names.now right.entry.names.now)) (CountIsAbove 128 (join_size left.entry.dfa.now) (JoinStep left.entry.dfa.now left.entry.names.now right.entry.dfa.now right.entry.names.now))) }
 {
-    let left_states = left.states();
-    let right_states = right.states();
-    let left_count = left_names.count();
-    let right_count = right_names.count();
+    let left_states = left.dfa.states();
+    let right_states = right.dfa.states();
+    let left_count = left.names.count();
+    let right_count = right.names.count();
     let count = names.count();
-    let classes = classes_of(alloc, left, right)?;
-    let nfa = join_nfa(alloc, left, left_names, right, right_names, names, &classes)?;
+    let classes = classes_of(alloc, left.dfa, right.dfa)?;
+    let nfa = join_nfa(alloc, left, right, names, &classes)?;
     determined(alloc, &nfa, &classes)
 }
 
@@ -110,6 +111,14 @@ pub fn join(
     ensures refused { IfErr result (IsRefused (length (both_names left_names.now right_names.now)) (CountIsAbove 128 (join_size left.now) (JoinStep left.now left_names.now right.now right_names.now))) }
 {
     let names = names_of_both(alloc, left_names, right_names)?;
-    let dfa = join_dfa(alloc, left, left_names, right, right_names, &names)?;
+    let left = Operand {
+        dfa: left,
+        names: left_names,
+    };
+    let right = Operand {
+        dfa: right,
+        names: right_names,
+    };
+    let dfa = join_dfa(alloc, left, right, &names)?;
     Ok((dfa, names))
 }

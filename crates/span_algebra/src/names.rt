@@ -7,8 +7,16 @@ ghost use Rattle.span_algebra.specs.Refusals.{IsNew, IsRefused};
 ghost use Rattle.span_algebra.specs.Renaming.{both_names};
 
 use crate::refusal::AlgebraRefusal;
+use marker_dfa::Dfa;
 use span_types::{Name, NoMemory, Vars, VarsRefusal};
 use std::alloc::Global;
+
+/// An automaton, and the names of its variables.
+#[derive(Clone, Copy)]
+pub struct Operand<'a> {
+    pub dfa: &'a Dfa,
+    pub names: &'a Vars,
+}
 
 /// Appends a name, unless it is there.
 fn add_name(alloc: Global, names: &mut Vars, name: &Name) -> Result<(), AlgebraRefusal>

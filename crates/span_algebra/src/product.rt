@@ -15,6 +15,14 @@ use marker_nfa::{Edge, End};
 use span_types::NoMemory;
 use std::alloc::Global;
 
+/// The automata of the two sides of a join, and their common variables.
+#[derive(Clone, Copy)]
+pub struct Sides<'a> {
+    pub left: &'a Dfa,
+    pub right: &'a Dfa,
+    pub meeting: &'a Meeting,
+}
+
 /// A state of each side.
 #[derive(Clone, Copy)]
 pub struct Pair {
@@ -43,19 +51,18 @@ fn number_of(pair: Pair) -> u16
 
 /// Appends the step of a pair by a joint mark and the bytes of a class to a list, if both sides have theirs.
 fn push_step(
-    left: &Dfa,
-    right: &Dfa,
+    sides: Sides<'_>,
     pair: Pair,
     class: &Class,
     joint: &Joint,
     edges: &mut Vec<Edge>,
 ) -> Result<(), NoMemory>
-    requires left { pair.left < states_of left.now }
-    requires right { pair.right < states_of right.now }
-    ensures { IfOk result (λ _. Adds edges.old.items edges.new.items (IsPairStepBy left.now right.now pair.left pair.right class.now joint.now)) }
+    requires left { pair.left < states_of sides.left.now }
+    requires right { pair.right < states_of sides.right.now }
+    ensures { IfOk result (λ _. Adds edges.old.items edges.new.items (IsPairStepBy sides.entry.left.now sides.entry.right.now pair.left pair.right class.now joint.now)) }
 {
-    if let Some(next_left) = left.next(pair.left, joint.left, class.first) {
-        if let Some(next_right) = right.next(pair.right, joint.right, class.first) {
+    if let Some(next_left) = sides.left.next(pair.left, joint.left, class.first) {
+        if let Some(next_right) = sides.right.next(pair.right, joint.right, class.first) {
             edges.push(Edge {
                 from: number_of(pair),
                 mark: joint.mark,
@@ -73,24 +80,22 @@ fn push_step(
 /// Appends the steps of a pair by the bytes of a class to a list.
 fn push_class(
     alloc: Global,
-    left: &Dfa,
-    right: &Dfa,
-    meeting: &Meeting,
+    sides: Sides<'_>,
     pair: Pair,
     class: &Class,
     edges: &mut Vec<Edge>,
 ) -> Result<(), NoMemory>
-    requires meeting { MayMeet meeting.now }
-    requires short { AreShortSteps left.now meeting.now }
-    requires left { pair.left < states_of left.now }
-    requires right { pair.right < states_of right.now }
-    ensures { IfOk result (λ _. Adds edges.old.items edges.new.items (IsPairStepOf left.now right.now meeting.now pair.left pair.right class.now)) }
+    requires meeting { MayMeet sides.meeting.now }
+    requires short { AreShortSteps sides.left.now sides.meeting.now }
+    requires left { pair.left < states_of sides.left.now }
+    requires right { pair.right < states_of sides.right.now }
+    ensures { IfOk result (λ _. Adds edges.old.items edges.new.items (IsPairStepOf sides.entry.left.now sides.entry.right.now sides.entry.meeting.now pair.left pair.right class.now)) }
 {
-    let left_marks = left.marks(pair.left, class.first);
-    let right_marks = right.marks(pair.right, class.first);
-    let joints = joints_of(alloc, meeting, left_marks, right_marks)?;
+    let left_marks = sides.left.marks(pair.left, class.first);
+    let right_marks = sides.right.marks(pair.right, class.first);
+    let joints = joints_of(alloc, sides.meeting, left_marks, right_marks)?;
     for joint in &joints {
-        push_step(left, right, pair, class, joint, edges)?;
+        push_step(sides, pair, class, joint, edges)?;
     }
     Ok(())
 }
@@ -98,22 +103,20 @@ fn push_class(
 /// The steps of a pair, as edges between pairs.
 pub fn edges_of(
     alloc: Global,
-    left: &Dfa,
-    right: &Dfa,
-    meeting: &Meeting,
+    sides: Sides<'_>,
     number: u16,
     classes: &[Class],
 ) -> Result<Vec<Edge>, NoMemory>
-    requires meeting { MayMeet meeting.now }
-    requires short { AreShortSteps left.now meeting.now }
-    requires within { IsPair left.now right.now number }
-    ensures { IfOk result (λ edges. (e : Edge) → Contains edges.items e ↔ IsPairStepAmong left.now right.now meeting.now (number / 128) (number % 128) classes.now e) }
+    requires meeting { MayMeet sides.meeting.now }
+    requires short { AreShortSteps sides.left.now sides.meeting.now }
+    requires within { IsPair sides.left.now sides.right.now number }
+    ensures { IfOk result (λ edges. (e : Edge) → Contains edges.items e ↔ IsPairStepAmong sides.entry.left.now sides.entry.right.now sides.entry.meeting.now (number / 128) (number % 128) classes.now e) }
 {
-    let left_states = left.states();
+    let left_states = sides.left.states();
     let pair = pair_at(number);
     let mut edges = Vec::new(alloc);
     for class in classes {
-        push_class(alloc, left, right, meeting, pair, class, &mut edges)?;
+        push_class(alloc, sides, pair, class, &mut edges)?;
     }
     Ok(edges)
 }
@@ -132,20 +135,23 @@ fn push_end(place: u16, joint: &Joint, ends: &mut Vec<End>) -> Result<(), NoMemo
 /// Appends the ends of a pair with this index to a list.
 fn push_ends(
     alloc: Global,
-    left: &Dfa,
-    right: &Dfa,
-    meeting: &Meeting,
+    sides: Sides<'_>,
     pair: Pair,
     place: u16,
     ends: &mut Vec<End>,
 ) -> Result<(), NoMemory>
-    requires meeting { MayMeet meeting.now }
-    requires short { AreShortSteps left.now meeting.now }
-    requires left { pair.left < states_of left.now }
-    requires right { pair.right < states_of right.now }
-    ensures { IfOk result (λ _. Adds ends.old.items ends.new.items (IsPairEndOf left.now right.now meeting.now pair.left pair.right place)) }
+    requires meeting { MayMeet sides.meeting.now }
+    requires short { AreShortSteps sides.left.now sides.meeting.now }
+    requires left { pair.left < states_of sides.left.now }
+    requires right { pair.right < states_of sides.right.now }
+    ensures { IfOk result (λ _. Adds ends.old.items ends.new.items (IsPairEndOf sides.entry.left.now sides.entry.right.now sides.entry.meeting.now pair.left pair.right place)) }
 {
-    let joints = joints_of(alloc, meeting, left.ends(pair.left), right.ends(pair.right))?;
+    let joints = joints_of(
+        alloc,
+        sides.meeting,
+        sides.left.ends(pair.left),
+        sides.right.ends(pair.right),
+    )?;
     for joint in &joints {
         push_end(place, joint, ends)?;
     }
@@ -153,31 +159,17 @@ fn push_ends(
 }
 
 /// The ends of pairs, each with the index of its pair.
-pub fn ends_of(
-    alloc: Global,
-    left: &Dfa,
-    right: &Dfa,
-    meeting: &Meeting,
-    pairs: &[u16],
-) -> Result<Vec<End>, NoMemory>
-    requires meeting { MayMeet meeting.now }
-    requires short { AreShortSteps left.now meeting.now }
+pub fn ends_of(alloc: Global, sides: Sides<'_>, pairs: &[u16]) -> Result<Vec<End>, NoMemory>
+    requires meeting { MayMeet sides.meeting.now }
+    requires short { AreShortSteps sides.left.now sides.meeting.now }
     requires few { length pairs.now ≤ 128 }
-    requires within { (o : ℕ) → Contains pairs.now o → IsPair left.now right.now o }
-    ensures { IfOk result (λ ends. (e : End) → Contains ends.items e ↔ IsPairEnd left.now right.now meeting.now pairs.now e) }
+    requires within { (o : ℕ) → Contains pairs.now o → IsPair sides.left.now sides.right.now o }
+    ensures { IfOk result (λ ends. (e : End) → Contains ends.items e ↔ IsPairEnd sides.entry.left.now sides.entry.right.now sides.entry.meeting.now pairs.now e) }
 {
-    let left_states = left.states();
+    let left_states = sides.left.states();
     let mut ends = Vec::new(alloc);
     for (place, number) in pairs.iter().enumerate() {
-        push_ends(
-            alloc,
-            left,
-            right,
-            meeting,
-            pair_at(*number),
-            place as u16,
-            &mut ends,
-        )?;
+        push_ends(alloc, sides, pair_at(*number), place as u16, &mut ends)?;
     }
     Ok(ends)
 }

@@ -10,7 +10,7 @@ ghost use Rattle.span_algebra.specs.Refusals.{IsRefused};
 ghost use Rattle.span_algebra.specs.TreeAutomaton.{ProjectEnd, ProjectStep};
 
 use crate::classes::{Class, classes_of};
-use crate::copies::{push_edges, push_ends};
+use crate::copies::{OperandCopy, push_edges, push_ends};
 use crate::determined::determined;
 use crate::names::places_of;
 use crate::refusal::AlgebraRefusal;
@@ -35,10 +35,15 @@ fn project_nfa(
     let states = source.states();
     let variables = keep.count();
     let places = places_of(alloc, keep, names)?;
+    let copy = OperandCopy {
+        dfa: source,
+        places: &places,
+        base: 0,
+    };
     let mut edges = Vec::new(alloc);
-    push_edges(source, &places, 0, classes, &mut edges)?;
+    push_edges(copy, classes, &mut edges)?;
     let mut ends = Vec::new(alloc);
-    push_ends(source, &places, 0, &mut ends)?;
+    push_ends(copy, &mut ends)?;
     Nfa::of_parts(alloc, u16::from(states), variables, &edges, &ends)
 }
 

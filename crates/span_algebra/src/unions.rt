@@ -11,9 +11,9 @@ ghost use Rattle.span_algebra.specs.Renaming.{both_names};
 ghost use Rattle.span_algebra.specs.TreeAutomaton.{UnionEnd, UnionStep, union_size};
 
 use crate::classes::{Class, classes_of};
-use crate::copies::{push_edges, push_ends};
+use crate::copies::{OperandCopy, push_edges, push_ends};
 use crate::determined::determined;
-use crate::names::{names_of_both, places_of};
+use crate::names::{Operand, names_of_both, places_of};
 use crate::refusal::AlgebraRefusal;
 use marker_dfa::Dfa;
 use marker_nfa::Nfa;
@@ -23,33 +23,41 @@ use std::alloc::Global;
 /// The occurrences of a union: the start, the states of the left and the states of the right.
 fn union_nfa(
     alloc: Global,
-    left: &Dfa,
-    left_names: &Vars,
-    right: &Dfa,
-    right_names: &Vars,
+    left: Operand<'_>,
+    right: Operand<'_>,
     names: &Vars,
     classes: &[Class],
 ) -> Result<Nfa, NoMemory>
-    requires left { length left_names.now ≡ left.now.variables }
-    requires right { length right_names.now ≡ right.now.variables }
-    requires names { names.now ≡ both_names left_names.now right_names.now }
-    requires of_left { AreClasses left.now classes.now }
-    requires of_right { AreClasses right.now classes.now }
-    ensures made { IfOk result (IsUnionNfa left.now left_names.now right.now right_names.now) }
+    requires left { length left.names.now ≡ left.dfa.now.variables }
+    requires right { length right.names.now ≡ right.dfa.now.variables }
+    requires names { names.now ≡ both_names left.names.now right.names.now }
+    requires of_left { AreClasses left.dfa.now classes.now }
+    requires of_right { AreClasses right.dfa.now classes.now }
+    ensures made { IfOk result (IsUnionNfa left.entry.dfa.now left.entry.names.now right.entry.dfa.now right.entry.names.now) }
     ensures letters { IfOk result (λ nfa. AreLettersOf nfa.edges (letters_of classes.now)) }
 {
-    let left_states = left.states();
-    let right_states = right.states();
+    let left_states = left.dfa.states();
+    let right_states = right.dfa.states();
     let variables = names.count();
-    let left_places = places_of(alloc, names, left_names)?;
-    let right_places = places_of(alloc, names, right_names)?;
+    let left_places = places_of(alloc, names, left.names)?;
+    let right_places = places_of(alloc, names, right.names)?;
     let base = 1 + u16::from(left_states);
+    let left_copy = OperandCopy {
+        dfa: left.dfa,
+        places: &left_places,
+        base: 1,
+    };
+    let right_copy = OperandCopy {
+        dfa: right.dfa,
+        places: &right_places,
+        base,
+    };
     let mut edges = Vec::new(alloc);
-    push_edges(left, &left_places, 1, classes, &mut edges)?;
-    push_edges(right, &right_places, base, classes, &mut edges)?;
+    push_edges(left_copy, classes, &mut edges)?;
+    push_edges(right_copy, classes, &mut edges)?;
     let mut ends = Vec::new(alloc);
-    push_ends(left, &left_places, 1, &mut ends)?;
-    push_ends(right, &right_places, base, &mut ends)?;
+    push_ends(left_copy, &mut ends)?;
+    push_ends(right_copy, &mut ends)?;
     Nfa::of_parts(
         alloc,
         base + u16::from(right_states),
@@ -62,25 +70,23 @@ fn union_nfa(
 /// The automaton of a union, whose variables have these names.
 fn union_dfa(
     alloc: Global,
-    left: &Dfa,
-    left_names: &Vars,
-    right: &Dfa,
-    right_names: &Vars,
+    left: Operand<'_>,
+    right: Operand<'_>,
     names: &Vars,
 ) -> Result<Dfa, AlgebraRefusal>
-    requires left { length left_names.now ≡ left.now.variables }
-    requires right { length right_names.now ≡ right.now.variables }
-    requires names { names.now ≡ both_names left_names.now right_names.now }
-    ensures automaton { IfOk result (IsAutomatonOf (union_size left.now right.now) (UnionStep left.now left_names.now right.now right_names.now) (UnionEnd left.now left_names.now right.now right_names.now)) }
-    ensures answers { IfOk result (GivesUnion left.now left_names.now right.now right_names.now (both_names left_names.now right_names.now)) }
-    ensures few { IfOk result (λ _. CountIsAbove 128 (union_size left.now right.now) (UnionStep left.now left_names.now right.now right_names.now) → ⊥) }
-    ensures refused { IfErr result (IsRefused (length (both_names left_names.now right_names.now)) (CountIsAbove 128 (union_size left.now right.now) (UnionStep left.now left_names.now right.now right_names.now))) }
+    requires left { length left.names.now ≡ left.dfa.now.variables }
+    requires right { length right.names.now ≡ right.dfa.now.variables }
+    requires names { names.now ≡ both_names left.names.now right.names.now }
+    ensures automaton { IfOk result (IsAutomatonOf (union_size left.entry.dfa.now right.entry.dfa.now) (UnionStep left.entry.dfa.now left.entry.names.now right.entry.dfa.now right.entry.names.now) (UnionEnd left.entry.dfa.now left.entry.names.now right.entry.dfa.now right.entry.names.now)) }
+    ensures answers { IfOk result (GivesUnion left.entry.dfa.now left.entry.names.now right.entry.dfa.now right.entry.names.now (both_names left.entry.names.now right.entry.names.now)) }
+    ensures few { IfOk result (λ _. CountIsAbove 128 (union_size left.entry.dfa.now right.entry.dfa.now) (UnionStep left.entry.dfa.now left.entry.names.now right.entry.dfa.now right.entry.names.now) → ⊥) }
+    ensures refused { IfErr result (IsRefused (length (both_names left.entry.names.now right.entry.names.now)) (CountIsAbove 128 (union_size left.entry.dfa.now right.entry.dfa.now) (UnionStep left.entry.dfa.now left.entry.names.now right.entry.dfa.now right.entry.names.now))) }
 {
-    let left_states = left.states();
-    let right_states = right.states();
+    let left_states = left.dfa.states();
+    let right_states = right.dfa.states();
     let variables = names.count();
-    let classes = classes_of(alloc, left, right)?;
-    let nfa = union_nfa(alloc, left, left_names, right, right_names, names, &classes)?;
+    let classes = classes_of(alloc, left.dfa, right.dfa)?;
+    let nfa = union_nfa(alloc, left, right, names, &classes)?;
     determined(alloc, &nfa, &classes)
 }
 
@@ -110,6 +116,14 @@ pub fn union(
     ensures refused { IfErr result (IsRefused (length (both_names left_names.now right_names.now)) (CountIsAbove 128 (union_size left.now right.now) (UnionStep left.now left_names.now right.now right_names.now))) }
 {
     let names = names_of_both(alloc, left_names, right_names)?;
-    let dfa = union_dfa(alloc, left, left_names, right, right_names, &names)?;
+    let left = Operand {
+        dfa: left,
+        names: left_names,
+    };
+    let right = Operand {
+        dfa: right,
+        names: right_names,
+    };
+    let dfa = union_dfa(alloc, left, right, &names)?;
     Ok((dfa, names))
 }

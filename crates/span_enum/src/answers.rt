@@ -17,8 +17,10 @@ use crate::ends::{accepts_end, end_limit, greatest_end};
 use crate::follow::follow;
 use crate::input::EnumerationInput;
 use crate::onward::complete;
-use crate::trail::{Ahead, Place, Trail, ahead_at, clear, empty_trail, lower_last, lower_to};
-use crate::walk::{can_reach, final_states, state_over};
+use crate::trail::{
+    Ahead, Place, Position, Trail, ahead_at, clear, empty_trail, lower_last, lower_to,
+};
+use crate::walk::{Part, can_reach, final_states, state_over};
 use marker_dfa::Dfa;
 use node_store::NodeId;
 use span_types::{NoMemory, Steps, Tuple};
@@ -190,6 +192,14 @@ pub(crate) struct Found {
     pub(crate) state: Option<u8>,
 }
 
+/// An answer up to a position of the walk: its marks before the position, and how many nodes are kept for them.
+#[derive(Clone, Copy)]
+struct Prefix {
+    place: Place,
+    base: usize,
+    marks: Tuple,
+}
+
 /// Puts the root ahead of the first letter, and returns the position after the text.
 fn put_root<'a, L: Ledger>(
     input: &EnumerationInput<'a>,
@@ -249,7 +259,11 @@ fn follow_whole<'a, L: Ledger>(
         next: trail.ahead.len(),
         quiet: false,
     };
-    follow(input, trail, first, t, 1, end, looks)
+    let from = Position {
+        place: first,
+        at: 1,
+    };
+    follow(input, trail, from, t, end, looks)
 }
 
 /// Keeps the marks of the tuple in place of what is kept. Returns the state at the end of the text, if a run follows all
@@ -291,28 +305,26 @@ fn with_end(dfa: &Dfa, q: u8, tuple: Tuple, end: u64) -> Tuple
     }
 }
 
-/// The first answer after a position of the walk, with these marks before it.
+/// The first answer with this prefix.
 fn finish<'a, L: Ledger>(
     input: &EnumerationInput<'a>,
     end: u64,
     trail: &mut Trail<'a>,
-    from: Place,
-    base: usize,
-    marks: Tuple,
+    prefix: &Prefix,
     looks: &mut Steps<L>,
 ) -> Found
     requires input { IsEnumerationInput input.now }
     requires end { end ≡ length (whole_text input.now) + 1 }
     requires low { end ≤ 281474976710657 }
-    requires finish { CanFinish input.now from base trail.old.marks.items trail.old.ahead.items }
+    requires finish { CanFinish input.now prefix.now.place prefix.now.base trail.old.marks.items trail.old.ahead.items }
     requires room { HasRoom input.now.dfa.now.variables trail.old.marks.capacity trail.old.ahead.capacity }
-    ensures finishes { Finishes input.now from base trail.old.marks.items trail.new.marks.items trail.old.ahead.items trail.new.ahead.items
-        looks.old looks.new marks end result }
+    ensures finishes { Finishes input.now prefix.now.place prefix.now.base trail.old.marks.items trail.new.marks.items
+        trail.old.ahead.items trail.new.ahead.items looks.old looks.new prefix.now.marks end result }
     ensures marks_room { trail.new.marks.capacity ≡ trail.old.marks.capacity }
     ensures ahead_room { trail.new.ahead.capacity ≡ trail.old.ahead.capacity }
 {
-    let mut out = marks;
-    let state = complete(input, trail, from, base, &mut out, looks);
+    let mut out = prefix.marks;
+    let state = complete(input, trail, prefix.place, prefix.base, &mut out, looks);
     match state {
         Some(q) => Found {
             tuple: with_end(input.dfa, q, out, end),
@@ -362,7 +374,12 @@ fn first_answer<'a, L: Ledger>(
         quiet: false,
     };
     let none = Tuple::none(input.dfa.variables());
-    Some(finish(input, end, trail, first, count, none, looks))
+    let empty = Prefix {
+        place: first,
+        base: count,
+        marks: none,
+    };
+    Some(finish(input, end, trail, &empty, looks))
 }
 
 /// The first answer strictly after the tuple whose marks are kept. From then on those of the answer are kept.
@@ -393,13 +410,18 @@ fn answer_after<'a, L: Ledger>(
     }
     let lowered = lower_last(input, trail, t)?;
     let turn = lower_to(input, trail, t, &lowered);
-    let from = Place {
+    let place = Place {
         state: lowered.state,
         next: turn.next,
         quiet: false,
     };
     let marks = t.cut_at(lowered.at).with_mark(lowered.mark, lowered.at);
-    Some(finish(input, end, trail, from, turn.base, marks, looks))
+    let prefix = Prefix {
+        place,
+        base: turn.base,
+        marks,
+    };
+    Some(finish(input, end, trail, &prefix, looks))
 }
 
 /// The first answer after the tuple, if only its mark at the end is lower.
@@ -468,7 +490,8 @@ pub fn has<L: Ledger>(
         None => accepts_end(dfa, Some(0), tuple, 1),
         Some(id) => {
             let look = view.look(id, looks);
-            let state = state_over(&view, dfa, id, &look, 0, 1, tuple, looks);
+            let whole = Part { id, look, at: 1 };
+            let state = state_over(&view, dfa, &whole, 0, tuple, looks);
             accepts_end(dfa, state, tuple, look.len + 1)
         }
     }

@@ -6,7 +6,7 @@ ghost use Rattle.span_enum.specs.declared.trail.Ahead.{Ahead};
 use crate::input::EnumerationInput;
 use crate::onward::{go_left, go_right, keep_mark};
 use crate::sets::goals_between;
-use crate::trail::{Ahead, Place, Trail, ahead_at, last_of};
+use crate::trail::{Children, Descent, Place, Position, Trail, ahead_at, last_of};
 use crate::walk::{first_mark, step};
 use node_store::Node;
 use span_types::{Steps, Tuple, mark_at};
@@ -43,41 +43,50 @@ fn pass_to<'a>(
 }
 
 /// Descends to the letter at this position, and keeps the tuple's mark there with the nodes that are then ahead.
-/// Returns whether a run reaches the letter. If none does, the caller removes the nodes that were put ahead.
+/// `descent` becomes each node on the path in turn. Returns whether a run reaches the letter. If none does, the caller
+/// removes the nodes that were put ahead.
 fn reach<'a, L: Ledger>(
     input: &EnumerationInput<'a>,
     trail: &mut Trail<'a>,
-    here: &mut Ahead<'a>,
-    state: u8,
+    descent: &mut Descent<'a>,
     t: &Tuple,
     to: u64,
-    base: usize,
     looks: &mut Steps<L>,
 ) -> bool
     requires input { IsEnumerationInput input.now }
-    requires down { CanGoDown input.now here.old state base trail.old.marks.items trail.old.marks.capacity trail.old.ahead.items trail.old.ahead.capacity }
-    requires over { IsOver input.now here.old to }
-    ensures laid { Laid input.now t.now here.old state to base trail.old.marks.items trail.new.marks.items trail.old.ahead.items trail.new.ahead.items result }
-    ensures cost { looks.new ≤ looks.old + 2 * height_at input.now here.old.id.index }
+    requires down { CanGoDown input.now descent.old.here descent.old.state descent.old.base trail.old.marks.items trail.old.marks.capacity
+        trail.old.ahead.items trail.old.ahead.capacity }
+    requires over { IsOver input.now descent.old.here to }
+    ensures laid { Laid input.now t.now descent.old.here descent.old.state to descent.old.base trail.old.marks.items trail.new.marks.items
+        trail.old.ahead.items trail.new.ahead.items result }
+    ensures cost { looks.new ≤ looks.old + 2 * height_at input.now descent.old.here.id.index }
     ensures room { (trail.new.marks.capacity ≡ trail.old.marks.capacity) × (trail.new.ahead.capacity ≡ trail.old.ahead.capacity) }
 {
-    match here.look.node {
+    match descent.here.look.node {
         Node::Byte(byte) => {
-            keep_mark(trail, &*here, byte, state, mark_at(t, here.at), base);
+            keep_mark(trail, &*descent, byte, mark_at(t, descent.here.at));
             true
         }
         Node::Pair(l, r) => {
             let left = input.view.look(l, looks);
             let right = input.view.look(r, looks);
-            if to < here.at + left.len {
-                let between = goals_between(input.dfa, &*here, left.table, right.table, state);
-                go_left(trail, here, l, &left, r, &right, between);
-                return reach(input, trail, here, state, t, to, base, looks);
+            let children = Children { l, left, r, right };
+            if to < descent.here.at + left.len {
+                let between = goals_between(
+                    input.dfa,
+                    &descent.here,
+                    left.table,
+                    right.table,
+                    descent.state,
+                );
+                go_left(trail, &mut descent.here, &children, between);
+                return reach(input, trail, descent, t, to, looks);
             }
-            match left.table.unmarked(state) {
+            match left.table.unmarked(descent.state) {
                 Some(q) => {
-                    go_right(here, left.len, r, &right);
-                    reach(input, trail, here, q, t, to, base, looks)
+                    go_right(&mut descent.here, &children);
+                    descent.state = q;
+                    reach(input, trail, descent, t, to, looks)
                 }
                 None => false,
             }
@@ -90,28 +99,31 @@ fn reach<'a, L: Ledger>(
 pub(crate) fn follow<'a, L: Ledger>(
     input: &EnumerationInput<'a>,
     trail: &mut Trail<'a>,
-    from: Place,
+    from: Position,
     t: &Tuple,
-    at: u64,
     end: u64,
     looks: &mut Steps<L>,
 ) -> Option<u8>
     requires input { IsEnumerationInput input.now }
     requires tuple { length t.now ≡ input.now.dfa.now.variables }
     requires end { end ≡ length (whole_text input.now) + 1 }
-    requires can { CanFollow input.now t.now trail.old.ahead.items at from trail.old.marks.items }
+    requires can { CanFollow input.now t.now trail.old.ahead.items from.at from.place trail.old.marks.items }
     requires room { HasRoom input.now.dfa.now.variables trail.old.marks.capacity trail.old.ahead.capacity }
     ensures followed { Followed input.now t.now trail.old.marks.items trail.new.marks.items trail.new.ahead.items looks.old looks.new result }
     ensures room { (trail.new.marks.capacity ≡ trail.old.marks.capacity) × (trail.new.ahead.capacity ≡ trail.old.ahead.capacity) }
 {
-    let to = first_mark(t, at, end);
-    let place = pass_to(input, &*trail, from, to)?;
+    let to = first_mark(t, from.at, end);
+    let place = pass_to(input, &*trail, from.place, to)?;
     if place.next == 0 {
         return Some(place.state);
     }
-    let mut here = *ahead_at(&*trail, place.next);
     let base = trail.ahead.len();
-    let comes = reach(input, trail, &mut here, place.state, t, to, base, looks);
+    let mut descent = Descent {
+        here: *ahead_at(&*trail, place.next),
+        state: place.state,
+        base,
+    };
+    let comes = reach(input, trail, &mut descent, t, to, looks);
     if !comes {
         trail.ahead.truncate(base);
         return None;
@@ -123,5 +135,9 @@ pub(crate) fn follow<'a, L: Ledger>(
         next: last.next,
         quiet: false,
     };
-    follow(input, trail, behind, t, to + 1, end, looks)
+    let from = Position {
+        place: behind,
+        at: to + 1,
+    };
+    follow(input, trail, from, t, end, looks)
 }

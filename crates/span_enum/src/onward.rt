@@ -14,12 +14,12 @@ ghost use Rattle.span_enum.specs.declared.trail.Ahead.{Ahead};
 
 use crate::input::EnumerationInput;
 use crate::sets::{Between, goals_between};
-use crate::trail::{Ahead, Mark, Place, Trail, ahead_at};
+use crate::trail::{Ahead, Children, Descent, Mark, Place, Trail, ahead_at};
 use crate::walk::greatest_mark;
 use node_store::{Node, NodeId};
 use span_types::{Steps, Tuple};
+use state_tables::Table;
 use state_tables::state_set::holds;
-use state_tables::{Look, Table};
 use std::sync::ledger::Ledger;
 
 /// The state after the text without marks, if there is no run with marks into a goal.
@@ -75,50 +75,47 @@ fn pass_plain<'a>(input: &EnumerationInput<'a>, trail: &Trail<'a>, from: Place) 
     place
 }
 
-/// Moves from a node to its right child, whose left sibling has a text of this length.
-pub(crate) fn go_right<'a>(here: &mut Ahead<'a>, left: u64, r: NodeId, right: &Look<'a>)
-    requires { here.old.at + left < 2 ^ 64 }
+/// Moves from a node to its right child.
+pub(crate) fn go_right<'a>(here: &mut Ahead<'a>, children: &Children<'a>)
+    requires { here.old.at + children.now.left.len < 2 ^ 64 }
     ensures { here.new ≡ record {
-      id = r;
-      look = right.now;
-      at = here.old.at + left;
+      id = children.now.r;
+      look = children.now.right;
+      at = here.old.at + children.now.left.len;
       goals = here.old.goals;
       quiet = here.old.quiet;
       next = here.old.next;
     } }
 {
-    here.id = r;
-    here.look = *right;
-    here.at += left;
+    here.id = children.r;
+    here.look = children.right;
+    here.at += children.left.len;
 }
 
 /// Moves from a node to its left child, and puts the right one ahead.
 pub(crate) fn go_left<'a>(
     trail: &mut Trail<'a>,
     here: &mut Ahead<'a>,
-    l: NodeId,
-    left: &Look<'a>,
-    r: NodeId,
-    right: &Look<'a>,
+    children: &Children<'a>,
     between: Between,
 )
     requires room { length trail.old.ahead.items < trail.old.ahead.capacity }
-    requires low { here.old.at + left.now.len < 2 ^ 64 }
-    ensures child { here.new ≡ child here.old l left.now between (length trail.old.ahead.items + 1) }
-    ensures items { trail.new.ahead.items ≡ trail.old.ahead.items ++ Some (sibling here.old r left.now right.now) ∷ [] }
+    requires low { here.old.at + children.now.left.len < 2 ^ 64 }
+    ensures child { here.new ≡ child here.old children.now.l children.now.left between (length trail.old.ahead.items + 1) }
+    ensures items { trail.new.ahead.items ≡ trail.old.ahead.items ++ Some (sibling here.old children.now.r children.now.left children.now.right) ∷ [] }
     ensures room { trail.new.ahead.capacity ≡ trail.old.ahead.capacity }
     ensures marks { trail.new.marks ≡ trail.old.marks }
 {
     trail.ahead.push_reserved(Some(Ahead {
-        id: r,
-        look: *right,
-        at: here.at + left.len,
+        id: children.r,
+        look: children.right,
+        at: here.at + children.left.len,
         goals: here.goals,
         quiet: here.quiet,
         next: here.next,
     }));
-    here.id = l;
-    here.look = *left;
+    here.id = children.l;
+    here.look = children.left;
     here.goals = between.goals;
     here.quiet = between.quiet;
     here.next = trail.ahead.len();
@@ -159,27 +156,21 @@ fn over_left(
 }
 
 /// Keeps a mark at a letter.
-pub(crate) fn keep_mark<'a>(
-    trail: &mut Trail<'a>,
-    here: &Ahead<'a>,
-    byte: u8,
-    state: u8,
-    mark: u16,
-    base: usize,
-)
+pub(crate) fn keep_mark<'a>(trail: &mut Trail<'a>, descent: &Descent<'a>, byte: u8, mark: u16)
     requires { length trail.old.marks.items < trail.old.marks.capacity }
-    ensures marks { trail.new.marks.items ≡ trail.old.marks.items ++ mark_over here.now byte state mark base ∷ [] }
+    ensures marks { trail.new.marks.items ≡ trail.old.marks.items ++ mark_over descent.now.here byte descent.now.state mark descent.now.base ∷ [] }
     ensures room { trail.new.marks.capacity ≡ trail.old.marks.capacity }
     ensures ahead { trail.new.ahead ≡ trail.old.ahead }
 {
+    let here = &descent.here;
     trail.marks.push_reserved(Mark {
         at: here.at,
         mark,
         byte,
-        state,
+        state: descent.state,
         goals: here.goals,
         next: here.next,
-        base,
+        base: descent.base,
     });
 }
 
@@ -187,25 +178,25 @@ pub(crate) fn keep_mark<'a>(
 fn place_mark<'a>(
     input: &EnumerationInput<'a>,
     trail: &mut Trail<'a>,
-    here: &Ahead<'a>,
+    descent: &Descent<'a>,
     byte: u8,
-    state: u8,
-    base: usize,
     out: &mut Tuple,
 ) -> Place
     requires input { IsEnumerationInput input.now }
-    requires down { CanGoDown input.now here.now state base trail.old.marks.items trail.old.marks.capacity trail.old.ahead.items trail.old.ahead.capacity }
-    requires byte { IsNodeAt input.now.view.store.now here.now.id.index (Byte byte) }
-    requires some { bit_and (marked_of here.now.look.table.now state) here.now.goals ≡ 0 → ⊥ }
-    ensures descends { (looks : ℕ) → Descends input.now here.now state base trail.old.marks.items trail.new.marks.items
+    requires down { CanGoDown input.now descent.now.here descent.now.state descent.now.base trail.old.marks.items trail.old.marks.capacity
+        trail.old.ahead.items trail.old.ahead.capacity }
+    requires byte { IsNodeAt input.now.view.store.now descent.now.here.id.index (Byte byte) }
+    requires some { bit_and (marked_of descent.now.here.look.table.now descent.now.state) descent.now.here.goals ≡ 0 → ⊥ }
+    ensures descends { (looks : ℕ) → Descends input.now descent.now.here descent.now.state descent.now.base trail.old.marks.items trail.new.marks.items
         trail.old.ahead.items trail.new.ahead.items looks looks out.old out.new result }
     ensures marks_room { trail.new.marks.capacity ≡ trail.old.marks.capacity }
     ensures ahead_room { trail.new.ahead.capacity ≡ trail.old.ahead.capacity }
 {
-    let _marked = here.look.table.marked(state);
-    match greatest_mark(input.dfa, state, byte, here.goals, 65536) {
+    let here = &descent.here;
+    let _marked = here.look.table.marked(descent.state);
+    match greatest_mark(input.dfa, descent.state, byte, here.goals, 65536) {
         Some(step) => {
-            keep_mark(trail, here, byte, state, step.mark, base);
+            keep_mark(trail, descent, byte, step.mark);
             *out = out.with_mark(step.mark, here.at);
             Place {
                 state: step.state,
@@ -217,69 +208,67 @@ fn place_mark<'a>(
     }
 }
 
-/// Moves from a pair to the child over which the first marked text has its first mark. Returns the state before it.
+/// Moves from a pair to the child over which the first marked text has its first mark.
 fn go_down<'a, L: Ledger>(
     input: &EnumerationInput<'a>,
     trail: &mut Trail<'a>,
-    here: &mut Ahead<'a>,
-    state: u8,
+    descent: &mut Descent<'a>,
     l: NodeId,
     r: NodeId,
     looks: &mut Steps<L>,
-) -> u8
+)
     requires input { IsEnumerationInput input.now }
-    requires is_ahead { IsAhead input.now here.old }
-    requires node { here.old.look.node ≡ Pair l r }
-    requires state { state < states_of input.now.dfa.now }
+    requires is_ahead { IsAhead input.now descent.old.here }
+    requires node { descent.old.here.look.node ≡ Pair l r }
+    requires state { descent.old.state < states_of input.now.dfa.now }
     requires room { length trail.old.ahead.items < trail.old.ahead.capacity }
-    requires some { bit_and (marked_of here.old.look.table.now state) here.old.goals ≡ 0 → ⊥ }
-    ensures down { (base : ℕ) → CanGoDown input.now here.old state base trail.old.marks.items trail.old.marks.capacity trail.old.ahead.items trail.old.ahead.capacity
-        → CanGoDown input.now here.new result base trail.new.marks.items trail.new.marks.capacity trail.new.ahead.items trail.new.ahead.capacity }
-    ensures some { bit_and (marked_of here.new.look.table.now result) here.new.goals ≡ 0 → ⊥ }
-    ensures on { (base : ℕ) → GoesOnAt input.now here.old state here.new result base trail.old.marks.items trail.old.ahead.items trail.new.ahead.items
-        looks.old looks.new }
-    ensures less { here.new.id.index < here.old.id.index }
+    requires some { bit_and (marked_of descent.old.here.look.table.now descent.old.state) descent.old.here.goals ≡ 0 → ⊥ }
+    ensures down { CanGoDown input.now descent.old.here descent.old.state descent.old.base trail.old.marks.items trail.old.marks.capacity
+        trail.old.ahead.items trail.old.ahead.capacity
+        → CanGoDown input.now descent.new.here descent.new.state descent.new.base trail.new.marks.items trail.new.marks.capacity
+        trail.new.ahead.items trail.new.ahead.capacity }
+    ensures some { bit_and (marked_of descent.new.here.look.table.now descent.new.state) descent.new.here.goals ≡ 0 → ⊥ }
+    ensures on { GoesOnAt input.now descent.old.here descent.old.state descent.new.here descent.new.state descent.old.base trail.old.marks.items
+        trail.old.ahead.items trail.new.ahead.items looks.old looks.new }
+    ensures less { descent.new.here.id.index < descent.old.here.id.index }
+    ensures base { descent.new.base ≡ descent.old.base }
     ensures marks { trail.new.marks ≡ trail.old.marks }
     ensures room { trail.new.ahead.capacity ≡ trail.old.ahead.capacity }
 {
     let left = input.view.look(l, looks);
     let right = input.view.look(r, looks);
-    match over_left(input, &*here, left.table, right.table, state) {
+    let children = Children { l, left, r, right };
+    match over_left(input, &descent.here, left.table, right.table, descent.state) {
         OverLeft::Plain(q) => {
-            go_right(here, left.len, r, &right);
-            q
+            go_right(&mut descent.here, &children);
+            descent.state = q;
         }
-        OverLeft::Marked(between) => {
-            go_left(trail, here, l, &left, r, &right, between);
-            state
-        }
+        OverLeft::Marked(between) => go_left(trail, &mut descent.here, &children, between),
     }
 }
 
 /// Descends to the first mark of the first marked text over a node, and keeps it with the nodes that are then ahead.
-/// `here` becomes each node on the path in turn.
+/// `descent` becomes each node on the path in turn.
 fn descend<'a, L: Ledger>(
     input: &EnumerationInput<'a>,
     trail: &mut Trail<'a>,
-    here: &mut Ahead<'a>,
-    from: u8,
-    base: usize,
+    descent: &mut Descent<'a>,
     out: &mut Tuple,
     looks: &mut Steps<L>,
 ) -> Place
     requires input { IsEnumerationInput input.now }
-    requires down { CanGoDown input.now here.old from base trail.old.marks.items trail.old.marks.capacity trail.old.ahead.items trail.old.ahead.capacity }
-    requires some { bit_and (marked_of here.old.look.table.now from) here.old.goals ≡ 0 → ⊥ }
-    ensures descends { Descends input.now here.old from base trail.old.marks.items trail.new.marks.items trail.old.ahead.items trail.new.ahead.items
-        looks.old looks.new out.old out.new result }
+    requires down { CanGoDown input.now descent.old.here descent.old.state descent.old.base trail.old.marks.items trail.old.marks.capacity
+        trail.old.ahead.items trail.old.ahead.capacity }
+    requires some { bit_and (marked_of descent.old.here.look.table.now descent.old.state) descent.old.here.goals ≡ 0 → ⊥ }
+    ensures descends { Descends input.now descent.old.here descent.old.state descent.old.base trail.old.marks.items trail.new.marks.items
+        trail.old.ahead.items trail.new.ahead.items looks.old looks.new out.old out.new result }
     ensures marks_room { trail.new.marks.capacity ≡ trail.old.marks.capacity }
     ensures ahead_room { trail.new.ahead.capacity ≡ trail.old.ahead.capacity }
 {
-    let mut state = from;
     'down: loop {
-        match here.look.node {
-            Node::Byte(b) => return place_mark(input, trail, &*here, b, state, base, out),
-            Node::Pair(l, r) => state = go_down(input, trail, here, state, l, r, looks),
+        match descent.here.look.node {
+            Node::Byte(b) => return place_mark(input, trail, &*descent, b, out),
+            Node::Pair(l, r) => go_down(input, trail, descent, l, r, looks),
         }
     }
 }
@@ -313,9 +302,13 @@ pub(crate) fn complete<'a, L: Ledger>(
         trail.ahead.truncate(base);
         return Some(place.state);
     }
-    let mut here = *ahead_at(&*trail, place.next);
+    let mut descent = Descent {
+        here: *ahead_at(&*trail, place.next),
+        state: place.state,
+        base,
+    };
     trail.ahead.truncate(cut_before(place.next, base));
-    let behind = descend(input, trail, &mut here, place.state, base, out, looks);
+    let behind = descend(input, trail, &mut descent, out, looks);
     let kept = trail.ahead.len();
     complete(input, trail, behind, kept, out, looks)
 }

@@ -51,6 +51,31 @@ pub(crate) struct Place {
     pub(crate) quiet: bool,
 }
 
+/// A position of the walk, and that of the letter after it in the text.
+#[derive(Clone, Copy)]
+pub(crate) struct Position {
+    pub(crate) place: Place,
+    pub(crate) at: u64,
+}
+
+/// A node on the path down to a letter, the state before the node, and how many nodes were kept before the path was
+/// added.
+#[derive(Clone, Copy)]
+pub(crate) struct Descent<'a> {
+    pub(crate) here: Ahead<'a>,
+    pub(crate) state: u8,
+    pub(crate) base: usize,
+}
+
+/// The children of a pair, each with its lookup.
+#[derive(Clone, Copy)]
+pub(crate) struct Children<'a> {
+    pub(crate) l: NodeId,
+    pub(crate) left: Look<'a>,
+    pub(crate) r: NodeId,
+    pub(crate) right: Look<'a>,
+}
+
 /// The node that comes next after a mark that was lowered, and how many nodes the marks before it need.
 #[derive(Clone, Copy)]
 pub(crate) struct Turn {

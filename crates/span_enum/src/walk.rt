@@ -187,39 +187,57 @@ pub(crate) struct Lowered {
     pub(crate) state: u8,
 }
 
-/// The state after the tuple's marks over the node, whose first letter has position `at`.
+/// A node of a text, with its lookup and the position of its first letter.
+#[derive(Clone, Copy)]
+pub(crate) struct Part<'a> {
+    pub(crate) id: NodeId,
+    pub(crate) look: Look<'a>,
+    pub(crate) at: u64,
+}
+
+/// The state after the tuple's marks over the node.
 pub(crate) fn state_over<L: Ledger>(
     view: &View<'_>,
     dfa: &Dfa,
-    id: NodeId,
-    here: &Look<'_>,
+    part: &Part<'_>,
     p: u8,
-    at: u64,
     t: &Tuple,
     looks: &mut Steps<L>,
 ) -> Option<u8>
-    requires live { id.index < length view.now.store.now }
-    requires look { IsLook view.now.store.now view.now.tables.now id.index here.now.node here.now.len here.now.table.now }
+    requires live { part.now.id.index < length view.now.store.now }
+    requires look { IsLook view.now.store.now view.now.tables.now part.now.id.index part.now.look.node part.now.look.len part.now.look.table.now }
     requires tables { AreTables dfa.now view.now.store.now view.now.tables.now }
     requires state { p < states_of dfa.now }
-    requires positive { 1 ≤ at }
-    requires low { at + length (text (tree view.now.store.now id.index)) ≤ 281474976710657 }
-    ensures value { result ≡ reached dfa.now p (word_over t.now at (text (tree view.now.store.now id.index))) }
+    requires positive { 1 ≤ part.now.at }
+    requires low { part.now.at + length (text (tree view.now.store.now part.now.id.index)) ≤ 281474976710657 }
+    ensures value { result ≡ reached dfa.now p (word_over t.now part.now.at (text (tree view.now.store.now part.now.id.index))) }
     ensures within { IfSome result (λ q. q < states_of dfa.now) }
-    ensures cost { looks.new ≤ looks.old + 2 * (height (tree view.now.store.now id.index)
-        * mark_count (word_over t.now at (text (tree view.now.store.now id.index)))) }
+    ensures cost { looks.new ≤ looks.old + 2 * (height (tree view.now.store.now part.now.id.index)
+        * mark_count (word_over t.now part.now.at (text (tree view.now.store.now part.now.id.index)))) }
 {
     let _states = dfa.states();
-    if !is_marked_between(t, at, at + here.len) {
-        return here.table.unmarked(p);
+    if !is_marked_between(t, part.at, part.at + part.look.len) {
+        return part.look.table.unmarked(p);
     }
-    match here.node {
-        Node::Byte(b) => step(dfa, p, mark_at(t, at), b),
+    match part.look.node {
+        Node::Byte(b) => step(dfa, p, mark_at(t, part.at), b),
         Node::Pair(l, r) => {
             let left = view.look(l, looks);
             let right = view.look(r, looks);
-            match state_over(view, dfa, l, &left, p, at, t, looks) {
-                Some(q) => state_over(view, dfa, r, &right, q, at + left.len, t, looks),
+            let first = Part {
+                id: l,
+                look: left,
+                at: part.at,
+            };
+            match state_over(view, dfa, &first, p, t, looks) {
+                Some(q) => {
+                    let second = Part {
+                        id: r,
+                        look: right,
+                        at: part.at + left.len,
+                    };
+                    state_over(view, dfa, &second, q, t, looks)
+                }
                 None => None,
             }
         }

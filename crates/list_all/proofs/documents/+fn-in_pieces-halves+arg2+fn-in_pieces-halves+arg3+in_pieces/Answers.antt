@@ -17,5 +17,5 @@ returns g t c =
     let first : HaveEach (g.F.FindPage.is_page c.args.finder.now) c.in_ok-first.field-0.found.items c.split_at.result.0.now c.in_ok-first.field-0.places.items = rw c.in_ok-first.was at c.halves-first.ensures.first in
     let second : HaveEach (g.F.FindPage.is_page c.args.finder.now) c.in_ok-second.field-0.found.items c.split_at.result.1.now c.in_ok-second.field-0.places.items = rw c.in_ok-second.was at c.halves-first.ensures.second in
     if-both c.joined.result _ _ _ (λ all found places.
-    have-joined (g.F.FindPage.is_page c.args.finder.now) c.in_ok-first.field-0.found.items c.in_ok-second.field-0.found.items all.found.items c.split_at.result.0.now c.split_at.result.1.now c.args.roots.now
+    have-joined (g.F.FindPage.is_page c.args.finder.now) c.in_ok-first.field-0.found.items c.in_ok-second.field-0.found.items all.found.items c.split_at.result.0.now c.split_at.result.1.now c.args.documents.roots.now
     c.in_ok-first.field-0.places.items c.in_ok-second.field-0.places.items all.places.items first second c.split_at.ensures.by_index.0 found places) c.joined.ensures.found c.joined.ensures.places

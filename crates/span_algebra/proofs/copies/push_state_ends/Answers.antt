@@ -10,12 +10,12 @@ use Rattle.span_algebra.proofs.copies.push_state_ends.Goals as goal
 pub loop-mark-preserved : goal.loop-mark-preserved
 loop-mark-preserved c =
     let m = get_or c.ends-mark-items.result.now c.loop-mark.mark-index 0 in
-    let Q : ℕ → Type 0 = λ k. Adds c.loop-mark.ends.items (c.loop-mark.ends.items ++ record { state = c.args.from; mark = k } ∷ []) (IsEndBy c.args.places.now c.args.from m) in
-    let pushed : Adds c.loop-mark.ends.items (c.loop-mark.ends.items ++ record { state = c.args.from; mark = mark_by c.args.places.now m } ∷ []) (IsEndBy c.args.places.now c.args.from m) = λ x. contains_push c.loop-mark.ends.items (record { state = c.args.from; mark = mark_by c.args.places.now m }) x in
-    let L : List End → Type 0 = λ l. Adds c.loop-mark.ends.items l (IsEndBy c.args.places.now c.args.from m) in
-    each_at _ _ _ (IsEndBy c.args.places.now c.args.from) c.ends-mark-items.result.now c.loop-mark.mark-index 0 c.loop-mark-test.true c.loop-mark.invariant (subst L (sym c.in_ok-push.ensures.items) (subst Q (sym c.mark_at.ensures.value) pushed))
+    let Q : ℕ → Type 0 = λ k. Adds c.loop-mark.ends.items (c.loop-mark.ends.items ++ record { state = c.args.from; mark = k } ∷ []) (IsEndBy c.args.copy.places.now c.args.from m) in
+    let pushed : Adds c.loop-mark.ends.items (c.loop-mark.ends.items ++ record { state = c.args.from; mark = mark_by c.args.copy.places.now m } ∷ []) (IsEndBy c.args.copy.places.now c.args.from m) = λ x. contains_push c.loop-mark.ends.items (record { state = c.args.from; mark = mark_by c.args.copy.places.now m }) x in
+    let L : List End → Type 0 = λ l. Adds c.loop-mark.ends.items l (IsEndBy c.args.copy.places.now c.args.from m) in
+    each_at _ _ _ (IsEndBy c.args.copy.places.now c.args.from) c.ends-mark-items.result.now c.loop-mark.mark-index 0 c.loop-mark-test.true c.loop-mark.invariant (subst L (sym c.in_ok-push.ensures.items) (subst Q (sym c.mark_at.ensures.value) pushed))
 
 pub returns : goal.returns
 returns c =
     let e : c.loop-mark.mark-index ≡ length c.ends-mark-items.result.now = omega (arith, c.loop-mark-test.false, c.loop-mark.auto.mark-index-end) in
-    state-ends c.args.ends.now.items c.loop-mark.ends.items c.args.dfa.now c.args.places.now c.args.from c.args.state c.ends-mark-items.result.now c.ends-mark-items.ensures (each_end _ _ (IsEndBy c.args.places.now c.args.from) c.ends-mark-items.result.now _ e c.loop-mark.invariant)
+    state-ends c.args.ends.now.items c.loop-mark.ends.items c.args.copy.dfa.now c.args.copy.places.now c.args.from c.args.state c.ends-mark-items.result.now c.ends-mark-items.ensures (each_end _ _ (IsEndBy c.args.copy.places.now c.args.from) c.ends-mark-items.result.now _ e c.loop-mark.invariant)

@@ -4,4 +4,4 @@ use Rattle.span_algebra.specs.Making.{IsEndBy}
 use Rattle.span_algebra.proofs.copies.push_state_ends.Given as goal
 
 abbrev pub invariant-loop-mark : goal.invariant-loop-mark
-invariant-loop-mark l = Adds l.fn.ends.items l.ends.items (EachBefore (IsEndBy l.places l.from) l.mark-items l.mark-index)
+invariant-loop-mark l = Adds l.fn.ends.items l.ends.items (EachBefore (IsEndBy l.copy.places.now l.from) l.mark-items l.mark-index)

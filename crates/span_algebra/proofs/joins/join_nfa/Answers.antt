@@ -17,44 +17,44 @@ numbered-requires-clause-few c = rw (c.deref.ensures.value) c.in_ok-explored.ens
 pub numbered-requires-clause-between : goal.numbered-requires-clause-between
 numbered-requires-clause-between c =
     let x = c.in_ok-explored.ensures.explored in
-    rw (c.deref.ensures.value, c.deref-2.ensures.value) (numbered-between c.args.left.now c.args.right.now (join_size c.args.left.now) (JoinStep c.args.left.now c.args.left_names.now c.args.right.now c.args.right_names.now) c.args.classes.now c.in_ok-explored.explored.pairs.items c.in_ok-explored.explored.edges.items x.found)
+    rw (c.deref.ensures.value, c.deref-2.ensures.value) (numbered-between c.args.left.dfa.now c.args.right.dfa.now (join_size c.args.left.dfa.now) (JoinStep c.args.left.dfa.now c.args.left.names.now c.args.right.dfa.now c.args.right.names.now) c.args.classes.now c.in_ok-explored.explored.pairs.items c.in_ok-explored.explored.edges.items x.found)
 
 pub ends_of-requires-clause-meeting : goal.ends_of-requires-clause-meeting
 ends_of-requires-clause-meeting c =
-    let va = c.args.left_names.now in let vb = c.args.right_names.now in
+    let va = c.args.left.names.now in let vb = c.args.right.names.now in
     let few : length (both_names va vb) ≤ 8 = omega (arith, c.count-variables.ensures.vars.few, ap length c.requires.names) in
     may-meet va vb (vars-apart va c.count-left_count.ensures.vars.distinct) (vars-apart vb c.count-right_count.ensures.vars.distinct) c.in_ok-meeting.meeting c.in_ok-meeting.ensures c.count-left_count.ensures.vars.few c.count-right_count.ensures.vars.few few
 
 pub ends_of-requires-clause-short : goal.ends_of-requires-clause-short
 ends_of-requires-clause-short c =
-    let va = c.args.left_names.now in let vb = c.args.right_names.now in
+    let va = c.args.left.names.now in let vb = c.args.right.names.now in
     let apart : AreApart (both_names va vb) = subst (λ (l : List (List ℕ)). AreApart l) c.requires.names (vars-apart c.args.names.now c.count-variables.ensures.vars.distinct) in
     let few : length (both_names va vb) ≤ 8 = omega (arith, c.count-variables.ensures.vars.few, ap length c.requires.names) in
-    short-steps c.args.left.now va c.args.right.now vb c.states-left_states.ensures.automaton c.states-right_states.ensures.automaton c.requires.left c.requires.right (vars-apart va c.count-left_count.ensures.vars.distinct) (vars-apart vb c.count-right_count.ensures.vars.distinct) apart few
+    short-steps c.args.left.dfa.now va c.args.right.dfa.now vb c.states-left_states.ensures.automaton c.states-right_states.ensures.automaton c.requires.left c.requires.right (vars-apart va c.count-left_count.ensures.vars.distinct) (vars-apart vb c.count-right_count.ensures.vars.distinct) apart few
     c.in_ok-meeting.meeting c.in_ok-meeting.ensures c.args.classes.now c.requires.of_left c.requires.of_right
 
 pub of_parts-requires : goal.of_parts-requires
 of_parts-requires c =
-    let va = c.args.left_names.now in let vb = c.args.right_names.now in
+    let va = c.args.left.names.now in let vb = c.args.right.names.now in
     let x = c.in_ok-explored.ensures.explored in
     let apart : AreApart (both_names va vb) = subst (λ (l : List (List ℕ)). AreApart l) c.requires.names (vars-apart c.args.names.now c.count-variables.ensures.vars.distinct) in
     let few : length (both_names va vb) ≤ 8 = omega (arith, c.count-variables.ensures.vars.few, ap length c.requires.names) in
     let edges = rw (c.deref.ensures.value, c.deref-2.ensures.value) at c.in_ok-edges.ensures in
     let ends = rw (c.deref-3.ensures.value) at c.in_ok-ends.ensures in
-    rw (c.deref-4.ensures.value, c.deref-5.ensures.value) (join-automaton c.args.left.now va c.args.right.now vb c.states-left_states.ensures.automaton c.states-right_states.ensures.automaton c.requires.left c.requires.right (vars-apart va c.count-left_count.ensures.vars.distinct) (vars-apart vb c.count-right_count.ensures.vars.distinct) apart few
+    rw (c.deref-4.ensures.value, c.deref-5.ensures.value) (join-automaton c.args.left.dfa.now va c.args.right.dfa.now vb c.states-left_states.ensures.automaton c.states-right_states.ensures.automaton c.requires.left c.requires.right (vars-apart va c.count-left_count.ensures.vars.distinct) (vars-apart vb c.count-right_count.ensures.vars.distinct) apart few
     c.in_ok-meeting.meeting c.in_ok-meeting.ensures c.args.classes.now c.requires.of_left c.requires.of_right c.in_ok-explored.explored.pairs.items c.in_ok-explored.explored.edges.items c.in_ok-edges.edges.items c.in_ok-ends.ends.items _ c.count-variables.result
     x.found edges ends (omega (arith, c.len-states.ensures, c.in_ok-explored.explored.pairs.ok.0, x.found.few.few)) (c.count-variables.ensures.count ∙ ap length c.requires.names))
 
 pub returns-clause-made : goal.returns-clause-made
 returns-clause-made c =
-    let va = c.args.left_names.now in let vb = c.args.right_names.now in
+    let va = c.args.left.names.now in let vb = c.args.right.names.now in
     let x = c.in_ok-explored.ensures.explored in
     let apart : AreApart (both_names va vb) = subst (λ (l : List (List ℕ)). AreApart l) c.requires.names (vars-apart c.args.names.now c.count-variables.ensures.vars.distinct) in
     let few : length (both_names va vb) ≤ 8 = omega (arith, c.count-variables.ensures.vars.few, ap length c.requires.names) in
     let edges = rw (c.deref.ensures.value, c.deref-2.ensures.value) at c.in_ok-edges.ensures in
     let ends = rw (c.deref-3.ensures.value) at c.in_ok-ends.ensures in
     let e = rw (c.deref-4.ensures.value, c.deref-5.ensures.value) at c.in_ok-of_parts.ensures in
-    subst (λ (n : Automaton). IsJoinNfa c.args.left.now va c.args.right.now vb n) (sym e) (join-nfa c.args.left.now va c.args.right.now vb c.states-left_states.ensures.automaton c.states-right_states.ensures.automaton c.requires.left c.requires.right (vars-apart va c.count-left_count.ensures.vars.distinct) (vars-apart vb c.count-right_count.ensures.vars.distinct) apart few
+    subst (λ (n : Automaton). IsJoinNfa c.args.left.dfa.now va c.args.right.dfa.now vb n) (sym e) (join-nfa c.args.left.dfa.now va c.args.right.dfa.now vb c.states-left_states.ensures.automaton c.states-right_states.ensures.automaton c.requires.left c.requires.right (vars-apart va c.count-left_count.ensures.vars.distinct) (vars-apart vb c.count-right_count.ensures.vars.distinct) apart few
     c.in_ok-meeting.meeting c.in_ok-meeting.ensures c.args.classes.now c.requires.of_left c.requires.of_right c.in_ok-explored.explored.pairs.items c.in_ok-explored.explored.edges.items c.in_ok-edges.edges.items c.in_ok-ends.ends.items _ c.count-variables.result
     x.found edges ends (omega (arith, c.len-states.ensures, c.in_ok-explored.explored.pairs.ok.0, x.found.few.few)) (c.count-variables.ensures.count ∙ ap length c.requires.names))
 
@@ -62,5 +62,5 @@ pub returns-clause-letters : goal.returns-clause-letters
 returns-clause-letters c =
     let edges = rw (c.deref.ensures.value, c.deref-2.ensures.value) at c.in_ok-edges.ensures in
     let e = rw (c.deref-4.ensures.value, c.deref-5.ensures.value) at c.in_ok-of_parts.ensures in
-    subst (λ (n : Automaton). AreLettersOf n.edges (letters_of c.args.classes.now)) (sym e) (letters-of-pairs c.args.left.now c.args.right.now (join_size c.args.left.now) (JoinStep c.args.left.now c.args.left_names.now c.args.right.now c.args.right_names.now) c.args.classes.now
+    subst (λ (n : Automaton). AreLettersOf n.edges (letters_of c.args.classes.now)) (sym e) (letters-of-pairs c.args.left.dfa.now c.args.right.dfa.now (join_size c.args.left.dfa.now) (JoinStep c.args.left.dfa.now c.args.left.names.now c.args.right.dfa.now c.args.right.names.now) c.args.classes.now
     c.in_ok-explored.explored.pairs.items c.in_ok-explored.explored.edges.items c.in_ok-edges.edges.items c.in_ok-explored.ensures.explored.found edges)

@@ -10,7 +10,7 @@ pub pass_to-requires-clause-stands : goal.pass_to-requires-clause-stands
 pass_to-requires-clause-stands g t c =
     let f = c.requires.can.1 in
     let first = c.first_mark-to.ensures in
-    (c.args.at, (c.requires.can.0, f.behind.stands, first.from, most _ _ _ _ _ _ _ f _ first.from (omega (arith, first.end, c.requires.end)) first.none))
+    (c.args.from.at, (c.requires.can.0, f.behind.stands, first.from, most _ _ _ _ _ _ _ f _ first.from (omega (arith, first.end, c.requires.end)) first.none))
 
 pub returns-in_err-place-clause-followed : goal.returns-in_err-place-clause-followed
 returns-in_err-place-clause-followed g t c =
@@ -18,7 +18,7 @@ returns-in_err-place-clause-followed g t c =
     let first = c.first_mark-to.ensures in
     let le = most _ _ _ _ _ _ _ f _ first.from (omega (arith, first.end, c.requires.end)) first.none in
     rw c.from_residual.ensures
-    (followed-dead _ _ _ _ _ _ _ f c.first_mark-to.result c.args.looks.now c.args.looks.now first.from le first.none (c.in_err-place.ensures c.args.at c.requires.can.0 f.behind.stands first.from le) (omega arith))
+    (followed-dead _ _ _ _ _ _ _ f c.first_mark-to.result c.args.looks.now c.args.looks.now first.from le first.none (c.in_err-place.ensures c.args.from.at c.requires.can.0 f.behind.stands first.from le) (omega arith))
 
 pub returns-then-place-eq0-clause-followed : goal.returns-then-place-eq0-clause-followed
 returns-then-place-eq0-clause-followed g t c =

@@ -6,14 +6,14 @@ use Rattle.span_enum.proofs.onward.place_mark.Goals.{After-marked-marked}
 use Rattle.span_enum.proofs.onward.place_mark.Goals as goal
 
 -- what the table of the letter says, and a mark that leads into a goal
-tells-all : (c : After-marked-marked) → Tells c.args.input.now.dfa.now (text_at c.args.input.now c.args.here.now.id.index) c.args.here.now.look.table.now
-    × ((m : ℕ) × ((q : ℕ) × IsMarkInto c.args.input.now.dfa.now c.args.state c.args.byte c.args.here.now.goals m q))
+tells-all : (c : After-marked-marked) → Tells c.args.input.now.dfa.now (text_at c.args.input.now c.args.descent.now.here.id.index) c.args.descent.now.here.look.table.now
+    × ((m : ℕ) × ((q : ℕ) × IsMarkInto c.args.input.now.dfa.now c.args.descent.now.state c.args.byte c.args.descent.now.here.goals m q))
 tells-all c =
     let input = c.args.input.now in
-    let h = c.args.here.now in
-    let small : marked_of h.look.table.now c.args.state < 2 ^ 128 = rw c.marked-marked.ensures.value at c.marked-marked.type_inv in
+    let h = c.args.descent.now.here in
+    let small : marked_of h.look.table.now c.args.descent.now.state < 2 ^ 128 = rw c.marked-marked.ensures.value at c.marked-marked.type_inv in
     let is = look-table input.dfa.now input.view.store.now input.view.tables.now c.requires.input.ready.tables input.view.counted h.id.index _ _ _ c.requires.down.is_ahead.live c.requires.down.is_ahead.look in
-    (is, mark-into input.dfa.now c.requires.input.automaton _ h.look.table.now c.args.state c.args.byte h.goals is c.requires.down.state small (byte-text input.view.store.now h.id.index c.args.byte c.requires.byte) c.requires.some)
+    (is, mark-into input.dfa.now c.requires.input.automaton _ h.look.table.now c.args.descent.now.state c.args.byte h.goals is c.requires.down.state small (byte-text input.view.store.now h.id.index c.args.byte c.requires.byte) c.requires.some)
 
 pub unreachable-requires : goal.unreachable-requires
 unreachable-requires c =
@@ -23,7 +23,7 @@ unreachable-requires c =
 pub returns-clause-descends : goal.returns-clause-descends
 returns-clause-descends c = λ looks.
     let input = c.args.input.now in
-    let h = c.args.here.now in
+    let h = c.args.descent.now.here in
     let all = tells-all (goal.at.returns-clause-descends c).After-marked-marked in
     let one = byte-text input.view.store.now h.id.index c.args.byte c.requires.byte in
     let low : c.args.byte < 256 = (rw one at all.0.bytes) 0 0 (omega arith) in
@@ -31,14 +31,14 @@ returns-clause-descends c = λ looks.
     let most = c.in-Some.ensures.mark.most all.1.0 all.1.1.0 into.small into.step into.goal in
     rw (c.keep_mark.ensures.ahead, c.holds.ensures) (record {
       keeps = record {
-        mark = mark_over h c.args.byte c.args.state c.in-Some.step.mark c.args.base;
+        mark = mark_over h c.args.byte c.args.descent.now.state c.in-Some.step.mark c.args.descent.now.base;
         kept = c.keep_mark.ensures.marks;
         base_is = refl;
         beside = [];
         ahead = sym (append-nil c.args.trail.now.ahead.items);
         fits = c.requires.down.fits;
       };
-      meets = λ k s can. meets-byte input c.requires.input.automaton c.args.trail.now.ahead.items h c.args.state k c.args.byte c.in-Some.step.mark c.in-Some.step.state c.args.base low c.requires.byte (omega (arith, most, into.some)) c.in-Some.ensures.mark s;
+      meets = λ k s can. meets-byte input c.requires.input.automaton c.args.trail.now.ahead.items h c.args.descent.now.state k c.args.byte c.in-Some.step.mark c.in-Some.step.state c.args.descent.now.base low c.requires.byte (omega (arith, most, into.some)) c.in-Some.ensures.mark s;
       written = c.with_mark.ensures.value;
       cost = omega arith;
     })
