@@ -1,5 +1,5 @@
 -- Nodes get their tables one after another.
-use Rattle.std.proofs.Common.{◌≡◌, ℕ, ◌<◌, ◌≤◌, ◌⊎◌, sym, subst, arith, inl, inr, List, [], ◌∷◌, ◌++◌, ◌∙◌, length, length-append, get_or, take, Contains, Result, Ok, Err, IfOk}
+use Rattle.std.proofs.Common.{zero, suc, refl, ap, ◌≡◌, ℕ, ◌<◌, ◌≤◌, ◌⊎◌, sym, subst, arith, inl, inr, List, [], ◌∷◌, ◌++◌, ◌∙◌, length, length-append, get_or, take, Contains, Result, Ok, Err, IfOk}
 use Rattle.std.proofs.lemmas.Bool.{cases_lt}
 use Rattle.std.proofs.lemmas.List.{get_or_append_left, get_or_push, take-append-le}
 use Rattle.slp_model.specs.declared.NodeId.{NodeId}
@@ -11,6 +11,7 @@ use Rattle.marker_dfa.specs.Deterministic.{DeterministicAutomaton, IsDeterminist
 use Rattle.pair_memo.specs.Entries.{Entry}
 use Rattle.path_counts.specs.Counting.{CountRow, IsComposed, IsCountTable}
 use Rattle.path_counts.proofs.Meanings.{IsCountTable-composed}
+use Rattle.count_tables.specs.Ahead.{HasTable}
 use Rattle.count_tables.specs.Dictionary.{AreKept, AreNodeTables}
 use Rattle.count_tables.specs.Remembered.{AreTrueEntries, Extends, IsTrueEntry}
 
@@ -33,6 +34,9 @@ entries-extend old new es h are e c =
       number = h.more e.1 t.number;
       composed = rw (h.same e.0.0 t.left, h.same e.0.1 t.right, h.same e.1 t.number) t.composed;
     }
+
+pub extends-refl : (kept : List (List CountRow)) → Extends kept kept
+extends-refl kept = record { more = λ i lt. lt; same = λ i lt. refl }
 
 -- ---- a composition is noted
 pub entries-note : (kept : List (List CountRow)) (es fs : List Entry) (e : Entry) → AreTrueEntries kept es → IsTrueEntry kept e → ((f : Entry) → Contains fs f → Contains es f ⊎ (f ≡ e)) → AreTrueEntries kept fs
@@ -57,16 +61,31 @@ tables-push a nodes kept numbers n id are long within is = record {
 pub front-push : (old numbers : List ℕ) (n : ℕ) → length old ≤ length numbers → take (length old) numbers ≡ old → take (length old) (numbers ++ n ∷ []) ≡ old
 front-push old numbers n le e = take-append-le (length old) numbers (n ∷ []) le ∙ e
 
+take-in : (k : ℕ) (xs : List ℕ) (m : ℕ) → k ≤ m → take k (take m xs) ≡ take k xs
+take-in zero xs m le = refl
+take-in (suc k) [] zero le = refl
+take-in (suc k) [] (suc m) le = refl
+take-in (suc k) (x ∷ xs) zero le = absurd (omega arith)
+take-in (suc k) (x ∷ xs) (suc m) le = ap (λ (ys : List ℕ). x ∷ ys) (take-in k xs m (omega arith))
+
+pub front-on : (old numbers new : List ℕ) → length old ≤ length numbers → take (length old) numbers ≡ old → take (length numbers) new ≡ numbers → take (length old) new ≡ old
+front-on old numbers new le first second = sym (take-in (length old) new (length numbers) le) ∙ (ap (λ xs. take (length old) xs) second ∙ first)
+
+-- a composition is kept
+pub number-composed : {E : Type 0} (made : Result ℕ E) (left right t : List CountRow) (new : List (List CountRow)) → IsComposed left right t → IfOk made (λ n. (n < length new) × (get_or new n [] ≡ t)) → IfOk made (λ n. (n < length new) × IsComposed left right (get_or new n []))
+number-composed (Err e) left right t new is h = h
+number-composed (Ok n) left right t new is h = (h.0, rw h.1 is)
+
 -- the table of a pair is the composition of those of its children
 pub pair-table : {E : Type 0} (made : Result ℕ E) (a : DeterministicAutomaton) (nodes : List Node) (kept new : List (List CountRow)) (numbers : List ℕ) (id : ℕ) (l r : NodeId) → IsDeterministic a → AreNodeTables a nodes kept numbers → id ≡ length numbers
     → IsNodeAt nodes id (Pair l r) → AreKept (states_of a) new → IfOk made (λ n. (n < length new) × IsComposed (get_or kept (get_or numbers l.index 0) []) (get_or kept (get_or numbers r.index 0) []) (get_or new n []))
-    → IfOk made (λ n. (n < length new) × IsCountTable a (text (tree nodes id)) (get_or new n []))
+    → IfOk made (HasTable a nodes new id)
 pair-table (Err e) a nodes kept new numbers id l r auto are long node shapes h = h
 pair-table (Ok n) a nodes kept new numbers id l r auto are long node shapes h =
     let left = are.tables l.index (omega (arith, node.1, long)) in
     let right = are.tables r.index (omega (arith, node.2, long)) in
     let whole = IsCountTable-composed a (text (tree nodes l.index)) (text (tree nodes r.index)) (get_or kept (get_or numbers l.index 0) []) (get_or kept (get_or numbers r.index 0) []) auto left right (get_or new n []) (shapes.shapes n h.0) h.1 in
-    (h.0, subst (λ t. IsCountTable a (text t) (get_or new n [])) (sym node.0) whole)
+    record { within = h.0; table = subst (λ t. IsCountTable a (text t) (get_or new n [])) (sym node.0) whole }
 
 -- no entry is true of all tables
 pub none-true : (kept : List (List CountRow)) (es : List Entry) → es ≡ [] → AreTrueEntries kept es

@@ -1,6 +1,8 @@
 pub mod SearchLemmas
 pub mod Keeping
+pub mod Joining
 pub mod Growing
+pub mod Entries
 pub mod Dropping
 pub mod Numbers
 pub mod Weights
@@ -10,3 +12,7 @@ pub mod ByteChoice
 pub mod Finding
 pub mod PartSearch
 pub mod RootSearch
+pub mod BeforeLemmas
+pub mod RankParts
+pub mod TupleMarks
+pub mod RankRoot

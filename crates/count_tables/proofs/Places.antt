@@ -116,7 +116,7 @@ module _ (a : DeterministicAutomaton) (auto : IsDeterministic a) where
 
   -- ---- two texts
   module _ (s u : List ℕ) (tr : List CountRow) (ir : IsCountTable a u tr) (after ways : List ℕ) (filled : (q : ℕ) → q < states_of a → get_or ways q 0 ≡ number_over tr q after) where
-    right-ways : (k : ℕ → List Marked) → AreWays (states_of a) k after → AreWays (states_of a) (runs (next_of a) (marks_of a) false k u) ways
+    pub right-ways : (k : ℕ → List Marked) → AreWays (states_of a) k after → AreWays (states_of a) (runs (next_of a) (marks_of a) false k u) ways
     right-ways k are q lt = filled q lt ∙ over-runs u tr ir k after are q lt
 
     pub joined-place : (p q r i j l : ℕ) (w v : Marked) → IsPlace a s p ways i w q j → IsPlace a u q after j v r l → IsPlace a (s ++ u) p after i (w ++ v) r l

@@ -6,3 +6,6 @@ pub mod Remembered
 pub mod Kept
 pub mod Number
 pub mod Place
+pub mod Rank
+pub mod Ahead
+pub mod Earlier

@@ -119,8 +119,8 @@ fn find<'a, L: Ledger>(
     }
 }
 
-// For each state how many marks may end a text in it.
-fn ways_to_end(alloc: Global, dfa: &Dfa) -> Result<Vec<u64>, NoMemory>
+/// For each state how many marks may end a text in it.
+pub(crate) fn ways_to_end(alloc: Global, dfa: &Dfa) -> Result<Vec<u64>, NoMemory>
     ensures long { IfOk result (λ ways. length ways.items ≡ states_of dfa.now) }
     ensures ways { IfOk result (λ ways. (q : ℕ) → q < states_of dfa.now → slice_index ways.items q ≡ stopped (endings dfa.now q)) }
 {
@@ -145,8 +145,8 @@ fn with_end(dfa: &Dfa, to: &Way, end: u64) -> Tuple
     to.tuple.with_mark(mark, end)
 }
 
-// Numbers for each state and each level of a tree.
-fn room_for(alloc: Global, states: u8, height: u8) -> Result<Vec<u64>, NoMemory>
+/// Numbers for each state and each level of a tree.
+pub(crate) fn room_for(alloc: Global, states: u8, height: u8) -> Result<Vec<u64>, NoMemory>
     ensures { IfOk result (λ room. length room.items ≡ states * height) }
 {
     let mut room = Vec::new(alloc);

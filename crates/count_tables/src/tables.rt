@@ -8,7 +8,7 @@ ghost use Rattle.marker_dfa.specs.Deterministic.{DeterministicAutomaton, states_
 ghost use Rattle.state_tables.specs.Renumbering.{kept_items};
 ghost use Rattle.count_tables.specs.Dictionary.{AreCountTables, IsCountDictionary, count_of, distinct_of, kept_of, table_of, used_by};
 
-use crate::growth::grow;
+use crate::growth::{Growth, REMEMBERED, grow};
 use crate::renumbering::renumber;
 use crate::table_set::TableSet;
 use marker_dfa::Dfa;
@@ -19,9 +19,8 @@ use span_types::{NoMemory, Steps};
 use std::alloc::Global;
 use std::marker::Model;
 use std::sync::ledger::Ledger;
-
-// The maximum number of cached compositions.
-const REMEMBERED: usize = 1 << 16;
+use std::thread::Threads;
+use work_gate::Gate;
 
 /// Each distinct counting table once, under a number from 0, and for each node the number of its table.
 #[derive(Drop)]
@@ -90,16 +89,31 @@ impl CountTables {
     /// Each new node is one step, which takes expected constant time if the composition is cached. Nothing is done for the
     /// other nodes.
     ///
+    /// The new nodes are processed in the order of their ids, some thousands at a time. With two workers or more, in two cases the
+    /// missing compositions of the next ones are computed first, by rising height, those of one height in at most `workers` pieces
+    /// at once, 1 to 64:
+    ///
+    /// - many compositions were computed for the nodes before;
+    /// - the cache is empty, and the next nodes cost more than the start of a thread or are at most eight.
+    ///
+    /// `gate.pass` is called once for each new node, before its table is computed or taken from the cache. No node's table depends
+    /// on the workers or the gate.
+    ///
     /// # Errors
     ///
     /// `NoMemory` if allocation fails. Each node's table is then unchanged, and more tables may be kept.
-    pub fn grow<L: Ledger>(
+    pub fn grow<R: Threads + Sync, G: Gate, L: Ledger>(
         &mut self,
+        rt: &R,
         alloc: Global,
         store: &Store,
         dfa: &Dfa,
+        workers: u8,
+        gate: &G,
         places: &mut Steps<L>,
     ) -> Result<(), NoMemory>
+        requires some_workers { 1 ≤ workers }
+        requires few_workers { workers ≤ 64 }
         requires covered { count_of self.old ≤ length store.now }
         requires states { self.old.states ≡ states_of dfa.now }
         requires true_tables { AreCountTables dfa.now store.now self.old }
@@ -111,15 +125,16 @@ impl CountTables {
         ensures steps_ok { OnOk result (places.new ≡ places.old + (length store.now - count_of self.old)) }
         ensures steps_err { OnErr result (places.new ≡ places.old) }
     {
-        grow(
+        let growth = Growth {
+            rt,
+            gate,
+            workers,
             alloc,
-            &mut self.kept,
-            &mut self.memo,
-            &mut self.numbers,
             store,
             dfa,
-            places,
-        )
+        };
+        let (kept, memo) = (&mut self.kept, &mut self.memo);
+        grow(&growth, kept, memo, &mut self.numbers, places)
     }
 
     /// Removes the nodes that a compaction of the store drops, and each table that no kept node has. Every kept node has its

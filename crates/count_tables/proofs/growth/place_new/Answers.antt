@@ -1,27 +1,42 @@
-use Rattle.std.proofs.Common.{◌≡◌, ◌≤◌, [], ◌∷◌, ◌++◌, length, length-append, arith}
-use Rattle.count_tables.proofs.Growing.{extends-on, front-push, tables-extend, tables-push}
+use Rattle.std.proofs.Common.{length, arith}
+use Rattle.std.proofs.lemmas.List.{take_all}
+use Rattle.count_tables.proofs.Growing.{extends-on, extends-refl, front-on}
 use Rattle.count_tables.proofs.growth.place_new.Goals as goal
 
-pub returns-in_err-number-clause-extends : goal.returns-in_err-number-clause-extends
-returns-in_err-number-clause-extends c = extends-on c.args.kept.now c.loop-index.kept c.number_of.new.kept c.loop-index.invariant.extends c.number_of.ensures.extends
+pub loop-numbers-init : goal.loop-numbers-init
+loop-numbers-init g c = record {
+  some = omega arith;
+  within = (let size = c.count-count.ensures.count in let low = c.requires.covered in omega (arith, size, low));
+  tables = c.requires.tables;
+  longer = omega arith;
+  front = take_all (length c.args.numbers.now.items) c.args.numbers.now.items (omega arith);
+  kept = c.requires.kept;
+  extends = extends-refl c.args.kept.now;
+  entries = c.requires.entries;
+}
 
-pub returns-in_err-push-clause-extends : goal.returns-in_err-push-clause-extends
-returns-in_err-push-clause-extends c = extends-on c.args.kept.now c.loop-index.kept c.number_of.new.kept c.loop-index.invariant.extends c.number_of.ensures.extends
+pub returns-in_err-place_part-clause-front : goal.returns-in_err-place_part-clause-front
+returns-in_err-place_part-clause-front g c =
+    let at = c.loop-numbers in
+    front-on c.args.numbers.now.items at.numbers.items c.place_part.new.numbers.items at.invariant.longer at.invariant.front c.place_part.ensures.front
 
-pub loop-index-preserved : goal.loop-index-preserved
-loop-index-preserved c =
-    let before = c.loop-index.invariant in
-    let new = c.number_of.new.kept in
-    let numbers = c.loop-index.numbers.items in
-    let n = c.in_ok-number.number in
-    let made = c.in_ok-number.ensures.number in
-    let items : c.push.new.self.items ≡ c.loop-index.numbers.items ++ n ∷ [] = c.in_ok-push.ensures.items in
-    let long : length c.args.numbers.now.items ≤ length numbers = omega (arith, before.long, c.loop-index.auto.index, c.len-index.ensures) in
-    rw items (record {
-      long = omega (arith, length-append numbers (n ∷ []), before.long);
-      tables = tables-push c.args.dfa.now c.args.store.now new numbers n c.loop-index.index (tables-extend c.args.dfa.now c.args.store.now c.loop-index.kept new numbers c.number_of.ensures.extends before.tables) before.long made.0 made.1;
-      front = front-push c.args.numbers.now.items numbers n long before.front;
-      kept = c.number_of.ensures.kept;
-      extends = extends-on c.args.kept.now c.loop-index.kept new before.extends c.number_of.ensures.extends;
-      entries = c.number_of.ensures.entries;
-    })
+pub returns-in_err-place_part-clause-extends : goal.returns-in_err-place_part-clause-extends
+returns-in_err-place_part-clause-extends g c = extends-on c.args.kept.now c.loop-numbers.kept c.place_part.new.kept c.loop-numbers.invariant.extends c.place_part.ensures.extends
+
+pub loop-numbers-preserved : goal.loop-numbers-preserved
+loop-numbers-preserved g c =
+    let at = c.loop-numbers in
+    let new = c.place_part.new in
+    let all = c.in_ok-place_part.ensures.all in
+    let longer = at.invariant.longer in
+    let nodes = c.min-nodes.ensures in
+    record {
+      some = c.part_len-most.ensures;
+      within = omega arith;
+      tables = c.place_part.ensures.tables;
+      longer = omega (arith, all, longer);
+      front = front-on c.args.numbers.now.items at.numbers.items new.numbers.items longer at.invariant.front c.place_part.ensures.front;
+      kept = c.place_part.ensures.kept;
+      extends = extends-on c.args.kept.now at.kept new.kept at.invariant.extends c.place_part.ensures.extends;
+      entries = c.place_part.ensures.entries;
+    }
