@@ -5,10 +5,11 @@ use Rattle.std.specs.Option.{option_map}
 use Rattle.span_types.specs.Query.{query_of}
 use Rattle.slp_model.specs.declared.Node.{Node}
 use Rattle.state_tables.specs.Dictionary.{count_of}
+use Rattle.count_tables.specs.Dictionary as counting
 use Rattle.query_book.specs.declared.entry.TabledQuery.{TabledQuery}
 use Rattle.query_book.specs.Named.{Named, with_value}
 use Rattle.query_book.specs.Book.{entries_of, queries_of}
-use Rattle.query_book.specs.Serving.{IsServed, Serves, Covers, covered_of, sum_of, all_at, ArePartlyAt}
+use Rattle.query_book.specs.Serving.{IsServed, Serves, Covers, counted_of, covered_of, sum_of, all_at, ArePartlyAt}
 use Rattle.query_book.specs.Kept.{IsSound, AreSound}
 use Rattle.query_book.specs.Growing.{MayGrow, Grows, ChangesAt, ChangesFirst}
 
@@ -17,7 +18,7 @@ some_is {X} {x} p = ap (λ o. unwrap_or o x) p
 
 -- an unchanged query is one that may have got tables
 stays : (ns : List Node) (v : TabledQuery) → IsSound v → IsServed ns v → MayGrow ns v v
-stays ns v s t = record { query = refl; sound = s; served = t; count = inl refl }
+stays ns v s t = record { query = refl; sound = s; served = t; counts = refl; count = inl refl }
 
 pub sound-at : (ps : Named TabledQuery) (i : ℕ) (v : TabledQuery) → AreSound ps → option_map (λ p. p.1) (slice_get ps i) ≡ Some v → IsSound v
 sound-at [] i v h at = let bad : ⊥ = cc in absurd bad
@@ -94,6 +95,11 @@ pub queries-after : (ns : List Node) (ps qs : Named TabledQuery) → ChangesFirs
 queries-after ns [] qs h = ap (λ xs. queries_of (entries_of xs)) h
 queries-after ns (p ∷ ps) [] h = absurd h
 queries-after ns (p ∷ ps) (q ∷ qs) h = λ j. (h.0 j, query_of (h.1.query j).tree) ∷ queries-after ns ps qs h.2 j
+
+pub counted-after : (ns : List Node) (ps qs : Named TabledQuery) → ChangesFirst (MayGrow ns) (length ps) ps qs → counted_of (entries_of qs) ≡ counted_of (entries_of ps)
+counted-after ns [] qs h = ap (λ xs. counted_of (entries_of xs)) h
+counted-after ns (p ∷ ps) [] h = absurd h
+counted-after ns (p ∷ ps) (q ∷ qs) h = λ j. (h.0 j, unwrap_or (option_map counting.count_of (h.1.counts j)) 0) ∷ counted-after ns ps qs h.2 j
 
 pub partly-after : (ns : List Node) (ps qs : Named TabledQuery) → ChangesFirst (MayGrow ns) (length ps) ps qs → ArePartlyAt (length ns) (covered_of (entries_of ps)) (covered_of (entries_of qs))
 partly-after ns [] qs h = subst (λ xs. ArePartlyAt (length ns) [] (covered_of (entries_of xs))) (sym h) tt

@@ -9,7 +9,7 @@ use Rattle.query_book.specs.Parts.{HasAnswersOf}
 use Rattle.query_book.proofs.Lists.{list-none}
 
 module _ (q : Query) (a : DeterministicAutomaton) (defines : Defines q a) where
-  query-list : (s : List ℕ) (ts : List Tuple) → length s ≤ 281474976710656 → AreAnswersOf a s ts → IsAnswersOf q s ts
+  pub query-list : (s : List ℕ) (ts : List Tuple) → length s ≤ 281474976710656 → AreAnswersOf a s ts → IsAnswersOf q s ts
   query-list s ts short are = record {
     rising = are.rising;
     members = λ t. (λ m. (defines.answers s t short).1 ((are.members t).0 m), λ m. (are.members t).1 ((defines.answers s t short).0 m));

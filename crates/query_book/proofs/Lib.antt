@@ -9,9 +9,14 @@ pub mod Entries
 pub mod Views
 pub mod Served
 pub mod Growth
+pub mod NameIndex
+pub mod TakenCounts
+pub mod CountGrowth
 pub mod Covered
 pub mod Lists
 pub mod Lent
 pub mod InHand
 pub mod Renumbered
 pub mod Used
+pub mod Positions
+pub mod NumberLaws

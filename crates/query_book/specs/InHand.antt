@@ -1,5 +1,5 @@
 -- A query in hand, with the tables of a store's nodes.
-use Rattle.std.specs.Prelude.{◌≡◌, ◌↔◌, List, length, Option}
+use Rattle.std.specs.Prelude.{◌≡◌, ◌↔◌, List, length, Option, IfSome, ℕ, Some}
 use Rattle.span_types.specs.declared.query.QueryTree.{QueryTree}
 use Rattle.span_types.specs.Query.{Query}
 use Rattle.span_types.specs.Rel.{IsAnswersOf, names_of}
@@ -10,20 +10,30 @@ use Rattle.marker_dfa.specs.Deterministic.{DeterministicAutomaton}
 use Rattle.state_tables.specs.Dictionary.{AreTables, count_of}
 use Rattle.span_enum.specs.Members.{Tuple, AreAnswersOf}
 use Rattle.query_book.specs.declared.entry.TabledQuery.{TabledQuery}
+use Rattle.query_book.specs.Counting.{AreFirstCounts, counts_in}
 use Rattle.query_book.specs.Kept.{IsSound}
 
--- what contracts see of a `Ready`: the query, its automaton, and the nodes of the store
+-- what contracts see of a `Ready`: the query, its automaton, the nodes of the store, and the number of nodes with
+-- counting tables, if the query has counting tables
 pub record ReadyQuery : Type 0 where
   pub tree : QueryTree
   pub automaton : DeterministicAutomaton
   pub nodes : List Node
+  pub counted : Option ℕ
 
--- each of the nodes has its table in the query
+-- each of the nodes has its table in the query, whose counting tables, if it has some, are those of first nodes
 pub record HasAllTables (ns : List Node) (t : TabledQuery) : Type 0 where
   pub sound : IsSound t
   pub nodes : store.IsSound ns
   pub tables : AreTables t.query.dfa ns t.tables
   pub all : count_of t.tables ≡ length ns
+  pub counts : IfSome t.counts (AreFirstCounts t.query.dfa ns)
+
+-- each of the nodes has its counting table in the query
+pub record HasAllCounts (ns : List Node) (t : TabledQuery) : Type 0 where
+  pub sound : IsSound t
+  pub counts : IfSome t.counts (AreFirstCounts t.query.dfa ns)
+  pub all : counts_in t ≡ Some (length ns)
 
 -- on each text of the nodes the automaton's answers are the query's, which form a list
 pub record HasAnswersIn (ns : List Node) (a : DeterministicAutomaton) (q : Query) : Type 0 where

@@ -1,5 +1,5 @@
 -- The queries of the map.
-use Rattle.std.specs.Prelude.{◌≡◌}
+use Rattle.std.specs.Prelude.{◌≡◌, IfSome}
 use Rattle.std.specs.List.{AllByRecursion}
 use Rattle.marker_dfa.specs.Deterministic.{states_of}
 use Rattle.table_grow.specs.Remembering.{AreTrueEntries}
@@ -7,11 +7,12 @@ use Rattle.query_book.specs.declared.entry.TabledQuery.{TabledQuery}
 use Rattle.query_book.specs.Compiling.{IsCompiled}
 use Rattle.query_book.specs.Named.{Named}
 
--- the query, its tables and their compositions are consistent
+-- the query, its tables and their compositions are consistent, and so are its counting tables, if it has some
 pub record IsSound (t : TabledQuery) : Type 0 where
   pub compiled : IsCompiled t.query
   pub states : t.tables.states ≡ states_of t.query.dfa
   pub memory : AreTrueEntries t.tables t.memory
+  pub counts : IfSome t.counts (λ d. d.states ≡ states_of t.query.dfa)
 
 -- each query is sound
 abbrev pub AreSound : Named TabledQuery → Type 0

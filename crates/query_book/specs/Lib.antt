@@ -1,11 +1,13 @@
 pub mod Named
 pub mod Occurrences
 pub mod Answers
+pub mod Numbers
 pub mod Registering
 pub mod Keeping
 pub mod Combining
 pub mod Compiling
 pub mod Book
+pub mod Counting
 pub mod Serving
 pub mod Laws
 pub mod Kept

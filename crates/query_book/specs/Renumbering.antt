@@ -1,5 +1,5 @@
 -- How a registry changes when its store is compacted to the kept nodes.
-use Rattle.std.specs.Prelude.{◌≡◌, ℕ, ◌<◌, ◌≤◌, Bool, List, length, map, Contains}
+use Rattle.std.specs.Prelude.{◌≡◌, ℕ, ◌<◌, ◌≤◌, Bool, List, length, map, Option, Some, None, Contains}
 use Rattle.std.specs.List.{AllByRecursion}
 use Rattle.slp_model.specs.declared.Node.{Node}
 use Rattle.slp_model.specs.Kept.{IsPlanOf}
@@ -9,6 +9,10 @@ use Rattle.query_book.specs.declared.entry.Entry.{Entry}
 use Rattle.query_book.specs.declared.entry.TabledQuery.{TabledQuery}
 use Rattle.query_book.specs.Named.{Named}
 use Rattle.query_book.specs.Book.{Book}
+use Rattle.count_tables.specs.Dictionary.{CountDictionary}
+use Rattle.count_tables.specs.Dictionary as counts
+use Rattle.marker_dfa.specs.Deterministic.{DeterministicAutomaton}
+use Rattle.query_book.specs.Counting.{UsesEachCount, UsesItsCounts, counted}
 use Rattle.query_book.specs.Kept.{IsSound}
 use Rattle.query_book.specs.Serving.{IsServed, Serves}
 
@@ -26,18 +30,40 @@ ranked keep ps = map (λ p. (p.0, rank keep p.1)) ps
 abbrev pub UsesEachTable : Dictionary → Type 0
 UsesEachTable d = (number : ℕ) → number < distinct_of d → Contains d.numbers number
 
--- in each query
+-- in each query, and each kept counting table is that of a node
 abbrev pub UseEachTable : Book → Type 0
-UseEachTable es = AllByRecursion (λ e. UsesEachTable e.tabled.tables) es
+UseEachTable es = AllByRecursion (λ e. UsesEachTable e.tabled.tables × UsesItsCounts e.tabled) es
 
--- the query is unchanged, its tables are exactly those of the kept nodes that had tables, and no other table is kept
+-- counting tables are renumbered: they are exactly those of the kept nodes that had some, and no other is kept
+pub record RenumbersTables (keep : List Bool) (old new : CountDictionary) : Type 0 where
+  pub states : new.states ≡ old.states
+  pub count : counts.count_of new ≡ rank keep (counts.count_of old)
+  pub used : UsesEachCount new
+  pub tables : (a : DeterministicAutomaton) (ns ms : List Node) → IsThinOf ns keep ms → counts.AreCountTables a ns old → counts.AreCountTables a ms new
+
+-- if there are some
+abbrev pub RenumbersCounts : List Bool → Option CountDictionary → Option CountDictionary → Type 0
+RenumbersCounts keep None None = Unit {0}
+RenumbersCounts keep None (Some new) = ⊥
+RenumbersCounts keep (Some old) None = ⊥
+RenumbersCounts keep (Some old) (Some new) = RenumbersTables keep old new
+
+-- the query is unchanged, its tables are exactly those of the kept nodes that had tables, and no other table is kept.
+-- The same holds of its counting tables.
 pub record Renumbers (keep : List Bool) (old new : TabledQuery) : Type 0 where
   pub query : new.query ≡ old.query
   pub sound : IsSound new
   pub count : count_of new.tables ≡ rank keep (count_of old.tables)
+  pub counts : counted new ≡ rank keep (counted old)
   pub used : UsesEachTable new.tables
+  pub counts_used : UsesItsCounts new
   pub served : (ns ms : List Node) → IsThinOf ns keep ms → IsServed ns old → IsServed ms new
 
--- in each query the plan covers all nodes with tables
+-- the plan covers all nodes with tables
+pub record IsWithin (keep : List Bool) (t : TabledQuery) : Type 0 where
+  pub tables : count_of t.tables ≤ length keep
+  pub counts : counted t ≤ length keep
+
+-- in each query
 abbrev pub AreWithin : List Bool → List Entry → Type 0
-AreWithin keep es = AllByRecursion (λ e. count_of e.tabled.tables ≤ length keep) es
+AreWithin keep es = AllByRecursion (λ e. IsWithin keep e.tabled) es

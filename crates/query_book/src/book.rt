@@ -1,5 +1,5 @@
 //! The registry of queries.
-ghost use Rattle.std.specs.Prelude.{◌≡◌, ◌+◌, ◌≤◌, List, [], length, OnOk, OnErr, IfOk, IfErr, IsSome, Some, MatchResult};
+ghost use Rattle.std.specs.Prelude.{◌≡◌, ◌+◌, ◌≤◌, List, [], length, OnOk, OnErr, IfOk, IfErr, IsErrOf, IsSome, None, Some, MatchResult, ◌↔◌};
 ghost use Rattle.std.specs.Option.{option_map};
 ghost use Rattle.span_types.specs.Query.{Query, query_of};
 ghost use Rattle.span_types.specs.Rel.{names_of};
@@ -9,11 +9,12 @@ ghost use Rattle.query_book.specs.Named.{AreDistinctNames, put, taken_out, value
 ghost use Rattle.query_book.specs.Compiling.{IsCompiled};
 ghost use Rattle.query_book.specs.Registering.{IsQueryOf, IsRefused};
 ghost use Rattle.query_book.specs.Book.{IsMissing, queries_of, tabled_of, with_entry, without_entry};
-ghost use Rattle.query_book.specs.Serving.{ArePartlyAt, Covers, Serves, all_at, covered_of, sum_of};
+ghost use Rattle.query_book.specs.Serving.{ArePartlyAt, Covers, HasCounts, Serves, all_at, counted_of, covered_of, sum_of};
 ghost use Rattle.query_book.specs.Kept.{IsSound};
 ghost use Rattle.query_book.specs.Renumbering.{IsPlanFor, UseEachTable, ranked};
 
 use crate::compiled::{Compiled, compile};
+use crate::counting::count_named;
 use crate::entry::{Entry, Lent, TabledQuery, fresh_entry};
 use crate::growing::grow_entries;
 use crate::refusal::{BookRefusal, QueryRefusal};
@@ -72,6 +73,7 @@ impl QueryBook {
     pub fn add(&mut self, alloc: Global, name: Name, text: &[u8]) -> Result<(), QueryRefusal>
         ensures ok { OnOk result ((q : Query) × IsQueryOf text.now q × (queries_of self.new ≡ put (queries_of self.old) name q)) }
         ensures covered { OnOk result (covered_of self.new ≡ put (covered_of self.old) name 0) }
+        ensures counted { OnOk result (counted_of self.new ≡ put (counted_of self.old) name 0) }
         ensures serves { (ns : List Node) → Serves ns self.old → Serves ns self.new }
         ensures distinct { OnOk result (AreDistinctNames (queries_of self.new)) }
         ensures refused { IfErr result (IsRefused text.now) }
@@ -92,6 +94,7 @@ impl QueryBook {
         requires { IsCompiled query }
         ensures ok { OnOk result (queries_of self.new ≡ put (queries_of self.old) name (query_of query.tree)) }
         ensures covered { OnOk result (covered_of self.new ≡ put (covered_of self.old) name 0) }
+        ensures counted { OnOk result (counted_of self.new ≡ put (counted_of self.old) name 0) }
         ensures serves { (ns : List Node) → Serves ns self.old → Serves ns self.new }
         ensures distinct { OnOk result (AreDistinctNames (queries_of self.new)) }
         ensures err { OnErr result (self.new ≡ self.old) }
@@ -111,6 +114,7 @@ impl QueryBook {
         ensures ok { OnOk result (IsSome (value_of (queries_of self.old) name.now)) }
         ensures rest { queries_of self.new ≡ taken_out (queries_of self.old) name.now }
         ensures covered { covered_of self.new ≡ taken_out (covered_of self.old) name.now }
+        ensures counted { counted_of self.new ≡ taken_out (counted_of self.old) name.now }
         ensures serves { (ns : List Node) → Serves ns self.old → Serves ns self.new }
         ensures distinct { AreDistinctNames (queries_of self.new) }
         ensures missing { IfErr result (IsMissing (queries_of self.old) name.now) }
@@ -152,6 +156,7 @@ impl QueryBook {
         ensures all { OnOk result (Covers store.now self.new) }
         ensures serves { Serves store.now self.new }
         ensures queries { queries_of self.new ≡ queries_of self.old }
+        ensures counted { counted_of self.new ≡ counted_of self.old }
         ensures done { OnOk result (covered_of self.new ≡ all_at (length store.now) (covered_of self.old)) }
         ensures some { ArePartlyAt (length store.now) (covered_of self.old) (covered_of self.new) }
         ensures steps { places.new + sum_of (covered_of self.old) ≡ places.old + sum_of (covered_of self.new) }
@@ -167,13 +172,59 @@ impl QueryBook {
         grow_entries(lent, &mut self.by_name, places)
     }
 
-    /// Renumbers the tables when the store is compacted: each query keeps exactly the tables of the kept nodes, under
-    /// the nodes' new ids. The old store must be the one that was used before, possibly with more nodes. The cache of
+    /// Computes the missing counting tables of the query with this name, so that each node of the store has one. The store
+    /// must be the one that was used before, possibly with more nodes. `places` counts the computed counting tables. The
+    /// work on the nodes of one height runs in at most `workers` pieces at once, 1 to 64. The query is found in time
+    /// linear in the number of queries.
+    ///
+    /// # Errors
+    ///
+    /// `NoSuchQuery` exactly if no query has the name; the registry is then unchanged. `NoMemory` if allocation fails; the
+    /// query then has the counting tables of the same nodes as before.
+    pub fn grow_counts<R: Threads + Sync, G: Gate, L: Ledger>(
+        &mut self,
+        rt: &R,
+        alloc: Global,
+        name: &[u8],
+        store: &Store,
+        workers: u8,
+        gate: &G,
+        places: &mut Steps<L>,
+    ) -> Result<(), BookRefusal>
+        requires least { 1 ≤ workers }
+        requires most { workers ≤ 64 }
+        requires serves { Serves store.now self.old }
+        ensures all { OnOk result (HasCounts (length store.now) self.new name.now) }
+        ensures done { OnOk result (counted_of self.new ≡ put (counted_of self.old) name.now (length store.now)) }
+        ensures err { OnErr result (counted_of self.new ≡ counted_of self.old) }
+        ensures missing { IsErrOf result BookRefusal.NoSuchQuery ↔ (value_of (queries_of self.old) name.now ≡ None) }
+        ensures unchanged { IsErrOf result BookRefusal.NoSuchQuery → self.new ≡ self.old }
+        ensures queries { queries_of self.new ≡ queries_of self.old }
+        ensures covered { covered_of self.new ≡ covered_of self.old }
+        ensures serves { Serves store.now self.new }
+        ensures covers { Covers store.now self.old → Covers store.now self.new }
+        ensures some { ArePartlyAt (length store.now) (counted_of self.old) (counted_of self.new) }
+        ensures steps { places.new + sum_of (counted_of self.old) ≡ places.old + sum_of (counted_of self.new) }
+    {
+        self.by_name.settle();
+        let lent = Lent {
+            rt,
+            alloc,
+            store,
+            workers,
+            gate,
+        };
+        count_named(lent, &mut self.by_name, name, places)
+    }
+
+    /// Renumbers the tables and counting tables when the store is compacted: each query keeps exactly those of the kept
+    /// nodes, under the nodes' new ids. The old store must be the one that was used before, possibly with more nodes. The cache of
     /// compositions is cleared. Allocates nothing. Takes time linear in the number of tables.
     pub fn renumber(&mut self, moves: &Moves)
         requires { IsPlanFor moves.now self.old }
         ensures queries { queries_of self.new ≡ queries_of self.old }
         ensures covered { covered_of self.new ≡ ranked moves.now (covered_of self.old) }
+        ensures counted { counted_of self.new ≡ ranked moves.now (counted_of self.old) }
         ensures used { UseEachTable self.new }
         ensures serves { (ns ms : List Node) → IsThinOf ns moves.now ms → Serves ns self.old → Serves ms self.new }
     {

@@ -8,7 +8,7 @@ ghost use Rattle.query_book.specs.Answers.{IsNamed};
 ghost use Rattle.query_book.specs.Book.{queries_of};
 ghost use Rattle.query_book.specs.Combining.{HasPair, HasProjection, IsAbsent, IsAccepted, IsPairRefused, IsProjectRefused};
 ghost use Rattle.query_book.specs.Compiling.{IsCompiled};
-ghost use Rattle.query_book.specs.Serving.{Serves, covered_of};
+ghost use Rattle.query_book.specs.Serving.{Serves, counted_of, covered_of};
 
 use crate::book::QueryBook;
 use crate::combined::{joined, projected, united};
@@ -43,6 +43,7 @@ impl QueryBook {
         requires right { IsName right.now }
         ensures ok { OnOk result (HasPair Union (queries_of self.old) left.now right.now (λ q. IsAccepted q × (queries_of self.new ≡ put (queries_of self.old) name q))) }
         ensures covered { OnOk result (covered_of self.new ≡ put (covered_of self.old) name 0) }
+        ensures counted { OnOk result (counted_of self.new ≡ put (counted_of self.old) name 0) }
         ensures serves { (ns : List Node) → Serves ns self.old → Serves ns self.new }
         ensures distinct { OnOk result (AreDistinctNames (queries_of self.new)) }
         ensures refused { IfErr result (IsPairRefused Union (queries_of self.old) left.now right.now) }
@@ -78,6 +79,7 @@ impl QueryBook {
         requires right { IsName right.now }
         ensures ok { OnOk result (HasPair Join (queries_of self.old) left.now right.now (λ q. IsAccepted q × (queries_of self.new ≡ put (queries_of self.old) name q))) }
         ensures covered { OnOk result (covered_of self.new ≡ put (covered_of self.old) name 0) }
+        ensures counted { OnOk result (counted_of self.new ≡ put (counted_of self.old) name 0) }
         ensures serves { (ns : List Node) → Serves ns self.old → Serves ns self.new }
         ensures distinct { OnOk result (AreDistinctNames (queries_of self.new)) }
         ensures refused { IfErr result (IsPairRefused Join (queries_of self.old) left.now right.now) }
@@ -113,6 +115,7 @@ impl QueryBook {
         requires keep { IsNameList keep.now }
         ensures ok { OnOk result (IsNamed (queries_of self.old) source.now (λ q. HasProjection q keep.now (λ p. IsAccepted p × (queries_of self.new ≡ put (queries_of self.old) name p)))) }
         ensures covered { OnOk result (covered_of self.new ≡ put (covered_of self.old) name 0) }
+        ensures counted { OnOk result (counted_of self.new ≡ put (counted_of self.old) name 0) }
         ensures serves { (ns : List Node) → Serves ns self.old → Serves ns self.new }
         ensures distinct { OnOk result (AreDistinctNames (queries_of self.new)) }
         ensures refused { IfErr result (IsProjectRefused (queries_of self.old) source.now keep.now) }

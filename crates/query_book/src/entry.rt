@@ -8,6 +8,7 @@ ghost use Rattle.query_book.specs.Making.{IsFresh};
 ghost use Rattle.query_book.specs.Serving.{IsServed};
 
 use crate::compiled::Compiled;
+use count_tables::CountTables;
 use node_store::Store;
 use span_types::{Name, NoMemory, Steps};
 use state_tables::Tables;
@@ -20,12 +21,14 @@ use work_gate::Gate;
 /// The size of each query's cache of compositions, in compositions.
 const REMEMBERED: usize = 4096;
 
-/// A query, its tables for the first nodes of a store, and a cache of compositions of these tables.
+/// A query, its tables for the first nodes of a store, and a cache of compositions of these tables. A query whose answers
+/// were counted also has counting tables.
 #[derive(Drop)]
 pub struct TabledQuery {
     pub(crate) query: Compiled,
     pub(crate) tables: Tables,
     pub(crate) memory: Memory,
+    pub(crate) counts: Option<CountTables>,
 }
 
 /// A query with its tables, and its name.
@@ -66,6 +69,7 @@ pub(crate) fn fresh_entry(alloc: Global, name: Name, query: Compiled) -> Result<
         query,
         tables,
         memory,
+        counts: None,
     };
     Ok(Entry { name, tabled })
 }

@@ -1,5 +1,5 @@
 //! A query in hand: found once by its name, and evaluated without further lookups of it.
-ghost use Rattle.std.specs.Prelude.{◌≡◌, ◌↔◌, ◌+◌, ◌*◌, ◌<◌, ◌≤◌, None, Some, All, length, IfOk, IfErr, IsTrue};
+ghost use Rattle.std.specs.Prelude.{◌≡◌, ◌↔◌, ℕ, ◌+◌, ◌*◌, ◌<◌, ◌≤◌, None, Some, All, length, IfOk, IfErr, IsTrue};
 ghost use Rattle.span_types.specs.Fibonacci.{looks_limit};
 ghost use Rattle.span_types.specs.Query.{query_of};
 ghost use Rattle.span_types.specs.Rel.{names_of};
@@ -12,7 +12,7 @@ ghost use Rattle.query_book.specs.Answers.{Defines, HasAnswer, HasList, IsAnswer
 ghost use Rattle.query_book.specs.Book.{IsMissing, queries_of};
 ghost use Rattle.query_book.specs.InHand.{HasAnswersIn};
 ghost use Rattle.query_book.specs.Parts.{HasAnswersOf};
-ghost use Rattle.query_book.specs.Serving.{Covers};
+ghost use Rattle.query_book.specs.Serving.{Covers, HasCounts};
 
 use crate::book::QueryBook;
 use crate::entry::TabledQuery;
@@ -26,16 +26,17 @@ use std::alloc::Global;
 use std::marker::Model;
 use std::sync::ledger::Ledger;
 
-/// A query of a registry, with its tables for all nodes of a store. Contracts see it as the query's tree, its automaton
-/// and the nodes.
+/// A query of a registry, with its tables for all nodes of a store. Contracts see it as the query's tree, its automaton,
+/// the nodes, and the number of nodes with counting tables.
 #[derive(Drop)]
 pub struct Ready<'a> {
-    tabled: &'a TabledQuery,
-    store: &'a Store,
+    pub(crate) tabled: &'a TabledQuery,
+    pub(crate) store: &'a Store,
 }
 
 impl<'a> Model for Ready<'a> {
     ghost use Rattle.query_book.specs.InHand.{HasAllTables, ReadyQuery};
+    ghost use Rattle.query_book.specs.Counting.{counts_in};
     ghost use Rattle.span_types.specs.contracts.query.QueryTree as query_tree;
     ghost use Rattle.std.specs.Coded.{codes};
 
@@ -43,7 +44,7 @@ impl<'a> Model for Ready<'a> {
 
     ghost coded = { Prim.hlevel (codes, query_tree.the_row.coded) };
 
-    ghost view = { λ r. record { tree = r.tabled.now.query.tree; automaton = r.tabled.now.query.dfa; nodes = r.store.now } };
+    ghost view = { λ r. record { tree = r.tabled.now.query.tree; automaton = r.tabled.now.query.dfa; nodes = r.store.now; counted = counts_in r.tabled.now } };
 
     ghost invariant = { λ r. HasAllTables r.store.now r.tabled.now };
 }
@@ -60,6 +61,7 @@ impl QueryBook {
         requires { Covers store.now self.now }
         ensures query { IfOk result (λ r. value_of (queries_of self.now) name.now ≡ Some (query_of r.tree)) }
         ensures store { IfOk result (λ r. r.nodes ≡ store.now) }
+        ensures counted { IfOk result (λ r. (n : ℕ) → HasCounts n self.now name.now → r.counted ≡ Some n) }
         ensures missing { IfErr result (IsMissing (queries_of self.now) name.now) }
     {
         let _nodes = store.count();

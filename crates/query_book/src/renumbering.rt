@@ -1,12 +1,13 @@
 //! Renumbering of the tables after a compaction, one query after the other.
-ghost use Rattle.std.specs.Prelude.{◌<◌, ◌≤◌, length};
-ghost use Rattle.state_tables.specs.Dictionary.{count_of};
+ghost use Rattle.std.specs.Prelude.{◌<◌, ◌≤◌, IfSome, length};
+ghost use Rattle.count_tables.specs.Dictionary.{count_of};
 ghost use Rattle.query_book.specs.Book.{entries_of};
 ghost use Rattle.query_book.specs.Growing.{ChangesAt, ChangesFirst};
 ghost use Rattle.query_book.specs.Kept.{AreSound, IsSound};
-ghost use Rattle.query_book.specs.Renumbering.{AreWithin, Renumbers};
+ghost use Rattle.query_book.specs.Renumbering.{AreWithin, IsWithin, Renumbers, RenumbersCounts};
 
 use crate::entry::TabledQuery;
+use count_tables::CountTables;
 use name_map::NameMap;
 use node_store::Moves;
 
@@ -35,10 +36,21 @@ fn renumber_at(by_name: &mut NameMap<TabledQuery>, place: usize, moves: &Moves)
 /// Does the same for a query.
 fn renumber_query(tabled: &mut TabledQuery, moves: &Moves)
     requires sound { IsSound tabled.old }
-    requires within { count_of tabled.old.tables ≤ length moves.now }
+    requires within { IsWithin moves.now tabled.old }
     ensures { Renumbers moves.now tabled.old tabled.new }
 {
     tabled.tables.renumber(moves);
+    renumber_counts(&mut tabled.counts, moves);
     // The cached compositions have the old numbers of the tables.
     tabled.memory.forget();
+}
+
+/// Does the same for the query's counting tables, if it has some.
+fn renumber_counts(counts: &mut Option<CountTables>, moves: &Moves)
+    requires { IfSome counts.old (λ d. count_of d ≤ length moves.now) }
+    ensures { RenumbersCounts moves.now counts.old counts.new }
+{
+    if let Some(counts) = counts {
+        counts.renumber(moves);
+    }
 }

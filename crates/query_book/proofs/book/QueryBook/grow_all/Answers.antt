@@ -2,8 +2,8 @@ use Rattle.std.proofs.Common.{sym, ap, ◌∙◌, subst, List, length, Result, O
 use Rattle.query_book.specs.declared.entry.Entry.{Entry}
 use Rattle.query_book.specs.Book.{entries_of, queries_of}
 use Rattle.query_book.specs.Kept.{AreSound}
-use Rattle.query_book.specs.Serving.{Serves, covered_of, sum_of, all_at, ArePartlyAt}
-use Rattle.query_book.proofs.Growth.{sound-after, served-after, queries-after, partly-after, covered-after, covers-after}
+use Rattle.query_book.specs.Serving.{Serves, counted_of, covered_of, sum_of, all_at, ArePartlyAt}
+use Rattle.query_book.proofs.Growth.{sound-after, served-after, queries-after, partly-after, counted-after, covered-after, covers-after}
 use Rattle.query_book.proofs.book.QueryBook.grow_all.Goals as goal
 
 on-ok : {A E : Type 0} (r : Result A E) (P Q : Type 0) → (P → Q) → OnOk r P → OnOk r Q
@@ -31,6 +31,11 @@ pub returns-clause-queries : goal.returns-clause-queries
 returns-clause-queries g c =
     let seen = ap entries_of c.settle.ensures ∙ c.self.view_is in
     queries-after c.args.store.now c.settle.new.self c.grow_entries.new.by_name c.grow_entries.ensures.some ∙ ap queries_of seen
+
+pub returns-clause-counted : goal.returns-clause-counted
+returns-clause-counted g c =
+    let seen = ap entries_of c.settle.ensures ∙ c.self.view_is in
+    counted-after c.args.store.now c.settle.new.self c.grow_entries.new.by_name c.grow_entries.ensures.some ∙ ap counted_of seen
 
 pub returns-clause-done : goal.returns-clause-done
 returns-clause-done g c =

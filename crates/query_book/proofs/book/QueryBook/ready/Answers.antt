@@ -14,8 +14,12 @@ invariant_of-result c =
       nodes = c.count-nodes.ensures.sound;
       tables = s.tables;
       all = count-found c.args.store.now c.args.self.now c.args.name.now c.in_ok-tabled.tabled.now c.requires c.in_ok-tabled.ensures.found;
+      counts = s.counts;
     }
 
 pub returns-clause-query : goal.returns-clause-query
 returns-clause-query c =
     value-by_name (λ t. query_of t.query.tree) c.args.self.now c.args.name.now ∙ ap (λ o. option_map (λ (t : TabledQuery). query_of t.query.tree) o) c.in_ok-tabled.ensures.found
+
+pub returns-clause-counted : goal.returns-clause-counted
+returns-clause-counted c = λ n has. has c.in_ok-tabled.tabled.now c.in_ok-tabled.ensures.found

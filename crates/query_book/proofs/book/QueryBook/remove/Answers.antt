@@ -4,7 +4,8 @@ use Rattle.span_types.specs.Query.{query_of}
 use Rattle.query_book.specs.declared.entry.TabledQuery.{TabledQuery}
 use Rattle.query_book.specs.Book.{queries_of, tabled_of}
 use Rattle.state_tables.specs.Dictionary.{count_of}
-use Rattle.query_book.specs.Serving.{Serves, covered_of}
+use Rattle.query_book.specs.Counting.{counted}
+use Rattle.query_book.specs.Serving.{Serves, counted_of, covered_of}
 use Rattle.query_book.proofs.Views.{value-by_name, by_name-without_entry}
 use Rattle.query_book.proofs.Served.{serves-without_entry}
 use Rattle.query_book.proofs.book.QueryBook.remove.Goals as goal
@@ -25,6 +26,9 @@ returns-clause-rest c = ap queries_of c.take.ensures.rest ∙ by_name-without_en
 
 pub returns-clause-covered : goal.returns-clause-covered
 returns-clause-covered c = ap covered_of c.take.ensures.rest ∙ by_name-without_entry (λ t. count_of t.tables) c.args.self.now c.args.name.now
+
+pub returns-clause-counted : goal.returns-clause-counted
+returns-clause-counted c = ap counted_of c.take.ensures.rest ∙ by_name-without_entry counted c.args.self.now c.args.name.now
 
 pub returns-clause-serves : goal.returns-clause-serves
 returns-clause-serves c = λ ns h. subst (Serves ns) (sym c.take.ensures.rest) (serves-without_entry ns c.args.self.now c.args.name.now h)

@@ -3,8 +3,8 @@ use Rattle.query_book.specs.declared.entry.Entry.{Entry}
 use Rattle.query_book.specs.Book.{entries_of, queries_of}
 use Rattle.query_book.specs.Kept.{AreSound}
 use Rattle.query_book.specs.Renumbering.{AreWithin, ranked}
-use Rattle.query_book.specs.Serving.{Serves, covered_of}
-use Rattle.query_book.proofs.Renumbered.{within-all, sound-after, serves-after, used-after, queries-after, covered-after}
+use Rattle.query_book.specs.Serving.{Serves, counted_of, covered_of}
+use Rattle.query_book.proofs.Renumbered.{within-all, sound-after, serves-after, used-after, queries-after, covered-after, counted-after}
 use Rattle.query_book.proofs.book.QueryBook.renumber.Goals as goal
 
 pub renumber_entries-requires-clause-kept : goal.renumber_entries-requires-clause-kept
@@ -27,6 +27,11 @@ pub returns-clause-covered : goal.returns-clause-covered
 returns-clause-covered c =
     let seen = ap entries_of c.settle.ensures ∙ c.self.view_is in
     covered-after c.args.moves.now c.settle.new.self c.renumber_entries.new.by_name c.renumber_entries.ensures ∙ ap (λ es. ranked c.args.moves.now (covered_of es)) seen
+
+pub returns-clause-counted : goal.returns-clause-counted
+returns-clause-counted c =
+    let seen = ap entries_of c.settle.ensures ∙ c.self.view_is in
+    counted-after c.args.moves.now c.settle.new.self c.renumber_entries.new.by_name c.renumber_entries.ensures ∙ ap (λ es. ranked c.args.moves.now (counted_of es)) seen
 
 pub returns-clause-used : goal.returns-clause-used
 returns-clause-used c = used-after c.args.moves.now c.settle.new.self c.renumber_entries.new.by_name c.renumber_entries.ensures
