@@ -50,6 +50,10 @@ opened_text docs = codes "ok " ++ decimal docs ++ 10 ∷ []
 abbrev pub written_text : ℕ → List ℕ
 written_text len = codes "ok " ++ decimal len ++ 10 ∷ []
 
+-- `NUMBER`
+abbrev pub number_text : ℕ → List ℕ
+number_text number = decimal number ++ 10 ∷ []
+
 -- the word of a rejection and its values, each after a space
 abbrev pub why_text : Refusal → List ℕ
 why_text Syntax = codes "Syntax"

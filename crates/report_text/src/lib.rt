@@ -18,7 +18,7 @@ mod reply;
 
 pub use refusal::{Refusal, refusal_line};
 pub use reply::{
-    doc_line, name_line, opened_line, query_line, saved_line, shown_line, written_line,
+    doc_line, name_line, number_line, opened_line, query_line, saved_line, shown_line, written_line,
 };
 
 #[cfg(test)]

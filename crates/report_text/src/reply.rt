@@ -1,6 +1,6 @@
 // The lines of replies.
 ghost use Rattle.std.specs.Prelude.{◌≡◌, ◌++◌, ◌∷◌, [], IfOk, OnOk, OnErr};
-ghost use Rattle.report_text.specs.Reply.{doc_text, name_text, opened_text, query_text, saved_text, shown_text, written_text};
+ghost use Rattle.report_text.specs.Reply.{doc_text, name_text, number_text, opened_text, query_text, saved_text, shown_text, written_text};
 
 use crate::pieces::{push_line, push_number, push_quoted};
 use span_types::{Name, NoMemory, Vars};
@@ -60,6 +60,29 @@ pub fn name_line(alloc: Global, name: &Name, len: u64, into: &mut Vec<u8>) -> Re
     ensures unchanged { OnErr result (into.new.items ≡ into.old.items) }
 {
     let line = name_line_of(alloc, name, len)?;
+    push_line(&line, into)?;
+    Ok(())
+}
+
+fn number_line_of(alloc: Global, number: u64) -> Result<Vec<u8>, NoMemory>
+    ensures { IfOk result (λ line. line.items ≡ number_text number) }
+{
+    let mut line = Vec::new(alloc);
+    push_number(number, &mut line)?;
+    line.push(b'\n')?;
+    Ok(line)
+}
+
+/// Appends `NUMBER` and a newline to `into`.
+///
+/// # Errors
+///
+/// `NoMemory` if allocation fails; `into` is then unchanged.
+pub fn number_line(alloc: Global, number: u64, into: &mut Vec<u8>) -> Result<(), NoMemory>
+    ensures ok { OnOk result (into.new.items ≡ into.old.items ++ number_text number) }
+    ensures unchanged { OnErr result (into.new.items ≡ into.old.items) }
+{
+    let line = number_line_of(alloc, number)?;
     push_line(&line, into)?;
     Ok(())
 }

@@ -27,6 +27,7 @@ fn replies(alloc: Global) -> Result<Vec<u8>, NoMemory> {
     saved_line(alloc, 1, 3, &mut out)?;
     opened_line(alloc, 10, &mut out)?;
     written_line(alloc, 4_294_967_296, &mut out)?;
+    number_line(alloc, 18_446_744_073_709_551_614, &mut out)?;
     Ok(out)
 }
 
@@ -40,7 +41,8 @@ fn lines_of_replies(rt: HostRuntime) -> Result<(), Fail> {
         ok a.b x y2\n\
         ok 1 3\n\
         ok 10\n\
-        ok 4294967296\n";
+        ok 4294967296\n\
+        18446744073709551614\n";
     match replies(rt.alloc()) {
         Ok(out) => assert_eq!(rt; out.as_slice(), wanted.as_slice()),
         Err(NoMemory) => panic!(rt; "out of memory"),

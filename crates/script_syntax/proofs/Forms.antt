@@ -2,11 +2,11 @@
 use Rattle.std.proofs.Common.{◌≡◌, ℕ, List, [], ◌∷◌, ◌++◌, refl, codes, inl, inr}
 use Rattle.std.specs.Prelude.{◌⊎◌, Some, slice_get}
 use Rattle.std.specs.Fmt.{decimal}
-use Rattle.script_syntax.specs.Syntax.{Reads, after_words, limit_words, longest_words, spaced}
+use Rattle.script_syntax.specs.Syntax.{Reads, limit_words, longest_words, spaced, start_words}
 use Rattle.script_syntax.specs.Fields.{Fields, fields_of, word_of}
 use Rattle.line_parts.proofs.Cuts.{NoByte, from_test}
 use Rattle.script_syntax.specs.declared.form.Command.{Command}
-use Rattle.script_syntax.specs.declared.form.Command.TheVariants.{Nothing, Text, LoadFile, ShareFile, QuotedText, WriteFile, LetDoc, DropDoc, Names, Show, Query, Unquery, List as ListDoc, Nonempty, Has, SaveFile, OpenFile, UnionQuery, JoinQuery, ProjectQuery, ListAll, ReplaceDoc, MarkDocs, UnmarkDocs, BackDocs, Compact}
+use Rattle.script_syntax.specs.declared.form.Command.TheVariants.{Nothing, Text, LoadFile, ShareFile, QuotedText, WriteFile, LetDoc, DropDoc, Names, Show, Query, Unquery, List as ListDoc, Count, Rank, Nonempty, Has, SaveFile, OpenFile, UnionQuery, JoinQuery, ProjectQuery, ListAll, ReplaceDoc, MarkDocs, UnmarkDocs, BackDocs, Compact}
 use Rattle.script_syntax.specs.declared.keyword.Keyword.{Keyword}
 use Rattle.script_syntax.specs.declared.keyword.Keyword.TheVariants as kw
 
@@ -23,6 +23,8 @@ words_plain kw.Show = from_test 32 (codes "show") refl
 words_plain kw.Query = from_test 32 (codes "query") refl
 words_plain kw.Unquery = from_test 32 (codes "unquery") refl
 words_plain kw.List = from_test 32 (codes "list") refl
+words_plain kw.Count = from_test 32 (codes "count") refl
+words_plain kw.Rank = from_test 32 (codes "rank") refl
 words_plain kw.Test = from_test 32 (codes "test") refl
 words_plain kw.Has = from_test 32 (codes "has") refl
 words_plain kw.Save = from_test 32 (codes "save") refl
@@ -57,7 +59,9 @@ form_of line (DropDoc name) (named, is) = behind kw.Drop (name) is named
 form_of line (Show name from to) (named, f, t, is) = behind kw.Show (name ++ 32 ∷ (decimal from ++ 32 ∷ decimal to)) is (name, decimal from ++ 32 ∷ decimal to, named, refl, (decimal from, decimal to, (from, record { fits = f; digits = refl }), refl, (to, record { fits = t; digits = refl })))
 form_of line (Query name formula) (named, is) = behind kw.Query (name ++ 32 ∷ formula) is (name, formula, named, refl, tt)
 form_of line (Unquery name) (named, is) = behind kw.Unquery (name) is named
-form_of line (ListDoc query name after limit) (queried, named, aft, given, lim, is) = behind kw.List (query ++ 32 ∷ spaced name (after_words after ++ limit_words given)) is (query, spaced name (after_words after ++ limit_words given), queried, refl, (name, after, given, limit, named, aft, lim, refl))
+form_of line (ListDoc query name start limit) (queried, named, starts, given, lim, is) = behind kw.List (query ++ 32 ∷ spaced name (start_words start ++ limit_words given)) is (query, spaced name (start_words start ++ limit_words given), queried, refl, (name, start, given, limit, named, starts, lim, refl))
+form_of line (Count query doc) (queried, named, is) = behind kw.Count (query ++ 32 ∷ doc) is (query, doc, queried, refl, named)
+form_of line (Rank query doc tuple) (queried, named, worded, is) = behind kw.Rank (query ++ 32 ∷ (doc ++ 32 ∷ tuple)) is (query, doc ++ 32 ∷ tuple, queried, refl, (doc, tuple, named, refl, worded))
 form_of line (Nonempty query name) (queried, named, is) = behind kw.Test (query ++ 32 ∷ name) is (query, name, queried, refl, named)
 form_of line (Has query name tuple) (queried, named, worded, is) = behind kw.Has (query ++ 32 ∷ (name ++ 32 ∷ tuple)) is (query, name ++ 32 ∷ tuple, queried, refl, (name, tuple, named, refl, worded))
 form_of line (SaveFile file) (filed, is) = behind kw.Save (file) is filed

@@ -6,12 +6,14 @@ use Rattle.std.proofs.lemmas.Fmt.{decimal_injective}
 use Rattle.line_parts.specs.NameList.{IsName}
 use Rattle.line_parts.proofs.Cuts.{NoByte, from_test, decimal_plain, no_cut, one_cut}
 use Rattle.line_parts.proofs.Names.{name_no_space}
-use Rattle.script_syntax.specs.Syntax.{IsAfter, IsLimit, LineText, Reads, after_words, limit_words, longest_words, spaced}
+use Rattle.script_syntax.specs.Syntax.{IsLimit, IsStart, LineText, Reads, limit_words, longest_words, spaced, start_words}
 use Rattle.script_syntax.specs.Quoted.{IsQuoted}
 use Rattle.script_syntax.proofs.Items.{one_quoted}
 use Rattle.script_syntax.specs.Fields.{keyword_named, word_of}
+use Rattle.script_syntax.specs.declared.form.ListStart.{ListStart}
+use Rattle.script_syntax.specs.declared.form.ListStart.TheVariants.{First, After, At}
 use Rattle.script_syntax.specs.declared.form.Command.{Command}
-use Rattle.script_syntax.specs.declared.form.Command.TheVariants.{Nothing, Text, LoadFile, ShareFile, QuotedText, WriteFile, LetDoc, DropDoc, Names, Show, Query, Unquery, List as ListDoc, Nonempty, Has, SaveFile, OpenFile, UnionQuery, JoinQuery, ProjectQuery, ListAll, ReplaceDoc, MarkDocs, UnmarkDocs, BackDocs, Compact}
+use Rattle.script_syntax.specs.declared.form.Command.TheVariants.{Nothing, Text, LoadFile, ShareFile, QuotedText, WriteFile, LetDoc, DropDoc, Names, Show, Query, Unquery, List as ListDoc, Count, Rank, Nonempty, Has, SaveFile, OpenFile, UnionQuery, JoinQuery, ProjectQuery, ListAll, ReplaceDoc, MarkDocs, UnmarkDocs, BackDocs, Compact}
 use Rattle.script_syntax.specs.declared.keyword.Keyword.{Keyword}
 use Rattle.script_syntax.specs.declared.keyword.Keyword.TheVariants as kw
 use Rattle.script_syntax.proofs.Forms.{words_plain}
@@ -31,8 +33,10 @@ Body kw.Names args c = ⊥
 Body kw.Show args c = (name : List ℕ) × (from : ℕ) × (to : ℕ) × IsName name × (from < 2 ^ 64) × (to < 2 ^ 64) × (args ≡ name ++ 32 ∷ (decimal from ++ 32 ∷ decimal to)) × (c ≡ Show name from to)
 Body kw.Query args c = (name : List ℕ) × (formula : List ℕ) × IsName name × (args ≡ name ++ 32 ∷ formula) × (c ≡ Query name formula)
 Body kw.Unquery args c = c ≡ Unquery args
-Body kw.List args c = (query : List ℕ) × (name : List ℕ) × (after : Option (List ℕ)) × (given : Option ℕ) × (limit : ℕ) × IsName query × IsName name × IsAfter after × IsLimit given limit
-    × (args ≡ query ++ 32 ∷ spaced name (after_words after ++ limit_words given)) × (c ≡ ListDoc query name after limit)
+Body kw.List args c = (query : List ℕ) × (name : List ℕ) × (start : ListStart) × (given : Option ℕ) × (limit : ℕ) × IsName query × IsName name × IsStart start × IsLimit given limit
+    × (args ≡ query ++ 32 ∷ spaced name (start_words start ++ limit_words given)) × (c ≡ ListDoc query name start limit)
+Body kw.Count args c = (query : List ℕ) × (doc : List ℕ) × IsName query × (args ≡ query ++ 32 ∷ doc) × (c ≡ Count query doc)
+Body kw.Rank args c = (query : List ℕ) × (doc : List ℕ) × (tuple : List ℕ) × IsName query × IsName doc × (args ≡ query ++ 32 ∷ (doc ++ 32 ∷ tuple)) × (c ≡ Rank query doc tuple)
 Body kw.Test args c = (query : List ℕ) × (name : List ℕ) × IsName query × (args ≡ query ++ 32 ∷ name) × (c ≡ Nonempty query name)
 Body kw.Has args c = (query : List ℕ) × (name : List ℕ) × (tuple : List ℕ) × IsName query × IsName name × (args ≡ query ++ 32 ∷ (name ++ 32 ∷ tuple)) × (c ≡ Has query name tuple)
 Body kw.Save args c = c ≡ SaveFile args
@@ -63,9 +67,10 @@ limit_fits : (given : Option ℕ) (limit : ℕ) → IsLimit given limit → AllP
 limit_fits None limit lim = tt
 limit_fits (Some n) limit lim = let high = lim.1 in (from_test 32 (codes "limit") refl, (number_plain n (omega (arith, high)), tt))
 
-after_plain : (after : Option (List ℕ)) (words : List (List ℕ)) → IsAfter after → AllPlain words → AllPlain (after_words after ++ words)
-after_plain None words aft plain = plain
-after_plain (Some word) words aft plain = (from_test 32 (codes "after") refl, (word_plain word aft, plain))
+start_plain : (start : ListStart) (words : List (List ℕ)) → IsStart start → AllPlain words → AllPlain (start_words start ++ words)
+start_plain First words starts plain = plain
+start_plain (After word) words starts plain = (from_test 32 (codes "after") refl, (word_plain word starts, plain))
+start_plain (At n) words starts plain = let high = starts.1 in (from_test 32 (codes "at") refl, (number_plain n (omega (arith, high)), plain))
 
 same_words : (w v : List ℕ) (ws vs : List (List ℕ)) → NoByte 32 w → AllPlain ws → NoByte 32 v → AllPlain vs → spaced w ws ≡ spaced v vs → (w ≡ v) × (ws ≡ vs)
 same_words w v [] [] p ps q qs e = (e, refl)
@@ -103,13 +108,32 @@ first_byte a b xs ys e = cc
 apart : (a b : ℕ) (xs ys : List ℕ) → (a ≡ b → ⊥) → a ∷ xs ≡ b ∷ ys → ⊥
 apart a b xs ys other e = other (first_byte a b xs ys e)
 
-same_options : (a b : Option (List ℕ)) (g h : Option ℕ) → after_words a ++ limit_words g ≡ after_words b ++ limit_words h → (a ≡ b) × (limit_words g ≡ limit_words h)
-same_options None None g h e = (refl, e)
-same_options (Some w) (Some v) g h e = let words : w ≡ v = cc in (ap Some words, cc)
-same_options None (Some v) None h e = let bad : ⊥ = cc in absurd bad
-same_options None (Some v) (Some n) h e = let words : codes "limit" ≡ codes "after" = cc in absurd (apart 108 97 (codes "imit") (codes "fter") (λ same. omega (arith, same)) words)
-same_options (Some w) None g None e = let bad : ⊥ = cc in absurd bad
-same_options (Some w) None g (Some n) e = let words : codes "after" ≡ codes "limit" = cc in absurd (apart 97 108 (codes "fter") (codes "imit") (λ same. omega (arith, same)) words)
+-- the first words of options, of which one may be missing
+after_is_not_limit : (g : Option ℕ) (w : List ℕ) (ws : List (List ℕ)) → limit_words g ≡ codes "after" ∷ w ∷ ws → ⊥
+after_is_not_limit None w ws e = let bad : ⊥ = cc in bad
+after_is_not_limit (Some n) w ws e = let words : codes "limit" ≡ codes "after" = cc in apart 108 97 (codes "imit") (codes "fter") (λ same. omega (arith, same)) words
+
+at_is_not_limit : (g : Option ℕ) (w : List ℕ) (ws : List (List ℕ)) → limit_words g ≡ codes "at" ∷ w ∷ ws → ⊥
+at_is_not_limit None w ws e = let bad : ⊥ = cc in bad
+at_is_not_limit (Some n) w ws e = let words : codes "limit" ≡ codes "at" = cc in apart 108 97 (codes "imit") (codes "t") (λ same. omega (arith, same)) words
+
+after_is_not_at : codes "after" ≡ codes "at" → ⊥
+after_is_not_at e = let tails : codes "fter" ≡ codes "t" = cc in apart 102 116 (codes "ter") [] (λ same. omega (arith, same)) tails
+
+same_options : (a b : ListStart) (g h : Option ℕ) → IsStart a → IsStart b → start_words a ++ limit_words g ≡ start_words b ++ limit_words h → (a ≡ b) × (limit_words g ≡ limit_words h)
+same_options First First g h p q e = (refl, e)
+same_options First (After v) g h p q e = absurd (after_is_not_limit g v (limit_words h) e)
+same_options First (At n) g h p q e = absurd (at_is_not_limit g (decimal n) (limit_words h) e)
+same_options (After w) First g h p q e = absurd (after_is_not_limit h w (limit_words g) (sym e))
+same_options (After w) (After v) g h p q e = let words : w ≡ v = cc in (ap After words, cc)
+same_options (After w) (At n) g h p q e = let words : codes "after" ≡ codes "at" = cc in absurd (after_is_not_at words)
+same_options (At m) First g h p q e = absurd (at_is_not_limit h (decimal m) (limit_words g) (sym e))
+same_options (At m) (After v) g h p q e = let words : codes "at" ≡ codes "after" = cc in absurd (after_is_not_at (sym words))
+same_options (At m) (At n) g h p q e =
+    let digits : decimal m ≡ decimal n = cc in
+    let high = p.1 in
+    let high_too = q.1 in
+    (ap At (decimal_injective m n (omega (arith, high)) (omega (arith, high_too)) digits), cc)
 
 pub one_body : (k : Keyword) (args : List ℕ) (c d : Command) → Body k args c → Body k args d → c ≡ d
 one_body kw.Text args c d (n, b, named, is, e) (m, b', other, is', e') = let p = name_cut n m b b' named other (sym is ∙ is') in e ∙ (λ i. Text (p.0 i) (p.1 i)) ∙ sym e'
@@ -162,11 +186,14 @@ one_body kw.Listall args c d (n, g, l, named, lim, is, e) (m, g', l', other, lim
     let p = same_words n m (limit_words g) (limit_words g') (name_no_space n named) (limit_fits g l lim) (name_no_space m other) (limit_fits g' l' lim') (sym is ∙ is') in
     let limits = same_limit_words g g' l l' lim lim' p.1 in
     e ∙ (λ i. ListAll (p.0 i) (limits i)) ∙ sym e'
-one_body kw.List args c d (q, n, a, g, l, queried, named, aft, lim, is, e) (r, m, b, h, k, queried', other, aft', lim', is', e') =
-    let first = name_cut q r (spaced n (after_words a ++ limit_words g)) (spaced m (after_words b ++ limit_words h)) queried queried' (sym is ∙ is') in
-    let p = same_words n m (after_words a ++ limit_words g) (after_words b ++ limit_words h) (name_no_space n named) (after_plain a (limit_words g) aft (limit_fits g l lim))
-    (name_no_space m other) (after_plain b (limit_words h) aft' (limit_fits h k lim')) first.1 in
-    let options = same_options a b g h p.1 in
+one_body kw.Count args c d (n, b, named, is, e) (m, b', other, is', e') = let p = name_cut n m b b' named other (sym is ∙ is') in e ∙ (λ i. Count (p.0 i) (p.1 i)) ∙ sym e'
+one_body kw.Rank args c d (n, l, r, named, lnamed, is, e) (m, l', r', other, lother, is', e') =
+    let p = name_cut n m (l ++ 32 ∷ r) (l' ++ 32 ∷ r') named other (sym is ∙ is') in let q = name_cut l l' r r' lnamed lother p.1 in e ∙ (λ i. Rank (p.0 i) (q.0 i) (q.1 i)) ∙ sym e'
+one_body kw.List args c d (q, n, a, g, l, queried, named, starts, lim, is, e) (r, m, b, h, k, queried', other, starts', lim', is', e') =
+    let first = name_cut q r (spaced n (start_words a ++ limit_words g)) (spaced m (start_words b ++ limit_words h)) queried queried' (sym is ∙ is') in
+    let p = same_words n m (start_words a ++ limit_words g) (start_words b ++ limit_words h) (name_no_space n named) (start_plain a (limit_words g) starts (limit_fits g l lim))
+    (name_no_space m other) (start_plain b (limit_words h) starts' (limit_fits h k lim')) first.1 in
+    let options = same_options a b g h starts starts' p.1 in
     let limits = same_limit_words g h l k lim lim' options.1 in
     e ∙ (λ i. ListDoc (first.0 i) (p.0 i) (options.0 i) (limits i)) ∙ sym e'
 
@@ -191,7 +218,9 @@ read_form line (DropDoc n) (named, is) = behind_of kw.Drop n is refl
 read_form line (Show n f t) (named, fit, tit, is) = behind_of kw.Show (n ++ 32 ∷ (decimal f ++ 32 ∷ decimal t)) is (n, f, t, named, fit, tit, refl, refl)
 read_form line (Query n b) (named, is) = behind_of kw.Query (n ++ 32 ∷ b) is (n, b, named, refl, refl)
 read_form line (Unquery n) (named, is) = behind_of kw.Unquery n is refl
-read_form line (ListDoc q n a l) (queried, named, aft, g, lim, is) = behind_of kw.List (q ++ 32 ∷ spaced n (after_words a ++ limit_words g)) is (q, n, a, g, l, queried, named, aft, lim, refl, refl)
+read_form line (ListDoc q n a l) (queried, named, starts, g, lim, is) = behind_of kw.List (q ++ 32 ∷ spaced n (start_words a ++ limit_words g)) is (q, n, a, g, l, queried, named, starts, lim, refl, refl)
+read_form line (Count q n) (queried, named, is) = behind_of kw.Count (q ++ 32 ∷ n) is (q, n, queried, refl, refl)
+read_form line (Rank q n t) (queried, named, worded, is) = behind_of kw.Rank (q ++ 32 ∷ (n ++ 32 ∷ t)) is (q, n, t, queried, named, refl, refl)
 read_form line (Nonempty q n) (queried, named, is) = behind_of kw.Test (q ++ 32 ∷ n) is (q, n, queried, refl, refl)
 read_form line (Has q n t) (queried, named, worded, is) = behind_of kw.Has (q ++ 32 ∷ (n ++ 32 ∷ t)) is (q, n, t, queried, named, refl, refl)
 read_form line (SaveFile f) (filed, is) = behind_of kw.Save f is refl
@@ -226,6 +255,8 @@ loud_word kw.Show = record { first = 115; rest = codes "how"; is = refl; loud = 
 loud_word kw.Query = record { first = 113; rest = codes "uery"; is = refl; loud = λ e. omega (arith, e) }
 loud_word kw.Unquery = record { first = 117; rest = codes "nquery"; is = refl; loud = λ e. omega (arith, e) }
 loud_word kw.List = record { first = 108; rest = codes "ist"; is = refl; loud = λ e. omega (arith, e) }
+loud_word kw.Count = record { first = 99; rest = codes "ount"; is = refl; loud = λ e. omega (arith, e) }
+loud_word kw.Rank = record { first = 114; rest = codes "ank"; is = refl; loud = λ e. omega (arith, e) }
 loud_word kw.Test = record { first = 116; rest = codes "est"; is = refl; loud = λ e. omega (arith, e) }
 loud_word kw.Has = record { first = 104; rest = codes "as"; is = refl; loud = λ e. omega (arith, e) }
 loud_word kw.Save = record { first = 115; rest = codes "ave"; is = refl; loud = λ e. omega (arith, e) }

@@ -4,10 +4,11 @@ use Rattle.std.specs.List.{find}
 use Rattle.std.specs.Str.{bytes_eq}
 use Rattle.line_parts.specs.Numbers.{IsNum}
 use Rattle.line_parts.specs.NameList.{IsName, IsNameList}
-use Rattle.script_syntax.specs.Syntax.{IsFile, IsWord, IsAfter, IsLimit, after_words, limit_words, longest_words, spaced}
+use Rattle.script_syntax.specs.Syntax.{IsFile, IsWord, IsStart, IsLimit, limit_words, longest_words, spaced, start_words}
 use Rattle.script_syntax.specs.Quoted.{IsQuoted}
+use Rattle.script_syntax.specs.declared.form.ListStart.{ListStart}
 use Rattle.script_syntax.specs.declared.keyword.Keyword.{Keyword}
-use Rattle.script_syntax.specs.declared.keyword.Keyword.TheVariants.{Text, Load, Share, Bytes, Write, Let, Drop, Names, Show, Query, Unquery, List as ListWord, Test, Has, Save, Open, Union, Join, Project, Listall, Replace, Mark, Unmark, Back, Compact}
+use Rattle.script_syntax.specs.declared.keyword.Keyword.TheVariants.{Text, Load, Share, Bytes, Write, Let, Drop, Names, Show, Query, Unquery, List as ListWord, Count, Rank, Test, Has, Save, Open, Union, Join, Project, Listall, Replace, Mark, Unmark, Back, Compact}
 
 abbrev pub word_of : Keyword → List ℕ
 word_of Text = codes "text"
@@ -22,6 +23,8 @@ word_of Show = codes "show"
 word_of Query = codes "query"
 word_of Unquery = codes "unquery"
 word_of ListWord = codes "list"
+word_of Count = codes "count"
+word_of Rank = codes "rank"
 word_of Test = codes "test"
 word_of Has = codes "has"
 word_of Save = codes "save"
@@ -37,7 +40,7 @@ word_of Back = codes "back"
 word_of Compact = codes "compact"
 
 abbrev pub keywords : List Keyword
-keywords = Text ∷ Load ∷ Share ∷ Bytes ∷ Write ∷ Let ∷ Drop ∷ Names ∷ Show ∷ Query ∷ Unquery ∷ ListWord ∷ Test ∷ Has ∷ Save ∷ Open ∷ Union ∷ Join ∷ Project ∷ Listall ∷ Replace ∷ Mark ∷ Unmark ∷ Back ∷ Compact ∷ []
+keywords = Text ∷ Load ∷ Share ∷ Bytes ∷ Write ∷ Let ∷ Drop ∷ Names ∷ Show ∷ Query ∷ Unquery ∷ ListWord ∷ Count ∷ Rank ∷ Test ∷ Has ∷ Save ∷ Open ∷ Union ∷ Join ∷ Project ∷ Listall ∷ Replace ∷ Mark ∷ Unmark ∷ Back ∷ Compact ∷ []
 
 abbrev pub keyword_named : List ℕ → Option Keyword
 keyword_named word = find (λ k. bytes_eq (word_of k) word) keywords
@@ -66,8 +69,8 @@ Fits Equals text = text ≡ codes "="
 Fits Varied text = IsNameList text
 Fits Quoted text = (bytes : List ℕ) × IsQuoted text bytes
 Fits Rest text = Unit {0}
-Fits Paged text = (name : List ℕ) × (after : Option (List ℕ)) × (given : Option ℕ) × (limit : ℕ)
-    × IsName name × IsAfter after × IsLimit given limit × (text ≡ spaced name (after_words after ++ limit_words given))
+Fits Paged text = (name : List ℕ) × (start : ListStart) × (given : Option ℕ) × (limit : ℕ)
+    × IsName name × IsStart start × IsLimit given limit × (text ≡ spaced name (start_words start ++ limit_words given))
 Fits Limited text = (name : List ℕ) × (given : Option ℕ) × (limit : ℕ) × IsName name × IsLimit given limit × (text ≡ spaced name (limit_words given))
 Fits Longest text = (name : List ℕ) × (longest : Bool) × IsName name × (text ≡ spaced name (longest_words longest))
 
@@ -90,6 +93,8 @@ fields_of Show = Named ∷ Numbered ∷ Numbered ∷ []
 fields_of Query = Named ∷ Rest ∷ []
 fields_of Unquery = Named ∷ []
 fields_of ListWord = Named ∷ Paged ∷ []
+fields_of Count = Named ∷ Named ∷ []
+fields_of Rank = Named ∷ Named ∷ Worded ∷ []
 fields_of Test = Named ∷ Named ∷ []
 fields_of Has = Named ∷ Named ∷ Worded ∷ []
 fields_of Save = Filed ∷ []

@@ -1,12 +1,14 @@
 -- The forms of a line.
-use Rattle.std.specs.Prelude.{◌≡◌, ◌⊎◌, ℕ, ◌<◌, ◌≤◌, ◌^◌, Bool, true, false, List, [], ◌∷◌, ◌++◌, Option, Some, None, length, codes, slice_get, nat_le, ◌&&◌, ◌==◌, not}
+use Rattle.std.specs.Prelude.{◌≡◌, ◌⊎◌, ℕ, ◌<◌, ◌≤◌, ◌^◌, ◌-◌, Bool, true, false, List, [], ◌∷◌, ◌++◌, Option, Some, None, length, codes, slice_get, nat_le, ◌&&◌, ◌==◌, not}
 use Rattle.std.specs.List.{list_all}
 use Rattle.std.specs.Fmt.{decimal}
 use Rattle.span_types.specs.Names.{is_between}
 use Rattle.line_parts.specs.NameList.{IsName, IsNameList}
 use Rattle.script_syntax.specs.Quoted.{IsQuoted}
+use Rattle.script_syntax.specs.declared.form.ListStart.{ListStart}
+use Rattle.script_syntax.specs.declared.form.ListStart.TheVariants.{First, After, At}
 use Rattle.script_syntax.specs.declared.form.Command.{Command}
-use Rattle.script_syntax.specs.declared.form.Command.TheVariants.{Nothing, Text, LoadFile, ShareFile, QuotedText, WriteFile, LetDoc, DropDoc, Names, Show, Query, Unquery, List as ListDoc, Nonempty, Has, SaveFile, OpenFile, UnionQuery, JoinQuery, ProjectQuery, ListAll, ReplaceDoc, MarkDocs, UnmarkDocs, BackDocs, Compact}
+use Rattle.script_syntax.specs.declared.form.Command.TheVariants.{Nothing, Text, LoadFile, ShareFile, QuotedText, WriteFile, LetDoc, DropDoc, Names, Show, Query, Unquery, List as ListDoc, Count, Rank, Nonempty, Has, SaveFile, OpenFile, UnionQuery, JoinQuery, ProjectQuery, ListAll, ReplaceDoc, MarkDocs, UnmarkDocs, BackDocs, Compact}
 
 -- words with a space between each two
 abbrev pub spaced : List ℕ → List (List ℕ) → List ℕ
@@ -27,15 +29,18 @@ is_word text = nat_le 1 (length text) && list_all (λ b. not (b == 32)) text
 abbrev pub IsWord : List ℕ → Type 0
 IsWord text = is_word text ≡ true
 
--- the words of `after` and of `limit`, if present, and what they specify
-abbrev pub after_words : Option (List ℕ) → List (List ℕ)
-after_words None = []
-after_words (Some word) = codes "after" ∷ word ∷ []
+-- the words of `after` or `at`, if present, and what they specify: a word, or the number of an answer from 1 to 2^64 - 2
+abbrev pub start_words : ListStart → List (List ℕ)
+start_words First = []
+start_words (After word) = codes "after" ∷ word ∷ []
+start_words (At n) = codes "at" ∷ decimal n ∷ []
 
-abbrev pub IsAfter : Option (List ℕ) → Type 0
-IsAfter None = Unit {0}
-IsAfter (Some word) = IsWord word
+abbrev pub IsStart : ListStart → Type 0
+IsStart First = Unit {0}
+IsStart (After word) = IsWord word
+IsStart (At n) = (1 ≤ n) × (n ≤ 2 ^ 64 - 2)
 
+-- the words of `limit`, if present, and what they specify
 abbrev pub limit_words : Option ℕ → List (List ℕ)
 limit_words None = []
 limit_words (Some n) = codes "limit" ∷ decimal n ∷ []
@@ -63,8 +68,10 @@ Reads line Names = line ≡ codes "names"
 Reads line (Show name from to) = IsName name × (from < 2 ^ 64) × (to < 2 ^ 64) × (line ≡ spaced (codes "show") (name ∷ decimal from ∷ decimal to ∷ []))
 Reads line (Query name formula) = IsName name × (line ≡ spaced (codes "query") (name ∷ formula ∷ []))
 Reads line (Unquery name) = IsName name × (line ≡ spaced (codes "unquery") (name ∷ []))
-Reads line (ListDoc query name after limit) = IsName query × IsName name × IsAfter after × (given : Option ℕ) × IsLimit given limit
-    × (line ≡ spaced (codes "list") (query ∷ name ∷ (after_words after ++ limit_words given)))
+Reads line (ListDoc query name start limit) = IsName query × IsName name × IsStart start × (given : Option ℕ) × IsLimit given limit
+    × (line ≡ spaced (codes "list") (query ∷ name ∷ (start_words start ++ limit_words given)))
+Reads line (Count query doc) = IsName query × IsName doc × (line ≡ spaced (codes "count") (query ∷ doc ∷ []))
+Reads line (Rank query doc tuple) = IsName query × IsName doc × IsWord tuple × (line ≡ spaced (codes "rank") (query ∷ doc ∷ tuple ∷ []))
 Reads line (Nonempty query name) = IsName query × IsName name × (line ≡ spaced (codes "test") (query ∷ name ∷ []))
 Reads line (Has query name tuple) = IsName query × IsName name × IsWord tuple × (line ≡ spaced (codes "has") (query ∷ name ∷ tuple ∷ []))
 Reads line (SaveFile file) = IsFile file × (line ≡ spaced (codes "save") (file ∷ []))

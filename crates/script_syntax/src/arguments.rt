@@ -151,6 +151,33 @@ pub fn has_of(alloc: Global, args: &[u8]) -> Result<Command, LineRefusal>
     Ok(Command::Has { query, name, tuple })
 }
 
+/// `NAME NAME`
+pub fn count_of(alloc: Global, args: &[u8]) -> Result<Command, LineRefusal>
+    ensures ok { IfOk result (λ command. Reads (codes "count " ++ args.now) command) }
+    ensures syntax { IfErr result (λ why. why ≡ LineRefusal.Syntax → Fields (fields_of keyword.Count) args.now → ⊥) }
+{
+    let Some((query, doc)) = cut_word(args) else {
+        return Err(LineRefusal::Syntax);
+    };
+    let query = name_of(alloc, query)?;
+    let doc = name_of(alloc, doc)?;
+    Ok(Command::Count { query, doc })
+}
+
+/// `NAME NAME WORD`
+pub fn rank_of(alloc: Global, args: &[u8]) -> Result<Command, LineRefusal>
+    ensures ok { IfOk result (λ command. Reads (codes "rank " ++ args.now) command) }
+    ensures syntax { IfErr result (λ why. why ≡ LineRefusal.Syntax → Fields (fields_of keyword.Rank) args.now → ⊥) }
+{
+    let Some((query, doc, tuple)) = three_words(args) else {
+        return Err(LineRefusal::Syntax);
+    };
+    let query = name_of(alloc, query)?;
+    let doc = name_of(alloc, doc)?;
+    let tuple = word_of(alloc, tuple)?;
+    Ok(Command::Rank { query, doc, tuple })
+}
+
 /// `NAME NAME NAME`
 pub fn union_of(alloc: Global, args: &[u8]) -> Result<Command, LineRefusal>
     ensures ok { IfOk result (λ command. Reads (codes "union " ++ args.now) command) }

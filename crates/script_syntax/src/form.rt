@@ -1,6 +1,17 @@
 // What a line may request.
 use span_types::{ByteList, Name};
 
+/// Where a listing starts.
+#[derive(Drop)]
+pub enum ListStart {
+    /// At the first answer.
+    First,
+    /// At the first answer after this tuple, which need not be an answer. Here it is any word.
+    After(ByteList),
+    /// At the answer with this number. Answers are numbered from 1, and the number is at most 2^64 - 2.
+    At(u64),
+}
+
 /// A parsed line of a script. Names and bytes are kept as they are in the line.
 #[derive(Drop)]
 pub enum Command {
@@ -58,13 +69,24 @@ pub enum Command {
     Unquery {
         name: Name,
     },
-    /// `list NAME NAME`, then optionally `after WORD`, then optionally `limit NUM`: answers of a query on a document,
-    /// those after a tuple, at most `limit` of them. The limit is 1 to 10,000, and 100 if the line has none.
+    /// `list NAME NAME`, then optionally `after WORD` or `at NUM`, then optionally `limit NUM`: answers of a query on a
+    /// document from a start on, at most `limit` of them. The limit is 1 to 10,000, and 100 if the line has none.
     List {
         query: Name,
         name: Name,
-        after: Option<ByteList>,
+        start: ListStart,
         limit: u16,
+    },
+    /// `count NAME NAME`: the number of answers of a query on a document.
+    Count {
+        query: Name,
+        doc: Name,
+    },
+    /// `rank NAME NAME WORD`: the number of answers of a query on a document that come before a tuple.
+    Rank {
+        query: Name,
+        doc: Name,
+        tuple: ByteList,
     },
     /// `test NAME NAME`: whether a query has an answer on a document.
     Nonempty {

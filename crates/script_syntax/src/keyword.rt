@@ -18,6 +18,8 @@ pub enum Keyword {
     Query,
     Unquery,
     List,
+    Count,
+    Rank,
     Test,
     Has,
     Save,
@@ -33,7 +35,7 @@ pub enum Keyword {
     Compact,
 }
 
-const KEYWORDS: [Keyword; 25] = [
+const KEYWORDS: [Keyword; 27] = [
     Keyword::Text,
     Keyword::Load,
     Keyword::Share,
@@ -46,6 +48,8 @@ const KEYWORDS: [Keyword; 25] = [
     Keyword::Query,
     Keyword::Unquery,
     Keyword::List,
+    Keyword::Count,
+    Keyword::Rank,
     Keyword::Test,
     Keyword::Has,
     Keyword::Save,
@@ -78,6 +82,8 @@ fn text_of_keyword(keyword: Keyword) -> &'static [u8]
         Keyword::Query => b"query",
         Keyword::Unquery => b"unquery",
         Keyword::List => b"list",
+        Keyword::Count => b"count",
+        Keyword::Rank => b"rank",
         Keyword::Test => b"test",
         Keyword::Has => b"has",
         Keyword::Save => b"save",

@@ -26,5 +26,5 @@ mod parts;
 mod quoted;
 mod syntax;
 
-pub use form::Command;
+pub use form::{Command, ListStart};
 pub use syntax::{LineRefusal, command};

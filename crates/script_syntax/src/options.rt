@@ -1,16 +1,17 @@
 // The options of `list`, `listall` and `replace`.
-ghost use Rattle.std.specs.Prelude.{◌≡◌, ◌≢◌, ◌∷◌, ◌++◌, ◌≤◌, ℕ, Bool, All, IfOk, IfErr, MatchOption, Option, List, codes};
+ghost use Rattle.std.specs.Prelude.{◌≡◌, ◌≢◌, ◌∷◌, ◌++◌, ◌≤◌, ◌^◌, ◌-◌, ℕ, Bool, All, IfOk, IfErr, MatchOption, Option, List, [], codes};
 ghost use Rattle.std.specs.Fmt.{decimal};
 ghost use Rattle.line_parts.specs.Numbers.{IsNum};
 ghost use Rattle.line_parts.specs.NameList.{IsName};
 ghost use Rattle.script_syntax.specs.declared.keyword.Keyword.TheVariants as keyword;
-ghost use Rattle.script_syntax.specs.Syntax.{IsLimit, IsAfter, IsWord, Reads, after_words, limit_words, longest_words, spaced};
+ghost use Rattle.script_syntax.specs.Syntax.{IsLimit, IsStart, Reads, limit_words, longest_words, spaced, start_words};
+ghost use Rattle.script_syntax.specs.declared.form.ListStart.{ListStart};
 ghost use Rattle.script_syntax.specs.Fields.{Fields, Fits, Limited, Paged, fields_of};
 
 use crate::parts::{name_of, word_of};
-use crate::{Command, LineRefusal};
+use crate::{Command, LineRefusal, ListStart};
 use line_parts::{cut_word, is_same, number};
-use span_types::{ByteList, Name};
+use span_types::Name;
 use std::alloc::Global;
 
 const DEFAULT_LIMIT: u16 = 100;
@@ -74,46 +75,76 @@ pub fn listall_of(alloc: Global, args: &[u8]) -> Result<Command, LineRefusal>
     Ok(Command::ListAll { query, limit })
 }
 
+/// The number of an answer: 1 to 2^64 - 2.
+fn answer_number(text: &[u8]) -> Option<u64>
+    ensures { MatchOption result ((n : ℕ) → 1 ≤ n → n ≤ 2 ^ 64 - 2 → text.now ≡ decimal n → ⊥)
+        (λ n. (1 ≤ n) × (n ≤ 2 ^ 64 - 2) × (text.now ≡ decimal n)) }
+{
+    let number = number(text)?;
+    if number == 0 {
+        return None;
+    }
+    if number == u64::MAX {
+        return None;
+    }
+    Some(number)
+}
+
+/// `after WORD` or `at NUM`, by their two words.
+fn start_of(alloc: Global, option: &[u8], value: &[u8]) -> Result<ListStart, LineRefusal>
+    ensures ok { IfOk result (λ start. IsStart start × (start_words start ≡ option.now ∷ value.now ∷ [])) }
+    ensures syntax { IfErr result (λ why. why ≡ LineRefusal.Syntax → (start : ListStart) → IsStart start → start_words start ≡ option.now ∷ value.now ∷ [] → ⊥) }
+{
+    if is_same(option, b"after") {
+        let tuple = word_of(alloc, value)?;
+        return Ok(ListStart::After(tuple));
+    }
+    if !is_same(option, b"at") {
+        return Err(LineRefusal::Syntax);
+    }
+    match answer_number(value) {
+        Some(number) => Ok(ListStart::At(number)),
+        None => Err(LineRefusal::Syntax),
+    }
+}
+
 /// What follows the query of `list`.
 #[derive(Drop)]
 struct Page {
     name: Name,
-    after: Option<ByteList>,
+    start: ListStart,
     limit: u16,
 }
 
-/// `NAME after WORD limit NUM`, in which the options may be missing.
+/// `NAME after WORD limit NUM` or `NAME at NUM limit NUM`, in which the options may be missing.
 fn page_of(alloc: Global, text: &[u8]) -> Result<Page, LineRefusal>
-    ensures ok { IfOk result (λ page. IsName page.name × IsAfter page.after × (given : Option ℕ) × IsLimit given page.limit
-        × (text.now ≡ spaced page.name (after_words page.after ++ limit_words given))) }
+    ensures ok { IfOk result (λ page. IsName page.name × IsStart page.start × (given : Option ℕ) × IsLimit given page.limit
+        × (text.now ≡ spaced page.name (start_words page.start ++ limit_words given))) }
     ensures syntax { IfErr result (λ why. why ≡ LineRefusal.Syntax → Fits Paged text.now → ⊥) }
 {
     if let Some((name, limit)) = limited(text) {
         let name = name_of(alloc, name)?;
         return Ok(Page {
             name,
-            after: None,
+            start: ListStart::First,
             limit,
         });
     }
     let Some((name, options)) = cut_word(text) else {
         return Err(LineRefusal::Syntax);
     };
-    let Some((word, more)) = cut_word(options) else {
+    let Some((option, more)) = cut_word(options) else {
         return Err(LineRefusal::Syntax);
     };
-    if !is_same(word, b"after") {
-        return Err(LineRefusal::Syntax);
-    }
-    let Some((tuple, limit)) = limited(more) else {
+    let Some((value, limit)) = limited(more) else {
         return Err(LineRefusal::Syntax);
     };
     let name = name_of(alloc, name)?;
-    let after = Some(word_of(alloc, tuple)?);
-    Ok(Page { name, after, limit })
+    let start = start_of(alloc, option, value)?;
+    Ok(Page { name, start, limit })
 }
 
-/// `NAME NAME after WORD limit NUM`, in which the options may be missing.
+/// `NAME NAME`, then `after WORD` or `at NUM`, then `limit NUM`, in which the options may be missing.
 pub fn list_of(alloc: Global, args: &[u8]) -> Result<Command, LineRefusal>
     ensures ok { IfOk result (λ command. Reads (codes "list " ++ args.now) command) }
     ensures syntax { IfErr result (λ why. why ≡ LineRefusal.Syntax → Fields (fields_of keyword.List) args.now → ⊥) }
@@ -122,11 +153,11 @@ pub fn list_of(alloc: Global, args: &[u8]) -> Result<Command, LineRefusal>
         return Err(LineRefusal::Syntax);
     };
     let query = name_of(alloc, query)?;
-    let Page { name, after, limit } = page_of(alloc, rest)?;
+    let Page { name, start, limit } = page_of(alloc, rest)?;
     Ok(Command::List {
         query,
         name,
-        after,
+        start,
         limit,
     })
 }

@@ -6,9 +6,9 @@ ghost use Rattle.script_syntax.specs.declared.form.Command.{Command};
 
 use crate::Command;
 use crate::arguments::{
-    back_of, bytes_of, drop_of, has_of, join_of, let_of, load_of, mark_of, open_of, project_of,
-    query_of, replace_of, save_of, share_of, show_of, test_of, text_of, union_of, unmark_of,
-    unquery_of, write_of,
+    back_of, bytes_of, count_of, drop_of, has_of, join_of, let_of, load_of, mark_of, open_of,
+    project_of, query_of, rank_of, replace_of, save_of, share_of, show_of, test_of, text_of,
+    union_of, unmark_of, unquery_of, write_of,
 };
 use crate::keyword::{Keyword, keyword_of};
 use crate::options::{list_of, listall_of};
@@ -59,6 +59,8 @@ fn behind_keyword(alloc: Global, keyword: Keyword, args: &[u8]) -> Result<Comman
         Keyword::Query => query_of(alloc, args),
         Keyword::Unquery => unquery_of(alloc, args),
         Keyword::List => list_of(alloc, args),
+        Keyword::Count => count_of(alloc, args),
+        Keyword::Rank => rank_of(alloc, args),
         Keyword::Test => test_of(alloc, args),
         Keyword::Has => has_of(alloc, args),
         Keyword::Save => save_of(alloc, args),

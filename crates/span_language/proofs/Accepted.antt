@@ -12,6 +12,8 @@ use Rattle.span_language.proofs.Questions.{both_asked, one_answer, one_replacing
 use Rattle.span_language.proofs.Texts.{one_query, one_tuple}
 use Rattle.span_language.proofs.Combinations.{one_named, one_pair, one_projection}
 use Rattle.span_language.proofs.Listings.{one_choice, one_list_reply, one_listed}
+use Rattle.span_language.proofs.Names.{IsNumberOf, IsRankOf}
+use Rattle.span_language.proofs.Numbers.{one_number, one_number_reply, one_rank}
 
 -- one reply and one world
 abbrev pub Same : List ℕ → List ℕ → World → World → Type 0
@@ -58,8 +60,16 @@ one_done old (form.ProjectQuery name source keep) r s n m settled h k =
     let R : Query → Type 0 = λ p. IsAccepted p × IsRegistered old m name p s in
     one_named old.state.queries source (λ q. HasProjection q keep P) (λ q. HasProjection q keep R) (Same r s n m) h k
     (λ q a b. one_projection q keep P R (Same r s n m) a b (accepted old r s n m name))
-one_done old (form.List query name word limit) r s n m settled (q, t, h, reply, new) (p, u, k, reply2, new2) =
-    (both_asked old query name q p t u (λ q t. IsListReply q t word limit r) (λ q t. IsListReply q t word limit s) (r ≡ s) h k reply reply2 (one_list_reply q t word limit r s), new ∙ sym new2)
+one_done old (form.List query name start limit) r s n m settled (q, t, h, reply, new) (p, u, k, reply2, new2) =
+    (both_asked old query name q p t u (λ q t. IsListReply q t start limit r) (λ q t. IsListReply q t start limit s) (r ≡ s) h k reply reply2 (one_list_reply q t start limit r s), new ∙ sym new2)
+one_done old (form.Count query name) r s n m settled (q, t, a, h, is, reply, new) (p, u, b, k, it, reply2, new2) =
+    let same = both_asked old query name q p t u (λ q t. IsNumberOf q t a) (λ q t. IsNumberOf q t b) (a ≡ b) h k is it (one_number q t a b) in
+    (one_number_reply a b r s same reply reply2, new ∙ sym new2)
+one_done old (form.Rank query name word) r s n m settled (q, t, x, a, h, text, is, reply, new) (p, u, y, b, k, text2, it, reply2, new2) =
+    let R : Query → List ℕ → Type 0 = λ q t. TupleText word (names_of q) y × IsRankOf q t y b in
+    let same = both_asked old query name q p t u (λ q t. IsRankOf q t x a) R (a ≡ b) h k is (text2, it)
+    (λ v w. one_rank q t x a b v (subst (λ z. IsRankOf q t z b) (one_tuple q word y x w.0 text) w.1)) in
+    (one_number_reply a b r s same reply reply2, new ∙ sym new2)
 one_done old (form.Nonempty query name) r s n m settled (q, t, h, reply, new) (p, u, k, reply2, new2) =
     (both_asked old query name q p t u (λ q t. IsYesOrNo (HasAnswer q t) r) (λ q t. IsYesOrNo (HasAnswer q t) s) (r ≡ s) h k reply reply2 (one_answer (HasAnswer q t) r s), new ∙ sym new2)
 one_done old (form.Has query name word) r s n m settled (q, t, x, h, text, reply, new) (p, u, y, k, text2, reply2, new2) =

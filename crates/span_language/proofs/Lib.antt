@@ -7,9 +7,11 @@ pub mod Questions
 pub mod Texts
 pub mod Combinations
 pub mod Listings
+pub mod Numbers
 pub mod Shown
 pub mod Written
 pub mod Accepted
 pub mod Refused
 pub mod Lines
 pub mod Outputs
+pub mod Tallied

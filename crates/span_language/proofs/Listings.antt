@@ -1,18 +1,29 @@
 -- A listing has exactly one reply, and the chosen spans are exactly one list.
-use Rattle.std.proofs.Common.{◌≡◌, ℕ, Bool, true, false, List, [], ◌∷◌, ◌++◌, Option, None, sym, ◌∙◌, ap, subst}
+use Rattle.std.proofs.Common.{◌≡◌, ℕ, ◌-◌, Bool, true, false, List, [], ◌∷◌, ◌++◌, Option, Some, None, length, take, drop, nat_lt, sym, ◌∙◌, ap, subst}
 use Rattle.span_language.proofs.Names.{AreListed, chosen, doc_line, Documents, IsAnswersOf, IsListReply, IsPage, IsPageOf, names_of, one-page}
 use Rattle.span_language.proofs.Names.{one-query-list, page_text, Query, Span, Tuple}
 use Rattle.span_language.proofs.Names.{IsTakenOf, longest}
-use Rattle.span_language.proofs.Texts.{one_cursor}
+use Rattle.span_language.proofs.Names.{After, At, First, IsPageAt, IsPageFrom, ListStart}
+use Rattle.span_language.proofs.Texts.{one_tuple}
 
 one_page_of : (q : Query) (s : List ℕ) (c d : Option Tuple) (n : ℕ) (page other : List Tuple) (more less : Bool) → c ≡ d
     → IsPageOf q s c n page more → IsPageOf q s d n other less → (page ≡ other) × (more ≡ less)
 one_page_of q s c d n page other more less same h k =
     one-page h.all c n page other more less h.is (subst (λ z. IsPage z c n other less) (one-query-list q s k.all h.all k.answers h.answers) (subst (λ z. IsPage k.all z n other less) (sym same) k.is))
 
-pub one_list_reply : (q : Query) (s : List ℕ) (after : Option (List ℕ)) (n : ℕ) (reply other : List ℕ) → IsListReply q s after n reply → IsListReply q s after n other → reply ≡ other
-one_list_reply q s after n reply other h k =
-    let same = one_page_of q s h.cursor k.cursor n h.page k.page h.more k.more (one_cursor q after h.cursor k.cursor h.cursor_is k.cursor_is) h.page_is k.page_is in
+one_page_at : (q : Query) (s : List ℕ) (m n : ℕ) (page other : List Tuple) (more less : Bool) → IsPageAt q s m n page more → IsPageAt q s m n other less → (page ≡ other) × (more ≡ less)
+one_page_at q s m n page other more less h k =
+    let e = one-query-list q s h.all k.all h.answers k.answers in
+    (h.first ∙ ap (λ (l : List Tuple). take n (drop (m - 1) l)) e ∙ sym k.first, h.more_left ∙ ap (λ (l : List Tuple). nat_lt n (length (drop (m - 1) l))) e ∙ sym k.more_left)
+
+one_page_from : (q : Query) (s : List ℕ) (start : ListStart) (n : ℕ) (page other : List Tuple) (more less : Bool) → IsPageFrom q s start n page more → IsPageFrom q s start n other less → (page ≡ other) × (more ≡ less)
+one_page_from q s First n page other more less h k = one_page_of q s None None n page other more less (λ i. None) h k
+one_page_from q s (After word) n page other more less (c, text, h) (d, text2, k) = one_page_of q s (Some c) (Some d) n page other more less (ap Some (one_tuple q word c d text text2)) h k
+one_page_from q s (At m) n page other more less h k = one_page_at q s m n page other more less h k
+
+pub one_list_reply : (q : Query) (s : List ℕ) (start : ListStart) (n : ℕ) (reply other : List ℕ) → IsListReply q s start n reply → IsListReply q s start n other → reply ≡ other
+one_list_reply q s start n reply other h k =
+    let same = one_page_from q s start n h.page k.page h.more k.more h.page_is k.page_is in
     h.reply_is ∙ (λ i. page_text (names_of q) (same.0 i) (same.1 i)) ∙ sym k.reply_is
 
 pub one_listed : (q : Query) (n : ℕ) (docs : Documents) (reply other : List ℕ) → AreListed q n docs reply → AreListed q n docs other → reply ≡ other

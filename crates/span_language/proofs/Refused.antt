@@ -1,6 +1,6 @@
 -- A command is either accepted or has exactly one first rejection.
-use Rattle.std.proofs.Common.{◌≡◌, ◌<◌, ◌≤◌, ◌^◌, ◌⊎◌, ℕ, Bool, List, Option, Some, None, length, refl, sym, ◌∙◌, ap, subst, inl, inr, arith}
-use Rattle.span_language.proofs.Names.{BadImage, Command, Does, IsAsked, IsCursorOf, IsCursorRefused, IsRefused, IsRegistered, IsSettled, Join, LetDoc, load_size}
+use Rattle.std.proofs.Common.{◌≡◌, ◌<◌, ◌≤◌, ◌^◌, ◌⊎◌, ℕ, Bool, List, None, length, sym, ◌∙◌, ap, subst, inl, inr, arith}
+use Rattle.span_language.proofs.Names.{BadImage, Command, Does, IsAsked, IsListReply, IsNumberOf, IsNumberReply, IsRankOf, IsRefused, IsRegistered, IsSettled, Join, LetDoc, load_size}
 use Rattle.span_language.proofs.Names.{LoadFile, most_spans, open_size, OpenFile, Query, Refusal, replaced, SaveFile, ShareFile, Show, shown, Span, TooLong, TooManyMatches, Tuple, Union}
 use Rattle.span_language.proofs.Names.{value_of, World, WriteFile}
 use Rattle.script_syntax.specs.declared.form.Command.TheVariants as form
@@ -9,7 +9,9 @@ use Rattle.span_language.proofs.Values.{are_told, no_value, not_both, one_err, o
 use Rattle.span_language.proofs.Images.{image_once, one_fault}
 use Rattle.span_language.proofs.Expressions.{one_edit_refusal, text_once as value_once}
 use Rattle.span_language.proofs.Questions.{asked_once, both_asked, one_replacing, one_unasked, one_unreplaced, replacing_once}
-use Rattle.span_language.proofs.Texts.{cursor_once, one_cursor_refusal, one_text_refusal, text_once}
+use Rattle.span_language.proofs.Names.{After, At, First, IsStartRefused, IsTupleRefused, IsUnaskedOf, ListStart, names_of, TupleText}
+use Rattle.span_language.proofs.Numbers.{number_once, one_number, one_rank, one_too_many}
+use Rattle.span_language.proofs.Texts.{one_start_refusal, one_text_refusal, one_tuple, text_once, tuple_once}
 use Rattle.span_language.proofs.Combinations.{one_pair_refusal, one_project_refusal, pair_once, project_once}
 use Rattle.span_language.proofs.Listings.{one_choice}
 
@@ -43,19 +45,51 @@ module _ (old : World) where
   opening file why other told (inr (b, kind, h, fault, is)) (inr (c, kind2, k, fault2, it)) =
       is ∙ ap BadImage (one_fault b c kind kind2 (one_within file open_size old.files b c told h k) fault fault2) ∙ sym it
 
-  -- a listing, and a question whether a tuple is an answer, with the tuple as the cursor
-  listing : (query name : List ℕ) (word : Option (List ℕ)) (limit : ℕ) (why other : Refusal) → IsRefused old (form.List query name word limit) why → IsRefused old (form.List query name word limit) other → why ≡ other
-  listing query name word limit why other (inl h) (inl k) = one_unasked old query name why other h k
-  listing query name word limit why other (inl h) (inr (p, u, k, is)) = absurd (asked_once old query name p u why k h)
-  listing query name word limit why other (inr (q, t, h, is)) (inl k) = absurd (asked_once old query name q t other h k)
-  listing query name word limit why other (inr (q, t, h, is)) (inr (p, u, k, it)) =
-      both_asked old query name q p t u (λ z _. IsCursorRefused z word why) (λ z _. IsCursorRefused z word other) (why ≡ other) h k is it (one_cursor_refusal q word why other)
+  -- a listing, and a question about a tuple, which is rejected as a listing after the tuple is
+  listing : (query name : List ℕ) (start : ListStart) (limit : ℕ) (why other : Refusal) → IsRefused old (form.List query name start limit) why → IsRefused old (form.List query name start limit) other → why ≡ other
+  listing query name start limit why other (inl h) (inl k) = one_unasked old query name why other h k
+  listing query name start limit why other (inl h) (inr (p, u, k, is)) = absurd (asked_once old query name p u why k h)
+  listing query name start limit why other (inr (q, t, h, is)) (inl k) = absurd (asked_once old query name q t other h k)
+  listing query name start limit why other (inr (q, t, h, is)) (inr (p, u, k, it)) =
+      both_asked old query name q p t u (λ z _. IsStartRefused z start why) (λ z _. IsStartRefused z start other) (why ≡ other) h k is it (one_start_refusal q start why other)
 
-  asked_refused : (query name : List ℕ) (word : Option (List ℕ)) (limit : ℕ) (q : Query) (t : List ℕ) (c : Option Tuple) (why : Refusal) → IsAsked old query name q t → IsCursorOf q word c
-      → IsRefused old (form.List query name word limit) why → ⊥
-  asked_refused query name word limit q t c why h of (inl k) = asked_once old query name q t why h k
-  asked_refused query name word limit q t c why h of (inr (p, u, k, is)) =
-      both_asked old query name q p t u (λ z _. IsCursorOf z word c) (λ z _. IsCursorRefused z word why) ⊥ h k of is (cursor_once q word c why)
+  tuple_asked : (query name word : List ℕ) (q : Query) (t : List ℕ) (c : Tuple) (why : Refusal) → IsAsked old query name q t → TupleText word (names_of q) c → IsUnaskedOf old query name word why → ⊥
+  tuple_asked query name word q t c why h of (inl k) = asked_once old query name q t why h k
+  tuple_asked query name word q t c why h of (inr (p, u, k, is)) =
+      both_asked old query name q p t u (λ z _. TupleText word (names_of z) c) (λ z _. IsTupleRefused z word why) ⊥ h k of is (tuple_once q word c why)
+
+  listed_once : (query name : List ℕ) (start : ListStart) (limit : ℕ) (q : Query) (t r : List ℕ) (why : Refusal) → IsAsked old query name q t → IsListReply q t start limit r
+      → IsRefused old (form.List query name start limit) why → ⊥
+  listed_once query name start limit q t r why h is (inl k) = asked_once old query name q t why h k
+  listed_once query name First limit q t r why h is (inr (p, u, k, bad)) = absurd bad
+  listed_once query name (After word) limit q t r why h is (inr k) = let from = is.page_is in tuple_asked query name word q t from.0 why h from.1 (inr k)
+  listed_once query name (At m) limit q t r why h is (inr (p, u, k, bad)) = absurd bad
+
+  counting : (query name : List ℕ) (why other : Refusal) → IsRefused old (form.Count query name) why → IsRefused old (form.Count query name) other → why ≡ other
+  counting query name why other (inl h) (inl k) = one_unasked old query name why other h k
+  counting query name why other (inl h) (inr (p, u, b, k, it, many)) = absurd (asked_once old query name p u why k h)
+  counting query name why other (inr (q, t, a, h, is, many)) (inl k) = absurd (asked_once old query name q t other h k)
+  counting query name why other (inr (q, t, a, h, is, many)) (inr (p, u, b, k, it, more)) = one_too_many a b why other many more
+
+  counted_once : (query name : List ℕ) (q : Query) (t r : List ℕ) (n : ℕ) (why : Refusal) → IsAsked old query name q t → IsNumberOf q t n → IsNumberReply n r → IsRefused old (form.Count query name) why → ⊥
+  counted_once query name q t r n why h is reply (inl k) = asked_once old query name q t why h k
+  counted_once query name q t r n why h is reply (inr (p, u, b, k, it, many)) =
+      number_once n b r why (both_asked old query name q p t u (λ q t. IsNumberOf q t n) (λ q t. IsNumberOf q t b) (n ≡ b) h k is it (one_number q t n b)) reply many
+
+  ranking : (query name word : List ℕ) (why other : Refusal) → IsRefused old (form.Rank query name word) why → IsRefused old (form.Rank query name word) other → why ≡ other
+  ranking query name word why other (inl h) (inl k) = listing query name (After word) 0 why other h k
+  ranking query name word why other (inl h) (inr (p, u, y, b, k, text, it, many)) = absurd (tuple_asked query name word p u y why k text h)
+  ranking query name word why other (inr (q, t, x, a, h, text, is, many)) (inl k) = absurd (tuple_asked query name word q t x other h text k)
+  ranking query name word why other (inr (q, t, x, a, h, text, is, many)) (inr (p, u, y, b, k, text2, it, more)) = one_too_many a b why other many more
+
+  ranked_once : (query name word : List ℕ) (q : Query) (t r : List ℕ) (x : Tuple) (n : ℕ) (why : Refusal) → IsAsked old query name q t → TupleText word (names_of q) x → IsRankOf q t x n
+      → IsNumberReply n r → IsRefused old (form.Rank query name word) why → ⊥
+  ranked_once query name word q t r x n why h text is reply (inl k) = tuple_asked query name word q t x why h text k
+  ranked_once query name word q t r x n why h text is reply (inr (p, u, y, b, k, text2, it, many)) =
+      let R : Query → List ℕ → Type 0 = λ q t. TupleText word (names_of q) y × IsRankOf q t y b in
+      let same = both_asked old query name q p t u (λ q t. IsRankOf q t x n) R (n ≡ b) h k is (text2, it)
+      (λ v w. one_rank q t x n b v (subst (λ z. IsRankOf q t z b) (one_tuple q word y x w.0 text) w.1)) in
+      number_once n b r why same reply many
 
   replacing : (name query source by : List ℕ) (longest : Bool) (why other : Refusal) → IsRefused old (form.ReplaceDoc name query source by longest) why
       → IsRefused old (form.ReplaceDoc name query source by longest) other → why ≡ other
@@ -75,9 +109,11 @@ one_refusal old (form.Query name text) why other settled h k = one_text_refusal 
 one_refusal old (form.UnionQuery name left right) why other settled h k = one_pair_refusal Union old.state.queries left right why other h k
 one_refusal old (form.JoinQuery name left right) why other settled h k = one_pair_refusal Join old.state.queries left right why other h k
 one_refusal old (form.ProjectQuery name source keep) why other settled h k = one_project_refusal old.state.queries source keep why other h k
-one_refusal old (form.List query name word limit) why other settled h k = listing old query name word limit why other h k
+one_refusal old (form.List query name start limit) why other settled h k = listing old query name start limit why other h k
+one_refusal old (form.Count query name) why other settled h k = counting old query name why other h k
+one_refusal old (form.Rank query name word) why other settled h k = ranking old query name word why other h k
 one_refusal old (form.Nonempty query name) why other settled h k = one_unasked old query name why other h k
-one_refusal old (form.Has query name word) why other settled h k = listing old query name (Some word) 0 why other h k
+one_refusal old (form.Has query name word) why other settled h k = listing old query name (After word) 0 why other h k
 one_refusal old (SaveFile file) why other settled h k = absurd (no_put old.files (SaveFile file) tt tt settled)
 one_refusal old (WriteFile name file) why other settled h k = absurd (no_put old.files (WriteFile name file) tt tt settled)
 one_refusal old (OpenFile file) why other settled h k = opening old file why other (are_told old.files (OpenFile file) tt settled) h k
@@ -95,9 +131,11 @@ refused_once old (form.Query name text) r n why settled (q, is, h) k = text_once
 refused_once old (form.UnionQuery name left right) r n why settled h k = pair_once Union old.state.queries left right (λ q. IsRegistered old n name q r) why h k
 refused_once old (form.JoinQuery name left right) r n why settled h k = pair_once Join old.state.queries left right (λ q. IsRegistered old n name q r) why h k
 refused_once old (form.ProjectQuery name source keep) r n why settled h k = project_once old.state.queries source keep (λ q. IsRegistered old n name q r) why h k
-refused_once old (form.List query name word limit) r n why settled (q, t, h, is, new) k = asked_refused old query name word limit q t is.cursor why h is.cursor_is k
+refused_once old (form.List query name start limit) r n why settled (q, t, h, is, new) k = listed_once old query name start limit q t r why h is k
+refused_once old (form.Count query name) r n why settled (q, t, a, h, is, reply, new) k = counted_once old query name q t r a why h is reply k
+refused_once old (form.Rank query name word) r n why settled (q, t, x, a, h, text, is, reply, new) k = ranked_once old query name word q t r x a why h text is reply k
 refused_once old (form.Nonempty query name) r n why settled (q, t, h, is, new) k = asked_once old query name q t why h k
-refused_once old (form.Has query name word) r n why settled (q, t, x, h, text, reply, new) k = asked_refused old query name (Some word) 0 q t (Some x) why h (x, text, refl) k
+refused_once old (form.Has query name word) r n why settled (q, t, x, h, text, reply, new) k = tuple_asked old query name word q t x why h text k
 refused_once old (SaveFile file) r n why settled h k = absurd (no_put old.files (SaveFile file) tt tt settled)
 refused_once old (WriteFile name file) r n why settled h k = absurd (no_put old.files (WriteFile name file) tt tt settled)
 refused_once old (OpenFile file) r n why settled (b, d, nodes, h, holds, reply, new) (inl k) = within_read file open_size old.files b why (are_told old.files (OpenFile file) tt settled) h k

@@ -1,7 +1,7 @@
 -- The text of a query, of a tuple and of kept variables has exactly one meaning.
-use Rattle.std.proofs.Common.{◌≡◌, ℕ, List, [], ◌∷◌, Option, Some, None, refl, sym, ◌∙◌, ap, subst, inl, inr, codes}
-use Rattle.span_language.proofs.Names.{AreNames, CountIsAbove, Formula, FormulaOf, FormulaTree, from_test, has-outcome, is-outcome, IsCursorOf, IsCursorRefused}
-use Rattle.span_language.proofs.Names.{IsName, IsQueryOf, IsTextRefused, IsVarsText, Leaf, name_no_comma, names_of, no_cut, NoByte, not_true, one_cut, one_tuple_of}
+use Rattle.std.proofs.Common.{◌≡◌, ℕ, List, [], ◌∷◌, refl, sym, ◌∙◌, ap, subst, inl, inr, codes}
+use Rattle.span_language.proofs.Names.{AreNames, CountIsAbove, Formula, FormulaOf, FormulaTree, from_test, has-outcome, is-outcome, ListStart, First, After, At}
+use Rattle.span_language.proofs.Names.{IsName, IsQueryOf, IsStartRefused, IsTextRefused, IsTupleRefused, IsVarsText, Leaf, name_no_comma, names_of, no_cut, NoByte, not_true, one_cut, one_tuple_of}
 use Rattle.span_language.proofs.Names.{Outcome, outcome, Query, Refusal, Tuple, TupleText, with_commas}
 use Rattle.formula_syntax.specs.FormulaOf as formula
 use Rattle.report_text.specs.declared.refusal.Refusal.TheVariants as why
@@ -32,22 +32,21 @@ one_names text (n ∷ ns) (m ∷ ms) h k = one_listed n m ns ms h.0 k.0 (sym h.1
 pub one_tuple : (q : Query) (word : List ℕ) (t u : Tuple) → TupleText word (names_of q) t → TupleText word (names_of q) u → t ≡ u
 one_tuple q word t u h k = (one_tuple_of word (names_of q) (names_of q) t u h k).1
 
-pub one_cursor : (q : Query) (after : Option (List ℕ)) (c d : Option Tuple) → IsCursorOf q after c → IsCursorOf q after d → c ≡ d
-one_cursor q None c d h k = h ∙ sym k
-one_cursor q (Some word) c d (t, h, e) (u, k, f) = e ∙ ap Some (one_tuple q word t u h k) ∙ sym f
-
 -- the text has names other than its own, or is no such text
-pub cursor_once : (q : Query) (after : Option (List ℕ)) (c : Option Tuple) (r : Refusal) → IsCursorOf q after c → IsCursorRefused q after r → ⊥
-cursor_once q None c r h k = k
-cursor_once q (Some word) c r (t, h, e) (inl k) = k.0 (names_of q, t, h)
-cursor_once q (Some word) c r (t, h, e) (inr ((names, values, text, other), is)) = other (one_tuple_of word names (names_of q) values t text h).0
+pub tuple_once : (q : Query) (word : List ℕ) (t : Tuple) (r : Refusal) → TupleText word (names_of q) t → IsTupleRefused q word r → ⊥
+tuple_once q word t r h (inl k) = k.0 (names_of q, t, h)
+tuple_once q word t r h (inr ((names, values, text, other), is)) = other (one_tuple_of word names (names_of q) values t text h).0
 
-pub one_cursor_refusal : (q : Query) (after : Option (List ℕ)) (r s : Refusal) → IsCursorRefused q after r → IsCursorRefused q after s → r ≡ s
-one_cursor_refusal q None r s h k = absurd h
-one_cursor_refusal q (Some word) r s (inl h) (inl k) = h.1 ∙ sym k.1
-one_cursor_refusal q (Some word) r s (inl h) (inr ((names, values, text, other), is)) = absurd (h.0 (names, values, text))
-one_cursor_refusal q (Some word) r s (inr ((names, values, text, other), is)) (inl k) = absurd (k.0 (names, values, text))
-one_cursor_refusal q (Some word) r s (inr h) (inr k) = h.1 ∙ sym k.1
+pub one_tuple_refusal : (q : Query) (word : List ℕ) (r s : Refusal) → IsTupleRefused q word r → IsTupleRefused q word s → r ≡ s
+one_tuple_refusal q word r s (inl h) (inl k) = h.1 ∙ sym k.1
+one_tuple_refusal q word r s (inl h) (inr ((names, values, text, other), is)) = absurd (h.0 (names, values, text))
+one_tuple_refusal q word r s (inr ((names, values, text, other), is)) (inl k) = absurd (k.0 (names, values, text))
+one_tuple_refusal q word r s (inr h) (inr k) = h.1 ∙ sym k.1
+
+pub one_start_refusal : (q : Query) (start : ListStart) (r s : Refusal) → IsStartRefused q start r → IsStartRefused q start s → r ≡ s
+one_start_refusal q First r s h k = absurd h
+one_start_refusal q (After word) r s h k = one_tuple_refusal q word r s h k
+one_start_refusal q (At m) r s h k = absurd h
 
 one_outcome : (s : List ℕ) (o p : Outcome) → FormulaOf s o → FormulaOf s p → o ≡ p
 one_outcome s o p h k = is-outcome s o h ∙ sym (is-outcome s p k)

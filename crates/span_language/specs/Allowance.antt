@@ -6,6 +6,8 @@ use Rattle.span_types.specs.Rel.{names_of}
 use Rattle.script_syntax.specs.declared.form.Command.{Command}
 use Rattle.script_syntax.specs.declared.form.Command.TheVariants as form
 use Rattle.script_syntax.specs.declared.form.Command.TheVariants.{Text, LoadFile, ShareFile, QuotedText, LetDoc, OpenFile}
+use Rattle.script_syntax.specs.declared.form.ListStart.{ListStart}
+use Rattle.script_syntax.specs.declared.form.ListStart.TheVariants.{At}
 use Rattle.report_text.specs.declared.refusal.Refusal.{Refusal}
 use Rattle.slp_image.specs.Image.{image}
 use Rattle.span_enum.specs.Members.{Tuple}
@@ -15,7 +17,7 @@ use Rattle.edit_expr.specs.Expressions.{ExprReads}
 use Rattle.edit_expr.specs.Eval.{greatest, operations}
 use Rattle.span_language.specs.State.{World}
 use Rattle.span_language.specs.Listed.{IsListReply}
-use Rattle.span_language.specs.Step.{IsWithin, IsAsked, IsFileRefused, IsRefused, IsReplacing, IsTakenOf, IsUnreplaced, load_size, most_spans, open_size}
+use Rattle.span_language.specs.Step.{IsWithin, IsAsked, IsFileRefused, IsRefused, IsReplacing, IsTakenOf, IsUnaskedOf, IsUnreplaced, load_size, most_spans, open_size}
 use Rattle.span_types.specs.declared.tuple.Span.{Span}
 
 pub record Allowance : Type 0 where
@@ -48,6 +50,11 @@ answer_limit q text = looks_limit (length (names_of q)) (length text)
 abbrev pub answers_steps : ℕ → Query → List ℕ → Allowance
 answers_steps count q text = record { looks = count * answer_limit q text; pairs = 0 }
 
+-- beside those that it writes, a listing costs this many answers: three, and one more to find the answer with a number
+abbrev pub more_answers : ListStart → ℕ
+more_answers (At m) = 4
+more_answers _ = 3
+
 -- the maximum number of steps for replacing c of the longest or of the chosen spans of a text of n bytes
 abbrev pub replace_steps : Bool → ℕ → ℕ → Allowance
 replace_steps longest c n = record { looks = (if longest then 8 else 3) * (c + 1) * looks_limit 1 n; pairs = 1770 * (c + 1) }
@@ -69,8 +76,11 @@ IsAllowed old (LoadFile name file) a = IsFileAllowed old file load_limit a
 IsAllowed old (ShareFile name file) a = IsFileAllowed old file share_limit a
 IsAllowed old (LetDoc name expr) a = (((e : Expr) → ExprReads expr e → ⊥) × (a ≡ no_steps))
     ⊎ ((e : Expr) × ExprReads expr e × (a ≡ record { looks = 0; pairs = edit_limit (operations e) (greatest old.state.documents e) }))
-IsAllowed old (form.List query name word n) a = IsFree (IsRefused old (form.List query name word n)) a
-    ⊎ ((q : Query) × (text : List ℕ) × (reply : List ℕ) × IsAsked old query name q text × (is : IsListReply q text word n reply) × (a ≡ answers_steps (length is.page + 3) q text))
+IsAllowed old (form.List query name start n) a = IsFree (IsRefused old (form.List query name start n)) a
+    ⊎ ((q : Query) × (text : List ℕ) × (reply : List ℕ) × IsAsked old query name q text × (is : IsListReply q text start n reply)
+    × (a ≡ answers_steps (length is.page + more_answers start) q text))
+IsAllowed old (form.Rank query name word) a = IsFree (IsUnaskedOf old query name word) a
+    ⊎ ((q : Query) × (text : List ℕ) × (tuple : Tuple) × IsAsked old query name q text × TupleText word (names_of q) tuple × (a ≡ answers_steps 1 q text))
 IsAllowed old (form.Nonempty query name) a = IsFree (IsRefused old (form.Nonempty query name)) a
     ⊎ ((q : Query) × (text : List ℕ) × IsAsked old query name q text × (a ≡ answers_steps 1 q text))
 IsAllowed old (form.Has query name word) a = IsFree (IsRefused old (form.Has query name word)) a

@@ -1,9 +1,10 @@
 -- Words as tuples of a query's variables.
-use Rattle.std.specs.Prelude.{◌≡◌, ◌⊎◌, ℕ, List, Option, Some, None}
+use Rattle.std.specs.Prelude.{◌≡◌, ◌⊎◌, ℕ, List}
+use Rattle.script_syntax.specs.declared.form.ListStart.{ListStart}
+use Rattle.script_syntax.specs.declared.form.ListStart.TheVariants.{After}
 use Rattle.span_types.specs.Query.{Query}
 use Rattle.span_types.specs.Rel.{names_of}
-use Rattle.span_enum.specs.Members.{Tuple}
-use Rattle.span_cursor.specs.Tuples.{HasOtherNames, IsTupleText, TupleText}
+use Rattle.span_cursor.specs.Tuples.{HasOtherNames, IsTupleText}
 use Rattle.report_text.specs.declared.refusal.Refusal.{Refusal}
 use Rattle.report_text.specs.declared.refusal.Refusal.TheVariants.{BadTuple, OtherVariables}
 
@@ -11,12 +12,7 @@ use Rattle.report_text.specs.declared.refusal.Refusal.TheVariants.{BadTuple, Oth
 abbrev pub IsTupleRefused : Query → List ℕ → Refusal → Type 0
 IsTupleRefused q word why = ((IsTupleText word → ⊥) × (why ≡ BadTuple)) ⊎ (HasOtherNames word (names_of q) × (why ≡ OtherVariables))
 
--- the cursor of a word: the tuple that it is, and none without a word
-abbrev pub IsCursorOf : Query → Option (List ℕ) → Option Tuple → Type 0
-IsCursorOf q None cursor = cursor ≡ None
-IsCursorOf q (Some word) cursor = (tuple : Tuple) × TupleText word (names_of q) tuple × (cursor ≡ Some tuple)
-
--- why a word is rejected as a cursor: the first reason
-abbrev pub IsCursorRefused : Query → Option (List ℕ) → Refusal → Type 0
-IsCursorRefused q None why = ⊥
-IsCursorRefused q (Some word) why = IsTupleRefused q word why
+-- why the start of a listing is rejected: the first reason
+abbrev pub IsStartRefused : Query → ListStart → Refusal → Type 0
+IsStartRefused q (After word) why = IsTupleRefused q word why
+IsStartRefused q _ why = ⊥

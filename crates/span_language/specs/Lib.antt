@@ -3,6 +3,7 @@ pub mod State
 pub mod Cursors
 pub mod Replies
 pub mod Listed
+pub mod Numbers
 pub mod Step
 pub mod Allowance
 pub mod Counts

@@ -1,13 +1,14 @@
 -- The reply to a listing of a query's answers.
-use Rattle.std.specs.Prelude.{◌≡◌, ℕ, Bool, true, false, nat_lt, List, [], ◌∷◌, ◌++◌, Option, None, codes, length, take}
+use Rattle.std.specs.Prelude.{◌≡◌, ℕ, ◌-◌, Bool, true, false, nat_lt, List, [], ◌∷◌, ◌++◌, Option, Some, None, codes, drop, length, take}
 use Rattle.std.specs.List.{flat_map}
 use Rattle.span_types.specs.Query.{Query}
 use Rattle.span_types.specs.Rel.{IsAnswersOf, names_of}
 use Rattle.span_types.specs.Answers.{IsPage}
 use Rattle.span_enum.specs.Members.{Tuple}
-use Rattle.span_cursor.specs.Tuples.{tuple_text}
+use Rattle.script_syntax.specs.declared.form.ListStart.{ListStart}
+use Rattle.script_syntax.specs.declared.form.ListStart.TheVariants.{First, After, At}
+use Rattle.span_cursor.specs.Tuples.{TupleText, tuple_text}
 use Rattle.span_language.specs.State.{Documents}
-use Rattle.span_language.specs.Cursors.{IsCursorOf}
 
 -- a tuple's line
 abbrev pub tuple_line : List (List ℕ) → Tuple → List ℕ
@@ -32,13 +33,24 @@ pub record IsPageOf (q : Query) (s : List ℕ) (cursor : Option Tuple) (n : ℕ)
   pub answers : IsAnswersOf q s all
   pub is : IsPage all cursor n page more
 
--- the reply is that of the page of at most n answers after the cursor
-pub record IsListReply (q : Query) (s : List ℕ) (after : Option (List ℕ)) (n : ℕ) (reply : List ℕ) : Type 0 where
-  pub cursor : Option Tuple
+-- PageAt: the first n answers of a query on a text from the m-th on, and whether there are more
+pub record IsPageAt (q : Query) (s : List ℕ) (m n : ℕ) (page : List Tuple) (more : Bool) : Type 0 where
+  pub all : List Tuple
+  pub answers : IsAnswersOf q s all
+  pub first : page ≡ take n (drop (m - 1) all)
+  pub more_left : more ≡ nat_lt n (length (drop (m - 1) all))
+
+-- the page of at most n answers from the start of a listing on: from the first one, after a tuple, or from the m-th on
+abbrev pub IsPageFrom : Query → List ℕ → ListStart → ℕ → List Tuple → Bool → Type 0
+IsPageFrom q s First n page more = IsPageOf q s None n page more
+IsPageFrom q s (After word) n page more = (cursor : Tuple) × TupleText word (names_of q) cursor × IsPageOf q s (Some cursor) n page more
+IsPageFrom q s (At m) n page more = IsPageAt q s m n page more
+
+-- the reply is that of the page of at most n answers from the start on
+pub record IsListReply (q : Query) (s : List ℕ) (start : ListStart) (n : ℕ) (reply : List ℕ) : Type 0 where
   pub page : List Tuple
   pub more : Bool
-  pub cursor_is : IsCursorOf q after cursor
-  pub page_is : IsPageOf q s cursor n page more
+  pub page_is : IsPageFrom q s start n page more
   pub reply_is : reply ≡ page_text (names_of q) page more
 
 -- the line of a document in a listing of all, and the last line

@@ -15,6 +15,7 @@ use Rattle.formula_syntax.specs.FormulaOf.{FormulaOf}
 use Rattle.formula_syntax.specs.FormulaOf as formula
 use Rattle.query_book.specs.Registering.{IsQueryOf, IsTooLarge}
 use Rattle.query_book.specs.Answers.{HasAnswer, IsAnswer, IsNamed}
+use Rattle.query_book.specs.Numbers.{IsNumberOf, IsRankOf}
 use Rattle.query_book.specs.Combining.{HasPair, HasProjection, IsAccepted, IsPairRefused, IsProjectRefused}
 use Rattle.query_book.specs.declared.refusal.CombineRefusal.{CombineRefusal}
 use Rattle.query_book.specs.declared.refusal.CombineRefusal.TheVariants as combine
@@ -28,8 +29,9 @@ use Rattle.report_text.specs.Reply.{shown_text, query_text, saved_text, opened_t
 use Rattle.report_text.specs.declared.refusal.Refusal.{Refusal}
 use Rattle.report_text.specs.declared.refusal.Refusal.TheVariants.{Syntax, NoSuchDocument, NoSuchQuery, FormulaTooLong, BadFormula, TooDeep, TooManyPositions, TooManyVariables, NotFunctional, TooManyStates, NoSuchFile, FileTooLong, CannotRead, CannotWrite, BadImage, QueryTooLarge, OtherVariables, NoSuchVersion, NotOneVariable, TooManyMatches, TooLong}
 use Rattle.span_language.specs.State.{World, Documents, Named, world, value_of, put, taken_out, with_documents, with_queries, with_versions}
-use Rattle.span_language.specs.Cursors.{IsCursorRefused, IsTupleRefused}
+use Rattle.span_language.specs.Cursors.{IsStartRefused, IsTupleRefused}
 use Rattle.span_language.specs.Listed.{AreListed, IsListReply}
+use Rattle.span_language.specs.Numbers.{IsNumberReply, IsTooMany}
 use Rattle.span_replace.specs.Chosen.{chosen}
 use Rattle.span_replace.specs.Longest.{longest}
 use Rattle.span_replace.specs.Replaced.{replaced}
@@ -137,6 +139,12 @@ abbrev pub IsUnasked : World → List ℕ → List ℕ → Refusal → Type 0
 IsUnasked old query name why = ((value_of old.state.documents name ≡ None) × (why ≡ NoSuchDocument name))
     ⊎ ((text : List ℕ) × (value_of old.state.documents name ≡ Some text) × (value_of old.state.queries query ≡ None) × (why ≡ NoSuchQuery query))
 
+-- why a question about a tuple is rejected, the first reason: the document doesn't exist, the query doesn't, or the word is
+-- no tuple of its variables
+abbrev pub IsUnaskedOf : World → List ℕ → List ℕ → List ℕ → Refusal → Type 0
+IsUnaskedOf old query name word why = IsUnasked old query name why
+    ⊎ ((q : Query) × (text : List ℕ) × IsAsked old query name q text × IsTupleRefused q word why)
+
 -- `yes` if the fact holds, and `no` if it doesn't
 abbrev pub IsYesOrNo : Type 0 → List ℕ → Type 0
 IsYesOrNo fact reply = (fact × (reply ≡ yes_text)) ⊎ ((fact → ⊥) × (reply ≡ no_text))
@@ -222,7 +230,10 @@ Does old (form.Unquery name) reply new = (q : Query) × (value_of old.state.quer
 Does old (form.UnionQuery name left right) reply new = HasPair Union old.state.queries left right (λ q. IsAccepted q × IsRegistered old new name q reply)
 Does old (form.JoinQuery name left right) reply new = HasPair Join old.state.queries left right (λ q. IsAccepted q × IsRegistered old new name q reply)
 Does old (form.ProjectQuery name source keep) reply new = IsNamed old.state.queries source (λ q. HasProjection q keep (λ p. IsAccepted p × IsRegistered old new name p reply))
-Does old (form.List query name word n) reply new = (q : Query) × (text : List ℕ) × IsAsked old query name q text × IsListReply q text word n reply × (new ≡ old)
+Does old (form.List query name start n) reply new = (q : Query) × (text : List ℕ) × IsAsked old query name q text × IsListReply q text start n reply × (new ≡ old)
+Does old (form.Count query name) reply new = (q : Query) × (text : List ℕ) × (n : ℕ) × IsAsked old query name q text × IsNumberOf q text n × IsNumberReply n reply × (new ≡ old)
+Does old (form.Rank query name word) reply new = (q : Query) × (text : List ℕ) × (tuple : Tuple) × (n : ℕ) × IsAsked old query name q text × TupleText word (names_of q) tuple
+    × IsRankOf q text tuple n × IsNumberReply n reply × (new ≡ old)
 Does old (form.Nonempty query name) reply new = (q : Query) × (text : List ℕ) × IsAsked old query name q text × IsYesOrNo (HasAnswer q text) reply × (new ≡ old)
 Does old (form.Has query name word) reply new = (q : Query) × (text : List ℕ) × (tuple : Tuple) × IsAsked old query name q text × TupleText word (names_of q) tuple
     × IsYesOrNo (IsAnswer q text tuple) reply × (new ≡ old)
@@ -260,11 +271,14 @@ IsRefused old (form.Unquery name) why = (value_of old.state.queries name ≡ Non
 IsRefused old (form.UnionQuery name left right) why = IsUncombined (IsPairRefused Union old.state.queries left right) why
 IsRefused old (form.JoinQuery name left right) why = IsUncombined (IsPairRefused Join old.state.queries left right) why
 IsRefused old (form.ProjectQuery name source keep) why = IsUncombined (IsProjectRefused old.state.queries source keep) why
-IsRefused old (form.List query name word n) why = IsUnasked old query name why
-    ⊎ ((q : Query) × (text : List ℕ) × IsAsked old query name q text × IsCursorRefused q word why)
+IsRefused old (form.List query name start n) why = IsUnasked old query name why
+    ⊎ ((q : Query) × (text : List ℕ) × IsAsked old query name q text × IsStartRefused q start why)
+IsRefused old (form.Count query name) why = IsUnasked old query name why
+    ⊎ ((q : Query) × (text : List ℕ) × (n : ℕ) × IsAsked old query name q text × IsNumberOf q text n × IsTooMany n why)
+IsRefused old (form.Rank query name word) why = IsUnaskedOf old query name word why
+    ⊎ ((q : Query) × (text : List ℕ) × (tuple : Tuple) × (n : ℕ) × IsAsked old query name q text × TupleText word (names_of q) tuple × IsRankOf q text tuple n × IsTooMany n why)
 IsRefused old (form.Nonempty query name) why = IsUnasked old query name why
-IsRefused old (form.Has query name word) why = IsUnasked old query name why
-    ⊎ ((q : Query) × (text : List ℕ) × IsAsked old query name q text × IsTupleRefused q word why)
+IsRefused old (form.Has query name word) why = IsUnaskedOf old query name word why
 IsRefused old (SaveFile file) why = IsSaveRefused old.files old.state.documents file why
 IsRefused old (OpenFile file) why = IsFileRefused old.files file open_size why
     ⊎ ((bytes : List ℕ) × (kind : ℕ) × IsWithin old.files file open_size bytes × IsFaulty bytes kind × (why ≡ BadImage kind))
@@ -301,7 +315,7 @@ IsOfFile _ = ⊥
 
 -- the command is of the form `list`
 abbrev pub IsList : Command → Type 0
-IsList (form.List query name after limit) = Unit {0}
+IsList (form.List query name start limit) = Unit {0}
 IsList _ = ⊥
 
 -- the command writes to a file

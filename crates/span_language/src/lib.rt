@@ -14,7 +14,8 @@
 //! ```
 //!
 //! The allowance of a line is its maximum number of table lookups and node constructions. A `text` of n bytes takes at
-//! most n + 4·(H(n)+1) node constructions, and a `list` that writes `a` answers at most (a+3)·B(k, n) table lookups.
+//! most n + 4·(H(n)+1) node constructions. A `list` that writes `a` answers takes at most (a+3)·B(k, n) table lookups, or
+//! (a+4)·B(k, n) with `at`.
 //! The crate's own code takes neither time nor memory.
 //!
 //! The answers of a query are defined as in R. Fagin, B. Kimelfeld, F. Reiss and S. Vansummeren, *Document Spanners*,
