@@ -1,22 +1,18 @@
 -- A listing of the answers on every document in progress.
-use Rattle.query_commands.proofs.Names.{[], after-none, ap, append_assoc, AreAnswered, AreAnswersOf, AreListed, AreLive, AreShort, AreTables, arith, at_drop_more}
-use Rattle.query_commands.proofs.Names.{Bool, Command, Contains, count_of, DeterministicAutomaton, Dictionary, Doc, doc_line, done_line, drop, drop_all, every_text}
-use Rattle.query_commands.proofs.Names.{false, first_page_text, flat_map, get_or, get_or_from_slice_get, HasAnswersOf, IsDeterministic, IsPage, IsPageOf, IsSent}
-use Rattle.query_commands.proofs.Names.{IsUpTo, IsWellFormed, length, List, ltb-false, ltb-true, map, Named, names_of, nat_lt, Node, None, option_map, Outlet, Page}
-use Rattle.query_commands.proofs.Names.{page_text, plain, Query, refl, rest_text, slice_get, slice_get-get_or, slice_get_within, Some, subst, suc, sym, take, text_of}
-use Rattle.query_commands.proofs.Names.{true, Tuple, tuple_line, value_of, zero, ℕ, ◌++◌, ◌+◌, ◌<◌, ◌^◌, ◌∙◌, ◌∷◌, ◌≡◌, ◌≤◌}
-use Rattle.session_state.proofs.BookLemmas.{query_of}
+use Rattle.query_commands.proofs.Names.{[], after-none, ap, append_assoc, AreAnswered, AreAnswersOf, AreListed, AreLive, arith, at_drop_more, Bool, Command}
+use Rattle.query_commands.proofs.Names.{Contains, DeterministicAutomaton, Doc, doc_line, done_line, drop, drop_all, every_text, first_page_text, flat_map}
+use Rattle.query_commands.proofs.Names.{get_or, get_or_from_slice_get, HasAnswersIn, IsPage, IsPageOf, IsSent, IsUpTo, IsWellFormed, length, List, map}
+use Rattle.query_commands.proofs.Names.{names_of, nat_lt, Node, None, Outlet, Page, page_text, plain, Query, refl, rest_text, slice_get, slice_get-get_or}
+use Rattle.query_commands.proofs.Names.{slice_get_within, Some, subst, suc, sym, take, text_of, Tuple, tuple_line, zero, ℕ, ◌++◌, ◌+◌, ◌<◌, ◌∙◌, ◌∷◌, ◌≡◌, ◌≤◌}
 use Rattle.std.proofs.lemmas.List.Elements.{Contains-get_or}
 use Rattle.script_syntax.specs.declared.form.Command.TheVariants as form
 use Rattle.script_syntax.specs.Syntax.{Reads}
 use Rattle.span_types.proofs.AnswerLaws.{one-rising}
-use Rattle.span_enum.proofs.Exists.{answers-exist}
-use Rattle.query_book.proofs.Covered.{bytes-found}
-use Rattle.query_commands.specs.AllListing.{IsRegistered}
 use Rattle.session_state.proofs.Written.{sent_all}
 
--- the limit and the list of names of a line are ones that a line can have
+-- the start, the limit and the list of names of a line are ones that a line can have
 pub well_formed : (line : List ℕ) (command : Command) → Reads line command → IsWellFormed command
+well_formed line (form.List q n s k) (query, name, start, given, limit, text) = start
 well_formed line (form.ListAll q k) (name, None, e, text) = (omega (arith, e), omega (arith, e))
 well_formed line (form.ListAll q k) (name, Some n, (low, high, e), text) = (omega (arith, low, e), omega (arith, high, e))
 well_formed line (form.ProjectQuery n q k) (name, source, names, text) = names
@@ -51,22 +47,30 @@ module _ (a : DeterministicAutomaton) (ns : List Node) (names : List (List ℕ))
       ∙ sym (append_assoc (doc_line d.name) (page_text names p.tuples p.more) (every_text names n ds ls))
 
   -- ---- the reply
-  pub listed : (q : Query) → HasAnswersOf a q → names ≡ names_of q → (ds : List Doc) (ls : List (List Tuple)) → AreShort ns ds → AreAnswered a ns ds ls → AreListed q n (plain ns ds) (every_text names n ds ls)
-  listed q has is [] [] short are = refl
-  listed q has is [] (l ∷ ls) short are = absurd are
-  listed q has is (d ∷ ds) [] short are = absurd are
-  listed q has is (d ∷ ds) (l ∷ ls) short are = (
+  pub listed : (q : Query) → HasAnswersIn ns a q → names ≡ names_of q → (ds : List Doc) (ls : List (List Tuple)) → AreLive ns ds → AreAnswered a ns ds ls → AreListed q n (plain ns ds) (every_text names n ds ls)
+  listed q has is [] [] live are = refl
+  listed q has is [] (l ∷ ls) live are = absurd are
+  listed q has is (d ∷ ds) [] live are = absurd are
+  listed q has is (d ∷ ds) (l ∷ ls) live are = (
     take n l,
     nat_lt n (length l),
     every_text names n ds ls,
     record {
       all = l;
-      answers = (has.same (text_of ns d.root) l (short 0 d refl)).0 are.0;
+      answers = (has.same d.root l live.0).0 are.0;
       is = record { rest = l; after = after-none l; first = refl; more_left = refl };
     },
-    listed q has is ds ls (λ k e at. short (suc k) e at) are.1,
+    listed q has is ds ls live.1 are.1,
     ap (λ (ms : List (List ℕ)). doc_line d.name ++ (first_page_text ms n l ++ every_text names n ds ls)) is,
   )
+
+-- the lists of the automaton's answers
+pub lists_exist : (a : DeterministicAutomaton) (ns : List Node) (q : Query) → HasAnswersIn ns a q → (ds : List Doc) → AreLive ns ds → (ls : List (List Tuple)) × AreAnswered a ns ds ls
+lists_exist a ns q has [] live = ([], tt)
+lists_exist a ns q has (d ∷ ds) live =
+    let l = has.list d.root live.0 in
+    let ls = lists_exist a ns q has ds live.1 in
+    (l.0 ∷ ls.0, ((has.same d.root l.0 live.0).1 l.1, ls.1))
 
 pub rest_end : {x y : Outlet} {whole : List ℕ} (names : List (List ℕ)) (n : ℕ) (ds : List Doc) (ls : List (List Tuple)) (place : ℕ) → length ds ≤ place → IsUpTo x y (rest_text names n ds ls place) whole → IsUpTo x y done_line whole
 rest_end {x} {y} {whole} names n ds ls place past h = subst (λ (es : List Doc). IsUpTo x y (every_text names n es (drop place ls)) whole) (drop_all place ds past) h
@@ -90,13 +94,6 @@ page_sizes a s n p is k t e =
     let member = (is.answers.members t).0 (contains_at is.all k t in_all) in
     member.size
 
-pub lists_exist : (a : DeterministicAutomaton) (ns : List Node) (t : Dictionary) → IsDeterministic a → AreTables a ns t → count_of t ≡ length ns → (ds : List Doc) → AreLive ns ds → AreShort ns ds → (ls : List (List Tuple)) × AreAnswered a ns ds ls
-lists_exist a ns t auto tables count [] live short = ([], tt)
-lists_exist a ns t auto tables count (d ∷ ds) live short =
-    let l = answers-exist a auto (text_of ns d.root) (bytes-found a ns t d.root tables count live.0) (short 0 d refl) in
-    let ls = lists_exist a ns t auto tables count ds live.1 (λ k e at. short (suc k) e at) in
-    (l.0 ∷ ls.0, (l.1, ls.1))
-
 -- the page whose parts these are
 pub page_at : (ps : List Page) (k : ℕ) (ts : List Tuple) (more : Bool) → slice_get (map (λ (p : Page). p.tuples) ps) k ≡ Some ts → slice_get (map (λ (p : Page). p.more) ps) k ≡ Some more
     → slice_get ps k ≡ Some (record { tuples = ts; more = more })
@@ -106,26 +103,6 @@ page_at (p ∷ ps) zero ts more e f =
     let left : p.more ≡ more = cc f in
     ap (λ (us : List Tuple). Some (record { tuples = us; more = p.more })) same ∙ ap (λ (b : Bool). Some (record { tuples = ts; more = b })) left
 page_at (p ∷ ps) (suc k) ts more e f = page_at ps k ts more e f
-
-pub registered : (queries : Named Query) (bytes name : List ℕ) (names : List (List ℕ)) → option_map names_of (value_of queries bytes) ≡ Some names → bytes ≡ name → IsRegistered queries name
-registered queries bytes name names is same =
-    let q = query_of (value_of queries bytes) names is in record { query = q.0; there = ap (λ (m : List ℕ). value_of queries m) (sym same) ∙ q.1 }
-
--- ---- lengths that were read
-pub short_next : (ns : List Node) (ds : List Doc) (place len : ℕ) (x : Doc) → ((k : ℕ) (d : Doc) → k < place → slice_get ds k ≡ Some d → length (text_of ns d.root) ≤ 2 ^ 48) → slice_get ds place ≡ Some x → len ≡ length (text_of ns x.root) → len ≤ 2 ^ 48
-    → (k : ℕ) (d : Doc) → k < place + 1 → slice_get ds k ≡ Some d → length (text_of ns d.root) ≤ 2 ^ 48
-short_next ns ds place len x h at is short k d lt e = by (nat_lt k place) refl
-  where
-    by : (b : Bool) → nat_lt k place ≡ b → length (text_of ns d.root) ≤ 2 ^ 48
-    by true low = h k d (ltb-true k place low) e
-    by false high =
-        let here : k ≡ place = omega (arith, lt, ltb-false k place high) in
-        let both : Some x ≡ Some d = sym at ∙ (ap (slice_get ds) (sym here) ∙ e) in
-        let same : x ≡ d = cc both in
-        subst (λ (y : Doc). length (text_of ns y.root) ≤ 2 ^ 48) same (subst (λ (m : ℕ). m ≤ 2 ^ 48) is short)
-
-pub short_all : (ns : List Node) (ds : List Doc) (place : ℕ) → ((k : ℕ) (d : Doc) → k < place → slice_get ds k ≡ Some d → length (text_of ns d.root) ≤ 2 ^ 48) → length ds ≤ place → AreShort ns ds
-short_all ns ds place h past k d e = h k d (omega (arith, past, slice_get_within ds k d e)) e
 
 -- ---- the lines of tuples
 pub sized_at : (ts : List Tuple) (n : ℕ) → ((k : ℕ) (t : Tuple) → slice_get ts k ≡ Some t → n ≡ length t) → (i : ℕ) (t : Tuple) → t ≡ get_or ts i t → i < length ts → n ≡ length t

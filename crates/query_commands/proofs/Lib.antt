@@ -1,5 +1,6 @@
 pub mod AllListingLemmas
 pub mod AllListingParts
+pub mod CountLemmas
 pub mod Facts
 pub mod ListLemmas
 pub mod Listings

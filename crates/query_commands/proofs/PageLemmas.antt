@@ -1,118 +1,148 @@
 -- The effect of listing the answers of a query.
-use Rattle.query_commands.proofs.Names.{Accepted, answers_steps, ap, AreAnswersOf, arith, Carries, counters, first_page_text, HasCursor, HasList, IfNamed, inl, inr}
-use Rattle.query_commands.proofs.Names.{IsAfter, IsAllowed, IsCursorFor, IsListingOf, IsListReply, IsNamed, IsRefused, IsUnreadCursor, IsWordRefusal, length, List}
-use Rattle.query_commands.proofs.Names.{Listing, Lists, looks_limit, most_looks, Named, names_of, nat_lt, no_steps, None, NoSuchDocument, Option, option_map}
-use Rattle.query_commands.proofs.Names.{page_text, PaysFor, Query, Quiet, refl, Refusal, refusal_text, Refused, same_Some, Some, subst, sym, take, Tells, Told, Tuple}
-use Rattle.query_commands.proofs.Names.{Unread, value_of, World, ℕ, ◌*◌, ◌+◌, ◌∙◌, ◌≡◌, ◌≤◌}
-use Rattle.session_state.proofs.BookLemmas.{names_known, query_of}
+use Rattle.query_commands.proofs.Names.{Accepted, After, answer_limit, answers_steps, ap, AreAnswersOf, arith, AsksForCounts, At, Begins, Bool, Carries}
+use Rattle.query_commands.proofs.Names.{counters, drop, Entry, Err, false, First, first_page_text, GrowsCounts, GrowsFor, GrowsTables, HasList, IfOk, inl, inr}
+use Rattle.query_commands.proofs.Names.{IsAfter, IsAllowed, IsAnswersOf, IsAsked, IsErrAnd, IsListReply, IsNumbered, IsOver, IsPageFrom, IsRefused, IsRestFrom}
+use Rattle.query_commands.proofs.Names.{IsSome, IsStartRefused, IsTupleRefused, length, List, Listing, Lists, ListStart, looks_limit, MatchResult}
+use Rattle.query_commands.proofs.Names.{more_answers, Named, names_of, nat_lt, no_steps, Node, NoMemory, None, NoSuchDocument, NoSuchQuery, Ok, Option}
+use Rattle.query_commands.proofs.Names.{page_text, PaysFor, queries_of, Query, Quiet, refl, Refusal, refusal_text, Refused, Result, rules, Some, Starts, Stop}
+use Rattle.query_commands.proofs.Names.{subst, sym, take, Tells, Told, true, Tuple, TupleText, value_of, World, ℕ, ◌*◌, ◌+◌, ◌-◌, ◌∙◌, ◌≡◌, ◌≤◌}
 use Rattle.script_syntax.specs.declared.form.Command.TheVariants as form
-use Rattle.span_language.specs.Cursors.{IsCursorOf}
-use Rattle.query_commands.specs.declared.words.Unread.TheVariants as unread
+use Rattle.session_state.proofs.BookLemmas.{both_grown, some_value}
+use Rattle.session_state.proofs.PlacesLemmas.{not_asked}
 
-pub has_cursor : (queries : Named Query) (name : List ℕ) (word : Option (List ℕ)) (cursor : Option Tuple) → IsCursorFor queries name word cursor → HasCursor queries name cursor
-has_cursor queries name word cursor h = record { query = h.query; there = h.there; size = λ t is. size word h.gives t is }
+-- ---- the tables that a listing needs
+pub grows_numbered : (start : ListStart) (name : List ℕ) (ns : List Node) (old mid new : List Entry) (p q r : ℕ) → GrowsTables false ns old mid p q → GrowsCounts ns mid new q r → IsNumbered start → (value_of (queries_of mid) name ≡ None → r ≡ q)
+    → GrowsFor start name ns old new p r
+grows_numbered start name ns old mid new p q r first next numbered missing = by (value_of (queries_of old) name) refl
   where
-    size : (word : Option (List ℕ)) → IsCursorOf h.query word cursor → (t : Tuple) → cursor ≡ Some t → length t ≡ length (names_of h.query)
-    size None none t is = let both : ◌≡◌ {A = Option Tuple} None (Some t) = sym none ∙ is in let bad : ⊥ = cc both in absurd bad
-    size (Some bytes) (tuple, text, some) t is =
-        let both : Some tuple ≡ Some t = sym some ∙ is in
-        let same : tuple ≡ t = cc both in
-        sym (subst (λ (u : Tuple). length (names_of h.query) ≡ length u) same text.paired)
+    by : (o : Option Query) → value_of (queries_of old) name ≡ o → GrowsFor start name ns old new p r
+    by None is = record {
+      asked = false;
+      grown = both_grown false ns old mid new p q r first next (λ _. missing (ap (λ (qs : Named Query). value_of qs name) first.queries ∙ is));
+      numbered = not_asked;
+      there = not_asked;
+    }
+    by (Some x) is = record {
+      asked = true;
+      grown = both_grown true ns old mid new p q r first next (λ no. let bad : ⊥ = cc no in absurd bad);
+      numbered = λ _. numbered;
+      there = λ _. subst (λ (o : Option Query). IsSome o) (sym is) (search rules);
+    }
 
--- without a word there is no cursor
-pub no_word : (queries : Named Query) (name : List ℕ) (word : Option (List ℕ)) (names : List (List ℕ)) → word ≡ None → option_map names_of (value_of queries name) ≡ Some names → IsCursorFor queries name word None
-no_word queries name word names none is =
-    let q = query_of (value_of queries name) names is in record { query = q.0; there = q.1; gives = subst (λ (w : Option (List ℕ)). IsCursorOf q.0 w None) (sym none) refl }
+pub grows_kept : (start : ListStart) (name : List ℕ) (ns : List Node) (old mid new : List Entry) (p q r : ℕ) → GrowsTables false ns old mid p q → GrowsCounts ns mid new q r → r ≡ q → GrowsFor start name ns old new p r
+grows_kept start name ns old mid new p q r first next same =
+    record { asked = false; grown = both_grown false ns old mid new p q r first next (λ _. same); numbered = not_asked; there = not_asked }
 
-module _ (Writes : List ℕ → Type 0) (queries : Named Query) (name text : List ℕ) (cursor : Option Tuple) (n before after : ℕ) (list : IfNamed queries name (HasList text cursor)) where
-  lists : (q : Query) → value_of queries name ≡ Some q → (l : HasList text cursor q) → Writes (first_page_text (names_of q) n l.rest)
-      → after ≤ before + (length (take n l.rest) + 3) * looks_limit (length (names_of q)) (length text) → Lists Writes queries name text cursor n before after
-  lists q there l writes paid = record {
-    query = q;
-    there = there;
-    page = take n l.rest;
-    more = nat_lt n (length l.rest);
-    page_is = record { all = l.all; answers = l.answers; is = record { rest = l.rest; after = l.after; first = refl; more_left = refl } };
-    writes = writes;
-    paid = paid;
-  }
+pub grows_plain : (start : ListStart) (name : List ℕ) (ns : List Node) (old new : List Entry) (p q : ℕ) → GrowsTables false ns old new p q → GrowsFor start name ns old new p q
+grows_plain start name ns old new p q grown = record { asked = false; grown = grown; numbered = not_asked; there = not_asked }
+
+-- ---- the iterator at the start of a listing
+-- a call that propagates an error returns no value
+pub no_value : {T E : Type 0} (r : Result T E) (P : T → Type 0) (Q : E → Type 0) → IsErrAnd r Q → IfOk r P
+no_value (Ok x) P Q h = absurd h
+no_value (Err e) P Q h = tt
+
+module _ (q : Query) (text : List ℕ) (asked : ListStart) (result : Result (Result Listing Refusal) NoMemory) (before after : ℕ) where
+  pub begins_first : asked ≡ First → (l : HasList text None q) → IfOk result (λ found. MatchResult found (IsOver q text l.all l.rest) (λ _. ⊥)) → after ≤ before + answer_limit q text → Begins q text asked result before after
+  begins_first is l found paid =
+      let cost : after + answer_limit q text ≤ before + 3 * answer_limit q text = omega (arith, paid) in
+      let s : Starts q text First result before after = record { all = l.all; rest = l.rest; answers = l.answers; from = l.after; found = found; cost = cost } in
+      inl (subst (λ (t : ListStart). Starts q text t result before after) (sym is) s)
+
+  pub begins_after : (word : List ℕ) (tuple : Tuple) (names : List (List ℕ)) → asked ≡ After word → names ≡ names_of q → TupleText word names tuple → (l : HasList text (Some tuple) q) → IfOk result (λ found. MatchResult found (IsOver q text l.all l.rest) (λ _. ⊥))
+      → after ≤ before + 2 * answer_limit q text → Begins q text asked result before after
+  begins_after word tuple names is same named l found paid =
+      let written : TupleText word (names_of q) tuple = subst (λ (ns : List (List ℕ)). TupleText word ns tuple) same named in
+      let cost : after + answer_limit q text ≤ before + 3 * answer_limit q text = omega (arith, paid) in
+      let s : Starts q text (After word) result before after = record { all = l.all; rest = l.rest; answers = l.answers; from = (tuple, written, l.after); found = found; cost = cost } in
+      inl (subst (λ (t : ListStart). Starts q text t result before after) (sym is) s)
+
+  pub begins_at : (m : ℕ) (all : List Tuple) → asked ≡ At m → IsAnswersOf q text all → IfOk result (λ found. MatchResult found (IsOver q text all (drop (m - 1) all)) (λ _. ⊥))
+      → after ≤ before + 3 * answer_limit q text → Begins q text asked result before after
+  begins_at m all is answers found paid =
+      let cost : after + answer_limit q text ≤ before + 4 * answer_limit q text = omega (arith, paid) in
+      let s : Starts q text (At m) result before after = record { all = all; rest = drop (m - 1) all; answers = answers; from = refl; found = found; cost = cost } in
+      inl (subst (λ (t : ListStart). Starts q text t result before after) (sym is) s)
+
+-- the word of a start is no tuple of the query's variables
+pub begins_refused : (q : Query) (text : List ℕ) (asked : ListStart) (word : List ℕ) (why : Refusal) (looks : ℕ) → asked ≡ After word → IsTupleRefused q word why → Begins q text asked (Ok (Err why)) looks looks
+begins_refused q text asked word why looks is refused = inr (why, subst (λ (t : ListStart). IsStartRefused q t why) (sym is) refused, refl, refl)
+
+-- ---- the page
+-- the first of the answers from a start on are the page
+page_from : (q : Query) (text : List ℕ) (start : ListStart) (n : ℕ) (all rest : List Tuple) → IsAnswersOf q text all → IsRestFrom q start all rest → IsPageFrom q text start n (take n rest) (nat_lt n (length rest))
+page_from q text First n all rest answers after = record { all = all; answers = answers; is = record { rest = rest; after = after; first = refl; more_left = refl } }
+page_from q text (After word) n all rest answers (cursor, written, after) =
+    (cursor, written, record { all = all; answers = answers; is = record { rest = rest; after = after; first = refl; more_left = refl } })
+page_from q text (At m) n all rest answers is = record { all = all; answers = answers; first = ap (take n) is; more_left = ap (λ (r : List Tuple). nat_lt n (length r)) is }
+
+module _ (Writes : List ℕ → Type 0) (number : ℕ) (q : Query) (text : List ℕ) (start : ListStart) (n before mid after : ℕ) (r : Result Told Stop) where
+  lists : (result : Result (Result Listing Refusal) NoMemory) → (s : Starts q text start result before mid) → Writes (first_page_text (names_of q) n s.rest) → after ≤ before + (length (take n s.rest) + more_answers start) * answer_limit q text
+      → IfOk r (λ t. t ≡ Accepted) → (told : Told) × IfOk r (λ t. t ≡ told) × Tells Writes number q start text n told before after
+  lists result s writes paid accepted =
+      let l : Lists Writes q text start n before after = record { page = take n s.rest; more = nat_lt n (length s.rest); page_is = page_from q text start n s.all s.rest s.answers s.from; writes = writes; paid = paid } in
+      (Accepted, accepted, l)
 
   -- a part of the page was written
-  pub lists_page : (mid : ℕ) (listing : Listing) (names : List (List ℕ)) → IsNamed queries name (IsListingOf text cursor listing) → option_map names_of (value_of queries name) ≡ Some names
-      → mid ≤ before + 2 * most_looks (value_of queries name) text
+  pub tells_page : (listing : Listing) (names : List (List ℕ)) → Begins q text start (Ok (Ok listing)) before mid → names ≡ names_of q
       → ((all rest : List Tuple) → AreAnswersOf listing.automaton listing.text all → IsAfter all listing.after rest
       → Writes (first_page_text names n rest) × (after ≤ mid + (length (take n rest) + 1) * looks_limit listing.automaton.variables (length listing.text)))
-      → Lists Writes queries name text cursor n before after
-  lists_page mid listing names named names_are begun written =
-      let q = named.query in
-      let is = named.holds in
-      let l = list q named.there in
-      let here : AreAnswersOf listing.automaton text l.all =
-      record { rising = l.answers.rising; members = λ t. (λ m. (is.members t).0 ((l.answers.members t).0 m), λ m. (l.answers.members t).1 ((is.members t).1 m)) } in
-      let are : AreAnswersOf listing.automaton listing.text l.all = subst (λ (s : List ℕ). AreAnswersOf listing.automaton s l.all) (sym is.text) here in
-      let rest : IsAfter l.all listing.after l.rest = subst (λ (o : Option Tuple). IsAfter l.all o l.rest) (sym is.after) l.after in
-      let same : names ≡ names_of q = names_known queries name names named names_are in
-      let wrote : Writes (first_page_text (names_of q) n l.rest) = subst (λ (ns : List (List ℕ)). Writes (first_page_text ns n l.rest)) same (written l.all l.rest are rest).0 in
-      let most : mid ≤ before + 2 * looks_limit (length (names_of q)) (length text) = subst (λ (o : Option Query). mid ≤ before + 2 * most_looks o text) named.there begun in
-      let each : looks_limit listing.automaton.variables (length listing.text) ≡ looks_limit (length (names_of q)) (length text) =
-      ap (λ (k : ℕ). looks_limit k (length listing.text)) is.defines.variables ∙ ap (λ (s : List ℕ). looks_limit (length (names_of q)) (length s)) is.text in
-      let page : after ≤ mid + (length (take n l.rest) + 1) * looks_limit (length (names_of q)) (length text) =
-      subst (λ (b : ℕ). after ≤ mid + (length (take n l.rest) + 1) * b) each (written l.all l.rest are rest).1 in
-      lists q named.there l wrote (omega (arith, most, page))
+      → IfOk r (λ t. t ≡ Accepted) → (told : Told) × IfOk r (λ t. t ≡ told) × Tells Writes number q start text n told before after
+  tells_page listing names (inr (why, refused, is, same)) names_are written accepted = let bad : ⊥ = cc is in absurd bad
+  tells_page listing names (inl s) names_are written accepted =
+      let over = s.found in
+      let is = over.iterator in
+      let here : AreAnswersOf listing.automaton text s.all =
+      record { rising = s.answers.rising; members = λ t. (λ m. (is.members t).0 ((s.answers.members t).0 m), λ m. (s.answers.members t).1 ((is.members t).1 m)) } in
+      let are : AreAnswersOf listing.automaton listing.text s.all = subst (λ (u : List ℕ). AreAnswersOf listing.automaton u s.all) (sym is.text) here in
+      let rest : IsAfter s.all listing.after s.rest = subst (λ (o : Option Tuple). IsAfter s.all o s.rest) (sym is.after) over.after in
+      let page = written s.all s.rest are rest in
+      let wrote : Writes (first_page_text (names_of q) n s.rest) = subst (λ (ns : List (List ℕ)). Writes (first_page_text ns n s.rest)) names_are page.0 in
+      let each : looks_limit listing.automaton.variables (length listing.text) ≡ answer_limit q text =
+      ap (λ (k : ℕ). looks_limit k (length listing.text)) is.defines.variables ∙ ap (λ (u : List ℕ). looks_limit (length (names_of q)) (length u)) is.text in
+      let paid : after ≤ mid + (length (take n s.rest) + 1) * answer_limit q text = subst (λ (b : ℕ). after ≤ mid + (length (take n s.rest) + 1) * b) each page.1 in
+      lists (Ok (Ok listing)) s wrote (omega (arith, s.cost, paid)) accepted
 
   -- nothing of the page was written
-  pub lists_none : HasCursor queries name cursor → after ≤ before + 2 * most_looks (value_of queries name) text → ((reply : List ℕ) → Writes reply) → Lists Writes queries name text cursor n before after
-  lists_none h begun writes =
-      let l = list h.query h.there in
-      let most : after ≤ before + 2 * looks_limit (length (names_of h.query)) (length text) = subst (λ (o : Option Query). after ≤ before + 2 * most_looks o text) h.there begun in
-      lists h.query h.there l (writes (first_page_text (names_of h.query) n l.rest)) (omega (arith, most))
+  pub tells_none : (e : NoMemory) → mid ≡ after → Begins q text start (Err e) before mid → ((reply : List ℕ) → Writes reply) → IfOk r (λ t. t ≡ Accepted) → (told : Told) × IfOk r (λ t. t ≡ told) × Tells Writes number q start text n told before after
+  tells_none e same (inr (why, refused, is, kept)) writes accepted = let bad : ⊥ = cc is in absurd bad
+  tells_none e same (inl s) writes accepted = lists (Err e) s (writes (first_page_text (names_of q) n s.rest)) (omega (arith, s.cost, same)) accepted
 
-pub named_count : (queries : Named Query) (name text : List ℕ) (cursor : Option Tuple) (listing : Listing) (names : List (List ℕ)) → IsNamed queries name (IsListingOf text cursor listing) → option_map names_of (value_of queries name) ≡ Some names
-    → length names ≡ listing.automaton.variables
-named_count queries name text cursor listing names named is = ap length (names_known queries name names named is) ∙ sym named.holds.defines.variables
+  -- the start was rejected
+  pub tells_refused : (why : Refusal) → mid ≡ after → Begins q text start (Ok (Err why)) before mid → Writes (refusal_text number why) → IfOk r (λ t. t ≡ Refused) → (told : Told) × IfOk r (λ t. t ≡ told) × Tells Writes number q start text n told before after
+  tells_refused why same (inl s) writes refused = absurd s.found
+  tells_refused why same (inr (other, not_read, is, kept)) writes refused =
+      let told : why ≡ other = cc is in
+      (Refused, refused, (why, subst (λ (w : Refusal). IsStartRefused q start w) (sym told) not_read, writes, sym same ∙ kept))
+
+pub over_count : (q : Query) (text : List ℕ) (start : ListStart) (before mid : ℕ) (listing : Listing) (names : List (List ℕ)) → Begins q text start (Ok (Ok listing)) before mid → names ≡ names_of q → length names ≡ listing.automaton.variables
+over_count q text start before mid listing names (inl s) same = ap length same ∙ sym s.found.iterator.defines.variables
+over_count q text start before mid listing names (inr (why, refused, is, kept)) same = let bad : ⊥ = cc is in absurd bad
 
 -- ---- what the line does
-word_refused : (w : World) (query name text : List ℕ) (word : Option (List ℕ)) (n : ℕ) (u : Unread) (why : Refusal) → value_of w.state.documents name ≡ Some text → IsUnreadCursor w.state.queries query word u → IsWordRefusal query u why
-    → IsRefused w (form.List query name word n) why
-word_refused w query name text None n u why there (same, none) written = inl (inr (text, there, none, subst (λ (x : Unread). IsWordRefusal query x why) same written))
-word_refused w query name text (Some bytes) n unread.NoSuchQuery why there none written = inl (inr (text, there, none, written))
-word_refused w query name text (Some bytes) n unread.BadTuple why there (q, registered, bad) written = inr (q, text, record { document = there; registered = registered }, inl (bad, written))
-word_refused w query name text (Some bytes) n unread.OtherVariables why there (q, registered, other) written = inr (q, text, record { document = there; registered = registered }, inr (other, written))
+module _ (w : World) (number : ℕ) (query name text : List ℕ) (start : ListStart) (n : ℕ) (there : value_of w.state.documents name ≡ Some text) where
+  -- the returned reply is one of the line's, and was written, at its cost
+  pub list_carries : (q : Query) → value_of w.state.queries query ≡ Some q → (Writes : List ℕ → Type 0) (told : Told) (before after pairs : ℕ) → Tells Writes number q start text n told before after
+      → (reply : List ℕ) × Carries w number (form.List query name start n) told reply w × PaysFor w (form.List query name start n) (counters before pairs) (counters after pairs) × Writes reply
+  list_carries q registered Writes Quiet before after pairs h = absurd h
+  list_carries q registered Writes Accepted before after pairs l =
+      let reply = page_text (names_of q) l.page l.more in
+      let listed : IsListReply q text start n reply = record { page = l.page; more = l.more; page_is = l.page_is; reply_is = refl } in
+      let asked : IsAsked w query name q text = record { document = there; registered = registered } in
+      (reply, (q, text, asked, listed, refl), (answers_steps (length l.page + more_answers start) q text, inr (q, text, reply, asked, listed, refl), record { looks = l.paid; pairs = omega arith }), l.writes)
+  list_carries q registered Writes Refused before after pairs (why, not_read, wrote, same) =
+      let refused : IsRefused w (form.List query name start n) why = inr (q, text, record { document = there; registered = registered }, not_read) in
+      (refusal_text number why, (why, refused, refl, refl), (no_steps, inl (why, refused, refl), record { looks = omega (arith, same); pairs = omega arith }), wrote)
 
-module _ (w : World) (number : ℕ) (query name text : List ℕ) (word : Option (List ℕ)) (n : ℕ) (there : value_of w.state.documents name ≡ Some text) where
-  reply_of : (Writes : List ℕ → Type 0) (cursor : Option Tuple) (before after : ℕ) → IsCursorFor w.state.queries query word cursor → (l : Lists Writes w.state.queries query text cursor n before after)
-      → IsListReply l.query text word n (page_text (names_of l.query) l.page l.more)
-  reply_of Writes cursor before after h l = record {
-    cursor = cursor;
-    page = l.page;
-    more = l.more;
-    cursor_is = subst (λ (q : Query). IsCursorOf q word cursor) (same_Some h.query l.query (sym h.there ∙ l.there)) h.gives;
-    page_is = l.page_is;
-    reply_is = refl;
-  }
+  -- there is no query with this name
+  pub list_missing : value_of w.state.queries query ≡ None → IsRefused w (form.List query name start n) (NoSuchQuery query)
+  list_missing none = inl (inr (text, there, none, refl))
 
-  -- the returned reply is one of the line's, and was written
-  pub list_carries : (Writes : List ℕ → Type 0) (told : Told) (before after : ℕ) → Tells Writes number w.state.queries query word text n told before after
-      → (reply : List ℕ) × Carries w number (form.List query name word n) told reply w × Writes reply
-  list_carries Writes Quiet before after h = absurd h
-  list_carries Writes Accepted before after (cursor, h, l) = (
-    page_text (names_of l.query) l.page l.more,
-    (l.query, text, record { document = there; registered = l.there }, reply_of Writes cursor before after h l, refl),
-    l.writes,
-  )
-  list_carries Writes Refused before after (u, why, not_read, is, wrote, same) = (refusal_text number why, (why, word_refused w query name text word n u why there not_read is, refl, refl), wrote)
+  -- it asks for counting tables
+  pub list_asks : (asked : Bool) → (asked ≡ true → IsNumbered start) → (asked ≡ true → IsSome (value_of w.state.queries query)) → asked ≡ true → AsksForCounts w (form.List query name start n)
+  list_asks asked numbered found is =
+      let q = some_value (value_of w.state.queries query) (found is) in
+      (numbered is, (q.0, text, record { document = there; registered = q.1 }))
 
-  pub list_paid : (Writes : List ℕ → Type 0) (told : Told) (before after pairs : ℕ) → Tells Writes number w.state.queries query word text n told before after
-      → PaysFor w (form.List query name word n) (counters before pairs) (counters after pairs)
-  unfolding reply_of
-  list_paid Writes Quiet before after pairs h = absurd h
-  list_paid Writes Accepted before after pairs (cursor, h, l) = (
-    answers_steps (length l.page + 3) l.query text,
-    inr (l.query, text, page_text (names_of l.query) l.page l.more, record { document = there; registered = l.there }, reply_of Writes cursor before after h l, refl),
-    record { looks = l.paid; pairs = omega arith },
-  )
-  list_paid Writes Refused before after pairs (u, why, not_read, is, wrote, same) =
-      (no_steps, inl (why, word_refused w query name text word n u why there not_read is, refl), record { looks = omega (arith, same); pairs = omega arith })
-
-pub list_free : (w : World) (query name : List ℕ) (word : Option (List ℕ)) (n : ℕ) → value_of w.state.documents name ≡ None → IsAllowed w (form.List query name word n) no_steps
-list_free w query name word n missing = inl (NoSuchDocument name, inl (inl (missing, refl)), refl)
+pub list_free : (w : World) (query name : List ℕ) (start : ListStart) (n : ℕ) → value_of w.state.documents name ≡ None → IsAllowed w (form.List query name start n) no_steps
+list_free w query name start n missing = inl (NoSuchDocument name, inl (inl (missing, refl)), refl)

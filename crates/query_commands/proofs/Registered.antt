@@ -1,28 +1,29 @@
 -- The effect of registering a query.
-use Rattle.query_commands.proofs.Names.{[], Accepted, Answer, Answers, ap, at, Carries, command_of, Compacts, covered_of, Does, Entry, Err, Files, HasPair, SessionState}
-use Rattle.query_commands.proofs.Names.{IfErr, inr, IsAccepted, IsAllowed, IsErr, IsErrAnd, IsConsistent, IsMade, IsMadeIn, IsOfFile, IsOk, IsRefused, IsRegistered, IsSome}
-use Rattle.query_commands.proofs.Names.{IsUnmade, Join, length, List, MatchOption, MatchResult, Named, names_of, no_steps, None, Ok, OnErr, OnOk, Option, Project}
-use Rattle.query_commands.proofs.Names.{put, queries_of, Query, query_text, refl, Refusal, Registers, Result, rules, Serves, Some, State, state_of, Stays, subst, sym}
-use Rattle.query_commands.proofs.Names.{Told, Union, value_of, with_queries, World, world, ℕ, ◌∙◌, ◌≡◌}
+use Rattle.query_commands.proofs.Names.{[], Accepted, Answer, Answers, ap, at, Carries, command_of, Compacts, Does, Entry, Err, Files, HasPair, IfErr, inr}
+use Rattle.query_commands.proofs.Names.{IsAccepted, IsAllowed, IsConsistent, IsErr, IsErrAnd, IsMade, IsMadeIn, IsOfFile, IsOk, IsRefused, IsRegistered}
+use Rattle.query_commands.proofs.Names.{IsSome, IsUnmade, Join, length, List, MatchOption, MatchResult, Named, names_of, no_steps, None, Ok, OnErr, OnOk}
+use Rattle.query_commands.proofs.Names.{Option, Project, put, queries_of, Query, query_text, refl, Refusal, Registers, Result, rules, Serves, SessionState}
+use Rattle.query_commands.proofs.Names.{Some, State, state_of, Stays, subst, sym, Told, Union, value_of, with_queries, world, World, ℕ, ◌∙◌, ◌≡◌}
 use Rattle.name_map.proofs.NamedLaws.{value_of-put}
 use Rattle.span_language.specs.declared.told.Stop.TheVariants as stop
 use Rattle.query_commands.specs.declared.registering.Recipe.{Recipe}
 use Rattle.query_commands.specs.declared.registering.Recipe.TheVariants as recipe
-use Rattle.session_state.proofs.BookLemmas.{covered-within, put_placed}
+use Rattle.session_state.proofs.BookLemmas.{put_placed, tables-within}
+use Rattle.session_state.specs.SessionState.{tables_of}
 use Rattle.query_commands.proofs.QueryLemmas.{only_queries}
 use Rattle.session_state.proofs.Goes.{booked_answers, booked_stops, never, once_accepted}
 
 -- the result of a call to the registry, as an outcome
-pub outcome : {T E Z : Type 0} (made : Result T E) (out : Result (Option Refusal) Z) (M C N : Type 0) (R : E → Type 0) (Says : E → Refusal → Type 0) (U : Refusal → Type 0)
-    → OnOk made M → OnOk made C → IfErr made R → OnErr made N → ((e : E) (why : Refusal) → R e → Says e why → U why)
+pub outcome : {T E Z : Type 0} (made : Result T E) (out : Result (Option Refusal) Z) (M C D N : Type 0) (R : E → Type 0) (Says : E → Refusal → Type 0) (U : Refusal → Type 0)
+    → OnOk made M → OnOk made C → OnOk made D → IfErr made R → OnErr made N → ((e : E) (why : Refusal) → R e → Says e why → U why)
     → MatchResult out (λ refused. MatchOption refused (IsOk made) (λ why. IsErrAnd made (λ e. Says e why))) (λ _. IsErr made)
-    → MatchResult out (λ refused. MatchOption refused (M × C) (λ why. U why × N)) (λ _. N)
-outcome (Ok x) (Ok None) M C N R Says U m c r n u told = (m, c)
-outcome (Ok x) (Ok (Some why)) M C N R Says U m c r n u told = absurd told
-outcome (Ok x) (Err z) M C N R Says U m c r n u told = let bad : ⊥ = cc told in absurd bad
-outcome (Err e) (Ok None) M C N R Says U m c r n u told = let bad : ⊥ = cc told in absurd bad
-outcome (Err e) (Ok (Some why)) M C N R Says U m c r n u told = (u e why r told, n)
-outcome (Err e) (Err z) M C N R Says U m c r n u told = n
+    → MatchResult out (λ refused. MatchOption refused (M × C × D) (λ why. U why × N)) (λ _. N)
+outcome (Ok x) (Ok None) M C D N R Says U m c d r n u told = (m, c, d)
+outcome (Ok x) (Ok (Some why)) M C D N R Says U m c d r n u told = absurd told
+outcome (Ok x) (Err z) M C D N R Says U m c d r n u told = let bad : ⊥ = cc told in absurd bad
+outcome (Err e) (Ok None) M C D N R Says U m c d r n u told = let bad : ⊥ = cc told in absurd bad
+outcome (Err e) (Ok (Some why)) M C D N R Says U m c d r n u told = (u e why r told, n)
+outcome (Err e) (Err z) M C D N R Says U m c d r n u told = n
 
 -- the query with the name
 pub made_value : (old new : Named Query) (name kept : List ℕ) (q : Query) → new ≡ put old name q → kept ≡ name → value_of new kept ≡ Some q
@@ -85,5 +86,5 @@ module _ (h : SessionState) (book : List Entry) (number : ℕ) (name : List ℕ)
       let kind = kinds w name r in
       let line = written q (made_value (queries_of h.book) (queries_of book) name kept q put_is same) ∙ ap (λ (n : List ℕ). query_text n (names_of q)) same in
       booked_answers h book number (command_of name r) answer files faults looks pairs places 1 is serves kind.3 (once_accepted _ kind.0 answer.told accepted) (never _ kind.1 answer.told)
-      (put_placed (length h.store) places (covered_of h.book) (covered_of book) name made.1 (covered-within h.store h.book is.serves))
+      (put_placed (length h.store) places (tables_of h.book) (tables_of book) name made.1 made.2 (tables-within h.store h.book is.serves))
       (subst (λ (t : Told). Carries w number (command_of name r) t answer.line.items now) (sym accepted) (subst (λ (l : List ℕ). Does w (command_of name r) l now) (sym line) does))

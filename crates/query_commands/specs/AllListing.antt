@@ -1,5 +1,5 @@
 -- The output of a listing of the answers on every document.
-use Rattle.std.specs.Prelude.{◌≡◌, ℕ, ◌≤◌, ◌^◌, List, [], ◌∷◌, ◌++◌, Some, length, drop, slice_get}
+use Rattle.std.specs.Prelude.{◌≡◌, ℕ, ◌≤◌, List, [], ◌∷◌, ◌++◌, length, drop}
 use Rattle.slp_model.specs.declared.Node.{Node}
 use Rattle.marker_dfa.specs.Deterministic.{DeterministicAutomaton}
 use Rattle.state_tables.specs.Dictionary.{AreTables, Dictionary}
@@ -9,16 +9,7 @@ use Rattle.span_types.specs.Query.{Query}
 use Rattle.doc_book.specs.declared.Doc.{Doc}
 use Rattle.doc_book.specs.Texts.{AreLive}
 use Rattle.span_language.specs.Listed.{AreListed, doc_line, done_line, first_page_text}
-use Rattle.span_language.specs.State.{Documents, Named, value_of}
-
--- there is a query with this name
-pub record IsRegistered (queries : Named Query) (name : List ℕ) : Type 0 where
-  pub query : Query
-  pub there : value_of queries name ≡ Some query
-
--- no text is longer than the maximum
-abbrev pub AreShort : List Node → List Doc → Type 0
-AreShort ns ds = (place : ℕ) (d : Doc) → slice_get ds place ≡ Some d → length (text_of ns d.root) ≤ 2 ^ 48
+use Rattle.span_language.specs.State.{Documents}
 
 -- for each document the list of the automaton's answers on its text
 abbrev pub AreAnswered : DeterministicAutomaton → List Node → List Doc → List (List Tuple) → Type 0
@@ -47,10 +38,8 @@ every_text names n (d ∷ ds) (l ∷ ls) = doc_line d.name ++ (first_page_text n
 abbrev pub rest_text : List (List ℕ) → ℕ → List Doc → List (List Tuple) → ℕ → List ℕ
 rest_text names n ds ls place = every_text names n (drop place ds) (drop place ls)
 
--- the reply with the answers of the query with this name on each document is written
-pub record ListsEvery (Writes : List ℕ → Type 0) (queries : Named Query) (name : List ℕ) (documents : Documents) (n : ℕ) : Type 0 where
-  pub query : Query
-  pub there : value_of queries name ≡ Some query
+-- the reply with the answers of the query on each document is written
+pub record ListsEvery (Writes : List ℕ → Type 0) (q : Query) (documents : Documents) (n : ℕ) : Type 0 where
   pub reply : List ℕ
-  pub listed : AreListed query n documents reply
+  pub listed : AreListed q n documents reply
   pub writes : Writes reply

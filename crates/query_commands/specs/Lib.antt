@@ -1,9 +1,8 @@
 pub mod AllListing
-pub mod Asked
+pub mod Counting
 pub mod Judged
 pub mod Listing
 pub mod Refused
 pub mod Registering
 pub mod Replacing
-pub mod Subject
-pub mod Words
+pub mod Tables

@@ -1,38 +1,60 @@
 -- The output and the cost of the parts of a listing.
-use Rattle.std.specs.Prelude.{◌≡◌, ℕ, Bool, ◌+◌, ◌*◌, ◌≤◌, List, Option, Some, length}
-use Rattle.span_types.specs.Fibonacci.{looks_limit}
+use Rattle.std.specs.Prelude.{◌≡◌, ◌⊎◌, ℕ, Bool, ◌+◌, ◌-◌, ◌*◌, ◌≤◌, List, None, Option, Some, Result, Ok, Err, IfOk, MatchResult, drop, length}
+use Rattle.script_syntax.specs.declared.form.ListStart.{ListStart}
+use Rattle.script_syntax.specs.declared.form.ListStart.TheVariants.{First, After, At}
+use Rattle.span_types.specs.declared.refusal.NoMemory.{NoMemory}
+use Rattle.span_types.specs.Answers.{IsAfter}
 use Rattle.span_types.specs.Query.{Query}
-use Rattle.span_types.specs.Rel.{names_of}
+use Rattle.span_types.specs.Rel.{IsAnswersOf, names_of}
+use Rattle.span_cursor.specs.Tuples.{TupleText}
+use Rattle.span_enum.specs.Listing.{Listing}
 use Rattle.span_enum.specs.Members.{Tuple}
+use Rattle.query_book.specs.Answers.{IsListingOf}
 use Rattle.report_text.specs.Reply.{refusal_text}
 use Rattle.report_text.specs.declared.refusal.Refusal.{Refusal}
-use Rattle.span_language.specs.State.{Named, value_of}
-use Rattle.query_commands.specs.Words.{IsCursorFor, IsUnreadCursor, IsWordRefusal}
-use Rattle.span_language.specs.Listed.{IsPageOf, page_text}
-use Rattle.query_commands.specs.declared.words.Unread.{Unread}
+use Rattle.span_language.specs.Allowance.{answer_limit, more_answers}
+use Rattle.span_language.specs.Cursors.{IsStartRefused}
+use Rattle.span_language.specs.Listed.{IsPageFrom, page_text}
 use Rattle.span_language.specs.declared.told.Told.{Told}
 use Rattle.span_language.specs.declared.told.Told.TheVariants.{Quiet, Accepted, Refused}
 
--- there is a query with this name, and the cursor has its variables
-pub record HasCursor (queries : Named Query) (name : List ℕ) (cursor : Option Tuple) : Type 0 where
-  pub query : Query
-  pub there : value_of queries name ≡ Some query
-  pub size : (t : Tuple) → cursor ≡ Some t → length t ≡ length (names_of query)
+-- the rest is what is left of all answers from the start on
+abbrev pub IsRestFrom : Query → ListStart → List Tuple → List Tuple → Type 0
+IsRestFrom q First all rest = IsAfter all None rest
+IsRestFrom q (After word) all rest = (cursor : Tuple) × TupleText word (names_of q) cursor × IsAfter all (Some cursor) rest
+IsRestFrom q (At m) all rest = rest ≡ drop (m - 1) all
 
--- the page of the answers of the query with this name after a cursor is written, and its cost is at most that of its
--- answers and three more
-pub record Lists (Writes : List ℕ → Type 0) (queries : Named Query) (name text : List ℕ) (cursor : Option Tuple) (n before after : ℕ) : Type 0 where
-  pub query : Query
-  pub there : value_of queries name ≡ Some query
+-- an iterator over the query's answers on the text, of which the rest is left
+pub record IsOver (q : Query) (text : List ℕ) (all rest : List Tuple) (listing : Listing) : Type 0 where
+  pub cursor : Option Tuple
+  pub iterator : IsListingOf text cursor listing q
+  pub after : IsAfter all cursor rest
+
+-- the query's answers on the text from the start on, and the cost of an iterator over them, which is one answer less than a
+-- listing costs beside its own
+pub record Starts (q : Query) (text : List ℕ) (start : ListStart) (result : Result (Result Listing Refusal) NoMemory) (before after : ℕ) : Type 0 where
+  pub all : List Tuple
+  pub rest : List Tuple
+  pub answers : IsAnswersOf q text all
+  pub from : IsRestFrom q start all rest
+  pub found : IfOk result (λ found. MatchResult found (IsOver q text all rest) (λ _. ⊥))
+  pub cost : after + answer_limit q text ≤ before + more_answers start * answer_limit q text
+
+-- an iterator from the start on, or why the start is rejected
+abbrev pub Begins : Query → List ℕ → ListStart → Result (Result Listing Refusal) NoMemory → ℕ → ℕ → Type 0
+Begins q text start result before after = Starts q text start result before after
+    ⊎ ((why : Refusal) × IsStartRefused q start why × (result ≡ Ok (Err why)) × (after ≡ before))
+
+-- the page of the query's answers from the start on is written, at the cost of its answers and some more
+pub record Lists (Writes : List ℕ → Type 0) (q : Query) (text : List ℕ) (start : ListStart) (n before after : ℕ) : Type 0 where
   pub page : List Tuple
   pub more : Bool
-  pub page_is : IsPageOf query text cursor n page more
-  pub writes : Writes (page_text (names_of query) page more)
-  pub paid : after ≤ before + (length page + 3) * looks_limit (length (names_of query)) (length text)
+  pub page_is : IsPageFrom q text start n page more
+  pub writes : Writes (page_text (names_of q) page more)
+  pub paid : after ≤ before + (length page + more_answers start) * answer_limit q text
 
--- the page after the cursor that a word parses to is written, or why the word is no cursor
-abbrev pub Tells : (List ℕ → Type 0) → ℕ → Named Query → List ℕ → Option (List ℕ) → List ℕ → ℕ → Told → ℕ → ℕ → Type 0
-Tells Writes number queries name word text n Quiet before after = ⊥
-Tells Writes number queries name word text n Accepted before after = (cursor : Option Tuple) × IsCursorFor queries name word cursor × Lists Writes queries name text cursor n before after
-Tells Writes number queries name word text n Refused before after = (unread : Unread) × (why : Refusal) × IsUnreadCursor queries name word unread × IsWordRefusal name unread why
-    × Writes (refusal_text number why) × (after ≡ before)
+-- the page from the start on is written, or why the start is rejected
+abbrev pub Tells : (List ℕ → Type 0) → ℕ → Query → ListStart → List ℕ → ℕ → Told → ℕ → ℕ → Type 0
+Tells Writes number q start text n Quiet before after = ⊥
+Tells Writes number q start text n Accepted before after = Lists Writes q text start n before after
+Tells Writes number q start text n Refused before after = (why : Refusal) × IsStartRefused q start why × Writes (refusal_text number why) × (after ≡ before)

@@ -5,7 +5,7 @@ use Rattle.query_book.specs.Answers.{IsNamed}
 use Rattle.query_book.specs.Book.{queries_of}
 use Rattle.query_book.specs.Combining.{HasPair, HasProjection, IsAccepted, IsPairRefused, IsProjectRefused}
 use Rattle.query_book.specs.Registering.{IsQueryOf}
-use Rattle.query_book.specs.Serving.{covered_of}
+use Rattle.query_book.specs.Serving.{counted_of, covered_of}
 use Rattle.query_book.specs.declared.entry.Entry.{Entry}
 use Rattle.report_text.specs.declared.refusal.Refusal.{Refusal}
 use Rattle.script_syntax.specs.declared.form.Command.{Command}
@@ -46,6 +46,7 @@ IsUnmade queries (recipe.Project source keep) why = IsUncombined (IsProjectRefus
 -- the query is registered under the name
 abbrev pub IsMadeIn : List Entry → List ℕ → Recipe → List Entry → Type 0
 IsMadeIn old name recipe new = IsMade (queries_of old) recipe (λ q. queries_of new ≡ put (queries_of old) name q) × (covered_of new ≡ put (covered_of old) name 0)
+    × (counted_of new ≡ put (counted_of old) name 0)
 
 -- the query is registered, or the rejection is returned, or an allocation failed
 abbrev pub IsOutcome : List Entry → List ℕ → Recipe → List Entry → Result (Option Refusal) NoMemory → Type 0

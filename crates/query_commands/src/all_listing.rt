@@ -1,30 +1,28 @@
 //! The command `listall`: lists the answers of a query on every document. Documents are processed in batches, and a
 //! batch's lines are written before the next batch is computed.
-ghost use Rattle.std.specs.Prelude.{◌≡◌, ◌≤◌, ◌+◌, ◌++◌, ℕ, List, Option, Some, None, true, false, length, slice_get, OnOk, IfOk, IfErr};
+ghost use Rattle.std.specs.Prelude.{◌≡◌, ◌≤◌, ◌+◌, ◌++◌, ℕ, List, Option, Some, length, slice_get, OnOk, IfOk, IfErr};
 ghost use Rattle.std.specs.List.{flat_map};
 ghost use Rattle.edge_io.specs.Files.{Files};
 ghost use Rattle.doc_book.specs.Texts.{AreLive, plain};
 ghost use Rattle.script_syntax.specs.declared.form.Command.TheVariants as form;
 ghost use Rattle.span_enum.specs.Members.{Tuple as ATuple};
-ghost use Rattle.query_book.specs.Book.{queries_of};
-ghost use Rattle.query_book.specs.Named.{value_of};
-ghost use Rattle.query_book.specs.Serving.{Covers};
+ghost use Rattle.span_types.specs.Query.{query_of};
 ghost use Rattle.span_language.specs.Listed.{doc_line, last_line, page_text, tuple_line};
 ghost use Rattle.session_state.specs.Carried.{outlet};
-ghost use Rattle.query_commands.specs.AllListing.{AreAnswered, AreShort, IsRegistered, IsAllListing, ListsEvery, every_text, rest_text};
+ghost use Rattle.query_commands.specs.AllListing.{AreAnswered, IsAllListing, ListsEvery, every_text, rest_text};
 ghost use Rattle.session_state.specs.SessionState.{IsConsistent, model_of};
 ghost use Rattle.session_state.specs.LineState.{seen};
 ghost use Rattle.session_state.specs.Written.{Ends, IsCut, IsUpTo, Wrote};
 
 use crate::listing::write_tuple;
+use crate::tables::grow;
 use doc_book::Docs;
 use edge_io::Sink;
 use list_all::pages;
 use marker_dfa::Dfa;
-use node_store::Store;
-use query_book::QueryBook;
+use query_book::Ready;
 use report_text::Refusal;
-use session_state::{Context, SessionState, close, offer, root_len, write_rejection};
+use session_state::{Context, SessionState, close, offer, send_rejection};
 use span_language::{Stop, Told};
 use span_types::{Name, NoMemory, Steps, Tuple, Vars};
 use state_tables::View;
@@ -35,28 +33,6 @@ use work_gate::Gate;
 
 /// The number of documents in a batch.
 const BATCH: usize = 64;
-
-/// Whether a query has this name.
-fn has_query(book: &QueryBook, query: &Name) -> bool
-    ensures there { result ≡ true → IsRegistered (queries_of book.now) query.now }
-    ensures missing { result ≡ false → value_of (queries_of book.now) query.now ≡ None }
-{
-    match book.vars(query.bytes()) {
-        Ok(_) => true,
-        Err(_) => false,
-    }
-}
-
-/// Reads each text's length. No text is longer than the 2^48 bytes for which the automata are specified.
-fn check_lengths(store: &Store, docs: &Docs)
-    requires { AreLive store.now docs.now }
-    ensures { AreShort store.now docs.now }
-{
-    for place in 0..docs.count() {
-        let (_, root) = docs.at(place);
-        let _len = root_len(store, root);
-    }
-}
 
 /// A document's line.
 fn line_of(alloc: Global, name: &Name) -> Result<Vec<u8>, NoMemory>
@@ -188,45 +164,31 @@ fn list_documents<R: Threads + Sync, K: Sink, G: Gate>(
     close(out, b"done\n")
 }
 
-/// Writes the pages of the query with this name on every document.
+/// Writes the pages of a query's answers on every document.
 fn list_query<R: Threads + Sync, K: Sink, G: Gate>(
     context: Context<'_, R, G>,
     alloc: Global,
-    store: &Store,
-    book: &QueryBook,
+    query: &Ready<'_>,
     docs: &Docs,
-    query: &Name,
     limit: u16,
     out: &mut K,
 ) -> Result<Told, Stop>
-    requires covers { Covers store.now book.now }
-    requires live { AreLive store.now docs.now }
-    requires there { IsRegistered (queries_of book.now) query.now }
+    requires live { AreLive query.now.nodes docs.now }
     requires some { 1 ≤ limit }
     requires few { limit ≤ 10000 }
     ensures told { IfOk result (λ told. told ≡ Told.Accepted) }
     ensures wrote { ListsEvery (λ reply. Wrote result (outlet (K.written out.old) (K.faults out.old) (K.wants out.old)) reply
-        (outlet (K.written out.new) (K.faults out.new) (K.wants out.new))) (queries_of book.now) query.now (plain store.now docs.now) limit }
+        (outlet (K.written out.new) (K.faults out.new) (K.wants out.new))) (query_of query.now.tree) (plain query.now.nodes docs.now) limit }
 {
-    check_lengths(store, docs);
-    let name = query.bytes();
-    match book.parts(name, store) {
-        Ok((view, dfa)) => match book.vars(name) {
-            Ok(vars) => {
-                let all_listing = AllListing {
-                    alloc,
-                    view,
-                    dfa,
-                    docs,
-                    vars,
-                    limit,
-                };
-                list_documents(context, all_listing, out)
-            }
-            Err(_) => unreachable!(),
-        },
-        Err(_) => unreachable!(),
-    }
+    let all_listing = AllListing {
+        alloc,
+        view: query.view(),
+        dfa: query.dfa(),
+        docs,
+        vars: query.vars(),
+        limit,
+    };
+    list_documents(context, all_listing, out)
 }
 
 /// `listall Q`, optionally with `limit NUM`, which is 1 to 10,000. Its table lookups are not counted, but the tables
@@ -249,31 +211,18 @@ pub fn list_all<R: Threads + Sync, K: Sink, G: Gate, T: Ledger>(
         (seen (model_of session.new) files faults looks pairs places.new)
         (outlet (K.written out.new) (K.faults out.new) (K.wants out.new)) result }
 {
-    if has_query(&session.book, &query) {
-        session.book.grow_all(
-            context.lent.rt,
-            session.alloc,
-            &session.store,
-            context.lent.workers,
-            context.lent.gate,
-            places,
-        )?;
-        list_query(
-            context,
-            session.alloc,
-            &session.store,
-            &session.book,
-            &session.docs,
-            &query,
-            limit,
-            out,
-        )
-    } else {
-        write_rejection(
-            session,
-            context.number,
-            &Refusal::NoSuchQuery { name: query },
-            out,
-        )
+    grow(
+        context.lent,
+        session.alloc,
+        &session.store,
+        &mut session.book,
+        places,
+    )?;
+    match session.book.ready(query.bytes(), &session.store) {
+        Ok(ready) => list_query(context, session.alloc, &ready, &session.docs, limit, out),
+        Err(_) => {
+            let why = Refusal::NoSuchQuery { name: query };
+            send_rejection(session.alloc, context.number, &why, out)
+        }
     }
 }

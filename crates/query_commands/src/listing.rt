@@ -1,43 +1,48 @@
 //! The command `list`: writes each answer's line before the next answer is found.
-ghost use Rattle.std.specs.Prelude.{◌≡◌, ◌≤◌, ◌+◌, ◌*◌, ℕ, List, Option, Some, length, take, IfOk, IfErr};
+ghost use Rattle.std.specs.Prelude.{◌≡◌, ◌≤◌, ◌+◌, ◌*◌, ℕ, List, Option, Some, length, take, IfOk, IfErr, OnOk};
 ghost use Rattle.edge_io.specs.Causes.{Rose};
 ghost use Rattle.edge_io.specs.Files.{Files};
-ghost use Rattle.slp_model.specs.Nodes.{text_of};
+ghost use Rattle.slp_model.specs.Nodes.{IsLive, text_of};
 ghost use Rattle.script_syntax.specs.declared.form.Command.TheVariants as form;
 ghost use Rattle.span_types.specs.Answers.{IsAfter};
 ghost use Rattle.span_types.specs.Fibonacci.{looks_limit};
 ghost use Rattle.span_enum.specs.Members.{Tuple as ATuple, AreAnswersOf};
-ghost use Rattle.query_book.specs.Answers.{HasList, IfNamed, IsListingOf, IsNamed, most_looks};
-ghost use Rattle.query_book.specs.Book.{queries_of};
-ghost use Rattle.query_book.specs.Named.{value_of};
+ghost use Rattle.span_types.specs.Query.{query_of};
+ghost use Rattle.query_book.specs.Serving.{Covers, HasCounts, Serves};
+ghost use Rattle.script_syntax.specs.Syntax.{IsStart};
+ghost use Rattle.span_language.specs.Counts.{IsNumbered};
 ghost use Rattle.span_language.specs.Listed.{tuple_line, first_page_text};
 ghost use Rattle.session_state.specs.Carried.{outlet};
 ghost use Rattle.session_state.specs.SessionState.{IsConsistent, model_of};
-ghost use Rattle.query_commands.specs.Listing.{HasCursor, Lists, Tells};
+ghost use Rattle.query_commands.specs.Listing.{Begins, Tells};
+ghost use Rattle.query_commands.specs.Tables.{GrowsFor};
 ghost use Rattle.session_state.specs.LineState.{seen};
-ghost use Rattle.query_commands.specs.Subject.{IsSubject};
 ghost use Rattle.session_state.specs.Written.{Ends, WantsFor, Wrote};
 
 use crate::subject::Subject;
-use crate::words::{cursor_of, word_refusal};
+use crate::tables::{grow, grow_counts};
+use crate::words::tuple_of;
 use doc_book::Missing;
 use edge_io::Sink;
-use query_book::BookRefusal;
+use node_store::Store;
+use query_book::QueryBook;
 use report_text::Refusal;
-use session_state::{Context, SessionState, close, offer, send_rejection, write_rejection};
+use script_syntax::ListStart;
+use session_state::{Context, Lent, SessionState, close, offer, send_rejection, write_rejection};
 use span_cursor::print;
 use span_enum::Answers;
 use span_language::{Stop, Told};
-use span_types::{ByteList, Name, NoMemory, Steps, Tuple, Vars};
+use span_types::{Name, NoMemory, Steps, Tuple, Vars};
+use std::alloc::Global;
 use std::sync::ledger::Ledger;
 use std::thread::Threads;
 use work_gate::Gate;
 
-/// The requested page of a query's answers: the tuple after which it begins, if there is one, and its maximum number of
-/// answers.
+/// The requested page of answers: the query, where the listing starts, and its maximum number of answers.
 #[derive(Drop)]
 pub struct Page {
-    pub after: Option<ByteList>,
+    pub query: Name,
+    pub start: ListStart,
     pub limit: u16,
 }
 
@@ -81,102 +86,103 @@ fn write_page<K: Sink, L: Ledger>(
     close(out, b"end\n")
 }
 
-/// An iterator over the answers of the query with this name after a cursor, or over all answers without one.
+/// An iterator over a query's answers from a start on, or why the start is rejected.
 fn answers_from<'a, L: Ledger>(
-    subject: Subject<'a>,
-    query: &Name,
-    cursor: Option<Tuple>,
+    subject: Subject<'_, 'a>,
+    start: &ListStart,
     looks: &mut Steps<L>,
-) -> Result<Answers<'a>, NoMemory>
-    requires subject { IsSubject subject.store.now subject.book.now subject.root }
-    requires cursor { HasCursor (queries_of subject.book.now) query.now cursor }
-    ensures listing { IfOk result (λ a. IsNamed (queries_of subject.entry.book.now) query.now
-        (IsListingOf (text_of subject.entry.store.now subject.entry.root) cursor a)) }
-    ensures list { IfNamed (queries_of subject.entry.book.now) query.now (HasList (text_of subject.entry.store.now subject.entry.root) cursor) }
-    ensures cost { looks.new ≤ looks.old + 2 * most_looks (value_of (queries_of subject.entry.book.now) query.now)
-        (text_of subject.entry.store.now subject.entry.root) }
+) -> Result<Result<Answers<'a>, Refusal>, NoMemory>
+    requires live { IsLive subject.query.now.nodes subject.root }
+    requires start { IsStart start.now }
+    requires counts { IsNumbered start.now → subject.query.now.counted ≡ Some (length subject.query.now.nodes) }
+    ensures { Begins (query_of subject.entry.query.now.tree) (text_of subject.entry.query.now.nodes subject.entry.root) start.now
+        result looks.old looks.new }
 {
-    let Subject {
-        alloc,
-        store,
-        book,
-        root,
-    } = subject;
-    let answers = match cursor {
-        Some(tuple) => book.seek(alloc, query.bytes(), store, root, &tuple, looks),
-        None => book.start(alloc, query.bytes(), store, root, looks),
-    };
-    match answers {
-        Ok(answers) => Ok(answers),
-        Err(BookRefusal::NoMemory) => Err(NoMemory),
-        Err(BookRefusal::NoSuchQuery) => unreachable!(),
+    let Subject { alloc, query, root } = subject;
+    match start {
+        ListStart::First => {
+            let answers = query.start(alloc, root, looks)?;
+            Ok(Ok(answers))
+        }
+        ListStart::After(word) => match tuple_of(query.vars(), word) {
+            Ok(tuple) => {
+                let answers = query.seek(alloc, root, &tuple, looks)?;
+                Ok(Ok(answers))
+            }
+            Err(why) => Ok(Err(why)),
+        },
+        ListStart::At(m) => {
+            let answers = query.start_at(alloc, root, *m, looks)?;
+            Ok(Ok(answers))
+        }
     }
 }
 
-/// Writes a page of the answers of the query with this name, after a cursor or from the start.
-fn list_from<K: Sink, L: Ledger>(
-    subject: Subject<'_>,
-    query: &Name,
-    cursor: Option<Tuple>,
-    limit: u16,
-    out: &mut K,
-    looks: &mut Steps<L>,
-) -> Result<Told, Stop>
-    requires subject { IsSubject subject.store.now subject.book.now subject.root }
-    requires cursor { HasCursor (queries_of subject.book.now) query.now cursor }
-    ensures told { IfOk result (λ told. told ≡ Told.Accepted) }
-    ensures page { Lists (λ reply. Wrote result (outlet (K.written out.old) (K.faults out.old) (K.wants out.old)) reply
-        (outlet (K.written out.new) (K.faults out.new) (K.wants out.new))) (queries_of subject.entry.book.now) query.now
-        (text_of subject.entry.store.now subject.entry.root) cursor limit looks.old looks.new }
-    ensures want { WantsFor result (outlet (K.written out.old) (K.faults out.old) (K.wants out.old))
-        (outlet (K.written out.new) (K.faults out.new) (K.wants out.new)) }
-{
-    let mut answers = answers_from(subject, query, cursor, looks)?;
-    match subject.book.vars(query.bytes()) {
-        Ok(vars) => write_page(&mut answers, vars, limit, out, looks),
-        Err(_) => unreachable!(),
-    }
-}
-
-/// Writes a page of the answers of a query on a root's text, after the cursor that `page.after` parses to, or the
-/// reason why it is no cursor.
-fn list_root<K: Sink, L: Ledger>(
-    subject: Subject<'_>,
+/// Writes a page of a query's answers on a root's text, or why its start is rejected.
+fn list_page<K: Sink, L: Ledger>(
+    subject: Subject<'_, '_>,
     number: u64,
-    query: Name,
-    page: Page,
+    page: &Page,
     out: &mut K,
     looks: &mut Steps<L>,
 ) -> Result<Told, Stop>
-    requires { IsSubject subject.store.now subject.book.now subject.root }
+    requires live { IsLive subject.query.now.nodes subject.root }
+    requires start { IsStart page.now.start }
+    requires counts { IsNumbered page.now.start → subject.query.now.counted ≡ Some (length subject.query.now.nodes) }
     ensures tells { (told : Told) × IfOk result (λ t. t ≡ told)
         × Tells (λ reply. Wrote result (outlet (K.written out.old) (K.faults out.old) (K.wants out.old)) reply
-        (outlet (K.written out.new) (K.faults out.new) (K.wants out.new))) number (queries_of subject.entry.book.now) query
-        page.after (text_of subject.entry.store.now subject.entry.root) page.limit told looks.old looks.new }
+        (outlet (K.written out.new) (K.faults out.new) (K.wants out.new))) number (query_of subject.entry.query.now.tree)
+        page.now.start (text_of subject.entry.query.now.nodes subject.entry.root) page.now.limit told looks.old looks.new }
     ensures want { WantsFor result (outlet (K.written out.old) (K.faults out.old) (K.wants out.old))
         (outlet (K.written out.new) (K.faults out.new) (K.wants out.new)) }
 {
-    match cursor_of(subject.book, &query, &page.after) {
-        Ok(cursor) => list_from(subject, &query, cursor, page.limit, out, looks),
-        Err(why) => send_rejection(subject.alloc, number, &word_refusal(why, query), out),
+    match answers_from(subject, &page.start, looks) {
+        Ok(Ok(answers)) => {
+            let mut answers = answers;
+            write_page(&mut answers, subject.query.vars(), page.limit, out, looks)
+        }
+        Ok(Err(why)) => send_rejection(subject.alloc, number, &why, out),
+        Err(NoMemory) => Err(Stop::NoMemory),
     }
 }
 
-/// `list Q NAME`, optionally with `after TUPLE` and `limit NUM`. Writes each answer's line before the next answer is
-/// computed.
+/// Computes the tables that a page needs: those of all queries, and the counting tables of its query if it starts at the
+/// answer with a number.
+fn grow_for<R: Threads + Sync, G: Gate, T: Ledger>(
+    lent: Lent<'_, R, G>,
+    alloc: Global,
+    page: &Page,
+    store: &Store,
+    book: &mut QueryBook,
+    places: &mut Steps<T>,
+) -> Result<(), NoMemory>
+    requires { Serves store.now book.old }
+    ensures all { OnOk result (Covers store.now book.new) }
+    ensures counts { OnOk result (IsNumbered page.now.start → HasCounts (length store.now) book.new page.now.query) }
+    ensures grown { GrowsFor page.now.start page.now.query store.now book.old book.new places.old places.new }
+{
+    grow(lent, alloc, store, book, places)?;
+    match page.start {
+        ListStart::At(_) => grow_counts(lent, alloc, &page.query, store, book, places),
+        _ => Ok(()),
+    }
+}
+
+/// `list Q NAME`, optionally with `after TUPLE` or `at NUM` and with `limit NUM`. Writes each answer's line before the
+/// next answer is computed.
 pub fn list<R: Threads + Sync, K: Sink, G: Gate, T: Ledger, L: Ledger>(
     context: Context<'_, R, G>,
     session: &mut SessionState,
-    query: Name,
     name: Name,
     page: Page,
     out: &mut K,
     places: &mut Steps<T>,
     looks: &mut Steps<L>,
 ) -> Result<Told, Stop>
-    requires { IsConsistent session.old }
+    requires session { IsConsistent session.old }
+    requires start { IsStart page.start }
     ensures session { IsConsistent session.new }
-    ensures ends { (files : Option Files) (faults pairs : ℕ) → Ends context.entry.number (Some (form.List query name page.after page.limit))
+    ensures ends { (files : Option Files) (faults pairs : ℕ) → Ends context.entry.number (Some (form.List page.query name page.start page.limit))
         (seen (model_of session.old) files faults looks.old pairs places.old)
         (outlet (K.written out.old) (K.faults out.old) (K.wants out.old))
         (seen (model_of session.new) files faults looks.new pairs places.new)
@@ -184,21 +190,28 @@ pub fn list<R: Threads + Sync, K: Sink, G: Gate, T: Ledger, L: Ledger>(
 {
     match session.docs.get(name.bytes()) {
         Ok(root) => {
-            session.book.grow_all(
-                context.lent.rt,
+            grow_for(
+                context.lent,
                 session.alloc,
+                &page,
                 &session.store,
-                context.lent.workers,
-                context.lent.gate,
+                &mut session.book,
                 places,
             )?;
-            let subject = Subject {
-                alloc: session.alloc,
-                store: &session.store,
-                book: &session.book,
-                root,
-            };
-            list_root(subject, context.number, query, page, out, looks)
+            match session.book.ready(page.query.bytes(), &session.store) {
+                Ok(ready) => {
+                    let subject = Subject {
+                        alloc: session.alloc,
+                        query: &ready,
+                        root,
+                    };
+                    list_page(subject, context.number, &page, out, looks)
+                }
+                Err(_) => {
+                    let why = Refusal::NoSuchQuery { name: page.query };
+                    send_rejection(session.alloc, context.number, &why, out)
+                }
+            }
         }
         Err(Missing::NoSuchDocument) => write_rejection(
             session,

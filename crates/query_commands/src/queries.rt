@@ -1,27 +1,24 @@
 //! The commands on queries.
-ghost use Rattle.std.specs.Prelude.{◌≡◌, ◌≤◌, IfOk, IfErr, Option, true, false, ◌+◌, ℕ};
-ghost use Rattle.slp_model.specs.Nodes.{text_of};
-ghost use Rattle.query_book.specs.Answers.{HasAnswer, HasVariablesOf, IsAnswer, most_looks};
+ghost use Rattle.std.specs.Prelude.{◌≡◌, IfOk, IfErr, Option, true, false, ℕ};
+ghost use Rattle.slp_model.specs.Nodes.{IsLive, text_of};
+ghost use Rattle.span_types.specs.Query.{query_of};
 ghost use Rattle.edge_io.specs.Files.{Files};
 ghost use Rattle.script_syntax.specs.declared.form.Command.TheVariants as form;
-ghost use Rattle.query_book.specs.Named.{value_of};
-ghost use Rattle.query_book.specs.Book.{queries_of};
 ghost use Rattle.span_language.specs.Replies.{yes_text, no_text};
 ghost use Rattle.session_state.specs.Answers.{Answers, AnswersFreely, Stays, StaysFreely};
-ghost use Rattle.query_commands.specs.Asked.{IsAnswered};
 ghost use Rattle.session_state.specs.SessionState.{IsConsistent};
-ghost use Rattle.query_commands.specs.Judged.{IsJudged, IsReplied, IsReplyPaid, IsWordPaid, question_of};
+ghost use Rattle.query_commands.specs.Judged.{IsReplied, IsReplyPaid, question_of};
 ghost use Rattle.session_state.specs.CommandState.{at};
-ghost use Rattle.query_commands.specs.Subject.{IsSubject};
 ghost use Rattle.span_language.specs.declared.told.Told.TheVariants as told;
 
 use crate::subject::Subject;
-use crate::words::{tuple_of, word_refusal};
+use crate::tables::grow;
+use crate::words::tuple_of;
 use doc_book::Missing;
 use report_text::Refusal;
 use session_state::{Answer, Context, SessionState, ok_line, reject};
 use span_language::Stop;
-use span_types::{ByteList, Name, NoMemory, Steps, Tuple};
+use span_types::{ByteList, Name, NoMemory, Steps};
 use std::alloc::Global;
 use std::sync::ledger::Ledger;
 use std::thread::Threads;
@@ -54,112 +51,27 @@ fn yes_or_no(alloc: Global, yes: bool) -> Result<Answer, NoMemory>
     Ok(Answer::accepted(line))
 }
 
-/// The reply whether a query has an answer on a root's text.
-fn test_root<L: Ledger>(
-    subject: Subject<'_>,
-    number: u64,
-    query: Name,
-    looks: &mut Steps<L>,
-) -> Result<Answer, NoMemory>
-    requires { IsSubject subject.store.now subject.book.now subject.root }
-    ensures ok { IfOk result (λ answer. IsAnswered (λ q. HasAnswer q (text_of subject.entry.store.now subject.entry.root)) number
-        (queries_of subject.entry.book.now) query answer.told answer.line.items) }
-    ensures cost { looks.new ≤ looks.old + most_looks (value_of (queries_of subject.entry.book.now) query)
-        (text_of subject.entry.store.now subject.entry.root) }
-{
-    let Subject {
-        alloc,
-        store,
-        book,
-        root,
-    } = subject;
-    match book.test(query.bytes(), store, root, looks) {
-        Ok(yes) => {
-            let answer = yes_or_no(alloc, yes)?;
-            Ok(answer)
-        }
-        Err(_) => {
-            let answer = Answer::refused(alloc, number, &Refusal::NoSuchQuery { name: query })?;
-            Ok(answer)
-        }
-    }
-}
-
-/// The reply whether a tuple of a query's variables is an answer on a root's text.
-fn has_tuple<L: Ledger>(
-    subject: Subject<'_>,
-    number: u64,
-    query: Name,
-    tuple: &Tuple,
-    looks: &mut Steps<L>,
-) -> Result<Answer, NoMemory>
-    requires subject { IsSubject subject.store.now subject.book.now subject.root }
-    requires tuple { HasVariablesOf (queries_of subject.book.now) query tuple.now }
-    ensures ok { IfOk result (λ answer. IsAnswered (λ q. IsAnswer q (text_of subject.entry.store.now subject.entry.root) tuple.now) number
-        (queries_of subject.entry.book.now) query answer.told answer.line.items) }
-    ensures cost { looks.new ≤ looks.old + most_looks (value_of (queries_of subject.entry.book.now) query)
-        (text_of subject.entry.store.now subject.entry.root) }
-{
-    let Subject {
-        alloc,
-        store,
-        book,
-        root,
-    } = subject;
-    match book.has(query.bytes(), store, root, tuple, looks) {
-        Ok(yes) => {
-            let answer = yes_or_no(alloc, yes)?;
-            Ok(answer)
-        }
-        Err(_) => {
-            let answer = Answer::refused(alloc, number, &Refusal::NoSuchQuery { name: query })?;
-            Ok(answer)
-        }
-    }
-}
-
-/// The reply whether a word is an answer of a query on a root's text.
-fn has_root<L: Ledger>(
-    subject: Subject<'_>,
-    number: u64,
-    query: Name,
-    word: &ByteList,
-    looks: &mut Steps<L>,
-) -> Result<Answer, NoMemory>
-    requires { IsSubject subject.store.now subject.book.now subject.root }
-    ensures ok { IfOk result (λ answer. IsJudged number (queries_of subject.entry.book.now) query word.now
-        (text_of subject.entry.store.now subject.entry.root) answer.told answer.line.items) }
-    ensures cost { IsWordPaid (queries_of subject.entry.book.now) query word.now (text_of subject.entry.store.now subject.entry.root) looks.old looks.new }
-{
-    match tuple_of(subject.book, &query, word) {
-        Ok(tuple) => {
-            let answer = has_tuple(subject, number, query, &tuple, looks)?;
-            Ok(answer)
-        }
-        Err(why) => {
-            let answer = Answer::refused(subject.alloc, number, &word_refusal(why, query))?;
-            Ok(answer)
-        }
-    }
-}
-
 /// The reply to a question about a root's text: whether the word is an answer of the query, or without a word, whether
 /// the query has an answer.
-fn ask_root<L: Ledger>(
-    subject: Subject<'_>,
+fn ask_query<L: Ledger>(
+    subject: Subject<'_, '_>,
     number: u64,
-    query: Name,
     word: &Option<ByteList>,
     looks: &mut Steps<L>,
 ) -> Result<Answer, NoMemory>
-    requires { IsSubject subject.store.now subject.book.now subject.root }
-    ensures ok { IfOk result (λ answer. IsReplied number (queries_of subject.entry.book.now) query word.now
-        (text_of subject.entry.store.now subject.entry.root) answer.told answer.line.items) }
-    ensures cost { IsReplyPaid (queries_of subject.entry.book.now) query word.now (text_of subject.entry.store.now subject.entry.root) looks.old looks.new }
+    requires { IsLive subject.query.now.nodes subject.root }
+    ensures ok { IfOk result (λ answer. IsReplied number (query_of subject.entry.query.now.tree) word.now
+        (text_of subject.entry.query.now.nodes subject.entry.root) answer.told answer.line.items) }
+    ensures cost { IsReplyPaid (query_of subject.entry.query.now.tree) word.now (text_of subject.entry.query.now.nodes subject.entry.root)
+        looks.old looks.new }
 {
+    let Subject { alloc, query, root } = subject;
     match word {
-        None => test_root(subject, number, query, looks),
-        Some(word) => has_root(subject, number, query, word, looks),
+        None => yes_or_no(alloc, query.test(root, looks)),
+        Some(word) => match tuple_of(query.vars(), word) {
+            Ok(tuple) => yes_or_no(alloc, query.has(root, &tuple, looks)),
+            Err(why) => Answer::refused(alloc, number, &why),
+        },
     }
 }
 
@@ -183,22 +95,29 @@ pub fn ask<R: Threads + Sync, G: Gate, T: Ledger, L: Ledger>(
 {
     match session.docs.get(name.bytes()) {
         Ok(root) => {
-            session.book.grow_all(
-                context.lent.rt,
+            grow(
+                context.lent,
                 session.alloc,
                 &session.store,
-                context.lent.workers,
-                context.lent.gate,
+                &mut session.book,
                 places,
             )?;
-            let subject = Subject {
-                alloc: session.alloc,
-                store: &session.store,
-                book: &session.book,
-                root,
-            };
-            let answer = ask_root(subject, context.number, query, &word, looks)?;
-            Ok(answer)
+            match session.book.ready(query.bytes(), &session.store) {
+                Ok(ready) => {
+                    let subject = Subject {
+                        alloc: session.alloc,
+                        query: &ready,
+                        root,
+                    };
+                    let answer = ask_query(subject, context.number, &word, looks)?;
+                    Ok(answer)
+                }
+                Err(_) => {
+                    let why = Refusal::NoSuchQuery { name: query };
+                    let answer = Answer::refused(session.alloc, context.number, &why)?;
+                    Ok(answer)
+                }
+            }
         }
         Err(Missing::NoSuchDocument) => {
             reject(session, context.number, &Refusal::NoSuchDocument { name })

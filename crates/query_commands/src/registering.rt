@@ -135,6 +135,7 @@ fn registered(alloc: Global, book: &QueryBook, name: &Name) -> Result<Answer, No
             query_line(alloc, name, vars, &mut line)?;
             Ok(Answer::accepted(line))
         }
+        // The query was registered just before.
         Err(_) => unreachable!(),
     }
 }

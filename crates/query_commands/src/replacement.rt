@@ -1,25 +1,26 @@
 //! The command `replace`: replaces chosen spans of a query's answers.
-ghost use Rattle.std.specs.Prelude.{◌≡◌, ◌≤◌, ◌+◌, ◌*◌, length, IfOk, IfErr, OnErr, None, Option, ℕ};
+ghost use Rattle.std.specs.Prelude.{◌≡◌, ◌≤◌, ◌+◌, ◌*◌, length, IfOk, IfErr, OnErr, Option, ℕ};
 ghost use Rattle.edge_io.specs.Files.{Files};
 ghost use Rattle.doc_book.specs.Texts.{AreLive, plain};
 ghost use Rattle.query_book.specs.Book.{queries_of};
 ghost use Rattle.script_syntax.specs.declared.form.Command.TheVariants as form;
 ghost use Rattle.slp_model.specs.Nodes.{Grows, IsLive, text_of};
-ghost use Rattle.span_language.specs.State.{world};
-ghost use Rattle.span_language.specs.Step.{IsUnreplaced};
 ghost use Rattle.span_replace.specs.Replaced as meaning;
 ghost use Rattle.span_replace.specs.Replaced.{AreApart};
 ghost use Rattle.session_state.specs.Answers.{Answers, Stays};
-ghost use Rattle.session_state.specs.SessionState.{IsConsistent, state_of};
-ghost use Rattle.query_commands.specs.Replacing.{AreSources, Chooses, HasOneVariable, Replaces};
+ghost use Rattle.session_state.specs.SessionState.{IsConsistent};
+ghost use Rattle.query_commands.specs.Replacing.{AreChosenApart, AreSources, Chooses, ChoosesFrom, IsSourceMissing, Replaces};
 ghost use Rattle.session_state.specs.CommandState.{at};
-ghost use Rattle.query_commands.specs.Subject.{IsSubject};
+ghost use Rattle.query_book.specs.Serving.{Covers};
+ghost use Rattle.span_types.specs.Query.{query_of};
+ghost use Rattle.span_types.specs.Rel.{names_of};
 
 use crate::subject::Subject;
+use crate::tables::grow;
 use doc_book::{Docs, Missing};
 use node_store::Store;
 use report_text::Refusal;
-use session_state::{Answer, Context, SessionState, reject, root_len, set_document};
+use session_state::{Answer, Context, SessionState, reject, set_document};
 use slp_model::NodeId;
 use span_language::Stop;
 use span_replace::{Chosen, ReplaceRefusal, chosen, longest, replaced};
@@ -40,67 +41,80 @@ pub struct Replacing {
     pub longest: bool,
 }
 
-/// The inputs of a replacement: the query, the root of the text whose spans are replaced, and the root of the text that
-/// replaces them.
-#[derive(Drop)]
+/// The texts of a replacement: the root of the text whose spans are replaced, and the root of the text that replaces
+/// them.
+#[derive(Clone, Copy, Drop)]
 pub struct Sources {
-    pub query: Name,
     pub root: Option<NodeId>,
     pub other: Option<NodeId>,
 }
 
-/// The inputs of a replacement, or the first rejection.
-fn find_sources(
-    session: &SessionState,
-    query: Name,
-    source: Name,
-    by: Name,
-) -> Result<Sources, Refusal>
-    ensures ok { IfOk result (AreSources session.now query source by) }
-    ensures err { IfErr result (IsUnreplaced (world (state_of session.now) None) query source by) }
+/// The texts of a replacement, or the first rejection.
+fn find_sources(docs: &Docs, source: Name, by: Name) -> Result<Sources, Refusal>
+    ensures ok { IfOk result (AreSources docs.now source by) }
+    ensures err { IfErr result (IsSourceMissing docs.now source by) }
 {
-    let root = match session.docs.get(source.bytes()) {
+    let root = match docs.get(source.bytes()) {
         Ok(root) => root,
         Err(Missing::NoSuchDocument) => return Err(Refusal::NoSuchDocument { name: source }),
     };
-    let other = match session.docs.get(by.bytes()) {
-        Ok(other) => other,
-        Err(Missing::NoSuchDocument) => return Err(Refusal::NoSuchDocument { name: by }),
-    };
-    let count = match session.book.vars(query.bytes()) {
-        Ok(vars) => vars.count(),
-        Err(_) => return Err(Refusal::NoSuchQuery { name: query }),
-    };
-    if count != 1 {
-        return Err(Refusal::NotOneVariable { count });
+    match docs.get(by.bytes()) {
+        Ok(other) => Ok(Sources { root, other }),
+        Err(Missing::NoSuchDocument) => Err(Refusal::NoSuchDocument { name: by }),
     }
-    Ok(Sources { query, root, other })
 }
 
 /// The spans of a query of one variable on a root's text that are replaced.
-fn choose<L: Ledger>(
-    subject: Subject<'_>,
-    query: &Name,
+fn choose_spans<L: Ledger>(
+    subject: Subject<'_, '_>,
     long: bool,
     looks: &mut Steps<L>,
 ) -> Result<Chosen, ReplaceRefusal>
-    requires subject { IsSubject subject.store.now subject.book.now subject.root }
-    requires one { HasOneVariable (queries_of subject.book.now) query.now }
-    ensures choice { Chooses long (queries_of subject.entry.book.now) query.now (text_of subject.entry.store.now subject.entry.root)
+    requires live { IsLive subject.query.now.nodes subject.root }
+    requires one { length (names_of (query_of subject.query.now.tree)) ≡ 1 }
+    ensures choice { Chooses long (query_of subject.entry.query.now.tree) (text_of subject.entry.query.now.nodes subject.entry.root)
         result looks.old looks.new }
-    ensures apart { IfOk result (λ spans. AreApart (length (text_of subject.entry.store.now subject.entry.root)) spans) }
+    ensures apart { IfOk result (λ spans. AreApart (length (text_of subject.entry.query.now.nodes subject.entry.root)) spans) }
 {
-    // States a property of the store: a text has at most the 2^48 bytes for which the automaton is specified.
-    let _len = root_len(subject.store, subject.root);
-    match subject.book.parts(query.bytes(), subject.store) {
-        Ok((view, dfa)) => {
-            if long {
-                longest(subject.alloc, view, dfa, subject.root, looks)
-            } else {
-                chosen(subject.alloc, view, dfa, subject.root, looks)
-            }
-        }
-        Err(_) => unreachable!(),
+    let Subject { alloc, query, root } = subject;
+    let dfa = query.dfa();
+    if long {
+        longest(alloc, query.view(), dfa, root, looks)
+    } else {
+        chosen(alloc, query.view(), dfa, root, looks)
+    }
+}
+
+/// The spans of the query with this name on a root's text that are replaced, or the rejection.
+fn choose<L: Ledger>(
+    session: &SessionState,
+    query: Name,
+    root: Option<NodeId>,
+    long: bool,
+    looks: &mut Steps<L>,
+) -> Result<Result<Chosen, Refusal>, NoMemory>
+    requires covers { Covers session.now.store session.now.book }
+    requires live { IsLive session.now.store root }
+    ensures choice { ChoosesFrom long (queries_of session.now.book) query (text_of session.now.store root) result looks.old looks.new }
+    ensures apart { AreChosenApart (length (text_of session.now.store root)) result }
+{
+    let ready = match session.book.ready(query.bytes(), &session.store) {
+        Ok(ready) => ready,
+        Err(_) => return Ok(Err(Refusal::NoSuchQuery { name: query })),
+    };
+    let count = ready.vars().count();
+    if count != 1 {
+        return Ok(Err(Refusal::NotOneVariable { count }));
+    }
+    let subject = Subject {
+        alloc: session.alloc,
+        query: &ready,
+        root,
+    };
+    match choose_spans(subject, long, looks) {
+        Ok(spans) => Ok(Ok(spans)),
+        Err(ReplaceRefusal::TooManyMatches) => Ok(Err(Refusal::TooManyMatches)),
+        Err(_) => Err(NoMemory),
     }
 }
 
@@ -167,24 +181,17 @@ pub fn replace<R: Threads + Sync, G: Gate, P: Ledger, T: Ledger, L: Ledger>(
         by,
         longest: long,
     } = asked;
-    match find_sources(session, query, source, by) {
+    match find_sources(&session.docs, source, by) {
         Ok(sources) => {
-            session.book.grow_all(
-                context.lent.rt,
+            grow(
+                context.lent,
                 session.alloc,
                 &session.store,
-                context.lent.workers,
-                context.lent.gate,
+                &mut session.book,
                 places,
             )?;
-            let subject = Subject {
-                alloc: session.alloc,
-                store: &session.store,
-                book: &session.book,
-                root: sources.root,
-            };
-            match choose(subject, &sources.query, long, looks) {
-                Ok(spans) => {
+            match choose(session, query, sources.root, long, looks) {
+                Ok(Ok(spans)) => {
                     let answer = put_in_place(
                         session.alloc,
                         &mut session.store,
@@ -197,11 +204,11 @@ pub fn replace<R: Threads + Sync, G: Gate, P: Ledger, T: Ledger, L: Ledger>(
                     )?;
                     Ok(answer)
                 }
-                Err(ReplaceRefusal::TooManyMatches) => {
-                    let answer = Answer::refused(session.alloc, number, &Refusal::TooManyMatches)?;
+                Ok(Err(why)) => {
+                    let answer = Answer::refused(session.alloc, number, &why)?;
                     Ok(answer)
                 }
-                Err(_) => Err(Stop::NoMemory),
+                Err(NoMemory) => Err(Stop::NoMemory),
             }
         }
         Err(why) => reject(session, number, &why),

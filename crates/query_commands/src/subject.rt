@@ -1,14 +1,12 @@
-//! The text that a query is evaluated on.
-use node_store::Store;
-use query_book::QueryBook;
+//! A query and the text that it is evaluated on.
+use query_book::Ready;
 use slp_model::NodeId;
 use std::alloc::Global;
 
-/// A text that queries are evaluated on: a root in a store, and the registry of queries.
+/// A query with its tables, and the root of the text that it is evaluated on.
 #[derive(Clone, Copy)]
-pub struct Subject<'a> {
+pub struct Subject<'q, 'a> {
     pub alloc: Global,
-    pub store: &'a Store,
-    pub book: &'a QueryBook,
+    pub query: &'q Ready<'a>,
     pub root: Option<NodeId>,
 }

@@ -1,19 +1,33 @@
 -- Queries by name, and the number of nodes that have tables in each.
-use Rattle.session_state.proofs.Names.{[], AllByRecursion, ap, ArePartlyAt, arith, cond, covered_of, Entry, false, Grows, IsNamed, IsSome, length, List, names_of}
-use Rattle.session_state.proofs.Names.{Node, None, Option, option_map, Places, PlacesPart, Query, refl, same_Some, Serves, Some, subst, suc, sum_of, sym, true, ℕ}
-use Rattle.session_state.proofs.Names.{◌*◌, ◌+◌, ◌∙◌, ◌∷◌, ◌≡◌, ◌≤◌}
+use Rattle.session_state.proofs.Names.{[], AllByRecursion, ap, ArePartlyAt, arith, Bool, cond, counted_of, covered_of, Entry, false, Grows, GrowsCounts}
+use Rattle.session_state.proofs.Names.{GrowsTables, inl, inr, IsNamed, IsSome, length, List, names_of, Node, None, Option, option_map, Places, PlacesOfBoth}
+use Rattle.session_state.proofs.Names.{PlacesPart, PlacesPartOfBoth, queries_of, Query, refl, same_Some, Serves, Some, subst, suc, sum_of, sym, Tabled}
+use Rattle.session_state.proofs.Names.{tables_of, true, ℕ, ◌*◌, ◌+◌, ◌∙◌, ◌∷◌, ◌≡◌, ◌≤◌}
 use Rattle.query_book.specs.Named.{Named, is_same, value_of, put, taken_out}
 use Rattle.query_book.proofs.Served.{serves-more}
-use Rattle.session_state.proofs.PlacesLemmas.{sum_within}
+use Rattle.std.specs.Prelude.{IfSome, unwrap_or}
+use Rattle.count_tables.specs.Dictionary.{CountDictionary, count_of}
+use Rattle.query_book.specs.Counting.{AreFirstCounts, counted}
+use Rattle.query_book.specs.Serving.{IsServed}
+use Rattle.query_book.specs.declared.entry.TabledQuery.{TabledQuery}
+use Rattle.session_state.proofs.PlacesLemmas.{AreWithin, sum_within}
 
 -- tables stay valid when the store gets nodes
 pub serves-grows : (old new : List Node) (p q : ℕ) (es : List Entry) → Grows old new p q → Serves old es → Serves new es
 serves-grows old new p q es g h = subst (λ (ns : List Node). Serves ns es) (sym g.added) (serves-more old g.more es h)
 
--- each query has tables for at most the existing nodes
-pub covered-within : (ns : List Node) (es : List Entry) → Serves ns es → AllByRecursion (λ p. p.1 ≤ length ns) (covered_of es)
-covered-within ns [] h = tt
-covered-within ns (e ∷ es) h = (h.0.covered, covered-within ns es h.1)
+-- each query has tables and counting tables for at most the existing nodes
+counted-within : (ns : List Node) (t : TabledQuery) → IsServed ns t → counted t ≤ length ns
+counted-within ns t h = by t.counts h.counts
+  where
+    by : (o : Option CountDictionary) → IfSome o (AreFirstCounts t.query.dfa ns) → unwrap_or (option_map count_of o) 0 ≤ length ns
+    by None is = omega arith
+    by (Some d) is = is.covered
+
+pub tables-within : (ns : List Node) (es : List Entry) → Serves ns es → AreWithin (length ns) (tables_of es)
+tables-within ns [] h = record { covered = tt; counted = tt }
+tables-within ns (e ∷ es) h =
+    let rest = tables-within ns es h.1 in record { covered = (h.0.covered, rest.covered); counted = (counted-within ns e.tabled h.0, rest.counted) }
 
 -- the value of an existing name
 pub some_value : {A : Type 0} (o : Option A) → IsSome o → (x : A) × (o ≡ Some x)
@@ -48,11 +62,27 @@ within-more : (m n : ℕ) (ps : Named ℕ) → m ≤ n → AllByRecursion (λ p.
 within-more m n [] le h = tt
 within-more m n (p ∷ ps) le h = (omega (arith, le, h.0), within-more m n ps le h.1)
 
-pub put_placed : (nodes places : ℕ) (old new : Named ℕ) (name : List ℕ) → new ≡ put old name 0 → AllByRecursion (λ p. p.1 ≤ nodes) old → Places 1 0 nodes old new places places
-put_placed nodes places old new name is h = subst (λ (c : Named ℕ). Places 1 0 nodes old c places places) (sym is) (λ n le. let step = put-places n old name (within-more nodes n old le h) in omega (arith, step))
+pub put_placed : (nodes places : ℕ) (old new : Tabled) (name : List ℕ) → new.covered ≡ put old.covered name 0 → new.counted ≡ put old.counted name 0 → AreWithin nodes old → PlacesOfBoth false 1 0 nodes old new places places
+put_placed nodes places old new name covered counted h = record {
+  between = places;
+  tables = one old.covered new.covered covered h.covered;
+  counting = one old.counted new.counted counted h.counted;
+  unasked = λ _. refl;
+}
+  where
+    one : (ps qs : Named ℕ) → qs ≡ put ps name 0 → AllByRecursion (λ p. p.1 ≤ nodes) ps → Places 1 0 nodes ps qs places places
+    one ps qs is within = subst (λ (c : Named ℕ). Places 1 0 nodes ps c places places) (sym is) (λ n le. let step = put-places n ps name (within-more nodes n ps le within) in omega (arith, step))
 
-pub take_placed : (nodes places : ℕ) (old new : Named ℕ) (name : List ℕ) → new ≡ taken_out old name → AllByRecursion (λ p. p.1 ≤ nodes) old → Places 0 0 nodes old new places places
-take_placed nodes places old new name is h = subst (λ (c : Named ℕ). Places 0 0 nodes old c places places) (sym is) (λ n le. let step = take-places n old name (within-more nodes n old le h) in omega (arith, step))
+pub take_placed : (nodes places : ℕ) (old new : Tabled) (name : List ℕ) → new.covered ≡ taken_out old.covered name → new.counted ≡ taken_out old.counted name → AreWithin nodes old → PlacesOfBoth false 0 0 nodes old new places places
+take_placed nodes places old new name covered counted h = record {
+  between = places;
+  tables = one old.covered new.covered covered h.covered;
+  counting = one old.counted new.counted counted h.counted;
+  unasked = λ _. refl;
+}
+  where
+    one : (ps qs : Named ℕ) → qs ≡ taken_out ps name → AllByRecursion (λ p. p.1 ≤ nodes) ps → Places 0 0 nodes ps qs places places
+    one ps qs is within = subst (λ (c : Named ℕ). Places 0 0 nodes ps c places places) (sym is) (λ n le. let step = take-places n ps name (within-more nodes n ps le within) in omega (arith, step))
 
 partly-length : (n : ℕ) (ps qs : Named ℕ) → ArePartlyAt n ps qs → length qs ≡ length ps
 partly-length n [] [] h = refl
@@ -60,12 +90,87 @@ partly-length n [] (q ∷ qs) h = absurd h
 partly-length n (p ∷ ps) [] h = absurd h
 partly-length n (p ∷ ps) (q ∷ qs) h = ap suc (partly-length n ps qs h.2)
 
--- tables of nodes were computed
-pub grown_placed : (nodes p q : ℕ) (old new : Named ℕ) → ArePartlyAt nodes old new → q + sum_of old ≡ p + sum_of new → Places 0 0 nodes old new p q
-grown_placed nodes p q old new partly steps = λ n le. let same = ap (λ k. n * k) (partly-length nodes old new partly) in omega (arith, same, steps)
+pub partly_same : (n : ℕ) (ps : Named ℕ) → ArePartlyAt n ps ps
+partly_same n [] = tt
+partly_same n (p ∷ ps) = (refl, inl refl, partly_same n ps)
 
-pub grown_placed_part : (nodes p q : ℕ) (old new : Named ℕ) → AllByRecursion (λ x. x.1 ≤ nodes) new → ArePartlyAt nodes old new → q + sum_of old ≡ p + sum_of new → PlacesPart nodes nodes old p q
-grown_placed_part nodes p q old new within partly steps = λ n few le.
+partly_both : (n : ℕ) (ps qs rs : Named ℕ) → ArePartlyAt n ps qs → ArePartlyAt n qs rs → ArePartlyAt n ps rs
+partly_both n [] [] [] h k = tt
+partly_both n [] [] (r ∷ rs) h k = absurd k
+partly_both n [] (q ∷ qs) rs h k = absurd h
+partly_both n (p ∷ ps) [] rs h k = absurd h
+partly_both n (p ∷ ps) (q ∷ qs) [] h k = absurd k
+partly_both n (p ∷ ps) (q ∷ qs) (r ∷ rs) h k = (
+  k.0 ∙ h.0,
+  elim k.1 [ inl same ↦ elim h.1 [ inl old ↦ inl (same ∙ old) | inr all ↦ inr (same ∙ all) ] | inr all ↦ inr all ],
+  partly_both n ps qs rs h.2 k.2,
+)
+
+-- tables of nodes were computed
+one_grown : (nodes p q : ℕ) (old new : Named ℕ) → ArePartlyAt nodes old new → q + sum_of old ≡ p + sum_of new → Places 0 0 nodes old new p q
+one_grown nodes p q old new partly steps = λ n le. let same = ap (λ k. n * k) (partly-length nodes old new partly) in omega (arith, same, steps)
+
+one_grown_part : (nodes p q : ℕ) (old new : Named ℕ) → AllByRecursion (λ x. x.1 ≤ nodes) new → ArePartlyAt nodes old new → q + sum_of old ≡ p + sum_of new → PlacesPart nodes nodes old p q
+one_grown_part nodes p q old new within partly steps = λ n few le.
     let same = ap (λ k. n * k) (partly-length nodes old new partly) in
     let sums = sum_within n nodes le new within in
     omega (arith, same, sums, steps)
+
+module _ (asked : Bool) (ns : List Node) (old new : List Entry) (p q : ℕ) (grown : GrowsTables asked ns old new p q) where
+  pub grown_placed : PlacesOfBoth asked 0 0 (length ns) (tables_of old) (tables_of new) p q
+  grown_placed = record {
+    between = grown.between;
+    tables = one_grown (length ns) p grown.between (covered_of old) (covered_of new) grown.tables grown.tables_paid;
+    counting = one_grown (length ns) grown.between q (counted_of old) (counted_of new) grown.counts grown.counts_paid;
+    unasked = grown.unasked;
+  }
+
+  pub grown_placed_part : PlacesPartOfBoth asked (length ns) (length ns) (tables_of old) p q
+  grown_placed_part =
+      let within = tables-within ns new grown.serves in
+      record {
+        between = grown.between;
+        tables = one_grown_part (length ns) p grown.between (covered_of old) (covered_of new) within.covered grown.tables grown.tables_paid;
+        counting = one_grown_part (length ns) grown.between q (counted_of old) (counted_of new) within.counted grown.counts grown.counts_paid;
+        unasked = grown.unasked;
+      }
+
+-- counting tables alone
+pub counts_grown : (asked : Bool) (ns : List Node) (old new : List Entry) (p q : ℕ) → GrowsCounts ns old new p q → (asked ≡ false → q ≡ p) → GrowsTables asked ns old new p q
+counts_grown asked ns old new p q grown same = record {
+  serves = grown.serves;
+  queries = grown.queries;
+  between = p;
+  tables = subst (λ (c : Named ℕ). ArePartlyAt (length ns) (covered_of old) c) (sym grown.tables) (partly_same (length ns) (covered_of old));
+  tables_paid = ap (λ (c : Named ℕ). p + sum_of c) (sym grown.tables);
+  counts = grown.counts;
+  counts_paid = grown.counts_paid;
+  unasked = same;
+}
+
+-- and after other tables
+pub both_grown : (asked : Bool) (ns : List Node) (old mid new : List Entry) (p q r : ℕ) → GrowsTables false ns old mid p q → GrowsCounts ns mid new q r → (asked ≡ false → r ≡ q) → GrowsTables asked ns old new p r
+both_grown asked ns old mid new p q r first next same = record {
+  serves = next.serves;
+  queries = next.queries ∙ first.queries;
+  between = first.between;
+  tables = subst (λ (c : Named ℕ). ArePartlyAt (length ns) (covered_of old) c) (sym next.tables) first.tables;
+  tables_paid = first.tables_paid ∙ ap (λ (c : Named ℕ). p + sum_of c) (sym next.tables);
+  counts = partly_both (length ns) (counted_of old) (counted_of mid) (counted_of new) first.counts next.counts;
+  counts_paid = omega (arith, first.counts_paid, next.counts_paid, first.unasked refl);
+  unasked = λ none. same none ∙ first.unasked refl;
+}
+
+-- tables of all queries, and counting tables as before
+pub all_grown : (ns : List Node) (old new : List Entry) (p q : ℕ) → Serves ns new → queries_of new ≡ queries_of old → counted_of new ≡ counted_of old → ArePartlyAt (length ns) (covered_of old) (covered_of new) → q + sum_of (covered_of old) ≡ p + sum_of (covered_of new)
+    → GrowsTables false ns old new p q
+all_grown ns old new p q serves queries counted partly paid = record {
+  serves = serves;
+  queries = queries;
+  between = q;
+  tables = partly;
+  tables_paid = paid;
+  counts = subst (λ (c : Named ℕ). ArePartlyAt (length ns) (counted_of old) c) (sym counted) (partly_same (length ns) (counted_of old));
+  counts_paid = ap (λ (c : Named ℕ). q + sum_of c) (sym counted);
+  unasked = λ _. refl;
+}

@@ -1,15 +1,16 @@
 -- How a line ends: its reply was written, or a prefix of it, or it was stopped before.
-use Rattle.session_state.proofs.Names.{[], Allowance, Answer, Answers, ap, Appends-nil, ArePartlyAt, arith, at, Carried, Carries, Command, Compacts, counters_in}
-use Rattle.session_state.proofs.Names.{covered_of, Done, Ends, Entry, Err, Files, Goes, SessionState, IfErr, IfOk, inl, inr, IsAllowance, IsAnswering, IsConsistent, IsList}
-use Rattle.session_state.proofs.Names.{IsOnce, IsPaid, IsRefused, IsRejectedFreely, Keeps-refl, Leaves, length, List, MatchResult, no_steps, Of, Ok, Option, Outlet}
-use Rattle.session_state.proofs.Names.{Passes, queries_of, Quiet, refl, Refusal, refusal_text, Refused, Registers, Replies, Result, LineState, line_state, seen, Serves, CommandState}
-use Rattle.session_state.proofs.Names.{Some, model_of, State, state_of, Stays, Stop, Stopped, subst, sum_of, sym, Tallies, Told, WantsFor, World, world, world_in, Wrote}
-use Rattle.session_state.proofs.Names.{ℕ, ◌+◌, ◌≡◌, ◌≤◌, ◌⊎◌}
+use Rattle.session_state.proofs.Names.{[], Allowance, Answer, Answers, ap, Appends-nil, arith, AsksForCounts, at, Bool, Carried, Carries, Command}
+use Rattle.session_state.proofs.Names.{CommandState, Compacts, counters_in, Done, Ends, Entry, Err, false, Files, Goes, GrowsTables, IfErr, IfOk, inl, inr}
+use Rattle.session_state.proofs.Names.{IsAllowance, IsAnswering, IsConsistent, IsList, IsOnce, IsPaid, IsRefused, IsRejectedFreely, Keeps-refl, Leaves, length}
+use Rattle.session_state.proofs.Names.{line_state, LineState, List, MatchResult, model_of, no_steps, Of, Ok, Option, Outlet, Passes, Quiet, refl, Refusal}
+use Rattle.session_state.proofs.Names.{refusal_text, Refused, Registers, Replies, Result, seen, SessionState, Some, State, state_of, Stays, Stop, Stopped}
+use Rattle.session_state.proofs.Names.{subst, sym, tables_of, Tallies, Told, true, WantsFor, World, world, world_in, Wrote, ℕ, ◌≡◌, ◌≤◌, ◌⊎◌}
+use Rattle.script_syntax.specs.declared.form.ListStart.{ListStart}
 use Rattle.script_syntax.specs.declared.form.Command.TheVariants as form
 use Rattle.span_language.specs.declared.told.Stop.TheVariants as stop
 use Rattle.session_state.proofs.Written.{starts, waits}
-use Rattle.session_state.proofs.PlacesLemmas.{none_placed, none_placed_part}
-use Rattle.session_state.proofs.BookLemmas.{covered-within}
+use Rattle.session_state.proofs.PlacesLemmas.{none_placed, none_placed_part, not_asked}
+use Rattle.session_state.proofs.BookLemmas.{tables-within}
 use Rattle.session_state.proofs.PaidLemmas.{none_paid}
 use Rattle.session_state.proofs.Goes.{no_shelf, no_sink, none_tallied, refused_answers, same_queries, unplaced}
 
@@ -19,6 +20,8 @@ passes_of old new command before after goes later wants_later = record {
   more_pairs = goes.pairs;
   calls = goes.calls;
   begun = goes.begun;
+  counts = goes.counts;
+  asked = goes.asked;
   placed = goes.placed;
   shelf_later = goes.faults;
   later = later;
@@ -28,7 +31,7 @@ passes_of old new command before after goes later wants_later = record {
 -- a line whose reply was written, or a prefix of it
 pub written_ends : (number : ℕ) (meaning : Option Command) (old new : LineState) (before after : Outlet) (told : Told) (reply : List ℕ) (r : Result Told Stop)
     → (before.faults ≤ after.faults → before.wants ≤ after.wants → Passes meaning old before new after) → new.faults ≡ old.faults → Replies meaning → Carried (world_in old) number meaning told reply (world_in new)
-    → ((a : Allowance) × IsAllowance (world_in old) meaning a × IsPaid a (counters_in old) (counters_in new)) → Tallies (Of Registers meaning) (Of Compacts meaning) told old new
+    → ((a : Allowance) × IsAllowance (world_in old) meaning a × IsPaid a (counters_in old) (counters_in new)) → Tallies (Of Registers meaning) (Of Compacts meaning) (Of (AsksForCounts (world_in old)) meaning) told old new
     → (Of IsList meaning → ⊥) ⊎ (WantsFor r before after × (world_in new ≡ world_in old)) → IfOk r (λ t. t ≡ told) → Wrote r before reply after → Ends number meaning old before new after r
 written_ends number meaning old new before after told reply (Ok t) passes sound replied carried paid tallies wants is sent = record {
   passes = passes (omega (arith, sent.sound.0)) (omega (arith, sent.sound.1));
@@ -36,7 +39,7 @@ written_ends number meaning old new before after told reply (Ok t) passes sound 
   sink_sound = sent.sound;
   finishes = (reply, subst (λ (x : Told). Carried (world_in old) number meaning x reply (world_in new)) (sym is) carried, sent.appends);
   paid = paid;
-  tallies = subst (λ (x : Told). Tallies (Of Registers meaning) (Of Compacts meaning) x old new) (sym is) tallies;
+  tallies = subst (λ (x : Told). Tallies (Of Registers meaning) (Of Compacts meaning) (Of (AsksForCounts (world_in old)) meaning) x old new) (sym is) tallies;
 }
 written_ends number meaning old new before after told reply (Err why) passes sound replied carried paid tallies wants is cut = record {
   passes = passes cut.later cut.wants_later;
@@ -87,12 +90,12 @@ stays_stopped old new number command before why answering s = record {
 }
 
 -- a command that was stopped before it wrote anything, since the allocation of some tables failed
-pub unplaced_stops : (h : SessionState) (book : List Entry) (number : ℕ) (command : Command) (files : Option Files) (faults looks pairs p q : ℕ) (before : Outlet) → IsConsistent h → Serves h.store book → queries_of book ≡ queries_of h.book
-    → ArePartlyAt (length h.store) (covered_of h.book) (covered_of book) → q + sum_of (covered_of h.book) ≡ p + sum_of (covered_of book)
+pub unplaced_stops : (asked : Bool) (h : SessionState) (book : List Entry) (number : ℕ) (command : Command) (files : Option Files) (faults looks pairs p q : ℕ) (before : Outlet) → IsConsistent h → GrowsTables asked h.store h.book book p q
+    → (asked ≡ true → AsksForCounts (world (state_of h) files) command)
     → Stopped number (Some command) (seen (model_of h) files faults looks pairs p) before (seen (model_of (record h { book = book })) files faults looks pairs q) before stop.NoMemory
-unplaced_stops h book number command files faults looks pairs p q before is serves same partly steps =
-    let goes = (unplaced h book number command files faults looks pairs p q is serves same partly steps).goes in
-    let left : Leaves (world (state_of h) files) before.written before.written (world (state_of (record h { book = book })) files) = record { written = Keeps-refl before.written; world = ap (λ (st : State). world st files) (same_queries h book same) } in
+unplaced_stops asked h book number command files faults looks pairs p q before is grown asks =
+    let goes = (unplaced asked h book number command files faults looks pairs p q is grown asks).goes in
+    let left : Leaves (world (state_of h) files) before.written before.written (world (state_of (record h { book = book })) files) = record { written = Keeps-refl before.written; world = ap (λ (st : State). world st files) (same_queries h book grown.queries) } in
     record {
       passes = passes_of (at h files faults looks pairs p) (at (record h { book = book }) files faults looks pairs q) command before before goes (omega arith) (omega arith);
       halts = inl left;
@@ -109,16 +112,18 @@ passes_by meaning h files faults looks pairs places before after is later wants_
   more_pairs = omega arith;
   calls = omega arith;
   begun = (no_steps, inl refl, none_paid looks pairs pairs refl);
-  placed = none_placed_part (length h.store) (length h.store) (covered_of h.book) places (covered-within h.store h.book is.serves);
+  counts = false;
+  asked = not_asked;
+  placed = none_placed_part (length h.store) (length h.store) (tables_of h.book) places (tables-within h.store h.book is.serves);
   shelf_later = omega arith;
   later = later;
   wants_later = wants_later;
 }
 
-calm_tallied : (registers compacts : Type 0) (told : Told) (h : SessionState) (files : Option Files) (faults looks pairs places : ℕ) → IsOnce registers told 0 → IsOnce compacts told 0
-    → Tallies registers compacts told (seen (model_of h) files faults looks pairs places) (seen (model_of h) files faults looks pairs places)
-calm_tallied registers compacts told h files faults looks pairs places none kept =
-    none_tallied registers compacts told (seen (model_of h) files faults looks pairs places) (seen (model_of h) files faults looks pairs places) none kept (omega arith) (omega arith) (none_placed (length h.store) (covered_of h.book) places)
+calm_tallied : (registers compacts asks : Type 0) (told : Told) (h : SessionState) (files : Option Files) (faults looks pairs places : ℕ) → IsOnce registers told 0 → IsOnce compacts told 0
+    → Tallies registers compacts asks told (seen (model_of h) files faults looks pairs places) (seen (model_of h) files faults looks pairs places)
+calm_tallied registers compacts asks told h files faults looks pairs places none kept =
+    none_tallied registers compacts asks false told (seen (model_of h) files faults looks pairs places) (seen (model_of h) files faults looks pairs places) none kept (omega arith) (omega arith) not_asked (none_placed (length h.store) (tables_of h.book) places)
 
 pub quiet_done : (number : ℕ) (h : SessionState) (files : Option Files) (faults looks pairs places : ℕ) (before : Outlet) → IsConsistent h
     → Done number (Some form.Nothing) (seen (model_of h) files faults looks pairs places) before (seen (model_of h) files faults looks pairs places) before Quiet
@@ -128,7 +133,7 @@ quiet_done number h files faults looks pairs places before is = record {
   sink_sound = (refl, refl);
   finishes = ([], (refl, refl, refl), Appends-nil before.written);
   paid = (no_steps, refl, none_paid looks pairs pairs refl);
-  tallies = calm_tallied (Registers form.Nothing) (Compacts form.Nothing) Quiet h files faults looks pairs places refl refl;
+  tallies = calm_tallied (Registers form.Nothing) (Compacts form.Nothing) (AsksForCounts (world (state_of h) files) form.Nothing) Quiet h files faults looks pairs places refl refl;
 }
 
 -- a line that only replies, at no cost
@@ -139,7 +144,7 @@ pub still_ends : (number : ℕ) (meaning : Option Command) (h : SessionState) (f
 still_ends number meaning h files faults looks pairs places before after told reply r is replied carried free none kept wants is_told wrote =
     let here = seen (model_of h) files faults looks pairs places in
     written_ends number meaning here here before after told reply r (passes_by meaning h files faults looks pairs places before after is) refl replied carried
-    (no_steps, free, none_paid looks pairs pairs refl) (calm_tallied (Of Registers meaning) (Of Compacts meaning) told h files faults looks pairs places none kept)
+    (no_steps, free, none_paid looks pairs pairs refl) (calm_tallied (Of Registers meaning) (Of Compacts meaning) (Of (AsksForCounts (world (state_of h) files)) meaning) told h files faults looks pairs places none kept)
     (elim wants [ inl other ↦ inl other | inr want ↦ inr (want, refl) ]) is_told wrote
 
 -- ---- facts about a whole line, from a rejected command
@@ -160,9 +165,9 @@ line_ends (Ok x) D S done stopped h = (done x h, tt)
 line_ends (Err e) D S done stopped h = (tt, stopped e h)
 
 -- ---- the commands whose reply is one value
-pub is_answering : (command : Command) → (command ≡ form.Nothing → ⊥) → (command ≡ form.Names → ⊥) → ((q n : List ℕ) (w : Option (List ℕ)) (k : ℕ) → command ≡ form.List q n w k → ⊥) → ((q : List ℕ) (k : ℕ) → command ≡ form.ListAll q k → ⊥) → IsAnswering command
+pub is_answering : (command : Command) → (command ≡ form.Nothing → ⊥) → (command ≡ form.Names → ⊥) → ((q n : List ℕ) (s : ListStart) (k : ℕ) → command ≡ form.List q n s k → ⊥) → ((q : List ℕ) (k : ℕ) → command ≡ form.ListAll q k → ⊥) → IsAnswering command
 is_answering form.Nothing nothing names list all = nothing refl
 is_answering form.Names nothing names list all = names refl
-is_answering (form.List q n w k) nothing names list all = list q n w k refl
+is_answering (form.List q n s k) nothing names list all = list q n s k refl
 is_answering (form.ListAll q k) nothing names list all = all q k refl
 is_answering _ nothing names list all = tt

@@ -1,15 +1,16 @@
 -- Facts about the session's state, for commands that add nodes, compute tables, or do neither.
-use Rattle.session_state.proofs.Names.{Accepted, Answer, Answers, ap, AreKept, AreLive, AreLive-grows, ArePartlyAt, arith, at, Carries, Command, Compacts, counters}
-use Rattle.session_state.proofs.Names.{covered_of, Doc, Documents, Entry, Err, Files, Goes, Grows, Grows-length, Grows-none, SessionState, IfErr, IfOk, inl, inr, IsAllowed}
-use Rattle.session_state.proofs.Names.{IsErrAnd, IsConsistent, IsOfFile, IsOnce, IsPut, IsSaved, length, List, Named, no_steps, Node}
-use Rattle.session_state.proofs.Names.{AllowsWrites, nodes_of, Ok, open_size, Option, pairs_of, PaysFor, PaysForPart, Places, plain, plain-grows, plain_versions, queries_of, Query, Quiet}
-use Rattle.session_state.proofs.Names.{refl, Refused, Registers, Result, Rose, saved_text, LineState, line_state, Serves, State, state_of, Stays, Stop, subst, sum_of, sym}
-use Rattle.session_state.proofs.Names.{Tallies, Told, with_documents, with_queries, world, world_at, ℕ, ◌+◌, ◌∙◌, ◌≡◌, ◌≤◌, ◌⊎◌}
+use Rattle.session_state.proofs.Names.{Accepted, AllowsWrites, Answer, Answers, ap, AreKept, AreLive, AreLive-grows, arith, AsksForCounts, at, Bool, Carries}
+use Rattle.session_state.proofs.Names.{Command, Compacts, counters, Doc, Documents, Entry, Err, false, Files, Goes, Grows, Grows-length, Grows-none}
+use Rattle.session_state.proofs.Names.{GrowsTables, IfErr, IfOk, inl, inr, IsAllowed, IsConsistent, IsErrAnd, IsOfFile, IsOnce, IsPut, IsSaved, length}
+use Rattle.session_state.proofs.Names.{line_state, LineState, List, Named, no_steps, Node, nodes_of, Ok, open_size, Option, pairs_of, PaysFor, PaysForPart}
+use Rattle.session_state.proofs.Names.{PlacesOfBoth, plain, plain-grows, plain_versions, put, queries_of, Query, Quiet, refl, Refused, Registers, Result, Rose}
+use Rattle.session_state.proofs.Names.{saved_text, Serves, SessionState, State, state_of, Stays, Stop, subst, sym, tables_in, tables_of, Tallies, Told, true}
+use Rattle.session_state.proofs.Names.{with_documents, with_queries, world, world_at, ℕ, ◌+◌, ◌∙◌, ◌≡◌, ◌≤◌, ◌⊎◌}
 use Rattle.script_syntax.specs.declared.form.Command.TheVariants as form
 use Rattle.span_language.specs.declared.told.Stop.TheVariants as stop
 use Rattle.session_state.proofs.StateLemmas.{AreKept-grows, Grows-pairs, plain_versions-grows}
-use Rattle.session_state.proofs.PlacesLemmas.{none_placed, none_placed_part}
-use Rattle.session_state.proofs.BookLemmas.{covered-within, grown_placed, grown_placed_part, serves-grows}
+use Rattle.session_state.proofs.PlacesLemmas.{none_placed, none_placed_part, not_asked}
+use Rattle.session_state.proofs.BookLemmas.{grown_placed, grown_placed_part, serves-grows, tables-within}
 use Rattle.session_state.proofs.PaidLemmas.{none_paid, not_begun, part_of_paid}
 
 -- an allocation failed in a call, and the error is propagated
@@ -37,9 +38,9 @@ not_one : {P : Type 0} → ◌≡◌ {A = ℕ} 0 1 → P
 not_one is = let bad : ⊥ = cc is in absurd bad
 
 -- no query is registered, and no node is dropped
-pub none_tallied : (registers compacts : Type 0) (told : Told) (old new : LineState) → IsOnce registers told 0 → IsOnce compacts told 0 → nodes_of old.model ≤ nodes_of new.model → pairs_of new.model + old.pairs ≤ pairs_of old.model + new.pairs
-    → Places 0 0 (nodes_of new.model) old.model.covered new.model.covered old.places new.places → Tallies registers compacts told old new
-none_tallied registers compacts told old new none kept nodes pairs placed = record {
+pub none_tallied : (registers compacts asks : Type 0) (counts : Bool) (told : Told) (old new : LineState) → IsOnce registers told 0 → IsOnce compacts told 0 → nodes_of old.model ≤ nodes_of new.model → pairs_of new.model + old.pairs ≤ pairs_of old.model + new.pairs
+    → (counts ≡ true → asks) → PlacesOfBoth counts 0 0 (nodes_of new.model) (tables_in old.model) (tables_in new.model) old.places new.places → Tallies registers compacts asks told old new
+none_tallied registers compacts asks counts told old new none kept nodes pairs asked placed = record {
   queries = 0;
   registered = none;
   compactions = 0;
@@ -50,6 +51,8 @@ none_tallied registers compacts told old new none kept nodes pairs placed = reco
   kept = not_one;
   nodes = omega (arith, nodes);
   pairs = omega (arith, pairs);
+  counts = counts;
+  asked = asked;
   placed = placed;
 }
 
@@ -65,7 +68,9 @@ grown_goes h store docs command files after faults more looks p q places is grow
       pairs = Grows-pairs h.store store p q grows;
       calls = omega (arith, grows.paid);
       begun = begun;
-      placed = none_placed_part (length h.store) (length store) (covered_of h.book) places (covered-within store h.book serves);
+      counts = false;
+      asked = not_asked;
+      placed = none_placed_part (length h.store) (length store) (tables_of h.book) places (tables-within store h.book serves);
       faults = later;
     }
 
@@ -83,8 +88,8 @@ grown_answers h store docs number command answer files after faults more looks p
   carries = subst (λ (f : Option Files). Carries (world (state_of h) files) number command answer.told answer.line.items (world (state_of (record h { store = store; docs = docs })) f)) (sym same)
       (subst (λ (st : State). Carries (world (state_of h) files) number command answer.told answer.line.items (world st files)) (sym (grown_state h store docs p q is grows)) carries);
   paid = paid;
-  tallies = none_tallied (Registers command) (Compacts command) answer.told (line_state (at h files faults looks p places)) (line_state (at (record h { store = store; docs = docs }) after more looks q places)) (never (Registers command) other answer.told) (never (Compacts command) kept answer.told)
-      (Grows-length h.store store p q grows) (Grows-pairs h.store store p q grows) (none_placed (length store) (covered_of h.book) places);
+  tallies = none_tallied (Registers command) (Compacts command) (AsksForCounts (world (state_of h) files) command) false answer.told (line_state (at h files faults looks p places)) (line_state (at (record h { store = store; docs = docs }) after more looks q places)) (never (Registers command) other answer.told) (never (Compacts command) kept answer.told)
+      (Grows-length h.store store p q grows) (Grows-pairs h.store store p q grows) not_asked (none_placed (length store) (tables_of h.book) places);
 }
 
 -- only the store has more nodes
@@ -148,14 +153,16 @@ still_goes h docs versions book command files after faults more looks pairs plac
   pairs = omega arith;
   calls = omega arith;
   begun = not_begun (world (state_of h) files) command looks pairs;
-  placed = none_placed_part (length h.store) (length h.store) (covered_of h.book) places (covered-within h.store h.book is.serves);
+  counts = false;
+  asked = not_asked;
+  placed = none_placed_part (length h.store) (length h.store) (tables_of h.book) places (tables-within h.store h.book is.serves);
   faults = later;
 }
 
 -- ---- the queries changed
 pub booked_answers : (h : SessionState) (book : List Entry) (number : ℕ) (command : Command) (answer : Answer) (files : Option Files) (faults looks pairs places count : ℕ) → IsConsistent h → Serves h.store book
     → IsAllowed (world (state_of h) files) command no_steps → IsOnce (Registers command) answer.told count → IsOnce (Compacts command) answer.told 0
-    → Places count 0 (length h.store) (covered_of h.book) (covered_of book) places places
+    → PlacesOfBoth false count 0 (length h.store) (tables_of h.book) (tables_of book) places places
     → Carries (world (state_of h) files) number command answer.told answer.line.items (world (with_queries (state_of h) (queries_of book)) files)
     → Answers (at h files faults looks pairs places) number command (at (record h { book = book }) files faults looks pairs places) answer
 booked_answers h book number command answer files faults looks pairs places count is serves free registered kept placed carries = record {
@@ -174,6 +181,8 @@ booked_answers h book number command answer files faults looks pairs places coun
     kept = not_one;
     nodes = omega arith;
     pairs = omega arith;
+    counts = false;
+    asked = not_asked;
     placed = placed;
   };
 }
@@ -193,7 +202,7 @@ pub refused_answers : (h : SessionState) (number : ℕ) (command : Command) (ans
     → Carries (world (state_of h) files) number command answer.told answer.line.items (world (state_of h) files)
     → Answers (at h files faults looks pairs places) number command (at h files faults looks pairs places) answer
 refused_answers h number command answer files faults looks pairs places is refused free carries =
-    booked_answers h h.book number command answer files faults looks pairs places 0 is is.serves free (refused_never (Registers command) answer.told refused) (refused_never (Compacts command) answer.told refused) (none_placed (length h.store) (covered_of h.book) places) carries
+    booked_answers h h.book number command answer files faults looks pairs places 0 is is.serves free (refused_never (Registers command) answer.told refused) (refused_never (Compacts command) answer.told refused) (none_placed (length h.store) (tables_of h.book) places) carries
 
 -- the same answers over an unchanged file store
 pub same_shelf : (h : SessionState) (number : ℕ) (command : Command) (r : Result Answer Stop) (files after : Option Files) (faults more looks pairs places : ℕ) → after ≡ files → more ≡ faults
@@ -211,8 +220,8 @@ saved_answers h number file bytes nodes answer files after faults more looks pai
   sound = sound;
   carries = subst (λ (t : Told). Carries (world (state_of h) files) number (form.SaveFile file) t answer.line.items (world (state_of h) after)) (sym accepted) (bytes, nodes, saved, short, writable, written, refl, put);
   paid = (no_steps, refl, none_paid looks pairs pairs refl);
-  tallies = none_tallied (Registers (form.SaveFile file)) (Compacts (form.SaveFile file)) answer.told (line_state (at h files faults looks pairs places)) (line_state (at h after more looks pairs places)) (never (Registers (form.SaveFile file)) (λ no. no) answer.told) (never (Compacts (form.SaveFile file)) (λ no. no) answer.told)
-      (omega arith) (omega arith) (none_placed (length h.store) (covered_of h.book) places);
+  tallies = none_tallied (Registers (form.SaveFile file)) (Compacts (form.SaveFile file)) (AsksForCounts (world (state_of h) files) (form.SaveFile file)) false answer.told (line_state (at h files faults looks pairs places)) (line_state (at h after more looks pairs places)) (never (Registers (form.SaveFile file)) (λ no. no) answer.told) (never (Compacts (form.SaveFile file)) (λ no. no) answer.told)
+      (omega arith) (omega arith) not_asked (none_placed (length h.store) (tables_of h.book) places);
 }
 
 pub saved_stays : (h : SessionState) (number : ℕ) (file : List ℕ) (files after : Option Files) (faults more looks pairs places : ℕ) (why : Stop) → IsConsistent h → after ≡ files → faults ≤ more → (why ≡ stop.ShelfFault → Rose faults more) → (why ≡ stop.OutFault → ⊥)
@@ -234,91 +243,94 @@ marked_answers h docs versions number command answer files faults looks pairs pl
   sound = refl;
   carries = carries;
   paid = (no_steps, free, none_paid looks pairs pairs refl);
-  tallies = none_tallied (Registers command) (Compacts command) answer.told (line_state (at h files faults looks pairs places)) (line_state (at (record h { docs = docs; versions = versions }) files faults looks pairs places)) (never (Registers command) other answer.told) (never (Compacts command) keeps answer.told)
-      (omega arith) (omega arith) (none_placed (length h.store) (covered_of h.book) places);
+  tallies = none_tallied (Registers command) (Compacts command) (AsksForCounts (world (state_of h) files) command) false answer.told (line_state (at h files faults looks pairs places)) (line_state (at (record h { docs = docs; versions = versions }) files faults looks pairs places)) (never (Registers command) other answer.told) (never (Compacts command) keeps answer.told)
+      (omega arith) (omega arith) not_asked (none_placed (length h.store) (tables_of h.book) places);
 }
 
 -- ---- tables were computed, then the store got nodes and the documents changed
-moved_goes : (h : SessionState) (store : List Node) (docs : List Doc) (book : List Entry) (command : Command) (files : Option Files) (faults looks more p q r s : ℕ) → IsConsistent h → Grows h.store store p q → AreLive store docs → Serves h.store book
-    → ArePartlyAt (length h.store) (covered_of h.book) (covered_of book) → s + sum_of (covered_of h.book) ≡ r + sum_of (covered_of book)
-    → PaysForPart (world (state_of h) files) command (counters looks p) (counters more q)
+moved_goes : (asked : Bool) (h : SessionState) (store : List Node) (docs : List Doc) (book : List Entry) (command : Command) (files : Option Files) (faults looks more p q r s : ℕ) → IsConsistent h → Grows h.store store p q → AreLive store docs
+    → GrowsTables asked h.store h.book book r s → (asked ≡ true → AsksForCounts (world (state_of h) files) command) → PaysForPart (world (state_of h) files) command (counters looks p) (counters more q)
     → Goes (at h files faults looks p r) command (at (record h { store = store; docs = docs; book = book }) files faults more q s)
-moved_goes h store docs book command files faults looks more p q r s is grows live serves partly steps begun = record {
-  session = record { live = live; kept = AreKept-grows h.store store p q grows h.versions is.kept; serves = serves-grows h.store store p q book grows serves };
-  nodes = inl (Grows-length h.store store p q grows);
-  pairs = Grows-pairs h.store store p q grows;
-  calls = omega (arith, grows.paid);
-  begun = begun;
-  placed = λ n few le. grown_placed_part (length h.store) r s (covered_of h.book) (covered_of book) (covered-within h.store book serves) partly steps n few few;
-  faults = omega arith;
-}
+moved_goes asked h store docs book command files faults looks more p q r s is grows live grown asks begun =
+    let part = grown_placed_part asked h.store h.book book r s grown in
+    record {
+      session = record { live = live; kept = AreKept-grows h.store store p q grows h.versions is.kept; serves = serves-grows h.store store p q book grows grown.serves };
+      nodes = inl (Grows-length h.store store p q grows);
+      pairs = Grows-pairs h.store store p q grows;
+      calls = omega (arith, grows.paid);
+      begun = begun;
+      counts = asked;
+      asked = asks;
+      placed = record { between = part.between; tables = λ n few le. part.tables n few few; counting = λ n few le. part.counting n few few; unasked = part.unasked };
+      faults = omega arith;
+    }
 
 moved_state : (h : SessionState) (store : List Node) (docs : List Doc) (book : List Entry) (p q : ℕ) → IsConsistent h → Grows h.store store p q → queries_of book ≡ queries_of h.book
     → state_of (record h { store = store; docs = docs; book = book }) ≡ with_documents (state_of h) (plain store docs)
 moved_state h store docs book p q is grows same =
     ap (λ (qs : Named Query). record { documents = plain store docs; queries = qs; versions = plain_versions store h.versions }) same ∙ grown_state h store docs p q is grows
 
-pub moved_answers : (h : SessionState) (store : List Node) (docs : List Doc) (book : List Entry) (number : ℕ) (command : Command) (answer : Answer) (files : Option Files) (faults looks more p q r s : ℕ) → IsConsistent h → Grows h.store store p q → AreLive store docs → Serves h.store book
-    → queries_of book ≡ queries_of h.book → ArePartlyAt (length h.store) (covered_of h.book) (covered_of book) → s + sum_of (covered_of h.book) ≡ r + sum_of (covered_of book)
+pub moved_answers : (asked : Bool) (h : SessionState) (store : List Node) (docs : List Doc) (book : List Entry) (number : ℕ) (command : Command) (answer : Answer) (files : Option Files) (faults looks more p q r s : ℕ) → IsConsistent h → Grows h.store store p q → AreLive store docs
+    → GrowsTables asked h.store h.book book r s → (asked ≡ true → AsksForCounts (world (state_of h) files) command)
     → (Registers command → ⊥) → (Compacts command → ⊥) → PaysFor (world (state_of h) files) command (counters looks p) (counters more q)
     → Carries (world (state_of h) files) number command answer.told answer.line.items (world (with_documents (state_of h) (plain store docs)) files)
     → Answers (at h files faults looks p r) number command (at (record h { store = store; docs = docs; book = book }) files faults more q s) answer
-moved_answers h store docs book number command answer files faults looks more p q r s is grows live serves same partly steps other kept paid carries = record {
-  goes = moved_goes h store docs book command files faults looks more p q r s is grows live serves partly steps (part_of_paid (world (state_of h) files) command (counters looks p) (counters more q) paid);
-  sound = refl;
-  carries = subst (λ (st : State). Carries (world (state_of h) files) number command answer.told answer.line.items (world st files)) (sym (moved_state h store docs book p q is grows same)) carries;
-  paid = paid;
-  tallies = none_tallied (Registers command) (Compacts command) answer.told (line_state (at h files faults looks p r)) (line_state (at (record h { store = store; docs = docs; book = book }) files faults more q s))
-      (never (Registers command) other answer.told) (never (Compacts command) kept answer.told) (Grows-length h.store store p q grows) (Grows-pairs h.store store p q grows)
-      (λ n le. grown_placed (length h.store) r s (covered_of h.book) (covered_of book) partly steps n (omega (arith, le, Grows-length h.store store p q grows)));
-}
+moved_answers asked h store docs book number command answer files faults looks more p q r s is grows live grown asks other kept paid carries =
+    let both = grown_placed asked h.store h.book book r s grown in
+    let later = Grows-length h.store store p q grows in
+    record {
+      goes = moved_goes asked h store docs book command files faults looks more p q r s is grows live grown asks (part_of_paid (world (state_of h) files) command (counters looks p) (counters more q) paid);
+      sound = refl;
+      carries = subst (λ (st : State). Carries (world (state_of h) files) number command answer.told answer.line.items (world st files)) (sym (moved_state h store docs book p q is grows grown.queries)) carries;
+      paid = paid;
+      tallies = none_tallied (Registers command) (Compacts command) (AsksForCounts (world (state_of h) files) command) asked answer.told (line_state (at h files faults looks p r)) (line_state (at (record h { store = store; docs = docs; book = book }) files faults more q s))
+          (never (Registers command) other answer.told) (never (Compacts command) kept answer.told) later (Grows-pairs h.store store p q grows) asks
+          (record { between = both.between; tables = λ n le. both.tables n (omega (arith, le, later)); counting = λ n le. both.counting n (omega (arith, le, later)); unasked = both.unasked });
+    }
 
-pub moved_stops : (h : SessionState) (store : List Node) (docs : List Doc) (book : List Entry) (number : ℕ) (command : Command) (files : Option Files) (faults looks more p q r s : ℕ) → IsConsistent h → Grows h.store store p q → AreLive store docs → Serves h.store book
-    → queries_of book ≡ queries_of h.book → ArePartlyAt (length h.store) (covered_of h.book) (covered_of book) → s + sum_of (covered_of h.book) ≡ r + sum_of (covered_of book)
+pub moved_stops : (asked : Bool) (h : SessionState) (store : List Node) (docs : List Doc) (book : List Entry) (number : ℕ) (command : Command) (files : Option Files) (faults looks more p q r s : ℕ) → IsConsistent h → Grows h.store store p q → AreLive store docs
+    → GrowsTables asked h.store h.book book r s → (asked ≡ true → AsksForCounts (world (state_of h) files) command)
     → plain store docs ≡ plain h.store h.docs → PaysForPart (world (state_of h) files) command (counters looks p) (counters more q)
     → Stays (at h files faults looks p r) number command (at (record h { store = store; docs = docs; book = book }) files faults more q s) stop.NoMemory
-moved_stops h store docs book number command files faults looks more p q r s is grows live serves same partly steps texts begun = record {
-  goes = moved_goes h store docs book command files faults looks more p q r s is grows live serves partly steps begun;
-  world = inl (same_world (moved_state h store docs book p q is grows same ∙ ap (with_documents (state_of h)) texts) refl);
+moved_stops asked h store docs book number command files faults looks more p q r s is grows live grown asks texts begun = record {
+  goes = moved_goes asked h store docs book command files faults looks more p q r s is grows live grown asks begun;
+  world = inl (same_world (moved_state h store docs book p q is grows grown.queries ∙ ap (with_documents (state_of h)) texts) refl);
   shelf = no_shelf;
   sink = no_sink;
 }
 
 -- ---- only tables were computed
-pub placed_goes : (h : SessionState) (book : List Entry) (command : Command) (files : Option Files) (faults looks more pairs p q : ℕ) → IsConsistent h → Serves h.store book
-    → ArePartlyAt (length h.store) (covered_of h.book) (covered_of book) → q + sum_of (covered_of h.book) ≡ p + sum_of (covered_of book)
-    → PaysForPart (world (state_of h) files) command (counters looks pairs) (counters more pairs)
+pub placed_goes : (asked : Bool) (h : SessionState) (book : List Entry) (command : Command) (files : Option Files) (faults looks more pairs p q : ℕ) → IsConsistent h → GrowsTables asked h.store h.book book p q
+    → (asked ≡ true → AsksForCounts (world (state_of h) files) command) → PaysForPart (world (state_of h) files) command (counters looks pairs) (counters more pairs)
     → Goes (at h files faults looks pairs p) command (at (record h { book = book }) files faults more pairs q)
-placed_goes h book command files faults looks more pairs p q is serves partly steps begun =
-    moved_goes h h.store h.docs book command files faults looks more pairs pairs p q is (Grows-none h.store pairs pairs (omega arith)) is.live serves partly steps begun
+placed_goes asked h book command files faults looks more pairs p q is grown asks begun =
+    moved_goes asked h h.store h.docs book command files faults looks more pairs pairs p q is (Grows-none h.store pairs pairs (omega arith)) is.live grown asks begun
 
 pub same_queries : (h : SessionState) (book : List Entry) → queries_of book ≡ queries_of h.book → state_of (record h { book = book }) ≡ state_of h
 same_queries h book same = ap (with_queries (state_of h)) same
 
-pub placed_tallied : (h : SessionState) (book : List Entry) (command : Command) (told : Told) (files : Option Files) (faults looks more pairs p q : ℕ) → ArePartlyAt (length h.store) (covered_of h.book) (covered_of book) → q + sum_of (covered_of h.book) ≡ p + sum_of (covered_of book)
-    → (Registers command → ⊥) → (Compacts command → ⊥) → Tallies (Registers command) (Compacts command) told (line_state (at h files faults looks pairs p)) (line_state (at (record h { book = book }) files faults more pairs q))
-placed_tallied h book command told files faults looks more pairs p q partly steps other kept =
-    none_tallied (Registers command) (Compacts command) told (line_state (at h files faults looks pairs p)) (line_state (at (record h { book = book }) files faults more pairs q)) (never (Registers command) other told) (never (Compacts command) kept told)
-    (omega arith) (omega arith) (grown_placed (length h.store) p q (covered_of h.book) (covered_of book) partly steps)
+pub placed_tallied : (asked : Bool) (h : SessionState) (book : List Entry) (command : Command) (told : Told) (files : Option Files) (faults looks more pairs p q : ℕ) → GrowsTables asked h.store h.book book p q → (asked ≡ true → AsksForCounts (world (state_of h) files) command)
+    → (Registers command → ⊥) → (Compacts command → ⊥)
+    → Tallies (Registers command) (Compacts command) (AsksForCounts (world (state_of h) files) command) told (line_state (at h files faults looks pairs p)) (line_state (at (record h { book = book }) files faults more pairs q))
+placed_tallied asked h book command told files faults looks more pairs p q grown asks other kept =
+    none_tallied (Registers command) (Compacts command) (AsksForCounts (world (state_of h) files) command) asked told (line_state (at h files faults looks pairs p)) (line_state (at (record h { book = book }) files faults more pairs q))
+    (never (Registers command) other told) (never (Compacts command) kept told) (omega arith) (omega arith) asks (grown_placed asked h.store h.book book p q grown)
 
-pub placed_answers : (h : SessionState) (book : List Entry) (number : ℕ) (command : Command) (answer : Answer) (files : Option Files) (faults looks more pairs p q : ℕ) → IsConsistent h → Serves h.store book → queries_of book ≡ queries_of h.book
-    → ArePartlyAt (length h.store) (covered_of h.book) (covered_of book) → q + sum_of (covered_of h.book) ≡ p + sum_of (covered_of book)
-    → (Registers command → ⊥) → (Compacts command → ⊥) → PaysFor (world (state_of h) files) command (counters looks pairs) (counters more pairs)
+pub placed_answers : (asked : Bool) (h : SessionState) (book : List Entry) (number : ℕ) (command : Command) (answer : Answer) (files : Option Files) (faults looks more pairs p q : ℕ) → IsConsistent h → GrowsTables asked h.store h.book book p q
+    → (asked ≡ true → AsksForCounts (world (state_of h) files) command) → (Registers command → ⊥) → (Compacts command → ⊥) → PaysFor (world (state_of h) files) command (counters looks pairs) (counters more pairs)
     → Carries (world (state_of h) files) number command answer.told answer.line.items (world (state_of h) files)
     → Answers (at h files faults looks pairs p) number command (at (record h { book = book }) files faults more pairs q) answer
-placed_answers h book number command answer files faults looks more pairs p q is serves same partly steps other kept paid carries =
-    moved_answers h h.store h.docs book number command answer files faults looks more pairs pairs p q is (Grows-none h.store pairs pairs (omega arith)) is.live serves same partly steps other kept paid carries
+placed_answers asked h book number command answer files faults looks more pairs p q is grown asks other kept paid carries =
+    moved_answers asked h h.store h.docs book number command answer files faults looks more pairs pairs p q is (Grows-none h.store pairs pairs (omega arith)) is.live grown asks other kept paid carries
 
-pub placed_stops : (h : SessionState) (book : List Entry) (number : ℕ) (command : Command) (files : Option Files) (faults looks more pairs p q : ℕ) → IsConsistent h → Serves h.store book → queries_of book ≡ queries_of h.book
-    → ArePartlyAt (length h.store) (covered_of h.book) (covered_of book) → q + sum_of (covered_of h.book) ≡ p + sum_of (covered_of book)
-    → PaysForPart (world (state_of h) files) command (counters looks pairs) (counters more pairs)
+pub placed_stops : (asked : Bool) (h : SessionState) (book : List Entry) (number : ℕ) (command : Command) (files : Option Files) (faults looks more pairs p q : ℕ) → IsConsistent h → GrowsTables asked h.store h.book book p q
+    → (asked ≡ true → AsksForCounts (world (state_of h) files) command) → PaysForPart (world (state_of h) files) command (counters looks pairs) (counters more pairs)
     → Stays (at h files faults looks pairs p) number command (at (record h { book = book }) files faults more pairs q) stop.NoMemory
-placed_stops h book number command files faults looks more pairs p q is serves same partly steps begun =
-    moved_stops h h.store h.docs book number command files faults looks more pairs pairs p q is (Grows-none h.store pairs pairs (omega arith)) is.live serves same partly steps refl begun
+placed_stops asked h book number command files faults looks more pairs p q is grown asks begun =
+    moved_stops asked h h.store h.docs book number command files faults looks more pairs pairs p q is (Grows-none h.store pairs pairs (omega arith)) is.live grown asks refl begun
 
 -- and the allocation of some of them failed
-pub unplaced : (h : SessionState) (book : List Entry) (number : ℕ) (command : Command) (files : Option Files) (faults looks pairs p q : ℕ) → IsConsistent h → Serves h.store book → queries_of book ≡ queries_of h.book
-    → ArePartlyAt (length h.store) (covered_of h.book) (covered_of book) → q + sum_of (covered_of h.book) ≡ p + sum_of (covered_of book)
-    → Stays (at h files faults looks pairs p) number command (at (record h { book = book }) files faults looks pairs q) stop.NoMemory
-unplaced h book number command files faults looks pairs p q is serves same partly steps =
-    placed_stops h book number command files faults looks looks pairs p q is serves same partly steps (not_begun (world (state_of h) files) command looks pairs)
+pub unplaced : (asked : Bool) (h : SessionState) (book : List Entry) (number : ℕ) (command : Command) (files : Option Files) (faults looks pairs p q : ℕ) → IsConsistent h → GrowsTables asked h.store h.book book p q
+    → (asked ≡ true → AsksForCounts (world (state_of h) files) command) → Stays (at h files faults looks pairs p) number command (at (record h { book = book }) files faults looks pairs q) stop.NoMemory
+unplaced asked h book number command files faults looks pairs p q is grown asks =
+    placed_stops asked h book number command files faults looks looks pairs p q is grown asks (not_begun (world (state_of h) files) command looks pairs)

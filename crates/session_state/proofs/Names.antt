@@ -6,7 +6,7 @@ pub use Rattle.edge_io.specs.Files.{AllowsWrites, Files}
 pub use Rattle.edit_expr.proofs.EvalLemmas.{AreLive-grows, plain-grows}
 pub use Rattle.query_book.specs.Answers.{IsNamed}
 pub use Rattle.query_book.specs.Book.{queries_of}
-pub use Rattle.query_book.specs.Serving.{ArePartlyAt, Serves, covered_of, sum_of}
+pub use Rattle.query_book.specs.Serving.{ArePartlyAt, Serves, counted_of, covered_of, sum_of}
 pub use Rattle.query_book.specs.declared.entry.Entry.{Entry}
 pub use Rattle.report_text.specs.Reply.{refusal_text, saved_text}
 pub use Rattle.report_text.specs.declared.refusal.Refusal.{Refusal}
@@ -14,9 +14,10 @@ pub use Rattle.script_syntax.specs.declared.form.Command.{Command}
 pub use Rattle.session_state.specs.Answers.{Answers, Goes, IsAnswering, Stays}
 pub use Rattle.session_state.specs.Carried.{Done, Outlet, Passes, Stopped}
 pub use Rattle.session_state.specs.CommandState.{CommandState, at, world_at}
-pub use Rattle.session_state.specs.SessionState.{AreKept, IsConsistent, IsSessionModel, SessionModel, nodes_of, pairs_of, plain_versions, model_of, state_of}
+pub use Rattle.session_state.specs.SessionState.{AreKept, IsConsistent, IsSessionModel, SessionModel, nodes_of, pairs_of, plain_versions, model_of, state_of, tables_in, tables_of}
 pub use Rattle.session_state.specs.LineState.{LineState, Tallies, counters_in, line_state, seen, world_in}
 pub use Rattle.session_state.specs.Rejecting.{IsRejectedFreely}
+pub use Rattle.session_state.specs.Tables.{GrowsCounts, GrowsTables}
 pub use Rattle.session_state.specs.Written.{Ends, IsCut, IsSent, IsUpTo, WantsFor, Wrote}
 pub use Rattle.session_state.specs.declared.replies.Answer.{Answer}
 pub use Rattle.session_state.specs.declared.session.SessionState.{SessionState}
@@ -26,7 +27,7 @@ pub use Rattle.slp_model.specs.Tree.{root_leaves}
 pub use Rattle.slp_model.specs.declared.Node.{Node}
 pub use Rattle.slp_model.specs.declared.NodeId.{NodeId}
 pub use Rattle.span_language.specs.Allowance.{Allowance, Counters, IsAllowed, IsPaid, PaysFor, PaysForPart, counters, no_steps}
-pub use Rattle.span_language.specs.Counts.{Compacts, IsOnce, Places, PlacesPart, Registers}
+pub use Rattle.span_language.specs.Counts.{AsksForCounts, Compacts, IsOnce, Places, PlacesOfBoth, PlacesPart, PlacesPartOfBoth, Registers, Tabled}
 pub use Rattle.span_language.specs.Means.{Carried, IsAllowance, Of, Replies}
 pub use Rattle.span_language.specs.State.{Documents, Named, State, World, is_same, put, taken_out, value_of, with_documents, with_queries, world}
 pub use Rattle.span_language.specs.Step.{AppendsFront, Carries, IsList, IsOfFile, IsPut, IsRefused, IsSaved, Leaves, open_size}
@@ -37,8 +38,9 @@ pub use Rattle.span_types.specs.Query.{Query}
 pub use Rattle.span_types.specs.Rel.{names_of}
 pub use Rattle.std.proofs.Common.{Bool, Err, IfErr, IfOk, IsErrAnd, IsSome, List, MatchResult, None, Ok, Option, Result}
 pub use Rattle.std.proofs.Common.{Some, [], ap, append_assoc, arith, cond, drop, false, inl, inr, length, length-drop}
+pub use Rattle.std.proofs.Common.{if◌then◌else◌}
 pub use Rattle.std.proofs.Common.{min, ok_or, option_map, refl, subst, suc, sym, take, true, ℕ, ◌*◌, ◌++◌}
-pub use Rattle.std.proofs.Common.{◌+◌, ◌-◌, ◌∙◌, ◌∷◌, ◌≡◌, ◌≤◌, ◌⊎◌}
+pub use Rattle.std.proofs.Common.{◌+◌, ◌-◌, ◌||◌, ◌∙◌, ◌∷◌, ◌≡◌, ◌≤◌, ◌⊎◌}
 pub use Rattle.std.proofs.KnownBytes.{Appends-nil, Appends-trans, Keeps-refl}
 pub use Rattle.std.proofs.Math.Seq.{take-add, take-append-add, take-append_seam}
 pub use Rattle.std.proofs.lemmas.List.{append-nil, take-append-le, take_all, take_min}

@@ -1,21 +1,21 @@
 -- The effect and the cost of a command.
-use Rattle.std.specs.Prelude.{◌≡◌, ◌⊎◌, ℕ, ◌+◌, ◌≤◌, List, Option, Result, IfErr, IfOk, length}
+use Rattle.std.specs.Prelude.{◌≡◌, ◌⊎◌, ℕ, ◌+◌, ◌≤◌, Bool, true, List, Option, Result, IfErr, IfOk, length}
 use Rattle.edge_io.specs.Causes.{Rose}
 use Rattle.edge_io.specs.Files.{Files}
 use Rattle.slp_model.specs.Nodes.{pair_count}
 use Rattle.line_parts.specs.NameList.{IsNameList}
+use Rattle.script_syntax.specs.Syntax.{IsStart}
 use Rattle.script_syntax.specs.declared.form.Command.{Command}
 use Rattle.script_syntax.specs.declared.form.Command.TheVariants as form
-use Rattle.query_book.specs.Serving.{covered_of}
 use Rattle.span_language.specs.Allowance.{PaysFor, PaysForPart}
-use Rattle.span_language.specs.Counts.{Compacts, PlacesPart, Registers}
+use Rattle.span_language.specs.Counts.{AsksForCounts, Compacts, PlacesPartOfBoth, Registers}
 use Rattle.span_language.specs.Step.{Carries, IsOfFile}
 use Rattle.session_state.specs.declared.replies.Answer.{Answer}
 use Rattle.span_language.specs.declared.told.Told.{Told}
 use Rattle.span_language.specs.declared.told.Stop.{Stop}
 use Rattle.span_language.specs.declared.told.Stop.TheVariants as stop
 use Rattle.session_state.specs.declared.session.SessionState.{SessionState}
-use Rattle.session_state.specs.SessionState.{IsConsistent}
+use Rattle.session_state.specs.SessionState.{IsConsistent, tables_of}
 use Rattle.session_state.specs.CommandState.{CommandState, at, world_at, counters_at}
 use Rattle.session_state.specs.LineState.{Tallies, line_state}
 
@@ -26,7 +26,9 @@ pub record Goes (old : CommandState) (command : Command) (new : CommandState) : 
   pub pairs : pair_count new.session.store + old.pairs ≤ pair_count old.session.store + new.pairs
   pub calls : old.pairs ≤ new.pairs
   pub begun : PaysForPart (world_at old) command (counters_at old) (counters_at new)
-  pub placed : PlacesPart (length old.session.store) (length new.session.store) (covered_of old.session.book) old.places new.places
+  pub counts : Bool
+  pub asked : counts ≡ true → AsksForCounts (world_at old) command
+  pub placed : PlacesPartOfBoth counts (length old.session.store) (length new.session.store) (tables_of old.session.book) old.places new.places
   pub faults : old.faults ≤ new.faults
 
 -- the command has this answer in the first state, and results in the second: the file store had no failure
@@ -35,7 +37,7 @@ pub record Answers (old : CommandState) (number : ℕ) (command : Command) (new 
   pub sound : new.faults ≡ old.faults
   pub carries : Carries (world_at old) number command answer.told answer.line.items (world_at new)
   pub paid : PaysFor (world_at old) command (counters_at old) (counters_at new)
-  pub tallies : Tallies (Registers command) (Compacts command) answer.told (line_state old) (line_state new)
+  pub tallies : Tallies (Registers command) (Compacts command) (AsksForCounts (world_at old) command) answer.told (line_state old) (line_state new)
 
 -- the command was stopped for this reason: the state and the files are unchanged, or, for a command without files, as
 -- an answer allows
@@ -59,12 +61,14 @@ StaysFreely old number command new result = (files : Option Files) (faults looks
 abbrev pub IsAnswering : Command → Type 0
 IsAnswering form.Nothing = ⊥
 IsAnswering form.Names = ⊥
-IsAnswering (form.List query name after limit) = ⊥
+IsAnswering (form.List query name start limit) = ⊥
 IsAnswering (form.ListAll query limit) = ⊥
 IsAnswering _ = Unit {0}
 
--- what holds of every line of the form: its limit is from 1 to 10,000, and its list is a list of names
+-- what holds of every line of the form: its start is one that a listing can have, its limit is from 1 to 10,000, and its
+-- list is a list of names
 abbrev pub IsWellFormed : Command → Type 0
+IsWellFormed (form.List query name start limit) = IsStart start
 IsWellFormed (form.ListAll query limit) = (1 ≤ limit) × (limit ≤ 10000)
 IsWellFormed (form.ProjectQuery name source keep) = IsNameList keep
 IsWellFormed _ = Unit {0}

@@ -1,15 +1,15 @@
 -- The effect of a line with a meaning on a session and on the environment.
-use Rattle.std.specs.Prelude.{◌≡◌, ◌⊎◌, ℕ, ◌+◌, ◌≤◌, List, Option}
+use Rattle.std.specs.Prelude.{◌≡◌, ◌⊎◌, ℕ, ◌+◌, ◌≤◌, Bool, true, List, Option}
 use Rattle.edge_io.specs.Causes.{Rose}
 use Rattle.script_syntax.specs.declared.form.Command.{Command}
 use Rattle.span_language.specs.Allowance.{Allowance, IsPaid, no_steps}
-use Rattle.span_language.specs.Counts.{Compacts, PlacesPart, Registers}
+use Rattle.span_language.specs.Counts.{AsksForCounts, Compacts, PlacesPartOfBoth, Registers}
 use Rattle.span_language.specs.Means.{Carried, IsAllowance, Means, Of, Replies}
 use Rattle.span_language.specs.Step.{Finishes, Halts, IsList, IsOfFile, Leaves}
 use Rattle.span_language.specs.declared.told.Told.{Told}
 use Rattle.span_language.specs.declared.told.Stop.{Stop}
 use Rattle.span_language.specs.declared.told.Stop.TheVariants as stop
-use Rattle.session_state.specs.SessionState.{nodes_of, pairs_of}
+use Rattle.session_state.specs.SessionState.{nodes_of, pairs_of, tables_in}
 use Rattle.session_state.specs.LineState.{LineState, Tallies, world_in, counters_in}
 
 -- a sink: the bytes written to it, if they are observable, and the numbers of its failures and of its allocation
@@ -28,7 +28,9 @@ pub record Passes (meaning : Option Command) (old : LineState) (before : Outlet)
   pub more_pairs : pairs_of new.model + old.pairs ≤ pairs_of old.model + new.pairs
   pub calls : old.pairs ≤ new.pairs
   pub begun : (a : Allowance) × ((a ≡ no_steps) ⊎ IsAllowance (world_in old) meaning a) × IsPaid a (counters_in old) (counters_in new)
-  pub placed : PlacesPart (nodes_of old.model) (nodes_of new.model) old.model.covered old.places new.places
+  pub counts : Bool
+  pub asked : counts ≡ true → Of (AsksForCounts (world_in old)) meaning
+  pub placed : PlacesPartOfBoth counts (nodes_of old.model) (nodes_of new.model) (tables_in old.model) old.places new.places
   pub shelf_later : old.faults ≤ new.faults
   pub later : before.faults ≤ after.faults
   pub wants_later : before.wants ≤ after.wants
@@ -44,7 +46,7 @@ pub record Done (number : ℕ) (meaning : Option Command) (old : LineState) (bef
   pub sink_sound : HasNoFault before after
   pub finishes : Finishes (Carried (world_in old) number meaning) told before.written after.written (world_in new)
   pub paid : (a : Allowance) × IsAllowance (world_in old) meaning a × IsPaid a (counters_in old) (counters_in new)
-  pub tallies : Tallies (Of Registers meaning) (Of Compacts meaning) told old new
+  pub tallies : Tallies (Of Registers meaning) (Of Compacts meaning) (Of (AsksForCounts (world_in old)) meaning) told old new
 
 -- the line was stopped for this reason
 pub record Stopped (number : ℕ) (meaning : Option Command) (old : LineState) (before : Outlet) (new : LineState) (after : Outlet) (why : Stop) : Type 0 where

@@ -5,4 +5,5 @@ pub mod DocumentReply
 pub mod SessionState
 pub mod LineState
 pub mod Rejecting
+pub mod Tables
 pub mod Written

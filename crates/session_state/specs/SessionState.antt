@@ -9,7 +9,9 @@ use Rattle.doc_book.specs.Texts.{AreLive, plain}
 pub use Rattle.doc_book.specs.Docs.{roots_of}
 pub use Rattle.doc_compact.specs.Roots.{AreKept, plain_versions, version_roots}
 use Rattle.query_book.specs.Book.{queries_of}
-use Rattle.query_book.specs.Serving.{Serves, covered_of}
+use Rattle.query_book.specs.Serving.{Serves, counted_of, covered_of}
+use Rattle.query_book.specs.declared.entry.Entry.{Entry}
+use Rattle.span_language.specs.Counts.{Tabled}
 use Rattle.span_language.specs.State.{State, Named}
 use Rattle.session_state.specs.declared.session.SessionState.{SessionState}
 
@@ -25,15 +27,23 @@ pub record IsConsistent (h : SessionState) : Type 0 where
   pub serves : Serves h.store h.book
 
 -- the model of a session: its plain state, the nodes of its store, the roots of its documents and of its versions, and
--- for each query the number of nodes that have tables
+-- for each query the number of nodes that have tables, and of those that have counting tables
 pub record SessionModel : Type 0 where
   pub state : State
   pub store : List Node
   pub roots : List (Option NodeId)
   pub covered : Named ℕ
+  pub counted : Named ℕ
 
 abbrev pub model_of : SessionState → SessionModel
-model_of h = record { state = state_of h; store = h.store; roots = roots_of h.docs ++ version_roots h.versions; covered = covered_of h.book }
+model_of h = record { state = state_of h; store = h.store; roots = roots_of h.docs ++ version_roots h.versions; covered = covered_of h.book; counted = counted_of h.book }
+
+-- both numbers for each query
+abbrev pub tables_of : List Entry → Tabled
+tables_of es = record { covered = covered_of es; counted = counted_of es }
+
+abbrev pub tables_in : SessionModel → Tabled
+tables_in s = record { covered = s.covered; counted = s.counted }
 
 -- the number of nodes, and the number of those that are pairs
 abbrev pub nodes_of : SessionModel → ℕ
@@ -42,10 +52,12 @@ nodes_of s = length s.store
 abbrev pub pairs_of : SessionModel → ℕ
 pairs_of s = pair_count s.store
 
--- what holds of every session: a store has at most 256 nodes that are no pairs, and each table is that of a node
+-- what holds of every session: a store has at most 256 nodes that are no pairs, and each table and each counting table is
+-- that of a node
 pub record IsSessionModel (s : SessionModel) : Type 0 where
   pub few : nodes_of s ≤ 256 + pairs_of s
   pub within : AllByRecursion (λ p. p.1 ≤ nodes_of s) s.covered
+  pub counts_within : AllByRecursion (λ p. p.1 ≤ nodes_of s) s.counted
 
 -- each node is reachable from a document, or from a document of a version
 abbrev pub IsCompact : SessionModel → Type 0

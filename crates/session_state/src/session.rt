@@ -1,6 +1,6 @@
 //! The state of a session.
 ghost use Rattle.std.specs.Prelude.{◌≡◌, []};
-ghost use Rattle.query_book.specs.Serving.{covered_of};
+ghost use Rattle.query_book.specs.Serving.{counted_of, covered_of};
 ghost use Rattle.session_state.specs.SessionState.{IsConsistent, state_of};
 ghost use Rattle.span_language.specs.State.{nothing};
 
@@ -27,6 +27,7 @@ impl SessionState {
         ensures session { IsConsistent result }
         ensures store { result.store ≡ [] }
         ensures covered { covered_of result.book ≡ [] }
+        ensures counted { counted_of result.book ≡ [] }
     {
         SessionState {
             alloc,

@@ -10,7 +10,7 @@ pub use Rattle.span_language.specs.Allowance.{Allowance, Counters, IsPaid, both_
 pub use Rattle.span_language.specs.Lines.{lines_of, onto_first}
 pub use Rattle.span_language.specs.Means.{Carried, Means, Of}
 pub use Rattle.span_language.specs.Runs.{Adds, Anywhere, Ending, InFileLine, IsFront, Outside, PlacesFew, Runs, RunsAll, RunsFront, Sum, UnlessList}
-pub use Rattle.span_language.specs.Runs.{both, is_refused, no_lines, outside, start}
+pub use Rattle.span_language.specs.Runs.{both, is_refused, most_nodes, no_lines, outside, start}
 pub use Rattle.span_language.specs.Scripts.{AsksForNoDemo, OfScript, script_of}
 pub use Rattle.span_language.specs.State.{Named, State, World, nothing, world}
 pub use Rattle.span_language.specs.Step.{Halts, IsList, Leaves}

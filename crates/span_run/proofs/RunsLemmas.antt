@@ -1,10 +1,10 @@
 -- One step of a run: a line.
 use Rattle.span_run.proofs.Names.{[], Adds, Allowance, Anywhere, ap, append-nil, append_assoc, Appends, Appends-kept, Appends-nil, Appends-trans, arith, Bool}
-use Rattle.span_run.proofs.Names.{both, both_of, Carried, Command, Counters, Ending, false, Files, Halts, IfSome, InFileLine, inl, inr, is_refused, IsDone, IsFront, IsList}
-use Rattle.span_run.proofs.Names.{IsPaid, IsSessionModel, IsStopped, Leaves, length, length-append, List, Means, Named, no_lines, no_steps, nodes_of, None, nothing}
-use Rattle.span_run.proofs.Names.{Of, Option, Outlet, Outside, outside, pairs_of, PlacesFew, refl, Rose, Runs, RunsAll, RunsFront, LineState, Some, SessionModel, start}
-use Rattle.span_run.proofs.Names.{State, Stop, Stopped, subst, suc, Sum, sum_of, sym, take, Told, true, UnlessList, World, world, world_in, ℕ, ◌*◌, ◌++◌, ◌+◌}
-use Rattle.span_run.proofs.Names.{◌-◌, ◌||◌, ◌∙◌, ◌∷◌, ◌≡◌, ◌≤◌, ◌⊎◌}
+use Rattle.span_run.proofs.Names.{both, both_of, Carried, Command, Counters, Ending, false, Files, Halts, IfSome, if◌then◌else◌, InFileLine, inl, inr}
+use Rattle.span_run.proofs.Names.{is_refused, IsDone, IsFront, IsList, IsPaid, IsSessionModel, IsStopped, Leaves, length, length-append, LineState, List}
+use Rattle.span_run.proofs.Names.{Means, most_nodes, Named, no_lines, no_steps, nodes_of, None, nothing, Of, Option, Outlet, outside, Outside, pairs_of}
+use Rattle.span_run.proofs.Names.{PlacesFew, refl, Rose, Runs, RunsAll, RunsFront, SessionModel, Some, start, State, Stop, Stopped, subst, suc, Sum, sym, take}
+use Rattle.span_run.proofs.Names.{Told, true, UnlessList, world, World, world_in, ℕ, ◌*◌, ◌++◌, ◌+◌, ◌-◌, ◌||◌, ◌∙◌, ◌∷◌, ◌≡◌, ◌≤◌, ◌⊎◌}
 use Rattle.std.proofs.Math.Nat.{mul-le-mul_left}
 use Rattle.slp_model.specs.Nodes.{pair_count}
 use Rattle.span_language.specs.declared.told.Stop.TheVariants as stop
@@ -26,10 +26,10 @@ pub record IsAt (lines left : List (List ℕ)) (number : ℕ) (refused : Bool) (
   pub wrote : Appends before.written now.written sum.output
   pub paid : IsPaid sum.cost before.counters now.counters
   pub dropped : ℕ
-  pub placed : PlacesSoFar sum.queries dropped st before.places now.places
+  pub placed : PlacesSoFar sum.counted sum.queries dropped st before.places now.places
   pub grown : pairs_of st + dropped + before.counters.pairs ≤ now.counters.pairs + 256 * sum.compactions
 
-or_false : (a : Bool) → (a || false) ≡ a
+pub or_false : (a : Bool) → (a || false) ≡ a
 or_false true = refl
 or_false false = refl
 
@@ -56,7 +56,8 @@ both-none a =
     let c = both_of-none a.cost in
     let q : 0 + a.queries ≡ a.queries + 0 = omega arith in
     let k : 0 + a.compactions ≡ a.compactions + 0 = omega arith in
-    λ i. record { refused = r i; output = o i; cost = c i; queries = q i; compactions = k i }
+    let n = sym (or_false a.counted) in
+    λ i. record { refused = r i; output = o i; cost = c i; queries = q i; compactions = k i; counted = n i }
 
 both-assoc : (a b c : Sum) → both (both a b) c ≡ both a (both b c)
 both-assoc a b c =
@@ -65,7 +66,8 @@ both-assoc a b c =
     let d = both_of-assoc a.cost b.cost c.cost in
     let q : a.queries + b.queries + c.queries ≡ a.queries + (b.queries + c.queries) = omega arith in
     let k : a.compactions + b.compactions + c.compactions ≡ a.compactions + (b.compactions + c.compactions) = omega arith in
-    λ i. record { refused = r i; output = o i; cost = d i; queries = q i; compactions = k i }
+    let n = or_assoc a.counted b.counted c.counted in
+    λ i. record { refused = r i; output = o i; cost = d i; queries = q i; compactions = k i; counted = n i }
 
 both_paid : (a b : Allowance) (x y z : Counters) → IsPaid a x y → IsPaid b y z → IsPaid (both_of a b) x z
 both_paid a b x y z first second = record { looks = omega (arith, first.looks, second.looks); pairs = omega (arith, first.pairs, second.pairs) }
@@ -89,9 +91,9 @@ pub each_some : (o : Option (List ℕ)) (P : List ℕ → Type 0) → ((x : List
 each_some None P h = tt
 each_some (Some x) P h = h x
 
-pub at_start : (lines : List (List ℕ)) (before : Outside) (st : SessionModel) → st.state ≡ nothing → st.covered ≡ [] → st.store ≡ [] → IsAt lines lines 1 false st before before
+pub at_start : (lines : List (List ℕ)) (before : Outside) (st : SessionModel) → st.state ≡ nothing → st.covered ≡ [] → st.counted ≡ [] → st.store ≡ [] → IsAt lines lines 1 false st before before
 unfolding pair_count
-at_start lines before st is none new = record {
+at_start lines before st is none uncounted new = record {
   done = [];
   cut = refl;
   counted = refl;
@@ -101,7 +103,10 @@ at_start lines before st is none new = record {
   wrote = Appends-nil before.written;
   paid = none_paid before.counters;
   dropped = 0;
-  placed = subst (λ (l : Named ℕ). (n : ℕ) → nodes_of st ≤ n → before.places + n * length l ≤ before.places + sum_of l + (n + 0) * 0) (sym none) (λ n le. omega arith);
+  placed = record {
+    both = λ n le. omega (arith, ap (λ (l : Named ℕ). n * length l) none, ap (λ (l : Named ℕ). n * length l) uncounted);
+    unasked = λ no n le. omega (arith, ap (λ (l : Named ℕ). n * length l) none);
+  };
   grown = omega (arith, ap pair_count new);
 }
 
@@ -118,15 +123,18 @@ pub rose_later : (a b c : ℕ) → a ≤ b → Rose b c → Rose a c
 rose_later a b c le rose = omega (arith, le, rose)
 
 -- the bound on the number of tables, by the number of nodes that ever existed
-few_of : (sum : Sum) (before after : Outside) (nodes : ℕ) → nodes ≤ 256 * (1 + sum.compactions) + (after.counters.pairs - before.counters.pairs) → after.places ≤ before.places + sum.queries * nodes → PlacesFew sum before after
-few_of sum before after nodes grown few =
-    let products : sum.queries * nodes ≤ sum.queries * (256 * (1 + sum.compactions) + (after.counters.pairs - before.counters.pairs)) = mul-le-mul_left sum.queries grown in
+few_of : (asked : Bool) (sum : Sum) (before after : Outside) (nodes : ℕ) → nodes ≤ most_nodes sum before after → after.places ≤ before.places + (if asked then 2 else 1) * (sum.queries * nodes) → PlacesFew asked sum before after
+few_of true sum before after nodes grown few =
+    let products : sum.queries * nodes ≤ sum.queries * most_nodes sum before after = mul-le-mul_left sum.queries grown in
+    omega (arith, few, products)
+few_of false sum before after nodes grown few =
+    let products : sum.queries * nodes ≤ sum.queries * most_nodes sum before after = mul-le-mul_left sum.queries grown in
     omega (arith, few, products)
 
 module _ (lines left rest : List (List ℕ)) (line : List ℕ) (number : ℕ) (refused : Bool) (before : Outside) (old : LineState) (sink : Outlet) (new : LineState) (after : Outlet) (is : left ≡ line ∷ rest) (at : IsAt lines left number refused old.model before (told_of old sink)) where
   pub goes_on : (told : Told) → IsDone line number old sink new after told → IsAt lines rest (number + 1) (refused || is_refused told) new.model before (told_of new after)
   goes_on told (meaning, means, d) =
-      let one : Sum = record { refused = is_refused told; output = d.finishes.0; cost = d.paid.0; queries = d.tallies.queries; compactions = d.tallies.compactions } in
+      let one : Sum = record { refused = is_refused told; output = d.finishes.0; cost = d.paid.0; queries = d.tallies.queries; compactions = d.tallies.compactions; counted = d.tallies.counts } in
       let adds : Adds (world_in old) number line one (world_in new) = record {
         meaning = meaning;
         told = told;
@@ -135,6 +143,7 @@ module _ (lines left rest : List (List ℕ)) (line : List ℕ) (number : ℕ) (r
         allowed = d.paid.1;
         registers = d.tallies.registered;
         compacts = d.tallies.compacted;
+        counts = d.tallies.asked;
         refused_is = refl;
       } in
       record {
@@ -147,7 +156,7 @@ module _ (lines left rest : List (List ℕ)) (line : List ℕ) (number : ℕ) (r
         wrote = Appends-trans before.written sink.written after.written at.sum.output d.finishes.0 at.wrote d.finishes.2;
         paid = both_paid at.sum.cost d.paid.0 before.counters (told_of old sink).counters (told_of new after).counters at.paid d.paid.2;
         dropped = at.dropped + d.tallies.dropped;
-        placed = places_go_on at.sum.queries at.dropped d.tallies.queries d.tallies.dropped old.model new.model before.places old.places new.places d.tallies.nodes at.placed d.tallies.placed;
+        placed = places_go_on at.sum.counted d.tallies.counts at.sum.queries at.dropped d.tallies.queries d.tallies.dropped old.model new.model before.places old.places new.places d.tallies.nodes at.placed d.tallies.placed;
         grown = omega (arith, at.grown, d.tallies.pairs);
       }
 
@@ -182,11 +191,12 @@ module _ (lines left rest : List (List ℕ)) (line : List ℕ) (number : ℕ) (r
         ran = at.ran;
         part = part_of meaning h;
         last = s.passes.begun.0;
-        next = inr (line, rest, meaning, refl, record { means = means; front = part_is_front meaning h; allowed = s.passes.begun.1 }, ends);
+        counted = s.passes.counts;
+        next = inr (line, rest, meaning, refl, record { means = means; front = part_is_front meaning h; allowed = s.passes.begun.1; counts = s.passes.asked }, ends);
         wrote = part_written meaning h;
         paid = both_paid at.sum.cost s.passes.begun.0 before.counters (told_of old sink).counters (told_of new after).counters at.paid s.passes.begun.2;
-        placed = few_of at.sum before (told_of new after) (n + at.dropped) bound
-            (places_few_part at.sum.queries at.dropped old.model new.model before.places old.places new.places n (omega (arith, session.few)) few at.placed s.passes.placed);
+        placed = few_of (at.sum.counted || s.passes.counts) at.sum before (told_of new after) (n + at.dropped) bound
+            (places_few_part at.sum.counted s.passes.counts at.sum.queries at.dropped old.model new.model before.places old.places new.places n (omega (arith, session.few)) few at.placed s.passes.placed);
       }
 
   -- a failure of the sink may stop it anywhere
@@ -217,11 +227,12 @@ module _ (lines left rest : List (List ℕ)) (line : List ℕ) (number : ℕ) (r
         ran = at.ran;
         part = [];
         last = no_steps;
-        next = inl (refl, refl, refl, (λ no. absurd no));
+        counted = false;
+        next = inl (refl, refl, refl, refl, (λ no. absurd no));
         wrote = subst (λ (l : List ℕ). Appends before.written sink.written l) (sym (append-nil at.sum.output)) at.wrote;
         paid = both_paid at.sum.cost no_steps before.counters (told_of old sink).counters (told_of old sink).counters at.paid (none_paid (told_of old sink).counters);
-        placed = few_of at.sum before (told_of old sink) (256 + pairs_of old.model + at.dropped) (omega (arith, at.grown))
-            (places_few at.sum.queries at.dropped old.model before.places old.places (256 + pairs_of old.model) session session.few at.placed);
+        placed = subst (λ (b : Bool). PlacesFew b at.sum before (told_of old sink)) (sym (or_false at.sum.counted)) (few_of at.sum.counted at.sum before (told_of old sink) (256 + pairs_of old.model + at.dropped) (omega (arith, at.grown))
+            (places_few at.sum.counted at.sum.queries at.dropped old.model before.places old.places (256 + pairs_of old.model) session session.few at.placed));
       }
   stops_wanting wants later session stands (inr (meaning, means, s)) = by (s.want refl)
     where
@@ -240,7 +251,7 @@ ends lines left number refused st before now none is at =
       refused_is = at.refused_is;
       wrote = at.wrote;
       paid = at.paid;
-      placed = few_of at.sum before now (256 + pairs_of st + at.dropped) (omega (arith, at.grown)) (places_few at.sum.queries at.dropped st before.places now.places (256 + pairs_of st) is is.few at.placed);
+      placed = few_of at.sum.counted at.sum before now (256 + pairs_of st + at.dropped) (omega (arith, at.grown)) (places_few at.sum.counted at.sum.queries at.dropped st before.places now.places (256 + pairs_of st) is is.few at.placed);
     }
 
 -- a run that ended before its first line
@@ -254,7 +265,8 @@ none_ran Ends lines before ends = record {
   ran = (refl, refl);
   part = [];
   last = no_steps;
-  next = inl (refl, refl, refl, ends);
+  counted = false;
+  next = inl (refl, refl, refl, refl, ends);
   wrote = Appends-nil before.written;
   paid = none_paid before.counters;
   placed = omega arith;

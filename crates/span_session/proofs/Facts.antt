@@ -1,6 +1,6 @@
 -- The lemmas that the proofs of this crate's functions use, each re-exported from the file that proves it.
 pub use Rattle.query_commands.proofs.AllListingLemmas.{well_formed}
-pub use Rattle.session_state.proofs.BookLemmas.{covered-within}
+pub use Rattle.session_state.proofs.BookLemmas.{tables-within}
 pub use Rattle.session_state.proofs.EndsLemmas.{answer_ends, is_answering, line_ends, quiet_done, stays_stopped, still_ends}
 pub use Rattle.session_state.proofs.Written.{passed}
 pub use Rattle.span_session.proofs.Lengths.{short_of}

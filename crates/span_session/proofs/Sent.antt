@@ -40,6 +40,8 @@ module _ (number : ℕ) (meaning : Option Command) (old new : LineState) (before
     more_pairs = p.more_pairs;
     calls = p.calls;
     begun = p.begun;
+    counts = p.counts;
+    asked = p.asked;
     placed = p.placed;
     shelf_later = p.shelf_later;
     later = omega (arith, later, p.later);

@@ -26,8 +26,11 @@ node_of-parts (Pair l r) = refl
 abbrev node_code : Coded Node
 node_code = code_by (ℕ ⊎ (NodeId × NodeId)) (coded⊎ coded_ℕ (coded× id_code id_code)) parts_of node_of node_of-parts
 
--- it is encoded as its four parts
+abbrev numbers_code : Coded (Named ℕ)
+numbers_code = coded_list (coded× (coded_list coded_ℕ) coded_ℕ)
+
+-- it is encoded as its five parts
 abbrev pub model_code : Coded SessionModel
-model_code = code_by (State × (List Node × (List (Option NodeId) × Named ℕ)))
-    (coded× state_code (coded× (coded_list node_code) (coded× (coded_list (coded_option id_code)) (coded_list (coded× (coded_list coded_ℕ) coded_ℕ)))))
-    (λ s. (s.state, (s.store, (s.roots, s.covered)))) (λ p. record { state = p.0; store = p.1.0; roots = p.1.1.0; covered = p.1.1.1 }) (λ _. refl)
+model_code = code_by (State × (List Node × (List (Option NodeId) × (Named ℕ × Named ℕ))))
+    (coded× state_code (coded× (coded_list node_code) (coded× (coded_list (coded_option id_code)) (coded× numbers_code numbers_code))))
+    (λ s. (s.state, (s.store, (s.roots, (s.covered, s.counted))))) (λ p. record { state = p.0; store = p.1.0; roots = p.1.1.0; covered = p.1.1.1.0; counted = p.1.1.1.1 }) (λ _. refl)

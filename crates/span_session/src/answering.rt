@@ -6,7 +6,7 @@ ghost use Rattle.session_state.specs.CommandState.{at};
 ghost use Rattle.session_state.specs.Answers.{Answers, IsAnswering, IsWellFormed, Stays};
 
 use edge_io::Shelf;
-use query_commands::{Recipe, Replacing, ask, register, replace, unquery};
+use query_commands::{Recipe, Replacing, ask, count, rank, register, replace, unquery};
 use script_syntax::Command;
 use session_state::{Answer, Context, SessionState};
 use span_language::Stop;
@@ -81,6 +81,10 @@ pub fn answer<R: Threads + Sync, F: Shelf, G: Gate, P: Ledger, T: Ledger, L: Led
         Command::ProjectQuery { name, source, keep } => {
             register(session, number, name, Recipe::Project { source, keep })
         }
+        Command::Count { query, doc } => count(context, session, query, doc, places),
+        Command::Rank { query, doc, tuple } => {
+            rank(context, session, query, doc, tuple, places, looks)
+        }
         Command::Nonempty { query, name } => {
             ask(context, session, query, name, None, places, looks)
         }
@@ -120,6 +124,7 @@ pub fn answer<R: Threads + Sync, F: Shelf, G: Gate, P: Ledger, T: Ledger, L: Led
             compact(session, number)
         }
         Command::Nothing | Command::Names | Command::List { .. } | Command::ListAll { .. } => {
+            // Their replies are no single values.
             unreachable!()
         }
     }

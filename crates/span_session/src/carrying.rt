@@ -94,18 +94,16 @@ fn carry<R: Threads + Sync, K: Sink, F: Shelf, G: Gate, P: Ledger, T: Ledger, L:
         Command::List {
             query,
             name,
-            after,
+            start,
             limit,
-        } => list(
-            context,
-            session,
-            query,
-            name,
-            Page { after, limit },
-            out,
-            places,
-            looks,
-        ),
+        } => {
+            let page = Page {
+                query,
+                start,
+                limit,
+            };
+            list(context, session, name, page, out, places, looks)
+        }
         Command::ListAll { query, limit } => {
             session.settle();
             list_all(context, session, query, limit, out, places)

@@ -45,6 +45,7 @@ impl Session {
         ensures state { result.state ≡ nothing }
         ensures store { result.store ≡ [] }
         ensures covered { result.covered ≡ [] }
+        ensures counted { result.counted ≡ [] }
         ensures model { IsSessionModel result }
     {
         Session {

@@ -1,5 +1,5 @@
 -- Executing the stored bytes of a line, at most 65,537, has the effect of executing the line.
-use Rattle.std.proofs.Common.{◌≡◌, ℕ, ◌+◌, Bool, List, [], ◌∷◌, ◌++◌, take, refl, sym, ◌∙◌, ap, subst, arith, inl, inr}
+use Rattle.std.proofs.Common.{◌≡◌, ℕ, ◌+◌, Bool, List, [], ◌∷◌, ◌++◌, false, take, refl, sym, ◌∙◌, ap, subst, arith, inl, inr}
 use Rattle.std.specs.Prelude.{◌||◌, Option, Some, None}
 use Rattle.std.specs.Io.KnownBytes.{Appends}
 use Rattle.std.proofs.lemmas.List.{append-nil, take_all}
@@ -9,14 +9,14 @@ use Rattle.script_syntax.specs.declared.form.Command.{Command}
 use Rattle.span_language.specs.State.{world}
 use Rattle.span_language.specs.Allowance.{no_steps}
 use Rattle.span_language.specs.Means.{Means}
-use Rattle.span_language.specs.Runs.{Ending, Outside, RunsFront, is_refused}
+use Rattle.span_language.specs.Runs.{Ending, Outside, PlacesFew, RunsFront, is_refused}
 use Rattle.span_language.specs.declared.told.Told.{Told}
 use Rattle.span_language.specs.declared.told.Stop.{Stop}
 use Rattle.span_language.specs.declared.told.Stop.TheVariants as stop
 use Rattle.session_state.specs.SessionState.{SessionModel, IsSessionModel}
 use Rattle.session_state.specs.LineState.{LineState}
 use Rattle.session_state.specs.Carried.{IsDone, IsStopped, Outlet}
-use Rattle.span_run.proofs.RunsLemmas.{IsAt, told_of, goes_on, stops_anywhere, stops_in_file, stops_wanting, ends}
+use Rattle.span_run.proofs.RunsLemmas.{IsAt, told_of, goes_on, or_false, stops_anywhere, stops_in_file, stops_wanting, ends}
 use Rattle.span_talk.specs.Progress.{Does, IsHalted, Place, StandsAt, StopsIn, place}
 use Rattle.span_talk.proofs.Cuts.{short_take}
 
@@ -54,10 +54,11 @@ stopped_between Ends lines left before p session ends_so at =
       ran = all.ran;
       part = [];
       last = no_steps;
-      next = inl (refl, refl, refl, ends_so);
+      counted = false;
+      next = inl (refl, refl, refl, refl, ends_so);
       wrote = subst (λ (l : List ℕ). Appends before.written p.now.written l) (sym (append-nil all.sum.output)) all.wrote;
       paid = record { looks = omega (arith, all.paid.looks); pairs = omega (arith, all.paid.pairs) };
-      placed = all.placed;
+      placed = subst (λ (b : Bool). PlacesFew b all.sum before p.now) (sym (or_false all.sum.counted)) all.placed;
     }
 
 module _ (kept : List ℕ) (number : ℕ) (old : LineState) (sink : Outlet) (new : LineState) (after : Outlet) where

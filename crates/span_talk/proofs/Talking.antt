@@ -16,8 +16,8 @@ use Rattle.span_talk.proofs.Cuts.{ended_with, ended_without, kept_goes_on, line_
 use Rattle.span_talk.proofs.Doing.{stopped_between}
 use Rattle.span_talk.proofs.Known.{of_sent}
 
-pub begins : (before : Outside) (st : SessionModel) (kept : List ℕ) → kept ≡ [] → st.state ≡ nothing → st.covered ≡ [] → st.store ≡ [] → IsTalking [] before kept (place 1 false st before)
-begins before st kept none state covered store = record { done = []; begun = []; cut = nothing_cut; kept_is = none; at = at_start [] before st state covered store }
+pub begins : (before : Outside) (st : SessionModel) (kept : List ℕ) → kept ≡ [] → st.state ≡ nothing → st.covered ≡ [] → st.counted ≡ [] → st.store ≡ [] → IsTalking [] before kept (place 1 false st before)
+begins before st kept none state covered counted store = record { done = []; begun = []; cut = nothing_cut; kept_is = none; at = at_start [] before st state covered counted store }
 
 module _ (bytes : List ℕ) (before : Outside) (kept : List ℕ) (p : Place) (t : IsTalking bytes before kept p) where
   module _ (part kept_after : List ℕ) (plain : All (λ b. b ≢ 10) part) (is : kept_after ≡ take 65537 (kept ++ part)) where

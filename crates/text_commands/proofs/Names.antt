@@ -8,7 +8,7 @@ pub use Rattle.edit_expr.specs.Eval.{Outcome, eval, greatest, operations}
 pub use Rattle.edit_expr.specs.Expressions.{ExprReads}
 pub use Rattle.edit_expr.specs.declared.expr.Expr.{Expr}
 pub use Rattle.query_book.specs.Book.{queries_of}
-pub use Rattle.query_book.specs.Serving.{Serves, covered_of, sum_of}
+pub use Rattle.query_book.specs.Serving.{Serves, counted_of, covered_of, sum_of}
 pub use Rattle.query_book.specs.declared.entry.Entry.{Entry}
 pub use Rattle.report_text.specs.Reply.{refusal_text, saved_text}
 pub use Rattle.report_text.specs.declared.refusal.Refusal.{Refusal}
@@ -29,7 +29,7 @@ pub use Rattle.slp_model.specs.Tree.{root_text}
 pub use Rattle.slp_model.specs.declared.Node.{Node}
 pub use Rattle.slp_model.specs.declared.NodeId.{NodeId}
 pub use Rattle.span_language.specs.Allowance.{Counters, IsAllowed, IsPaid, PaysFor, PaysForPart, counters, edit_limit, load_limit, no_steps}
-pub use Rattle.span_language.specs.Counts.{Compacts, Places, Registers}
+pub use Rattle.span_language.specs.Counts.{AsksForCounts, Compacts, Places, PlacesOfBoth, Registers}
 pub use Rattle.span_language.specs.Replies.{entry_text, names_text, ok_text, shown_range}
 pub use Rattle.span_language.specs.State.{Documents, Named, State, World, put, taken_out, value_of, with_documents, with_versions, world}
 pub use Rattle.span_language.specs.Step.{Carries, Does, IsOfFile, IsOversized, IsPut, IsRefused, IsWithin, LoadsFile, load_size, open_size}

@@ -1,6 +1,7 @@
 -- A file that is put in pieces.
-use Rattle.text_commands.proofs.Names.{Accepted, AllowsWrites, Answers, arith, at, Carries, Compacts, Files, Grows-none, IsConsistent, IsPut, IsSome, length, List, load_size, no_steps, None, Option}
-use Rattle.text_commands.proofs.Names.{plain, refl, Registers, Result, SessionState, Some, state_of, Stays, subst, sym, take_all, Told, value_of, world, [], ℕ, ◌+◌, ◌-◌, ◌≡◌, ◌≤◌}
+use Rattle.text_commands.proofs.Names.{[], Accepted, AllowsWrites, Answers, arith, AsksForCounts, at, Carries, Compacts, false, Files, Grows-none}
+use Rattle.text_commands.proofs.Names.{IsConsistent, IsPut, IsSome, length, List, load_size, no_steps, None, Option, plain, put, refl, Registers, Result}
+use Rattle.text_commands.proofs.Names.{SessionState, Some, state_of, Stays, subst, sym, take_all, Told, value_of, world, ℕ, ◌+◌, ◌-◌, ◌≡◌, ◌≤◌}
 use Rattle.std.proofs.Common.{IfErr}
 use Rattle.edge_io.specs.Causes.{Rose}
 use Rattle.edge_io.specs.Files.{IsBegun}
@@ -13,10 +14,10 @@ use Rattle.span_language.specs.Step.{WritesFile}
 use Rattle.span_language.specs.declared.told.Stop.{Stop}
 use Rattle.span_language.specs.declared.told.Stop.TheVariants as stop
 use Rattle.span_types.specs.Ranges.{content}
-use Rattle.query_book.specs.Serving.{covered_of}
+use Rattle.session_state.specs.SessionState.{tables_of}
 use Rattle.session_state.proofs.Goes.{grown_goes, grown_stays, never, none_tallied}
 use Rattle.session_state.proofs.PaidLemmas.{none_paid, not_begun}
-use Rattle.session_state.proofs.PlacesLemmas.{none_placed}
+use Rattle.session_state.proofs.PlacesLemmas.{none_placed, not_asked}
 
 -- what was begun has a name and bytes
 pub some_begun : (begun : Option (Option (List ℕ × List ℕ))) → IsSome begun → (name : List ℕ) × (so_far : List ℕ) × IsBegun begun name so_far
@@ -45,8 +46,8 @@ written_answers h number name file text answer files after faults more looks pai
       sound = sound;
       carries = subst (λ (t : Told). Carries w number command t answer.line.items (world (state_of h) after)) (sym accepted) wrote;
       paid = (no_steps, refl, none_paid looks pairs pairs refl);
-      tallies = none_tallied (Registers command) (Compacts command) answer.told (line_state (at h files faults looks pairs places)) (line_state (at h after more looks pairs places)) (never (Registers command) (λ no. no) answer.told) (never (Compacts command) (λ no. no) answer.told)
-          (omega arith) (omega arith) (none_placed (length h.store) (covered_of h.book) places);
+      tallies = none_tallied (Registers command) (Compacts command) (AsksForCounts w command) false answer.told (line_state (at h files faults looks pairs places)) (line_state (at h after more looks pairs places)) (never (Registers command) (λ no. no) answer.told) (never (Compacts command) (λ no. no) answer.told)
+          (omega arith) (omega arith) not_asked (none_placed (length h.store) (tables_of h.book) places);
     }
 
 -- the files are unchanged

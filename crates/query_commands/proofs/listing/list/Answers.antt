@@ -1,34 +1,54 @@
-use Rattle.query_commands.proofs.Names.{ap, inl, refl, state_of, sym, text_of, world, ◌∙◌}
+use Rattle.query_commands.proofs.Names.{ap, inl, length, List, Node, refl, state_of, subst, sym, text_of, world, ℕ, ◌∙◌}
+use Rattle.query_book.specs.Serving.{HasCounts}
 use Rattle.doc_book.specs.Docs as book
+use Rattle.span_types.specs.Query.{query_of}
 use Rattle.script_syntax.specs.declared.form.Command.TheVariants as form
-use Rattle.query_commands.proofs.Facts.{document_is, document_lacks, list_free, listed_ends, live_root, none_of_err, passed, some_of_ok, unplaced_stops}
+use Rattle.query_commands.proofs.Facts.{document_in, document_is, document_lacks, grown_stops, list_free, list_missing_ends, listed_ends, live_in, none_of_err, passed, some_of_ok}
 use Rattle.query_commands.proofs.listing.list.Goals as goal
 
-pub list_root-requires : goal.list_root-requires
-list_root-requires g c = record {
-  covers = c.in_ok-grow_all-in-Ok.ensures.all;
-  live = live_root c.args.session.now.store c.args.session.now.docs c.bytes.result.now c.in-Ok.root c.requires.live (some_of_ok _ _ _ c.in-Ok.ensures);
-}
+pub list_page-requires-clause-live : goal.list_page-requires-clause-live
+list_page-requires-clause-live g c = live_in c.in-Ok-ready.ready.nodes c.args.session.now c.bytes.result.now c.in-Ok.root c.in-Ok-ready.ensures.store c.requires.session (some_of_ok _ _ _ c.in-Ok.ensures)
 
-pub returns-in_err-grow_all-in-Ok-clause-ends : goal.returns-in_err-grow_all-in-Ok-clause-ends
-returns-in_err-grow_all-in-Ok-clause-ends g c = λ files faults pairs.
-    let grown = c.grow_all.ensures in
-    passed c.from_residual.result _ _ _ c.from_residual.ensures.1
-    (unplaced_stops c.args.session.now c.grow_all.new.self c.args.context.number (form.List c.args.query c.args.name c.args.page.after c.args.page.limit) files faults c.args.looks.now pairs c.args.places.now c.grow_all.new.places _ c.requires grown.serves grown.queries grown.some grown.steps)
-
-pub returns-in_ok-grow_all-in-Ok-clause-ends : goal.returns-in_ok-grow_all-in-Ok-clause-ends
-returns-in_ok-grow_all-in-Ok-clause-ends g c = λ files faults pairs.
+pub returns-in_err-grow_for-in-Ok-clause-ends : goal.returns-in_err-grow_for-in-Ok-clause-ends
+returns-in_err-grow_for-in-Ok-clause-ends g c = λ files faults pairs.
     let h = c.args.session.now in
-    let grown = c.grow_all.ensures in
-    let l = c.list_root in
+    let page = c.args.page in
     let there = document_is h.store h.docs c.args.name c.in-Ok.root (ap (book.root_of h.docs) (sym c.bytes.ensures.value) ∙ some_of_ok _ _ _ c.in-Ok.ensures) in
-    let tells = l.ensures.tells in
-    listed_ends h c.grow_all.new.self c.args.context.number c.args.query c.args.name (text_of h.store c.in-Ok.root) c.args.page.after c.args.page.limit files faults c.args.looks.now l.new.looks pairs c.args.places.now c.grow_all.new.places
-    _ _ l.result c.requires grown.serves grown.queries grown.some grown.steps tells.0 there tells.1 tells.2 l.ensures.want
+    passed c.from_residual.result _ _ _ c.from_residual.ensures.1
+    (grown_stops h c.grow_for.new.book c.args.context.number page.query c.args.name (text_of h.store c.in-Ok.root) page.start page.limit files faults c.args.looks.now pairs c.args.places.now c.grow_for.new.places _ c.requires.session c.grow_for.ensures.grown there)
 
-pub returns-in-Err-NoSuchDocument-clause-ends : goal.returns-in-Err-NoSuchDocument-clause-ends
-returns-in-Err-NoSuchDocument-clause-ends g c = λ files faults pairs.
+pub returns-in-Ok-ready-clause-ends : goal.returns-in-Ok-ready-clause-ends
+returns-in-Ok-ready-clause-ends g c = λ files faults pairs.
     let h = c.args.session.now in
+    let page = c.args.page in
+    let ready = c.in-Ok-ready.ready in
+    let l = c.list_page in
+    let tells = l.ensures.tells in
+    let there = document_in ready.nodes h c.bytes.result.now c.args.name c.in-Ok.root c.in-Ok-ready.ensures.store c.bytes.ensures.value (some_of_ok _ _ _ c.in-Ok.ensures) in
+    listed_ends h c.grow_for.new.book c.args.context.number page.query c.args.name (text_of ready.nodes c.in-Ok.root) page.start page.limit files faults c.args.looks.now pairs c.args.places.now c.grow_for.new.places
+    _ c.requires.session c.grow_for.ensures.grown there _ l.result (query_of ready.tree) c.bytes-in-Ok.result.now l.new.looks tells.0 c.bytes-in-Ok.ensures.value c.in-Ok-ready.ensures.query tells.1 tells.2 l.ensures.want
+
+pub returns-in-Ok-clause-ends : goal.returns-in-Ok-clause-ends
+returns-in-Ok-clause-ends g c = λ files faults pairs.
+    let h = c.args.session.now in
+    let page = c.args.page in
+    let s = c.send_rejection in
+    let there = document_is h.store h.docs c.args.name c.in-Ok.root (ap (book.root_of h.docs) (sym c.bytes.ensures.value) ∙ some_of_ok _ _ _ c.in-Ok.ensures) in
+    list_missing_ends h c.grow_for.new.book c.args.context.number page.query c.args.name (text_of h.store c.in-Ok.root) page.start page.limit files faults c.args.looks.now pairs c.args.places.now c.grow_for.new.places
+    _ c.requires.session c.grow_for.ensures.grown there _ s.result c.bytes-in-Ok.result.now c.bytes-in-Ok.ensures.value c.in-Err.ensures.missing.none s.ensures.told s.ensures.wrote s.ensures.want
+
+pub returns-clause-ends : goal.returns-clause-ends
+returns-clause-ends g c = λ files faults pairs.
+    let h = c.args.session.now in
+    let page = c.args.page in
     let missing = document_lacks h.store h.docs c.args.name (ap (book.root_of h.docs) (sym c.bytes.ensures.value) ∙ none_of_err _ _ _ c.in-Err-NoSuchDocument.ensures) in
-    c.write_rejection.ensures (form.List c.args.query c.args.name c.args.page.after c.args.page.limit) files faults c.args.looks.now pairs c.args.places.now
-    (record { session = c.requires; refused = inl (inl (missing, refl)); free = list_free (world (state_of h) files) c.args.query c.args.name c.args.page.after c.args.page.limit missing })
+    c.write_rejection.ensures (form.List page.query c.args.name page.start page.limit) files faults c.args.looks.now pairs c.args.places.now
+    (record { session = c.requires.session; refused = inl (inl (missing, refl)); free = list_free (world (state_of h) files) page.query c.args.name page.start page.limit missing })
+
+pub list_page-requires-clause-counts : goal.list_page-requires-clause-counts
+list_page-requires-clause-counts g c = λ numbered.
+    let nodes = c.in-Ok-ready.ready.nodes in
+    let counts = c.in_ok-grow_for-in-Ok.ensures.counts numbered in
+    c.in-Ok-ready.ensures.counted (length nodes)
+    (subst (λ (ns : List Node). HasCounts (length ns) c.grow_for.new.book c.bytes-in-Ok.result.now) (sym c.in-Ok-ready.ensures.store)
+    (subst (λ (n : List ℕ). HasCounts (length c.args.session.now.store) c.grow_for.new.book n) (sym c.bytes-in-Ok.ensures.value) counts))

@@ -1,6 +1,7 @@
-use Rattle.query_commands.proofs.Names.{ap, covered_of, Entry, IsSome, length, List, queries_of, refl, state_of, subst, sym, taken_out, value_of, ℕ, ◌∙◌}
+use Rattle.query_commands.proofs.Names.{ap, counted_of, covered_of, Entry, IsSome, length, List, queries_of, refl, state_of, subst, sym, taken_out, value_of, ℕ, ◌∙◌}
+use Rattle.session_state.specs.SessionState.{tables_of}
 use Rattle.script_syntax.specs.declared.form.Command.TheVariants as form
-use Rattle.query_commands.proofs.Facts.{booked_answers, covered-within, never, passed_on, stays, take_placed, unquery_carries}
+use Rattle.query_commands.proofs.Facts.{booked_answers, never, passed_on, stays, tables-within, take_placed, unquery_carries}
 use Rattle.query_commands.proofs.queries.unquery.Goals as goal
 
 pub returns-in_err-line-clause-stopped : goal.returns-in_err-line-clause-stopped
@@ -12,7 +13,8 @@ returns-in-Ok-clause-done c = λ files faults looks pairs places.
     let told = c.accepted.result.told in
     booked_answers h c.remove.new.self c.args.number (form.Unquery c.args.name) c.accepted.result files faults looks pairs places 0 c.requires (c.remove.ensures.serves h.store c.requires.serves) refl
     (never _ (λ no. no) told) (never _ (λ no. no) told)
-    (take_placed (length h.store) places (covered_of h.book) (covered_of c.remove.new.self) c.args.name (c.remove.ensures.covered ∙ ap (λ (n : List ℕ). taken_out (covered_of h.book) n) c.bytes.ensures.value) (covered-within h.store h.book c.requires.serves))
+    (take_placed (length h.store) places (tables_of h.book) (tables_of c.remove.new.self) c.args.name (c.remove.ensures.covered ∙ ap (λ (n : List ℕ). taken_out (covered_of h.book) n) c.bytes.ensures.value)
+    (c.remove.ensures.counted ∙ ap (λ (n : List ℕ). taken_out (counted_of h.book) n) c.bytes.ensures.value) (tables-within h.store h.book c.requires.serves))
     (unquery_carries (state_of h) (queries_of c.remove.new.self) c.args.number c.args.name told c.accepted.result.line.items files
     (subst (λ (n : List ℕ). IsSome (value_of (queries_of h.book) n)) c.bytes.ensures.value c.in-Ok.ensures.ok) (c.remove.ensures.rest ∙ ap (λ (n : List ℕ). taken_out (queries_of h.book) n) c.bytes.ensures.value)
     c.accepted.ensures.0 (ap (λ v. v.items) c.accepted.ensures.1 ∙ c.in_ok-line.ensures))

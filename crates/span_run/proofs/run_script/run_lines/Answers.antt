@@ -59,7 +59,7 @@ loop-rest-preserved g c =
 
 pub loop-rest-init : goal.loop-rest-init
 loop-rest-init g c = record {
-  at = at_start (lines_of c.args.script.now) (outside (g.K.Sink.written c.args.out.now) (g.F.Shelf.files c.args.shelf.now) c.args.looks.now c.args.pairs.now c.args.places.now) c.new-session.result c.new-session.ensures.state c.new-session.ensures.covered c.new-session.ensures.store;
+  at = at_start (lines_of c.args.script.now) (outside (g.K.Sink.written c.args.out.now) (g.F.Shelf.files c.args.shelf.now) c.args.looks.now c.args.pairs.now c.args.places.now) c.new-session.result c.new-session.ensures.state c.new-session.ensures.covered c.new-session.ensures.counted c.new-session.ensures.store;
   model = c.new-session.ensures.model;
   few = omega arith;
   faults = refl;

@@ -15,6 +15,9 @@ returns-in-Nothing-clause-ends g c =
 pub reply-requires-clause-answering : goal.reply-requires-clause-answering
 reply-requires-clause-answering g c = let answering = is_answering c.args.command c.in_default.not-Nothing c.in_default.not-Names c.in_default.not-List c.in_default.not-ListAll in search rules
 
+pub list-requires-clause-start : goal.list-requires-clause-start
+list-requires-clause-start g c = let start = subst IsWellFormed c.in-List.is c.requires.well_formed in search rules
+
 pub list_all-requires-clause-some : goal.list_all-requires-clause-some
 list_all-requires-clause-some g c = let some = (subst IsWellFormed c.in-ListAll.is c.requires.well_formed).0 in search rules
 
@@ -30,12 +33,12 @@ returns-in-Names-clause-unsent g c = shelf_never _ 0 form.Names _ _ _ _ c.names.
 pub returns-in-List-clause-quiet : goal.returns-in-List-clause-quiet
 returns-in-List-clause-quiet g c =
     let l = c.in-List in
-    quiet_never _ c.args.context.number (form.List l.query l.name l.after l.limit) _ _ _ _ c.list.result (λ no. let bad : ⊥ = cc no in bad) (c.list.ensures.ends None 0 0)
+    quiet_never _ c.args.context.number (form.List l.query l.name l.start l.limit) _ _ _ _ c.list.result (λ no. let bad : ⊥ = cc no in bad) (c.list.ensures.ends None 0 0)
 
 pub returns-in-List-clause-unsent : goal.returns-in-List-clause-unsent
 returns-in-List-clause-unsent g c =
     let l = c.in-List in
-    shelf_never _ c.args.context.number (form.List l.query l.name l.after l.limit) _ _ _ _ c.list.result (λ no. no) (c.list.ensures.ends None 0 0)
+    shelf_never _ c.args.context.number (form.List l.query l.name l.start l.limit) _ _ _ _ c.list.result (λ no. no) (c.list.ensures.ends None 0 0)
 
 pub returns-in-ListAll-clause-quiet : goal.returns-in-ListAll-clause-quiet
 returns-in-ListAll-clause-quiet g c =

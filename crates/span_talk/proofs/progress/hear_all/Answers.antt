@@ -20,7 +20,7 @@ pieces-init g c =
     let before = outside (g.K.Sink.written a.out.now) (g.F.Shelf.files a.shelf.now) a.looks.now a.pairs.now a.places.now in
     let s = c.new-session in
     record {
-      so_far = ([], Consumes-nil (t.left a.client.now), refl, begins before s.result c.new-kept.result.items c.new-kept.ensures.items s.ensures.state s.ensures.covered s.ensures.store);
+      so_far = ([], Consumes-nil (t.left a.client.now), refl, begins before s.result c.new-kept.result.items c.new-kept.ensures.items s.ensures.state s.ensures.covered s.ensures.counted s.ensures.store);
       model = s.ensures.model;
       next = omega arith;
       kept = omega (arith, ap length c.new-kept.ensures.items);

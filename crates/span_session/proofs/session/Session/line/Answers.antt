@@ -1,5 +1,5 @@
 use Rattle.span_session.proofs.Names.{IfErr, IfOk, IsDone, IsStopped, outlet, seen, SessionModel, model_of, subst}
-use Rattle.span_session.proofs.Facts.{covered-within}
+use Rattle.span_session.proofs.Facts.{tables-within}
 use Rattle.span_session.proofs.session.Session.line.Goals as goal
 
 pub returns-clause-done : goal.returns-clause-done
@@ -20,4 +20,5 @@ returns-clause-stopped g c =
 
 pub returns-clause-model : goal.returns-clause-model
 returns-clause-model g c =
-    record { few = c.count.ensures.few; within = covered-within c.carry_line-told.new.session.store c.carry_line-told.new.session.book c.carry_line-told.ensures.session.serves }
+    let within = tables-within c.carry_line-told.new.session.store c.carry_line-told.new.session.book c.carry_line-told.ensures.session.serves in
+    record { few = c.count.ensures.few; within = within.covered; counts_within = within.counted }

@@ -1,0 +1,56 @@
+//! The computation of tables.
+ghost use Rattle.std.specs.Prelude.{◌≡◌, false, length, None, OnErr, OnOk};
+ghost use Rattle.query_book.specs.Book.{queries_of};
+ghost use Rattle.query_book.specs.Named.{value_of};
+ghost use Rattle.query_book.specs.Serving.{Covers, HasCounts, Serves};
+ghost use Rattle.session_state.specs.Tables.{GrowsCounts, GrowsTables};
+
+use node_store::Store;
+use query_book::{BookRefusal, QueryBook};
+use session_state::Lent;
+use span_types::{Name, NoMemory, Steps};
+use std::alloc::Global;
+use std::sync::ledger::Ledger;
+use std::thread::Threads;
+use work_gate::Gate;
+
+/// Computes the missing tables, so that each node of the store has a table in each query. If allocation fails, some
+/// queries may have all tables, and the others have those that they had.
+pub fn grow<R: Threads + Sync, G: Gate, T: Ledger>(
+    lent: Lent<'_, R, G>,
+    alloc: Global,
+    store: &Store,
+    book: &mut QueryBook,
+    places: &mut Steps<T>,
+) -> Result<(), NoMemory>
+    requires { Serves store.now book.old }
+    ensures all { OnOk result (Covers store.now book.new) }
+    ensures grown { GrowsTables false store.now book.old book.new places.old places.new }
+{
+    book.grow_all(lent.rt, alloc, store, lent.workers, lent.gate, places)
+}
+
+/// Computes the missing counting tables of the query with this name, if there is one, so that each node of the store has
+/// one. If allocation fails, the query has the counting tables that it had.
+pub fn grow_counts<R: Threads + Sync, G: Gate, T: Ledger>(
+    lent: Lent<'_, R, G>,
+    alloc: Global,
+    query: &Name,
+    store: &Store,
+    book: &mut QueryBook,
+    places: &mut Steps<T>,
+) -> Result<(), NoMemory>
+    requires { Serves store.now book.old }
+    ensures counts { OnOk result (HasCounts (length store.now) book.new query.now) }
+    ensures covers { Covers store.now book.old → Covers store.now book.new }
+    ensures grown { GrowsCounts store.now book.old book.new places.old places.new }
+    ensures missing { value_of (queries_of book.old) query.now ≡ None → places.new ≡ places.old }
+    ensures err { OnErr result (places.new ≡ places.old) }
+{
+    let name = query.bytes();
+    match book.grow_counts(lent.rt, alloc, name, store, lent.workers, lent.gate, places) {
+        Ok(()) => Ok(()),
+        Err(BookRefusal::NoSuchQuery) => Ok(()),
+        Err(BookRefusal::NoMemory) => Err(NoMemory),
+    }
+}
