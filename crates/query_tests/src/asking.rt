@@ -109,7 +109,7 @@ fn has_the_second<'a, L: Ledger>(
 }
 
 /// Whether the tuple has as many variables as the query with this name.
-fn fits(book: &QueryBook, name: &[u8], tuple: &Tuple) -> bool
+pub fn fits(book: &QueryBook, name: &[u8], tuple: &Tuple) -> bool
     ensures { IsTrue result → HasVariablesOf (queries_of book.now) name.now tuple.now }
 {
     match book.vars(name) {

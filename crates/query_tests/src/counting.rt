@@ -1,17 +1,28 @@
-//! How many answers a formula has on a text, by counting tables.
-ghost use Rattle.std.specs.Prelude.{◌≡◌, ◌<◌};
+//! How many answers a formula has on a text, the answers at positions, and ranks, by counting tables.
+ghost use Rattle.std.specs.Prelude.{◌≡◌, ◌<◌, ◌≤◌, length, IfOk};
+ghost use Rattle.state_tables.specs.Dictionary.{count_of};
+ghost use Rattle.span_enum.specs.Listing.{IsReady};
+ghost use Rattle.count_tables.specs.Number.{IsCounted};
 
 use crate::formulas::automaton_of;
+use crate::tables::grown;
 use count_tables::CountTables;
-use node_store::Store;
+use marker_dfa::Dfa;
+use node_store::{NodeId, Store};
 use pair_loader::load;
 use pair_memo::PairMemo;
 use path_counts::{Count, compose, of_byte};
-use span_types::{NoMemory, Steps};
+use span_enum::Answers;
+use span_types::{NoMemory, Span, Steps, Tuple, compare};
+use state_tables::Tables;
 use std::alloc::Global;
+use std::cmp::Ordering;
 use std::marker::Brand;
 use std::sync::ledger::{Blank, Ledger};
 use std::test::Fail;
+use std::thread::Threads;
+use table_grow::Memory;
+use work_gate::OpenGate;
 
 /// What is found of three pairs after two were noted, and how many entries there are.
 type Found = (Option<usize>, Option<usize>, Option<usize>, usize);
@@ -64,7 +75,8 @@ fn two_bytes_are_counted(rt: HostRuntime) -> Result<(), Fail> {
 }
 
 /// The number of answers, and how many distinct tables there are.
-fn counted<L: Ledger>(
+fn counted<R: Threads + Sync, L: Ledger>(
+    rt: &R,
     alloc: Global,
     blank: Blank,
     formula: &[u8],
@@ -82,26 +94,215 @@ fn counted<L: Ledger>(
     let mut store = Store::new(alloc);
     let root = load(alloc, &mut store, text, &mut steps)?;
     let mut counts = CountTables::new(alloc, &dfa)?;
-    counts.grow(alloc, &store, &dfa, &mut steps)?;
+    counts.grow(rt, alloc, &store, &dfa, 1, &OpenGate, &mut steps)?;
     Ok((counts.number(&store, &dfa, root), counts.distinct()))
 }
 
 /// A formula, a text, and the number of answers.
-const ROWS: [(&[u8], &[u8], u64); 7] = [
+const ROWS: [(&[u8], &[u8], u64); 9] = [
     (b".*$x{a.}.*", b"abracadabra", 4),
     (b"b", b"abracadabra", 0),
     (b".*", b"abracadabra", 1),
     (b".*$x{.*}.*", b"abc", 10),
     (b".*$x{.*}.*", b"", 1),
     (b".*$x{a}.*$y{a}.*", b"abracadabra", 10),
+    (b".*$x{.*}.*$y{.*}.*", b"abc", 35),
+    (b".*($x{b}|$y{a}).*", b"abracadabra", 7),
     (b"$x{a*}|$y{.*}", b"aa", 2),
 ];
 
 #[test]
 fn numbers_of_answers(rt: HostRuntime) -> Result<(), Fail> {
     for (formula, text, number) in ROWS {
-        let found = counted::<Brand>(rt.alloc(), Blank::new(1), formula, text)?;
+        let found = counted::<HostRuntime, Brand>(&rt, rt.alloc(), Blank::new(1), formula, text)?;
         assert!(rt; found.0 == number, "{number} {found:?}");
+    }
+    Ok(())
+}
+
+/// A text and an automaton, with the tables and the counting tables of the text's nodes.
+#[derive(Drop)]
+struct CountedText {
+    store: Store,
+    root: Option<NodeId>,
+    dfa: Dfa,
+    tables: Tables,
+    counts: CountTables,
+}
+
+fn counted_text<R: Threads + Sync, L: Ledger>(
+    rt: &R,
+    alloc: Global,
+    formula: &[u8],
+    text: &[u8],
+    steps: &mut Steps<L>,
+) -> Result<CountedText, NoMemory>
+    ensures ready { IfOk result (λ c. IsReady c.dfa c.store c.tables c.root) }
+    ensures covered { IfOk result (λ c. count_of c.tables ≡ length c.store) }
+    ensures counted { IfOk result (λ c. IsCounted c.dfa c.store c.counts c.root) }
+{
+    if text.len() > 100 {
+        return Err(NoMemory);
+    }
+    let dfa = automaton_of(alloc, formula)?;
+    let mut store = Store::new(alloc);
+    let root = load(alloc, &mut store, text, steps)?;
+    let mut memory = Memory::new(alloc, 100)?;
+    let tables = grown(rt, alloc, &store, &dfa, &mut memory, 1, &OpenGate, steps)?;
+    let mut counts = CountTables::new(alloc, &dfa)?;
+    counts.grow(rt, alloc, &store, &dfa, 1, &OpenGate, steps)?;
+    Ok(CountedText {
+        store,
+        root,
+        dfa,
+        tables,
+        counts,
+    })
+}
+
+/// The answers in mark order. More than a hundred are reported as an allocation failure.
+fn listed<L: Ledger>(
+    alloc: Global,
+    counted: &CountedText,
+    steps: &mut Steps<L>,
+) -> Result<Vec<Tuple>, NoMemory>
+    requires ready { IsReady counted.now.dfa counted.now.store counted.now.tables counted.now.root }
+    requires covered { count_of counted.now.tables ≡ length counted.now.store }
+{
+    let view = counted.tables.view(&counted.store);
+    let mut answers = Answers::start(alloc, view, &counted.dfa, counted.root, steps)?;
+    let mut list = Vec::new(alloc);
+    for _ in 0..100 {
+        match answers.next(steps) {
+            Some(tuple) => list.push(tuple)?,
+            None => return Ok(list),
+        }
+    }
+    Err(NoMemory)
+}
+
+/// Whether each answer of the list is at its position, and none behind them.
+fn are_placed<L: Ledger>(
+    alloc: Global,
+    counted: &CountedText,
+    list: &[Tuple],
+    steps: &mut Steps<L>,
+) -> Result<bool, NoMemory>
+    requires { IsCounted counted.now.dfa counted.now.store counted.now.counts counted.now.root }
+{
+    let (counts, store, dfa) = (&counted.counts, &counted.store, &counted.dfa);
+    for index in 0..100 {
+        let found = counts.nth(alloc, store, dfa, counted.root, index + 1, steps)?;
+        if found != list.get(index as usize).copied() {
+            return Ok(false);
+        }
+    }
+    Ok(true)
+}
+
+fn comes_before(first: &Tuple, second: &Tuple) -> bool {
+    first.count() == second.count() && compare(first, second) == Ordering::Less
+}
+
+/// How many tuples of the list come before this one.
+fn number_before(list: &[Tuple], tuple: &Tuple) -> u64 {
+    list.iter()
+        .filter(|other| comes_before(other, tuple))
+        .count() as u64
+}
+
+/// Whether the tuple's rank is the number of the answers before it.
+fn is_ranked<L: Ledger>(
+    alloc: Global,
+    counted: &CountedText,
+    list: &[Tuple],
+    tuple: &Tuple,
+    steps: &mut Steps<L>,
+) -> Result<bool, NoMemory>
+    requires { IsCounted counted.now.dfa counted.now.store counted.now.counts counted.now.root }
+{
+    if tuple.count() != counted.dfa.variables() {
+        return Ok(false);
+    }
+    let (counts, store, dfa) = (&counted.counts, &counted.store, &counted.dfa);
+    let rank = counts.rank(alloc, store, dfa, counted.root, tuple, steps)?;
+    Ok(rank == number_before(list, tuple))
+}
+
+/// Bounds of spans, of which some lie past the texts. `(0, 0)` stands for no span.
+const BOUNDS: [(u64, u64); 13] = [
+    (0, 0),
+    (1, 1),
+    (1, 2),
+    (1, 4),
+    (2, 2),
+    (2, 3),
+    (2, 9),
+    (3, 4),
+    (4, 4),
+    (4, 5),
+    (6, 8),
+    (8, 10),
+    (14, 14),
+];
+
+fn with_bounds(tuple: Tuple, v: u8, bounds: (u64, u64)) -> Tuple {
+    let (start, end) = bounds;
+    if v < tuple.count() && 1 <= start && start <= end && end < 100 {
+        tuple.with_span(v, Some(Span { start, end }))
+    } else {
+        tuple
+    }
+}
+
+/// Whether all tuples with these bounds for the first two variables have their ranks.
+fn are_ranked<L: Ledger>(
+    alloc: Global,
+    counted: &CountedText,
+    list: &[Tuple],
+    steps: &mut Steps<L>,
+) -> Result<bool, NoMemory>
+    requires { IsCounted counted.now.dfa counted.now.store counted.now.counts counted.now.root }
+{
+    let none = Tuple::none(counted.dfa.variables());
+    for index in 0..BOUNDS.len() * BOUNDS.len() {
+        let first = with_bounds(none, 0, BOUNDS[index % BOUNDS.len()]);
+        let tuple = with_bounds(first, 1, BOUNDS[index / BOUNDS.len()]);
+        if !is_ranked(alloc, counted, list, &tuple, steps)? {
+            return Ok(false);
+        }
+    }
+    Ok(true)
+}
+
+/// The number of answers, whether they are at their positions, and whether tuples have their ranks.
+fn agreement<R: Threads + Sync, L: Ledger>(
+    rt: &R,
+    alloc: Global,
+    blank: Blank,
+    formula: &[u8],
+    text: &[u8],
+) -> Result<(usize, bool, bool), NoMemory>
+    requires name { blank.name ≡ L.name }
+    requires parts { blank.parts ≡ L.parts }
+    requires some { 0 < L.parts }
+{
+    let mut steps = Steps::<L>::new(blank);
+    let counted = counted_text(rt, alloc, formula, text, &mut steps)?;
+    let list = listed(alloc, &counted, &mut steps)?;
+    let placed = are_placed(alloc, &counted, &list, &mut steps)?;
+    let ranked = are_ranked(alloc, &counted, &list, &mut steps)?;
+    Ok((list.len(), placed, ranked))
+}
+
+#[test]
+fn answers_at_places(rt: HostRuntime) -> Result<(), Fail> {
+    for (formula, text, number) in ROWS {
+        let found = agreement::<HostRuntime, Brand>(&rt, rt.alloc(), Blank::new(1), formula, text)?;
+        assert!(rt;
+            found == (number as usize, true, true),
+            "{number} {found:?}"
+        );
     }
     Ok(())
 }

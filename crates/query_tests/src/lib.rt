@@ -27,11 +27,15 @@ mod combining;
 #[cfg(test)]
 mod counting;
 #[cfg(test)]
+mod counting_workers;
+#[cfg(test)]
 mod formulas;
 #[cfg(test)]
 mod listings;
 #[cfg(test)]
 mod meeting;
+#[cfg(test)]
+mod numbers;
 #[cfg(test)]
 mod one_letter;
 #[cfg(test)]

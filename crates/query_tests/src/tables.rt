@@ -26,7 +26,7 @@ use work_gate::{Gate, OpenGate};
 const LETTERS: &[u8] = b"[abcdr]*";
 
 /// Computes the tables of a store, with an empty cache.
-fn grown<R: Threads + Sync, G: Gate, L: Ledger>(
+pub fn grown<R: Threads + Sync, G: Gate, L: Ledger>(
     rt: &R,
     alloc: Global,
     store: &Store,

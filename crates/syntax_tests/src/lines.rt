@@ -1,5 +1,6 @@
 //! Tests of lines of a script.
-use script_syntax::{Command, LineRefusal, command};
+use script_syntax::{Command, LineRefusal, ListStart, command};
+use std::alloc::Global;
 use std::test::Fail;
 
 #[test]
@@ -23,6 +24,11 @@ fn forms_and_near_misses(rt: HostRuntime) -> Result<(), Fail> {
         b"list q d limit 10000".as_slice(),
         b"list q d after ()".as_slice(),
         b"list q d after limit limit 1".as_slice(),
+        b"list q d after at".as_slice(),
+        b"list q d at 1".as_slice(),
+        b"list q d at 18446744073709551614 limit 10000".as_slice(),
+        b"count q d".as_slice(),
+        b"rank q d x=-".as_slice(),
         b"test q d".as_slice(),
         b"has q d x=-".as_slice(),
         b"save f".as_slice(),
@@ -76,6 +82,23 @@ fn forms_and_near_misses(rt: HostRuntime) -> Result<(), Fail> {
         b"list q d after".as_slice(),
         b"list q d after ".as_slice(),
         b"list q d after () limit".as_slice(),
+        b"list q d at".as_slice(),
+        b"list q d at ".as_slice(),
+        b"list q d at 0".as_slice(),
+        b"list q d at 01".as_slice(),
+        b"list q d at 18446744073709551615".as_slice(),
+        b"list q d at 18446744073709551616".as_slice(),
+        b"list q d at 1 after ()".as_slice(),
+        b"list q d after () at 1".as_slice(),
+        b"list q d limit 5 at 1".as_slice(),
+        b"list q d from 1".as_slice(),
+        b"count q".as_slice(),
+        b"count q ".as_slice(),
+        b"count q d ".as_slice(),
+        b"count q d ()".as_slice(),
+        b"rank q d".as_slice(),
+        b"rank q d ".as_slice(),
+        b"rank q d () limit 1".as_slice(),
         b"has q d".as_slice(),
         b"has q d ".as_slice(),
         b"has q d () ".as_slice(),
@@ -115,39 +138,73 @@ fn lengths(rt: HostRuntime) -> Result<(), Fail> {
     Ok(())
 }
 
+/// The option of a start and its value, and the limit.
+fn options(alloc: Global, line: &[u8]) -> Result<Vec<u8>, Fail> {
+    let mut text = Vec::new(alloc);
+    if let Ok(Command::List { start, limit, .. }) = command(alloc, line) {
+        match start {
+            ListStart::First => text.extend_from_slice(b"first")?,
+            ListStart::After(tuple) => {
+                text.extend_from_slice(b"after ")?;
+                text.extend_from_slice(tuple.bytes())?;
+            }
+            ListStart::At(number) => {
+                text.extend_from_slice(b"at ")?;
+                text.extend_from_slice(number.to_string(alloc)?.as_bytes())?;
+            }
+        }
+        text.push(b' ')?;
+        text.extend_from_slice(limit.to_string(alloc)?.as_bytes())?;
+    }
+    Ok(text)
+}
+
 #[test]
 fn options_of_a_listing(rt: HostRuntime) -> Result<(), Fail> {
     let alloc = rt.alloc();
-    for (line, tuple, number) in [
-        (b"list q d".as_slice(), None, 100),
-        (b"list q d limit 3".as_slice(), None, 3),
+    for (line, wanted) in [
+        (b"list q d".as_slice(), b"first 100".as_slice()),
+        (b"list q d limit 3".as_slice(), b"first 3".as_slice()),
         (
             b"list q d after x=-".as_slice(),
-            Some(b"x=-".as_slice()),
-            100,
+            b"after x=- 100".as_slice(),
         ),
         (
             b"list q d after x=- limit 3".as_slice(),
-            Some(b"x=-".as_slice()),
-            3,
+            b"after x=- 3".as_slice(),
+        ),
+        (b"list q d at 3".as_slice(), b"at 3 100".as_slice()),
+        (
+            b"list q d at 18446744073709551614 limit 3".as_slice(),
+            b"at 18446744073709551614 3".as_slice(),
         ),
     ] {
-        match command(alloc, line) {
-            Ok(
-                Command::List {
-                    query,
-                    name,
-                    after,
-                    limit,
-                },
-            ) => {
-                assert_eq!(rt; query.bytes(), b"q".as_slice());
-                assert_eq!(rt; name.bytes(), b"d".as_slice());
-                assert_eq!(rt; after.as_ref().map(|word| word.bytes()), tuple);
-                assert_eq!(rt; limit, number);
-            }
-            _ => panic!(rt; "not read"),
+        assert_eq!(rt; options(alloc, line)?.as_slice(), wanted);
+    }
+    Ok(())
+}
+
+#[test]
+fn parts_of_a_count(rt: HostRuntime) -> Result<(), Fail> {
+    match command(rt.alloc(), b"count q d") {
+        Ok(Command::Count { query, doc }) => {
+            assert_eq!(rt; query.bytes(), b"q".as_slice());
+            assert_eq!(rt; doc.bytes(), b"d".as_slice());
         }
+        _ => panic!(rt; "not read"),
+    }
+    Ok(())
+}
+
+#[test]
+fn parts_of_a_rank(rt: HostRuntime) -> Result<(), Fail> {
+    match command(rt.alloc(), b"rank q d x=[1,2)") {
+        Ok(Command::Rank { query, doc, tuple }) => {
+            assert_eq!(rt; query.bytes(), b"q".as_slice());
+            assert_eq!(rt; doc.bytes(), b"d".as_slice());
+            assert_eq!(rt; tuple.bytes(), b"x=[1,2)".as_slice());
+        }
+        _ => panic!(rt; "not read"),
     }
     Ok(())
 }

@@ -1,0 +1,84 @@
+//! Counting tables that are computed by several workers.
+ghost use Rattle.std.specs.Prelude.{◌≡◌, ◌<◌, ◌≤◌};
+
+use crate::formulas::automaton_of;
+use crate::meeting::Meeting;
+use count_tables::CountTables;
+use node_store::Store;
+use pair_loader::load;
+use span_types::{NoMemory, Steps};
+use std::alloc::Global;
+use std::marker::Brand;
+use std::sync::ledger::{Blank, Ledger};
+use std::test::Fail;
+use std::thread::Threads;
+use work_gate::Gate;
+
+/// The numbers of nodes with counting tables, of distinct tables, and of answers. In the texts of these tests `ab` and `cd` have
+/// tables of their own.
+fn counted_by<R: Threads + Sync, G: Gate, L: Ledger>(
+    rt: &R,
+    alloc: Global,
+    blank: Blank,
+    text: &[u8],
+    workers: u8,
+    gate: &G,
+) -> Result<(usize, usize, u64), NoMemory>
+    requires name { blank.name ≡ L.name }
+    requires parts { blank.parts ≡ L.parts }
+    requires some { 0 < L.parts }
+    requires some_workers { 1 ≤ workers }
+    requires few_workers { workers ≤ 64 }
+{
+    if text.len() > 100 {
+        return Err(NoMemory);
+    }
+    let dfa = automaton_of(alloc, b".*$x{ab}.*$y{cd}.*")?;
+    let mut steps = Steps::<L>::new(blank);
+    let mut store = Store::new(alloc);
+    let root = load(alloc, &mut store, text, &mut steps)?;
+    let mut counts = CountTables::new(alloc, &dfa)?;
+    counts.grow(rt, alloc, &store, &dfa, workers, gate, &mut steps)?;
+    let number = counts.number(&store, &dfa, root);
+    Ok((counts.count(), counts.distinct(), number))
+}
+
+/// The numbers of workers.
+const WORKERS: [u8; 4] = [1, 2, 5, 64];
+
+#[test]
+fn the_same_on_any_workers(rt: HostRuntime) -> Result<(), Fail> {
+    for workers in WORKERS {
+        let gate = Meeting::new(None);
+        let found = counted_by::<HostRuntime, Meeting, Brand>(
+            &rt,
+            rt.alloc(),
+            Blank::new(1),
+            b"ababcdab",
+            workers,
+            &gate,
+        )?;
+        assert!(rt; found == (9, 9, 2), "{workers} {found:?}");
+        assert!(rt; gate.counts() == (9, 0, 0), "{workers}");
+    }
+    Ok(())
+}
+
+/// The children of the root of `abcd`, which are `ab` and `cd`.
+const CHILDREN: (usize, usize) = (2, 5);
+
+#[test]
+fn two_counted_nodes_meet(rt: HostRuntime) -> Result<(), Fail> {
+    let gate = Meeting::new(Some(CHILDREN));
+    let found = counted_by::<HostRuntime, Meeting, Brand>(
+        &rt,
+        rt.alloc(),
+        Blank::new(1),
+        b"abcd",
+        2,
+        &gate,
+    )?;
+    assert!(rt; found == (7, 7, 1), "{found:?}");
+    assert!(rt; gate.counts() == (7, 2, 0));
+    Ok(())
+}

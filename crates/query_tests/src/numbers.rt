@@ -1,0 +1,186 @@
+//! Numbers of answers and positions in a registry, compared with the listing.
+ghost use Rattle.std.specs.Prelude.{◌≡◌, ◌<◌, ◌≤◌, ◌^◌, ◌-◌, length, IfOk, OnOk};
+ghost use Rattle.slp_model.specs.Nodes.{IsLive};
+ghost use Rattle.query_book.specs.Serving.{Covers, HasCounts, Serves};
+
+use crate::asking::fits;
+use crate::books::{Queries, book_of};
+use node_store::{NodeId, Store};
+use pair_loader::load;
+use query_book::{BookRefusal, QueryBook};
+use span_types::{NoMemory, Steps, Tuple};
+use std::alloc::Global;
+use std::marker::Brand;
+use std::sync::ledger::{Blank, Ledger};
+use std::test::Fail;
+use std::thread::Threads;
+use store_compact::Plan;
+use work_gate::OpenGate;
+
+const QUERIES: Queries = &[(b"p", b"b"), (b"q", b".*$x{a}.*$y{a}.*")];
+
+/// More than the positions of each list.
+const LIMIT: u64 = 100;
+
+/// The first answer from position `m` on.
+fn first_at<'a, L: Ledger>(
+    alloc: Global,
+    book: &'a QueryBook,
+    name: &[u8],
+    store: &'a Store,
+    root: Option<NodeId>,
+    m: u64,
+    looks: &mut Steps<L>,
+) -> Result<Option<Tuple>, BookRefusal>
+    requires covers { Covers store.now book.now }
+    requires counted { HasCounts (length store.now) book.now name.now }
+    requires live { IsLive store.now root }
+    requires first { 1 ≤ m }
+    requires last { m ≤ 2 ^ 64 - 2 }
+{
+    let mut answers = book.start_at(alloc, name, store, root, m, looks)?;
+    Ok(answers.next(looks))
+}
+
+/// How many answers come before the tuple, or `None` if it has other variables than the query.
+fn before<L: Ledger>(
+    alloc: Global,
+    book: &QueryBook,
+    name: &[u8],
+    store: &Store,
+    root: Option<NodeId>,
+    tuple: &Tuple,
+    looks: &mut Steps<L>,
+) -> Result<Option<u64>, BookRefusal>
+    requires covers { Covers store.now book.now }
+    requires counted { HasCounts (length store.now) book.now name.now }
+    requires live { IsLive store.now root }
+{
+    if fits(book, name, tuple) {
+        Ok(Some(book.rank(alloc, name, store, root, tuple, looks)?))
+    } else {
+        Ok(None)
+    }
+}
+
+/// The number of answers, if `count`, `rank` and `start_at` agree with the listing.
+fn agreed<'a, L: Ledger>(
+    alloc: Global,
+    book: &'a QueryBook,
+    name: &[u8],
+    store: &'a Store,
+    root: Option<NodeId>,
+    looks: &mut Steps<L>,
+) -> Result<Option<u64>, BookRefusal>
+    requires covers { Covers store.now book.now }
+    requires counted { HasCounts (length store.now) book.now name.now }
+    requires live { IsLive store.now root }
+{
+    let number = book.count(name, store, root)?;
+    let mut answers = book.start(alloc, name, store, root, looks)?;
+    for m in 1..LIMIT {
+        let found = first_at(alloc, book, name, store, root, m, looks)?;
+        let Some(answer) = answers.next(looks) else {
+            let same = found.is_none() && number == m - 1;
+            return Ok(same.then_some(number));
+        };
+        let rank = before(alloc, book, name, store, root, &answer, looks)?;
+        if found != Some(answer) || rank != Some(m - 1) {
+            return Ok(None);
+        }
+    }
+    Ok(None)
+}
+
+/// A root, and the number of answers of the query `q` on its text.
+#[derive(Clone, Copy)]
+struct Numbered {
+    root: Option<NodeId>,
+    number: Option<u64>,
+}
+
+/// The number of answers of the query `q` on the text, after the computation of the missing tables.
+fn number_on<R: Threads + Sync, L: Ledger>(
+    rt: &R,
+    alloc: Global,
+    book: &mut QueryBook,
+    store: &mut Store,
+    text: &[u8],
+    workers: u8,
+    steps: &mut Steps<L>,
+) -> Result<Numbered, BookRefusal>
+    requires least { 1 ≤ workers }
+    requires most { workers ≤ 64 }
+    requires short { length text.now ≤ 100 }
+    requires serves { Serves store.old book.old }
+    ensures serves { OnOk result (Serves store.new book.new) }
+    ensures live { IfOk result (λ n. IsLive store.new n.root) }
+{
+    let root = load(alloc, store, text, steps)?;
+    book.grow_all(rt, alloc, store, workers, &OpenGate, steps)?;
+    book.grow_counts(rt, alloc, b"q", store, workers, &OpenGate, steps)?;
+    let number = agreed(alloc, book, b"q", store, root, steps)?;
+    Ok(Numbered { root, number })
+}
+
+/// The store with the nodes of the root alone, and the registry for it.
+fn compacted(
+    alloc: Global,
+    store: &Store,
+    root: Option<NodeId>,
+    book: &mut QueryBook,
+) -> Result<Store, NoMemory>
+    requires serves { Serves store.now book.old }
+    requires live { IsLive store.now root }
+    ensures { IfOk result (λ thin. Serves thin book.new) }
+{
+    let mut plan = Plan::new(alloc, store)?;
+    plan.keep_root(store, root)?;
+    let (thin, moves) = plan.build(alloc, store)?;
+    book.renumber(&moves);
+    Ok(thin)
+}
+
+/// The numbers of answers on a text, on a second one after it, and on that after a compaction.
+fn numbers<R: Threads + Sync, L: Ledger>(
+    rt: &R,
+    alloc: Global,
+    blank: Blank,
+    texts: (&[u8], &[u8]),
+    workers: u8,
+) -> Result<[Option<u64>; 3], BookRefusal>
+    requires name { blank.name ≡ L.name }
+    requires parts { blank.parts ≡ L.parts }
+    requires some { 0 < L.parts }
+    requires least { 1 ≤ workers }
+    requires most { workers ≤ 64 }
+    requires first { length texts.0.now ≤ 100 }
+    requires second { length texts.1.now ≤ 100 }
+{
+    let mut steps = Steps::<L>::new(blank);
+    let mut store = Store::new(alloc);
+    let mut book = book_of(alloc, QUERIES)?;
+    let first = number_on(
+        rt, alloc, &mut book, &mut store, texts.0, workers, &mut steps,
+    )?;
+    let second = number_on(
+        rt, alloc, &mut book, &mut store, texts.1, workers, &mut steps,
+    )?;
+    let mut thin = compacted(alloc, &store, second.root, &mut book)?;
+    let again = number_on(
+        rt, alloc, &mut book, &mut thin, texts.1, workers, &mut steps,
+    )?;
+    Ok([first.number, second.number, again.number])
+}
+
+/// A text with 5 letters `a` has 10 pairs of them, and one with 10 has 45.
+const TEXTS: (&[u8], &[u8]) = (b"abracadabra", b"abracadabra abracadabra");
+
+#[test]
+fn numbers_ranks_and_positions(rt: HostRuntime) -> Result<(), Fail> {
+    for workers in [1u8, 4] {
+        let found = numbers::<HostRuntime, Brand>(&rt, rt.alloc(), Blank::new(1), TEXTS, workers)?;
+        assert!(rt; found == [Some(10), Some(45), Some(45)], "{found:?}");
+    }
+    Ok(())
+}
