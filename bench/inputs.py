@@ -259,6 +259,21 @@ def phase_scripts(file, size):
     return scripts | {"edits": edits}
 
 
+def counting_scripts(file, text):
+    """By its name: the answers of a query with 1 to 3 variables counted; counted again after each of 499 edits; and 2,000
+    answers by their numbers, with the ranks of 2,000 tuples."""
+    size, load = len(text), [f"load d {file}"]
+    asked = {count: load + [f"query q {PHASE_QUERIES[count][0]}", "test q d"] for count in (1, 2, 3)}
+    scripts = {f"count{count}": lines + ["count q d"] for count, lines in asked.items()}
+    edited = scripts["count1"] + ["text e a line without fields"]
+    for part in range(1, 500):
+        edited += [f"let d = insert(d,e,{size * part // 500})", "count q d"]
+    numbers, some = text.count(b'"GET '), range(2000)
+    pages = [f"list q d at {1 + numbers * part // len(some)} limit 1" for part in some]
+    ranks = [f"rank q d {cursor('p', 1 + size * part // len(some))}" for part in some]
+    return scripts | {"count_after_edit": edited, "nth": scripts["count1"] + pages + ranks}
+
+
 HOST = r"(.*\n)?$h{[0-9.]+} [^\n]*\n.*"
 
 
@@ -567,6 +582,7 @@ def make(folder, quick, huge, files):
         write_script(folder / f"{name}.script", log_script(name, size))
     file, size = max(((name, size) for name, size in logs.items() if name != "log256m"), key=lambda it: it[1])
     phases = phase_scripts(file, size) | chosen_scripts(file, (folder / file).read_bytes()) | doubled_scripts()
+    phases |= counting_scripts(file, (folder / file).read_bytes())
     phases |= made_scripts(file) | compact_scripts(file, size) | {"algebra": algebra_script()}
     for name, lines in phases.items():
         write_script(folder / f"{name}.script", lines)
