@@ -382,6 +382,75 @@ def algebra_script():
     ]
 
 
+# any byte of a line
+IN_LINE = r"[^\n]"
+
+
+def gap(left, one, many, right):
+    """A formula that captures two texts with at most so many bytes of a set between them."""
+    return f".*$x{{{left}{f'{one}?' * many}{right}}}.*"
+
+
+def gaps_script():
+    """Asks for two texts at most so many bytes apart: 703 and 423 states in a genome, 365 in a log."""
+    return [
+        "load g genome",
+        "load d log1m",
+        f"query wide {gap('TTGACA', '.', 100, 'TATAAT')}",
+        f"query near {gap('TTGACA', '.', 60, 'TATAAT')}",
+        f"query post {gap('POST /', IN_LINE, 60, ' 50[03] ')}",
+        *[f"list {name} g limit 1000" for name in ("wide", "near")],
+        "list post d limit 1000",
+        "count post d",
+    ]
+
+
+# fields of a line by their names: the variable that has the value, and the bytes that it is made of
+FIELDS = {
+    "client": ("c", "[0-9.]+"),
+    "request": ("q", r"[^ \n]+"),
+    "status": ("s", "[45][0-9]+"),
+    "duration": ("d", "[0-9]+"),
+}
+
+
+def records(size, seed=8):
+    """A log whose lines have some of the fields, and a user, in any order."""
+    rng = random.Random(seed)
+    clients = [f"10.{rng.randint(0, 9)}.{rng.randint(0, 255)}.{rng.randint(1, 254)}" for _ in range(300)]
+    lines, have = [], 0
+    while have < size:
+        fields = [
+            f"client={clients[often(rng, 300)]}",
+            f"request=/{rng.choice(PATH_WORDS)}/{rng.choice(PATH_WORDS)}",
+            f"status={rng.choice(('200', '200', '304', '404', '500'))}",
+            f"duration={rng.randint(1, 99999)}",
+            f"user={often(rng, 1000)}",
+        ]
+        rng.shuffle(fields)
+        lines.append(" ".join(fields[: rng.randint(3, 5)]) + "\n")
+        have += len(lines[-1])
+    return "".join(lines)[:size].encode()
+
+
+def fields_script():
+    """Joins queries of one field of a line each, in whatever order the fields come. The join of four has 356 states."""
+    lines = ["load d records"]
+    for name, (variable, value) in FIELDS.items():
+        lines += [rf"query {variable} (.*\n)?$r{{([^\n]* )?{name}=${variable}{{{value}}}( [^\n]*)?}}\n.*"]
+    first, *others = [variable for variable, _ in FIELDS.values()]
+    lines += [f"join {first} {first} {variable}" for variable in others]
+    return lines + [f"list {first} d limit 10000"]
+
+
+def words_script(words, count):
+    """Asks for each of so many words, wherever it begins. A formula has at most 512 letters, so it is a union of three."""
+    chosen = random.Random(6).sample(words, count)
+    lines = ["load d prose"]
+    lines += [f"query w{part} .*$w{{{'|'.join(chosen[part::3])}}}.*" for part in range(3)]
+    return lines + ["union w w0 w1", "union w w w2", "test w d", "list w d limit 10000"]
+
+
 # by the number of variables: a formula that is met in each sentence of a long text
 SENTENCE = "the quick brown fox; jumps=17 over the lazy dog."
 SENTENCE_QUERIES = [
@@ -600,6 +669,10 @@ def make(folder, quick, huge, files):
     for name, texts in collections.items():
         for script, lines in collection_scripts(folder, name, texts).items():
             write_script(folder / f"{script}.script", lines)
+    (folder / "records").write_bytes(records(size))
+    write_script(folder / "gaps.script", gaps_script())
+    write_script(folder / "fields.script", fields_script())
+    write_script(folder / "words.script", words_script(words, 270))
     text, lines = compositions_script("chance", size // 4)
     (folder / "chance").write_bytes(text)
     write_script(folder / "compositions.script", lines)

@@ -15,7 +15,7 @@ from spanbase import sidefile
 from spanbase.documents import RESERVED, AnyPath, Document, SourceFile, Text, Version, Versions, checked_name
 from spanbase.errors import BadCommand, BadImage, FileRefused, Refused, SideFileError, UnknownName, refusal
 from spanbase.expressions import Expression, Literal, TextLike, compiled, encoded, literal
-from spanbase.limits import LONGEST_LINE, WIDEST_SHOW
+from spanbase.limits import LONGEST_LINE, MOST_STATES, WIDEST_SHOW
 from spanbase.query import Queries, Query, Registration, query_of_formula, query_of_regex
 from spanbase.replacing import chosen_spans, replacing_edits
 from spanbase.shell import Reply, Shell, quoted, shell_path, unquoted
@@ -54,8 +54,9 @@ class Database(Mapping[str, Document]):
     """A database, which is a shell of the program that runs beside this process.
 
     `program` is the shell to start. By default it is `$SPANBASE_SHELL`, or `spanshell` of the repository, or that on the
-    `PATH`. `workers` is the number of threads that prepare queries. `folder` is where the private folder for temporary files
-    is created.
+    `PATH`. `workers` is the number of threads that prepare queries. `states` is how many states the automaton of a query may
+    have, from 128 to 1,024. A program without the option `--states` allows 128, and starts only with `states=128`. `folder`
+    is where the private folder for temporary files is created.
 
     A database is a mapping from names to documents. `close` ends the program, as do the end of a `with` block, garbage
     collection and the end of this process. What wasn't saved is lost then.
@@ -69,6 +70,7 @@ class Database(Mapping[str, Document]):
         program: AnyPath | None = None,
         *,
         workers: int = 1,
+        states: int = MOST_STATES,
         folder: AnyPath | None = None,
     ) -> None:
         arguments = [] if workers == 1 else ["--workers", str(workers)]
@@ -76,7 +78,7 @@ class Database(Mapping[str, Document]):
         self._private = tempfile.TemporaryDirectory(prefix="spanbase-", dir=parent, ignore_cleanup_errors=True)
         self._folder = os.fsencode(os.path.abspath(self._private.name))
         try:
-            self._shell = Shell(shell_path(program), arguments, Path(self._private.name))
+            self._shell = Shell(shell_path(program), arguments, Path(self._private.name), states)
         except BaseException:
             self._private.cleanup()
             raise
@@ -691,13 +693,14 @@ class Database(Mapping[str, Document]):
         program: AnyPath | None = None,
         *,
         workers: int = 1,
+        states: int = MOST_STATES,
         folder: AnyPath | None = None,
         side_file: bool = True,
     ) -> Self:
         """A new database with the documents of an image, and with the queries and versions that the file beside it
         describes. Where there is no such file, or with `side_file=False`, it has all documents of the image and no queries
         and versions."""
-        database = cls(program, workers=workers, folder=folder)
+        database = cls(program, workers=workers, states=states, folder=folder)
         try:
             whole = os.path.realpath(os.fsencode(path))
             check_readable(whole, path)

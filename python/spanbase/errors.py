@@ -9,6 +9,8 @@ import signal
 from collections.abc import Sequence
 from typing import Any
 
+from spanbase.limits import FEWEST_STATES
+
 __all__ = [
     "BadCommand",
     "BadImage",
@@ -96,22 +98,29 @@ class BadQuery(Refused, ValueError):
 
 
 class TooManyStates(BadQuery):
-    """The automaton of the query has too many states.
+    """The automaton of the query has more states than are allowed.
 
-    `regex` is the regex with a gap captured, such that the program accepts it, or None if there is no such gap.
+    `states` is the number that is allowed. `regex` is the regex with a gap captured, such that the program accepts it, or None
+    if there is no such gap.
     """
 
+    states: int = FEWEST_STATES
     regex: str | None = None
 
     def __reduce__(self) -> tuple[Any, ...]:
-        return *super().__reduce__(), {"regex": self.regex}
+        return *super().__reduce__(), {"states": self.states, "regex": self.regex}
+
+    def fact(self) -> str:
+        """The rejection without advice."""
+        return f"{self.word}: the automaton of the {self._advice()[0]} has more than {self.states:,} states"
 
     def meaning(self) -> str:
+        advice = self._advice()[1] if self.regex is None else f"capture a gap, as in {self.regex}"
+        return f"{self.fact().removeprefix(self.word + ': ')}; {advice}"
+
+    def _advice(self) -> tuple[str, str]:
         command = self.command.partition(b" ")[0].decode("ascii", "replace")
-        subject, advice = STATES_ADVICE.get(command, STATES_ADVICE["query"])
-        if self.regex is not None:
-            advice = f"capture a gap, as in {self.regex}"
-        return f"the automaton of the {subject} has too many states; {advice}"
+        return STATES_ADVICE.get(command, STATES_ADVICE["query"])
 
 
 class BadTuple(Refused, ValueError):
@@ -305,7 +314,10 @@ STATUSES = {
 }
 
 
-def refusal(line: int, text: bytes, command: bytes = b"") -> Refused:
-    """The exception for a rejection, from the text after `line N: `."""
+def refusal(line: int, text: bytes, command: bytes = b"", states: int = FEWEST_STATES) -> Refused:
+    """The exception for a rejection, from the text after `line N: `. `states` is how many states a query may have."""
     word, *values = text.decode("ascii", "replace").split(" ")
-    return CLASSES.get(word, Refused)(word, values, line, command)
+    refused = CLASSES.get(word, Refused)(word, values, line, command)
+    if isinstance(refused, TooManyStates):
+        refused.states = states
+    return refused

@@ -2,6 +2,7 @@
 
 __all__ = [
     "DEEPEST",
+    "FEWEST_STATES",
     "LONGEST_FILE",
     "LONGEST_FORMULA",
     "LONGEST_IMAGE",
@@ -10,6 +11,7 @@ __all__ = [
     "LONGEST_SCRIPT",
     "MOST_LISTED",
     "MOST_SETS",
+    "MOST_STATES",
     "MOST_VARIABLES",
     "WIDEST_SHOW",
 ]
@@ -30,3 +32,6 @@ MOST_LISTED = 10_000
 MOST_SETS = 512
 MOST_VARIABLES = 8
 DEEPEST = 64
+# what the states of a query can be limited to: the limit without an option, and the greatest one
+FEWEST_STATES = 128
+MOST_STATES = 1024

@@ -47,9 +47,9 @@ from spanbase.errors import (
 from spanbase.export import Tabular
 from spanbase.formula import Translation
 from spanbase.formula import check as variables_of
-from spanbase.limits import LONGEST_FILE, LONGEST_IMAGE, MOST_LISTED, WIDEST_SHOW
+from spanbase.limits import FEWEST_STATES, LONGEST_FILE, LONGEST_IMAGE, MOST_LISTED, MOST_STATES, WIDEST_SHOW
 from spanbase.query import Query
-from spanbase.shell import Shell, shell_path, unquoted
+from spanbase.shell import Shell, checked_states, shell_path, unquoted
 
 __all__ = [
     "Answers",
@@ -262,10 +262,11 @@ class Program:
 
     path: str | None = None
     workers: int = 1
+    states: int = FEWEST_STATES
 
     @classmethod
-    def of(cls, path: AnyPath | None, workers: int = 1) -> Self:
-        return cls(None if path is None else str(shell_path(path)), workers)
+    def of(cls, path: AnyPath | None, workers: int = 1, states: int = FEWEST_STATES) -> Self:
+        return cls(None if path is None else str(shell_path(path)), workers, checked_states(states))
 
     def arguments(self) -> list[str]:
         return [] if self.workers == 1 else ["--workers", str(self.workers)]
@@ -366,7 +367,7 @@ _local = threading.local()
 def _shell(program: Program) -> Iterator[tuple[Shell, Path]]:
     """A program in a private folder, which is its current one. Its end by a signal or for lack of memory is an interrupt."""
     with tempfile.TemporaryDirectory(prefix="spanbase-shard-", ignore_cleanup_errors=True) as private:
-        with Shell(shell_path(program.path), program.arguments(), Path(private)) as shell:
+        with Shell(shell_path(program.path), program.arguments(), Path(private), program.states) as shell:
             pool: _LocalPool | None = getattr(_local, "pool", None)
             if pool:
                 pool.began(shell.pid)
@@ -1121,6 +1122,7 @@ def ask(
     client: Any = None,
     program: AnyPath | None = None,
     workers: int = 1,
+    states: int = MOST_STATES,
     retries: int = 2,
     patience: float | None = None,
     report: Callable[[Failure], object] | None = None,
@@ -1131,7 +1133,8 @@ def ask(
     names in the list of `make`. With `after`, a row or its cursor, one document is asked for its answers after that one. With
     `texts` the bytes of the spans are read too.
 
-    `client`, `program`, `retries` and `patience` are as for `make`; `workers` is the number of its threads.
+    `client`, `program`, `retries` and `patience` are as for `make`; `workers` is the number of its threads, and `states` how
+    many states the automaton of the query may have, from 128 to 1,024.
     `report` is called with each failure when it is met.
     """
     if limit is not None and limit < 1:
@@ -1144,7 +1147,7 @@ def ask(
         raise refusal(0, b"BadTuple")
     commands, variables = _commands(query)
     question = Question(commands, limit, None if cursor is None else cursor.encode(), texts)
-    tool = Program.of(program, workers)
+    tool = Program.of(program, workers, states)
     tasks = [
         AskTask(shard, os.path.abspath(folder), image.file, image.bytes, image.sha256, len(image.documents), it, question, tool)
         for shard, (image, it) in enumerate(zip(manifest.images, _wanted(manifest, documents), strict=True))

@@ -15,7 +15,7 @@ from pathlib import Path
 from typing import IO, Self
 
 from spanbase.errors import ProgramNotFound, Refused, ShellEnded, refusal
-from spanbase.limits import LONGEST_LINE
+from spanbase.limits import FEWEST_STATES, LONGEST_LINE, MOST_STATES
 
 __all__ = ["LAST_LINES", "REFUSAL", "Reply", "Shell", "has_no_reply", "quoted", "shell_path", "unquoted"]
 
@@ -68,6 +68,13 @@ def shell_path(program: str | bytes | os.PathLike[str] | os.PathLike[bytes] | No
     )
 
 
+def checked_states(states: int) -> int:
+    """The number of states that a query may have, if a program takes it."""
+    if not FEWEST_STATES <= states <= MOST_STATES:
+        raise ValueError(f"a query may have {FEWEST_STATES} to {MOST_STATES:,} states, not {states}")
+    return states
+
+
 def is_launcher(program: Path) -> bool:
     """Whether the program is a script, as that of the repository. It may first build the shell, and shows its progress."""
     with contextlib.suppress(OSError), open(program, "rb") as file:
@@ -95,19 +102,30 @@ def end_process(process: "subprocess.Popen[bytes]", patience: float) -> int:
 
 
 class Shell:
-    """A running shell. `ask` sends a line and returns the reply.
+    """A running shell, whose queries may have `states` states. `ask` sends a line and returns the reply.
+
+    The number of states is an argument of the program where it isn't the program's default. So a program without that option
+    runs with the default.
 
     The process has a process group of its own, so Ctrl-C doesn't end it. After a `KeyboardInterrupt` the shell completes the
     lines that were being sent. Their replies are skipped before the next line is sent.
     """
 
-    def __init__(self, program: Path, arguments: Sequence[str] = (), folder: Path | None = None) -> None:
+    def __init__(
+        self,
+        program: Path,
+        arguments: Sequence[str] = (),
+        folder: Path | None = None,
+        states: int = FEWEST_STATES,
+    ) -> None:
         self.program = program
+        self.states = checked_states(states)
+        options = [] if states == FEWEST_STATES else ["--states", str(states)]
         self._lock = threading.RLock()
         self._errors: IO[bytes] | None = None if is_launcher(program) else tempfile.TemporaryFile()
         try:
             self._process = subprocess.Popen(
-                [program, *arguments],
+                [program, *arguments, *options],
                 stdin=subprocess.PIPE,
                 stdout=subprocess.PIPE,
                 stderr=self._errors,
@@ -218,7 +236,7 @@ class Shell:
                     last += 1
             last += 1
             if refused:
-                reply = refusal(int(refused[1]), refused[2], line)
+                reply = refusal(int(refused[1]), refused[2], line, self.states)
             else:
                 reply = self._lines[self._next : last]
         self._moving = True

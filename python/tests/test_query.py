@@ -1,8 +1,10 @@
 """Queries: rows and pages against Python's `re`, numbers, lines, replacements and tables."""
 import csv
+import functools
 import gc
 import io
 import json
+import operator
 import pickle
 import random
 import re
@@ -247,7 +249,7 @@ class Answers(ShellCase):
             (lambda: database.formula(b"a" * 2049), "FormulaTooLong"),
             (lambda: database.formula(b"a" * 70_000), "FormulaTooLong"),
             (lambda: database.formula(b"$x{a}$x{b}"), "NotFunctional"),
-            (lambda: database.formula(b"[ab]*a[ab][ab][ab][ab][ab][ab][ab]"), "TooManyStates"),
+            (lambda: database.formula(b"[ab]*a" + b"[ab]" * 9), "TooManyStates"),
         ]:
             with self.assertRaises(ValueError) as refused:
                 wrong()
@@ -295,24 +297,44 @@ class Answers(ShellCase):
         """The message says what needs fewer states, by the operation, and a regex with a gap captured is tried."""
         database = self.database()
         field = r"(?m)^Package: (?P<package>.+)\n(?:.+\n)*{0}: (?P<{0}>.+)$"
-        version, section, depends = (database.query(field.format(it)) for it in ("Version", "Section", "Depends"))
-        gap = "(?P<match>TTGACA(?P<gap>.{0,60})TATAAT)"
-        seven = database.formula("$x{[ab]*}a" + "[ab]" * 6)
-        for make, regex, advice in [
-            (lambda: database.query("TTGACA.{0,60}TATAAT"), gap, f"query has too many states; capture a gap, as in {gap}"),
-            (lambda: database.query(b"a.{9}(?P<x>b)"), "a(?P<gap>.{9})(?P<x>b)", "query has too many states; capture a gap"),
-            (lambda: database.formula("[ab]*a" + "[ab]" * 7), None, "query has too many states; capture a gap of the"),
-            (lambda: version & section & depends, None, "join has too many states; write one regex"),
-            (lambda: seven.project(), None, "projection has too many states; keep a variable"),
+        names = ("Version", "Section", "Depends", "Maintainer", "Priority", "Source")
+        version, *fields, last = (database.query(field.format(it)) for it in names)
+        joined = functools.reduce(operator.and_, fields, version)
+        gap = "(?P<match>TTGACA(?P<gap>.{0,160})TATAAT)"
+        ten = database.formula("$x{[ab]*}a" + "[ab]" * 9)
+        for make, regex, subject, advice in [
+            (lambda: database.query("TTGACA.{0,160}TATAAT"), gap, "query", f"capture a gap, as in {gap}"),
+            (lambda: database.query(b"a.{9}(?P<x>b)"), "a(?P<gap>.{9})(?P<x>b)", "query", "capture a gap"),
+            (lambda: database.formula("[ab]*a" + "[ab]" * 9), None, "query", "capture a gap of the"),
+            (lambda: joined & last, None, "join", "write one regex"),
+            (lambda: ten.project(), None, "projection", "keep a variable"),
         ]:
             with self.assertRaises(spanbase.TooManyStates) as refused:
                 make()
             error = pickle.loads(pickle.dumps(refused.exception))
-            self.assertIn(f"TooManyStates: the automaton of the {advice}", str(error))
+            wanted = f"TooManyStates: the automaton of the {subject} has more than 1,024 states; {advice}"
+            self.assertEqual((error.states, str(error)[: len(wanted)]), (1024, wanted))
             if regex:
                 self.assertEqual(error.regex, regex)
                 self.assertIn("gap", database.query(error.regex).variables)
         database.query(field.format("Version").removesuffix("$") + r"\n(?:.+\n)*Depends: (?P<depends>.+)$")
+
+    def test_number_of_states(self) -> None:
+        """A query has the answers of a wide gap, up to the number of states that the caller allows."""
+        text = b"TTGACA" + b"-" * 60 + b"TATAAT TTGACA" + b"-" * 61 + b"TATAAT"
+        regex = "TTGACA.{0,60}TATAAT"
+        for states in (1024, 423):
+            database = self.database(states=states)
+            database["d"] = text
+            self.assertEqual([row["match"].bounds for row in database.query(regex).rows("d")], [(0, 72)])
+        for states in (422, 128):
+            database = self.database(states=states)
+            with self.assertRaisesRegex(spanbase.TooManyStates, f"the query has more than {states} states; ") as refused:
+                database.query(regex)
+            self.assertEqual(refused.exception.states, states)
+        for states in (0, 127, 1025):
+            with self.assertRaisesRegex(ValueError, f"a query may have 128 to 1,024 states, not {states}"):
+                spanbase.Database(SHELL, states=states)
 
 
 class Replacements(ShellCase):

@@ -152,6 +152,12 @@ class Asking(Folder):
         for query, error in (("a)", FormulaError), (".*a" + 12 * "." + "$x{b}.*", TooManyStates), ("($x{a})*", FormulaError)):
             with self.subTest(query), self.assertRaises(error):
                 list(self.ask(query))
+        wide = "(?s)a.{0,60}ana"
+        with self.assertRaises(ValueError):
+            self.ask(translate(wide, 0), states=127)
+        with self.assertRaisesRegex(TooManyStates, "more than 128 states"):
+            list(self.ask(translate(wide, 0), states=128))
+        self.assertEqual(plain(self.ask(translate(wide, 0))), self.of_one_database(None, lambda db: db.query(wide)))
         for cursor in ("y=[1,2)", "x", "x=[1, 2)", "x=[1,2)\n", ""):
             with self.subTest(cursor), self.assertRaises(BadTuple):
                 list(self.ask(documents=["long"], after=cursor))
@@ -387,7 +393,8 @@ class Command(Folder):
             (["ask", "parts", ".*$x{ca}.*", "--formula", "--json"], 0, b'{"document": "f0.txt", "x_start": 4, "x_end": 6}\n', b""),
             (["ask", "parts", "a("], 2, b"", b"at position 1"),
             (["ask", "parts", "a)", "--formula"], 2, b"", b"BadFormula"),
-            (["ask", "parts", "a.{0,60}bc"], 2, b"", b"capture a gap, as in (?P<match>a(?P<gap>.{0,60})bc)"),
+            (["ask", "parts", "bc.{0,200}banana"], 2, b"", b"capture a gap, as in (?P<match>bc(?P<gap>.{0,200})banana)"),
+            (["ask", "--states", "128", "parts", "a.{0,60}bc"], 2, b"", b"the query has more than 128 states; capture a gap, as in"),
             (["ask", "parts", "br", "--after", "match=[2,4)"], 2, b"", b"--after needs one --document"),
             (["ask", "nosuch", "br"], 2, b"", b"there are no shards in nosuch"),
             (["make", "parts", "f0.txt"], 2, b"", b"has shards of other files"),

@@ -142,6 +142,23 @@ class Talk(ShellCase):
         with self.assertRaisesRegex(spanbase.ShellEnded, "out of memory"):
             shell.ask_all([b"compact"] * 100_000)
 
+    def test_arguments(self) -> None:
+        """A shell gets an option only where its own default isn't what is asked for."""
+        program = self.file("program", b'#!/bin/sh\nwhile read line; do echo $# "$@"; done\n')
+        program.chmod(0o755)
+        cases: list[tuple[dict[str, int], bytes]] = [
+            ({}, b"2 --states 1024"),
+            ({"states": 128}, b"0"),
+            ({"states": 129, "workers": 2}, b"4 --workers 2 --states 129"),
+            ({"states": 128, "workers": 2}, b"2 --workers 2"),
+        ]
+        for options, arguments in cases:
+            with self.subTest(options), spanbase.Database(program, **options) as database:
+                self.assertEqual(database._shell.ask(b"compact"), [arguments])
+        for states in (127, 1025):
+            with self.assertRaises(ValueError):
+                Shell(program, [], self.folder, states)
+
     def test_how_it_is_ended(self) -> None:
         """By close, by the end of a `with` block, by garbage collection, and by the end of the process."""
         with spanbase.Database(SHELL) as database:

@@ -298,6 +298,14 @@ def worst_work() -> Iterator[Extreme]:
         None,
         limits=Limits(seconds=60, memory=256 << 20),
     )
+    sets = "".join(f"[^{chance.choice(letters)}]" for _ in range(500))
+    yield Extreme(
+        "a query of 502 states whose tables on 3,000 random letters are nearly all different",
+        f"text d {text[:3000]}\nquery q .*$x{{{sets}}}.*\ntest q d\n".encode(),
+        None,
+        limits=Limits(seconds=60, memory=256 << 20),
+        words=("--states=1024",),
+    )
     yield Extreme(
         "32,768 replacements in 32,768 bytes, twice",
         b"text d a\n"

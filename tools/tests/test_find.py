@@ -216,7 +216,13 @@ class Find(unittest.TestCase):
         regex = "TTGACA.{0,60}TATAAT"
         status, out, told = self.found(regex, "f", files={"f": text})
         self.assertEqual((status, out), (2, b""))
-        self.assertIn("capture a gap, as --split does: (?P<match>TTGACA(?P<gap>.{0,60})TATAAT)\n", told)
+        advice = "capture a gap, as --split does: (?P<match>TTGACA(?P<gap>.{0,60})TATAAT)\n"
+        self.assertEqual(told, f"spanbase-find: TooManyStates: the automaton of the query has more than 1,024 states; {advice}")
+        # its matches alone need fewer states than the lines that have one
+        self.assertEqual(self.printed("-o", regex, "f", files={"f": text}), text[2:-1] + b"\n")
+        status, out, told = self.found("--states", "422", "-o", regex, "f", files={"f": text})
+        self.assertEqual((status, out), (2, b""))
+        self.assertIn(f"has more than 422 states; {advice}", told)
         self.assertEqual(self.printed("--split", "-o", regex, "f", files={"f": text}), text[2:-1] + b"\n")
         self.assertEqual(self.printed("--split", "--all", "--count-matches", regex, "f", files={"f": text}), b"4\n")
         self.assertEqual(self.printed("--split", "-n", regex, "f", files={"f": text}), b"1:" + text)
@@ -239,6 +245,7 @@ class Find(unittest.TestCase):
             (["a", "--image", "image"], b"", "BadImage 2"),
             (["a", "--image", "nowhere"], b"", "NoSuchFile nowhere"),
             (["a", "f", "--program", "/nowhere"], b"", "the program /nowhere can't be started"),
+            (["a", "f", "--states", "127"], b"", "argument --states: '127' isn't a number from 128 to 1024; --help"),
         ]
         for words, out, told in cases:
             with self.subTest(words=words):

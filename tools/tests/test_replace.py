@@ -104,7 +104,8 @@ class Replace(unittest.TestCase):
             (["a", "\\", "f"], b"", "\\ has no meaning in TEXT: write"),
             (["-i", "a", "b"], b"", "-i needs files; --help"),
             (["--save", "x", "a", "b", "f"], b"", "--save needs --image"),
-            (["TTGACA.{0,60}TATAAT", "b", "f"], b"", "TooManyStates"),
+            (["TTGACA.{0,160}TATAAT", "b", "f"], b"", "TooManyStates: the automaton of the query has more than 1,024 states;"),
+            (["--states", "128", "TTGACA.{0,60}TATAAT", "b", "f"], b"", "TooManyStates: the automaton of the query has more than 128"),
         ]
         for words, out, told in cases:
             with self.subTest(words=words):

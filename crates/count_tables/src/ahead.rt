@@ -211,7 +211,7 @@ fn keep_one<R, G>(
     ensures entries { AreTrueEntries kept.new memo.new }
     ensures extends { Extends kept.old kept.new }
 {
-    let states = u16::from(growth.dfa.states());
+    let states = growth.dfa.states();
     let Made { job, table } = one;
     let number = keep_composed(kept, memo, states, job.left, job.right, table)?;
     set(found, kept, job.node - numbers.len(), number);
@@ -285,7 +285,7 @@ pub(crate) fn find_ahead<R: Threads + Sync, G: Gate>(
         if jobs.is_empty() {
             return Ok(());
         }
-        let pieces = pieces_of(growth.workers, u16::from(states), jobs.len(), found.len());
+        let pieces = pieces_of(growth.workers, states, jobs.len(), found.len());
         let made = in_pieces(growth.rt, growth.alloc, growth.gate, kept, &jobs, pieces)?;
         keep_all(growth, kept, memo, numbers, found, made)?;
     }

@@ -112,7 +112,7 @@ pub(crate) fn byte_number<R, G>(
     ensures extends { Extends kept.old kept.new }
 {
     let table = of_byte(growth.alloc, growth.dfa, byte)?;
-    keep(kept, table, u16::from(growth.dfa.states()))
+    keep(kept, table, growth.dfa.states())
 }
 
 // The number of the table of the first node without one, whose children have theirs.
@@ -138,7 +138,7 @@ fn number_of<R, G: Gate>(
     match growth.store.node(id) {
         Node::Byte(byte) => byte_number(growth, kept, byte),
         Node::Pair(left, right) => {
-            let states = u16::from(growth.dfa.states());
+            let states = growth.dfa.states();
             let (left, right) = (numbers[left.index] as usize, numbers[right.index] as usize);
             composed(growth.alloc, kept, memo, states, left, right)
         }

@@ -63,14 +63,13 @@ fn over_byte(dfa: &Dfa, byte: u8, at: u64, from: &Way, after: &[u64]) -> Way
     ensures { (m : ℕ) × IsPlace dfa.now (byte ∷ []) from.now.state after.now from.now.index ((m, byte) ∷ []) result.state result.index × (result.tuple ≡ write_mark m at from.now.tuple) }
 {
     let _ = dfa.states();
-    let state = from.state as u8;
     let mut index = from.index;
-    for mark in dfa.marks(state, byte) {
-        if let Some(q) = dfa.next(state, *mark, byte) {
+    for mark in dfa.marks(from.state, byte) {
+        if let Some(q) = dfa.next(from.state, *mark, byte) {
             let ways = after[q as usize];
             if index < ways {
                 return Way {
-                    state: u16::from(q),
+                    state: q,
                     index,
                     tuple: from.tuple.with_mark(*mark, at),
                 };
@@ -141,12 +140,12 @@ fn with_end(dfa: &Dfa, to: &Way, end: u64) -> Tuple
     ensures { result ≡ write_mark (slice_index (ends_of dfa.now to.now.state) to.now.index) end to.now.tuple }
 {
     let _ = dfa.states();
-    let mark = dfa.ends(to.state as u8)[to.index as usize];
+    let mark = dfa.ends(to.state)[to.index as usize];
     to.tuple.with_mark(mark, end)
 }
 
 /// Numbers for each state and each level of a tree.
-pub(crate) fn room_for(alloc: Global, states: u8, height: u8) -> Result<Vec<u64>, NoMemory>
+pub(crate) fn room_for(alloc: Global, states: u16, height: u8) -> Result<Vec<u64>, NoMemory>
     ensures { IfOk result (λ room. length room.items ≡ states * height) }
 {
     let mut room = Vec::new(alloc);

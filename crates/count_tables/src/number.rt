@@ -19,7 +19,7 @@ fn ended(counts: &[Count], dfa: &Dfa) -> u64
     let _ = dfa.states();
     let mut sum = 0u64;
     for count in counts {
-        let ways = dfa.ends(count.state as u8).len() as u64;
+        let ways = dfa.ends(count.state).len() as u64;
         sum = sum.saturating_add(count.number.saturating_mul(ways));
     }
     sum
@@ -40,7 +40,7 @@ impl CountTables {
                 let table = self.table(id);
                 let marked = ended(table.counts(0), dfa);
                 match table.unmarked(0) {
-                    Some(q) => marked.saturating_add(dfa.ends(q as u8).len() as u64),
+                    Some(q) => marked.saturating_add(dfa.ends(q).len() as u64),
                     None => marked,
                 }
             }

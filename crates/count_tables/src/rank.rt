@@ -63,7 +63,7 @@ fn is_marked(tuple: &Tuple, from: u64, to: u64) -> bool
 }
 
 // How many texts go on behind the mark and the byte.
-fn ways_by(dfa: &Dfa, state: u8, mark: u16, byte: u8, after: &[u64]) -> u64
+fn ways_by(dfa: &Dfa, state: u16, mark: u16, byte: u8, after: &[u64]) -> u64
     requires state { state < states_of dfa.now }
     requires after { length after.now ≡ states_of dfa.now }
     ensures { result ≡ onward_from (next_of dfa.now state mark byte) after.now }
@@ -82,18 +82,16 @@ fn over_byte(dfa: &Dfa, byte: u8, mark: u16, state: u16, after: &[u64]) -> Earli
     ensures { IsNumberBefore dfa.now (byte ∷ []) state after.now ((mark, byte) ∷ []) result.number result.state }
 {
     let _ = dfa.states();
-    let from = state as u8;
     let mut number = 0u64;
-    for other in dfa.marks(from, byte) {
+    for other in dfa.marks(state, byte) {
         if *other > mark {
-            number = number.saturating_add(ways_by(dfa, from, *other, byte, after));
+            number = number.saturating_add(ways_by(dfa, state, *other, byte, after));
         }
     }
-    let state = match dfa.next(from, mark, byte) {
-        Some(q) => Some(u16::from(q)),
-        None => None,
-    };
-    Earlier { number, state }
+    Earlier {
+        number,
+        state: dfa.next(state, mark, byte),
+    }
 }
 
 // How many texts over a part come before the tuple's marks there, and the state behind them. If the tuple has no mark there, these
@@ -156,7 +154,7 @@ fn greater_ends(dfa: &Dfa, state: u16, mark: u16) -> u64
     ensures { result ≡ greater_endings dfa.now state mark }
 {
     let _ = dfa.states();
-    let ends = dfa.ends(state as u8);
+    let ends = dfa.ends(state);
     ends.iter().filter(|end| **end > mark).count() as u64
 }
 

@@ -53,7 +53,7 @@ impl CountTables {
         ensures { IfOk result (λ t. t ≡ record { states = states_of dfa.now; kept = []; numbers = [] }) }
     {
         Ok(CountTables {
-            states: u16::from(dfa.states()),
+            states: dfa.states(),
             kept: TableSet::new(alloc),
             numbers: Vec::new(alloc),
             memo: PairMemo::new(alloc, REMEMBERED)?,

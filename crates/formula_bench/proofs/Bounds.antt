@@ -1,5 +1,5 @@
 -- A formula that was read is within the limits.
-use Rattle.std.proofs.Common.{◌≡◌, ℕ, ◌<◌, ◌≤◌, None, List, [], length, arith}
+use Rattle.std.proofs.Common.{ℕ, ◌≤◌, List, [], length, arith}
 use Rattle.span_types.specs.FormulaTree.{FormulaTree, Set, Empty, Cat, Alt, Star, Plus, Opt, Capture, var_bound}
 use Rattle.formula_syntax.specs.Grammar.{alt}
 use Rattle.formula_syntax.specs.Numbering.{Names}

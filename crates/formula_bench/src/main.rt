@@ -2,26 +2,28 @@
 //! of queries. The figures go to standard error.
 //!
 //! ```text
-//! rt try        # a line for each formula: microseconds for the position automaton and for the deterministic one;
-//!               # for each two queries the microseconds of their union, their join and a projection
+//! rt try        # for each formula the microseconds for the position automaton, and for the deterministic one within
+//!               # 128 states and within 1,024; for each two queries, within each limit, those of their union, their
+//!               # join and a projection
 //! ```
 //!
 //! It isn't part of the database. It shows the most expensive inputs of `marker_nfa`, `marker_dfa` and `span_algebra`:
 //!
 //! - formulas of 2,048 bytes with eight variables whose marks lie between many occurrences;
-//! - two automata of up to 128 states with eight variables, with products of exactly 128 states and of more.
+//! - two automata of up to 1,024 states with eight variables, with products of exactly 128 states and of more.
 //!
-//! It takes no input, and memory for the
-//! automata of one line at a time.
+//! It takes no input, and memory for the automata of one line at a time.
 //!
 //! Proved: Only safety and termination.
 #![tactic(auto)]
 
+ghost use Rattle.std.specs.Prelude.{◌≤◌};
+
 mod queries;
 
 use formula_syntax::read;
-use marker_dfa::determinise;
-use marker_nfa::of_formula;
+use marker_dfa::determinise_within;
+use marker_nfa::{Nfa, of_formula};
 use queries::measure_queries;
 use std::alloc::{AllocError, Global};
 use std::io;
@@ -86,6 +88,29 @@ fn between_stars(alloc: Global) -> Result<Vec<u8>, AllocError> {
     around(alloc, &side, 1, b"", b"}?")
 }
 
+// Appends five letters that depend on the seed, and moves the seed on.
+fn push_word(out: &mut Vec<u8>, seed: &mut u32) -> Result<(), AllocError> {
+    for _ in 0..5 {
+        *seed = seed.wrapping_mul(1_664_525).wrapping_add(1_013_904_223);
+        out.push(b'a' + (*seed >> 24) as u8 % 26)?;
+    }
+    Ok(())
+}
+
+// A text that ends with one of `count + 1` words of five letters. Each state has a next state for each letter.
+fn last_word(alloc: Global, count: u32) -> Result<Vec<u8>, AllocError> {
+    let mut text = Vec::new(alloc);
+    let mut seed = 1;
+    text.extend_from_slice(b".*(")?;
+    for _ in 0..count {
+        push_word(&mut text, &mut seed)?;
+        text.push(b'|')?;
+    }
+    push_word(&mut text, &mut seed)?;
+    text.push(b')')?;
+    Ok(text)
+}
+
 fn measure(rt: &HostRuntime, name: &str, text: Result<Vec<u8>, AllocError>) -> io::Result<()> {
     match text {
         Ok(text) => measure_text(rt, name, text.as_slice()),
@@ -108,21 +133,31 @@ fn measure_text(rt: &HostRuntime, name: &str, text: &[u8]) -> io::Result<()> {
     let edges = nfa.edges().len();
     let names = vars.count();
     eprintln!(rt; "{name}: {names} variables, read in {reading} us, {edges} edges in {making} us")?;
+    measure_states(rt, &nfa, 128)?;
+    measure_states(rt, &nfa, 1024)
+}
+
+// The deterministic automaton of at most `most` states.
+fn measure_states(rt: &HostRuntime, nfa: &Nfa, most: u16) -> io::Result<()>
+    requires few { 128 ≤ most }
+    requires many { most ≤ 1024 }
+{
     let start = Instant::now(rt)?;
-    let dfa = determinise(alloc, &nfa);
-    let determinising = start.elapsed(rt)?.as_micros();
+    let dfa = determinise_within(rt.alloc(), nfa, most);
+    let took = start.elapsed(rt)?.as_micros();
     match dfa {
         Ok(dfa) => {
             let states = dfa.states();
-            eprintln!(rt; "  {states} states in {determinising} us")
+            eprintln!(rt; "  within {most}: {states} states in {took} us")
         }
-        Err(_) => eprintln!(rt; "  too many states in {determinising} us"),
+        Err(_) => eprintln!(rt; "  within {most}: too many states in {took} us"),
     }
 }
 
 fn main(rt: HostRuntime) -> io::Result<()> {
     let alloc = rt.alloc();
     measure(&rt, "2,047 stars", with_tail(alloc, b"a", b"*", 2047))?;
+    measure(&rt, "101 words of five letters", last_word(alloc, 100))?;
     measure(
         &rt,
         "512 sets under 1,000 signs",
@@ -158,5 +193,6 @@ fn main(rt: HostRuntime) -> io::Result<()> {
         "126 letters, 8 of them captured or left out",
         around(alloc, b"a", 59, b"a", b"}?"),
     )?;
-    measure_queries(&rt)
+    measure_queries(&rt, 128)?;
+    measure_queries(&rt, 1024)
 }

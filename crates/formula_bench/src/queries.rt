@@ -1,12 +1,12 @@
 //! Times the most expensive queries that are made of queries.
 
-ghost use Rattle.std.specs.Prelude.{◌≡◌, IfSome, length};
+ghost use Rattle.std.specs.Prelude.{◌≡◌, ◌≤◌, IfSome, length};
 
 use crate::{around, repeat};
 use formula_syntax::read;
-use marker_dfa::{Dfa, determinise};
+use marker_dfa::{Dfa, determinise_within};
 use marker_nfa::of_formula;
-use span_algebra::{join, project, union};
+use span_algebra::{join_within, project_within, union_within};
 use span_types::Vars;
 use std::alloc::{AllocError, Global};
 use std::io;
@@ -29,8 +29,10 @@ fn named(dfa: Dfa, names: Vars) -> Option<Query>
     Some(Query { dfa, names })
 }
 
-// The query of a formula, unless it is rejected.
-fn read_query(alloc: Global, text: Result<Vec<u8>, AllocError>) -> Option<Query>
+// The query of a formula within a limit of states, unless it is rejected.
+fn read_query(alloc: Global, text: Result<Vec<u8>, AllocError>, most: u16) -> Option<Query>
+    requires few { 128 ≤ most }
+    requires many { most ≤ 1024 }
     ensures { IfSome result (λ q. length q.names ≡ q.dfa.variables) }
 {
     let Ok(text) = text else {
@@ -42,7 +44,7 @@ fn read_query(alloc: Global, text: Result<Vec<u8>, AllocError>) -> Option<Query>
     let Ok(nfa) = of_formula(alloc, &formula) else {
         return None;
     };
-    match determinise(alloc, &nfa) {
+    match determinise_within(alloc, &nfa, most) {
         Ok(dfa) => named(dfa, names),
         Err(_) => None,
     }
@@ -110,7 +112,7 @@ fn star(alloc: Global, part: &[u8], times: u32, end: &[u8]) -> Result<Vec<u8>, A
     Ok(text)
 }
 
-fn tell(rt: &HostRuntime, name: &str, states: Option<u8>, took: Duration) -> io::Result<()> {
+fn tell(rt: &HostRuntime, name: &str, states: Option<u16>, took: Duration) -> io::Result<()> {
     let took = took.as_micros();
     match states {
         Some(states) => eprintln!(rt; "  {name}: {states} states in {took} us"),
@@ -118,12 +120,21 @@ fn tell(rt: &HostRuntime, name: &str, states: Option<u8>, took: Duration) -> io:
     }
 }
 
-fn measure_union(rt: &HostRuntime, left: &Query, right: &Query) -> io::Result<()>
+fn measure_union(rt: &HostRuntime, left: &Query, right: &Query, most: u16) -> io::Result<()>
     requires left { length left.now.names ≡ left.now.dfa.variables }
     requires right { length right.now.names ≡ right.now.dfa.variables }
+    requires few { 128 ≤ most }
+    requires many { most ≤ 1024 }
 {
     let start = Instant::now(rt)?;
-    let made = union(rt.alloc(), &left.dfa, &left.names, &right.dfa, &right.names);
+    let made = union_within(
+        rt.alloc(),
+        &left.dfa,
+        &left.names,
+        &right.dfa,
+        &right.names,
+        most,
+    );
     let took = start.elapsed(rt)?;
     match made {
         Ok((dfa, _)) => tell(rt, "union", Some(dfa.states()), took),
@@ -131,12 +142,21 @@ fn measure_union(rt: &HostRuntime, left: &Query, right: &Query) -> io::Result<()
     }
 }
 
-fn measure_join(rt: &HostRuntime, left: &Query, right: &Query) -> io::Result<()>
+fn measure_join(rt: &HostRuntime, left: &Query, right: &Query, most: u16) -> io::Result<()>
     requires left { length left.now.names ≡ left.now.dfa.variables }
     requires right { length right.now.names ≡ right.now.dfa.variables }
+    requires few { 128 ≤ most }
+    requires many { most ≤ 1024 }
 {
     let start = Instant::now(rt)?;
-    let made = join(rt.alloc(), &left.dfa, &left.names, &right.dfa, &right.names);
+    let made = join_within(
+        rt.alloc(),
+        &left.dfa,
+        &left.names,
+        &right.dfa,
+        &right.names,
+        most,
+    );
     let took = start.elapsed(rt)?;
     match made {
         Ok((dfa, _)) => tell(rt, "join", Some(dfa.states()), took),
@@ -145,11 +165,13 @@ fn measure_join(rt: &HostRuntime, left: &Query, right: &Query) -> io::Result<()>
 }
 
 // A projection to the variables of another query.
-fn measure_project(rt: &HostRuntime, source: &Query, keep: &Query) -> io::Result<()>
-    requires { length source.now.names ≡ source.now.dfa.variables }
+fn measure_project(rt: &HostRuntime, source: &Query, keep: &Query, most: u16) -> io::Result<()>
+    requires few { 128 ≤ most }
+    requires many { most ≤ 1024 }
+    requires names { length source.now.names ≡ source.now.dfa.variables }
 {
     let start = Instant::now(rt)?;
-    let made = project(rt.alloc(), &source.dfa, &source.names, &keep.names);
+    let made = project_within(rt.alloc(), &source.dfa, &source.names, &keep.names, most);
     let took = start.elapsed(rt)?;
     match made {
         Ok(dfa) => tell(rt, "project", Some(dfa.states()), took),
@@ -163,7 +185,10 @@ fn measure_both(
     name: &str,
     left: Option<Query>,
     right: Option<Query>,
+    most: u16,
 ) -> io::Result<()>
+    requires few { 128 ≤ most }
+    requires many { most ≤ 1024 }
     requires left { IfSome left (λ q. length q.names ≡ q.dfa.variables) }
     requires right { IfSome right (λ q. length q.names ≡ q.dfa.variables) }
 {
@@ -176,10 +201,10 @@ fn measure_both(
     let states = left.dfa.states();
     let others = right.dfa.states();
     eprintln!(rt; "{name}: {states} and {others} states")?;
-    measure_union(rt, &left, &right)?;
-    measure_join(rt, &left, &right)?;
-    match read_query(rt.alloc(), four(rt.alloc())) {
-        Some(keep) => measure_project(rt, &left, &keep),
+    measure_union(rt, &left, &right, most)?;
+    measure_join(rt, &left, &right, most)?;
+    match read_query(rt.alloc(), four(rt.alloc()), most) {
+        Some(keep) => measure_project(rt, &left, &keep, most),
         None => Ok(()),
     }
 }
@@ -195,7 +220,9 @@ fn four(alloc: Global) -> Result<Vec<u8>, AllocError> {
 }
 
 // The join of two queries, unless one is rejected.
-fn joined(alloc: Global, left: Option<Query>, right: Option<Query>) -> Option<Query>
+fn joined(alloc: Global, left: Option<Query>, right: Option<Query>, most: u16) -> Option<Query>
+    requires few { 128 ≤ most }
+    requires many { most ≤ 1024 }
     requires left { IfSome left (λ q. length q.names ≡ q.dfa.variables) }
     requires right { IfSome right (λ q. length q.names ≡ q.dfa.variables) }
     ensures { IfSome result (λ q. length q.names ≡ q.dfa.variables) }
@@ -206,61 +233,120 @@ fn joined(alloc: Global, left: Option<Query>, right: Option<Query>) -> Option<Qu
     let Some(right) = right else {
         return None;
     };
-    match join(alloc, &left.dfa, &left.names, &right.dfa, &right.names) {
+    match join_within(
+        alloc,
+        &left.dfa,
+        &left.names,
+        &right.dfa,
+        &right.names,
+        most,
+    ) {
         Ok((dfa, names)) => named(dfa, names),
         Err(_) => None,
     }
 }
 
 // An automaton of 127 states over 63 letters, with 256 marks at each second state.
-fn many_letters(alloc: Global) -> Option<Query>
+fn many_letters(alloc: Global, most: u16) -> Option<Query>
+    requires few { 128 ≤ most }
+    requires many { most ≤ 1024 }
     ensures { IfSome result (λ q. length q.names ≡ q.dfa.variables) }
 {
     joined(
         alloc,
-        read_query(alloc, last_letter(alloc)),
-        read_query(alloc, around(alloc, b".*", 1, b"", b"}?")),
+        read_query(alloc, last_letter(alloc), most),
+        read_query(alloc, around(alloc, b".*", 1, b"", b"}?"), most),
+        most,
+    )
+}
+
+// An automaton of 1,009 states: the one of 127 states, for texts whose length is divisible by eight.
+fn many_letters_by_eight(alloc: Global, most: u16) -> Option<Query>
+    requires few { 128 ≤ most }
+    requires many { most ≤ 1024 }
+    ensures { IfSome result (λ q. length q.names ≡ q.dfa.variables) }
+{
+    joined(
+        alloc,
+        many_letters(alloc, most),
+        read_query(alloc, star(alloc, b".", 8, b""), most),
+        most,
     )
 }
 
 // An automaton of 127 states, some of which are for eight variables.
-fn chain(alloc: Global) -> Option<Query>
+fn chain(alloc: Global, most: u16) -> Option<Query>
+    requires few { 128 ≤ most }
+    requires many { most ≤ 1024 }
     ensures { IfSome result (λ q. length q.names ≡ q.dfa.variables) }
 {
-    read_query(alloc, around(alloc, b"a", 59, b"a", b"}?"))
+    read_query(alloc, around(alloc, b"a", 59, b"a", b"}?"), most)
 }
 
-/// Times unions, joins and projections of the most expensive queries.
-pub fn measure_queries(rt: &HostRuntime) -> io::Result<()> {
+// Operands with many letters or many marks.
+fn measure_large(rt: &HostRuntime, most: u16) -> io::Result<()>
+    requires few { 128 ≤ most }
+    requires many { most ≤ 1024 }
+{
     let alloc = rt.alloc();
     measure_both(
         rt,
         "63 letters, and 256 marks at each second state",
-        many_letters(alloc),
-        many_letters(alloc),
+        many_letters(alloc, most),
+        many_letters(alloc, most),
+        most,
+    )?;
+    measure_both(
+        rt,
+        "63 letters in groups of eight, and 256 marks at each second state",
+        many_letters_by_eight(alloc, most),
+        many_letters_by_eight(alloc, most),
+        most,
     )?;
     measure_both(
         rt,
         "3,072 marks at a state",
-        read_query(alloc, many_marks(alloc)),
-        read_query(alloc, many_marks(alloc)),
+        read_query(alloc, many_marks(alloc), most),
+        read_query(alloc, many_marks(alloc), most),
+        most,
     )?;
     measure_both(
         rt,
         "126 letters, 8 of them captured or left out",
-        chain(alloc),
-        chain(alloc),
-    )?;
+        chain(alloc, most),
+        chain(alloc, most),
+        most,
+    )
+}
+
+// Operands whose product has 128 states, or more.
+fn measure_products(rt: &HostRuntime, most: u16) -> io::Result<()>
+    requires few { 128 ≤ most }
+    requires many { most ≤ 1024 }
+{
+    let alloc = rt.alloc();
     measure_both(
         rt,
         "a product of 128 states",
-        read_query(alloc, star(alloc, b"b*a", 7, b"b*c")),
-        read_query(alloc, star(alloc, b"a*b", 9, b"a*c")),
+        read_query(alloc, star(alloc, b"b*a", 7, b"b*c"), most),
+        read_query(alloc, star(alloc, b"a*b", 9, b"a*c"), most),
+        most,
     )?;
     measure_both(
         rt,
         "a product of more",
-        read_query(alloc, star(alloc, b"b*a", 7, b"b*cc")),
-        read_query(alloc, star(alloc, b"a*b", 9, b"a*cc")),
+        read_query(alloc, star(alloc, b"b*a", 7, b"b*cc"), most),
+        read_query(alloc, star(alloc, b"a*b", 9, b"a*cc"), most),
+        most,
     )
+}
+
+/// Times unions, joins and projections of the most expensive queries, each within a limit of states.
+pub fn measure_queries(rt: &HostRuntime, most: u16) -> io::Result<()>
+    requires few { 128 ≤ most }
+    requires many { most ≤ 1024 }
+{
+    eprintln!(rt; "within {most} states:")?;
+    measure_large(rt, most)?;
+    measure_products(rt, most)
 }

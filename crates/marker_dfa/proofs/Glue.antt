@@ -55,7 +55,7 @@ both_ways : {X R : Type 0} (o : Option X) → (o ≡ None → R) → ((x : X) �
 both_ways None f g = f refl
 both_ways (Some x) f g = g x refl
 
-module _ (a : Automaton) (classes : ByteClasses) (rows : List Row) (au : IsAutomaton a) (cl : AreClasses classes) (fit : (e : Edge) → Contains a.edges e → IsFit classes e.letters) (h : AreAllRows a classes.firsts.items rows) where
+module _ (most : ℕ) (a : Automaton) (classes : ByteClasses) (rows : List Row) (au : IsAutomaton a) (cl : AreClasses classes) (fit : (e : Edge) → Contains a.edges e → IsFit classes e.letters) (h : AreAllRows most a classes.firsts.items rows) where
   abbrev dfa : DeterministicAutomaton
   dfa = record { variables = a.variables; classes = classes.of.items; rows = rows }
 
@@ -277,10 +277,10 @@ module _ (a : Automaton) (classes : ByteClasses) (rows : List Row) (au : IsAutom
   ends_small : (q m : ℕ) → Contains (ends_of dfa q) m → m < 4 ^ a.variables
   ends_small q m c = both_ways (slice_get rows q) (λ n. absurd (none_in m (subst (λ (o : Option Row). Contains (ends_in o) m) n c))) (λ r g. (let s = set_at q r g in let w = (s.is_row.ends.members m).0 (subst (λ (o : Option Row). Contains (ends_in o) m) g c) in au.wellmarked.end_marks _ w.2))
 
-  pub is_deterministic : IsDeterministic dfa
-  is_deterministic = record {
+  pub is_deterministic : most ≤ 1024 → IsDeterministic dfa
+  is_deterministic many = record {
     has_start = omega (arith, get_within h.subsets 0 _ h.each.found.start, h.all);
-    few_states = omega (arith, h.each.found.few, h.all);
+    few_states = omega (arith, h.each.found.few, h.all, many);
     few_variables = au.few_variables;
     within = λ q m b r g. (let l = leads q m b r g in omega (arith, get_within h.subsets r l.target.members l.target.there, h.all));
     marks = λ q b m. ((λ c. marks_to q b m c), λ s. marks_from q b m s.0 s.1);
@@ -297,5 +297,5 @@ module _ (a : Automaton) (classes : ByteClasses) (rows : List Row) (au : IsAutom
     cells = λ q b c r g at_b. (let s = set_at q r g in omega (arith, cl.within b c at_b, s.is_row.cells.size));
   }
 
-  pub not_too_many : AreTooMany a → ⊥
-  not_too_many t = omega (arith, states_above a.states (Moves a) (MayEnd a) dfa stands_for 128 t, is_deterministic.few_states)
+  pub not_too_many : AreTooMany most a → ⊥
+  not_too_many t = omega (arith, states_above a.states (Moves a) (MayEnd a) dfa stands_for most t, h.each.found.few, h.all)

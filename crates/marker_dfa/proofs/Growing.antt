@@ -1,5 +1,5 @@
 -- What holds of the sets and of a cell while they grow.
-use Rattle.std.proofs.Common.{◌≡◌, ℕ, zero, suc, ◌+◌, ◌<◌, ◌≤◌, ◌⊎◌, inl, inr, refl, sym, ap, subst, ◌∙◌, arith, List, [], ◌∷◌, ◌++◌, length, Some, slice_get, get_or, Contains, length-append, lit≤}
+use Rattle.std.proofs.Common.{◌≡◌, ℕ, zero, suc, ◌+◌, ◌<◌, ◌≤◌, ◌⊎◌, inl, inr, refl, sym, ap, subst, ◌∙◌, arith, List, [], ◌∷◌, ◌++◌, length, Some, slice_get, get_or, Contains, length-append}
 use Rattle.std.proofs.lemmas.Option.{slice_get-get_or}
 use Rattle.marker_nfa.specs.Automaton.{Automaton, Moves}
 use Rattle.marker_dfa.specs.Reached.{AreReached, Subset, IsIn, IsMove, IsReached, start, next, start_set}
@@ -17,12 +17,12 @@ pub record IsCellUpTo (a : Automaton) (subsets : List Subset) (x : Subset) (b : 
   pub within : (j m : ℕ) → slice_get ms j ≡ Some m → (i : ℕ) × (i < k) × (slice_get alphabet i ≡ Some m)
 
 -- while the first k marks are passed
-pub record Cells (a : Automaton) (alphabet : List ℕ) (x : Subset) (b k : ℕ) (old new : List Subset) (ms ts : List ℕ) : Type 0 where
-  pub found : AreFound a new
+pub record Cells (most : ℕ) (a : Automaton) (alphabet : List ℕ) (x : Subset) (b k : ℕ) (old new : List Subset) (ms ts : List ℕ) : Type 0 where
+  pub found : AreFound most a new
   pub extends : Extends old new
   pub cell : IsCellUpTo a new x b alphabet k ms ts
 
-pub cells_start : (a : Automaton) (alphabet : List ℕ) (x : Subset) (b : ℕ) (old : List Subset) → AreFound a old → Cells a alphabet x b 0 old old [] []
+pub cells_start : {most : ℕ} (a : Automaton) (alphabet : List ℕ) (x : Subset) (b : ℕ) (old : List Subset) → AreFound most a old → Cells most a alphabet x b 0 old old [] []
 cells_start a alphabet x b old f = record {
   found = f;
   extends = record { stays = λ q y h. h };
@@ -60,27 +60,27 @@ push_reached a old x f fresh r = record {
     reached' q y (inl h) = f.reached q y h
     reached' q y (inr h) = subst (IsReached a.states (Moves a)) h.1 r
 
-pub too_many : (a : Automaton) (old : List Subset) (x : Subset) → AreFound a old → HasNoRoom old x → IsReached a.states (Moves a) x → AreTooMany a
-too_many a old x f n r = record { subsets = old ++ x ∷ []; many = omega (arith, length-append old (x ∷ []), n.full); sets = push_reached a old x f.sets n.fresh r }
+pub too_many : (most : ℕ) (a : Automaton) (old : List Subset) (x : Subset) → AreFound most a old → HasNoRoom most old x → IsReached a.states (Moves a) x → AreTooMany most a
+too_many most a old x f n r = record { subsets = old ++ x ∷ []; many = omega (arith, length-append old (x ∷ []), n.full); sets = push_reached a old x f.sets n.fresh r }
 
 -- the sets with one more at its index
-pub placed_found : (a : Automaton) (old new : List Subset) (x : Subset) (q : ℕ) → AreFound a old → IsPlaced old new x q → IsReached a.states (Moves a) x → length x ≡ a.states → length new ≤ 128 → AreFound a new
-placed_found a old new x q f p r size few = go p.list
+pub placed_found : (most : ℕ) (a : Automaton) (old new : List Subset) (x : Subset) (q : ℕ) → AreFound most a old → IsPlaced old new x q → IsReached a.states (Moves a) x → length x ≡ a.states → length new ≤ most → AreFound most a new
+placed_found most a old new x q f p r size few = go p.list
   where
     sizes' : (g : ℕ) (y : Subset) → (slice_get old g ≡ Some y) ⊎ ((g ≡ length old) × (x ≡ y)) → length y ≡ a.states
     sizes' g y (inl h) = f.sizes g y h
     sizes' g y (inr h) = ap length (sym h.1) ∙ size
 
-    go : (new ≡ old) ⊎ ((new ≡ old ++ x ∷ []) × (q ≡ length old)) → AreFound a new
-    go (inl e) = subst (AreFound a) (sym e) f
+    go : (new ≡ old) ⊎ ((new ≡ old ++ x ∷ []) × (q ≡ length old)) → AreFound most a new
+    go (inl e) = subst (AreFound most a) (sym e) f
     go (inr e) =
-        let pushed : AreFound a (old ++ x ∷ []) = record {
+        let pushed : AreFound most a (old ++ x ∷ []) = record {
           start = push_get old x _ 0 f.start;
           sets = push_reached a old x f.sets (p.fresh (omega (arith, e.1))) r;
           sizes = λ g y h. sizes' g y (get_push old x y g h);
-          few = subst (λ (l : List Subset). length l ≤ 128) e.0 few;
+          few = subst (λ (l : List Subset). length l ≤ most) e.0 few;
         } in
-        subst (AreFound a) (sym e.0) pushed
+        subst (AreFound most a) (sym e.0) pushed
 
 pub placed_extends : (old new : List Subset) (x : Subset) (q : ℕ) → IsPlaced old new x q → Extends old new
 placed_extends old new x q p = record { stays = λ s y h. go s y h p.list }
@@ -142,19 +142,19 @@ both_extend old mid new e f = record { stays = λ q x h. f.stays q x (e.stays q 
 pub some_same : (x y : Subset) → Some x ≡ Some y → x ≡ y
 some_same x y e = cc
 
-module _ (a : Automaton) (alphabet : List ℕ) (b k : ℕ) (old mid : List Subset) (ms ts : List ℕ) (x y : Subset) where
+module _ (most : ℕ) (a : Automaton) (alphabet : List ℕ) (b k : ℕ) (old mid : List Subset) (ms ts : List ℕ) (x y : Subset) where
   reached_move : IsReached a.states (Moves a) x → IsMove a.states (Moves a) x (get_or alphabet k 0) b y → ((p : ℕ) × IsIn y p) → IsReached a.states (Moves a) y
   reached_move r mv w = next x y (get_or alphabet k 0) b w.0 r mv w.1
 
-  pub step_refused : Cells a alphabet x b k old mid ms ts → IsReached a.states (Moves a) x → IsMove a.states (Moves a) x (get_or alphabet k 0) b y → ((p : ℕ) × IsIn y p) → HasNoRoom mid y → AreTooMany a
-  step_refused c r mv w full = too_many a mid y c.found full (reached_move r mv w)
+  pub step_refused : Cells most a alphabet x b k old mid ms ts → IsReached a.states (Moves a) x → IsMove a.states (Moves a) x (get_or alphabet k 0) b y → ((p : ℕ) × IsIn y p) → HasNoRoom most mid y → AreTooMany most a
+  step_refused c r mv w full = too_many most a mid y c.found full (reached_move r mv w)
 
-  pub step_more : (new : List Subset) (q : ℕ) → Cells a alphabet x b k old mid ms ts → IsFalling alphabet → k < length alphabet → IsReached a.states (Moves a) x → IsMove a.states (Moves a) x (get_or alphabet k 0) b y → ((p : ℕ) × IsIn y p) → IsPlaced mid new y q → length new ≤ 128 → Cells a alphabet x b (k + 1) old new (ms ++ get_or alphabet k 0 ∷ []) (ts ++ q ∷ [])
+  pub step_more : (new : List Subset) (q : ℕ) → Cells most a alphabet x b k old mid ms ts → IsFalling alphabet → k < length alphabet → IsReached a.states (Moves a) x → IsMove a.states (Moves a) x (get_or alphabet k 0) b y → ((p : ℕ) × IsIn y p) → IsPlaced mid new y q → length new ≤ most → Cells most a alphabet x b (k + 1) old new (ms ++ get_or alphabet k 0 ∷ []) (ts ++ q ∷ [])
   step_more new q c falls up r mv w placed few =
       let ext = placed_extends mid new y q placed in
       let target : IsTarget a new x (get_or alphabet k 0) b q = record { members = y; state = w.0; there = placed.there; move = mv; is_in = w.1 } in
       record {
-        found = placed_found a mid new y q c.found placed (reached_move r mv w) mv.size few;
+        found = placed_found most a mid new y q c.found placed (reached_move r mv w) mv.size few;
         extends = both_extend old mid new c.extends ext;
         cell = cell_more a mid new x b alphabet k ms ts (get_or alphabet k 0) q falls ext (mark_there alphabet k up) target c.cell;
       }
@@ -168,15 +168,15 @@ cell_stays a old new x b ms ts e c = record {
   falling = c.falling;
 }
 
-pub start_found : (a : Automaton) → 0 < a.states → AreFound a (start_set a.states ∷ [])
-start_found a lt = record {
+pub start_found : (most : ℕ) (a : Automaton) → 1 ≤ most → 0 < a.states → AreFound most a (start_set a.states ∷ [])
+start_found most a some lt = record {
   start = refl;
   sets = record {
     apart = λ q r x h k. (let l : q < 1 = get_within (start_set a.states ∷ []) q x h in let m : r < 1 = get_within (start_set a.states ∷ []) r x k in omega arith);
     reached = λ q x h. reached' q x h;
   };
   sizes = λ q x h. sizes' q x h;
-  few = lit≤ tt;
+  few = some;
 }
   where
     reached' : (q : ℕ) (x : Subset) → slice_get (start_set a.states ∷ []) q ≡ Some x → IsReached a.states (Moves a) x

@@ -10,8 +10,8 @@ use Rattle.marker_dfa.proofs.Lists.{get_push, get_within, one_value}
 use Rattle.marker_dfa.proofs.Growing.{cell_stays, both_extend, start_found}
 
 -- while the first n bytes are passed
-pub record CellsSoFar (a : Automaton) (x : Subset) (bytes : List ℕ) (n : ℕ) (old new : List Subset) (cells : List Cell) : Type 0 where
-  pub found : AreFound a new
+pub record CellsSoFar (most : ℕ) (a : Automaton) (x : Subset) (bytes : List ℕ) (n : ℕ) (old new : List Subset) (cells : List Cell) : Type 0 where
+  pub found : AreFound most a new
   pub extends : Extends old new
   pub cells_are : AreCells a new x bytes n cells
 
@@ -38,7 +38,7 @@ cells_stay a old new x bytes n cells e h = record {
 pub row_stays : (a : Automaton) (old new : List Subset) (x : Subset) (bytes : List ℕ) (r : Row) → Extends old new → IsRow a old x bytes r → IsRow a new x bytes r
 row_stays a old new x bytes r e h = record { cells = cells_stay a old new x bytes (length bytes) r.cells.items e h.cells; ends = h.ends }
 
-pub so_far_start : (a : Automaton) (x : Subset) (bytes : List ℕ) (old : List Subset) → AreFound a old → CellsSoFar a x bytes 0 old old []
+pub so_far_start : {most : ℕ} (a : Automaton) (x : Subset) (bytes : List ℕ) (old : List Subset) → AreFound most a old → CellsSoFar most a x bytes 0 old old []
 so_far_start a x bytes old f = record {
   found = f;
   extends = record { stays = λ q y h. h };
@@ -46,16 +46,16 @@ so_far_start a x bytes old f = record {
 }
 
 -- one more byte
-pub so_far_more : (a : Automaton) (x : Subset) (bytes : List ℕ) (n b : ℕ) (old mid new : List Subset) (cells : List Cell) (c : Cell) → slice_get bytes n ≡ Some b → CellsSoFar a x bytes n old mid cells → AreFound a new → Extends mid new → IsCell a new x b c.marks.items c.targets.items → CellsSoFar a x bytes (n + 1) old new (cells ++ c ∷ [])
-so_far_more a x bytes n b old mid new cells c at r f e k = record {
+pub so_far_more : (most : ℕ) (a : Automaton) (x : Subset) (bytes : List ℕ) (n b : ℕ) (old mid new : List Subset) (cells : List Cell) (c : Cell) → slice_get bytes n ≡ Some b → CellsSoFar most a x bytes n old mid cells → AreFound most a new → Extends mid new → IsCell a new x b c.marks.items c.targets.items → CellsSoFar most a x bytes (n + 1) old new (cells ++ c ∷ [])
+so_far_more most a x bytes n b old mid new cells c at r f e k = record {
   found = f;
   extends = both_extend old mid new r.extends e;
   cells_are = cells_more a mid new x bytes n b cells c at e r.cells_are k;
 }
 
 -- one more row
-pub rows_more : (a : Automaton) (bytes : List ℕ) (old new : List Subset) (rows : List Row) (r : Row) → AreRows a old bytes rows → length rows < length old → AreFound a new → Extends old new → ((x : Subset) → slice_get old (length rows) ≡ Some x → IsRow a new x bytes r) → AreRows a new bytes (rows ++ r ∷ [])
-rows_more a bytes old new rows r h lt f e k = record {
+pub rows_more : (most : ℕ) (a : Automaton) (bytes : List ℕ) (old new : List Subset) (rows : List Row) (r : Row) → AreRows most a old bytes rows → length rows < length old → AreFound most a new → Extends old new → ((x : Subset) → slice_get old (length rows) ≡ Some x → IsRow a new x bytes r) → AreRows most a new bytes (rows ++ r ∷ [])
+rows_more most a bytes old new rows r h lt f e k = record {
   found = f;
   few = more_sets (length rows) lt e;
   each = λ q x s g i. go q x s g (get_push rows r s q i);
@@ -82,5 +82,5 @@ rows_more a bytes old new rows r h lt f e k = record {
         let g' : slice_get new (length rows) ≡ Some x = ap (slice_get new) (sym i.0) ∙ g in
         subst C i.1 (k x (old_set (length rows) x lt g'))
 
-pub rows_start : (a : Automaton) (bytes : List ℕ) → 0 < a.states → AreRows a (start_set a.states ∷ []) bytes []
-rows_start a bytes lt = record { found = start_found a lt; few = omega arith; each = λ q x r g i. absurd (cc) }
+pub rows_start : (most : ℕ) (a : Automaton) (bytes : List ℕ) → 1 ≤ most → 0 < a.states → AreRows most a (start_set a.states ∷ []) bytes []
+rows_start most a bytes some lt = record { found = start_found most a some lt; few = omega arith; each = λ q x r g i. absurd (cc) }

@@ -68,7 +68,7 @@ pub record PathAccepts (d : DeterministicAutomaton) (w : MarkedText) : Type 0 wh
 -- of at most 2^48 bytes has the marks of a tuple
 pub record IsDeterministic (d : DeterministicAutomaton) : Type 0 where
   pub has_start : 0 < states_of d
-  pub few_states : states_of d ≤ 128
+  pub few_states : states_of d ≤ 1024
   pub few_variables : d.variables ≤ 8
   pub within : (q m b r : ℕ) → next_of d q m b ≡ Some r → r < states_of d
   pub marks : (q b m : ℕ) → Contains (marks_of d q b) m ↔ (r : ℕ) × (next_of d q m b ≡ Some r)
@@ -98,9 +98,9 @@ pub record IsAutomatonOf (n : ℕ) (Step : ℕ → ℕ → ℕ → ℕ → Type 
 abbrev pub StandsFor : Automaton → DeterministicAutomaton → Type 0
 StandsFor a d = IsAutomatonOf a.states (Moves a) (MayEnd a) d
 
--- an automaton reaches more than 128 sets
-abbrev pub AreTooMany : Automaton → Type 0
-AreTooMany a = CountIsAbove 128 a.states (Moves a)
+-- an automaton reaches more sets than `most`
+abbrev pub AreTooMany : ℕ → Automaton → Type 0
+AreTooMany most a = CountIsAbove most a.states (Moves a)
 
 -- the two automata have the same variables and accept the same marked texts
 pub record AcceptsSame (a : Automaton) (d : DeterministicAutomaton) : Type 0 where

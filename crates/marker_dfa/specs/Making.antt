@@ -154,12 +154,12 @@ pub record IsSplitUpTo (classes : ByteClasses) (letters : List Bool) (n : ℕ) (
   pub firsts : (c f : ℕ) → slice_get split.firsts.items c ≡ Some f → f < n
   pub goes : (b c f : ℕ) → slice_get split.of.items b ≡ Some c → slice_get split.firsts.items c ≡ Some f → GoesWith classes letters b f
 
--- the sets found so far: the start first, all reached, none twice, and at most 128
-pub record AreFound (a : Automaton) (subsets : List Subset) : Type 0 where
+-- the sets found so far: the start first, all reached, none twice, and no more than `most`
+pub record AreFound (most : ℕ) (a : Automaton) (subsets : List Subset) : Type 0 where
   pub start : slice_get subsets 0 ≡ Some (start_set a.states)
   pub sets : AreReached a.states (Moves a) subsets
   pub sizes : (q : ℕ) (x : Subset) → slice_get subsets q ≡ Some x → length x ≡ a.states
-  pub few : length subsets ≤ 128
+  pub few : length subsets ≤ most
 
 -- the old sets keep their indices
 pub record Extends (old new : List Subset) : Type 0 where
@@ -171,9 +171,9 @@ pub record IsPlaced (old new : List Subset) (x : Subset) (q : ℕ) : Type 0 wher
   pub list : (new ≡ old) ⊎ ((new ≡ old ++ x ∷ []) × (q ≡ length old))
   pub fresh : length old ≤ q → (r : ℕ) → slice_get old r ≡ Some x → ⊥
 
--- a set for which there is no room
-pub record HasNoRoom (old : List Subset) (x : Subset) : Type 0 where
-  pub full : length old ≡ 128
+-- a set for which there is no room among `most`
+pub record HasNoRoom (most : ℕ) (old : List Subset) (x : Subset) : Type 0 where
+  pub full : length old ≡ most
   pub fresh : (r : ℕ) → slice_get old r ≡ Some x → ⊥
 
 -- the state that stands for a move with at least one member
@@ -211,13 +211,13 @@ pub record IsRow (a : Automaton) (subsets : List Subset) (x : Subset) (firsts : 
   pub ends : AreEnds a x row.ends.items
 
 -- the first sets have their rows
-pub record AreRows (a : Automaton) (subsets : List Subset) (firsts : List ℕ) (rows : List Row) : Type 0 where
-  pub found : AreFound a subsets
+pub record AreRows (most : ℕ) (a : Automaton) (subsets : List Subset) (firsts : List ℕ) (rows : List Row) : Type 0 where
+  pub found : AreFound most a subsets
   pub few : length rows ≤ length subsets
   pub each : (q : ℕ) (x : Subset) (r : Row) → slice_get subsets q ≡ Some x → slice_get rows q ≡ Some r → IsRow a subsets x firsts r
 
 -- each set has its row
-pub record AreAllRows (a : Automaton) (firsts : List ℕ) (rows : List Row) : Type 0 where
+pub record AreAllRows (most : ℕ) (a : Automaton) (firsts : List ℕ) (rows : List Row) : Type 0 where
   pub subsets : List Subset
-  pub each : AreRows a subsets firsts rows
+  pub each : AreRows most a subsets firsts rows
   pub all : length rows ≡ length subsets

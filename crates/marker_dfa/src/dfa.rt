@@ -9,12 +9,12 @@ use std::marker::Model;
 #[derive(Drop)]
 pub struct Cell {
     pub(crate) marks: Vec<u16>,
-    pub(crate) targets: Vec<u8>,
+    pub(crate) targets: Vec<u16>,
 }
 
 impl Cell {
     /// The next state for a mark.
-    fn target(&self, mark: u16) -> Option<u8>
+    fn target(&self, mark: u16) -> Option<u16>
         requires { AllPairs (λ x y. y < x) self.now.marks.items }
         ensures { result ≡ find_target self.now.marks.items self.now.targets.items mark }
     {
@@ -67,12 +67,12 @@ impl Dfa {
         }
     }
 
-    /// The number of states, 1 to 128.
-    pub fn states(&self) -> u8
+    /// The number of states, 1 to 1,024.
+    pub fn states(&self) -> u16
         ensures value { result ≡ states_of self.now }
         ensures automaton { IsDeterministic self.now }
     {
-        self.rows.len() as u8
+        self.rows.len() as u16
     }
 
     /// The number of variables, at most 8.
@@ -85,7 +85,7 @@ impl Dfa {
 
     /// The state after a mark and a byte, if there is one. Takes O(log m) steps, where m is the number of marks that
     /// have a next state there.
-    pub fn next(&self, state: u8, mark: u16, byte: u8) -> Option<u8>
+    pub fn next(&self, state: u16, mark: u16, byte: u8) -> Option<u16>
         requires { state < states_of self.now }
         ensures { result ≡ next_of self.now state mark byte }
     {
@@ -93,7 +93,7 @@ impl Dfa {
     }
 
     /// The marks that have a next state from a state with a byte, descending.
-    pub fn marks(&self, state: u8, byte: u8) -> &[u16]
+    pub fn marks(&self, state: u16, byte: u8) -> &[u16]
         requires { state < states_of self.now }
         ensures { result.now ≡ marks_of self.now state byte }
     {
@@ -101,7 +101,7 @@ impl Dfa {
     }
 
     /// The marks with which a text may end in a state, descending.
-    pub fn ends(&self, state: u8) -> &[u16]
+    pub fn ends(&self, state: u16) -> &[u16]
         requires { state < states_of self.now }
         ensures { result.now ≡ ends_of self.now state }
     {
@@ -117,7 +117,7 @@ impl Dfa {
     }
 
     /// The cell of a state and a byte.
-    fn cell(&self, state: u8, byte: u8) -> &Cell
+    fn cell(&self, state: u16, byte: u8) -> &Cell
         requires { state < states_of self.now }
         ensures value { cell_of self.now state byte ≡ Some result.now }
         ensures automaton { IsDeterministic self.now }

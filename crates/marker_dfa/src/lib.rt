@@ -3,27 +3,28 @@
 //! ```text
 //! let nfa = marker_nfa::of_formula(alloc, &formula)?;
 //! let dfa = determinise(alloc, &nfa)?;                     // TooManyStates exactly past 128 states
+//! let dfa = determinise_within(alloc, &nfa, 1024)?;        // TooManyStates exactly past 1,024 states
 //! let next = dfa.next(0, 0, b'a');                         // from state 0 with no mark and the byte a
 //! let marks = dfa.marks(0, b'a');                          // the marks that lead on from there, falling
 //! ```
 //!
 //! Each tuple has at most one run, so no answer can come twice. Bytes that the automaton never distinguishes share a
 //! class, edges that differ only in their sources are bundled, and a state has a list of marks for each class. The
-//! construction ends at the 129th set of states, so at most 128 sets are processed. For each set, every bundle is
-//! tested once. Then, for each class, the bundles that read it are visited in order of their marks; lists of their
-//! indices are kept during the construction. The automaton takes memory for the marks that have a next state and for
-//! these states; a lookup in it allocates nothing.
+//! caller sets the limit `most`, 128 to 1,024 states. The construction ends when one more set of states is found, so at
+//! most `most` sets are processed. For each set, every bundle is tested once. Then, for each class, the bundles that read
+//! it are visited in order of their marks; lists of their indices are kept during the construction. The automaton takes
+//! memory for the marks that have a next state and for these states; a lookup in it allocates nothing.
 //!
 //! The construction is that of M. O. Rabin and D. Scott, *Finite automata and their decision problems*, 1959.
 //!
-//! Proved: Exactly the reached sets of states, rejected exactly past 128 (`determinise`).
+//! Proved: Exactly the reached sets of states, rejected exactly past the limit (`determinise_within`).
 //!
 //! Tested: Error texts.
 //!
 //! Neither: Memory and time.
 #![tactic(auto)]
 
-ghost use Rattle.std.specs.Prelude.{IfOk};
+ghost use Rattle.std.specs.Prelude.{◌≤◌, IfOk};
 ghost use Rattle.marker_nfa.specs.Automaton.{AreLettersOf};
 ghost use Rattle.marker_dfa.specs.Deterministic.{AcceptsSame, AreTooMany, StandsFor};
 ghost use Rattle.marker_dfa.specs.Refusals.{IfTooMany};
@@ -32,6 +33,7 @@ pub mod bundles;
 pub mod classes;
 pub mod dfa;
 pub mod exits;
+pub mod found;
 pub mod refusal;
 pub mod states;
 pub mod subsets;
@@ -44,39 +46,66 @@ use span_types::ByteSet;
 use std::alloc::Global;
 use subsets::rows_of;
 
-/// The deterministic automaton of an automaton, by the subset construction (Rabin and Scott 1959). It has exactly one
-/// state for each nonempty set of states that is reached from the start's set. State 0 is that of the start.
-///
-/// At most 128 sets are processed, each for every class of bytes and every mark with a next state. Memory is allocated
-/// for these marks and states.
+/// The greatest number of states where the caller sets none.
+const USUAL_MOST: u16 = 128;
+
+/// The deterministic automaton of an automaton, of at most 128 states, as `determinise_within` makes it.
 ///
 /// # Errors
 ///
-/// `TooManyStates` exactly if more than 128 such sets are reached, and `NoMemory` if allocation fails.
+/// `TooManyStates` exactly if more than 128 nonempty sets of states are reached, and `NoMemory` if allocation fails.
 pub fn determinise(alloc: Global, nfa: &Nfa) -> Result<Dfa, DfaRefusal>
     ensures states { IfOk result (StandsFor nfa.now) }
     ensures accepts { IfOk result (AcceptsSame nfa.now) }
-    ensures few { IfOk result (λ _. AreTooMany nfa.now → ⊥) }
-    ensures too_many { IfTooMany result (AreTooMany nfa.now) }
+    ensures few { IfOk result (λ _. AreTooMany 128 nfa.now → ⊥) }
+    ensures too_many { IfTooMany result (AreTooMany 128 nfa.now) }
 {
-    determinise_over(alloc, nfa, nfa.letters())
+    determinise_within(alloc, nfa, USUAL_MOST)
 }
 
-/// What `determinise` returns, for byte sets among which are those of all edges. The classes of bytes are computed from
-/// these, and not from the set of each edge. So it is for automata with many edges and few byte sets.
+/// The deterministic automaton of an automaton, by the subset construction (Rabin and Scott 1959). It has exactly one
+/// state for each nonempty set of states that is reached from the start's set, and at most `most` states, where `most`
+/// is 128 to 1,024. State 0 is that of the start.
+///
+/// At most `most` sets are processed, each for every class of bytes and every mark with a next state. Memory is
+/// allocated for these marks and states.
 ///
 /// # Errors
 ///
-/// `TooManyStates` exactly if more than 128 sets of states are reached, and `NoMemory` if allocation fails.
-pub fn determinise_over(alloc: Global, nfa: &Nfa, letters: &[ByteSet]) -> Result<Dfa, DfaRefusal>
-    requires { AreLettersOf nfa.now.edges letters.now }
+/// `TooManyStates` exactly if more than `most` such sets are reached, and `NoMemory` if allocation fails.
+pub fn determinise_within(alloc: Global, nfa: &Nfa, most: u16) -> Result<Dfa, DfaRefusal>
+    requires few { 128 ≤ most }
+    requires many { most ≤ 1024 }
     ensures states { IfOk result (StandsFor nfa.now) }
     ensures accepts { IfOk result (AcceptsSame nfa.now) }
-    ensures few { IfOk result (λ _. AreTooMany nfa.now → ⊥) }
-    ensures too_many { IfTooMany result (AreTooMany nfa.now) }
+    ensures few { IfOk result (λ _. AreTooMany most nfa.now → ⊥) }
+    ensures too_many { IfTooMany result (AreTooMany most nfa.now) }
+{
+    determinise_over(alloc, nfa, nfa.letters(), most)
+}
+
+/// What `determinise_within` returns, for byte sets among which are those of all edges. The classes of bytes are
+/// computed from these, and not from the set of each edge. So it is for automata with many edges and few byte sets.
+///
+/// # Errors
+///
+/// `TooManyStates` exactly if more than `most` sets of states are reached, and `NoMemory` if allocation fails.
+pub fn determinise_over(
+    alloc: Global,
+    nfa: &Nfa,
+    letters: &[ByteSet],
+    most: u16,
+) -> Result<Dfa, DfaRefusal>
+    requires letters { AreLettersOf nfa.now.edges letters.now }
+    requires few { 128 ≤ most }
+    requires many { most ≤ 1024 }
+    ensures states { IfOk result (StandsFor nfa.now) }
+    ensures accepts { IfOk result (AcceptsSame nfa.now) }
+    ensures few { IfOk result (λ _. AreTooMany most nfa.now → ⊥) }
+    ensures too_many { IfTooMany result (AreTooMany most nfa.now) }
 {
     let variables = nfa.variables();
     let classes = classes_of(alloc, letters)?;
-    let rows = rows_of(alloc, nfa, &classes.firsts)?;
+    let rows = rows_of(alloc, nfa, &classes.firsts, most)?;
     Ok(Dfa::from_rows(variables, classes.of, rows))
 }

@@ -10,7 +10,7 @@ use thiserror::Error;
 /// Why an automaton wasn't made.
 #[derive(Clone, Copy, Debug, PartialEq, Eq, Error)]
 pub enum DfaRefusal {
-    /// More than 128 states would be needed.
+    /// More states than allowed would be needed.
     #[error("too many states")]
     TooManyStates,
 

@@ -30,6 +30,9 @@ impl Model for StateSet {
 
 const WORD_BITS: usize = 64;
 
+// An odd number with the bits of 2^64 divided by the golden ratio, which spreads numbers in a row.
+const HASH_FACTOR: u64 = 0x9E37_79B9_7F4A_7C15;
+
 impl StateSet {
     /// The set with no member, of this many states.
     ///
@@ -97,5 +100,14 @@ impl StateSet {
         ensures { IsTrue result ↔ self.now ≡ other.now }
     {
         self.states == other.states && self.words == other.words
+    }
+
+    /// A number that depends on the members alone, and is rarely the same for two sets.
+    pub fn hash(&self) -> u64 {
+        let mut hash: u64 = 0;
+        for word in &self.words {
+            hash = (hash.rotate_left(5) ^ *word).wrapping_mul(HASH_FACTOR);
+        }
+        hash
     }
 }

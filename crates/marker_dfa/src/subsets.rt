@@ -1,65 +1,33 @@
 //! The reached sets of states, found from the start on.
 
-ghost use Rattle.std.specs.Prelude.{◌≡◌, ◌<◌, ◌≤◌, ◌++◌, ◌∷◌, [], List, Bool, length, Some, slice_get, vec_len, IfOk, IsTrue};
+ghost use Rattle.std.specs.Prelude.{◌≡◌, ◌<◌, ◌≤◌, ◌++◌, ◌∷◌, [], List, Bool, length, Some, slice_get, vec_len, IfOk};
 ghost use Rattle.marker_nfa.specs.Automaton.{IsAutomaton, Moves};
-ghost use Rattle.marker_dfa.specs.Reached.{IsReached, start_set};
+ghost use Rattle.marker_dfa.specs.Reached.{IsReached};
 ghost use Rattle.marker_dfa.specs.Deterministic.{AreTooMany};
-ghost use Rattle.marker_dfa.specs.Making.{AreAllReaders, AreAllRows, AreCells, AreExits, AreFound, AreInOrder, AreReaders, Extends, HasNoRoom, IsCell, IsPlaced, IsRow, bytes_of};
+ghost use Rattle.marker_dfa.specs.Making.{AreAllReaders, AreAllRows, AreCells, AreExits, AreFound, AreInOrder, AreReaders, Extends, IsCell, IsRow, bytes_of};
 ghost use Rattle.marker_dfa.specs.Refusals.{IfTooMany};
 
 use crate::bundles::{Bundle, Readers, bundles_of, readers_by_byte};
 use crate::dfa::{Cell, Row};
 use crate::exits::{Exits, ends_of_set, exits_of, steps_of};
+use crate::found::{Found, found_start, place_of};
 use crate::refusal::DfaRefusal;
-use crate::states::StateSet;
 use marker_nfa::Nfa;
 use span_types::NoMemory;
 use std::alloc::Global;
 
-/// The greatest number of states.
-const LIMIT: usize = 128;
-
-/// Whether a set is at an index.
-fn stands_at(sets: &[StateSet], set: &StateSet, place: u8) -> bool
-    ensures { IsTrue result → slice_get sets.now place ≡ Some set.now }
-{
-    match sets.get(place as usize) {
-        Some(other) => other.same(set),
-        None => false,
-    }
-}
-
-/// The index of a set, which is appended if it is new. The index in the hint is tested first.
-fn place_of(
-    alloc: Global,
-    sets: &mut Vec<StateSet>,
-    set: &StateSet,
-    hint: u8,
-) -> Result<u8, DfaRefusal>
-    requires few { vec_len sets.old ≤ 128 }
-    ensures placed { IfOk result (λ q. IsPlaced sets.old.items sets.new.items set.now q) }
-    ensures few { vec_len sets.new ≤ 128 }
-    ensures refused { IfTooMany result (HasNoRoom sets.old.items set.now) }
-{
-    if stands_at(sets, set, hint) {
-        return Ok(hint);
-    }
-    for (place, other) in sets.iter().enumerate() {
-        if other.same(set) {
-            return Ok(place as u8);
-        }
-    }
-    let place = sets.len();
-    if place == LIMIT {
-        return Err(DfaRefusal::TooManyStates);
-    }
-    sets.push(set.copy(alloc)?)?;
-    Ok(place as u8)
+/// What each row is computed with: the bundles, for each byte that is read the bundles that read it, and the greatest
+/// number of sets.
+#[derive(Drop)]
+struct Plan {
+    bundles: Vec<Bundle>,
+    by_byte: Vec<Readers>,
+    most: u16,
 }
 
 impl Cell {
     /// Appends a mark and its target.
-    fn push(&mut self, mark: u16, target: u8) -> Result<(), NoMemory>
+    fn push(&mut self, mark: u16, target: u16) -> Result<(), NoMemory>
         ensures marks { IfOk result (λ _. self.new.marks.items ≡ self.old.marks.items ++ mark ∷ []) }
         ensures targets { IfOk result (λ _. self.new.targets.items ≡ self.old.targets.items ++ target ∷ []) }
     {
@@ -73,30 +41,28 @@ impl Cell {
 fn cell_of(
     alloc: Global,
     nfa: &Nfa,
-    bundles: &[Bundle],
+    plan: &Plan,
     exits: &Exits,
     readers: &Readers,
-    sets: &mut Vec<StateSet>,
+    found: &mut Found,
 ) -> Result<Cell, DfaRefusal>
-    requires bundles { AreInOrder nfa.now bundles.now }
-    requires exits { AreExits nfa.now bundles.now exits.now }
-    requires readers { AreReaders bundles.now readers.now }
+    requires bundles { AreInOrder nfa.now plan.now.bundles.items }
+    requires exits { AreExits nfa.now plan.now.bundles.items exits.now }
+    requires readers { AreReaders plan.now.bundles.items readers.now }
     requires reached { IsReached nfa.now.states (Moves nfa.now) exits.now.from }
-    requires found { AreFound nfa.now sets.old.items }
-    ensures found { IfOk result (λ _. AreFound nfa.now sets.new.items) }
-    ensures extends { IfOk result (λ _. Extends sets.old.items sets.new.items) }
-    ensures cell { IfOk result (λ c. IsCell nfa.now sets.new.items exits.now.from readers.now.byte c.marks.items c.targets.items) }
-    ensures refused { IfTooMany result (AreTooMany nfa.now) }
+    requires found { AreFound plan.now.most nfa.now found.old.sets.items }
+    ensures found { IfOk result (λ _. AreFound plan.now.most nfa.now found.new.sets.items) }
+    ensures extends { IfOk result (λ _. Extends found.old.sets.items found.new.sets.items) }
+    ensures cell { IfOk result (λ c. IsCell nfa.now found.new.sets.items exits.now.from readers.now.byte c.marks.items c.targets.items) }
+    ensures refused { IfTooMany result (AreTooMany plan.now.most nfa.now) }
 {
     let mut cell = Cell {
         marks: Vec::new(alloc),
         targets: Vec::new(alloc),
     };
-    let mut hint = 0;
-    let steps = steps_of(alloc, nfa, bundles, exits, readers)?;
+    let steps = steps_of(alloc, nfa, &plan.bundles, exits, readers)?;
     for step in &steps {
-        let target = place_of(alloc, sets, &step.to, hint)?;
-        hint = target;
+        let target = place_of(alloc, found, &step.to, plan.most)?;
         cell.push(step.mark, target)?;
     }
     Ok(cell)
@@ -106,24 +72,23 @@ fn cell_of(
 fn cells_of(
     alloc: Global,
     nfa: &Nfa,
-    bundles: &[Bundle],
+    plan: &Plan,
     exits: &Exits,
-    by_byte: &[Readers],
-    sets: &mut Vec<StateSet>,
+    found: &mut Found,
 ) -> Result<Vec<Cell>, DfaRefusal>
-    requires bundles { AreInOrder nfa.now bundles.now }
-    requires exits { AreExits nfa.now bundles.now exits.now }
-    requires readers { AreAllReaders bundles.now by_byte.now }
+    requires bundles { AreInOrder nfa.now plan.now.bundles.items }
+    requires exits { AreExits nfa.now plan.now.bundles.items exits.now }
+    requires readers { AreAllReaders plan.now.bundles.items plan.now.by_byte.items }
     requires reached { IsReached nfa.now.states (Moves nfa.now) exits.now.from }
-    requires found { AreFound nfa.now sets.old.items }
-    ensures found { IfOk result (λ _. AreFound nfa.now sets.new.items) }
-    ensures extends { IfOk result (λ _. Extends sets.old.items sets.new.items) }
-    ensures cells { IfOk result (λ cells. AreCells nfa.now sets.new.items exits.now.from (bytes_of by_byte.now) (length by_byte.now) cells.items) }
-    ensures refused { IfTooMany result (AreTooMany nfa.now) }
+    requires found { AreFound plan.now.most nfa.now found.old.sets.items }
+    ensures found { IfOk result (λ _. AreFound plan.now.most nfa.now found.new.sets.items) }
+    ensures extends { IfOk result (λ _. Extends found.old.sets.items found.new.sets.items) }
+    ensures cells { IfOk result (λ cells. AreCells nfa.now found.new.sets.items exits.now.from (bytes_of plan.now.by_byte.items) (length plan.now.by_byte.items) cells.items) }
+    ensures refused { IfTooMany result (AreTooMany plan.now.most nfa.now) }
 {
     let mut cells = Vec::new(alloc);
-    for readers in by_byte {
-        let cell = cell_of(alloc, nfa, bundles, exits, readers, sets)?;
+    for readers in &plan.by_byte {
+        let cell = cell_of(alloc, nfa, plan, exits, readers, found)?;
         cells.push(cell)?;
     }
     Ok(cells)
@@ -133,56 +98,60 @@ fn cells_of(
 fn row_of(
     alloc: Global,
     nfa: &Nfa,
-    bundles: &[Bundle],
-    by_byte: &[Readers],
+    plan: &Plan,
     place: usize,
-    sets: &mut Vec<StateSet>,
+    found: &mut Found,
 ) -> Result<Row, DfaRefusal>
     requires automaton { IsAutomaton nfa.now }
-    requires bundles { AreInOrder nfa.now bundles.now }
-    requires readers { AreAllReaders bundles.now by_byte.now }
-    requires place { place < vec_len sets.old }
-    requires found { AreFound nfa.now sets.old.items }
-    ensures found { IfOk result (λ _. AreFound nfa.now sets.new.items) }
-    ensures extends { IfOk result (λ _. Extends sets.old.items sets.new.items) }
-    ensures row { IfOk result (λ r. (x : List Bool) → slice_get sets.old.items place ≡ Some x → IsRow nfa.now sets.new.items x (bytes_of by_byte.now) r) }
-    ensures refused { IfTooMany result (AreTooMany nfa.now) }
+    requires bundles { AreInOrder nfa.now plan.now.bundles.items }
+    requires readers { AreAllReaders plan.now.bundles.items plan.now.by_byte.items }
+    requires place { place < vec_len found.old.sets }
+    requires found { AreFound plan.now.most nfa.now found.old.sets.items }
+    ensures found { IfOk result (λ _. AreFound plan.now.most nfa.now found.new.sets.items) }
+    ensures extends { IfOk result (λ _. Extends found.old.sets.items found.new.sets.items) }
+    ensures row { IfOk result (λ r. (x : List Bool) → slice_get found.old.sets.items place ≡ Some x → IsRow nfa.now found.new.sets.items x (bytes_of plan.now.by_byte.items) r) }
+    ensures refused { IfTooMany result (AreTooMany plan.now.most nfa.now) }
 {
-    let from = sets[place].copy(alloc)?;
+    let from = found.sets[place].copy(alloc)?;
     let ends = ends_of_set(alloc, nfa, &from)?;
-    let exits = exits_of(alloc, nfa, bundles, from)?;
-    let cells = cells_of(alloc, nfa, bundles, &exits, by_byte, sets)?;
+    let exits = exits_of(alloc, nfa, &plan.bundles, from)?;
+    let cells = cells_of(alloc, nfa, plan, &exits, found)?;
     Ok(Row { cells, ends })
 }
 
-/// The start's set, alone in a list.
-fn start_sets(alloc: Global, nfa: &Nfa) -> Result<Vec<StateSet>, NoMemory>
+/// The bundles of an automaton, and those that read each of some bytes.
+fn plan_of(alloc: Global, nfa: &Nfa, bytes: &[u8], most: u16) -> Result<Plan, NoMemory>
     requires { IsAutomaton nfa.now }
-    ensures { IfOk result (λ sets. sets.items ≡ start_set nfa.now.states ∷ []) }
-{
-    let mut start = StateSet::empty(alloc, nfa.states())?;
-    start.insert(0);
-    let mut sets = Vec::new(alloc);
-    sets.push(start)?;
-    Ok(sets)
-}
-
-/// The rows of all reached sets, with a cell for each of the bytes.
-///
-/// # Errors
-///
-/// `TooManyStates` exactly if more than 128 sets are reached, and `NoMemory` if allocation fails.
-pub fn rows_of(alloc: Global, nfa: &Nfa, bytes: &[u8]) -> Result<Vec<Row>, DfaRefusal>
-    requires { IsAutomaton nfa.now }
-    ensures rows { IfOk result (λ rows. AreAllRows nfa.now bytes.now rows.items) }
-    ensures refused { IfTooMany result (AreTooMany nfa.now) }
+    ensures bundles { IfOk result (λ plan. AreInOrder nfa.now plan.bundles.items) }
+    ensures readers { IfOk result (λ plan. AreAllReaders plan.bundles.items plan.by_byte.items) }
+    ensures bytes { IfOk result (λ plan. bytes_of plan.by_byte.items ≡ bytes.now) }
+    ensures most { IfOk result (λ plan. plan.most ≡ most) }
 {
     let bundles = bundles_of(alloc, nfa)?;
     let by_byte = readers_by_byte(alloc, &bundles, bytes)?;
-    let mut sets = start_sets(alloc, nfa)?;
+    Ok(Plan {
+        bundles,
+        by_byte,
+        most,
+    })
+}
+
+/// The rows of all reached sets, with a cell for each of the bytes. There are at most `most` sets.
+///
+/// # Errors
+///
+/// `TooManyStates` exactly if more than `most` sets are reached, and `NoMemory` if allocation fails.
+pub fn rows_of(alloc: Global, nfa: &Nfa, bytes: &[u8], most: u16) -> Result<Vec<Row>, DfaRefusal>
+    requires automaton { IsAutomaton nfa.now }
+    requires some { 1 ≤ most }
+    ensures rows { IfOk result (λ rows. AreAllRows most nfa.now bytes.now rows.items) }
+    ensures refused { IfTooMany result (AreTooMany most nfa.now) }
+{
+    let plan = plan_of(alloc, nfa, bytes, most)?;
+    let mut found = found_start(alloc, nfa, most)?;
     let mut rows = Vec::new(alloc);
-    'rows: while rows.len() < sets.len() {
-        let row = row_of(alloc, nfa, &bundles, &by_byte, rows.len(), &mut sets)?;
+    'rows: while rows.len() < found.sets.len() {
+        let row = row_of(alloc, nfa, &plan, rows.len(), &mut found)?;
         rows.push(row)?;
     }
     Ok(rows)

@@ -245,7 +245,7 @@ pub fn compose(alloc: Global, left: &CountTable, right: &CountTable) -> Result<C
 }
 
 // Adds 1 to the state to which the mark leads, if it isn't 0.
-fn add_mark(sums: &mut [u64], dfa: &Dfa, p: u8, byte: u8, mark: u16)
+fn add_mark(sums: &mut [u64], dfa: &Dfa, p: u16, byte: u8, mark: u16)
     requires automaton { IsDeterministic dfa.now }
     requires state { p < states_of dfa.now }
     requires long { length sums.old ≡ states_of dfa.now }
@@ -253,13 +253,13 @@ fn add_mark(sums: &mut [u64], dfa: &Dfa, p: u8, byte: u8, mark: u16)
 {
     if mark != 0 {
         if let Some(q) = dfa.next(p, mark, byte) {
-            add(sums, u16::from(q), 1);
+            add(sums, q, 1);
         }
     }
 }
 
 // Adds 1 for each mark other than 0 that leads on from `p` over the byte.
-fn add_marks(sums: &mut [u64], dfa: &Dfa, p: u8, byte: u8)
+fn add_marks(sums: &mut [u64], dfa: &Dfa, p: u16, byte: u8)
     requires automaton { IsDeterministic dfa.now }
     requires state { p < states_of dfa.now }
     requires long { length sums.old ≡ states_of dfa.now }
@@ -271,7 +271,7 @@ fn add_marks(sums: &mut [u64], dfa: &Dfa, p: u8, byte: u8)
 }
 
 // The row of a byte. The sums are a number for each state, all 0.
-fn byte_row(alloc: Global, dfa: &Dfa, p: u8, byte: u8, sums: &mut [u64]) -> Result<Row, NoMemory>
+fn byte_row(alloc: Global, dfa: &Dfa, p: u16, byte: u8, sums: &mut [u64]) -> Result<Row, NoMemory>
     requires automaton { IsDeterministic dfa.now }
     requires state { p < states_of dfa.now }
     requires long { length sums.old ≡ states_of dfa.now }
@@ -281,12 +281,8 @@ fn byte_row(alloc: Global, dfa: &Dfa, p: u8, byte: u8, sums: &mut [u64]) -> Resu
     ensures clear { OnOk result (All (λ n. n ≡ 0) sums.new) }
 {
     add_marks(sums, dfa, p, byte);
-    let unmarked = match dfa.next(p, 0, byte) {
-        Some(q) => Some(u16::from(q)),
-        None => None,
-    };
     Ok(Row {
-        unmarked,
+        unmarked: dfa.next(p, 0, byte),
         counts: take_counts(alloc, sums)?,
     })
 }

@@ -11,9 +11,9 @@ use Rattle.query_book.specs.declared.entry.TabledQuery.{TabledQuery}
 use Rattle.query_book.specs.declared.refusal.BookRefusal.{BookRefusal}
 use Rattle.query_book.specs.declared.refusal.BookRefusal.TheVariants.{NoSuchQuery, NoMemory}
 use Rattle.query_book.specs.Named.{Named, is_same, put, value_of, with_value}
-use Rattle.query_book.specs.Book.{entry, entries_of, queries_of}
+use Rattle.query_book.specs.Book.{book_of, entry, entries_of, queries_in}
 use Rattle.query_book.specs.Counting.{counted, counts_in}
-use Rattle.query_book.specs.Serving.{ArePartlyAt, Covers, HasCounts, Serves, all_at, counted_of, covered_of, sum_of}
+use Rattle.query_book.specs.Serving.{ArePartlyAt, AreServed, Covers, HasCounts, all_at, counted_in, covered_in, sum_of}
 use Rattle.query_book.specs.Kept.{AreSound}
 use Rattle.query_book.specs.Growing.{CannotCount, ChangesAt, ChangesNamed, GrowsCounts, IsIndexOf, KeepsCounts, MayGrowCounts}
 use Rattle.query_book.proofs.Entries.{AreSound-put, put-entries, tabled-entries}
@@ -25,7 +25,7 @@ some_is {X} {x} p = ap (λ o. unwrap_or o x) p
 
 -- a query's tables are counted once
 pub counted-set : (ps : Named TabledQuery) (i : ℕ) (v w : TabledQuery) → option_map (λ p. p.1) (slice_get ps i) ≡ Some v
-    → sum_of (counted_of (entries_of (with_value ps i w))) + counted v ≡ sum_of (counted_of (entries_of ps)) + counted w
+    → sum_of (counted_in (entries_of (with_value ps i w))) + counted v ≡ sum_of (counted_in (entries_of ps)) + counted w
 counted-set [] i v w at = let bad : ⊥ = cc in absurd bad
 counted-set (p ∷ ps) zero v w at =
     let e : counted p.1 ≡ counted v = ap (λ x. counted x) (some_is at) in
@@ -94,73 +94,73 @@ module _ (ns : List Node) (name : List ℕ) (ps qs : Named TabledQuery) where
   sound-may sound (inl c) = subst AreSound (sym c.set) (AreSound-put ps name c.after sound c.allowed.sound)
   sound-may sound (inr e) = subst AreSound (sym e) sound
 
-  serves-may : Serves ns (entries_of ps) → May → Serves ns (entries_of qs)
+  serves-may : AreServed ns (entries_of ps) → May → AreServed ns (entries_of qs)
   serves-may serves (inl c) =
-      subst (Serves ns) (sym (ap entries_of c.set ∙ put-entries ps (entry (name, c.after)))) (serves-with_entry ns (entries_of ps) (entry (name, c.after)) serves c.allowed.served)
-  serves-may serves (inr e) = subst (λ xs. Serves ns (entries_of xs)) (sym e) serves
+      subst (AreServed ns) (sym (ap entries_of c.set ∙ put-entries ps (entry (name, c.after)))) (serves-with_entry ns (entries_of ps) (entry (name, c.after)) serves c.allowed.served)
+  serves-may serves (inr e) = subst (λ xs. AreServed ns (entries_of xs)) (sym e) serves
 
-  queries-may : May → queries_of (entries_of qs) ≡ queries_of (entries_of ps)
+  queries-may : May → queries_in (entries_of qs) ≡ queries_in (entries_of ps)
   queries-may (inl c) = view-same (λ t. query_of t.query.tree) (MayGrowCounts ns) name ps qs c (ap (λ q. query_of q.tree) c.allowed.query)
-  queries-may (inr e) = ap (λ xs. queries_of (entries_of xs)) e
+  queries-may (inr e) = ap (λ xs. queries_in (entries_of xs)) e
 
-  covered-may : May → covered_of (entries_of qs) ≡ covered_of (entries_of ps)
+  covered-may : May → covered_in (entries_of qs) ≡ covered_in (entries_of ps)
   covered-may (inl c) = view-same (λ t. count_of t.tables) (MayGrowCounts ns) name ps qs c (ap (λ d. count_of d) c.allowed.tables)
-  covered-may (inr e) = ap (λ xs. covered_of (entries_of xs)) e
+  covered-may (inr e) = ap (λ xs. covered_in (entries_of xs)) e
 
   number-grown : (c : ChangesNamed (GrowsCounts ns) name ps qs) → counted c.after ≡ length ns
   number-grown c = ap (λ o. unwrap_or o 0) c.allowed.all
 
-  done : ChangesNamed (GrowsCounts ns) name ps qs → counted_of (entries_of qs) ≡ put (counted_of (entries_of ps)) name (length ns)
-  done c = view-set counted (GrowsCounts ns) name ps qs c ∙ ap (λ n. put (counted_of (entries_of ps)) name n) (number-grown c)
+  done : ChangesNamed (GrowsCounts ns) name ps qs → counted_in (entries_of qs) ≡ put (counted_in (entries_of ps)) name (length ns)
+  done c = view-set counted (GrowsCounts ns) name ps qs c ∙ ap (λ n. put (counted_in (entries_of ps)) name n) (number-grown c)
 
-  same : ChangesNamed (KeepsCounts ns) name ps qs → counted_of (entries_of qs) ≡ counted_of (entries_of ps)
+  same : ChangesNamed (KeepsCounts ns) name ps qs → counted_in (entries_of qs) ≡ counted_in (entries_of ps)
   same c = view-same counted (KeepsCounts ns) name ps qs c c.allowed.same
 
-  has-counts : ChangesNamed (GrowsCounts ns) name ps qs → HasCounts (length ns) (entries_of qs) name
-  has-counts c t there =
+  has-counts : (most : ℕ) → ChangesNamed (GrowsCounts ns) name ps qs → HasCounts (length ns) (book_of most qs) name
+  has-counts most c t there =
       let found : value_of qs name ≡ Some c.after = ap (λ xs. value_of xs name) c.set ∙ value_of-put ps name c.after in
       let is : c.after ≡ t = some_is (sym found ∙ sym (tabled-entries qs name) ∙ there) in
       subst (λ x. counts_in x ≡ Some (length ns)) is c.allowed.all
 
-  missing-not : (v : TabledQuery) → value_of ps name ≡ Some v → value_of (queries_of (entries_of ps)) name ≡ None → ⊥
+  missing-not : (v : TabledQuery) → value_of ps name ≡ Some v → value_of (queries_in (entries_of ps)) name ≡ None → ⊥
   missing-not v there none =
       let found = value-by_name (λ t. query_of t.query.tree) (entries_of ps) name ∙ ap (λ o. option_map (λ (t : TabledQuery). query_of t.query.tree) o) (tabled-entries ps name ∙ there) in
       let bad : ⊥ = cc (sym found ∙ none) in bad
 
-  missing-is : value_of ps name ≡ None → value_of (queries_of (entries_of ps)) name ≡ None
+  missing-is : value_of ps name ≡ None → value_of (queries_in (entries_of ps)) name ≡ None
   missing-is none = value-by_name (λ t. query_of t.query.tree) (entries_of ps) name ∙ ap (λ o. option_map (λ (t : TabledQuery). query_of t.query.tree) o) (tabled-entries ps name ∙ none)
 
   pub sound-counted : AreSound ps → (r : Result (Unit {0}) BookRefusal) → IsCounted ns name ps qs r → AreSound qs
   sound-counted sound r h = sound-may sound (may r h)
 
-  pub serves-counted : Serves ns (entries_of ps) → (r : Result (Unit {0}) BookRefusal) → IsCounted ns name ps qs r → Serves ns (entries_of qs)
+  pub serves-counted : AreServed ns (entries_of ps) → (r : Result (Unit {0}) BookRefusal) → IsCounted ns name ps qs r → AreServed ns (entries_of qs)
   serves-counted serves r h = serves-may serves (may r h)
 
-  pub queries-counted : (r : Result (Unit {0}) BookRefusal) → IsCounted ns name ps qs r → queries_of (entries_of qs) ≡ queries_of (entries_of ps)
+  pub queries-counted : (r : Result (Unit {0}) BookRefusal) → IsCounted ns name ps qs r → queries_in (entries_of qs) ≡ queries_in (entries_of ps)
   queries-counted r h = queries-may (may r h)
 
-  pub covered-counted : (r : Result (Unit {0}) BookRefusal) → IsCounted ns name ps qs r → covered_of (entries_of qs) ≡ covered_of (entries_of ps)
+  pub covered-counted : (r : Result (Unit {0}) BookRefusal) → IsCounted ns name ps qs r → covered_in (entries_of qs) ≡ covered_in (entries_of ps)
   covered-counted r h = covered-may (may r h)
 
-  pub covers-counted : (r : Result (Unit {0}) BookRefusal) → IsCounted ns name ps qs r → Covers ns (entries_of ps) → Covers ns (entries_of qs)
-  covers-counted r h c =
+  pub covers-counted : (most : ℕ) (r : Result (Unit {0}) BookRefusal) → IsCounted ns name ps qs r → Covers ns (book_of most ps) → Covers ns (book_of most qs)
+  covers-counted most r h c =
       let e = covered-counted r h in
       record { serves = serves-counted c.serves r h; all = e ∙ c.all ∙ ap (all_at (length ns)) (sym e) }
 
-  pub all-counted : (r : Result (Unit {0}) BookRefusal) → IsCounted ns name ps qs r → OnOk r (HasCounts (length ns) (entries_of qs) name)
-  all-counted (Ok _) c = has-counts c
-  all-counted (Err e) c = tt
+  pub all-counted : (most : ℕ) (r : Result (Unit {0}) BookRefusal) → IsCounted ns name ps qs r → OnOk r (HasCounts (length ns) (book_of most qs) name)
+  all-counted most (Ok _) c = has-counts most c
+  all-counted most (Err e) c = tt
 
-  pub done-counted : (r : Result (Unit {0}) BookRefusal) → IsCounted ns name ps qs r → OnOk r (counted_of (entries_of qs) ≡ put (counted_of (entries_of ps)) name (length ns))
+  pub done-counted : (r : Result (Unit {0}) BookRefusal) → IsCounted ns name ps qs r → OnOk r (counted_in (entries_of qs) ≡ put (counted_in (entries_of ps)) name (length ns))
   done-counted (Ok _) c = done c
   done-counted (Err e) c = tt
 
-  pub err-counted : (r : Result (Unit {0}) BookRefusal) → IsCounted ns name ps qs r → OnErr r (counted_of (entries_of qs) ≡ counted_of (entries_of ps))
+  pub err-counted : (r : Result (Unit {0}) BookRefusal) → IsCounted ns name ps qs r → OnErr r (counted_in (entries_of qs) ≡ counted_in (entries_of ps))
   err-counted (Ok _) c = tt
-  err-counted (Err NoSuchQuery) c = ap (λ xs. counted_of (entries_of xs)) c.1
+  err-counted (Err NoSuchQuery) c = ap (λ xs. counted_in (entries_of xs)) c.1
   err-counted (Err NoMemory) c = same c
 
-  pub missing-counted : (r : Result (Unit {0}) BookRefusal) → IsCounted ns name ps qs r → IsErrOf r NoSuchQuery ↔ (value_of (queries_of (entries_of ps)) name ≡ None)
+  pub missing-counted : (r : Result (Unit {0}) BookRefusal) → IsCounted ns name ps qs r → IsErrOf r NoSuchQuery ↔ (value_of (queries_in (entries_of ps)) name ≡ None)
   missing-counted (Ok _) c = (λ e. (let bad : ⊥ = cc e in absurd bad), λ none. absurd (missing-not c.before c.there none))
   missing-counted (Err NoSuchQuery) c = (λ e. missing-is c.0, λ none. refl)
   missing-counted (Err NoMemory) c = (λ e. (let bad : ⊥ = cc e in absurd bad), λ none. absurd (missing-not c.before c.there none))
@@ -170,7 +170,7 @@ module _ (ns : List Node) (name : List ℕ) (ps qs : Named TabledQuery) where
   unchanged-counted (Err NoSuchQuery) c e = ap entries_of c.1
   unchanged-counted (Err NoMemory) c e = let bad : ⊥ = cc e in absurd bad
 
-  pub some-counted : (r : Result (Unit {0}) BookRefusal) → IsCounted ns name ps qs r → ArePartlyAt (length ns) (counted_of (entries_of ps)) (counted_of (entries_of qs))
+  pub some-counted : (r : Result (Unit {0}) BookRefusal) → IsCounted ns name ps qs r → ArePartlyAt (length ns) (counted_in (entries_of ps)) (counted_in (entries_of qs))
   some-counted (Ok _) c =
-      subst (ArePartlyAt (length ns) (counted_of (entries_of ps))) (sym (done c)) (partly-put (length ns) (counted_of (entries_of ps)) name (counted c.before) (view-there counted (GrowsCounts ns) name ps qs c))
-  some-counted (Err e) c = subst (ArePartlyAt (length ns) (counted_of (entries_of ps))) (sym (err-counted (Err e) c)) (partly-same (length ns) (counted_of (entries_of ps)))
+      subst (ArePartlyAt (length ns) (counted_in (entries_of ps))) (sym (done c)) (partly-put (length ns) (counted_in (entries_of ps)) name (counted c.before) (view-there counted (GrowsCounts ns) name ps qs c))
+  some-counted (Err e) c = subst (ArePartlyAt (length ns) (counted_in (entries_of ps))) (sym (err-counted (Err e) c)) (partly-same (length ns) (counted_in (entries_of ps)))

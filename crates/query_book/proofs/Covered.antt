@@ -12,7 +12,7 @@ use Rattle.marker_dfa.specs.Deterministic.{DeterministicAutomaton}
 use Rattle.query_book.specs.declared.entry.Entry.{Entry}
 use Rattle.query_book.specs.declared.entry.TabledQuery.{TabledQuery}
 use Rattle.query_book.specs.Named.{Named, is_same, value_of}
-use Rattle.query_book.specs.Book.{tabled_of}
+use Rattle.query_book.specs.Book.{Book, tabled_in, tabled_of}
 use Rattle.query_book.specs.Serving.{IsServed, Covers, covered_of, all_at}
 use Rattle.query_book.proofs.Views.{value-by_name}
 
@@ -20,11 +20,11 @@ some_is : {X : Type 0} {x y : X} → Some x ≡ Some y → x ≡ y
 some_is {X} {x} p = ap (λ o. unwrap_or o x) p
 
 -- what holds of all queries holds of the one with the name
-pub all-found : (P : TabledQuery → Type 0) (es : List Entry) (name : List ℕ) (t : TabledQuery) → AllByRecursion (λ e. P e.tabled) es → tabled_of es name ≡ Some t → P t
+pub all-found : (P : TabledQuery → Type 0) (es : List Entry) (name : List ℕ) (t : TabledQuery) → AllByRecursion (λ e. P e.tabled) es → tabled_in es name ≡ Some t → P t
 all-found P [] name t h q = let bad : ⊥ = cc in absurd bad
 all-found P (x ∷ xs) name t h q = by (is_same name x.name) q (all-found P xs name t h.1)
   where
-    by : (b : Bool) → cond b (Some x.tabled) (tabled_of xs name) ≡ Some t → (tabled_of xs name ≡ Some t → P t) → P t
+    by : (b : Bool) → cond b (Some x.tabled) (tabled_in xs name) ≡ Some t → (tabled_in xs name ≡ Some t → P t) → P t
     by true r rest = subst P (some_is r) h.0
     by false r rest = rest r
 
@@ -36,13 +36,13 @@ value-all_at n (p ∷ ps) name k q = by (is_same name p.0) q (value-all_at n ps 
     by true r rest = some_is r
     by false r rest = rest r
 
-pub count-found : (ns : List Node) (es : List Entry) (name : List ℕ) (t : TabledQuery) → Covers ns es → tabled_of es name ≡ Some t → count_of t.tables ≡ length ns
-count-found ns es name t c q =
-    let here : value_of (covered_of es) name ≡ Some (count_of t.tables) = value-by_name (λ x. count_of x.tables) es name ∙ ap (λ o. option_map (λ (x : TabledQuery). count_of x.tables) o) q in
-    sym (value-all_at (length ns) (covered_of es) name (count_of t.tables) (sym (ap (λ ps. value_of ps name) c.all) ∙ here))
+pub count-found : (ns : List Node) (book : Book) (name : List ℕ) (t : TabledQuery) → Covers ns book → tabled_of book name ≡ Some t → count_of t.tables ≡ length ns
+count-found ns book name t c q =
+    let here : value_of (covered_of book) name ≡ Some (count_of t.tables) = value-by_name (λ x. count_of x.tables) book.entries name ∙ ap (λ o. option_map (λ (x : TabledQuery). count_of x.tables) o) q in
+    sym (value-all_at (length ns) (covered_of book) name (count_of t.tables) (sym (ap (λ ps. value_of ps name) c.all) ∙ here))
 
-pub served-found : (ns : List Node) (es : List Entry) (name : List ℕ) (t : TabledQuery) → Covers ns es → tabled_of es name ≡ Some t → IsServed ns t
-served-found ns es name t c q = all-found (IsServed ns) es name t c.serves q
+pub served-found : (ns : List Node) (book : Book) (name : List ℕ) (t : TabledQuery) → Covers ns book → tabled_of book name ≡ Some t → IsServed ns t
+served-found ns book name t c q = all-found (IsServed ns) book.entries name t c.serves q
 
 -- a text of the store has at most 2^48 bytes
 pub short-live : (ns : List Node) (root : Option NodeId) → IsSound ns → IsLive ns root → length (text_of ns root) ≤ 281474976710656

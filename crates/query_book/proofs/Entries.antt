@@ -5,7 +5,7 @@ use Rattle.std.specs.List.{IsDistinct}
 use Rattle.query_book.specs.declared.entry.Entry.{Entry}
 use Rattle.query_book.specs.declared.entry.TabledQuery.{TabledQuery}
 use Rattle.query_book.specs.Named.{Named, is_same, value_of, put, taken_out, AreDistinctNames}
-use Rattle.query_book.specs.Book.{entry, entries_of, queries_of, tabled_of, with_entry, without_entry}
+use Rattle.query_book.specs.Book.{entry, entries_of, queries_in, tabled_in, with_entry, without_entry}
 use Rattle.query_book.specs.Kept.{IsSound, AreSound}
 
 some_is : {X : Type 0} {x y : X} → Some x ≡ Some y → x ≡ y
@@ -15,7 +15,7 @@ entries-cond : (b : Bool) (ps qs : Named TabledQuery) → entries_of (cond b ps 
 entries-cond true ps qs = refl
 entries-cond false ps qs = refl
 
-pub tabled-entries : (ps : Named TabledQuery) (name : List ℕ) → tabled_of (entries_of ps) name ≡ value_of ps name
+pub tabled-entries : (ps : Named TabledQuery) (name : List ℕ) → tabled_in (entries_of ps) name ≡ value_of ps name
 tabled-entries [] name = refl
 tabled-entries (p ∷ ps) name = ap (λ o. cond (is_same name p.0) (Some p.1) o) (tabled-entries ps name)
 
@@ -55,9 +55,9 @@ AreSound-taken_out (p ∷ ps) name h = by (is_same name p.0) (AreSound-taken_out
     by true rest = h.1
     by false rest = (h.0, rest)
 
-names-entries : (ps : Named TabledQuery) → map (λ q. q.0) (queries_of (entries_of ps)) ≡ map (λ p. p.0) ps
+names-entries : (ps : Named TabledQuery) → map (λ q. q.0) (queries_in (entries_of ps)) ≡ map (λ p. p.0) ps
 names-entries [] = refl
 names-entries (p ∷ ps) = ap (λ ns. p.0 ∷ ns) (names-entries ps)
 
-pub names-distinct : (ps : Named TabledQuery) → AreDistinctNames ps → AreDistinctNames (queries_of (entries_of ps))
+pub names-distinct : (ps : Named TabledQuery) → AreDistinctNames ps → AreDistinctNames (queries_in (entries_of ps))
 names-distinct ps d = subst (IsDistinct is_same) (sym (names-entries ps)) d

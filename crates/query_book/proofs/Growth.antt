@@ -8,8 +8,8 @@ use Rattle.state_tables.specs.Dictionary.{count_of}
 use Rattle.count_tables.specs.Dictionary as counting
 use Rattle.query_book.specs.declared.entry.TabledQuery.{TabledQuery}
 use Rattle.query_book.specs.Named.{Named, with_value}
-use Rattle.query_book.specs.Book.{entries_of, queries_of}
-use Rattle.query_book.specs.Serving.{IsServed, Serves, Covers, counted_of, covered_of, sum_of, all_at, ArePartlyAt}
+use Rattle.query_book.specs.Book.{book_of, entries_of, queries_in}
+use Rattle.query_book.specs.Serving.{AreServed, IsServed, Covers, counted_in, covered_in, sum_of, all_at, ArePartlyAt}
 use Rattle.query_book.specs.Kept.{IsSound, AreSound}
 use Rattle.query_book.specs.Growing.{MayGrow, Grows, ChangesAt, ChangesFirst}
 
@@ -25,14 +25,14 @@ sound-at [] i v h at = let bad : ⊥ = cc in absurd bad
 sound-at (p ∷ ps) zero v h at = subst IsSound (some_is at) h.0
 sound-at (p ∷ ps) (suc i) v h at = sound-at ps i v h.1 at
 
-pub served-at : (ns : List Node) (ps : Named TabledQuery) (i : ℕ) (v : TabledQuery) → Serves ns (entries_of ps) → option_map (λ p. p.1) (slice_get ps i) ≡ Some v → IsServed ns v
+pub served-at : (ns : List Node) (ps : Named TabledQuery) (i : ℕ) (v : TabledQuery) → AreServed ns (entries_of ps) → option_map (λ p. p.1) (slice_get ps i) ≡ Some v → IsServed ns v
 served-at ns [] i v h at = let bad : ⊥ = cc in absurd bad
 served-at ns (p ∷ ps) zero v h at = subst (IsServed ns) (some_is at) h.0
 served-at ns (p ∷ ps) (suc i) v h at = served-at ns ps i v h.1 at
 
 -- the number of tables of all queries
 abbrev pub total : Named TabledQuery → ℕ
-total ps = sum_of (covered_of (entries_of ps))
+total ps = sum_of (covered_in (entries_of ps))
 
 pub total-set : (ps : Named TabledQuery) (i : ℕ) (v w : TabledQuery) → option_map (λ p. p.1) (slice_get ps i) ≡ Some v → total (with_value ps i w) + count_of v.tables ≡ total ps + count_of w.tables
 total-set [] i v w at = let bad : ⊥ = cc in absurd bad
@@ -70,12 +70,12 @@ changes-map R S f (suc n) [] qs h = h
 changes-map R S f (suc n) (p ∷ ps) [] h = h
 changes-map R S f (suc n) (p ∷ ps) (q ∷ qs) h = (h.0, f p.1 q.1 h.1, changes-map R S f n ps qs h.2)
 
-all-stay : (ns : List Node) (ps : Named TabledQuery) → AreSound ps → Serves ns (entries_of ps) → ChangesFirst (MayGrow ns) (length ps) ps ps
+all-stay : (ns : List Node) (ps : Named TabledQuery) → AreSound ps → AreServed ns (entries_of ps) → ChangesFirst (MayGrow ns) (length ps) ps ps
 all-stay ns [] k s = refl
 all-stay ns (p ∷ ps) k s = (refl, stays ns p.1 k.0 s.0, all-stay ns ps k.1 s.1)
 
 -- those that are unchanged may have got tables too
-pub changes-all : (ns : List Node) (n : ℕ) (ps qs : Named TabledQuery) → AreSound ps → Serves ns (entries_of ps) → ChangesFirst (MayGrow ns) n ps qs → ChangesFirst (MayGrow ns) (length ps) ps qs
+pub changes-all : (ns : List Node) (n : ℕ) (ps qs : Named TabledQuery) → AreSound ps → AreServed ns (entries_of ps) → ChangesFirst (MayGrow ns) n ps qs → ChangesFirst (MayGrow ns) (length ps) ps qs
 changes-all ns zero ps qs k s h = subst (ChangesFirst (MayGrow ns) (length ps) ps) (sym h) (all-stay ns ps k s)
 changes-all ns (suc n) [] qs k s h = h
 changes-all ns (suc n) (p ∷ ps) [] k s h = absurd h
@@ -86,28 +86,28 @@ sound-after ns [] qs k h = subst AreSound (sym h) tt
 sound-after ns (p ∷ ps) [] k h = absurd h
 sound-after ns (p ∷ ps) (q ∷ qs) k h = (h.1.sound, sound-after ns ps qs k.1 h.2)
 
-pub served-after : (ns : List Node) (ps qs : Named TabledQuery) → ChangesFirst (MayGrow ns) (length ps) ps qs → Serves ns (entries_of qs)
-served-after ns [] qs h = subst (λ xs. Serves ns (entries_of xs)) (sym h) tt
+pub served-after : (ns : List Node) (ps qs : Named TabledQuery) → ChangesFirst (MayGrow ns) (length ps) ps qs → AreServed ns (entries_of qs)
+served-after ns [] qs h = subst (λ xs. AreServed ns (entries_of xs)) (sym h) tt
 served-after ns (p ∷ ps) [] h = absurd h
 served-after ns (p ∷ ps) (q ∷ qs) h = (h.1.served, served-after ns ps qs h.2)
 
-pub queries-after : (ns : List Node) (ps qs : Named TabledQuery) → ChangesFirst (MayGrow ns) (length ps) ps qs → queries_of (entries_of qs) ≡ queries_of (entries_of ps)
-queries-after ns [] qs h = ap (λ xs. queries_of (entries_of xs)) h
+pub queries-after : (ns : List Node) (ps qs : Named TabledQuery) → ChangesFirst (MayGrow ns) (length ps) ps qs → queries_in (entries_of qs) ≡ queries_in (entries_of ps)
+queries-after ns [] qs h = ap (λ xs. queries_in (entries_of xs)) h
 queries-after ns (p ∷ ps) [] h = absurd h
 queries-after ns (p ∷ ps) (q ∷ qs) h = λ j. (h.0 j, query_of (h.1.query j).tree) ∷ queries-after ns ps qs h.2 j
 
-pub counted-after : (ns : List Node) (ps qs : Named TabledQuery) → ChangesFirst (MayGrow ns) (length ps) ps qs → counted_of (entries_of qs) ≡ counted_of (entries_of ps)
-counted-after ns [] qs h = ap (λ xs. counted_of (entries_of xs)) h
+pub counted-after : (ns : List Node) (ps qs : Named TabledQuery) → ChangesFirst (MayGrow ns) (length ps) ps qs → counted_in (entries_of qs) ≡ counted_in (entries_of ps)
+counted-after ns [] qs h = ap (λ xs. counted_in (entries_of xs)) h
 counted-after ns (p ∷ ps) [] h = absurd h
 counted-after ns (p ∷ ps) (q ∷ qs) h = λ j. (h.0 j, unwrap_or (option_map counting.count_of (h.1.counts j)) 0) ∷ counted-after ns ps qs h.2 j
 
-pub partly-after : (ns : List Node) (ps qs : Named TabledQuery) → ChangesFirst (MayGrow ns) (length ps) ps qs → ArePartlyAt (length ns) (covered_of (entries_of ps)) (covered_of (entries_of qs))
-partly-after ns [] qs h = subst (λ xs. ArePartlyAt (length ns) [] (covered_of (entries_of xs))) (sym h) tt
+pub partly-after : (ns : List Node) (ps qs : Named TabledQuery) → ChangesFirst (MayGrow ns) (length ps) ps qs → ArePartlyAt (length ns) (covered_in (entries_of ps)) (covered_in (entries_of qs))
+partly-after ns [] qs h = subst (λ xs. ArePartlyAt (length ns) [] (covered_in (entries_of xs))) (sym h) tt
 partly-after ns (p ∷ ps) [] h = absurd h
 partly-after ns (p ∷ ps) (q ∷ qs) h = (h.0, h.1.count, partly-after ns ps qs h.2)
 
-pub covered-after : (ns : List Node) (ps qs : Named TabledQuery) → ChangesFirst (Grows ns) (length ps) ps qs → covered_of (entries_of qs) ≡ all_at (length ns) (covered_of (entries_of ps))
-covered-after ns [] qs h = ap (λ xs. covered_of (entries_of xs)) h
+pub covered-after : (ns : List Node) (ps qs : Named TabledQuery) → ChangesFirst (Grows ns) (length ps) ps qs → covered_in (entries_of qs) ≡ all_at (length ns) (covered_in (entries_of ps))
+covered-after ns [] qs h = ap (λ xs. covered_in (entries_of xs)) h
 covered-after ns (p ∷ ps) [] h = absurd h
 covered-after ns (p ∷ ps) (q ∷ qs) h = λ j. (h.0 j, h.1.all j) ∷ covered-after ns ps qs h.2 j
 
@@ -116,7 +116,7 @@ all-same : (n : ℕ) (ps : Named ℕ) → all_at n (all_at n ps) ≡ all_at n ps
 all-same n [] = refl
 all-same n (p ∷ ps) = ap (λ qs. (p.0, n) ∷ qs) (all-same n ps)
 
-pub covers-after : (ns : List Node) (ps qs : Named TabledQuery) → ChangesFirst (MayGrow ns) (length ps) ps qs → ChangesFirst (Grows ns) (length ps) ps qs → Covers ns (entries_of qs)
-covers-after ns ps qs m h =
+pub covers-after : (ns : List Node) (most : ℕ) (ps qs : Named TabledQuery) → ChangesFirst (MayGrow ns) (length ps) ps qs → ChangesFirst (Grows ns) (length ps) ps qs → Covers ns (book_of most qs)
+covers-after ns most ps qs m h =
     let e = covered-after ns ps qs h in
-    record { serves = served-after ns ps qs m; all = e ∙ (sym (all-same (length ns) (covered_of (entries_of ps))) ∙ ap (all_at (length ns)) (sym e)) }
+    record { serves = served-after ns ps qs m; all = e ∙ (sym (all-same (length ns) (covered_in (entries_of ps))) ∙ ap (all_at (length ns)) (sym e)) }

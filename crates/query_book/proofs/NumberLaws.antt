@@ -18,10 +18,9 @@ use Rattle.count_tables.specs.Dictionary.{CountDictionary, count_of}
 use Rattle.count_tables.specs.Number.{IsCounted, IsNumber}
 use Rattle.count_tables.specs.Place.{IsNth}
 use Rattle.count_tables.specs.Rank.{IsRank}
-use Rattle.query_book.specs.declared.entry.Entry.{Entry}
 use Rattle.query_book.specs.declared.entry.TabledQuery.{TabledQuery}
 use Rattle.query_book.specs.Answers.{Defines, HasList, IsListingOf}
-use Rattle.query_book.specs.Book.{tabled_of}
+use Rattle.query_book.specs.Book.{Book, tabled_of}
 use Rattle.query_book.specs.Counting.{AreFirstCounts}
 use Rattle.query_book.specs.InHand.{HasAllCounts}
 use Rattle.query_book.specs.Kept.{IsSound as is_sound}
@@ -65,8 +64,8 @@ no-counts ns t h none =
     let bad : ⊥ = cc both in bad
 
 -- the query of a name
-pub counts-found : (ns : List Node) (es : List Entry) (name : List ℕ) (t : TabledQuery) → Serves ns es → HasCounts (length ns) es name → is_sound t → tabled_of es name ≡ Some t → HasAllCounts ns t
-counts-found ns es name t serves counts sound there = record { sound = sound; counts = (all-found (IsServed ns) es name t serves there).counts; all = counts t there }
+pub counts-found : (ns : List Node) (book : Book) (name : List ℕ) (t : TabledQuery) → Serves ns book → HasCounts (length ns) book name → is_sound t → tabled_of book name ≡ Some t → HasAllCounts ns t
+counts-found ns book name t serves counts sound there = record { sound = sound; counts = (all-found (IsServed ns) book.entries name t serves there).counts; all = counts t there }
 
 -- the texts of nodes with counting tables have bytes below 256
 bytes-counted : (a : DeterministicAutomaton) (ns : List Node) (d : CountDictionary) (root : Option NodeId) → IsCounted a ns d root → All (λ b. b < 256) (text_of ns root)

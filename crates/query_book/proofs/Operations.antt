@@ -64,13 +64,13 @@ module _ (l r c : Compiled) (is_l : IsCompiled l) (is_r : IsCompiled r) (parts :
           bytes = union_reads;
         }
 
-    pub union-accepted : (CountIsAbove 128 (union_size l.dfa r.dfa) (UnionStep l.dfa l.vars r.dfa r.vars) → ⊥) → IsAccepted (query_of c.tree)
-    union-accepted h =
-        let none = by_names (λ va vb v. CountIsAbove 128 (union_size l.dfa r.dfa) (UnionStep l.dfa va r.dfa vb) → ⊥) h in
-        subst IsAccepted (sym tree) (record {
+    pub union-accepted : (most : ℕ) → (CountIsAbove most (union_size l.dfa r.dfa) (UnionStep l.dfa l.vars r.dfa r.vars) → ⊥) → IsAccepted most (query_of c.tree)
+    union-accepted most h =
+        let none = by_names (λ va vb v. CountIsAbove most (union_size l.dfa r.dfa) (UnionStep l.dfa va r.dfa vb) → ⊥) h in
+        subst (IsAccepted most) (sym tree) (record {
           few_parts = omega (arith, few, parts_are);
           few_names = both_vars.few;
-          few = λ k. none ((counts-by-any.union 128 p q l.dfa r.dfa is_l.tree is_r.tree).0 k);
+          few = λ k. none ((counts-by-any.union most p q l.dfa r.dfa is_l.tree is_r.tree).0 k);
         })
 
   module _ (tree : query_of c.tree ≡ Join p q) (made : IsAutomatonOf (join_size l.dfa) (JoinStep l.dfa l.vars r.dfa r.vars) (JoinEnd l.dfa l.vars r.dfa r.vars) c.dfa) where
@@ -80,7 +80,7 @@ module _ (l r c : Compiled) (is_l : IsCompiled l) (is_r : IsCompiled r) (parts :
     join_reads : ReadsBytes c.dfa
     join_reads = reads-by (join_size l.dfa) (JoinStep l.dfa (names_of p) r.dfa (names_of q)) (JoinEnd l.dfa (names_of p) r.dfa (names_of q)) c.dfa (λ o m b x s. s.byte) join_made
 
-    pub join-compiled : states_of r.dfa ≤ 128 → GivesJoin l.dfa l.vars r.dfa r.vars c.vars c.dfa → IsCompiled c
+    pub join-compiled : states_of r.dfa ≤ 1024 → GivesJoin l.dfa l.vars r.dfa r.vars c.vars c.dfa → IsCompiled c
     join-compiled small gives =
         let g : GivesJoin l.dfa (names_of p) r.dfa (names_of q) both c.dfa = by_names (λ va vb v. GivesJoin l.dfa va r.dfa vb v c.dfa) gives in
         record {
@@ -92,13 +92,13 @@ module _ (l r c : Compiled) (is_l : IsCompiled l) (is_r : IsCompiled r) (parts :
           bytes = join_reads;
         }
 
-    pub join-accepted : states_of r.dfa ≤ 128 → (CountIsAbove 128 (join_size l.dfa) (JoinStep l.dfa l.vars r.dfa r.vars) → ⊥) → IsAccepted (query_of c.tree)
-    join-accepted small h =
-        let none = by_names (λ va vb v. CountIsAbove 128 (join_size l.dfa) (JoinStep l.dfa va r.dfa vb) → ⊥) h in
-        subst IsAccepted (sym tree) (record {
+    pub join-accepted : (most : ℕ) → states_of r.dfa ≤ 1024 → (CountIsAbove most (join_size l.dfa) (JoinStep l.dfa l.vars r.dfa r.vars) → ⊥) → IsAccepted most (query_of c.tree)
+    join-accepted most small h =
+        let none = by_names (λ va vb v. CountIsAbove most (join_size l.dfa) (JoinStep l.dfa va r.dfa vb) → ⊥) h in
+        subst (IsAccepted most) (sym tree) (record {
           few_parts = omega (arith, few, parts_are);
           few_names = both_vars.few;
-          few = λ k. none ((counts-by-any.join 128 p q l.dfa r.dfa is_l.tree is_r.tree small).0 k);
+          few = λ k. none ((counts-by-any.join most p q l.dfa r.dfa is_l.tree is_r.tree small).0 k);
         })
 
 module _ (l c : Compiled) (is_l : IsCompiled l) (parts : c.parts ≡ 1 + l.parts) (few : c.parts ≤ 128) (vars : AreVars c.vars) (tree : query_of c.tree ≡ Project (query_of l.tree) c.vars) where
@@ -125,11 +125,11 @@ module _ (l c : Compiled) (is_l : IsCompiled l) (parts : c.parts ≡ 1 + l.parts
         bytes = reads;
       }
 
-  pub project-accepted : (CountIsAbove 128 (states_of l.dfa) (ProjectStep l.dfa l.vars c.vars) → ⊥) → IsAccepted (query_of c.tree)
-  project-accepted h =
-      let none = own_names (λ v. CountIsAbove 128 (states_of l.dfa) (ProjectStep l.dfa v c.vars) → ⊥) h in
-      subst IsAccepted (sym tree) (record {
+  pub project-accepted : (most : ℕ) → (CountIsAbove most (states_of l.dfa) (ProjectStep l.dfa l.vars c.vars) → ⊥) → IsAccepted most (query_of c.tree)
+  project-accepted most h =
+      let none = own_names (λ v. CountIsAbove most (states_of l.dfa) (ProjectStep l.dfa v c.vars) → ⊥) h in
+      subst (IsAccepted most) (sym tree) (record {
         few_parts = omega (arith, few, own_parts);
         few_names = vars.few;
-        few = λ k. none ((counts-by-any.project 128 source c.vars l.dfa is_l.tree).0 k);
+        few = λ k. none ((counts-by-any.project most source c.vars l.dfa is_l.tree).0 k);
       })

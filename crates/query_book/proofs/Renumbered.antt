@@ -14,9 +14,9 @@ use Rattle.query_book.specs.declared.entry.Entry.{Entry}
 use Rattle.query_book.specs.declared.entry.TabledQuery.{TabledQuery}
 use Rattle.query_book.specs.Counting.{AreFirstCounts, UsesEachCount, counted}
 use Rattle.query_book.specs.Named.{Named}
-use Rattle.query_book.specs.Book.{entries_of, queries_of}
+use Rattle.query_book.specs.Book.{book_of, entries_of, queries_in}
 use Rattle.query_book.specs.Compiling.{IsCompiled}
-use Rattle.query_book.specs.Serving.{IsServed, Serves, counted_of, covered_of}
+use Rattle.query_book.specs.Serving.{AreServed, IsServed, counted_in, covered_in}
 use Rattle.query_book.specs.Kept.{IsSound, AreSound}
 use Rattle.query_book.specs.Growing.{ChangesFirst}
 use Rattle.query_book.specs.Renumbering.{Renumbers, RenumbersCounts, AreWithin, IsWithin, UseEachTable, ranked}
@@ -86,7 +86,7 @@ served-thin ns ms keep old new thin query count tables counts s = record {
 some_is : {X : Type 0} {x y : X} → Some x ≡ Some y → x ≡ y
 some_is {X} {x} p = ap (λ o. unwrap_or o x) p
 
-pub within-all : (keep : List Bool) (ns : List Node) (es : List Entry) → length keep ≡ length ns → Serves ns es → AreWithin keep es
+pub within-all : (keep : List Bool) (ns : List Node) (es : List Entry) → length keep ≡ length ns → AreServed ns es → AreWithin keep es
 within-all keep ns [] long s = tt
 within-all keep ns (e ∷ es) long s = (
   record { tables = omega (arith, long, s.0.covered); counts = omega (arith, long, counts-within e.tabled.query.dfa ns e.tabled.counts s.0.counts) },
@@ -116,28 +116,28 @@ module _ (keep : List Bool) where
   sound-after (suc n) (p ∷ ps) (q ∷ qs) k h = (h.1.sound, sound-after n ps qs k.1 h.2)
 
   -- all were
-  pub serves-after : (ns ms : List Node) → IsThinOf ns keep ms → (ps qs : Named TabledQuery) → ChangesFirst (Renumbers keep) (length ps) ps qs → Serves ns (entries_of ps) → Serves ms (entries_of qs)
-  serves-after ns ms thin [] qs h s = subst (λ xs. Serves ms (entries_of xs)) (sym h) tt
+  pub serves-after : (ns ms : List Node) → IsThinOf ns keep ms → (ps qs : Named TabledQuery) → ChangesFirst (Renumbers keep) (length ps) ps qs → AreServed ns (entries_of ps) → AreServed ms (entries_of qs)
+  serves-after ns ms thin [] qs h s = subst (λ xs. AreServed ms (entries_of xs)) (sym h) tt
   serves-after ns ms thin (p ∷ ps) [] h s = absurd h
   serves-after ns ms thin (p ∷ ps) (q ∷ qs) h s = (h.1.served ns ms thin s.0, serves-after ns ms thin ps qs h.2 s.1)
 
   -- in each query no other table is kept
-  pub used-after : (ps qs : Named TabledQuery) → ChangesFirst (Renumbers keep) (length ps) ps qs → UseEachTable (entries_of qs)
-  used-after [] qs h = subst (λ xs. UseEachTable (entries_of xs)) (sym h) tt
-  used-after (p ∷ ps) [] h = absurd h
-  used-after (p ∷ ps) (q ∷ qs) h = ((h.1.used, h.1.counts_used), used-after ps qs h.2)
+  pub used-after : (most : ℕ) (ps qs : Named TabledQuery) → ChangesFirst (Renumbers keep) (length ps) ps qs → UseEachTable (book_of most qs)
+  used-after most [] qs h = subst (λ xs. UseEachTable (book_of most xs)) (sym h) tt
+  used-after most (p ∷ ps) [] h = absurd h
+  used-after most (p ∷ ps) (q ∷ qs) h = ((h.1.used, h.1.counts_used), used-after most ps qs h.2)
 
-  pub queries-after : (ps qs : Named TabledQuery) → ChangesFirst (Renumbers keep) (length ps) ps qs → queries_of (entries_of qs) ≡ queries_of (entries_of ps)
-  queries-after [] qs h = ap (λ xs. queries_of (entries_of xs)) h
+  pub queries-after : (ps qs : Named TabledQuery) → ChangesFirst (Renumbers keep) (length ps) ps qs → queries_in (entries_of qs) ≡ queries_in (entries_of ps)
+  queries-after [] qs h = ap (λ xs. queries_in (entries_of xs)) h
   queries-after (p ∷ ps) [] h = absurd h
   queries-after (p ∷ ps) (q ∷ qs) h = λ j. (h.0 j, query_of (h.1.query j).tree) ∷ queries-after ps qs h.2 j
 
-  pub covered-after : (ps qs : Named TabledQuery) → ChangesFirst (Renumbers keep) (length ps) ps qs → covered_of (entries_of qs) ≡ ranked keep (covered_of (entries_of ps))
-  covered-after [] qs h = ap (λ xs. covered_of (entries_of xs)) h
+  pub covered-after : (ps qs : Named TabledQuery) → ChangesFirst (Renumbers keep) (length ps) ps qs → covered_in (entries_of qs) ≡ ranked keep (covered_in (entries_of ps))
+  covered-after [] qs h = ap (λ xs. covered_in (entries_of xs)) h
   covered-after (p ∷ ps) [] h = absurd h
   covered-after (p ∷ ps) (q ∷ qs) h = λ j. (h.0 j, h.1.count j) ∷ covered-after ps qs h.2 j
 
-  pub counted-after : (ps qs : Named TabledQuery) → ChangesFirst (Renumbers keep) (length ps) ps qs → counted_of (entries_of qs) ≡ ranked keep (counted_of (entries_of ps))
-  counted-after [] qs h = ap (λ xs. counted_of (entries_of xs)) h
+  pub counted-after : (ps qs : Named TabledQuery) → ChangesFirst (Renumbers keep) (length ps) ps qs → counted_in (entries_of qs) ≡ ranked keep (counted_in (entries_of ps))
+  counted-after [] qs h = ap (λ xs. counted_in (entries_of xs)) h
   counted-after (p ∷ ps) [] h = absurd h
   counted-after (p ∷ ps) (q ∷ qs) h = λ j. (h.0 j, h.1.counts j) ∷ counted-after ps qs h.2 j

@@ -13,8 +13,8 @@ use Rattle.query_book.specs.Counting.{AreFirstCounts}
 use Rattle.query_book.specs.declared.entry.Entry.{Entry}
 use Rattle.query_book.specs.declared.entry.TabledQuery.{TabledQuery}
 use Rattle.query_book.specs.Named.{is_same}
-use Rattle.query_book.specs.Book.{with_entry, without_entry}
-use Rattle.query_book.specs.Serving.{IsServed, Serves}
+use Rattle.query_book.specs.Book.{Book, with_entry, without_entry}
+use Rattle.query_book.specs.Serving.{AreServed, IsServed, Serves}
 
 -- without nodes there are no tables
 pub served-none : (ns : List Node) (t : TabledQuery) → count_of t.tables ≡ 0 → t.counts ≡ None → IsServed ns t
@@ -24,19 +24,19 @@ served-none ns t z none = record {
   counts = subst (λ o. IfSome o (AreFirstCounts t.query.dfa ns)) (sym none) tt;
 }
 
-pub serves-with_entry : (ns : List Node) (es : List Entry) (x : Entry) → Serves ns es → IsServed ns x.tabled → Serves ns (with_entry es x)
+pub serves-with_entry : (ns : List Node) (es : List Entry) (x : Entry) → AreServed ns es → IsServed ns x.tabled → AreServed ns (with_entry es x)
 serves-with_entry ns [] x h s = (s, tt)
 serves-with_entry ns (e ∷ es) x h s = by (is_same x.name e.name) (serves-with_entry ns es x h.1 s)
   where
-    by : (b : Bool) → Serves ns (with_entry es x) → Serves ns (cond b (x ∷ es) (e ∷ with_entry es x))
+    by : (b : Bool) → AreServed ns (with_entry es x) → AreServed ns (cond b (x ∷ es) (e ∷ with_entry es x))
     by true rest = (s, h.1)
     by false rest = (h.0, rest)
 
-pub serves-without_entry : (ns : List Node) (es : List Entry) (name : List ℕ) → Serves ns es → Serves ns (without_entry es name)
+pub serves-without_entry : (ns : List Node) (es : List Entry) (name : List ℕ) → AreServed ns es → AreServed ns (without_entry es name)
 serves-without_entry ns [] name h = tt
 serves-without_entry ns (e ∷ es) name h = by (is_same name e.name) (serves-without_entry ns es name h.1)
   where
-    by : (b : Bool) → Serves ns (without_entry es name) → Serves ns (cond b es (e ∷ without_entry es name))
+    by : (b : Bool) → AreServed ns (without_entry es name) → AreServed ns (cond b es (e ∷ without_entry es name))
     by true rest = h.1
     by false rest = (h.0, rest)
 
@@ -54,6 +54,9 @@ served-more ns ms t s = record {
   counts = counts-more t.query.dfa ns ms t.counts s.counts;
 }
 
-pub serves-more : (ns ms : List Node) (es : List Entry) → Serves ns es → Serves (ns ++ ms) es
-serves-more ns ms [] h = tt
-serves-more ns ms (e ∷ es) h = (served-more ns ms e.tabled h.0, serves-more ns ms es h.1)
+all-more : (ns ms : List Node) (es : List Entry) → AreServed ns es → AreServed (ns ++ ms) es
+all-more ns ms [] h = tt
+all-more ns ms (e ∷ es) h = (served-more ns ms e.tabled h.0, all-more ns ms es h.1)
+
+pub serves-more : (ns ms : List Node) (book : Book) → Serves ns book → Serves (ns ++ ms) book
+serves-more ns ms book h = all-more ns ms book.entries h

@@ -4,7 +4,7 @@ use Rattle.std.specs.Option.{option_map}
 use Rattle.query_book.specs.declared.entry.Entry.{Entry}
 use Rattle.query_book.specs.declared.entry.TabledQuery.{TabledQuery}
 use Rattle.query_book.specs.Named.{Named, is_same, value_of, put, taken_out}
-use Rattle.query_book.specs.Book.{tabled_of, with_entry, without_entry}
+use Rattle.query_book.specs.Book.{tabled_in, with_entry, without_entry}
 
 module _ {A : Type 0} (g : TabledQuery → A) where
   -- the value of g for each entry's query, by name
@@ -19,9 +19,9 @@ module _ {A : Type 0} (g : TabledQuery → A) where
   if-map true x y = refl
   if-map false x y = refl
 
-  pub value-by_name : (es : List Entry) (name : List ℕ) → value_of (by_name es) name ≡ option_map g (tabled_of es name)
+  pub value-by_name : (es : List Entry) (name : List ℕ) → value_of (by_name es) name ≡ option_map g (tabled_in es name)
   value-by_name [] name = refl
-  value-by_name (e ∷ es) name = ap (λ o. cond (is_same name e.name) (Some (g e.tabled)) o) (value-by_name es name) ∙ sym (if-map (is_same name e.name) (Some e.tabled) (tabled_of es name))
+  value-by_name (e ∷ es) name = ap (λ o. cond (is_same name e.name) (Some (g e.tabled)) o) (value-by_name es name) ∙ sym (if-map (is_same name e.name) (Some e.tabled) (tabled_in es name))
 
   pub by_name-with_entry : (es : List Entry) (x : Entry) → by_name (with_entry es x) ≡ put (by_name es) x.name (g x.tabled)
   by_name-with_entry [] x = refl

@@ -18,20 +18,20 @@ parts_of (Union a b) = suc (parts_of a + parts_of b)
 parts_of (Join a b) = suc (parts_of a + parts_of b)
 parts_of (Project a names) = suc (parts_of a)
 
--- a query within the limits: 128 parts, eight variables and 128 reachable sets of states
-pub record IsAccepted (q : Query) : Type 0 where
+-- a query within the limits: 128 parts, eight variables and this many reachable sets of states
+pub record IsAccepted (most : ℕ) (q : Query) : Type 0 where
   pub few_parts : parts_of q ≤ 128
   pub few_names : length (names_of q) ≤ 8
-  pub few : TreeCountIsAbove 128 q → ⊥
+  pub few : TreeCountIsAbove most q → ⊥
 
 -- the first limit that a query exceeds
-abbrev pub IsPast : Query → CombineRefusal → Type 0
-IsPast q (NoSuchQuery name) = ⊥
-IsPast q (QueryTooLarge parts) = (parts ≡ parts_of q) × (128 < parts)
-IsPast q OtherVariables = ⊥
-IsPast q TooManyVariables = (parts_of q ≤ 128) × (8 < length (names_of q))
-IsPast q TooManyStates = (parts_of q ≤ 128) × (length (names_of q) ≤ 8) × TreeCountIsAbove 128 q
-IsPast q NoMemory = Unit {0}
+abbrev pub IsPast : ℕ → Query → CombineRefusal → Type 0
+IsPast most q (NoSuchQuery name) = ⊥
+IsPast most q (QueryTooLarge parts) = (parts ≡ parts_of q) × (128 < parts)
+IsPast most q OtherVariables = ⊥
+IsPast most q TooManyVariables = (parts_of q ≤ 128) × (8 < length (names_of q))
+IsPast most q TooManyStates = (parts_of q ≤ 128) × (length (names_of q) ≤ 8) × TreeCountIsAbove most q
+IsPast most q NoMemory = Unit {0}
 
 -- both names have queries, and P holds of the tree over them
 abbrev pub HasPair : (Query → Query → Query) → Named Query → List ℕ → List ℕ → (Query → Type 0) → Type 0
@@ -48,25 +48,25 @@ IsAbsent queries wanted NoMemory = Unit {0}
 
 -- why the tree over the queries of two names isn't registered: the left query doesn't exist, or the right one doesn't,
 -- or the tree exceeds a limit
-abbrev pub IsPairRefused : (Query → Query → Query) → Named Query → List ℕ → List ℕ → CombineRefusal → Type 0
-IsPairRefused Tree queries left right why = IsAbsent queries left why ⊎ IsNamed queries left (λ p. IsAbsent queries right why ⊎ IsNamed queries right (λ q. IsPast (Tree p q) why))
+abbrev pub IsPairRefused : ℕ → (Query → Query → Query) → Named Query → List ℕ → List ℕ → CombineRefusal → Type 0
+IsPairRefused most Tree queries left right why = IsAbsent queries left why ⊎ IsNamed queries left (λ p. IsAbsent queries right why ⊎ IsNamed queries right (λ q. IsPast most (Tree p q) why))
 
 -- P holds of the projection of a query to the names of a text
 abbrev pub HasProjection : Query → List ℕ → (Query → Type 0) → Type 0
 HasProjection q keep P = (names : List (List ℕ)) × IsVarsText keep names × (HasOther (names_of q) names → ⊥) × P (Project q names)
 
 -- why the projection of a query to the names of a text isn't registered
-abbrev pub IsProjectionPast : Query → List ℕ → CombineRefusal → Type 0
-IsProjectionPast q keep (NoSuchQuery name) = ⊥
-IsProjectionPast q keep (QueryTooLarge parts) = (parts ≡ suc (parts_of q)) × (128 < parts)
-IsProjectionPast q keep OtherVariables = (suc (parts_of q) ≤ 128) × IsKeepRefused (names_of q) keep OtherVariables
-IsProjectionPast q keep TooManyVariables = ⊥
-IsProjectionPast q keep TooManyStates = HasProjection q keep (λ p. IsPast p TooManyStates)
-IsProjectionPast q keep NoMemory = Unit {0}
+abbrev pub IsProjectionPast : ℕ → Query → List ℕ → CombineRefusal → Type 0
+IsProjectionPast most q keep (NoSuchQuery name) = ⊥
+IsProjectionPast most q keep (QueryTooLarge parts) = (parts ≡ suc (parts_of q)) × (128 < parts)
+IsProjectionPast most q keep OtherVariables = (suc (parts_of q) ≤ 128) × IsKeepRefused (names_of q) keep OtherVariables
+IsProjectionPast most q keep TooManyVariables = ⊥
+IsProjectionPast most q keep TooManyStates = HasProjection q keep (λ p. IsPast most p TooManyStates)
+IsProjectionPast most q keep NoMemory = Unit {0}
 
 -- the same by name: the source doesn't exist, or its projection exceeds a limit
-abbrev pub IsProjectRefused : Named Query → List ℕ → List ℕ → CombineRefusal → Type 0
-IsProjectRefused queries source keep why = IsAbsent queries source why ⊎ IsNamed queries source (λ q. IsProjectionPast q keep why)
+abbrev pub IsProjectRefused : ℕ → Named Query → List ℕ → List ℕ → CombineRefusal → Type 0
+IsProjectRefused most queries source keep why = IsAbsent queries source why ⊎ IsNamed queries source (λ q. IsProjectionPast most q keep why)
 
 -- a rejection of the algebra, as one of the registry
 abbrev pub refusal_of : AlgebraRefusal → CombineRefusal

@@ -53,12 +53,12 @@ pub record IsCompiled (c : Compiled) : Type 0 where
   pub bytes : ReadsBytes c.dfa
 
 -- the compiled query of a text
-pub record IsCompiledOf (s : List ℕ) (c : Compiled) : Type 0 where
+pub record IsCompiledOf (most : ℕ) (s : List ℕ) (c : Compiled) : Type 0 where
   pub compiled : IsCompiled c
-  pub query : IsQueryOf s (query_of c.tree)
+  pub query : IsQueryOf most s (query_of c.tree)
 
 -- why a formula has no automaton
-abbrev pub CannotCompile : FormulaTree → QueryRefusal → Type 0
-CannotCompile f (Formula why) = ⊥
-CannotCompile f TooManyStates = CountIsAbove 128 f
-CannotCompile f NoMemory = Unit {0}
+abbrev pub CannotCompile : ℕ → FormulaTree → QueryRefusal → Type 0
+CannotCompile most f (Formula why) = ⊥
+CannotCompile most f TooManyStates = CountIsAbove most f
+CannotCompile most f NoMemory = Unit {0}

@@ -1,5 +1,5 @@
 -- The queries of the map.
-use Rattle.std.specs.Prelude.{◌≡◌, IfSome}
+use Rattle.std.specs.Prelude.{◌≡◌, ℕ, ◌≤◌, IfSome}
 use Rattle.std.specs.List.{AllByRecursion}
 use Rattle.marker_dfa.specs.Deterministic.{states_of}
 use Rattle.table_grow.specs.Remembering.{AreTrueEntries}
@@ -17,3 +17,9 @@ pub record IsSound (t : TabledQuery) : Type 0 where
 -- each query is sound
 abbrev pub AreSound : Named TabledQuery → Type 0
 AreSound ps = AllByRecursion (λ p. IsSound p.1) ps
+
+-- a registry of these queries, with this maximum number of states of a query's automaton
+pub record IsRegistry (most : ℕ) (ps : Named TabledQuery) : Type 0 where
+  pub sound : AreSound ps
+  pub few : 128 ≤ most
+  pub many : most ≤ 1024

@@ -7,20 +7,20 @@ use Rattle.formula_syntax.specs.declared.refusal.FormulaRefusal as formula
 use Rattle.query_book.specs.Occurrences.{CountIsAbove}
 use Rattle.query_book.specs.declared.refusal.QueryRefusal as refusal
 
--- the text is a formula with at most 128 reachable sets, and the query is its Leaf
-pub record IsQueryOf (s : List ℕ) (q : Query) : Type 0 where
+-- the text is a formula with at most this many reachable sets, and the query is its Leaf
+pub record IsQueryOf (most : ℕ) (s : List ℕ) (q : Query) : Type 0 where
   pub formula : FormulaTree
   pub names : List (List ℕ)
   pub outcome : FormulaOf s (Formula formula names)
-  pub few : CountIsAbove 128 formula → ⊥
+  pub few : CountIsAbove most formula → ⊥
   pub query : q ≡ Leaf formula names
 
--- the text is a formula with more than 128 reachable sets
-pub record IsTooLarge (s : List ℕ) : Type 0 where
+-- the text is a formula with more reachable sets
+pub record IsTooLarge (most : ℕ) (s : List ℕ) : Type 0 where
   pub formula : FormulaTree
   pub names : List (List ℕ)
   pub outcome : FormulaOf s (Formula formula names)
-  pub many : CountIsAbove 128 formula
+  pub many : CountIsAbove most formula
 
 -- the text is rejected for this reason, which isn't allocation failure
 abbrev pub Refuses : List ℕ → formula.FormulaRefusal → Type 0
@@ -33,7 +33,7 @@ Refuses s (formula.TheVariants.NotFunctional name) = FormulaOf s (NotFunctional 
 Refuses s formula.TheVariants.NoMemory = ⊥
 
 -- why the text is no query, or an allocation failed
-abbrev pub IsRefused : List ℕ → refusal.QueryRefusal → Type 0
-IsRefused s (refusal.TheVariants.Formula why) = Refuses s why
-IsRefused s refusal.TheVariants.TooManyStates = IsTooLarge s
-IsRefused s refusal.TheVariants.NoMemory = Unit {0}
+abbrev pub IsRefused : ℕ → List ℕ → refusal.QueryRefusal → Type 0
+IsRefused most s (refusal.TheVariants.Formula why) = Refuses s why
+IsRefused most s refusal.TheVariants.TooManyStates = IsTooLarge most s
+IsRefused most s refusal.TheVariants.NoMemory = Unit {0}

@@ -17,10 +17,10 @@ use Rattle.query_book.specs.Kept.{IsSound}
 use Rattle.query_book.specs.Serving.{IsServed, Serves}
 
 -- the nodes that the plan covers have their tables, or the first of them do
-pub record IsPlanFor (keep : List Bool) (es : Book) : Type 0 where
+pub record IsPlanFor (keep : List Bool) (book : Book) : Type 0 where
   pub nodes : List Node
   pub plan : IsPlanOf nodes keep
-  pub serves : Serves nodes es
+  pub serves : Serves nodes book
 
 -- for each number of first nodes, how many of them are kept
 abbrev pub ranked : List Bool → Named ℕ → Named ℕ
@@ -32,7 +32,7 @@ UsesEachTable d = (number : ℕ) → number < distinct_of d → Contains d.numbe
 
 -- in each query, and each kept counting table is that of a node
 abbrev pub UseEachTable : Book → Type 0
-UseEachTable es = AllByRecursion (λ e. UsesEachTable e.tabled.tables × UsesItsCounts e.tabled) es
+UseEachTable book = AllByRecursion (λ e. UsesEachTable e.tabled.tables × UsesItsCounts e.tabled) book.entries
 
 -- counting tables are renumbered: they are exactly those of the kept nodes that had some, and no other is kept
 pub record RenumbersTables (keep : List Bool) (old new : CountDictionary) : Type 0 where

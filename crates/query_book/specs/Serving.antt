@@ -3,6 +3,7 @@ use Rattle.std.specs.Prelude.{◌≡◌, ◌⊎◌, ℕ, ◌+◌, ◌≤◌, Lis
 use Rattle.std.specs.List.{AllByRecursion}
 use Rattle.slp_model.specs.declared.Node.{Node}
 use Rattle.state_tables.specs.Dictionary.{AreTables, count_of}
+use Rattle.query_book.specs.declared.entry.Entry.{Entry}
 use Rattle.query_book.specs.declared.entry.TabledQuery.{TabledQuery}
 use Rattle.query_book.specs.Named.{Named}
 use Rattle.query_book.specs.Book.{Book, tabled_of}
@@ -15,20 +16,29 @@ pub record IsServed (ns : List Node) (t : TabledQuery) : Type 0 where
   pub counts : IfSome t.counts (AreFirstCounts t.query.dfa ns)
 
 -- in each query the tables and the counting tables are those of first nodes of the list
+abbrev pub AreServed : List Node → List Entry → Type 0
+AreServed ns es = AllByRecursion (λ e. IsServed ns e.tabled) es
+
 abbrev pub Serves : List Node → Book → Type 0
-Serves ns es = AllByRecursion (λ e. IsServed ns e.tabled) es
+Serves ns book = AreServed ns book.entries
 
 -- the number of nodes with tables in each query, by name
+abbrev pub covered_in : List Entry → Named ℕ
+covered_in es = map (λ e. (e.name, count_of e.tabled.tables)) es
+
 abbrev pub covered_of : Book → Named ℕ
-covered_of es = map (λ e. (e.name, count_of e.tabled.tables)) es
+covered_of book = covered_in book.entries
 
 -- the number of nodes with counting tables in each query, by name
+abbrev pub counted_in : List Entry → Named ℕ
+counted_in es = map (λ e. (e.name, counted e.tabled)) es
+
 abbrev pub counted_of : Book → Named ℕ
-counted_of es = map (λ e. (e.name, counted e.tabled)) es
+counted_of book = counted_in book.entries
 
 -- the query of this name, if there is one, has the counting tables of n nodes
 abbrev pub HasCounts : ℕ → Book → List ℕ → Type 0
-HasCounts n es name = (t : TabledQuery) → tabled_of es name ≡ Some t → counts_in t ≡ Some n
+HasCounts n book name = (t : TabledQuery) → tabled_of book name ≡ Some t → counts_in t ≡ Some n
 
 -- the same number for each name
 abbrev pub all_at : ℕ → Named ℕ → Named ℕ
@@ -40,9 +50,9 @@ sum_of [] = 0
 sum_of (p ∷ ps) = p.1 + sum_of ps
 
 -- in each query all nodes of the list have their tables
-pub record Covers (ns : List Node) (es : Book) : Type 0 where
-  pub serves : Serves ns es
-  pub all : covered_of es ≡ all_at (length ns) (covered_of es)
+pub record Covers (ns : List Node) (book : Book) : Type 0 where
+  pub serves : Serves ns book
+  pub all : covered_of book ≡ all_at (length ns) (covered_of book)
 
 -- each number is unchanged or n
 abbrev pub ArePartlyAt : ℕ → Named ℕ → Named ℕ → Type 0

@@ -8,7 +8,7 @@ ghost use Rattle.slp_model.specs.Thin.{IsThinOf};
 ghost use Rattle.query_book.specs.Named.{AreDistinctNames, put, taken_out, value_of};
 ghost use Rattle.query_book.specs.Compiling.{IsCompiled};
 ghost use Rattle.query_book.specs.Registering.{IsQueryOf, IsRefused};
-ghost use Rattle.query_book.specs.Book.{IsMissing, queries_of, tabled_of, with_entry, without_entry};
+ghost use Rattle.query_book.specs.Book.{IsMissing, book_of, queries_of, tabled_of, with_entry, without_entry};
 ghost use Rattle.query_book.specs.Serving.{ArePartlyAt, Covers, HasCounts, Serves, all_at, counted_of, covered_of, sum_of};
 ghost use Rattle.query_book.specs.Kept.{IsSound};
 ghost use Rattle.query_book.specs.Renumbering.{IsPlanFor, UseEachTable, ranked};
@@ -28,39 +28,64 @@ use std::sync::ledger::Ledger;
 use std::thread::Threads;
 use work_gate::Gate;
 
+/// The number of states that each registry allows.
+const LEAST_STATES: u16 = 128;
+
 /// A registry of queries with distinct names, in the order in which the names were added. A lookup by name takes
 /// time logarithmic in their number.
+///
+/// `add`, `union`, `join` and `project` accept a query only if its automaton has at most `states` states, from 128 to 1,024.
+/// `with_states` sets this number, and no other call changes it.
 #[derive(Drop)]
 pub struct QueryBook {
     by_name: NameMap<TabledQuery>,
+    states: u16,
 }
 
 impl Model for QueryBook {
-    ghost use Rattle.std.specs.Prelude.{List};
-    ghost use Rattle.query_book.specs.declared.entry.Entry.{Entry};
-    ghost use Rattle.query_book.specs.Book.{entries_of};
-    ghost use Rattle.query_book.specs.Kept.{AreSound};
+    ghost use Rattle.query_book.specs.Book.{Book, book_of};
+    ghost use Rattle.query_book.specs.Kept.{IsRegistry};
     ghost use Rattle.span_types.specs.contracts.query.QueryTree as query_tree;
     ghost use Rattle.std.specs.Coded.{codes};
 
-    ghost Value = { List Entry };
+    ghost Value = { Book };
 
     ghost coded = { Prim.hlevel (codes, query_tree.the_row.coded) };
 
-    ghost view = { λ b. entries_of b.by_name };
+    ghost view = { λ b. book_of b.states b.by_name };
 
-    ghost invariant = { λ b. AreSound b.by_name };
+    ghost invariant = { λ b. IsRegistry b.states b.by_name };
 }
 
 impl QueryBook {
-    /// No queries.
+    /// No queries. The automaton of a query may have at most 128 states.
     pub fn new(alloc: Global) -> QueryBook
-        ensures empty { result ≡ [] }
+        ensures empty { result ≡ book_of 128 [] }
+        ensures serves { (ns : List Node) → Serves ns result }
+    {
+        QueryBook::with_states(alloc, LEAST_STATES)
+    }
+
+    /// No queries. The automaton of a query may have at most `states` states, from 128 to 1,024.
+    pub fn with_states(alloc: Global, states: u16) -> QueryBook
+        requires few { 128 ≤ states }
+        requires many { states ≤ 1024 }
+        ensures empty { result ≡ book_of states [] }
         ensures serves { (ns : List Node) → Serves ns result }
     {
         QueryBook {
             by_name: NameMap::new(alloc),
+            states,
         }
+    }
+
+    /// How many states the automaton of a query may have, from 128 to 1,024.
+    pub fn states(&self) -> u16
+        ensures states { result ≡ self.now.states }
+        ensures few { 128 ≤ result }
+        ensures many { result ≤ 1024 }
+    {
+        self.states
     }
 
     /// Compiles a formula and registers it as a query under this name. An existing name keeps its index and gets the
@@ -68,18 +93,19 @@ impl QueryBook {
     ///
     /// # Errors
     ///
-    /// The first error of the text, `TooManyStates` exactly if the formula's automaton would have more than 128 states,
-    /// or `NoMemory` if allocation fails.
+    /// The first error of the text, `TooManyStates` exactly if the formula's automaton would have more states than the
+    /// registry allows, or `NoMemory` if allocation fails.
     pub fn add(&mut self, alloc: Global, name: Name, text: &[u8]) -> Result<(), QueryRefusal>
-        ensures ok { OnOk result ((q : Query) × IsQueryOf text.now q × (queries_of self.new ≡ put (queries_of self.old) name q)) }
+        ensures ok { OnOk result ((q : Query) × IsQueryOf self.old.states text.now q × (queries_of self.new ≡ put (queries_of self.old) name q)) }
         ensures covered { OnOk result (covered_of self.new ≡ put (covered_of self.old) name 0) }
         ensures counted { OnOk result (counted_of self.new ≡ put (counted_of self.old) name 0) }
         ensures serves { (ns : List Node) → Serves ns self.old → Serves ns self.new }
         ensures distinct { OnOk result (AreDistinctNames (queries_of self.new)) }
-        ensures refused { IfErr result (IsRefused text.now) }
+        ensures refused { IfErr result (IsRefused self.old.states text.now) }
         ensures err { OnErr result (self.new ≡ self.old) }
+        ensures states { self.new.states ≡ self.old.states }
     {
-        let query = compile(alloc, text)?;
+        let query = compile(alloc, text, self.states())?;
         self.register(alloc, name, query)?;
         Ok(())
     }
@@ -98,6 +124,7 @@ impl QueryBook {
         ensures serves { (ns : List Node) → Serves ns self.old → Serves ns self.new }
         ensures distinct { OnOk result (AreDistinctNames (queries_of self.new)) }
         ensures err { OnErr result (self.new ≡ self.old) }
+        ensures states { self.new.states ≡ self.old.states }
     {
         let entry = fresh_entry(alloc, name, query)?;
         self.put(alloc, entry)?;
@@ -119,6 +146,7 @@ impl QueryBook {
         ensures distinct { AreDistinctNames (queries_of self.new) }
         ensures missing { IfErr result (IsMissing (queries_of self.old) name.now) }
         ensures err { OnErr result (self.new ≡ self.old) }
+        ensures states { self.new.states ≡ self.old.states }
     {
         self.take(name)
     }
@@ -160,6 +188,7 @@ impl QueryBook {
         ensures done { OnOk result (covered_of self.new ≡ all_at (length store.now) (covered_of self.old)) }
         ensures some { ArePartlyAt (length store.now) (covered_of self.old) (covered_of self.new) }
         ensures steps { places.new + sum_of (covered_of self.old) ≡ places.old + sum_of (covered_of self.new) }
+        ensures states { self.new.states ≡ self.old.states }
     {
         self.by_name.settle();
         let lent = Lent {
@@ -205,6 +234,7 @@ impl QueryBook {
         ensures covers { Covers store.now self.old → Covers store.now self.new }
         ensures some { ArePartlyAt (length store.now) (counted_of self.old) (counted_of self.new) }
         ensures steps { places.new + sum_of (counted_of self.old) ≡ places.old + sum_of (counted_of self.new) }
+        ensures states { self.new.states ≡ self.old.states }
     {
         self.by_name.settle();
         let lent = Lent {
@@ -227,6 +257,7 @@ impl QueryBook {
         ensures counted { counted_of self.new ≡ ranked moves.now (counted_of self.old) }
         ensures used { UseEachTable self.new }
         ensures serves { (ns ms : List Node) → IsThinOf ns moves.now ms → Serves ns self.old → Serves ms self.new }
+        ensures states { self.new.states ≡ self.old.states }
     {
         self.by_name.settle();
         renumber_entries(&mut self.by_name, moves);
@@ -247,10 +278,11 @@ impl QueryBook {
     /// Removes the entry with this name.
     fn take(&mut self, name: &[u8]) -> Result<(), BookRefusal>
         ensures ok { OnOk result (IsSome (tabled_of self.old name.now)) }
-        ensures rest { self.new ≡ without_entry self.old name.now }
+        ensures rest { self.new.entries ≡ without_entry self.old.entries name.now }
         ensures distinct { AreDistinctNames (queries_of self.new) }
         ensures missing { IfErr result (IsMissing (queries_of self.old) name.now) }
         ensures err { OnErr result (self.new ≡ self.old) }
+        ensures states { self.new.states ≡ self.old.states }
     {
         let taken = self.by_name.take_out(name);
         let _count = self.by_name.count();
@@ -263,9 +295,10 @@ impl QueryBook {
     /// Sets the entry under its name.
     fn put(&mut self, alloc: Global, entry: Entry) -> Result<(), NoMemory>
         requires { IsSound entry.tabled }
-        ensures ok { OnOk result (self.new ≡ with_entry self.old entry) }
+        ensures ok { OnOk result (self.new.entries ≡ with_entry self.old.entries entry) }
         ensures distinct { OnOk result (AreDistinctNames (queries_of self.new)) }
         ensures err { OnErr result (self.new ≡ self.old) }
+        ensures states { self.new.states ≡ self.old.states }
     {
         self.by_name.set(alloc, entry.name, entry.tabled)?;
         let _count = self.by_name.count();

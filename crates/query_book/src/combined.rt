@@ -1,5 +1,5 @@
 //! Union, join and projection of compiled queries.
-ghost use Rattle.std.specs.Prelude.{◌≡◌, IfErr, IfOk};
+ghost use Rattle.std.specs.Prelude.{◌≡◌, ◌≤◌, IfErr, IfOk};
 ghost use Rattle.line_parts.specs.NameList.{IsNameList};
 ghost use Rattle.span_types.specs.Query.{Join, Union, query_of};
 ghost use Rattle.query_book.specs.Combining.{HasProjection, IsAccepted, IsPast, IsProjectionPast};
@@ -8,7 +8,7 @@ ghost use Rattle.query_book.specs.Compiling.{IsCompiled};
 use crate::compiled::Compiled;
 use crate::keeping::kept_names;
 use crate::refusal::CombineRefusal;
-use span_algebra::{join, project, union};
+use span_algebra::{join_within, project_within, union_within};
 use span_types::{NoMemory, QueryTree};
 use std::alloc::Global;
 use std::boxed::Box;
@@ -16,7 +16,7 @@ use std::boxed::Box;
 /// The maximum number of leaves and operations of a query.
 const MAX_PARTS: u64 = 128;
 
-/// The union of two queries.
+/// The union of two queries, whose automaton may have at most `most` states, from 128 to 1,024.
 ///
 /// # Errors
 ///
@@ -25,19 +25,22 @@ pub(crate) fn united(
     alloc: Global,
     left: &Compiled,
     right: &Compiled,
+    most: u16,
 ) -> Result<Compiled, CombineRefusal>
     requires left { IsCompiled left.now }
     requires right { IsCompiled right.now }
+    requires few { 128 ≤ most }
+    requires many { most ≤ 1024 }
     ensures tree { IfOk result (λ c. query_of c.tree ≡ Union (query_of left.now.tree) (query_of right.now.tree)) }
     ensures compiled { IfOk result IsCompiled }
-    ensures accepted { IfOk result (λ c. IsAccepted (query_of c.tree)) }
-    ensures past { IfErr result (IsPast (Union (query_of left.now.tree) (query_of right.now.tree))) }
+    ensures accepted { IfOk result (λ c. IsAccepted most (query_of c.tree)) }
+    ensures past { IfErr result (IsPast most (Union (query_of left.now.tree) (query_of right.now.tree))) }
 {
     let parts = 1 + left.parts + right.parts;
     if parts > MAX_PARTS {
         return Err(CombineRefusal::QueryTooLarge { parts });
     }
-    let (dfa, vars) = union(alloc, &left.dfa, &left.vars, &right.dfa, &right.vars)?;
+    let (dfa, vars) = union_within(alloc, &left.dfa, &left.vars, &right.dfa, &right.vars, most)?;
     let _count = vars.count();
     let left = boxed(alloc, &left.tree)?;
     let right = boxed(alloc, &right.tree)?;
@@ -49,7 +52,7 @@ pub(crate) fn united(
     })
 }
 
-/// The join of two queries.
+/// The join of two queries, whose automaton may have at most `most` states, from 128 to 1,024.
 ///
 /// # Errors
 ///
@@ -58,20 +61,23 @@ pub(crate) fn joined(
     alloc: Global,
     left: &Compiled,
     right: &Compiled,
+    most: u16,
 ) -> Result<Compiled, CombineRefusal>
     requires left { IsCompiled left.now }
     requires right { IsCompiled right.now }
+    requires few { 128 ≤ most }
+    requires many { most ≤ 1024 }
     ensures tree { IfOk result (λ c. query_of c.tree ≡ Join (query_of left.now.tree) (query_of right.now.tree)) }
     ensures compiled { IfOk result IsCompiled }
-    ensures accepted { IfOk result (λ c. IsAccepted (query_of c.tree)) }
-    ensures past { IfErr result (IsPast (Join (query_of left.now.tree) (query_of right.now.tree))) }
+    ensures accepted { IfOk result (λ c. IsAccepted most (query_of c.tree)) }
+    ensures past { IfErr result (IsPast most (Join (query_of left.now.tree) (query_of right.now.tree))) }
 {
     let parts = 1 + left.parts + right.parts;
     if parts > MAX_PARTS {
         return Err(CombineRefusal::QueryTooLarge { parts });
     }
     let _states = right.dfa.states();
-    let (dfa, vars) = join(alloc, &left.dfa, &left.vars, &right.dfa, &right.vars)?;
+    let (dfa, vars) = join_within(alloc, &left.dfa, &left.vars, &right.dfa, &right.vars, most)?;
     let _count = vars.count();
     let left = boxed(alloc, &left.tree)?;
     let right = boxed(alloc, &right.tree)?;
@@ -83,24 +89,28 @@ pub(crate) fn joined(
     })
 }
 
-/// The projection of a query to the variables that `keep` lists.
+/// The projection of a query to the variables that `keep` lists. Its automaton may have at most `most` states, from 128 to
+/// 1,024.
 ///
 /// # Errors
 ///
 /// `QueryTooLarge` if the result would have more than 128 leaves and operations. Otherwise `OtherVariables` exactly if
-/// a name isn't a variable or occurs twice. Then `TooManyStates` if the automaton would have more than 128 states.
+/// a name isn't a variable or occurs twice. Then `TooManyStates` if the automaton would have more than `most` states.
 /// `NoMemory` if allocation fails.
 pub(crate) fn projected(
     alloc: Global,
     source: &Compiled,
     keep: &[u8],
+    most: u16,
 ) -> Result<Compiled, CombineRefusal>
     requires source { IsCompiled source.now }
     requires keep { IsNameList keep.now }
+    requires few { 128 ≤ most }
+    requires many { most ≤ 1024 }
     ensures tree { IfOk result (λ c. HasProjection (query_of source.now.tree) keep.now (λ q. query_of c.tree ≡ q)) }
     ensures compiled { IfOk result IsCompiled }
-    ensures accepted { IfOk result (λ c. IsAccepted (query_of c.tree)) }
-    ensures past { IfErr result (IsProjectionPast (query_of source.now.tree) keep.now) }
+    ensures accepted { IfOk result (λ c. IsAccepted most (query_of c.tree)) }
+    ensures past { IfErr result (IsProjectionPast most (query_of source.now.tree) keep.now) }
 {
     let parts = 1 + source.parts;
     if parts > MAX_PARTS {
@@ -108,7 +118,7 @@ pub(crate) fn projected(
     }
     let vars = kept_names(alloc, &source.vars, keep)?;
     let _count = vars.count();
-    let dfa = project(alloc, &source.dfa, &source.vars, &vars)?;
+    let dfa = project_within(alloc, &source.dfa, &source.vars, &vars, most)?;
     let names = vars.copy(alloc)?;
     let tree = boxed(alloc, &source.tree)?;
     Ok(Compiled {

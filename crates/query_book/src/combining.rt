@@ -30,7 +30,7 @@ impl QueryBook {
     /// - `NoSuchQuery` exactly if no query has the left name, or else if none has the right name
     /// - `QueryTooLarge` exactly if the tree would have more than 128 leaves and operations
     /// - `TooManyVariables` exactly if it would have more than eight variables
-    /// - `TooManyStates` exactly if the automaton would have more than 128 states
+    /// - `TooManyStates` exactly if the automaton would have more states than the registry allows
     /// - `NoMemory` if allocation fails
     pub fn union(
         &mut self,
@@ -41,13 +41,14 @@ impl QueryBook {
     ) -> Result<(), CombineRefusal>
         requires left { IsName left.now }
         requires right { IsName right.now }
-        ensures ok { OnOk result (HasPair Union (queries_of self.old) left.now right.now (λ q. IsAccepted q × (queries_of self.new ≡ put (queries_of self.old) name q))) }
+        ensures ok { OnOk result (HasPair Union (queries_of self.old) left.now right.now (λ q. IsAccepted self.old.states q × (queries_of self.new ≡ put (queries_of self.old) name q))) }
         ensures covered { OnOk result (covered_of self.new ≡ put (covered_of self.old) name 0) }
         ensures counted { OnOk result (counted_of self.new ≡ put (counted_of self.old) name 0) }
         ensures serves { (ns : List Node) → Serves ns self.old → Serves ns self.new }
         ensures distinct { OnOk result (AreDistinctNames (queries_of self.new)) }
-        ensures refused { IfErr result (IsPairRefused Union (queries_of self.old) left.now right.now) }
+        ensures refused { IfErr result (IsPairRefused self.old.states Union (queries_of self.old) left.now right.now) }
         ensures err { OnErr result (self.new ≡ self.old) }
+        ensures states { self.new.states ≡ self.old.states }
     {
         let query = self.union_of(alloc, left, right)?;
         self.register(alloc, name, query)?;
@@ -66,7 +67,7 @@ impl QueryBook {
     /// - `NoSuchQuery` exactly if no query has the left name, or else if none has the right name
     /// - `QueryTooLarge` exactly if the tree would have more than 128 leaves and operations
     /// - `TooManyVariables` exactly if it would have more than eight variables
-    /// - `TooManyStates` exactly if the automaton would have more than 128 states
+    /// - `TooManyStates` exactly if the automaton would have more states than the registry allows
     /// - `NoMemory` if allocation fails
     pub fn join(
         &mut self,
@@ -77,13 +78,14 @@ impl QueryBook {
     ) -> Result<(), CombineRefusal>
         requires left { IsName left.now }
         requires right { IsName right.now }
-        ensures ok { OnOk result (HasPair Join (queries_of self.old) left.now right.now (λ q. IsAccepted q × (queries_of self.new ≡ put (queries_of self.old) name q))) }
+        ensures ok { OnOk result (HasPair Join (queries_of self.old) left.now right.now (λ q. IsAccepted self.old.states q × (queries_of self.new ≡ put (queries_of self.old) name q))) }
         ensures covered { OnOk result (covered_of self.new ≡ put (covered_of self.old) name 0) }
         ensures counted { OnOk result (counted_of self.new ≡ put (counted_of self.old) name 0) }
         ensures serves { (ns : List Node) → Serves ns self.old → Serves ns self.new }
         ensures distinct { OnOk result (AreDistinctNames (queries_of self.new)) }
-        ensures refused { IfErr result (IsPairRefused Join (queries_of self.old) left.now right.now) }
+        ensures refused { IfErr result (IsPairRefused self.old.states Join (queries_of self.old) left.now right.now) }
         ensures err { OnErr result (self.new ≡ self.old) }
+        ensures states { self.new.states ≡ self.old.states }
     {
         let query = self.join_of(alloc, left, right)?;
         self.register(alloc, name, query)?;
@@ -102,7 +104,7 @@ impl QueryBook {
     /// - `NoSuchQuery` exactly if no query has the source's name
     /// - `QueryTooLarge` exactly if the tree would have more than 128 leaves and operations
     /// - `OtherVariables` exactly if a name in `keep` isn't a variable of the source or occurs twice
-    /// - `TooManyStates` exactly if the automaton would have more than 128 states
+    /// - `TooManyStates` exactly if the automaton would have more states than the registry allows
     /// - `NoMemory` if allocation fails
     pub fn project(
         &mut self,
@@ -113,13 +115,14 @@ impl QueryBook {
     ) -> Result<(), CombineRefusal>
         requires source { IsName source.now }
         requires keep { IsNameList keep.now }
-        ensures ok { OnOk result (IsNamed (queries_of self.old) source.now (λ q. HasProjection q keep.now (λ p. IsAccepted p × (queries_of self.new ≡ put (queries_of self.old) name p)))) }
+        ensures ok { OnOk result (IsNamed (queries_of self.old) source.now (λ q. HasProjection q keep.now (λ p. IsAccepted self.old.states p × (queries_of self.new ≡ put (queries_of self.old) name p)))) }
         ensures covered { OnOk result (covered_of self.new ≡ put (covered_of self.old) name 0) }
         ensures counted { OnOk result (counted_of self.new ≡ put (counted_of self.old) name 0) }
         ensures serves { (ns : List Node) → Serves ns self.old → Serves ns self.new }
         ensures distinct { OnOk result (AreDistinctNames (queries_of self.new)) }
-        ensures refused { IfErr result (IsProjectRefused (queries_of self.old) source.now keep.now) }
+        ensures refused { IfErr result (IsProjectRefused self.old.states (queries_of self.old) source.now keep.now) }
         ensures err { OnErr result (self.new ≡ self.old) }
+        ensures states { self.new.states ≡ self.old.states }
     {
         let query = self.projection_of(alloc, source, keep)?;
         self.register(alloc, name, query)?;
@@ -139,13 +142,13 @@ impl QueryBook {
     ) -> Result<Compiled, CombineRefusal>
         requires left { IsName left.now }
         requires right { IsName right.now }
-        ensures tree { IfOk result (λ c. HasPair Union (queries_of self.now) left.now right.now (λ q. IsAccepted q × (query_of c.tree ≡ q))) }
+        ensures tree { IfOk result (λ c. HasPair Union (queries_of self.now) left.now right.now (λ q. IsAccepted self.now.states q × (query_of c.tree ≡ q))) }
         ensures compiled { IfOk result IsCompiled }
-        ensures refused { IfErr result (IsPairRefused Union (queries_of self.now) left.now right.now) }
+        ensures refused { IfErr result (IsPairRefused self.now.states Union (queries_of self.now) left.now right.now) }
     {
         let left = self.operand(alloc, left)?;
         let right = self.operand(alloc, right)?;
-        united(alloc, left, right)
+        united(alloc, left, right, self.states())
     }
 
     /// The join of the queries with these names. `register` registers the result.
@@ -161,13 +164,13 @@ impl QueryBook {
     ) -> Result<Compiled, CombineRefusal>
         requires left { IsName left.now }
         requires right { IsName right.now }
-        ensures tree { IfOk result (λ c. HasPair Join (queries_of self.now) left.now right.now (λ q. IsAccepted q × (query_of c.tree ≡ q))) }
+        ensures tree { IfOk result (λ c. HasPair Join (queries_of self.now) left.now right.now (λ q. IsAccepted self.now.states q × (query_of c.tree ≡ q))) }
         ensures compiled { IfOk result IsCompiled }
-        ensures refused { IfErr result (IsPairRefused Join (queries_of self.now) left.now right.now) }
+        ensures refused { IfErr result (IsPairRefused self.now.states Join (queries_of self.now) left.now right.now) }
     {
         let left = self.operand(alloc, left)?;
         let right = self.operand(alloc, right)?;
-        joined(alloc, left, right)
+        joined(alloc, left, right, self.states())
     }
 
     /// The projection of the query with this name. `register` registers the result.
@@ -183,12 +186,12 @@ impl QueryBook {
     ) -> Result<Compiled, CombineRefusal>
         requires source { IsName source.now }
         requires keep { IsNameList keep.now }
-        ensures tree { IfOk result (λ c. IsNamed (queries_of self.now) source.now (λ q. HasProjection q keep.now (λ p. IsAccepted p × (query_of c.tree ≡ p)))) }
+        ensures tree { IfOk result (λ c. IsNamed (queries_of self.now) source.now (λ q. HasProjection q keep.now (λ p. IsAccepted self.now.states p × (query_of c.tree ≡ p)))) }
         ensures compiled { IfOk result IsCompiled }
-        ensures refused { IfErr result (IsProjectRefused (queries_of self.now) source.now keep.now) }
+        ensures refused { IfErr result (IsProjectRefused self.now.states (queries_of self.now) source.now keep.now) }
     {
         let source = self.operand(alloc, source)?;
-        projected(alloc, source, keep)
+        projected(alloc, source, keep, self.states())
     }
 
     /// The query with this name.

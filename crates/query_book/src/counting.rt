@@ -6,7 +6,7 @@ ghost use Rattle.query_book.specs.Counting.{counted};
 ghost use Rattle.query_book.specs.Growing.{CannotCount, ChangesAt, ChangesNamed, GrowsCounts, IsIndexOf, KeepsCounts};
 ghost use Rattle.query_book.specs.Kept.{AreSound, IsSound};
 ghost use Rattle.query_book.specs.Named.{value_of};
-ghost use Rattle.query_book.specs.Serving.{IsServed, Serves, counted_of, sum_of};
+ghost use Rattle.query_book.specs.Serving.{AreServed, IsServed, counted_in, sum_of};
 
 use crate::entry::{Lent, TabledQuery};
 use crate::refusal::BookRefusal;
@@ -29,9 +29,9 @@ pub(crate) fn count_named<R: Threads + Sync, G: Gate, L: Ledger>(
     places: &mut Steps<L>,
 ) -> Result<(), BookRefusal>
     requires kept { AreSound by_name.old }
-    requires served { Serves lent.store.now (entries_of by_name.old) }
+    requires served { AreServed lent.store.now (entries_of by_name.old) }
     ensures changes { MatchResult result (λ _. ChangesNamed (GrowsCounts lent.entry.store.now) name.now by_name.old by_name.new) (CannotCount lent.entry.store.now name.now by_name.old by_name.new) }
-    ensures steps { places.new + sum_of (counted_of (entries_of by_name.old)) ≡ places.old + sum_of (counted_of (entries_of by_name.new)) }
+    ensures steps { places.new + sum_of (counted_in (entries_of by_name.old)) ≡ places.old + sum_of (counted_in (entries_of by_name.new)) }
 {
     let Some(index) = index_of(by_name, name) else {
         return Err(BookRefusal::NoSuchQuery);
@@ -61,10 +61,10 @@ fn count_at<R: Threads + Sync, G: Gate, L: Ledger>(
 ) -> Result<(), NoMemory>
     requires index { index < length by_name.old }
     requires kept { AreSound by_name.old }
-    requires served { Serves lent.store.now (entries_of by_name.old) }
+    requires served { AreServed lent.store.now (entries_of by_name.old) }
     ensures all { OnOk result (ChangesAt (GrowsCounts lent.entry.store.now) index by_name.old by_name.new) }
     ensures same { OnErr result (ChangesAt (KeepsCounts lent.entry.store.now) index by_name.old by_name.new) }
-    ensures steps { places.new + sum_of (counted_of (entries_of by_name.old)) ≡ places.old + sum_of (counted_of (entries_of by_name.new)) }
+    ensures steps { places.new + sum_of (counted_in (entries_of by_name.old)) ≡ places.old + sum_of (counted_in (entries_of by_name.new)) }
 {
     let tabled = by_name.value_mut(index);
     count_query(lent, tabled, places)

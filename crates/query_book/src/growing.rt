@@ -3,7 +3,7 @@ ghost use Rattle.std.specs.Prelude.{◌≡◌, ◌+◌, ◌<◌, length, OnOk};
 ghost use Rattle.query_book.specs.Book.{entries_of};
 ghost use Rattle.query_book.specs.Growing.{ChangesAt, ChangesFirst, Grows, MayGrow};
 ghost use Rattle.query_book.specs.Kept.{AreSound};
-ghost use Rattle.query_book.specs.Serving.{Serves, covered_of, sum_of};
+ghost use Rattle.query_book.specs.Serving.{AreServed, covered_in, sum_of};
 
 use crate::entry::{Lent, TabledQuery, grow_query};
 use name_map::NameMap;
@@ -20,10 +20,10 @@ pub(crate) fn grow_entries<R: Threads + Sync, G: Gate, L: Ledger>(
     places: &mut Steps<L>,
 ) -> Result<(), NoMemory>
     requires kept { AreSound by_name.old }
-    requires served { Serves lent.store.now (entries_of by_name.old) }
+    requires served { AreServed lent.store.now (entries_of by_name.old) }
     ensures all { OnOk result (ChangesFirst (Grows lent.entry.store.now) (length by_name.old) by_name.old by_name.new) }
     ensures some { ChangesFirst (MayGrow lent.entry.store.now) (length by_name.old) by_name.old by_name.new }
-    ensures steps { places.new + sum_of (covered_of (entries_of by_name.old)) ≡ places.old + sum_of (covered_of (entries_of by_name.new)) }
+    ensures steps { places.new + sum_of (covered_in (entries_of by_name.old)) ≡ places.old + sum_of (covered_in (entries_of by_name.new)) }
 {
     for place in 0..by_name.count() {
         grow_at(lent, by_name, place, places)?;
@@ -40,10 +40,10 @@ fn grow_at<R: Threads + Sync, G: Gate, L: Ledger>(
 ) -> Result<(), NoMemory>
     requires place { place < length by_name.old }
     requires kept { AreSound by_name.old }
-    requires served { Serves lent.store.now (entries_of by_name.old) }
+    requires served { AreServed lent.store.now (entries_of by_name.old) }
     ensures all { OnOk result (ChangesAt (Grows lent.entry.store.now) place by_name.old by_name.new) }
     ensures some { ChangesAt (MayGrow lent.entry.store.now) place by_name.old by_name.new }
-    ensures steps { places.new + sum_of (covered_of (entries_of by_name.old)) ≡ places.old + sum_of (covered_of (entries_of by_name.new)) }
+    ensures steps { places.new + sum_of (covered_in (entries_of by_name.old)) ≡ places.old + sum_of (covered_in (entries_of by_name.new)) }
 {
     let tabled = by_name.value_mut(place);
     grow_query(lent, tabled, places)

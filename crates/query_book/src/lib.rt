@@ -15,6 +15,9 @@
 //! `grow_all` computes one table for each query and new node. `union`, `join` and `project` copy their operands.
 //! `compile`, `union_of`, `join_of` and `projection_of` compile a query without registering it.
 //!
+//! A registry limits the states of a query's automaton: `new` allows 128, and `with_states` from 128 to 1,024. More states
+//! take more memory and more time for each table.
+//!
 //! `ready` finds a query once for several evaluations on the texts of a store. `start`, `seek`, `test`, `has` and
 //! `parts` find it by its name each time.
 //!

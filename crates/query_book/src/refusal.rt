@@ -13,7 +13,7 @@ pub enum QueryRefusal {
     #[error("{0}")]
     Formula(FormulaRefusal),
 
-    /// The formula's automaton would have more than 128 states.
+    /// The formula's automaton would have more states than allowed.
     #[error("too many states")]
     TooManyStates,
 
@@ -73,7 +73,7 @@ pub enum CombineRefusal {
     #[error("too many variables")]
     TooManyVariables,
 
-    /// The query's automaton would have more than 128 states.
+    /// The query's automaton would have more states than the registry allows.
     #[error("too many states")]
     TooManyStates,
 

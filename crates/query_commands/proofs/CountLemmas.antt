@@ -1,6 +1,6 @@
 -- The effect of counting answers.
 use Rattle.query_commands.proofs.Names.{[], Accepted, Answer, answer_limit, Answers, answers_steps, ap, arith, AsksForCounts, at, Bool, Carries, counters}
-use Rattle.query_commands.proofs.Names.{Entry, false, Files, GrowsCounts, GrowsTables, inl, inr, IsAsked, IsConsistent, IsNamed, IsNumberOf, IsNumberTold}
+use Rattle.query_commands.proofs.Names.{Book, Entry, false, Files, GrowsCounts, GrowsTables, inl, inr, IsAsked, IsConsistent, IsNamed, IsNumberOf, IsNumberTold}
 use Rattle.query_commands.proofs.Names.{IsRankOf, IsRefused, IsRejectedFreely, IsSaturated, IsToldOf, IsUnaskedOf, List, most_answers, Named, names_of}
 use Rattle.query_commands.proofs.Names.{no_steps, None, NoSuchQuery, number_text, Option, option_map, PaysFor, plain, queries_of, Query, Quiet, refl, Refusal}
 use Rattle.query_commands.proofs.Names.{refusal_text, Refused, same_Some, SessionState, Some, state_of, Stays, subst, sym, Told, TooManyAnswers, true, Tuple}
@@ -10,7 +10,8 @@ use Rattle.span_language.specs.declared.told.Stop.TheVariants as stop
 use Rattle.std.proofs.Common.{cond}
 use Rattle.name_map.specs.Named.{is_same}
 use Rattle.query_book.specs.Answers.{most_looks}
-use Rattle.query_book.specs.Book.{tabled_of}
+use Rattle.query_book.specs.Book.{queries_in, tabled_in}
+use Rattle.query_book.specs.declared.entry.TabledQuery.{TabledQuery}
 use Rattle.query_book.specs.Counting.{counts_in}
 use Rattle.query_book.specs.Serving.{HasCounts}
 use Rattle.span_types.specs.Query.{query_of}
@@ -47,7 +48,7 @@ module _ (w : World) (number : ℕ) (query name text : List ℕ) (document : val
   rank_paid word tuple looks more pairs written paid = (answers_steps 1 q text, inr (q, text, tuple, asked, written, refl), record { looks = omega (arith, paid); pairs = omega arith })
 
 -- ---- `count`, after counting tables were computed
-module _ (h : SessionState) (book : List Entry) (number : ℕ) (query name text : List ℕ) (files : Option Files) (faults looks pairs p q : ℕ) (is : IsConsistent h) (grown : GrowsCounts h.store h.book book p q)
+module _ (h : SessionState) (book : Book) (number : ℕ) (query name text : List ℕ) (files : Option Files) (faults looks pairs p q : ℕ) (is : IsConsistent h) (grown : GrowsCounts h.store h.book book p q)
     (document : value_of (plain h.store h.docs) name ≡ Some text) where
   asks : (found : Query) → value_of (queries_of h.book) query ≡ Some found → true ≡ true → AsksForCounts (world (state_of h) files) (form.Count query name)
   asks found registered _ = (found, text, record { document = document; registered = registered })
@@ -78,7 +79,7 @@ module _ (h : SessionState) (book : List Entry) (number : ℕ) (query name text 
       (not_begun (world (state_of h) files) (form.Count query name) looks pairs)
 
 -- ---- `rank`, after counting tables were computed
-module _ (h : SessionState) (book : List Entry) (number : ℕ) (query name word text : List ℕ) (tuple : Tuple) (files : Option Files) (faults looks more pairs p q : ℕ) (is : IsConsistent h) (grown : GrowsCounts h.store h.book book p q)
+module _ (h : SessionState) (book : Book) (number : ℕ) (query name word text : List ℕ) (tuple : Tuple) (files : Option Files) (faults looks more pairs p q : ℕ) (is : IsConsistent h) (grown : GrowsCounts h.store h.book book p q)
     (document : value_of (plain h.store h.docs) name ≡ Some text) (found : Query) (registered : value_of (queries_of h.book) query ≡ Some found) (written : TupleText word (names_of found) tuple) where
   rank_grown : GrowsTables true h.store h.book book p q
   rank_grown = counts_grown true h.store h.book book p q grown (λ no. let bad : ⊥ = cc no in absurd bad)
@@ -124,7 +125,7 @@ pub named_by : (queries : Named Query) (bytes query : List ℕ) (names : List (L
 named_by queries bytes query names same is = let q = named_query (value_of queries bytes) names is in (q.0, ap (λ (n : List ℕ). value_of queries n) (sym same) ∙ q.1, q.2)
 
 -- a query in the registry after counting tables were computed, and before
-pub found_before : (old new : List Entry) (bytes query : List ℕ) (found : Option Query) → queries_of new ≡ queries_of old → bytes ≡ query → value_of (queries_of new) bytes ≡ found → value_of (queries_of old) query ≡ found
+pub found_before : (old new : Book) (bytes query : List ℕ) (found : Option Query) → queries_of new ≡ queries_of old → bytes ≡ query → value_of (queries_of new) bytes ≡ found → value_of (queries_of old) query ≡ found
 found_before old new bytes query found same name is = ap (λ (qs : Named Query). value_of qs query) (sym same) ∙ (ap (value_of (queries_of new)) (sym name) ∙ is)
 
 -- the rank of a tuple in a reply
@@ -136,11 +137,16 @@ rank_told queries bytes query text tuple number kept told reply same named repli
   holds = told_of (IsRankOf named.query text tuple) number kept told reply named.holds replied;
 }
 
--- no query has the name
-pub none_counted : (es : List Entry) (name : List ℕ) (n : ℕ) → value_of (queries_of es) name ≡ None → HasCounts n es name
-none_counted [] name n none t is = let bad : ⊥ = cc is in absurd bad
-none_counted (e ∷ es) name n none t is = at (is_same name e.name) (none_counted es name n) none is
+-- no entry has the name
+none_among : (es : List Entry) (name : List ℕ) (n : ℕ) → value_of (queries_in es) name ≡ None → (t : TabledQuery) → tabled_in es name ≡ Some t → counts_in t ≡ Some n
+none_among [] name n none t is = let bad : ⊥ = cc is in absurd bad
+none_among (e ∷ es) name n none t is = at (is_same name e.name) (none_among es name n) none is
   where
-    at : (b : Bool) → (value_of (queries_of es) name ≡ None → HasCounts n es name) → cond b (Some (query_of e.tabled.query.tree)) (value_of (queries_of es) name) ≡ None → cond b (Some e.tabled) (tabled_of es name) ≡ Some t → counts_in t ≡ Some n
+    at : (b : Bool) → (value_of (queries_in es) name ≡ None → (u : TabledQuery) → tabled_in es name ≡ Some u → counts_in u ≡ Some n) → cond b (Some (query_of e.tabled.query.tree)) (value_of (queries_in es) name) ≡ None → cond b (Some e.tabled) (tabled_in es name) ≡ Some t
+        → counts_in t ≡ Some n
     at true rest lacks there = let bad : ⊥ = cc lacks in absurd bad
     at false rest lacks there = rest lacks t there
+
+-- no query has the name
+pub none_counted : (book : Book) (name : List ℕ) (n : ℕ) → value_of (queries_of book) name ≡ None → HasCounts n book name
+none_counted book name n none = none_among book.entries name n none

@@ -1,5 +1,5 @@
 -- Listings of answers, as lines.
-use Rattle.query_commands.proofs.Names.{Accepted, ap, AsksForCounts, at, Bool, Carries, Command, Compacts, counters, Ends, Entry, false, Files, GrowsFor}
+use Rattle.query_commands.proofs.Names.{Accepted, ap, AsksForCounts, at, Bool, Carries, Command, Compacts, counters, Ends, Book, false, Files, GrowsFor}
 use Rattle.query_commands.proofs.Names.{GrowsTables, IfOk, inl, inr, IsConsistent, IsList, IsRefused, line_state, List, ListsEvery, ListStart, model_of}
 use Rattle.query_commands.proofs.Names.{no_steps, Node, None, NoSuchQuery, Option, Outlet, PaysFor, plain, queries_of, Query, refl, refusal_text, Refused}
 use Rattle.query_commands.proofs.Names.{Registers, Replies, Result, seen, SessionState, Some, State, state_of, Stop, subst, sym, Tells, Told, true, value_of}
@@ -15,7 +15,7 @@ use Rattle.session_state.specs.Carried.{Stopped}
 use Rattle.span_language.specs.declared.told.Stop.TheVariants as stop
 
 -- a reply was written after tables were computed
-module _ (asked : Bool) (h : SessionState) (book : List Entry) (number : ℕ) (command : Command) (files : Option Files) (faults looks more pairs p q : ℕ) (before after : Outlet) (r : Result Told Stop) (is : IsConsistent h) (grown : GrowsTables asked h.store h.book book p q)
+module _ (asked : Bool) (h : SessionState) (book : Book) (number : ℕ) (command : Command) (files : Option Files) (faults looks more pairs p q : ℕ) (before after : Outlet) (r : Result Told Stop) (is : IsConsistent h) (grown : GrowsTables asked h.store h.book book p q)
     (asks : asked ≡ true → AsksForCounts (world (state_of h) files) command) where
   pub replied_ends : (told : Told) (reply : List ℕ) → Replies (Some command) → (Registers command → ⊥) → (Compacts command → ⊥) → Carries (world (state_of h) files) number command told reply (world (state_of h) files)
       → PaysFor (world (state_of h) files) command (counters looks pairs) (counters more pairs) → (IsList command → ⊥) ⊎ WantsFor r before after → IfOk r (λ t. t ≡ told) → Wrote r before reply after
@@ -26,18 +26,18 @@ module _ (asked : Bool) (h : SessionState) (book : List Entry) (number : ℕ) (c
       let new = at (record h { book = book }) files faults more pairs q in
       written_ends number (Some command) (line_state old) (line_state new) before after told reply r
       (passes_of old new command before after (placed_goes asked h book command files faults looks more pairs p q is grown asks (part_of_paid w command (counters looks pairs) (counters more pairs) paid))) refl replies
-      (subst (λ (st : State). Carries w number command told reply (world st files)) (sym (same_queries h book grown.queries)) carries) paid
-      (placed_tallied asked h book command told files faults looks more pairs p q grown asks other kept) (elim want [ inl other ↦ inl other | inr kept ↦ inr (kept, ap (λ (st : State). world st files) (same_queries h book grown.queries)) ]) is_told wrote
+      (subst (λ (st : State). Carries w number command told reply (world st files)) (sym (same_queries h book grown.states grown.queries)) carries) paid
+      (placed_tallied asked h book command told files faults looks more pairs p q grown asks other kept) (elim want [ inl other ↦ inl other | inr kept ↦ inr (kept, ap (λ (st : State). world st files) (same_queries h book grown.states grown.queries)) ]) is_told wrote
 
 -- there is no query with the name
-pub missing_ends : (asked : Bool) (h : SessionState) (book : List Entry) (number : ℕ) (command : Command) (query : List ℕ) (files : Option Files) (faults looks pairs p q : ℕ) (before after : Outlet) (r : Result Told Stop) → IsConsistent h → GrowsTables asked h.store h.book book p q → (asked ≡ true → AsksForCounts (world (state_of h) files) command)
+pub missing_ends : (asked : Bool) (h : SessionState) (book : Book) (number : ℕ) (command : Command) (query : List ℕ) (files : Option Files) (faults looks pairs p q : ℕ) (before after : Outlet) (r : Result Told Stop) → IsConsistent h → GrowsTables asked h.store h.book book p q → (asked ≡ true → AsksForCounts (world (state_of h) files) command)
     → Replies (Some command) → (Registers command → ⊥) → (Compacts command → ⊥) → IsRefused (world (state_of h) files) command (NoSuchQuery query) → PaysFor (world (state_of h) files) command (counters looks pairs) (counters looks pairs)
     → (IsList command → ⊥) ⊎ WantsFor r before after → IfOk r (λ t. t ≡ Refused) → Wrote r before (refusal_text number (NoSuchQuery query)) after
     → Ends number (Some command) (seen (model_of h) files faults looks pairs p) before (seen (model_of (record h { book = book })) files faults looks pairs q) after r
 missing_ends asked h book number command query files faults looks pairs p q before after r is grown asks replies other kept refused paid want is_told wrote =
     replied_ends asked h book number command files faults looks looks pairs p q before after r is grown asks Refused (refusal_text number (NoSuchQuery query)) replies other kept (NoSuchQuery query, refused, refl, refl) paid want is_told wrote
 
-module _ (h : SessionState) (book : List Entry) (number : ℕ) (query name text : List ℕ) (start : ListStart) (n : ℕ) (files : Option Files) (faults looks pairs p q : ℕ) (before : Outlet)
+module _ (h : SessionState) (book : Book) (number : ℕ) (query name text : List ℕ) (start : ListStart) (n : ℕ) (files : Option Files) (faults looks pairs p q : ℕ) (before : Outlet)
     (is : IsConsistent h) (growth : GrowsFor start query h.store h.book book p q) (there : value_of (plain h.store h.docs) name ≡ Some text) where
   asks : growth.asked ≡ true → AsksForCounts (world (state_of h) files) (form.List query name start n)
   asks = list_asks (world (state_of h) files) number query name text start n there growth.asked growth.numbered growth.there
@@ -63,7 +63,7 @@ module _ (h : SessionState) (book : List Entry) (number : ℕ) (query name text 
       missing_ends growth.asked h book number (form.List query name start n) query files faults looks pairs p q before after r is growth.grown asks (λ nothing. let bad : ⊥ = cc nothing in bad) (λ no. no) (λ no. no) refused
       (no_steps, inl (NoSuchQuery query, refused, refl), none_paid looks pairs pairs refl) (inr want) is_told wrote
 
-module _ (h : SessionState) (book : List Entry) (number : ℕ) (query : List ℕ) (n : ℕ) (files : Option Files) (faults looks pairs p q : ℕ) (before after : Outlet) (r : Result Told Stop)
+module _ (h : SessionState) (book : Book) (number : ℕ) (query : List ℕ) (n : ℕ) (files : Option Files) (faults looks pairs p q : ℕ) (before after : Outlet) (r : Result Told Stop)
     (is : IsConsistent h) (grown : GrowsTables false h.store h.book book p q) where
   -- `listall` of a query
   pub every_ends : (tree : Query) (bytes : List ℕ) (ns : List Node) → bytes ≡ query → value_of (queries_of book) bytes ≡ Some tree → ns ≡ h.store → IfOk r (λ t. t ≡ Accepted) → ListsEvery (λ reply. Wrote r before reply after) tree (plain ns h.docs) n

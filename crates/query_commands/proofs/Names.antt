@@ -12,6 +12,7 @@ pub use Rattle.query_book.specs.Combining.{HasPair, IsAccepted}
 pub use Rattle.span_types.specs.declared.refusal.NoMemory.{NoMemory}
 pub use Rattle.query_book.specs.InHand.{HasAnswersIn}
 pub use Rattle.query_book.specs.Serving.{Serves, counted_of, covered_of}
+pub use Rattle.query_book.specs.Book.{Book}
 pub use Rattle.query_book.specs.declared.entry.Entry.{Entry}
 pub use Rattle.query_commands.specs.AllListing.{AreAnswered, ListsEvery, every_text, rest_text}
 pub use Rattle.query_commands.specs.Counting.{IsNumberTold, IsToldOf}

@@ -1,6 +1,6 @@
 -- The effect of listing the answers of a query.
 use Rattle.query_commands.proofs.Names.{Accepted, After, answer_limit, answers_steps, ap, AreAnswersOf, arith, AsksForCounts, At, Begins, Bool, Carries}
-use Rattle.query_commands.proofs.Names.{counters, drop, Entry, Err, false, First, first_page_text, GrowsCounts, GrowsFor, GrowsTables, HasList, IfOk, inl, inr}
+use Rattle.query_commands.proofs.Names.{counters, drop, Book, Err, false, First, first_page_text, GrowsCounts, GrowsFor, GrowsTables, HasList, IfOk, inl, inr}
 use Rattle.query_commands.proofs.Names.{IsAfter, IsAllowed, IsAnswersOf, IsAsked, IsErrAnd, IsListReply, IsNumbered, IsOver, IsPageFrom, IsRefused, IsRestFrom}
 use Rattle.query_commands.proofs.Names.{IsSome, IsStartRefused, IsTupleRefused, length, List, Listing, Lists, ListStart, looks_limit, MatchResult}
 use Rattle.query_commands.proofs.Names.{more_answers, Named, names_of, nat_lt, no_steps, Node, NoMemory, None, NoSuchDocument, NoSuchQuery, Ok, Option}
@@ -11,7 +11,7 @@ use Rattle.session_state.proofs.BookLemmas.{both_grown, some_value}
 use Rattle.session_state.proofs.PlacesLemmas.{not_asked}
 
 -- ---- the tables that a listing needs
-pub grows_numbered : (start : ListStart) (name : List ℕ) (ns : List Node) (old mid new : List Entry) (p q r : ℕ) → GrowsTables false ns old mid p q → GrowsCounts ns mid new q r → IsNumbered start → (value_of (queries_of mid) name ≡ None → r ≡ q)
+pub grows_numbered : (start : ListStart) (name : List ℕ) (ns : List Node) (old mid new : Book) (p q r : ℕ) → GrowsTables false ns old mid p q → GrowsCounts ns mid new q r → IsNumbered start → (value_of (queries_of mid) name ≡ None → r ≡ q)
     → GrowsFor start name ns old new p r
 grows_numbered start name ns old mid new p q r first next numbered missing = by (value_of (queries_of old) name) refl
   where
@@ -29,11 +29,11 @@ grows_numbered start name ns old mid new p q r first next numbered missing = by 
       there = λ _. subst (λ (o : Option Query). IsSome o) (sym is) (search rules);
     }
 
-pub grows_kept : (start : ListStart) (name : List ℕ) (ns : List Node) (old mid new : List Entry) (p q r : ℕ) → GrowsTables false ns old mid p q → GrowsCounts ns mid new q r → r ≡ q → GrowsFor start name ns old new p r
+pub grows_kept : (start : ListStart) (name : List ℕ) (ns : List Node) (old mid new : Book) (p q r : ℕ) → GrowsTables false ns old mid p q → GrowsCounts ns mid new q r → r ≡ q → GrowsFor start name ns old new p r
 grows_kept start name ns old mid new p q r first next same =
     record { asked = false; grown = both_grown false ns old mid new p q r first next (λ _. same); numbered = not_asked; there = not_asked }
 
-pub grows_plain : (start : ListStart) (name : List ℕ) (ns : List Node) (old new : List Entry) (p q : ℕ) → GrowsTables false ns old new p q → GrowsFor start name ns old new p q
+pub grows_plain : (start : ListStart) (name : List ℕ) (ns : List Node) (old new : Book) (p q : ℕ) → GrowsTables false ns old new p q → GrowsFor start name ns old new p q
 grows_plain start name ns old new p q grown = record { asked = false; grown = grown; numbered = not_asked; there = not_asked }
 
 -- ---- the iterator at the start of a listing

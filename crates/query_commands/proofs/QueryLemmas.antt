@@ -1,5 +1,5 @@
 -- The effect of registering and evaluating queries.
-use Rattle.query_commands.proofs.Names.{Accepted, answers_steps, ap, arith, Bool, Carries, Command, counters, Entry, Files, GrowsTables, inl, inr, IsAllowed}
+use Rattle.query_commands.proofs.Names.{Accepted, answers_steps, ap, arith, Bool, Carries, Command, counters, Book, Files, GrowsTables, inl, inr, IsAllowed}
 use Rattle.query_commands.proofs.Names.{IsConsistent, IsRefused, IsRejectedFreely, IsReplied, IsReplyPaid, IsSome, IsTextRefusal, IsTextRefused, List, Named}
 use Rattle.query_commands.proofs.Names.{no_steps, Node, NodeId, None, NoSuchDocument, NoSuchQuery, ok_text, Option, PaysFor, plain, queries_of, Query}
 use Rattle.query_commands.proofs.Names.{question_of, Quiet, refl, Refusal, refusal_text, Refused, SessionState, Some, State, subst, sym, taken_out, text_of}
@@ -27,11 +27,11 @@ unquery_carries st new number name told reply files there taken accepted written
     (q.0, q.1, written, only_queries st (taken_out st.queries name) new files taken)
 
 -- a text that is no query
-pub text_refused : (text : List ℕ) (kept : Refusal) (why : QueryRefusal) → IsUnregistered text why → IsTextRefusal why kept → IsTextRefused text kept
-text_refused text kept (query.Formula formula.NoMemory) h e = absurd e
-text_refused text kept (query.Formula _) h e = subst (IsTextRefused text) (sym e) h
-text_refused text kept query.TooManyStates h e = subst (IsTextRefused text) (sym e) h
-text_refused text kept query.NoMemory h e = absurd e
+pub text_refused : (most : ℕ) (text : List ℕ) (kept : Refusal) (why : QueryRefusal) → IsUnregistered most text why → IsTextRefusal why kept → IsTextRefused most text kept
+text_refused most text kept (query.Formula formula.NoMemory) h e = absurd e
+text_refused most text kept (query.Formula _) h e = subst (IsTextRefused most text) (sym e) h
+text_refused most text kept query.TooManyStates h e = subst (IsTextRefused most text) (sym e) h
+text_refused most text kept query.NoMemory h e = absurd e
 
 -- ---- a document's text in the nodes of a query in hand
 pub live_in : (ns : List Node) (h : SessionState) (bytes : List ℕ) (root : Option NodeId) → ns ≡ h.store → IsConsistent h → book.root_of h.docs bytes ≡ Some root → IsLive ns root
@@ -83,5 +83,5 @@ no_kind Kind query name None test has is = test is
 no_kind Kind query name (Some word) test has is = has word is
 
 -- a query after tables were computed, and before
-pub registered_before : (asked : Bool) (h : SessionState) (book : List Entry) (p q : ℕ) (bytes query : List ℕ) (found : Option Query) → GrowsTables asked h.store h.book book p q → bytes ≡ query → value_of (queries_of book) bytes ≡ found → value_of (queries_of h.book) query ≡ found
+pub registered_before : (asked : Bool) (h : SessionState) (book : Book) (p q : ℕ) (bytes query : List ℕ) (found : Option Query) → GrowsTables asked h.store h.book book p q → bytes ≡ query → value_of (queries_of book) bytes ≡ found → value_of (queries_of h.book) query ≡ found
 registered_before asked h book p q bytes query found grown same is = ap (λ (qs : Named Query). value_of qs query) (sym grown.queries) ∙ (ap (value_of (queries_of book)) (sym same) ∙ is)

@@ -1,6 +1,6 @@
 -- The effect of a replacement.
 use Rattle.query_commands.proofs.Names.{Answer, Answers, ap, AreLive, AreSources, arith, at, Bool, Carries, ChoosesFrom, ChoosesOf, counters, Doc, Documents}
-use Rattle.query_commands.proofs.Names.{Entry, Err, false, Files, GrowsTables, inl, inr, IsConsistent, IsRefused, IsReplacing, IsSourceMissing, IsTakenOf}
+use Rattle.query_commands.proofs.Names.{Book, Err, false, Files, GrowsTables, inl, inr, IsConsistent, IsRefused, IsReplacing, IsSourceMissing, IsTakenOf}
 use Rattle.query_commands.proofs.Names.{IsUnreplaced, length, List, min, most_spans, Named, names_of, no_steps, Node, NoMemory, None, NoSuchQuery}
 use Rattle.query_commands.proofs.Names.{NotOneVariable, Ok, Option, PaysFor, plain, put, queries_of, Query, refl, Refusal, refusal_text, Refused}
 use Rattle.query_commands.proofs.Names.{replace_steps, replaced, Replaces, Result, SessionState, Some, Span, State, state_of, Stays, subst, sym, text_of, Told}
@@ -65,7 +65,7 @@ replace_carries long st files number name query source by q text other spans new
     rw refused (TooLong (length (replaced text spans other)), inr (q, text, other, spans, asked, chosen, inr (few, big, refl)), written, only_documents st st.documents new files is)
 
 -- ---- the line, after tables were computed
-module _ (long : Bool) (h : SessionState) (book : List Entry) (number : ℕ) (files : Option Files) (faults looks more pairs p q : ℕ) (name query source by : List ℕ) (s : Sources) (is : IsConsistent h)
+module _ (long : Bool) (h : SessionState) (book : Book) (number : ℕ) (files : Option Files) (faults looks more pairs p q : ℕ) (name query source by : List ℕ) (s : Sources) (is : IsConsistent h)
     (grown : GrowsTables false h.store h.book book p q) (sources : AreSources h.docs source by s) where
   document : value_of (plain h.store h.docs) source ≡ Some (text_of h.store s.root)
   document = document_is h.store h.docs source s.root sources.root

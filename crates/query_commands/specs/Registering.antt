@@ -2,11 +2,10 @@
 use Rattle.std.specs.Prelude.{◌≡◌, ℕ, List, MatchOption, MatchResult, Option, Result}
 use Rattle.line_parts.specs.NameList.{IsNameList}
 use Rattle.query_book.specs.Answers.{IsNamed}
-use Rattle.query_book.specs.Book.{queries_of}
+use Rattle.query_book.specs.Book.{Book, queries_of}
 use Rattle.query_book.specs.Combining.{HasPair, HasProjection, IsAccepted, IsPairRefused, IsProjectRefused}
 use Rattle.query_book.specs.Registering.{IsQueryOf}
 use Rattle.query_book.specs.Serving.{counted_of, covered_of}
-use Rattle.query_book.specs.declared.entry.Entry.{Entry}
 use Rattle.report_text.specs.declared.refusal.Refusal.{Refusal}
 use Rattle.script_syntax.specs.declared.form.Command.{Command}
 use Rattle.script_syntax.specs.declared.form.Command.TheVariants as form
@@ -29,25 +28,25 @@ abbrev pub KeepsNames : Recipe → Type 0
 KeepsNames (recipe.Project source keep) = IsNameList keep
 KeepsNames _ = Unit {0}
 
--- P holds of the query that is made
-abbrev pub IsMade : Named Query → Recipe → (Query → Type 0) → Type 0
-IsMade queries (recipe.Formula text) P = (q : Query) × IsQueryOf text q × P q
-IsMade queries (recipe.Union left right) P = HasPair Union queries left right (λ q. IsAccepted q × P q)
-IsMade queries (recipe.Join left right) P = HasPair Join queries left right (λ q. IsAccepted q × P q)
-IsMade queries (recipe.Project source keep) P = IsNamed queries source (λ q. HasProjection q keep (λ p. IsAccepted p × P p))
+-- P holds of the query that is made, if an automaton may have at most `most` states
+abbrev pub IsMade : ℕ → Named Query → Recipe → (Query → Type 0) → Type 0
+IsMade most queries (recipe.Formula text) P = (q : Query) × IsQueryOf most text q × P q
+IsMade most queries (recipe.Union left right) P = HasPair Union queries left right (λ q. IsAccepted most q × P q)
+IsMade most queries (recipe.Join left right) P = HasPair Join queries left right (λ q. IsAccepted most q × P q)
+IsMade most queries (recipe.Project source keep) P = IsNamed queries source (λ q. HasProjection q keep (λ p. IsAccepted most p × P p))
 
 -- why none is made
-abbrev pub IsUnmade : Named Query → Recipe → Refusal → Type 0
-IsUnmade queries (recipe.Formula text) why = IsTextRefused text why
-IsUnmade queries (recipe.Union left right) why = IsUncombined (IsPairRefused Union queries left right) why
-IsUnmade queries (recipe.Join left right) why = IsUncombined (IsPairRefused Join queries left right) why
-IsUnmade queries (recipe.Project source keep) why = IsUncombined (IsProjectRefused queries source keep) why
+abbrev pub IsUnmade : ℕ → Named Query → Recipe → Refusal → Type 0
+IsUnmade most queries (recipe.Formula text) why = IsTextRefused most text why
+IsUnmade most queries (recipe.Union left right) why = IsUncombined (IsPairRefused most Union queries left right) why
+IsUnmade most queries (recipe.Join left right) why = IsUncombined (IsPairRefused most Join queries left right) why
+IsUnmade most queries (recipe.Project source keep) why = IsUncombined (IsProjectRefused most queries source keep) why
 
 -- the query is registered under the name
-abbrev pub IsMadeIn : List Entry → List ℕ → Recipe → List Entry → Type 0
-IsMadeIn old name recipe new = IsMade (queries_of old) recipe (λ q. queries_of new ≡ put (queries_of old) name q) × (covered_of new ≡ put (covered_of old) name 0)
-    × (counted_of new ≡ put (counted_of old) name 0)
+abbrev pub IsMadeIn : Book → List ℕ → Recipe → Book → Type 0
+IsMadeIn old name recipe new = IsMade old.states (queries_of old) recipe (λ q. queries_of new ≡ put (queries_of old) name q) × (covered_of new ≡ put (covered_of old) name 0)
+    × (counted_of new ≡ put (counted_of old) name 0) × (new.states ≡ old.states)
 
 -- the query is registered, or the rejection is returned, or an allocation failed
-abbrev pub IsOutcome : List Entry → List ℕ → Recipe → List Entry → Result (Option Refusal) NoMemory → Type 0
-IsOutcome old name recipe new result = MatchResult result (λ refused. MatchOption refused (IsMadeIn old name recipe new) (λ why. IsUnmade (queries_of old) recipe why × (new ≡ old))) (λ _. new ≡ old)
+abbrev pub IsOutcome : Book → List ℕ → Recipe → Book → Result (Option Refusal) NoMemory → Type 0
+IsOutcome old name recipe new result = MatchResult result (λ refused. MatchOption refused (IsMadeIn old name recipe new) (λ why. IsUnmade old.states (queries_of old) recipe why × (new ≡ old))) (λ _. new ≡ old)

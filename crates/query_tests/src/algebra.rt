@@ -5,7 +5,7 @@ use crate::formulas::automaton_of;
 use crate::subsets::says;
 use formula_syntax::read;
 use marker_dfa::Dfa;
-use span_algebra::{AlgebraRefusal, join, project, union};
+use span_algebra::{AlgebraRefusal, join, join_within, project, union};
 use span_types::{NoMemory, Vars};
 use std::alloc::Global;
 use std::test::Fail;
@@ -56,7 +56,7 @@ fn joined(alloc: Global, left: &Side, right: &Side) -> Result<Dfa, AlgebraRefusa
 
 /// A part of an automaton: the numbers of its states and variables, the state after a mark and a byte from the start,
 /// and the greatest end there.
-type Seen = (u8, u8, Option<u8>, Option<u16>);
+type Seen = (u16, u8, Option<u16>, Option<u16>);
 
 fn seen_at(dfa: &Dfa, mark: u16, byte: u8) -> Seen {
     let states = dfa.states();
@@ -135,29 +135,63 @@ fn joins(rt: HostRuntime) -> Result<(), Fail> {
     Ok(())
 }
 
-/// The number of states of the join of two formulas, or why there is none.
-fn states_of_join(alloc: Global, left: &[u8], right: &[u8]) -> Result<u8, AlgebraRefusal> {
+/// The number of an automaton's states, or why there is none.
+type States = Result<u16, AlgebraRefusal>;
+
+/// The number of states of the join of two formulas.
+fn states_of_join(alloc: Global, left: &[u8], right: &[u8]) -> States {
     Ok(join_of(alloc, left, right)?.states())
 }
 
-/// Cycles of 20 and 20 bytes, and of 11 and 12, and the numbers of states of their joins.
-const ROUNDS: &[(&[u8], &[u8], Result<u8, AlgebraRefusal>)] = &[
+/// The number where 1,024 states are allowed.
+fn many_states_of_join(alloc: Global, left: &[u8], right: &[u8]) -> States {
+    let left = side_of(alloc, left)?;
+    let right = side_of(alloc, right)?;
+    let (dfa, _) = join_within(
+        alloc,
+        &left.dfa,
+        &left.names,
+        &right.dfa,
+        &right.names,
+        1024,
+    )?;
+    Ok(dfa.states())
+}
+
+/// Cycles of 20 and 20 bytes, of 11 and 12, of 31 and 33, and of 32 and 33, and the numbers of states of their joins where 128
+/// are allowed and where 1,024 are.
+const ROUNDS: &[(&[u8], &[u8], States, States)] = &[
     (
         b"(aaaaaaaaaaaaaaaaaaaa)*",
         b"(aaaaaaaaaaaaaaaaaaaa)*",
+        Ok(21),
         Ok(21),
     ),
     (
         b"(aaaaaaaaaaa)*",
         b"(aaaaaaaaaaaa)*",
         Err(AlgebraRefusal::TooManyStates),
+        Ok(133),
+    ),
+    (
+        b"(aaaaaaaaaaaaaaaaaaaaaaaaaaaaaaa)*",
+        b"(aaaaaaaaaaaaaaaaaaaaaaaaaaaaaaaaa)*",
+        Err(AlgebraRefusal::TooManyStates),
+        Ok(1024),
+    ),
+    (
+        b"(aaaaaaaaaaaaaaaaaaaaaaaaaaaaaaaa)*",
+        b"(aaaaaaaaaaaaaaaaaaaaaaaaaaaaaaaaa)*",
+        Err(AlgebraRefusal::TooManyStates),
+        Err(AlgebraRefusal::TooManyStates),
     ),
 ];
 
 #[test]
-fn state_cap(rt: HostRuntime) {
-    for (left, right, want) in ROUNDS {
-        assert!(rt; states_of_join(rt.alloc(), left, right) == *want);
+fn state_caps(rt: HostRuntime) {
+    for (left, right, usual, wide) in ROUNDS {
+        assert!(rt; states_of_join(rt.alloc(), left, right) == *usual);
+        assert!(rt; many_states_of_join(rt.alloc(), left, right) == *wide);
     }
 }
 

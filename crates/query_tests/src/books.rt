@@ -84,6 +84,26 @@ const TEXTS: &[(&[u8], &str)] = &[
     (b"a)", "not a formula"),
 ];
 
+/// Texts for a query in a registry that allows 1,024 states.
+const WIDE_TEXTS: &[(&[u8], &str)] = &[
+    (b"[ab]*a[ab][ab][ab][ab][ab][ab]", "ok"),
+    (b"[ab]*a[ab][ab][ab][ab][ab][ab][ab][ab]", "ok"),
+    (
+        b"[ab]*a[ab][ab][ab][ab][ab][ab][ab][ab][ab]",
+        "too many states",
+    ),
+];
+
+#[test]
+fn a_query_of_many_states(rt: HostRuntime) -> Result<(), Fail> {
+    let mut book = QueryBook::with_states(rt.alloc(), 1024);
+    for (text, want) in WIDE_TEXTS {
+        assert!(rt; added(rt.alloc(), &mut book, text)?.as_str() == *want);
+    }
+    assert!(rt; book.states() == 1024);
+    Ok(())
+}
+
 /// The number of a query's variables, or `None` if there is no such query.
 fn variables(book: &QueryBook, name: &[u8]) -> Option<u8> {
     match book.vars(name) {

@@ -98,8 +98,8 @@ fn counted<R: Threads + Sync, L: Ledger>(
     Ok((counts.number(&store, &dfa, root), counts.distinct()))
 }
 
-/// A formula, a text, and the number of answers.
-const ROWS: [(&[u8], &[u8], u64); 9] = [
+/// A formula, a text, and the number of answers. The last formula's automaton has more than 256 states.
+const ROWS: [(&[u8], &[u8], u64); 10] = [
     (b".*$x{a.}.*", b"abracadabra", 4),
     (b"b", b"abracadabra", 0),
     (b".*", b"abracadabra", 1),
@@ -109,6 +109,11 @@ const ROWS: [(&[u8], &[u8], u64); 9] = [
     (b".*$x{.*}.*$y{.*}.*", b"abc", 35),
     (b".*($x{b}|$y{a}).*", b"abracadabra", 7),
     (b"$x{a*}|$y{.*}", b"aa", 2),
+    (
+        b"[ab]*a[ab][ab][ab][ab][ab][ab][ab]$x{.*}",
+        b"abbabbbbababbbab",
+        3,
+    ),
 ];
 
 #[test]

@@ -1,12 +1,12 @@
 //! Tests of the subset construction.
-use crate::formulas::dfa_of;
+use crate::formulas::{dfa_of, wide_dfa_of};
 use marker_dfa::{Dfa, DfaRefusal};
 use std::alloc::{AllocError, Global};
 use std::fmt::Display;
 use std::test::Fail;
 
 /// The state after a mark and a byte, if the automaton has the given state.
-fn next(dfa: &Dfa, state: u8, mark: u16, byte: u8) -> Option<u8> {
+fn next(dfa: &Dfa, state: u16, mark: u16, byte: u8) -> Option<u16> {
     if state < dfa.states() {
         dfa.next(state, mark, byte)
     } else {
@@ -15,7 +15,7 @@ fn next(dfa: &Dfa, state: u8, mark: u16, byte: u8) -> Option<u8> {
 }
 
 /// The marks of transitions from a state on this byte, and those of its ends, if the automaton has the state.
-fn marks<'a>(dfa: &'a Dfa, state: u8, byte: u8) -> (&'a [u16], &'a [u16]) {
+fn marks<'a>(dfa: &'a Dfa, state: u16, byte: u8) -> (&'a [u16], &'a [u16]) {
     if state < dfa.states() {
         (dfa.marks(state, byte), dfa.ends(state))
     } else {
@@ -41,23 +41,44 @@ fn two_states(rt: HostRuntime) -> Result<(), Fail> {
     Ok(())
 }
 
-/// The number of states of a formula's automaton, or why there is none.
-fn states_of(alloc: Global, text: &[u8]) -> Result<u8, DfaRefusal> {
+/// The number of an automaton's states, or why there is none.
+type States = Result<u16, DfaRefusal>;
+
+/// The number of states of a formula's automaton.
+fn states_of(alloc: Global, text: &[u8]) -> States {
     Ok(dfa_of(alloc, text)?.states())
 }
 
-const STATES: &[(&[u8], Result<u8, DfaRefusal>)] = &[
-    (b"[ab]*a[ab][ab][ab][ab][ab]", Ok(65)),
+/// The number where 1,024 states are allowed.
+fn many_states_of(alloc: Global, text: &[u8]) -> States {
+    Ok(wide_dfa_of(alloc, text)?.states())
+}
+
+/// Formulas, and the numbers of their states where 128 are allowed and where 1,024 are.
+const STATES: &[(&[u8], States, States)] = &[
+    (b"[ab]*a[ab][ab][ab][ab][ab]", Ok(65), Ok(65)),
     (
         b"[ab]*a[ab][ab][ab][ab][ab][ab]",
+        Err(DfaRefusal::TooManyStates),
+        Ok(129),
+    ),
+    (
+        b"[ab]*a[ab][ab][ab][ab][ab][ab][ab][ab]",
+        Err(DfaRefusal::TooManyStates),
+        Ok(513),
+    ),
+    (
+        b"[ab]*a[ab][ab][ab][ab][ab][ab][ab][ab][ab]",
+        Err(DfaRefusal::TooManyStates),
         Err(DfaRefusal::TooManyStates),
     ),
 ];
 
 #[test]
-fn state_cap(rt: HostRuntime) {
-    for (text, want) in STATES {
-        assert!(rt; states_of(rt.alloc(), text) == *want);
+fn state_caps(rt: HostRuntime) {
+    for (text, usual, wide) in STATES {
+        assert!(rt; states_of(rt.alloc(), text) == *usual);
+        assert!(rt; many_states_of(rt.alloc(), text) == *wide);
     }
 }
 

@@ -1,5 +1,5 @@
 -- Queries by name, and the number of nodes that have tables in each.
-use Rattle.session_state.proofs.Names.{[], AllByRecursion, ap, ArePartlyAt, arith, Bool, cond, counted_of, covered_of, Entry, false, Grows, GrowsCounts}
+use Rattle.session_state.proofs.Names.{[], AllByRecursion, ap, ArePartlyAt, arith, Book, Bool, cond, counted_of, covered_of, Entry, false, Grows, GrowsCounts}
 use Rattle.session_state.proofs.Names.{GrowsTables, inl, inr, IsNamed, IsSome, length, List, names_of, Node, None, Option, option_map, Places, PlacesOfBoth}
 use Rattle.session_state.proofs.Names.{PlacesPart, PlacesPartOfBoth, queries_of, Query, refl, same_Some, Serves, Some, subst, suc, sum_of, sym, Tabled}
 use Rattle.session_state.proofs.Names.{tables_of, true, ℕ, ◌*◌, ◌+◌, ◌∙◌, ◌∷◌, ◌≡◌, ◌≤◌}
@@ -8,13 +8,13 @@ use Rattle.query_book.proofs.Served.{serves-more}
 use Rattle.std.specs.Prelude.{IfSome, unwrap_or}
 use Rattle.count_tables.specs.Dictionary.{CountDictionary, count_of}
 use Rattle.query_book.specs.Counting.{AreFirstCounts, counted}
-use Rattle.query_book.specs.Serving.{IsServed}
+use Rattle.query_book.specs.Serving.{AreServed, IsServed, counted_in, covered_in}
 use Rattle.query_book.specs.declared.entry.TabledQuery.{TabledQuery}
 use Rattle.session_state.proofs.PlacesLemmas.{AreWithin, sum_within}
 
 -- tables stay valid when the store gets nodes
-pub serves-grows : (old new : List Node) (p q : ℕ) (es : List Entry) → Grows old new p q → Serves old es → Serves new es
-serves-grows old new p q es g h = subst (λ (ns : List Node). Serves ns es) (sym g.added) (serves-more old g.more es h)
+pub serves-grows : (old new : List Node) (p q : ℕ) (book : Book) → Grows old new p q → Serves old book → Serves new book
+serves-grows old new p q book g h = subst (λ (ns : List Node). Serves ns book) (sym g.added) (serves-more old g.more book h)
 
 -- each query has tables and counting tables for at most the existing nodes
 counted-within : (ns : List Node) (t : TabledQuery) → IsServed ns t → counted t ≤ length ns
@@ -24,10 +24,13 @@ counted-within ns t h = by t.counts h.counts
     by None is = omega arith
     by (Some d) is = is.covered
 
-pub tables-within : (ns : List Node) (es : List Entry) → Serves ns es → AreWithin (length ns) (tables_of es)
-tables-within ns [] h = record { covered = tt; counted = tt }
-tables-within ns (e ∷ es) h =
-    let rest = tables-within ns es h.1 in record { covered = (h.0.covered, rest.covered); counted = (counted-within ns e.tabled h.0, rest.counted) }
+entries-within : (ns : List Node) (es : List Entry) → AreServed ns es → AreWithin (length ns) (record { covered = covered_in es; counted = counted_in es })
+entries-within ns [] h = record { covered = tt; counted = tt }
+entries-within ns (e ∷ es) h =
+    let rest = entries-within ns es h.1 in record { covered = (h.0.covered, rest.covered); counted = (counted-within ns e.tabled h.0, rest.counted) }
+
+pub tables-within : (ns : List Node) (book : Book) → Serves ns book → AreWithin (length ns) (tables_of book)
+tables-within ns book h = entries-within ns book.entries h
 
 -- the value of an existing name
 pub some_value : {A : Type 0} (o : Option A) → IsSome o → (x : A) × (o ≡ Some x)
@@ -116,7 +119,7 @@ one_grown_part nodes p q old new within partly steps = λ n few le.
     let sums = sum_within n nodes le new within in
     omega (arith, same, sums, steps)
 
-module _ (asked : Bool) (ns : List Node) (old new : List Entry) (p q : ℕ) (grown : GrowsTables asked ns old new p q) where
+module _ (asked : Bool) (ns : List Node) (old new : Book) (p q : ℕ) (grown : GrowsTables asked ns old new p q) where
   pub grown_placed : PlacesOfBoth asked 0 0 (length ns) (tables_of old) (tables_of new) p q
   grown_placed = record {
     between = grown.between;
@@ -136,9 +139,10 @@ module _ (asked : Bool) (ns : List Node) (old new : List Entry) (p q : ℕ) (gro
       }
 
 -- counting tables alone
-pub counts_grown : (asked : Bool) (ns : List Node) (old new : List Entry) (p q : ℕ) → GrowsCounts ns old new p q → (asked ≡ false → q ≡ p) → GrowsTables asked ns old new p q
+pub counts_grown : (asked : Bool) (ns : List Node) (old new : Book) (p q : ℕ) → GrowsCounts ns old new p q → (asked ≡ false → q ≡ p) → GrowsTables asked ns old new p q
 counts_grown asked ns old new p q grown same = record {
   serves = grown.serves;
+  states = grown.states;
   queries = grown.queries;
   between = p;
   tables = subst (λ (c : Named ℕ). ArePartlyAt (length ns) (covered_of old) c) (sym grown.tables) (partly_same (length ns) (covered_of old));
@@ -149,9 +153,10 @@ counts_grown asked ns old new p q grown same = record {
 }
 
 -- and after other tables
-pub both_grown : (asked : Bool) (ns : List Node) (old mid new : List Entry) (p q r : ℕ) → GrowsTables false ns old mid p q → GrowsCounts ns mid new q r → (asked ≡ false → r ≡ q) → GrowsTables asked ns old new p r
+pub both_grown : (asked : Bool) (ns : List Node) (old mid new : Book) (p q r : ℕ) → GrowsTables false ns old mid p q → GrowsCounts ns mid new q r → (asked ≡ false → r ≡ q) → GrowsTables asked ns old new p r
 both_grown asked ns old mid new p q r first next same = record {
   serves = next.serves;
+  states = next.states ∙ first.states;
   queries = next.queries ∙ first.queries;
   between = first.between;
   tables = subst (λ (c : Named ℕ). ArePartlyAt (length ns) (covered_of old) c) (sym next.tables) first.tables;
@@ -162,10 +167,11 @@ both_grown asked ns old mid new p q r first next same = record {
 }
 
 -- tables of all queries, and counting tables as before
-pub all_grown : (ns : List Node) (old new : List Entry) (p q : ℕ) → Serves ns new → queries_of new ≡ queries_of old → counted_of new ≡ counted_of old → ArePartlyAt (length ns) (covered_of old) (covered_of new) → q + sum_of (covered_of old) ≡ p + sum_of (covered_of new)
+pub all_grown : (ns : List Node) (old new : Book) (p q : ℕ) → Serves ns new → new.states ≡ old.states → queries_of new ≡ queries_of old → counted_of new ≡ counted_of old → ArePartlyAt (length ns) (covered_of old) (covered_of new) → q + sum_of (covered_of old) ≡ p + sum_of (covered_of new)
     → GrowsTables false ns old new p q
-all_grown ns old new p q serves queries counted partly paid = record {
+all_grown ns old new p q serves states queries counted partly paid = record {
   serves = serves;
+  states = states;
   queries = queries;
   between = q;
   tables = partly;

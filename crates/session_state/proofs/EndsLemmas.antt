@@ -1,6 +1,6 @@
 -- How a line ends: its reply was written, or a prefix of it, or it was stopped before.
 use Rattle.session_state.proofs.Names.{[], Allowance, Answer, Answers, ap, Appends-nil, arith, AsksForCounts, at, Bool, Carried, Carries, Command}
-use Rattle.session_state.proofs.Names.{CommandState, Compacts, counters_in, Done, Ends, Entry, Err, false, Files, Goes, GrowsTables, IfErr, IfOk, inl, inr}
+use Rattle.session_state.proofs.Names.{CommandState, Book, Compacts, counters_in, Done, Ends, Err, false, Files, Goes, GrowsTables, IfErr, IfOk, inl, inr}
 use Rattle.session_state.proofs.Names.{IsAllowance, IsAnswering, IsConsistent, IsList, IsOnce, IsPaid, IsRefused, IsRejectedFreely, Keeps-refl, Leaves, length}
 use Rattle.session_state.proofs.Names.{line_state, LineState, List, MatchResult, model_of, no_steps, Of, Ok, Option, Outlet, Passes, Quiet, refl, Refusal}
 use Rattle.session_state.proofs.Names.{refusal_text, Refused, Registers, Replies, Result, seen, SessionState, Some, State, state_of, Stays, Stop, Stopped}
@@ -90,12 +90,12 @@ stays_stopped old new number command before why answering s = record {
 }
 
 -- a command that was stopped before it wrote anything, since the allocation of some tables failed
-pub unplaced_stops : (asked : Bool) (h : SessionState) (book : List Entry) (number : ℕ) (command : Command) (files : Option Files) (faults looks pairs p q : ℕ) (before : Outlet) → IsConsistent h → GrowsTables asked h.store h.book book p q
+pub unplaced_stops : (asked : Bool) (h : SessionState) (book : Book) (number : ℕ) (command : Command) (files : Option Files) (faults looks pairs p q : ℕ) (before : Outlet) → IsConsistent h → GrowsTables asked h.store h.book book p q
     → (asked ≡ true → AsksForCounts (world (state_of h) files) command)
     → Stopped number (Some command) (seen (model_of h) files faults looks pairs p) before (seen (model_of (record h { book = book })) files faults looks pairs q) before stop.NoMemory
 unplaced_stops asked h book number command files faults looks pairs p q before is grown asks =
     let goes = (unplaced asked h book number command files faults looks pairs p q is grown asks).goes in
-    let left : Leaves (world (state_of h) files) before.written before.written (world (state_of (record h { book = book })) files) = record { written = Keeps-refl before.written; world = ap (λ (st : State). world st files) (same_queries h book grown.queries) } in
+    let left : Leaves (world (state_of h) files) before.written before.written (world (state_of (record h { book = book })) files) = record { written = Keeps-refl before.written; world = ap (λ (st : State). world st files) (same_queries h book grown.states grown.queries) } in
     record {
       passes = passes_of (at h files faults looks pairs p) (at (record h { book = book }) files faults looks pairs q) command before before goes (omega arith) (omega arith);
       halts = inl left;

@@ -1,6 +1,6 @@
 -- Facts about the session's state, for commands that add nodes, compute tables, or do neither.
 use Rattle.session_state.proofs.Names.{Accepted, AllowsWrites, Answer, Answers, ap, AreKept, AreLive, AreLive-grows, arith, AsksForCounts, at, Bool, Carries}
-use Rattle.session_state.proofs.Names.{Command, Compacts, counters, Doc, Documents, Entry, Err, false, Files, Goes, Grows, Grows-length, Grows-none}
+use Rattle.session_state.proofs.Names.{Book, Command, Compacts, counters, Doc, Documents, Err, false, Files, Goes, Grows, Grows-length, Grows-none}
 use Rattle.session_state.proofs.Names.{GrowsTables, IfErr, IfOk, inl, inr, IsAllowed, IsConsistent, IsErrAnd, IsOfFile, IsOnce, IsPut, IsSaved, length}
 use Rattle.session_state.proofs.Names.{line_state, LineState, List, Named, no_steps, Node, nodes_of, Ok, open_size, Option, pairs_of, PaysFor, PaysForPart}
 use Rattle.session_state.proofs.Names.{PlacesOfBoth, plain, plain-grows, plain_versions, put, queries_of, Query, Quiet, refl, Refused, Registers, Result, Rose}
@@ -76,7 +76,7 @@ grown_goes h store docs command files after faults more looks p q places is grow
 
 -- other documents in a store with more nodes only change the state
 pub grown_state : (h : SessionState) (store : List Node) (docs : List Doc) (p q : ℕ) → IsConsistent h → Grows h.store store p q → state_of (record h { store = store; docs = docs }) ≡ with_documents (state_of h) (plain store docs)
-grown_state h store docs p q is grows = ap (λ (v : Named Documents). record { documents = plain store docs; queries = queries_of h.book; versions = v }) (plain_versions-grows h.store store p q grows h.versions is.kept)
+grown_state h store docs p q is grows = ap (λ (v : Named Documents). record { most_states = h.book.states; documents = plain store docs; queries = queries_of h.book; versions = v }) (plain_versions-grows h.store store p q grows h.versions is.kept)
 
 pub grown_answers : (h : SessionState) (store : List Node) (docs : List Doc) (number : ℕ) (command : Command) (answer : Answer) (files after : Option Files) (faults more looks p q places : ℕ) → IsConsistent h → Grows h.store store p q → AreLive store docs
     → (Registers command → ⊥) → (Compacts command → ⊥) → PaysFor (world (state_of h) files) command (counters looks p) (counters looks q) → after ≡ files → more ≡ faults
@@ -144,7 +144,7 @@ stays h number command files faults looks pairs places is =
     grown_stops h h.store h.docs number command files files faults faults looks pairs pairs places is (Grows-none h.store pairs pairs (omega arith)) is.live refl (not_begun (world (state_of h) files) command looks pairs) refl (omega arith)
 
 -- ---- the store and the counters are unchanged
-still_goes : (h : SessionState) (docs : List Doc) (versions : Named (List Doc)) (book : List Entry) (command : Command) (files after : Option Files) (faults more looks pairs places : ℕ) → IsConsistent h
+still_goes : (h : SessionState) (docs : List Doc) (versions : Named (List Doc)) (book : Book) (command : Command) (files after : Option Files) (faults more looks pairs places : ℕ) → IsConsistent h
     → IsConsistent (record h { docs = docs; versions = versions; book = book }) → faults ≤ more
     → Goes (at h files faults looks pairs places) command (at (record h { docs = docs; versions = versions; book = book }) after more looks pairs places)
 still_goes h docs versions book command files after faults more looks pairs places is now later = record {
@@ -160,15 +160,15 @@ still_goes h docs versions book command files after faults more looks pairs plac
 }
 
 -- ---- the queries changed
-pub booked_answers : (h : SessionState) (book : List Entry) (number : ℕ) (command : Command) (answer : Answer) (files : Option Files) (faults looks pairs places count : ℕ) → IsConsistent h → Serves h.store book
+pub booked_answers : (h : SessionState) (book : Book) (number : ℕ) (command : Command) (answer : Answer) (files : Option Files) (faults looks pairs places count : ℕ) → IsConsistent h → Serves h.store book → book.states ≡ h.book.states
     → IsAllowed (world (state_of h) files) command no_steps → IsOnce (Registers command) answer.told count → IsOnce (Compacts command) answer.told 0
     → PlacesOfBoth false count 0 (length h.store) (tables_of h.book) (tables_of book) places places
     → Carries (world (state_of h) files) number command answer.told answer.line.items (world (with_queries (state_of h) (queries_of book)) files)
     → Answers (at h files faults looks pairs places) number command (at (record h { book = book }) files faults looks pairs places) answer
-booked_answers h book number command answer files faults looks pairs places count is serves free registered kept placed carries = record {
+booked_answers h book number command answer files faults looks pairs places count is serves states free registered kept placed carries = record {
   goes = still_goes h h.docs h.versions book command files files faults faults looks pairs places is (record { live = is.live; kept = is.kept; serves = serves }) (omega arith);
   sound = refl;
-  carries = carries;
+  carries = subst (λ (n : ℕ). Carries (world (state_of h) files) number command answer.told answer.line.items (world (record (with_queries (state_of h) (queries_of book)) { most_states = n }) files)) (sym states) carries;
   paid = (no_steps, free, none_paid looks pairs pairs refl);
   tallies = record {
     queries = count;
@@ -187,7 +187,7 @@ booked_answers h book number command answer files faults looks pairs places coun
   };
 }
 
-pub booked_stops : (h : SessionState) (book : List Entry) (number : ℕ) (command : Command) (files : Option Files) (faults looks pairs places : ℕ) → IsConsistent h → Serves h.store book
+pub booked_stops : (h : SessionState) (book : Book) (number : ℕ) (command : Command) (files : Option Files) (faults looks pairs places : ℕ) → IsConsistent h → Serves h.store book
     → (state_of (record h { book = book }) ≡ state_of h) ⊎ ((IsOfFile command → ⊥) × ((told : Told) × (reply : List ℕ) × Carries (world (state_of h) files) number command told reply (world (state_of (record h { book = book })) files)))
     → Stays (at h files faults looks pairs places) number command (at (record h { book = book }) files faults looks pairs places) stop.NoMemory
 booked_stops h book number command files faults looks pairs places is serves state = record {
@@ -202,7 +202,7 @@ pub refused_answers : (h : SessionState) (number : ℕ) (command : Command) (ans
     → Carries (world (state_of h) files) number command answer.told answer.line.items (world (state_of h) files)
     → Answers (at h files faults looks pairs places) number command (at h files faults looks pairs places) answer
 refused_answers h number command answer files faults looks pairs places is refused free carries =
-    booked_answers h h.book number command answer files faults looks pairs places 0 is is.serves free (refused_never (Registers command) answer.told refused) (refused_never (Compacts command) answer.told refused) (none_placed (length h.store) (tables_of h.book) places) carries
+    booked_answers h h.book number command answer files faults looks pairs places 0 is is.serves refl free (refused_never (Registers command) answer.told refused) (refused_never (Compacts command) answer.told refused) (none_placed (length h.store) (tables_of h.book) places) carries
 
 -- the same answers over an unchanged file store
 pub same_shelf : (h : SessionState) (number : ℕ) (command : Command) (r : Result Answer Stop) (files after : Option Files) (faults more looks pairs places : ℕ) → after ≡ files → more ≡ faults
@@ -248,7 +248,7 @@ marked_answers h docs versions number command answer files faults looks pairs pl
 }
 
 -- ---- tables were computed, then the store got nodes and the documents changed
-moved_goes : (asked : Bool) (h : SessionState) (store : List Node) (docs : List Doc) (book : List Entry) (command : Command) (files : Option Files) (faults looks more p q r s : ℕ) → IsConsistent h → Grows h.store store p q → AreLive store docs
+moved_goes : (asked : Bool) (h : SessionState) (store : List Node) (docs : List Doc) (book : Book) (command : Command) (files : Option Files) (faults looks more p q r s : ℕ) → IsConsistent h → Grows h.store store p q → AreLive store docs
     → GrowsTables asked h.store h.book book r s → (asked ≡ true → AsksForCounts (world (state_of h) files) command) → PaysForPart (world (state_of h) files) command (counters looks p) (counters more q)
     → Goes (at h files faults looks p r) command (at (record h { store = store; docs = docs; book = book }) files faults more q s)
 moved_goes asked h store docs book command files faults looks more p q r s is grows live grown asks begun =
@@ -265,12 +265,12 @@ moved_goes asked h store docs book command files faults looks more p q r s is gr
       faults = omega arith;
     }
 
-moved_state : (h : SessionState) (store : List Node) (docs : List Doc) (book : List Entry) (p q : ℕ) → IsConsistent h → Grows h.store store p q → queries_of book ≡ queries_of h.book
+moved_state : (h : SessionState) (store : List Node) (docs : List Doc) (book : Book) (p q : ℕ) → IsConsistent h → Grows h.store store p q → book.states ≡ h.book.states → queries_of book ≡ queries_of h.book
     → state_of (record h { store = store; docs = docs; book = book }) ≡ with_documents (state_of h) (plain store docs)
-moved_state h store docs book p q is grows same =
-    ap (λ (qs : Named Query). record { documents = plain store docs; queries = qs; versions = plain_versions store h.versions }) same ∙ grown_state h store docs p q is grows
+moved_state h store docs book p q is grows states same =
+    (λ i. record { most_states = states i; documents = plain store docs; queries = same i; versions = plain_versions store h.versions }) ∙ grown_state h store docs p q is grows
 
-pub moved_answers : (asked : Bool) (h : SessionState) (store : List Node) (docs : List Doc) (book : List Entry) (number : ℕ) (command : Command) (answer : Answer) (files : Option Files) (faults looks more p q r s : ℕ) → IsConsistent h → Grows h.store store p q → AreLive store docs
+pub moved_answers : (asked : Bool) (h : SessionState) (store : List Node) (docs : List Doc) (book : Book) (number : ℕ) (command : Command) (answer : Answer) (files : Option Files) (faults looks more p q r s : ℕ) → IsConsistent h → Grows h.store store p q → AreLive store docs
     → GrowsTables asked h.store h.book book r s → (asked ≡ true → AsksForCounts (world (state_of h) files) command)
     → (Registers command → ⊥) → (Compacts command → ⊥) → PaysFor (world (state_of h) files) command (counters looks p) (counters more q)
     → Carries (world (state_of h) files) number command answer.told answer.line.items (world (with_documents (state_of h) (plain store docs)) files)
@@ -281,56 +281,56 @@ moved_answers asked h store docs book number command answer files faults looks m
     record {
       goes = moved_goes asked h store docs book command files faults looks more p q r s is grows live grown asks (part_of_paid (world (state_of h) files) command (counters looks p) (counters more q) paid);
       sound = refl;
-      carries = subst (λ (st : State). Carries (world (state_of h) files) number command answer.told answer.line.items (world st files)) (sym (moved_state h store docs book p q is grows grown.queries)) carries;
+      carries = subst (λ (st : State). Carries (world (state_of h) files) number command answer.told answer.line.items (world st files)) (sym (moved_state h store docs book p q is grows grown.states grown.queries)) carries;
       paid = paid;
       tallies = none_tallied (Registers command) (Compacts command) (AsksForCounts (world (state_of h) files) command) asked answer.told (line_state (at h files faults looks p r)) (line_state (at (record h { store = store; docs = docs; book = book }) files faults more q s))
           (never (Registers command) other answer.told) (never (Compacts command) kept answer.told) later (Grows-pairs h.store store p q grows) asks
           (record { between = both.between; tables = λ n le. both.tables n (omega (arith, le, later)); counting = λ n le. both.counting n (omega (arith, le, later)); unasked = both.unasked });
     }
 
-pub moved_stops : (asked : Bool) (h : SessionState) (store : List Node) (docs : List Doc) (book : List Entry) (number : ℕ) (command : Command) (files : Option Files) (faults looks more p q r s : ℕ) → IsConsistent h → Grows h.store store p q → AreLive store docs
+pub moved_stops : (asked : Bool) (h : SessionState) (store : List Node) (docs : List Doc) (book : Book) (number : ℕ) (command : Command) (files : Option Files) (faults looks more p q r s : ℕ) → IsConsistent h → Grows h.store store p q → AreLive store docs
     → GrowsTables asked h.store h.book book r s → (asked ≡ true → AsksForCounts (world (state_of h) files) command)
     → plain store docs ≡ plain h.store h.docs → PaysForPart (world (state_of h) files) command (counters looks p) (counters more q)
     → Stays (at h files faults looks p r) number command (at (record h { store = store; docs = docs; book = book }) files faults more q s) stop.NoMemory
 moved_stops asked h store docs book number command files faults looks more p q r s is grows live grown asks texts begun = record {
   goes = moved_goes asked h store docs book command files faults looks more p q r s is grows live grown asks begun;
-  world = inl (same_world (moved_state h store docs book p q is grows grown.queries ∙ ap (with_documents (state_of h)) texts) refl);
+  world = inl (same_world (moved_state h store docs book p q is grows grown.states grown.queries ∙ ap (with_documents (state_of h)) texts) refl);
   shelf = no_shelf;
   sink = no_sink;
 }
 
 -- ---- only tables were computed
-pub placed_goes : (asked : Bool) (h : SessionState) (book : List Entry) (command : Command) (files : Option Files) (faults looks more pairs p q : ℕ) → IsConsistent h → GrowsTables asked h.store h.book book p q
+pub placed_goes : (asked : Bool) (h : SessionState) (book : Book) (command : Command) (files : Option Files) (faults looks more pairs p q : ℕ) → IsConsistent h → GrowsTables asked h.store h.book book p q
     → (asked ≡ true → AsksForCounts (world (state_of h) files) command) → PaysForPart (world (state_of h) files) command (counters looks pairs) (counters more pairs)
     → Goes (at h files faults looks pairs p) command (at (record h { book = book }) files faults more pairs q)
 placed_goes asked h book command files faults looks more pairs p q is grown asks begun =
     moved_goes asked h h.store h.docs book command files faults looks more pairs pairs p q is (Grows-none h.store pairs pairs (omega arith)) is.live grown asks begun
 
-pub same_queries : (h : SessionState) (book : List Entry) → queries_of book ≡ queries_of h.book → state_of (record h { book = book }) ≡ state_of h
-same_queries h book same = ap (with_queries (state_of h)) same
+pub same_queries : (h : SessionState) (book : Book) → book.states ≡ h.book.states → queries_of book ≡ queries_of h.book → state_of (record h { book = book }) ≡ state_of h
+same_queries h book states same = λ i. record (state_of h) { most_states = states i; queries = same i }
 
-pub placed_tallied : (asked : Bool) (h : SessionState) (book : List Entry) (command : Command) (told : Told) (files : Option Files) (faults looks more pairs p q : ℕ) → GrowsTables asked h.store h.book book p q → (asked ≡ true → AsksForCounts (world (state_of h) files) command)
+pub placed_tallied : (asked : Bool) (h : SessionState) (book : Book) (command : Command) (told : Told) (files : Option Files) (faults looks more pairs p q : ℕ) → GrowsTables asked h.store h.book book p q → (asked ≡ true → AsksForCounts (world (state_of h) files) command)
     → (Registers command → ⊥) → (Compacts command → ⊥)
     → Tallies (Registers command) (Compacts command) (AsksForCounts (world (state_of h) files) command) told (line_state (at h files faults looks pairs p)) (line_state (at (record h { book = book }) files faults more pairs q))
 placed_tallied asked h book command told files faults looks more pairs p q grown asks other kept =
     none_tallied (Registers command) (Compacts command) (AsksForCounts (world (state_of h) files) command) asked told (line_state (at h files faults looks pairs p)) (line_state (at (record h { book = book }) files faults more pairs q))
     (never (Registers command) other told) (never (Compacts command) kept told) (omega arith) (omega arith) asks (grown_placed asked h.store h.book book p q grown)
 
-pub placed_answers : (asked : Bool) (h : SessionState) (book : List Entry) (number : ℕ) (command : Command) (answer : Answer) (files : Option Files) (faults looks more pairs p q : ℕ) → IsConsistent h → GrowsTables asked h.store h.book book p q
+pub placed_answers : (asked : Bool) (h : SessionState) (book : Book) (number : ℕ) (command : Command) (answer : Answer) (files : Option Files) (faults looks more pairs p q : ℕ) → IsConsistent h → GrowsTables asked h.store h.book book p q
     → (asked ≡ true → AsksForCounts (world (state_of h) files) command) → (Registers command → ⊥) → (Compacts command → ⊥) → PaysFor (world (state_of h) files) command (counters looks pairs) (counters more pairs)
     → Carries (world (state_of h) files) number command answer.told answer.line.items (world (state_of h) files)
     → Answers (at h files faults looks pairs p) number command (at (record h { book = book }) files faults more pairs q) answer
 placed_answers asked h book number command answer files faults looks more pairs p q is grown asks other kept paid carries =
     moved_answers asked h h.store h.docs book number command answer files faults looks more pairs pairs p q is (Grows-none h.store pairs pairs (omega arith)) is.live grown asks other kept paid carries
 
-pub placed_stops : (asked : Bool) (h : SessionState) (book : List Entry) (number : ℕ) (command : Command) (files : Option Files) (faults looks more pairs p q : ℕ) → IsConsistent h → GrowsTables asked h.store h.book book p q
+pub placed_stops : (asked : Bool) (h : SessionState) (book : Book) (number : ℕ) (command : Command) (files : Option Files) (faults looks more pairs p q : ℕ) → IsConsistent h → GrowsTables asked h.store h.book book p q
     → (asked ≡ true → AsksForCounts (world (state_of h) files) command) → PaysForPart (world (state_of h) files) command (counters looks pairs) (counters more pairs)
     → Stays (at h files faults looks pairs p) number command (at (record h { book = book }) files faults more pairs q) stop.NoMemory
 placed_stops asked h book number command files faults looks more pairs p q is grown asks begun =
     moved_stops asked h h.store h.docs book number command files faults looks more pairs pairs p q is (Grows-none h.store pairs pairs (omega arith)) is.live grown asks refl begun
 
 -- and the allocation of some of them failed
-pub unplaced : (asked : Bool) (h : SessionState) (book : List Entry) (number : ℕ) (command : Command) (files : Option Files) (faults looks pairs p q : ℕ) → IsConsistent h → GrowsTables asked h.store h.book book p q
+pub unplaced : (asked : Bool) (h : SessionState) (book : Book) (number : ℕ) (command : Command) (files : Option Files) (faults looks pairs p q : ℕ) → IsConsistent h → GrowsTables asked h.store h.book book p q
     → (asked ≡ true → AsksForCounts (world (state_of h) files) command) → Stays (at h files faults looks pairs p) number command (at (record h { book = book }) files faults looks pairs q) stop.NoMemory
 unplaced asked h book number command files faults looks pairs p q is grown asks =
     placed_stops asked h book number command files faults looks looks pairs p q is grown asks (not_begun (world (state_of h) files) command looks pairs)

@@ -5,7 +5,7 @@ pub use Rattle.edge_io.specs.Causes.{Rose}
 pub use Rattle.edge_io.specs.Files.{AllowsWrites, Files}
 pub use Rattle.edit_expr.proofs.EvalLemmas.{AreLive-grows, plain-grows}
 pub use Rattle.query_book.specs.Answers.{IsNamed}
-pub use Rattle.query_book.specs.Book.{queries_of}
+pub use Rattle.query_book.specs.Book.{Book, queries_of}
 pub use Rattle.query_book.specs.Serving.{ArePartlyAt, Serves, counted_of, covered_of, sum_of}
 pub use Rattle.query_book.specs.declared.entry.Entry.{Entry}
 pub use Rattle.report_text.specs.Reply.{refusal_text, saved_text}

@@ -8,16 +8,15 @@ use Rattle.slp_model.specs.Thin.{AnyReaches}
 use Rattle.doc_book.specs.Texts.{AreLive, plain}
 pub use Rattle.doc_book.specs.Docs.{roots_of}
 pub use Rattle.doc_compact.specs.Roots.{AreKept, plain_versions, version_roots}
-use Rattle.query_book.specs.Book.{queries_of}
+use Rattle.query_book.specs.Book.{Book, queries_of}
 use Rattle.query_book.specs.Serving.{Serves, counted_of, covered_of}
-use Rattle.query_book.specs.declared.entry.Entry.{Entry}
 use Rattle.span_language.specs.Counts.{Tabled}
 use Rattle.span_language.specs.State.{State, Named}
 use Rattle.session_state.specs.declared.session.SessionState.{SessionState}
 
 -- the plain state that it represents
 abbrev pub state_of : SessionState → State
-state_of h = record { documents = plain h.store h.docs; queries = queries_of h.book; versions = plain_versions h.store h.versions }
+state_of h = record { most_states = h.book.states; documents = plain h.store h.docs; queries = queries_of h.book; versions = plain_versions h.store h.versions }
 
 -- the invariant between commands: the roots of the documents and of the versions are in the store, and the tables are
 -- those of its nodes
@@ -39,8 +38,8 @@ abbrev pub model_of : SessionState → SessionModel
 model_of h = record { state = state_of h; store = h.store; roots = roots_of h.docs ++ version_roots h.versions; covered = covered_of h.book; counted = counted_of h.book }
 
 -- both numbers for each query
-abbrev pub tables_of : List Entry → Tabled
-tables_of es = record { covered = covered_of es; counted = counted_of es }
+abbrev pub tables_of : Book → Tabled
+tables_of book = record { covered = covered_of book; counted = counted_of book }
 
 abbrev pub tables_in : SessionModel → Tabled
 tables_in s = record { covered = s.covered; counted = s.counted }

@@ -8,6 +8,7 @@ use Rattle.query_book.specs.Serving.{ArePartlyAt, Serves, counted_of, covered_of
 -- tables, which are new only if they were asked for. Each new table was counted, those of the first kind first.
 pub record GrowsTables (asked : Bool) (ns : List Node) (old new : Book) (before after : ℕ) : Type 0 where
   pub serves : Serves ns new
+  pub states : new.states ≡ old.states
   pub queries : queries_of new ≡ queries_of old
   pub between : ℕ
   pub tables : ArePartlyAt (length ns) (covered_of old) (covered_of new)
@@ -19,6 +20,7 @@ pub record GrowsTables (asked : Bool) (ns : List Node) (old new : Book) (before 
 -- only counting tables are new
 pub record GrowsCounts (ns : List Node) (old new : Book) (before after : ℕ) : Type 0 where
   pub serves : Serves ns new
+  pub states : new.states ≡ old.states
   pub queries : queries_of new ≡ queries_of old
   pub tables : covered_of new ≡ covered_of old
   pub counts : ArePartlyAt (length ns) (counted_of old) (counted_of new)

@@ -1,5 +1,5 @@
 //! The state of a session.
-ghost use Rattle.std.specs.Prelude.{◌≡◌, []};
+ghost use Rattle.std.specs.Prelude.{◌≡◌, ◌≤◌, []};
 ghost use Rattle.query_book.specs.Serving.{counted_of, covered_of};
 ghost use Rattle.session_state.specs.SessionState.{IsConsistent, state_of};
 ghost use Rattle.span_language.specs.State.{nothing};
@@ -21,9 +21,12 @@ pub struct SessionState {
 }
 
 impl SessionState {
-    /// No nodes, no documents, no queries and no versions.
-    pub fn new(alloc: Global) -> SessionState
-        ensures state { state_of result ≡ nothing }
+    /// No nodes, no documents, no queries and no versions. The automaton of a query may have at most `states` states, from
+    /// 128 to 1,024.
+    pub fn with_states(alloc: Global, states: u16) -> SessionState
+        requires few { 128 ≤ states }
+        requires many { states ≤ 1024 }
+        ensures state { state_of result ≡ nothing states }
         ensures session { IsConsistent result }
         ensures store { result.store ≡ [] }
         ensures covered { covered_of result.book ≡ [] }
@@ -33,7 +36,7 @@ impl SessionState {
             alloc,
             store: Store::new(alloc),
             docs: Docs::new(alloc),
-            book: QueryBook::new(alloc),
+            book: QueryBook::with_states(alloc, states),
             versions: Versions::new(alloc),
         }
     }

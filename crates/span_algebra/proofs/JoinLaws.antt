@@ -24,7 +24,7 @@ abbrev pub AreApart : List (List ℕ) → Type 0
 AreApart [] = Unit {0}
 AreApart (n ∷ ns) = (has_name ns n ≡ false) × AreApart ns
 
-pub same-pair : (l r k q : ℕ) → r < 128 → q < 128 → pair_of l r ≡ pair_of k q → (l ≡ k) × (r ≡ q)
+pub same-pair : (l r k q : ℕ) → r < 1024 → q < 1024 → pair_of l r ≡ pair_of k q → (l ≡ k) × (r ≡ q)
 same-pair l r k q lr lq e = (omega (arith, e), omega (arith, e))
 
 -- every mark is small

@@ -6,6 +6,8 @@ use Rattle.marker_nfa.specs.declared.nfa.Edge.{Edge}
 use Rattle.marker_dfa.specs.Deterministic.{DeterministicAutomaton}
 use Rattle.marker_dfa.proofs.Lists.{length_map, get_map}
 use Rattle.span_algebra.specs.declared.classes.Class.{Class}
+use Rattle.span_algebra.specs.declared.pairs.Pair.{Pair}
+use Rattle.span_algebra.specs.declared.pairs.PairStep.{PairStep}
 use Rattle.span_algebra.specs.Making.{IsCopiedEdge, letters_of}
 use Rattle.span_algebra.specs.Pairs.{IsNumbered}
 use Rattle.span_algebra.specs.Products.{AreFound}
@@ -33,11 +35,11 @@ letters-of-two a b left right base classes e0 e1 e2 none h g e k = by ((two-part
     by (inl c) = copied-letters a left 1 classes e c
     by (inr c) = copied-letters b right base classes e c
 
-pub letters-of-pairs : (a b : DeterministicAutomaton) (n : ℕ) (Step : ℕ → ℕ → ℕ → ℕ → Type 0) (classes : List Class) (pairs : List ℕ) (edges numbered : List Edge) → AreFound a b n Step classes (length pairs) pairs edges
-    → ((x : Edge) → Contains numbered x ↔ (e : Edge) × Contains edges e × IsNumbered pairs e x) → AreLettersOf numbered (letters_of classes)
-letters-of-pairs a b n Step classes pairs edges numbered found are x k =
+pub letters-of-pairs : (most : ℕ) (a b : DeterministicAutomaton) (n : ℕ) (Step : ℕ → ℕ → ℕ → ℕ → Type 0) (classes : List Class) (pairs : List Pair) (steps : List PairStep) (numbered : List Edge) → AreFound most a b n Step classes (length pairs) pairs steps
+    → ((x : Edge) → Contains numbered x ↔ (s : PairStep) × Contains steps s × IsNumbered pairs s x) → AreLettersOf numbered (letters_of classes)
+letters-of-pairs most a b n Step classes pairs steps numbered found are x k =
     let w = (are x).0 k in
-    let step = ((found.edges_are w.0).0 w.1).1 in
+    let step = ((found.steps_are w.0).0 w.1).1 in
     class-letters classes step.class x.letters step.among (w.2.letters ∙ step.letters)
 
 pub same-letters : (edges : List Edge) (classes others items : List Class) → classes ≡ items → others ≡ items → AreLettersOf edges (letters_of classes) → AreLettersOf edges (letters_of others)

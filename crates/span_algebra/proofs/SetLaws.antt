@@ -56,7 +56,7 @@ numbered-matched {Step = Step} {End = End} {pairs = pairs} is = record {
   starts = is.start;
   within = λ i o e. ((λ lt. is.within i o e), (λ lt. omega (arith, get_within pairs i o e, is.states)));
   one_right = one_value pairs;
-  one_left = is.few.apart;
+  one_left = is.apart;
   forth = λ i o m b j e s. (let g = is.step_to i m b j s in (g.1, subst (λ (x : ℕ). Step x m b g.1) (one_value pairs i g.0 o g.2 e) g.4, g.3));
   back = λ i o m b p e s. (let g = is.step_from i o m b p e s in (g.0, g.2, g.1));
   ends = λ i o m e. ((λ x. (let g = is.end_to i m x in subst (λ (z : ℕ). End z m) (one_value pairs i g.0 o g.1 e) g.2)), is.end_from i o m e);

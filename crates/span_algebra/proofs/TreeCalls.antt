@@ -35,7 +35,7 @@ module _ (l r : Query) (a b : DeterministicAutomaton) (va vb : List (List ℕ)) 
   pub union-count : (n : ℕ) → TreeCountIsAbove n (Union l r) → CountIsAbove n (union_size a b) (UnionStep a va b vb)
   union-count n h = to-names (λ v w. CountIsAbove n (union_size a b) (UnionStep a v b w)) ((counts-by-any.union n l r a b x y).0 h)
 
-  pub join-tree : states_of b ≤ 128 → (d : DeterministicAutomaton) (names : List (List ℕ)) → names ≡ both_names va vb → d.variables ≡ length names → IsAutomatonOf (join_size a) (JoinStep a va b vb) (JoinEnd a va b vb) d → IsTreeAutomaton (Join l r) d
+  pub join-tree : states_of b ≤ 1024 → (d : DeterministicAutomaton) (names : List (List ℕ)) → names ≡ both_names va vb → d.variables ≡ length names → IsAutomatonOf (join_size a) (JoinStep a va b vb) (JoinEnd a va b vb) d → IsTreeAutomaton (Join l r) d
   join-tree few d names e v h = record {
     left = a;
     right = b;
@@ -44,10 +44,10 @@ module _ (l r : Query) (a b : DeterministicAutomaton) (va vb : List (List ℕ)) 
     holds = (few, record { variables = as-many-names names d.variables e v; automaton = by-names (λ v w. IsAutomatonOf (join_size a) (JoinStep a v b w) (JoinEnd a v b w) d) h });
   }
 
-  pub join-above : states_of b ≤ 128 → (n : ℕ) → CountIsAbove n (join_size a) (JoinStep a va b vb) → TreeCountIsAbove n (Join l r)
+  pub join-above : states_of b ≤ 1024 → (n : ℕ) → CountIsAbove n (join_size a) (JoinStep a va b vb) → TreeCountIsAbove n (Join l r)
   join-above few n h = (counts-by-any.join n l r a b x y few).1 (by-names (λ v w. CountIsAbove n (join_size a) (JoinStep a v b w)) h)
 
-  pub join-count : states_of b ≤ 128 → (n : ℕ) → TreeCountIsAbove n (Join l r) → CountIsAbove n (join_size a) (JoinStep a va b vb)
+  pub join-count : states_of b ≤ 1024 → (n : ℕ) → TreeCountIsAbove n (Join l r) → CountIsAbove n (join_size a) (JoinStep a va b vb)
   join-count few n h = to-names (λ v w. CountIsAbove n (join_size a) (JoinStep a v b w)) ((counts-by-any.join n l r a b x y few).0 h)
 
 module _ (q : Query) (a : DeterministicAutomaton) (va keep : List (List ℕ)) (ea : va ≡ names_of q) (x : IsTreeAutomaton q a) where

@@ -50,5 +50,5 @@ position-parts f a is = record {
 pub leaf-automata : LeafAutomata
 leaf-automata = record {
   automaton = λ f ns a d count is stands same. record { variables = same.variables ∙ is.variables ∙ count; automaton = automaton-moved (parts-matched (position-parts f a is)) d stands };
-  count = λ f ns a is. (count-moved (parts-matched (position-parts f a is)) 128, count-moved (turned (parts-matched (position-parts f a is))) 128);
+  count = λ most f ns a is. (count-moved (parts-matched (position-parts f a is)) most, count-moved (turned (parts-matched (position-parts f a is))) most);
 }

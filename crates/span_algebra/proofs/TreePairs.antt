@@ -30,7 +30,7 @@ pairs-flipped A B o u x = record {
   there = x.here;
 }
 
-module _ (va vb : List (List ℕ)) (a a' b b' : DeterministicAutomaton) (A B : ℕ → ℕ → Type 0) (ha : AreSame a a' A) (hb : AreSame b b' B) (few : states_of b ≤ 128) (few' : states_of b' ≤ 128) where
+module _ (va vb : List (List ℕ)) (a a' b b' : DeterministicAutomaton) (A B : ℕ → ℕ → Type 0) (ha : AreSame a a' A) (hb : AreSame b b' B) (few : states_of b ≤ 1024) (few' : states_of b' ≤ 1024) where
   pair-within : (o u : ℕ) → JoinPair A B o u → (o < join_size a) × (u < join_size a')
   pair-within o u x =
       let l = ha.within x.left x.other_left x.left_pair in
@@ -83,7 +83,7 @@ module _ (va vb : List (List ℕ)) (a a' b b' : DeterministicAutomaton) (A B : �
         right_end = (hb.states.ends s.right k.right (mark_for vb names m) k.right_pair).0 s.right_end;
       }
 
-module _ (va vb : List (List ℕ)) (a a' b b' : DeterministicAutomaton) (A B : ℕ → ℕ → Type 0) (ha : AreSame a a' A) (hb : AreSame b b' B) (few : states_of b ≤ 128) (few' : states_of b' ≤ 128) where
+module _ (va vb : List (List ℕ)) (a a' b b' : DeterministicAutomaton) (A B : ℕ → ℕ → Type 0) (ha : AreSame a a' A) (hb : AreSame b b' B) (few : states_of b ≤ 1024) (few' : states_of b' ≤ 1024) where
   abbrev ga : AreSame a' a (λ r q. A q r)
   ga = turned-same a a' A ha
 

@@ -296,13 +296,13 @@ abbrev x_y : List (List ℕ)
 x_y = (120 ∷ []) ∷ (121 ∷ []) ∷ []
 
 module _ (a : DeterministicAutomaton) (is : HasOneStep 1 1 2 a) where
-  join-only : (m b p : ℕ) → JoinStep a x_name a y_name 0 m b p → (m ≡ 5) × (b ≡ 0) × (p ≡ 129)
+  join-only : (m b p : ℕ) → JoinStep a x_name a y_name 0 m b p → (m ≡ 5) × (b ≡ 0) × (p ≡ 1025)
   join-only m b p s =
       let k = (is.steps s.left (mark_for x_name x_y m) b s.next_left).0 s.left_step in
       let g = (is.steps s.right (mark_for y_name x_y m) b s.next_right).0 s.right_step in
       (five m (omega (arith, k.1)) (omega (arith, g.1)) s.mark, k.2, omega (arith, s.leads, k.3, g.3))
 
-  join-all : (p : ℕ) → p ≡ 129 → JoinStep a x_name a y_name 0 5 0 p
+  join-all : (p : ℕ) → p ≡ 1025 → JoinStep a x_name a y_name 0 5 0 p
   join-all p e = record {
     left = 0;
     right = 0;
@@ -316,7 +316,7 @@ module _ (a : DeterministicAutomaton) (is : HasOneStep 1 1 2 a) where
     leads = e;
   }
 
-  join-stops : (o m b p : ℕ) → o ≡ 129 → JoinStep a x_name a y_name o m b p → ⊥
+  join-stops : (o m b p : ℕ) → o ≡ 1025 → JoinStep a x_name a y_name o m b p → ⊥
   join-stops o m b p e s =
       let k = (is.steps s.left (mark_for x_name x_y m) b s.next_left).0 s.left_step in
       let g = (is.steps s.right (mark_for y_name x_y m) b s.next_right).0 s.right_step in
@@ -331,20 +331,20 @@ module _ (a : DeterministicAutomaton) (is : HasOneStep 1 1 2 a) where
       let g = (is.ends s.right (mark_for y_name x_y m)).0 s.right_end in
       ten m (omega (arith, k.1)) (omega (arith, g.1)) s.mark
 
-  join-end : JoinEnd a x_name a y_name 129 10
+  join-end : JoinEnd a x_name a y_name 1025 10
   join-end = record { left = 1; right = 1; from = refl; mark = omega arith; left_end = (is.ends 1 2).1 (refl, refl); right_end = (is.ends 1 2).1 (refl, refl) }
 
-  join-leads : LeadsTo (join_size a) (JoinStep a x_name a y_name) (JoinEnd a x_name a y_name) 5 10 (single 256 129)
+  join-leads : LeadsTo (join_size a) (JoinStep a x_name a y_name) (JoinEnd a x_name a y_name) 5 10 (single 2048 1025)
   join-leads = record {
-    size = omega (arith, single_size 256 129, is.states);
+    size = omega (arith, single_size 2048 1025, is.states);
     positive = omega (arith, is.states);
-    only = λ m b p s. (let k = join-only m b p s in (k.0, k.1, subst (λ (z : ℕ). IsIn (single 256 129) z) (sym k.2) (single_in 256 129 (omega arith))));
-    all = λ p i. join-all p (single_only 256 129 p i);
-    no_start = λ i. (let e = single_only 256 129 0 i in omega (arith, e));
-    stops = λ o m b p i s. join-stops o m b p (single_only 256 129 o i) s;
+    only = λ m b p s. (let k = join-only m b p s in (k.0, k.1, subst (λ (z : ℕ). IsIn (single 2048 1025) z) (sym k.2) (single_in 2048 1025 (omega arith))));
+    all = λ p i. join-all p (single_only 2048 1025 p i);
+    no_start = λ i. (let e = single_only 2048 1025 0 i in omega (arith, e));
+    stops = λ o m b p i s. join-stops o m b p (single_only 2048 1025 o i) s;
     start_end = join-start_end;
     one_end = λ o m i s. join-one_end o m s;
-    end = (129, single_in 256 129 (omega arith), join-end);
+    end = (1025, single_in 2048 1025 (omega arith), join-end);
   }
 
 leaf-row : (name : List ℕ) (d : DeterministicAutomaton) → HasOneStep 1 1 2 d → IsTreeAutomaton (one_byte name) d
@@ -365,7 +365,7 @@ tree-rows = record {
     right = a;
     left_is = leaf-row (120 ∷ []) a g;
     right_is = leaf-row (121 ∷ []) a g;
-    holds = (omega (arith, g.states), record { variables = h.count; automaton = one-step _ _ _ 2 5 10 (single 256 129) (join-leads a g) d h });
+    holds = (omega (arith, g.states), record { variables = h.count; automaton = one-step _ _ _ 2 5 10 (single 2048 1025) (join-leads a g) d h });
   };
   project = λ a d g h. record {
     source = a;

@@ -1,6 +1,5 @@
--- The steps and ends of a pair of states, as edges and ends of a join's automaton.
-use Rattle.std.specs.Prelude.{◌≡◌, ℕ, ◌/◌, ◌%◌, ◌<◌, ◌≤◌, ◌↔◌, List, length, Some, slice_get, Contains}
-use Rattle.marker_nfa.specs.declared.nfa.Edge.{Edge}
+-- The steps and ends of pairs of states, and the automaton of a join's reached pairs.
+use Rattle.std.specs.Prelude.{◌≡◌, ℕ, ◌<◌, ◌≤◌, ◌↔◌, List, length, map, Some, slice_get, Contains}
 use Rattle.marker_nfa.specs.declared.nfa.End.{End}
 use Rattle.marker_dfa.specs.Reached.{IsReached, single}
 use Rattle.marker_dfa.specs.Deterministic.{DeterministicAutomaton, ends_of, marks_of, next_of, states_of}
@@ -8,36 +7,38 @@ use Rattle.span_algebra.specs.declared.classes.Class.{Class}
 use Rattle.span_algebra.specs.declared.exploring.Explored.{Explored}
 use Rattle.span_algebra.specs.declared.joints.Joint.{Joint}
 use Rattle.span_algebra.specs.declared.joints.Meeting.{Meeting}
+use Rattle.span_algebra.specs.declared.pairs.Pair.{Pair}
+use Rattle.span_algebra.specs.declared.pairs.PairStep.{PairStep}
 use Rattle.marker_nfa.specs.Automaton.{Automaton, Moves, MayEnd}
 use Rattle.span_algebra.specs.Joints.{AreShortWith, IsJointAmong}
-use Rattle.span_algebra.specs.Pairs.{AreFew}
+use Rattle.span_algebra.specs.Pairs.{AreFew, number_of}
 use Rattle.span_algebra.specs.Renaming.{both_names}
-use Rattle.span_algebra.specs.TreeAutomaton.{JoinEnd, JoinStep, join_size, pair_of}
+use Rattle.span_algebra.specs.TreeAutomaton.{JoinEnd, JoinStep, join_size}
 
--- the step of a pair by a joint mark and the first byte of a class, as an edge between pairs
-abbrev pub IsPairStepBy : DeterministicAutomaton → DeterministicAutomaton → ℕ → ℕ → Class → Joint → Edge → Type 0
-IsPairStepBy a b left right c j e = (next_left : ℕ) × (next_right : ℕ) × (next_of a left j.left c.first ≡ Some next_left) × (next_of b right j.right c.first ≡ Some next_right) × (e ≡ record { from = pair_of left right; mark = j.mark; letters = c.letters; to = pair_of next_left next_right })
+-- the step of a pair by a joint mark and the first byte of a class
+abbrev pub IsPairStepBy : DeterministicAutomaton → DeterministicAutomaton → Pair → Class → Joint → PairStep → Type 0
+IsPairStepBy a b pair c j s = (next_left : ℕ) × (next_right : ℕ) × (next_of a pair.left j.left c.first ≡ Some next_left) × (next_of b pair.right j.right c.first ≡ Some next_right) × (s ≡ record { from = pair; mark = j.mark; letters = c.letters; to = record { left = next_left; right = next_right } })
 
 -- the same for some joint mark
-abbrev pub IsPairStepOf : DeterministicAutomaton → DeterministicAutomaton → Meeting → ℕ → ℕ → Class → Edge → Type 0
-IsPairStepOf a b t left right c e = (j : Joint) × IsJointAmong t (marks_of a left c.first) (marks_of b right c.first) j × IsPairStepBy a b left right c j e
+abbrev pub IsPairStepOf : DeterministicAutomaton → DeterministicAutomaton → Meeting → Pair → Class → PairStep → Type 0
+IsPairStepOf a b t pair c s = (j : Joint) × IsJointAmong t (marks_of a pair.left c.first) (marks_of b pair.right c.first) j × IsPairStepBy a b pair c j s
 
 -- the same for some class of a list
-abbrev pub IsPairStepAmong : DeterministicAutomaton → DeterministicAutomaton → Meeting → ℕ → ℕ → List Class → Edge → Type 0
-IsPairStepAmong a b t left right classes e = (c : Class) × Contains classes c × IsPairStepOf a b t left right c e
+abbrev pub IsPairStepAmong : DeterministicAutomaton → DeterministicAutomaton → Meeting → Pair → List Class → PairStep → Type 0
+IsPairStepAmong a b t pair classes s = (c : Class) × Contains classes c × IsPairStepOf a b t pair c s
 
 -- an end of a pair, which has this index
 abbrev pub IsPairEndBy : ℕ → Joint → End → Type 0
 IsPairEndBy place j e = e ≡ record { state = place; mark = j.mark }
 
-abbrev pub IsPairEndOf : DeterministicAutomaton → DeterministicAutomaton → Meeting → ℕ → ℕ → ℕ → End → Type 0
-IsPairEndOf a b t left right place e = (j : Joint) × IsJointAmong t (ends_of a left) (ends_of b right) j × IsPairEndBy place j e
+abbrev pub IsPairEndOf : DeterministicAutomaton → DeterministicAutomaton → Meeting → Pair → ℕ → End → Type 0
+IsPairEndOf a b t pair place e = (j : Joint) × IsJointAmong t (ends_of a pair.left) (ends_of b pair.right) j × IsPairEndBy place j e
 
 -- an end of a pair of a list
-pub record IsPairEnd (a b : DeterministicAutomaton) (t : Meeting) (pairs : List ℕ) (e : End) : Type 0 where
-  pub pair : ℕ
+pub record IsPairEnd (a b : DeterministicAutomaton) (t : Meeting) (pairs : List Pair) (e : End) : Type 0 where
+  pub pair : Pair
   pub there : slice_get pairs e.state ≡ Some pair
-  pub end : IsPairEndOf a b t (pair / 128) (pair % 128) e.state e
+  pub end : IsPairEndOf a b t pair e.state e
 
 -- the sum of the mark of a left step or end and what any mark of the right adds fits 16 bits
 pub record AreShortSteps (a : DeterministicAutomaton) (t : Meeting) : Type 0 where
@@ -45,34 +46,37 @@ pub record AreShortSteps (a : DeterministicAutomaton) (t : Meeting) : Type 0 whe
   pub ends : (q : ℕ) → AreShortWith t (ends_of a q)
 
 -- both states of a pair exist
-abbrev pub IsPair : DeterministicAutomaton → DeterministicAutomaton → ℕ → Type 0
-IsPair a b o = (o / 128 < states_of a) × (o % 128 < states_of b)
+abbrev pub IsPair : DeterministicAutomaton → DeterministicAutomaton → Pair → Type 0
+IsPair a b p = (p.left < states_of a) × (p.right < states_of b)
 
--- a step by the first byte of a class, with all of its bytes
-pub record IsStepEdge (Step : ℕ → ℕ → ℕ → ℕ → Type 0) (classes : List Class) (e : Edge) : Type 0 where
+-- a step by the first byte of a class, with all of its bytes, to the pair with the occurrence's number
+pub record IsStepOf (Step : ℕ → ℕ → ℕ → ℕ → Type 0) (classes : List Class) (s : PairStep) : Type 0 where
   pub class : Class
   pub among : Contains classes class
-  pub letters : e.letters ≡ class.letters
-  pub step : Step e.from e.mark class.first e.to
+  pub letters : s.letters ≡ class.letters
+  pub step : Step (number_of s.from) s.mark class.first (number_of s.to)
+  pub below : s.to.right < 1024
 
 -- the pair is one of the first k
-abbrev pub IsAmongFirst : ℕ → List ℕ → ℕ → Type 0
-IsAmongFirst k pairs o = (i : ℕ) × (i < k) × (slice_get pairs i ≡ Some o)
+abbrev pub IsAmongFirst : ℕ → List Pair → Pair → Type 0
+IsAmongFirst k pairs p = (i : ℕ) × (i < k) × (slice_get pairs i ≡ Some p)
 
--- distinct reached pairs, the first for the start, and the edges of the first k of them, which lead to pairs of them
-pub record AreFound (a b : DeterministicAutomaton) (n : ℕ) (Step : ℕ → ℕ → ℕ → ℕ → Type 0) (classes : List Class) (k : ℕ) (pairs : List ℕ) (edges : List Edge) : Type 0 where
-  pub few : AreFew pairs
+-- at most `most` distinct reached pairs, the first for the start, and the steps of the first k of them, which lead to
+-- pairs of them
+pub record AreFound (most : ℕ) (a b : DeterministicAutomaton) (n : ℕ) (Step : ℕ → ℕ → ℕ → ℕ → Type 0) (classes : List Class) (k : ℕ) (pairs : List Pair) (steps : List PairStep) : Type 0 where
+  pub few : AreFew most pairs
   pub passed : k ≤ length pairs
-  pub start : slice_get pairs 0 ≡ Some 0
-  pub within : (o : ℕ) → Contains pairs o → IsPair a b o
-  pub reached : (o : ℕ) → Contains pairs o → IsReached n Step (single n o)
-  pub edges_are : (e : Edge) → Contains edges e ↔ IsAmongFirst k pairs e.from × IsStepEdge Step classes e
-  pub closed : (e : Edge) → Contains edges e → Contains pairs e.to
+  pub start : slice_get pairs 0 ≡ Some (record { left = 0; right = 0 })
+  pub within : (p : Pair) → Contains pairs p → IsPair a b p
+  pub reached : (p : Pair) → Contains pairs p → IsReached n Step (single n (number_of p))
+  pub steps_are : (s : PairStep) → Contains steps s ↔ IsAmongFirst k pairs s.from × IsStepOf Step classes s
+  pub closed : (s : PairStep) → Contains steps s → Contains pairs s.to
 
--- An automaton whose states are the indices of occurrences, among them every one to which a step leads from another.
+-- An automaton whose states are the indices of distinct occurrences, among them every one to which a step leads from
+-- another.
 pub record HasNumbered (n : ℕ) (Step : ℕ → ℕ → ℕ → ℕ → Type 0) (End : ℕ → ℕ → Type 0) (pairs : List ℕ) (a : Automaton) : Type 0 where
   pub states : a.states ≡ length pairs
-  pub few : AreFew pairs
+  pub apart : (i j o : ℕ) → slice_get pairs i ≡ Some o → slice_get pairs j ≡ Some o → i ≡ j
   pub start : slice_get pairs 0 ≡ Some 0
   pub within : (i o : ℕ) → slice_get pairs i ≡ Some o → o < n
   pub step_to : (i m b j : ℕ) → Moves a i m b j → (o : ℕ) × (p : ℕ) × (slice_get pairs i ≡ Some o) × (slice_get pairs j ≡ Some p) × Step o m b p
@@ -80,12 +84,12 @@ pub record HasNumbered (n : ℕ) (Step : ℕ → ℕ → ℕ → ℕ → Type 0)
   pub end_to : (i m : ℕ) → MayEnd a i m → (o : ℕ) × (slice_get pairs i ≡ Some o) × End o m
   pub end_from : (i o m : ℕ) → slice_get pairs i ≡ Some o → End o m → MayEnd a i m
 
--- the pairs that a join reaches, and their edges by classes of bytes
-pub record IsExplored (a : DeterministicAutomaton) (va : List (List ℕ)) (b : DeterministicAutomaton) (vb : List (List ℕ)) (classes : List Class) (x : Explored) : Type 0 where
-  pub found : AreFound a b (join_size a) (JoinStep a va b vb) classes (length x.pairs.items) x.pairs.items x.edges.items
+-- the pairs that a join reaches, at most `most`, and their steps by classes of bytes
+pub record IsExplored (most : ℕ) (a : DeterministicAutomaton) (va : List (List ℕ)) (b : DeterministicAutomaton) (vb : List (List ℕ)) (classes : List Class) (x : Explored) : Type 0 where
+  pub found : AreFound most a b (join_size a) (JoinStep a va b vb) classes (length x.pairs.items) x.pairs.items x.steps.items
 
 -- an automaton of a join's reached pairs
 pub record IsJoinNfa (a : DeterministicAutomaton) (va : List (List ℕ)) (b : DeterministicAutomaton) (vb : List (List ℕ)) (n : Automaton) : Type 0 where
   pub variables : n.variables ≡ length (both_names va vb)
-  pub pairs : List ℕ
-  pub parts : HasNumbered (join_size a) (JoinStep a va b vb) (JoinEnd a va b vb) pairs n
+  pub pairs : List Pair
+  pub parts : HasNumbered (join_size a) (JoinStep a va b vb) (JoinEnd a va b vb) (map number_of pairs) n

@@ -3,7 +3,7 @@ use Rattle.std.specs.Prelude.{◌≡◌, ℕ, ◌<◌, ◌≤◌, List, length, 
 use Rattle.span_algebra.specs.declared.refusal.AlgebraRefusal.{AlgebraRefusal}
 use Rattle.span_algebra.specs.declared.refusal.AlgebraRefusal.TheVariants.{TooManyVariables, TooManyStates, NoMemory}
 
--- the error of an operation with this many variables; P says that its count is above 128
+-- the error of an operation with this many variables; P says that its count is above the limit
 abbrev pub IsRefused : ℕ → Type 0 → AlgebraRefusal → Type 0
 IsRefused variables P TooManyVariables = 8 < variables
 IsRefused variables P TooManyStates = (variables ≤ 8) × P

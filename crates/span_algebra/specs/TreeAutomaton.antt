@@ -43,13 +43,13 @@ ProjectStep a va keep o m b p = CopiedStep keep va 0 a o m b p
 abbrev pub ProjectEnd : DeterministicAutomaton → List (List ℕ) → List (List ℕ) → ℕ → ℕ → Type 0
 ProjectEnd a va keep o m = CopiedEnd keep va 0 a o m
 
--- Join: the occurrences are the pairs of a left and a right state. A state is less than 128, so this numbers them.
+-- Join: the occurrences are the pairs of a left and a right state. A state is less than 1024, so this numbers them.
 abbrev pub pair_of : ℕ → ℕ → ℕ
-pair_of left right = 128 * left + right
+pair_of left right = 1024 * left + right
 
 -- more than the number of each pair
 abbrev pub join_size : DeterministicAutomaton → ℕ
-join_size a = 128 * states_of a
+join_size a = 1024 * states_of a
 
 -- both sides step, each by its own variables' markers
 pub record JoinStep (a : DeterministicAutomaton) (va : List (List ℕ)) (b : DeterministicAutomaton) (vb : List (List ℕ)) (o m c p : ℕ) : Type 0 where

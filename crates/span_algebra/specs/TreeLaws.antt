@@ -30,7 +30,7 @@ OneAutomaton = (q : Query) (d e : DeterministicAutomaton) → IsTreeAutomaton q 
 pub record CountsByAny : Type 0 where
   pub union : (n : ℕ) (l r : Query) (a b : DeterministicAutomaton) → IsTreeAutomaton l a → IsTreeAutomaton r b
       → TreeCountIsAbove n (Union l r) ↔ CountIsAbove n (union_size a b) (UnionStep a (names_of l) b (names_of r))
-  pub join : (n : ℕ) (l r : Query) (a b : DeterministicAutomaton) → IsTreeAutomaton l a → IsTreeAutomaton r b → states_of b ≤ 128
+  pub join : (n : ℕ) (l r : Query) (a b : DeterministicAutomaton) → IsTreeAutomaton l a → IsTreeAutomaton r b → states_of b ≤ 1024
       → TreeCountIsAbove n (Join l r) ↔ CountIsAbove n (join_size a) (JoinStep a (names_of l) b (names_of r))
   pub project : (n : ℕ) (q : Query) (keep : List (List ℕ)) (a : DeterministicAutomaton) → IsTreeAutomaton q a
       → TreeCountIsAbove n (Project q keep) ↔ CountIsAbove n (states_of a) (ProjectStep a (names_of q) keep)
@@ -39,12 +39,12 @@ pub record CountsByAny : Type 0 where
 abbrev pub CountIsStates : Type 0
 CountIsStates = (n : ℕ) (q : Query) (d : DeterministicAutomaton) → IsTreeAutomaton q d → TreeCountIsAbove n q ↔ n < states_of d
 
--- the subset construction turns a formula's position automaton into an automaton of the Leaf, and it has too many
--- states exactly if the count is above 128
+-- the subset construction turns a formula's position automaton into an automaton of the Leaf, and it has more states
+-- than a limit exactly if the count is above it
 pub record LeafAutomata : Type 0 where
   pub automaton : (f : FormulaTree) (names : List (List ℕ)) (a : Automaton) (d : DeterministicAutomaton) → var_bound f ≡ length names
       → IsPositionAutomaton f a → StandsFor a d → AcceptsSame a d → IsTreeAutomaton (Leaf f names) d
-  pub count : (f : FormulaTree) (names : List (List ℕ)) (a : Automaton) → IsPositionAutomaton f a → AreTooMany a ↔ TreeCountIsAbove 128 (Leaf f names)
+  pub count : (most : ℕ) (f : FormulaTree) (names : List (List ℕ)) (a : Automaton) → IsPositionAutomaton f a → AreTooMany most a ↔ TreeCountIsAbove most (Leaf f names)
 
 -- the query of x{0}, which has a byte 0 and a variable of this name around it
 abbrev pub one_byte : List ℕ → Query

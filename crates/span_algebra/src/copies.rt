@@ -24,23 +24,24 @@ pub struct OperandCopy<'a> {
 fn push_edge(
     copy: OperandCopy<'_>,
     from: u16,
-    state: u8,
+    state: u16,
     class: &Class,
     mark: u16,
     edges: &mut Vec<Edge>,
 ) -> Result<(), NoMemory>
     requires few { length copy.places.now ≤ 8 }
     requires places { ArePlaces copy.places.now }
-    requires base { copy.base ≤ 1000 }
+    requires base { copy.base ≤ 1025 }
     requires state { state < states_of copy.dfa.now }
     ensures { IfOk result (λ _. Adds edges.old.items edges.new.items (IsEdgeBy copy.entry.dfa.now copy.entry.places.now from copy.entry.base state class.now mark)) }
 {
+    let states = copy.dfa.states();
     if let Some(next) = copy.dfa.next(state, mark, class.first) {
         edges.push(Edge {
             from,
             mark: mark_at(copy.places, mark),
             letters: class.letters,
-            to: copy.base + u16::from(next),
+            to: copy.base + next,
         })?;
     }
     Ok(())
@@ -50,13 +51,13 @@ fn push_edge(
 fn push_class(
     copy: OperandCopy<'_>,
     from: u16,
-    state: u8,
+    state: u16,
     class: &Class,
     edges: &mut Vec<Edge>,
 ) -> Result<(), NoMemory>
     requires few { length copy.places.now ≤ 8 }
     requires places { ArePlaces copy.places.now }
-    requires base { copy.base ≤ 1000 }
+    requires base { copy.base ≤ 1025 }
     requires state { state < states_of copy.dfa.now }
     ensures { IfOk result (λ _. Adds edges.old.items edges.new.items (IsEdgeOf copy.entry.dfa.now copy.entry.places.now from copy.entry.base state class.now)) }
 {
@@ -71,13 +72,13 @@ fn push_class(
 fn push_state(
     copy: OperandCopy<'_>,
     from: u16,
-    state: u8,
+    state: u16,
     classes: &[Class],
     edges: &mut Vec<Edge>,
 ) -> Result<(), NoMemory>
     requires few { length copy.places.now ≤ 8 }
     requires places { ArePlaces copy.places.now }
-    requires base { copy.base ≤ 1000 }
+    requires base { copy.base ≤ 1025 }
     requires state { state < states_of copy.dfa.now }
     ensures { IfOk result (λ _. Adds edges.old.items edges.new.items (IsEdgeAmong copy.entry.dfa.now copy.entry.places.now from copy.entry.base state classes.now)) }
 {
@@ -96,12 +97,11 @@ pub fn push_edges(
 ) -> Result<(), NoMemory>
     requires few { length copy.places.now ≤ 8 }
     requires places { ArePlaces copy.places.now }
-    requires base { copy.base ≤ 1000 }
+    requires base { copy.base ≤ 1025 }
     ensures { IfOk result (λ _. Adds edges.old.items edges.new.items (IsCopiedEdge copy.entry.dfa.now copy.entry.places.now copy.entry.base classes.now)) }
 {
     for state in 0..copy.dfa.states() {
-        let from = copy.base + u16::from(state);
-        push_state(copy, from, state, classes, edges)?;
+        push_state(copy, copy.base + state, state, classes, edges)?;
     }
     push_state(copy, 0, 0, classes, edges)
 }
@@ -110,7 +110,7 @@ pub fn push_edges(
 fn push_state_ends(
     copy: OperandCopy<'_>,
     from: u16,
-    state: u8,
+    state: u16,
     ends: &mut Vec<End>,
 ) -> Result<(), NoMemory>
     requires few { length copy.places.now ≤ 8 }
@@ -131,12 +131,11 @@ fn push_state_ends(
 pub fn push_ends(copy: OperandCopy<'_>, ends: &mut Vec<End>) -> Result<(), NoMemory>
     requires few { length copy.places.now ≤ 8 }
     requires places { ArePlaces copy.places.now }
-    requires base { copy.base ≤ 1000 }
+    requires base { copy.base ≤ 1025 }
     ensures { IfOk result (λ _. Adds ends.old.items ends.new.items (IsCopiedEnd copy.entry.dfa.now copy.entry.places.now copy.entry.base)) }
 {
     for state in 0..copy.dfa.states() {
-        let from = copy.base + u16::from(state);
-        push_state_ends(copy, from, state, ends)?;
+        push_state_ends(copy, copy.base + state, state, ends)?;
     }
     push_state_ends(copy, 0, 0, ends)
 }

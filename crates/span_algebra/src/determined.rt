@@ -1,6 +1,6 @@
 //! The deterministic automaton of an operation's occurrences.
 
-ghost use Rattle.std.specs.Prelude.{◌≡◌, IfErr, IfOk};
+ghost use Rattle.std.specs.Prelude.{◌≡◌, ◌≤◌, IfErr, IfOk};
 ghost use Rattle.marker_nfa.specs.Automaton.{AreLettersOf};
 ghost use Rattle.marker_dfa.specs.Deterministic.{AcceptsSame, AreTooMany, StandsFor};
 ghost use Rattle.span_algebra.specs.Making.{letters_of};
@@ -13,6 +13,9 @@ use marker_nfa::Nfa;
 use span_types::{ByteSet, NoMemory};
 use std::alloc::Global;
 
+/// The greatest number of states where the caller sets none.
+pub const USUAL_MOST: u16 = 128;
+
 /// The byte sets of classes.
 fn sets_of(alloc: Global, classes: &[Class]) -> Result<Vec<ByteSet>, NoMemory>
     ensures { IfOk result (λ sets. sets.items ≡ letters_of classes.now) }
@@ -20,16 +23,24 @@ fn sets_of(alloc: Global, classes: &[Class]) -> Result<Vec<ByteSet>, NoMemory>
     Ok(classes.iter().map(|class| class.letters).collect(alloc)?)
 }
 
-/// The automaton whose states are the reached sets of occurrences. The byte set of each edge is that of a class.
-pub fn determined(alloc: Global, nfa: &Nfa, classes: &[Class]) -> Result<Dfa, AlgebraRefusal>
-    requires { AreLettersOf nfa.now.edges (letters_of classes.now) }
+/// The automaton whose states are the reached sets of occurrences, at most `most`. The byte set of each edge is that of
+/// a class.
+pub fn determined(
+    alloc: Global,
+    nfa: &Nfa,
+    classes: &[Class],
+    most: u16,
+) -> Result<Dfa, AlgebraRefusal>
+    requires letters { AreLettersOf nfa.now.edges (letters_of classes.now) }
+    requires few { 128 ≤ most }
+    requires many { most ≤ 1024 }
     ensures states { IfOk result (StandsFor nfa.now) }
     ensures accepts { IfOk result (AcceptsSame nfa.now) }
-    ensures few { IfOk result (λ _. AreTooMany nfa.now → ⊥) }
-    ensures refused { IfErr result (IsRefused 0 (AreTooMany nfa.now)) }
+    ensures few { IfOk result (λ _. AreTooMany most nfa.now → ⊥) }
+    ensures refused { IfErr result (IsRefused 0 (AreTooMany most nfa.now)) }
 {
     let sets = sets_of(alloc, classes)?;
-    match determinise_over(alloc, nfa, &sets) {
+    match determinise_over(alloc, nfa, &sets, most) {
         Ok(dfa) => Ok(dfa),
         Err(DfaRefusal::TooManyStates) => Err(AlgebraRefusal::TooManyStates),
         Err(DfaRefusal::NoMemory) => Err(AlgebraRefusal::NoMemory),

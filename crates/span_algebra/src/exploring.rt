@@ -1,6 +1,6 @@
 //! The pairs of states that a join reaches, found from the pair of the starts on.
 
-ghost use Rattle.std.specs.Prelude.{◌≡◌, ◌∷◌, ◌++◌, [], IfErr, IfOk, length};
+ghost use Rattle.std.specs.Prelude.{◌≡◌, ◌≤◌, ◌∷◌, ◌++◌, [], IfErr, IfOk, length};
 ghost use Rattle.marker_dfa.specs.Reached.{CountIsAbove};
 ghost use Rattle.span_algebra.specs.Making.{AreClasses};
 ghost use Rattle.span_algebra.specs.Products.{IsExplored};
@@ -9,54 +9,57 @@ ghost use Rattle.span_algebra.specs.Renaming.{both_names};
 ghost use Rattle.span_algebra.specs.TreeAutomaton.{JoinStep, join_size};
 
 use crate::classes::Class;
+use crate::hints::Hints;
 use crate::joints::meeting_of;
 use crate::names::Operand;
-use crate::pairs::put_targets;
-use crate::product::{Sides, edges_of};
+use crate::pairs::{Pair, PairStep, put_targets};
+use crate::product::{Sides, steps_of};
 use crate::refusal::AlgebraRefusal;
-use marker_nfa::Edge;
 use span_types::{NoMemory, Vars};
 use std::alloc::Global;
 
-/// Pairs of states, and the edges between them.
+/// Pairs of states, hints to their indices, and the steps between them.
 #[derive(Drop)]
 pub struct Explored {
-    pub pairs: Vec<u16>,
-    pub edges: Vec<Edge>,
+    pub pairs: Vec<Pair>,
+    pub hints: Hints,
+    pub steps: Vec<PairStep>,
 }
 
 /// The pair of the starts, alone in a list.
-fn start_pairs(alloc: Global) -> Result<Vec<u16>, NoMemory>
-    ensures { IfOk result (λ pairs. pairs.items ≡ 0 ∷ []) }
+fn start_pairs(alloc: Global) -> Result<Vec<Pair>, NoMemory>
+    ensures { IfOk result (λ pairs. pairs.items ≡ record { left = 0; right = 0 } ∷ []) }
 {
     let mut pairs = Vec::new(alloc);
-    pairs.push(0)?;
+    pairs.push(Pair { left: 0, right: 0 })?;
     Ok(pairs)
 }
 
-/// Appends edges.
-fn put_edges(edges: &mut Vec<Edge>, more: &[Edge]) -> Result<(), NoMemory>
-    ensures { IfOk result (λ _. edges.new.items ≡ edges.old.items ++ more.now) }
+/// Appends steps.
+fn put_steps(steps: &mut Vec<PairStep>, more: &[PairStep]) -> Result<(), NoMemory>
+    ensures { IfOk result (λ _. steps.new.items ≡ steps.old.items ++ more.now) }
 {
-    edges.extend_from_slice(more)?;
+    steps.extend_from_slice(more)?;
     Ok(())
 }
 
-/// The pairs that are reached and their edges. It ends at the 129th pair.
+/// The pairs that are reached and their steps. It ends when there are more than `most` pairs.
 pub fn explore(
     alloc: Global,
     left: Operand<'_>,
     right: Operand<'_>,
     names: &Vars,
     classes: &[Class],
+    most: u16,
 ) -> Result<Explored, AlgebraRefusal>
     requires left { length left.names.now ≡ left.dfa.now.variables }
     requires right { length right.names.now ≡ right.dfa.now.variables }
     requires names { names.now ≡ both_names left.names.now right.names.now }
     requires of_left { AreClasses left.dfa.now classes.now }
     requires of_right { AreClasses right.dfa.now classes.now }
-    ensures explored { IfOk result (IsExplored left.entry.dfa.now left.entry.names.now right.entry.dfa.now right.entry.names.now classes.now) }
-    ensures refused { IfErr result (IsRefused 0 (CountIsAbove 128 (join_size left.entry.dfa.now) (JoinStep left.entry.dfa.now left.entry.names.now right.entry.dfa.now right.entry.names.now))) }
+    requires some { 1 ≤ most }
+    ensures explored { IfOk result (IsExplored most left.entry.dfa.now left.entry.names.now right.entry.dfa.now right.entry.names.now classes.now) }
+    ensures refused { IfErr result (IsRefused 0 (CountIsAbove most (join_size left.entry.dfa.now) (JoinStep left.entry.dfa.now left.entry.names.now right.entry.dfa.now right.entry.names.now))) }
 {
     let left_states = left.dfa.states();
     let right_states = right.dfa.states();
@@ -70,13 +73,18 @@ pub fn explore(
         meeting: &meeting,
     };
     let mut pairs = start_pairs(alloc)?;
-    let mut edges = Vec::new(alloc);
+    let mut hints = Hints::new(alloc, right_states);
+    let mut steps = Vec::new(alloc);
     let mut done = 0;
     'pairs: while done < pairs.len() {
-        let found = edges_of(alloc, sides, pairs[done], classes)?;
-        put_targets(&mut pairs, &found)?;
-        put_edges(&mut edges, &found)?;
+        let found = steps_of(alloc, sides, pairs[done], classes)?;
+        put_targets(alloc, &mut pairs, &mut hints, &found, most)?;
+        put_steps(&mut steps, &found)?;
         done += 1;
     }
-    Ok(Explored { pairs, edges })
+    Ok(Explored {
+        pairs,
+        hints,
+        steps,
+    })
 }

@@ -15,12 +15,15 @@
 //!
 //! Bytes that share a class in each operand share one, so bytes aren't processed one by one. A union or a projection
 //! takes one step for each state, class and mark of its operands. A join takes one for each class and each pair of a
-//! left and a right mark, for the pairs of states that it reaches and no other, and ends at the 129th pair. Both sides
-//! are deterministic, so a mark and a byte lead from a pair to at most one pair. The subset construction ends at the 129th
-//! state.
+//! left and a right mark, for the pairs of states that it reaches and no other. Both sides are deterministic, so a mark
+//! and a byte lead from a pair to at most one pair. A new pair is compared with all pairs found before it, and a known
+//! one is found by its hint. A join ends when it reaches more pairs than the limit of states, and the subset
+//! construction when it reaches more sets. The limit is 128. `union_within`, `join_within` and `project_within` take
+//! another, up to 1,024.
 //!
 //! Proved: The automata of a union, join and projection: exactly the operation's answers, and exact rejections
-//! (`union`, `join`, `project`). A query's automaton is unique up to the numbers of its states (`law`).
+//! (`union_within`, `join_within`, `project_within`). A query's automaton is unique up to the numbers of its states
+//! (`law`).
 //!
 //! Tested: Error texts.
 //!
@@ -31,6 +34,7 @@ mod classes;
 mod copies;
 mod determined;
 mod exploring;
+mod hints;
 mod joins;
 mod joints;
 pub mod law;
@@ -42,7 +46,7 @@ mod projections;
 mod refusal;
 mod unions;
 
-pub use joins::join;
-pub use projections::project;
+pub use joins::{join, join_within};
+pub use projections::{project, project_within};
 pub use refusal::AlgebraRefusal;
-pub use unions::union;
+pub use unions::{union, union_within};

@@ -1,23 +1,51 @@
-//! Lists of pairs of states, each pair as a number, and edges between their indices.
+//! Lists of pairs of states, and steps between them.
 
-ghost use Rattle.std.specs.Prelude.{◌≡◌, ℕ, ◌<◌, ◌↔◌, ◌++◌, ◌∷◌, [], Contains, IfErr, IfOk, MatchOption, Some, length, slice_get};
+ghost use Rattle.std.specs.Prelude.{◌≡◌, ◌↔◌, ◌++◌, ◌∷◌, [], Contains, IfErr, IfOk, IsTrue, MatchOption, Some, slice_get};
 ghost use Rattle.marker_nfa.specs.declared.nfa.Edge.{Edge};
 ghost use Rattle.marker_nfa.specs.Parts.{Adds};
+ghost use Rattle.span_algebra.specs.declared.pairs.PairStep.{PairStep};
 ghost use Rattle.span_algebra.specs.Pairs.{AreFew, Gains, IsBetween, IsNumbered, IsTargetAmong, NoRoom};
 ghost use Rattle.span_algebra.specs.Refusals.{IsRefused};
 
+use crate::hints::Hints;
 use crate::refusal::AlgebraRefusal;
 use marker_nfa::Edge;
-use span_types::NoMemory;
+use span_types::{ByteSet, NoMemory};
 use std::alloc::Global;
 
-/// The maximum number of pairs.
-const LIMIT: usize = 128;
+/// A state of each side of a join.
+#[derive(Clone, Copy, PartialEq, Eq)]
+pub struct Pair {
+    pub left: u16,
+    pub right: u16,
+}
 
-/// The index of a pair, if it is there.
-fn place_of(pairs: &[u16], pair: u16) -> Option<usize>
+/// A step from one pair to another: it reads a mark and then one of the letters.
+#[derive(Clone, Copy)]
+pub struct PairStep {
+    pub from: Pair,
+    pub mark: u16,
+    pub letters: ByteSet,
+    pub to: Pair,
+}
+
+/// Whether a pair is at an index.
+fn stands_at(pairs: &[Pair], pair: Pair, place: usize) -> bool
+    ensures { IsTrue result → slice_get pairs.now place ≡ Some pair }
+{
+    match pairs.get(place) {
+        Some(other) => *other == pair,
+        None => false,
+    }
+}
+
+/// The index of a pair, if it is there. The index in the hint is tested first.
+fn place_of(pairs: &[Pair], pair: Pair, hint: u16) -> Option<usize>
     ensures { MatchOption result (Contains pairs.now pair → ⊥) (λ i. slice_get pairs.now i ≡ Some pair) }
 {
+    if stands_at(pairs, pair, hint as usize) {
+        return Some(hint as usize);
+    }
     for (place, other) in pairs.iter().enumerate() {
         if *other == pair {
             return Some(place);
@@ -27,77 +55,100 @@ fn place_of(pairs: &[u16], pair: u16) -> Option<usize>
 }
 
 /// Appends a pair.
-fn push_pair(pairs: &mut Vec<u16>, pair: u16) -> Result<(), NoMemory>
+fn push_pair(pairs: &mut Vec<Pair>, pair: Pair) -> Result<(), NoMemory>
     ensures { IfOk result (λ _. pairs.new.items ≡ pairs.old.items ++ pair ∷ []) }
 {
     pairs.push(pair)?;
     Ok(())
 }
 
-/// Appends a pair, unless it is there.
-fn put_pair(pairs: &mut Vec<u16>, pair: u16) -> Result<(), AlgebraRefusal>
-    requires { AreFew pairs.old.items }
-    ensures gains { IfOk result (λ _. Gains (λ o. o ≡ pair) pairs.old.items pairs.new.items) }
-    ensures refused { IfErr result (IsRefused 0 (NoRoom (λ o. o ≡ pair) pairs.old.items)) }
+/// Appends a pair, unless it is there. There is room for `most` pairs.
+fn put_pair(
+    alloc: Global,
+    pairs: &mut Vec<Pair>,
+    hints: &mut Hints,
+    pair: Pair,
+    most: u16,
+) -> Result<(), AlgebraRefusal>
+    requires { AreFew most pairs.old.items }
+    ensures gains { IfOk result (λ _. Gains most (λ p. p ≡ pair) pairs.old.items pairs.new.items) }
+    ensures refused { IfErr result (IsRefused 0 (NoRoom most (λ p. p ≡ pair) pairs.old.items)) }
 {
-    if place_of(pairs, pair).is_some() {
+    if place_of(pairs, pair, hints.get(pair)).is_some() {
         return Ok(());
     }
-    if pairs.len() == LIMIT {
+    if pairs.len() == most as usize {
         return Err(AlgebraRefusal::TooManyStates);
     }
+    hints.set(alloc, pair, pairs.len() as u16)?;
     push_pair(pairs, pair)?;
     Ok(())
 }
 
-/// Appends the pairs to which some edges lead, each unless it is there.
-pub fn put_targets(pairs: &mut Vec<u16>, edges: &[Edge]) -> Result<(), AlgebraRefusal>
-    requires { AreFew pairs.old.items }
-    ensures gains { IfOk result (λ _. Gains (IsTargetAmong edges.now) pairs.old.items pairs.new.items) }
-    ensures refused { IfErr result (IsRefused 0 (NoRoom (IsTargetAmong edges.now) pairs.old.items)) }
+/// Appends the pairs to which some steps lead, each unless it is there.
+pub fn put_targets(
+    alloc: Global,
+    pairs: &mut Vec<Pair>,
+    hints: &mut Hints,
+    steps: &[PairStep],
+    most: u16,
+) -> Result<(), AlgebraRefusal>
+    requires { AreFew most pairs.old.items }
+    ensures gains { IfOk result (λ _. Gains most (IsTargetAmong steps.now) pairs.old.items pairs.new.items) }
+    ensures refused { IfErr result (IsRefused 0 (NoRoom most (IsTargetAmong steps.now) pairs.old.items)) }
 {
-    for edge in edges {
-        put_pair(pairs, edge.to)?;
+    for step in steps {
+        put_pair(alloc, pairs, hints, step.to, most)?;
     }
     Ok(())
 }
 
 /// The index of a pair that is there.
-fn number_of(pairs: &[u16], pair: u16) -> u16
-    requires few { AreFew pairs.now }
+fn index_of(pairs: &[Pair], hints: &Hints, pair: Pair) -> u16
+    requires few { AreFew 1024 pairs.now }
     requires there { Contains pairs.now pair }
     ensures { slice_get pairs.now result ≡ Some pair }
 {
-    match place_of(pairs, pair) {
+    match place_of(pairs, pair, hints.get(pair)) {
         Some(place) => place as u16,
         None => unreachable!(),
     }
 }
 
-/// Appends an edge between pairs to a list, as one between their indices.
-fn push_numbered(pairs: &[u16], edge: &Edge, numbered: &mut Vec<Edge>) -> Result<(), NoMemory>
-    requires few { AreFew pairs.now }
-    requires between { IsBetween pairs.now edge.now }
-    ensures { IfOk result (λ _. Adds numbered.old.items numbered.new.items (IsNumbered pairs.now edge.now)) }
+/// Appends a step between pairs to a list, as an edge between their indices.
+fn push_numbered(
+    pairs: &[Pair],
+    hints: &Hints,
+    step: &PairStep,
+    edges: &mut Vec<Edge>,
+) -> Result<(), NoMemory>
+    requires few { AreFew 1024 pairs.now }
+    requires between { IsBetween pairs.now step.now }
+    ensures { IfOk result (λ _. Adds edges.old.items edges.new.items (IsNumbered pairs.now step.now)) }
 {
-    numbered.push(Edge {
-        from: number_of(pairs, edge.from),
-        mark: edge.mark,
-        letters: edge.letters,
-        to: number_of(pairs, edge.to),
+    edges.push(Edge {
+        from: index_of(pairs, hints, step.from),
+        mark: step.mark,
+        letters: step.letters,
+        to: index_of(pairs, hints, step.to),
     })?;
     Ok(())
 }
 
-/// Edges between pairs, as edges between their indices.
-pub fn numbered(alloc: Global, pairs: &[u16], edges: &[Edge]) -> Result<Vec<Edge>, NoMemory>
-    requires few { AreFew pairs.now }
-    requires between { (e : Edge) → Contains edges.now e → IsBetween pairs.now e }
-    ensures { IfOk result (λ numbered. (x : Edge) → Contains numbered.items x ↔ (e : Edge) × Contains edges.now e × IsNumbered pairs.now e x) }
+/// Steps between pairs, as edges between their indices.
+pub fn numbered(
+    alloc: Global,
+    pairs: &[Pair],
+    hints: &Hints,
+    steps: &[PairStep],
+) -> Result<Vec<Edge>, NoMemory>
+    requires few { AreFew 1024 pairs.now }
+    requires between { (s : PairStep) → Contains steps.now s → IsBetween pairs.now s }
+    ensures { IfOk result (λ edges. (x : Edge) → Contains edges.items x ↔ (s : PairStep) × Contains steps.now s × IsNumbered pairs.now s x) }
 {
-    let mut numbered = Vec::new(alloc);
-    for edge in edges {
-        push_numbered(pairs, edge, &mut numbered)?;
+    let mut edges = Vec::new(alloc);
+    for step in steps {
+        push_numbered(pairs, hints, step, &mut edges)?;
     }
-    Ok(numbered)
+    Ok(edges)
 }

@@ -1,17 +1,19 @@
-//! The pairs of states that a join reaches, with their edges and ends.
+//! The steps and ends of the pairs of states that a join reaches.
 
-ghost use Rattle.std.specs.Prelude.{◌≡◌, ◌<◌, ◌↔◌, ◌≤◌, ◌+◌, ◌*◌, ◌/◌, ◌%◌, ℕ, Contains, IfOk, length};
-ghost use Rattle.marker_nfa.specs.declared.nfa.Edge.{Edge};
+ghost use Rattle.std.specs.Prelude.{◌<◌, ◌↔◌, ◌≤◌, Contains, IfOk, length};
 ghost use Rattle.marker_nfa.specs.declared.nfa.End.{End};
 ghost use Rattle.marker_nfa.specs.Parts.{Adds};
 ghost use Rattle.marker_dfa.specs.Deterministic.{states_of};
+ghost use Rattle.span_algebra.specs.declared.pairs.Pair.{Pair};
+ghost use Rattle.span_algebra.specs.declared.pairs.PairStep.{PairStep};
 ghost use Rattle.span_algebra.specs.Joints.{MayMeet};
 ghost use Rattle.span_algebra.specs.Products.{AreShortSteps, IsPair, IsPairEnd, IsPairEndBy, IsPairEndOf, IsPairStepAmong, IsPairStepBy, IsPairStepOf};
 
 use crate::classes::Class;
 use crate::joints::{Joint, Meeting, joints_of};
+use crate::pairs::{Pair, PairStep};
 use marker_dfa::Dfa;
-use marker_nfa::{Edge, End};
+use marker_nfa::End;
 use span_types::NoMemory;
 use std::alloc::Global;
 
@@ -23,54 +25,28 @@ pub struct Sides<'a> {
     pub meeting: &'a Meeting,
 }
 
-/// A state of each side.
-#[derive(Clone, Copy)]
-pub struct Pair {
-    pub left: u8,
-    pub right: u8,
-}
-
-/// The pair with a number.
-fn pair_at(number: u16) -> Pair
-    requires { number < 16384 }
-    ensures left { result.left ≡ number / 128 }
-    ensures right { result.right ≡ number % 128 }
-{
-    Pair {
-        left: (number / 128) as u8,
-        right: (number % 128) as u8,
-    }
-}
-
-/// The number of a pair.
-fn number_of(pair: Pair) -> u16
-    ensures { result ≡ 128 * pair.left + pair.right }
-{
-    128 * u16::from(pair.left) + u16::from(pair.right)
-}
-
 /// Appends the step of a pair by a joint mark and the bytes of a class to a list, if both sides have theirs.
 fn push_step(
     sides: Sides<'_>,
     pair: Pair,
     class: &Class,
     joint: &Joint,
-    edges: &mut Vec<Edge>,
+    steps: &mut Vec<PairStep>,
 ) -> Result<(), NoMemory>
     requires left { pair.left < states_of sides.left.now }
     requires right { pair.right < states_of sides.right.now }
-    ensures { IfOk result (λ _. Adds edges.old.items edges.new.items (IsPairStepBy sides.entry.left.now sides.entry.right.now pair.left pair.right class.now joint.now)) }
+    ensures { IfOk result (λ _. Adds steps.old.items steps.new.items (IsPairStepBy sides.entry.left.now sides.entry.right.now pair class.now joint.now)) }
 {
     if let Some(next_left) = sides.left.next(pair.left, joint.left, class.first) {
         if let Some(next_right) = sides.right.next(pair.right, joint.right, class.first) {
-            edges.push(Edge {
-                from: number_of(pair),
+            steps.push(PairStep {
+                from: pair,
                 mark: joint.mark,
                 letters: class.letters,
-                to: number_of(Pair {
+                to: Pair {
                     left: next_left,
                     right: next_right,
-                }),
+                },
             })?;
         }
     }
@@ -83,42 +59,40 @@ fn push_class(
     sides: Sides<'_>,
     pair: Pair,
     class: &Class,
-    edges: &mut Vec<Edge>,
+    steps: &mut Vec<PairStep>,
 ) -> Result<(), NoMemory>
     requires meeting { MayMeet sides.meeting.now }
     requires short { AreShortSteps sides.left.now sides.meeting.now }
     requires left { pair.left < states_of sides.left.now }
     requires right { pair.right < states_of sides.right.now }
-    ensures { IfOk result (λ _. Adds edges.old.items edges.new.items (IsPairStepOf sides.entry.left.now sides.entry.right.now sides.entry.meeting.now pair.left pair.right class.now)) }
+    ensures { IfOk result (λ _. Adds steps.old.items steps.new.items (IsPairStepOf sides.entry.left.now sides.entry.right.now sides.entry.meeting.now pair class.now)) }
 {
     let left_marks = sides.left.marks(pair.left, class.first);
     let right_marks = sides.right.marks(pair.right, class.first);
     let joints = joints_of(alloc, sides.meeting, left_marks, right_marks)?;
     for joint in &joints {
-        push_step(sides, pair, class, joint, edges)?;
+        push_step(sides, pair, class, joint, steps)?;
     }
     Ok(())
 }
 
-/// The steps of a pair, as edges between pairs.
-pub fn edges_of(
+/// The steps of a pair.
+pub fn steps_of(
     alloc: Global,
     sides: Sides<'_>,
-    number: u16,
+    pair: Pair,
     classes: &[Class],
-) -> Result<Vec<Edge>, NoMemory>
+) -> Result<Vec<PairStep>, NoMemory>
     requires meeting { MayMeet sides.meeting.now }
     requires short { AreShortSteps sides.left.now sides.meeting.now }
-    requires within { IsPair sides.left.now sides.right.now number }
-    ensures { IfOk result (λ edges. (e : Edge) → Contains edges.items e ↔ IsPairStepAmong sides.entry.left.now sides.entry.right.now sides.entry.meeting.now (number / 128) (number % 128) classes.now e) }
+    requires within { IsPair sides.left.now sides.right.now pair }
+    ensures { IfOk result (λ steps. (s : PairStep) → Contains steps.items s ↔ IsPairStepAmong sides.entry.left.now sides.entry.right.now sides.entry.meeting.now pair classes.now s) }
 {
-    let left_states = sides.left.states();
-    let pair = pair_at(number);
-    let mut edges = Vec::new(alloc);
+    let mut steps = Vec::new(alloc);
     for class in classes {
-        push_class(alloc, sides, pair, class, &mut edges)?;
+        push_class(alloc, sides, pair, class, &mut steps)?;
     }
-    Ok(edges)
+    Ok(steps)
 }
 
 /// Appends an end with a joint mark to a list.
@@ -144,7 +118,7 @@ fn push_ends(
     requires short { AreShortSteps sides.left.now sides.meeting.now }
     requires left { pair.left < states_of sides.left.now }
     requires right { pair.right < states_of sides.right.now }
-    ensures { IfOk result (λ _. Adds ends.old.items ends.new.items (IsPairEndOf sides.entry.left.now sides.entry.right.now sides.entry.meeting.now pair.left pair.right place)) }
+    ensures { IfOk result (λ _. Adds ends.old.items ends.new.items (IsPairEndOf sides.entry.left.now sides.entry.right.now sides.entry.meeting.now pair place)) }
 {
     let joints = joints_of(
         alloc,
@@ -159,17 +133,16 @@ fn push_ends(
 }
 
 /// The ends of pairs, each with the index of its pair.
-pub fn ends_of(alloc: Global, sides: Sides<'_>, pairs: &[u16]) -> Result<Vec<End>, NoMemory>
+pub fn ends_of(alloc: Global, sides: Sides<'_>, pairs: &[Pair]) -> Result<Vec<End>, NoMemory>
     requires meeting { MayMeet sides.meeting.now }
     requires short { AreShortSteps sides.left.now sides.meeting.now }
-    requires few { length pairs.now ≤ 128 }
-    requires within { (o : ℕ) → Contains pairs.now o → IsPair sides.left.now sides.right.now o }
+    requires few { length pairs.now ≤ 1024 }
+    requires within { (p : Pair) → Contains pairs.now p → IsPair sides.left.now sides.right.now p }
     ensures { IfOk result (λ ends. (e : End) → Contains ends.items e ↔ IsPairEnd sides.entry.left.now sides.entry.right.now sides.entry.meeting.now pairs.now e) }
 {
-    let left_states = sides.left.states();
     let mut ends = Vec::new(alloc);
-    for (place, number) in pairs.iter().enumerate() {
-        push_ends(alloc, sides, pair_at(*number), place as u16, &mut ends)?;
+    for (place, pair) in pairs.iter().enumerate() {
+        push_ends(alloc, sides, *pair, place as u16, &mut ends)?;
     }
     Ok(ends)
 }

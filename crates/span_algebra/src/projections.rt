@@ -11,7 +11,7 @@ ghost use Rattle.span_algebra.specs.TreeAutomaton.{ProjectEnd, ProjectStep};
 
 use crate::classes::{Class, classes_of};
 use crate::copies::{OperandCopy, push_edges, push_ends};
-use crate::determined::determined;
+use crate::determined::{USUAL_MOST, determined};
 use crate::names::places_of;
 use crate::refusal::AlgebraRefusal;
 use marker_dfa::Dfa;
@@ -44,7 +44,7 @@ fn project_nfa(
     push_edges(copy, classes, &mut edges)?;
     let mut ends = Vec::new(alloc);
     push_ends(copy, &mut ends)?;
-    Nfa::of_parts(alloc, u16::from(states), variables, &edges, &ends)
+    Nfa::of_parts(alloc, states, variables, &edges, &ends)
 }
 
 /// The automaton of the restrictions of the answers to some variables, in the order of `keep`. Answers with equal
@@ -69,9 +69,33 @@ pub fn project(
     ensures refused { IfErr result (IsRefused (length keep.now) (CountIsAbove 128 (states_of source.now) (ProjectStep source.now names.now keep.now))) }
     ensures variables { length keep.now ≤ 8 }
 {
+    project_within(alloc, source, names, keep, USUAL_MOST)
+}
+
+/// The same as `project`, with a limit of `most` states, 128 to 1,024, in place of 128.
+///
+/// # Errors
+///
+/// `TooManyStates` exactly if more than `most` states would be needed, and `NoMemory` if allocation fails.
+pub fn project_within(
+    alloc: Global,
+    source: &Dfa,
+    names: &Vars,
+    keep: &Vars,
+    most: u16,
+) -> Result<Dfa, AlgebraRefusal>
+    requires names { length names.now ≡ source.now.variables }
+    requires few { 128 ≤ most }
+    requires many { most ≤ 1024 }
+    ensures automaton { IfOk result (IsAutomatonOf (states_of source.now) (ProjectStep source.now names.now keep.now) (ProjectEnd source.now names.now keep.now)) }
+    ensures answers { IfOk result (GivesProjection source.now names.now keep.now) }
+    ensures few { IfOk result (λ _. CountIsAbove most (states_of source.now) (ProjectStep source.now names.now keep.now) → ⊥) }
+    ensures refused { IfErr result (IsRefused (length keep.now) (CountIsAbove most (states_of source.now) (ProjectStep source.now names.now keep.now))) }
+    ensures variables { length keep.now ≤ 8 }
+{
     let states = source.states();
     let variables = keep.count();
     let classes = classes_of(alloc, source, source)?;
     let nfa = project_nfa(alloc, source, names, keep, &classes)?;
-    determined(alloc, &nfa, &classes)
+    determined(alloc, &nfa, &classes, most)
 }

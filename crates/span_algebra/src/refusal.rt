@@ -13,7 +13,7 @@ pub enum AlgebraRefusal {
     #[error("too many variables")]
     TooManyVariables,
 
-    /// More than 128 states would be needed.
+    /// More states would be needed than the limit allows.
     #[error("too many states")]
     TooManyStates,
 

@@ -1,6 +1,6 @@
 //! The union of two automata.
 
-ghost use Rattle.std.specs.Prelude.{◌≡◌, IfErr, IfOk, length};
+ghost use Rattle.std.specs.Prelude.{◌≡◌, ◌≤◌, IfErr, IfOk, length};
 ghost use Rattle.marker_nfa.specs.Automaton.{AreLettersOf};
 ghost use Rattle.marker_dfa.specs.Reached.{CountIsAbove};
 ghost use Rattle.marker_dfa.specs.Deterministic.{IsAutomatonOf};
@@ -12,7 +12,7 @@ ghost use Rattle.span_algebra.specs.TreeAutomaton.{UnionEnd, UnionStep, union_si
 
 use crate::classes::{Class, classes_of};
 use crate::copies::{OperandCopy, push_edges, push_ends};
-use crate::determined::determined;
+use crate::determined::{USUAL_MOST, determined};
 use crate::names::{Operand, names_of_both, places_of};
 use crate::refusal::AlgebraRefusal;
 use marker_dfa::Dfa;
@@ -41,7 +41,7 @@ fn union_nfa(
     let variables = names.count();
     let left_places = places_of(alloc, names, left.names)?;
     let right_places = places_of(alloc, names, right.names)?;
-    let base = 1 + u16::from(left_states);
+    let base = 1 + left_states;
     let left_copy = OperandCopy {
         dfa: left.dfa,
         places: &left_places,
@@ -58,36 +58,33 @@ fn union_nfa(
     let mut ends = Vec::new(alloc);
     push_ends(left_copy, &mut ends)?;
     push_ends(right_copy, &mut ends)?;
-    Nfa::of_parts(
-        alloc,
-        base + u16::from(right_states),
-        variables,
-        &edges,
-        &ends,
-    )
+    Nfa::of_parts(alloc, base + right_states, variables, &edges, &ends)
 }
 
-/// The automaton of a union, whose variables have these names.
+/// The automaton of a union, whose variables have these names, with at most `most` states.
 fn union_dfa(
     alloc: Global,
     left: Operand<'_>,
     right: Operand<'_>,
     names: &Vars,
+    most: u16,
 ) -> Result<Dfa, AlgebraRefusal>
     requires left { length left.names.now ≡ left.dfa.now.variables }
     requires right { length right.names.now ≡ right.dfa.now.variables }
     requires names { names.now ≡ both_names left.names.now right.names.now }
+    requires few { 128 ≤ most }
+    requires many { most ≤ 1024 }
     ensures automaton { IfOk result (IsAutomatonOf (union_size left.entry.dfa.now right.entry.dfa.now) (UnionStep left.entry.dfa.now left.entry.names.now right.entry.dfa.now right.entry.names.now) (UnionEnd left.entry.dfa.now left.entry.names.now right.entry.dfa.now right.entry.names.now)) }
     ensures answers { IfOk result (GivesUnion left.entry.dfa.now left.entry.names.now right.entry.dfa.now right.entry.names.now (both_names left.entry.names.now right.entry.names.now)) }
-    ensures few { IfOk result (λ _. CountIsAbove 128 (union_size left.entry.dfa.now right.entry.dfa.now) (UnionStep left.entry.dfa.now left.entry.names.now right.entry.dfa.now right.entry.names.now) → ⊥) }
-    ensures refused { IfErr result (IsRefused (length (both_names left.entry.names.now right.entry.names.now)) (CountIsAbove 128 (union_size left.entry.dfa.now right.entry.dfa.now) (UnionStep left.entry.dfa.now left.entry.names.now right.entry.dfa.now right.entry.names.now))) }
+    ensures few { IfOk result (λ _. CountIsAbove most (union_size left.entry.dfa.now right.entry.dfa.now) (UnionStep left.entry.dfa.now left.entry.names.now right.entry.dfa.now right.entry.names.now) → ⊥) }
+    ensures refused { IfErr result (IsRefused (length (both_names left.entry.names.now right.entry.names.now)) (CountIsAbove most (union_size left.entry.dfa.now right.entry.dfa.now) (UnionStep left.entry.dfa.now left.entry.names.now right.entry.dfa.now right.entry.names.now))) }
 {
     let left_states = left.dfa.states();
     let right_states = right.dfa.states();
     let variables = names.count();
     let classes = classes_of(alloc, left.dfa, right.dfa)?;
     let nfa = union_nfa(alloc, left, right, names, &classes)?;
-    determined(alloc, &nfa, &classes)
+    determined(alloc, &nfa, &classes, most)
 }
 
 /// The automaton of the answers of either side, and its variables: those of the left, then those of the right that the
@@ -115,6 +112,33 @@ pub fn union(
     ensures few { IfOk result (λ _. CountIsAbove 128 (union_size left.now right.now) (UnionStep left.now left_names.now right.now right_names.now) → ⊥) }
     ensures refused { IfErr result (IsRefused (length (both_names left_names.now right_names.now)) (CountIsAbove 128 (union_size left.now right.now) (UnionStep left.now left_names.now right.now right_names.now))) }
 {
+    union_within(alloc, left, left_names, right, right_names, USUAL_MOST)
+}
+
+/// The same as `union`, with a limit of `most` states, 128 to 1,024, in place of 128.
+///
+/// # Errors
+///
+/// `TooManyVariables` exactly if there are more than eight variables. `TooManyStates` exactly if there aren't and more
+/// than `most` states would be needed. `NoMemory` if allocation fails.
+pub fn union_within(
+    alloc: Global,
+    left: &Dfa,
+    left_names: &Vars,
+    right: &Dfa,
+    right_names: &Vars,
+    most: u16,
+) -> Result<(Dfa, Vars), AlgebraRefusal>
+    requires left { length left_names.now ≡ left.now.variables }
+    requires right { length right_names.now ≡ right.now.variables }
+    requires few { 128 ≤ most }
+    requires many { most ≤ 1024 }
+    ensures names { IfOk result (λ r. r.1 ≡ both_names left_names.now right_names.now) }
+    ensures automaton { IfOk result (λ r. IsAutomatonOf (union_size left.now right.now) (UnionStep left.now left_names.now right.now right_names.now) (UnionEnd left.now left_names.now right.now right_names.now) r.0) }
+    ensures answers { IfOk result (λ r. GivesUnion left.now left_names.now right.now right_names.now r.1 r.0) }
+    ensures few { IfOk result (λ _. CountIsAbove most (union_size left.now right.now) (UnionStep left.now left_names.now right.now right_names.now) → ⊥) }
+    ensures refused { IfErr result (IsRefused (length (both_names left_names.now right_names.now)) (CountIsAbove most (union_size left.now right.now) (UnionStep left.now left_names.now right.now right_names.now))) }
+{
     let names = names_of_both(alloc, left_names, right_names)?;
     let left = Operand {
         dfa: left,
@@ -124,6 +148,6 @@ pub fn union(
         dfa: right,
         names: right_names,
     };
-    let dfa = union_dfa(alloc, left, right, &names)?;
+    let dfa = union_dfa(alloc, left, right, &names, most)?;
     Ok((dfa, names))
 }

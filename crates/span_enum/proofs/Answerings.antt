@@ -11,7 +11,7 @@ use Rattle.span_enum.proofs.Words.{IsNext-byte, IsNext-fork, IsNext-front, looks
 first-end : (a : DeterministicAutomaton) (auto : IsDeterministic a) (q e : ℕ) → IsGreatestMark a q 256 1 65536 e 0 → IsFirst a q (256 ∷ []) 1 ((e, 256) ∷ []) 0
 first-end a auto q e best = IsFirst-byte a q 256 e 1 0 best.step best.goal (λ n r sn gn. best.most n r (fit-end a auto q n r sn) sn gn)
 
-module _ (g : EnumerationInput) (is : IsEnumerationInput g) (text : IsText (whole_text g)) where
+module _ {words : ℕ} (g : EnumerationInput words) (is : IsEnumerationInput g) (text : IsText (whole_text g)) where
   abbrev a : DeterministicAutomaton
   a = g.dfa.now
 
@@ -72,7 +72,7 @@ module _ (g : EnumerationInput) (is : IsEnumerationInput g) (text : IsText (whol
       (k.0, k.1, ap (reached a 0) k.1 ∙ run)
 
   -- ---- the answer that the walk finds
-  pub answer-found : (cursor : Option Tuple) → IfSome cursor (IsTupleOf a.variables) → (place : Place) (base : ℕ) (word : Marked) (before after end : ℕ) (ms more : List Mark) (hs new : List (Option Ahead)) (out : Tuple) (f : Found)
+  pub answer-found : (cursor : Option Tuple) → IfSome cursor (IsTupleOf a.variables) → (place : Place) (base : ℕ) (word : Marked) (before after end : ℕ) (ms more : List (Mark words)) (hs new : List (Option (Ahead words))) (out : Tuple) (f : Found)
       → (b : Begins g place base word ms hs) → out ≡ write_word 1 word (blanks a.variables) → end ≡ length s + 1
       → ((w : Marked) (r e : ℕ) → IsFirst a place.state (text_ahead g b.chain) g.finals w r → IsGreatestMark a r 256 1 65536 e 0 → IsFirstLeft a s cursor ((word ++ w) ++ (e, 256) ∷ []))
       → Finishes g place base ms more hs new before after out end f
@@ -104,5 +104,5 @@ module _ (g : EnumerationInput) (is : IsEnumerationInput g) (text : IsText (whol
       )
 
 -- another tuple with the same marks over the text
-pub trail-same : (g : EnumerationInput) (t u : Tuple) (ms : List Mark) (hs : List (Option Ahead)) → word_over u 1 (whole_text g) ≡ word_over t 1 (whole_text g) → IsTrailOf g t ms hs → IsTrailOf g u ms hs
+pub trail-same : {words : ℕ} (g : EnumerationInput words) (t u : Tuple) (ms : List (Mark words)) (hs : List (Option (Ahead words))) → word_over u 1 (whole_text g) ≡ word_over t 1 (whole_text g) → IsTrailOf g t ms hs → IsTrailOf g u ms hs
 trail-same g t u ms hs same is = record { read = is.read; left = is.left; back = is.back; word_is = same ∙ is.word_is; parts = is.parts; count = is.count; kept = is.kept; none = is.none }

@@ -1,7 +1,7 @@
 -- The words of std, of the crates below and of specs/ that the proofs speak in.
 pub use Rattle.std.proofs.Common.{All, AllPairs, Any, Bool, Contains, IfSome, List, None, Option, Some, [], ap, append-nil, append_assoc, arith, bit_and, bit_or, drop, false, get_or, if◌then◌else◌, inl, inr, length, length-append}
 pub use Rattle.std.proofs.Common.{length-take-le, map, max, min, mul-add, mul-le-mul_left, mul-le-mul_right, mul-suc, mul_assoc, nat_le, nat_lt, not, refl, slice_get, subst, suc, sym, take, take_at, true, true≢false, zero, ℕ, ◌&&◌, ◌*◌}
-pub use Rattle.std.proofs.Common.{◌++◌, ◌+◌, ◌-◌, ◌<◌, ◌==◌, ◌^◌, ◌||◌, ◌↔◌, ◌∙◌, ◌∷◌, ◌≡◌, ◌≢◌, ◌≤◌, ◌⊎◌}
+pub use Rattle.std.proofs.Common.{◌/◌, ◌%◌, ◌++◌, ◌+◌, ◌-◌, ◌<◌, ◌==◌, ◌^◌, ◌||◌, ◌↔◌, ◌∙◌, ◌∷◌, ◌≡◌, ◌≢◌, ◌≤◌, ◌⊎◌}
 pub use Rattle.std.proofs.Math.Bool.{and-true, or-false}
 pub use Rattle.std.proofs.Math.ListN.{get_or-append}
 pub use Rattle.std.proofs.Math.Seq.{take-append-add, take-append_seam, take-length}
@@ -10,11 +10,10 @@ pub use Rattle.std.proofs.lemmas.List.{append_cancel_left, get_or-append-add, ge
 pub use Rattle.std.proofs.lemmas.List.Elements.{Contains-append_cases, Contains-append_left, Contains-append_right, Contains-get_or}
 pub use Rattle.std.proofs.lemmas.List.Folds.{Any-from_list_any, list_any_at}
 pub use Rattle.std.proofs.lemmas.List.Kept.{AllPairs-cons}
-pub use Rattle.std.proofs.lemmas.Nat.{and_le_l}
-pub use Rattle.std.proofs.lemmas.Nat.Bits.{bit_at-lt, bit_at-trailing_zeros, bit_at-zero, bit_at_and}
+pub use Rattle.std.proofs.lemmas.Nat.Bits.{bit_at-lt, bit_at-suc, bit_at-zero, bit_at_and, bit_at_lowest}
 pub use Rattle.std.proofs.lemmas.Option.{none-some, same_Some, slice_get_cases, slice_get_within}
 pub use Rattle.std.specs.List.{list_any}
-pub use Rattle.std.specs.Int.{bit_at, trailing_zeros, w128}
+pub use Rattle.std.specs.Int.{bit_at}
 pub use Rattle.formula_law.specs.Accepts.{MarkedText, marked_text}
 pub use Rattle.formula_law.specs.Law.{bytes_of}
 pub use Rattle.marker_dfa.proofs.Lists.{get_push, one_only, push_get, push_last}
@@ -47,7 +46,7 @@ pub use Rattle.state_tables.proofs.Members.{bool-cases, not-both, or-cases, or-l
 pub use Rattle.state_tables.proofs.Paths.{OneLetter, Parts, bytes-append, bytes-none, count-more, count-plain, has-count, length-bytes, length-plain, mark_count-append, no-state, one-letter, onto, path-dead, path-on, path-one, path-parts}
 pub use Rattle.state_tables.proofs.Paths.{plain-append, plain-dead, plain-on, precedes-append, precedes-prefix, precedes-split, same-state}
 pub use Rattle.state_tables.proofs.Shapes.{then-between}
-pub use Rattle.state_tables.proofs.StateSets.{bit-member, member-bit, member-or, member-single_other, member-single_same, member-without_other, member-without_same, member-zero, without-less}
+pub use Rattle.state_tables.proofs.StateSets.{bit-member, member-bit, member-or, member-single_other, member-single_same, member-zero}
 pub use Rattle.state_tables.specs.Dictionary.{AreTables, Dictionary, IsLook, count_of}
 pub use Rattle.state_tables.specs.Meaning.{IsTable, has_mark, plain}
 pub use Rattle.state_tables.specs.StateSet.{member, single_of}
@@ -69,7 +68,7 @@ pub use Rattle.span_enum.specs.Trail.{PassesTo, Stands, StandsBefore, Turns, Way
 pub use Rattle.span_enum.specs.Tuples.{EndsPast, IsBound, IsTupleOf, IsUnmarked, end_mark, reaches, word_of, word_over, write_word}
 pub use Rattle.span_enum.specs.WayDown.{GoesOnAt, child, sibling}
 pub use Rattle.span_enum.specs.Words.{CanRun, IsFirst, IsGreatestMark, IsNoMark}
-pub use Rattle.span_enum.specs.declared.answers.Found.{Found}
+pub use Rattle.span_enum.specs.declared.enumeration.Found.{Found}
 pub use Rattle.span_enum.specs.declared.input.EnumerationInput.{EnumerationInput}
 pub use Rattle.span_enum.specs.declared.sets.Between.{Between}
 pub use Rattle.span_enum.specs.declared.trail.Ahead.{Ahead}

@@ -7,7 +7,7 @@ use Rattle.span_enum.proofs.Runs.{run-behind, run-join, step-within}
 use Rattle.span_enum.proofs.Tables.{look-is, pair-height, pair-text, quiet-join}
 
 -- ---- lists of options
-pub slice-take : (n m : ℕ) (hs : List (Option Ahead)) → m < n → slice_get (take n hs) m ≡ slice_get hs m
+pub slice-take : {words : ℕ} (n m : ℕ) (hs : List (Option (Ahead words))) → m < n → slice_get (take n hs) m ≡ slice_get hs m
 slice-take zero m hs lt = absurd (omega arith)
 slice-take (suc n) m [] lt = refl
 slice-take (suc n) zero (h ∷ hs) lt = refl
@@ -15,7 +15,7 @@ slice-take (suc n) (suc m) (h ∷ hs) lt = slice-take n m hs (omega arith)
 
 -- ---- the nodes in the list
 -- they are in any list with the same items there
-pub ahead-move : (hs new : List (Option Ahead)) (n i : ℕ) (c : List Ahead) → ((k : ℕ) (x : Option Ahead) → k < n → slice_get hs k ≡ Some x → slice_get new k ≡ Some x)
+pub ahead-move : {words : ℕ} (hs new : List (Option (Ahead words))) (n i : ℕ) (c : List (Ahead words)) → ((k : ℕ) (x : Option (Ahead words)) → k < n → slice_get hs k ≡ Some x → slice_get new k ≡ Some x)
     → i ≤ n → AreAhead hs i c → AreAhead new i c
 ahead-move hs new n i [] same le h = h
 ahead-move hs new n i (x ∷ c) same le h = (
@@ -23,19 +23,19 @@ ahead-move hs new n i (x ∷ c) same le h = (
   ahead-move hs new n x.next c same (omega (arith, h.0.counted, h.0.earlier)) h.1,
 )
 
-pub ahead-most : (hs : List (Option Ahead)) (i : ℕ) (c : List Ahead) → AreAhead hs i c → i ≤ length hs
+pub ahead-most : {words : ℕ} (hs : List (Option (Ahead words))) (i : ℕ) (c : List (Ahead words)) → AreAhead hs i c → i ≤ length hs
 ahead-most hs i [] h = omega (arith, h)
 ahead-most hs i (x ∷ c) h = omega (arith, h.0.counted, slice_get_within hs h.0.before (Some x) h.0.there)
 
 -- the next node is the one that stands there in the list
-pub next-is : (hs : List (Option Ahead)) (place : ℕ) (c : List Ahead) (n : Ahead) → AreAhead hs place c → 0 < place → ((before : ℕ) → place ≡ suc before → slice_get hs before ≡ Some (Some n))
-    → (b : List Ahead) × (c ≡ n ∷ b)
+pub next-is : {words : ℕ} (hs : List (Option (Ahead words))) (place : ℕ) (c : List (Ahead words)) (n : Ahead words) → AreAhead hs place c → 0 < place → ((before : ℕ) → place ≡ suc before → slice_get hs before ≡ Some (Some n))
+    → (b : List (Ahead words)) × (c ≡ n ∷ b)
 next-is hs place [] n h some at = absurd (omega (arith, h))
 next-is hs place (x ∷ c) n h some at = (c, ap (λ y. y ∷ c) (same_Some x n (same_Some (Some x) (Some n) (sym h.0.there ∙ at h.0.before h.0.counted))))
 
 -- and is there
-pub next-there : (hs : List (Option Ahead)) (place : ℕ) (c : List Ahead) → AreAhead hs place c → 0 < place
-    → (before : ℕ) × ((h : Ahead) × (place ≡ suc before) × (slice_get hs before ≡ Some (Some h)))
+pub next-there : {words : ℕ} (hs : List (Option (Ahead words))) (place : ℕ) (c : List (Ahead words)) → AreAhead hs place c → 0 < place
+    → (before : ℕ) × ((h : Ahead words) × (place ≡ suc before) × (slice_get hs before ≡ Some (Some h)))
 next-there hs place [] h some = absurd (omega (arith, h))
 next-there hs place (x ∷ c) h some = (h.0.before, (x, h.0.counted, h.0.there))
 
@@ -48,7 +48,7 @@ between-on a p q s x u goals between v e t is = record {
   onward = is.onward;
 }
 
-pub goals-on : (g : EnumerationInput) (p q : ℕ) (s x : List ℕ) (c : List Ahead) (v : Marked) → bytes_of v ≡ s → reached g.dfa.now p v ≡ Some q → AreGoals g p (s ++ x) c → AreGoals g q x c
+pub goals-on : {words : ℕ} (g : EnumerationInput words) (p q : ℕ) (s x : List ℕ) (c : List (Ahead words)) (v : Marked) → bytes_of v ≡ s → reached g.dfa.now p v ≡ Some q → AreGoals g p (s ++ x) c → AreGoals g q x c
 goals-on g p q s x [] v e t h = tt
 goals-on g p q s x (k ∷ c) v e t h =
     let assoc = append_assoc s x (text_at g k.id.index) in (
@@ -72,7 +72,7 @@ between-compose a p s u rest goals mid between one two = record {
 }
 
 -- ---- where the walk is
-pub stands-before : (g : EnumerationInput) (hs : List (Option Ahead)) (at : ℕ) (place : Place) (h : Ahead) (c : List Ahead) → Stands g hs at place (h ∷ c) → StandsBefore g hs h place.state c
+pub stands-before : {words : ℕ} (g : EnumerationInput words) (hs : List (Option (Ahead words))) (at : ℕ) (place : Place) (h : Ahead words) (c : List (Ahead words)) → Stands g hs at place (h ∷ c) → StandsBefore g hs h place.state c
 stands-before g hs at place h c s = record {
   ahead = s.ahead.1;
   join = (refl, subst (λ n. Join g (n + length (text_at g h.id.index)) c) (sym s.join.0) s.join.1);
@@ -80,7 +80,7 @@ stands-before g hs at place h c s = record {
   state = s.state;
 }
 
-pub stands-mark : (g : EnumerationInput) (hs : List (Option Ahead)) (m : Mark) (c : List Ahead) (n : ℕ) (to : Place) → IsDeterministic g.dfa.now → IsMark g hs m c → step_of g.dfa.now m.state n m.byte ≡ Some to.state
+pub stands-mark : {words : ℕ} (g : EnumerationInput words) (hs : List (Option (Ahead words))) (m : Mark words) (c : List (Ahead words)) (n : ℕ) (to : Place) → IsDeterministic g.dfa.now → IsMark g hs m c → step_of g.dfa.now m.state n m.byte ≡ Some to.state
     → to.next ≡ m.next → IsQuietPlace g to c → Stands g hs (m.at + 1) to c
 stands-mark g hs m c n to auto is step next quiet = record {
   ahead = subst (λ i. AreAhead hs i c) (sym next) is.ahead;
@@ -91,30 +91,30 @@ stands-mark g hs m c n to auto is step next quiet = record {
 }
 
 -- ---- room
-pub fits-take : (g : EnumerationInput) (base n : ℕ) (hs : List (Option Ahead)) → Fits g base hs → Fits g base (take n hs)
+pub fits-take : {words : ℕ} (g : EnumerationInput words) (base n : ℕ) (hs : List (Option (Ahead words))) → Fits g base hs → Fits g base (take n hs)
 fits-take g base n hs f k o le e = f k o le (sym (slice-take n k hs (omega (arith, slice_get_within (take n hs) k o e, length-take n hs))) ∙ e)
 
-fits-push : (g : EnumerationInput) (base : ℕ) (hs : List (Option Ahead)) (h : Ahead) → Fits g base hs → height_at g h.id.index + (length hs - base) ≤ 68 → Fits g base (hs ++ Some h ∷ [])
+fits-push : {words : ℕ} (g : EnumerationInput words) (base : ℕ) (hs : List (Option (Ahead words))) (h : Ahead words) → Fits g base hs → height_at g h.id.index + (length hs - base) ≤ 68 → Fits g base (hs ++ Some h ∷ [])
 fits-push g base hs h f le k o from e = elim (get_push hs (Some h) o k e) [
   | inl old ↦ f k o from old
   | inr new ↦ subst (λ z. FitsAt g (k - base) z) new.1 (rw new.0 le)
 ]
 
 -- nothing is after the end
-pub fits-none : (g : EnumerationInput) (hs : List (Option Ahead)) → Fits g (length hs) hs
+pub fits-none : {words : ℕ} (g : EnumerationInput words) (hs : List (Option (Ahead words))) → Fits g (length hs) hs
 fits-none g hs k o le e = absurd (omega (arith, slice_get_within hs k o e))
 
 -- the list is short
-pub fits-short : (g : EnumerationInput) (base : ℕ) (hs : List (Option Ahead)) → Fits g base hs → length hs ≤ base + 69
-fits-short g base hs f = elim ((slice_get_cases hs (base + 69)).1) [ inr past ↦ past.0 | inl k ↦ absurd (most k.0 (f (base + 69) k.0 (omega arith) k.2)) ]
+pub fits-short : {words : ℕ} (g : EnumerationInput words) (base : ℕ) (hs : List (Option (Ahead words))) → Fits g base hs → length hs ≤ base + 69
+fits-short {words = words} g base hs f = elim ((slice_get_cases hs (base + 69)).1) [ inr past ↦ past.0 | inl k ↦ absurd (most k.0 (f (base + 69) k.0 (omega arith) k.2)) ]
   where
-    most : (o : Option Ahead) → FitsAt g (base + 69 - base) o → ⊥
+    most : (o : Option (Ahead words)) → FitsAt g (base + 69 - base) o → ⊥
     most None h = h
     most (Some h) le = omega arith
 
 -- ---- a pair
 -- a pair ahead and its two children, with their tables
-pub record Fork (g : EnumerationInput) (h : Ahead) (l r : NodeId) (left right : Look) : Type 0 where
+pub record Fork {words : ℕ} (g : EnumerationInput words) (h : Ahead words) (l r : NodeId) (left right : Look) : Type 0 where
   pub is_ahead : IsAhead g h
   pub pair : IsNodeAt g.view.store.now h.id.index (Pair l r)
   pub left_look : IsLook g.view.store.now g.view.tables.now l.index left.node left.len left.table.now
@@ -123,7 +123,7 @@ pub record Fork (g : EnumerationInput) (h : Ahead) (l r : NodeId) (left right : 
   pub left_is : IsTable g.dfa.now (text_at g l.index) left.table.now
   pub right_is : IsTable g.dfa.now (text_at g r.index) right.table.now
 
-pub fork : (g : EnumerationInput) → IsEnumerationInput g → (h : Ahead) → IsAhead g h → (l r : NodeId) (left right : Look) → h.look.node ≡ Pair l r
+pub fork : {words : ℕ} (g : EnumerationInput words) → IsEnumerationInput g → (h : Ahead words) → IsAhead g h → (l r : NodeId) (left right : Look) → h.look.node ≡ Pair l r
     → IsLook g.view.store.now g.view.tables.now l.index left.node left.len left.table.now → IsLook g.view.store.now g.view.tables.now r.index right.node right.len right.table.now
     → Fork g h l r left right
 fork g is h ahead l r left right node look-l look-r =
@@ -140,14 +140,14 @@ fork g is h ahead l r left right node look-l look-r =
       right_is = table r.index _ _ _ (omega (arith, pair.2, ahead.live)) look-r;
     }
 
-module _ (g : EnumerationInput) (h : Ahead) (l r : NodeId) (left right : Look) (f : Fork g h l r left right) where
+module _ {words : ℕ} (g : EnumerationInput words) (h : Ahead words) (l r : NodeId) (left right : Look) (f : Fork g h l r left right) where
   both : text_at g h.id.index ≡ text_at g l.index ++ text_at g r.index
   both = pair-text g.view.store.now h.id.index l r f.pair
 
   pub fork-size : length (text_at g h.id.index) ≡ left.len + length (text_at g r.index)
   fork-size = ap length both ∙ length-append (text_at g l.index) (text_at g r.index) ∙ omega (arith, f.left_look.len_is)
 
-  pub fork-text : (c : List Ahead) → text_ahead g (h ∷ c) ≡ text_at g l.index ++ (text_at g r.index ++ text_ahead g c)
+  pub fork-text : (c : List (Ahead words)) → text_ahead g (h ∷ c) ≡ text_at g l.index ++ (text_at g r.index ++ text_ahead g c)
   fork-text c = ap (λ x. x ++ text_ahead g c) both ∙ append_assoc (text_at g l.index) (text_at g r.index) (text_ahead g c)
 
   pub fork-height : height_at g h.id.index ≡ max (height_at g l.index) (height_at g r.index) + 1
@@ -156,10 +156,10 @@ module _ (g : EnumerationInput) (h : Ahead) (l r : NodeId) (left right : Look) (
   pub ahead-right : IsAhead g (sibling h r left right)
   ahead-right = record { live = omega (arith, f.pair.2, f.is_ahead.live); look = f.right_look; positive = omega (arith, f.is_ahead.positive); low = omega (arith, f.is_ahead.low, fork-size) }
 
-  pub ahead-left : (between : Between) (next : ℕ) → IsAhead g (child h l left between next)
+  pub ahead-left : (between : Between words) (next : ℕ) → IsAhead g (child h l left between next)
   ahead-left between next = record { live = omega (arith, f.pair.1, f.is_ahead.live); look = f.left_look; positive = f.is_ahead.positive; low = omega (arith, f.is_ahead.low, fork-size, f.left_look.len_is) }
 
-  module _ (hs : List (Option Ahead)) (q : ℕ) (c : List Ahead) (s : StandsBefore g hs h q c) where
+  module _ (hs : List (Option (Ahead words))) (q : ℕ) (c : List (Ahead words)) (s : StandsBefore g hs h q c) where
     behind : Join g (h.at + left.len + length (text_at g r.index)) c
     behind = let n : h.at + length (text_at g h.id.index) ≡ h.at + left.len + length (text_at g r.index) = omega (arith, fork-size) in subst (λ k. Join g k c) n s.join.1
 
@@ -186,7 +186,7 @@ module _ (g : EnumerationInput) (h : Ahead) (l r : NodeId) (left right : Look) (
         }
 
     -- the walk is before the left child, once the right one is put ahead
-    pub before-left : (between : Between) → AreBetween g.dfa.now q (text_at g l.index) (text_at g r.index) h.goals between.goals
+    pub before-left : (between : Between words) → AreBetween g.dfa.now q (text_at g l.index) (text_at g r.index) h.goals between.goals
         → LeadQuiet g.dfa.now q (text_at g l.index) (text_at g r.index) h.goals h.quiet between.quiet
         → StandsBefore g (hs ++ Some (sibling h r left right) ∷ []) (child h l left between (length hs + 1)) q (sibling h r left right ∷ c)
     before-left between are lead =
@@ -208,7 +208,7 @@ module _ (g : EnumerationInput) (h : Ahead) (l r : NodeId) (left right : Look) (
         }
 
   -- ---- the way down
-  module _ (q base : ℕ) (ms : List Mark) (marks_room : ℕ) (hs : List (Option Ahead)) (ahead_room : ℕ) (d : CanGoDown g h q base ms marks_room hs ahead_room) where
+  module _ (q base : ℕ) (ms : List (Mark words)) (marks_room : ℕ) (hs : List (Option (Ahead words))) (ahead_room : ℕ) (d : CanGoDown g h q base ms marks_room hs ahead_room) where
     pub down-right : (p : ℕ) → p < states_of g.dfa.now → CanGoDown g (sibling h r left right) p base ms marks_room hs ahead_room
     down-right p low = record {
       is_ahead = ahead-right;
@@ -221,7 +221,7 @@ module _ (g : EnumerationInput) (h : Ahead) (l r : NodeId) (left right : Look) (
       deep = omega (arith, fork-height, d.deep);
     }
 
-    pub down-left : (between : Between) → CanGoDown g (child h l left between (length hs + 1)) q base ms marks_room (hs ++ Some (sibling h r left right) ∷ []) ahead_room
+    pub down-left : (between : Between words) → CanGoDown g (child h l left between (length hs + 1)) q base ms marks_room (hs ++ Some (sibling h r left right) ∷ []) ahead_room
     down-left between =
         let longer : length (hs ++ Some (sibling h r left right) ∷ []) ≡ length hs + 1 = length-append hs (Some (sibling h r left right) ∷ []) in
         record {

@@ -8,7 +8,7 @@ use Rattle.span_enum.proofs.Tuples.{few-marks}
 use Rattle.span_enum.proofs.Words.{IsNext-byte, IsNext-fork, IsNext-front, append-same, none-byte, none-fork, none-passed, over-append, over-plain, over-split, read-cut, write_word-append}
 
 -- ---- what is read
-module _ (g : EnumerationInput) (w : Marked) (q : ℕ) (back : List ℕ) (leads : Leads g w q back) where
+module _ {words : ℕ} (g : EnumerationInput words) (w : Marked) (q : ℕ) (back : List ℕ) (leads : Leads g w q back) where
   pub leads-on : (v : Marked) (r : ℕ) (u : List ℕ) → back ≡ bytes_of v ++ u → reached g.dfa.now q v ≡ Some r → Leads g (w ++ v) r u
   leads-on v r u parts run = record {
     parts = leads.parts ∙ ap (λ s. bytes_of w ++ s) parts ∙ sym (append_assoc (bytes_of w) (bytes_of v) u) ∙ ap (λ s. s ++ u) (sym (bytes-append w v));
@@ -32,7 +32,7 @@ over-on t at x b u m quiet mark =
 
 -- ---- the marks of a word
 -- letters without marks more
-pub kept-plain : (g : EnumerationInput) (n : ℕ) (w : Marked) (ms : List Mark) (hs : List (Option Ahead)) (x : List ℕ) → AreKept g n w ms hs → AreKept g n (w ++ plain x) ms hs
+pub kept-plain : {words : ℕ} (g : EnumerationInput words) (n : ℕ) (w : Marked) (ms : List (Mark words)) (hs : List (Option (Ahead words))) (x : List ℕ) → AreKept g n w ms hs → AreKept g n (w ++ plain x) ms hs
 kept-plain g zero w ms hs x k = (k.0 ++ x, ap (λ v. v ++ plain x) k.1 ∙ sym (plain-append k.0 x), k.2, k.3)
 kept-plain g (suc n) w ms hs x k =
     let l = k.0 in
@@ -41,7 +41,7 @@ kept-plain g (suc n) w ms hs x k =
     ap (λ v. v ++ plain x) l.word_is ∙ append_assoc l.before ((m.mark, m.byte) ∷ plain l.bare) (plain x) ∙ ap (λ v. l.before ++ (m.mark, m.byte) ∷ v) (sym (plain-append l.bare x)) in
     (record { others = l.others; mark = m; marks_are = l.marks_are; before = l.before; bare = l.bare ++ x; word_is = word; kept = l.kept }, k.1)
 
-pub kept-count : (g : EnumerationInput) (n : ℕ) (w : Marked) (ms : List Mark) (hs : List (Option Ahead)) → AreKept g n w ms hs → mark_count w ≡ length ms
+pub kept-count : {words : ℕ} (g : EnumerationInput words) (n : ℕ) (w : Marked) (ms : List (Mark words)) (hs : List (Option (Ahead words))) → AreKept g n w ms hs → mark_count w ≡ length ms
 kept-count g zero w ms hs k = ap mark_count k.1 ∙ count-plain k.0 ∙ sym (ap length k.2)
 kept-count g (suc n) w ms hs k =
     let l = k.0 in
@@ -50,7 +50,7 @@ kept-count g (suc n) w ms hs k =
     omega (arith, kept-count g n l.before l.others (take m.base hs) k.1, parts, count-more m.mark m.byte (plain l.bare) l.kept.some, count-plain l.bare, ap length l.marks_are, length-append l.others (m ∷ []))
 
 -- few nodes are kept for each mark
-pub kept-short : (g : EnumerationInput) (n : ℕ) (w : Marked) (ms : List Mark) (hs : List (Option Ahead)) → AreKept g n w ms hs → length hs ≤ 1 + 69 * length ms
+pub kept-short : {words : ℕ} (g : EnumerationInput words) (n : ℕ) (w : Marked) (ms : List (Mark words)) (hs : List (Option (Ahead words))) → AreKept g n w ms hs → length hs ≤ 1 + 69 * length ms
 kept-short g zero w ms hs k = omega (arith, k.3)
 kept-short g (suc n) w ms hs k =
     let l = k.0 in
@@ -58,14 +58,14 @@ kept-short g (suc n) w ms hs k =
     omega (arith, kept-short g n l.before l.others (take m.base hs) k.1, length-take-le m.base hs l.kept.low, fits-short g m.base hs l.kept.fits, ap length l.marks_are, length-append l.others (m ∷ []))
 
 -- a tuple of n variables has no more marks
-pub kept-few : (g : EnumerationInput) (t : Tuple) (k n : ℕ) (w v : Marked) (ms : List Mark) (hs : List (Option Ahead)) → length t ≡ k → word_over t 1 (whole_text g) ≡ w ++ v → AreKept g n w ms hs
+pub kept-few : {words : ℕ} (g : EnumerationInput words) (t : Tuple) (k n : ℕ) (w v : Marked) (ms : List (Mark words)) (hs : List (Option (Ahead words))) → length t ≡ k → word_over t 1 (whole_text g) ≡ w ++ v → AreKept g n w ms hs
     → length ms + mark_count v ≤ 2 * k
 kept-few g t k n w v ms hs size word kept = omega (arith, few-marks k t (whole_text g) size, ap mark_count word, mark_count-append w v, kept-count g n w ms hs kept)
 
 -- ---- one mark more, after letters without marks
-module _ (g : EnumerationInput) (at : ℕ) (place : Place) (base : ℕ) (word : Marked) (ms more : List Mark) (hs old new : List (Option Ahead)) (c : List Ahead) (b : Behind g at place base word ms hs c) (k : Keeps g base ms more old new)
+module _ {words : ℕ} (g : EnumerationInput words) (at : ℕ) (place : Place) (base : ℕ) (word : Marked) (ms more : List (Mark words)) (hs old new : List (Option (Ahead words))) (c : List (Ahead words)) (b : Behind g at place base word ms hs c) (k : Keeps g base ms more old new)
     (same : take base old ≡ take base hs) (low : base ≤ length old) (way : Way g new at place.state c k.mark) (some : 0 < k.mark.mark) where
-  abbrev m : Mark
+  abbrev m : Mark words
   m = k.mark
 
   abbrev front : Marked
@@ -105,7 +105,7 @@ module _ (g : EnumerationInput) (at : ℕ) (place : Place) (base : ℕ) (word : 
   }
 
 -- ---- the last of the marks that are kept of a tuple
-pub last-same : (ms others : List Mark) (m last : Mark) → ms ≡ others ++ m ∷ [] → IsLast ms last → (last ≡ m) × (take (length ms - 1) ms ≡ others)
+pub last-same : {words : ℕ} (ms others : List (Mark words)) (m last : Mark words) → ms ≡ others ++ m ∷ [] → IsLast ms last → (last ≡ m) × (take (length ms - 1) ms ≡ others)
 last-same ms others m last e is =
     let size : length ms ≡ length others + 1 = ap length e ∙ length-append others (m ∷ []) in
     let same = append-same (take (length ms - 1) ms) (last ∷ []) others (m ∷ []) (omega (arith, length-take-le (length ms - 1) ms (omega arith), size)) (sym is ∙ e) in
@@ -113,7 +113,7 @@ last-same ms others m last e is =
     (cc, same.0)
 
 -- the last mark, those before it, and, after it, what comes after the tuple
-pub record Last (g : EnumerationInput) (t : Tuple) (others : List Mark) (hs : List (Option Ahead)) (m : Mark) : Type 0 where
+pub record Last {words : ℕ} (g : EnumerationInput words) (t : Tuple) (others : List (Mark words)) (hs : List (Option (Ahead words))) (m : Mark words) : Type 0 where
   pub before : Marked
   pub behind : Marked
   pub word_is : word_over t 1 (whole_text g) ≡ before ++ (m.mark, m.byte) ∷ behind
@@ -122,11 +122,11 @@ pub record Last (g : EnumerationInput) (t : Tuple) (others : List Mark) (hs : Li
   pub rest : AreKept g count before others (take m.base hs)
   pub none : (q : ℕ) → reached g.dfa.now m.state ((m.mark, m.byte) ∷ []) ≡ Some q → NoneAfter g.dfa.now q (text_ahead g kept.chain) g.finals behind
 
-module _ (g : EnumerationInput) (t : Tuple) (ms : List Mark) (hs : List (Option Ahead)) (is : IsTrailOf g t ms hs) where
+module _ {words : ℕ} (g : EnumerationInput words) (t : Tuple) (ms : List (Mark words)) (hs : List (Option (Ahead words))) (is : IsTrailOf g t ms hs) where
   abbrev a : DeterministicAutomaton
   a = g.dfa.now
 
-  pub last-kept : (m : Mark) → IsLast ms m → Last g t (take (length ms - 1) ms) hs m
+  pub last-kept : (m : Mark words) → IsLast ms m → Last g t (take (length ms - 1) ms) hs m
   last-kept m last = by is.count is.kept
     where
       by : (n : ℕ) → AreKept g n is.read ms hs → Last g t (take (length ms - 1) ms) hs m
@@ -166,10 +166,10 @@ module _ (g : EnumerationInput) (t : Tuple) (ms : List Mark) (hs : List (Option 
           rw word (subst (λ s. NoneAfter a 0 s g.finals (plain k.0 ++ is.left)) (sym text) (none-passed a 0 k.0 is.back g.finals is.left (λ q run. is.none q (ap (reached a 0) k.1 ∙ run))))
 
 -- ---- the kept marks without the last one, and with a lower one instead
-abbrev pub lower : Mark → ℕ → Mark
+abbrev pub lower : {words : ℕ} → Mark words → ℕ → Mark words
 lower m x = record { at = m.at; mark = x; byte = m.byte; state = m.state; goals = m.goals; next = m.next; base = m.base }
 
-module _ (g : EnumerationInput) (t : Tuple) (others : List Mark) (hs : List (Option Ahead)) (m : Mark) (k : Last g t others hs m) where
+module _ {words : ℕ} (g : EnumerationInput words) (t : Tuple) (others : List (Mark words)) (hs : List (Option (Ahead words))) (m : Mark words) (k : Last g t others hs m) where
   abbrev rest : List ℕ
   rest = text_ahead g k.kept.chain
 
@@ -195,7 +195,7 @@ module _ (g : EnumerationInput) (t : Tuple) (others : List Mark) (hs : List (Opt
     abbrev low-letter : Marked
     low-letter = (l.mark, m.byte) ∷ []
 
-    turned : (base : ℕ) (more : List Mark) → Fits g base hs → base ≤ length hs → (n : ℕ) → AreKept g n (k.before ++ low-letter) more (take base hs) → IsTurned g t l (record { next = m.next; base = base }) more hs
+    turned : (base : ℕ) (more : List (Mark words)) → Fits g base hs → base ≤ length hs → (n : ℕ) → AreKept g n (k.before ++ low-letter) more (take base hs) → IsTurned g t l (record { next = m.next; base = base }) more hs
     turned base more fits low n kept = record {
       word = k.before ++ low-letter;
       positive = omega (arith, at, k.kept.at_is);

@@ -2,6 +2,7 @@ mod Base
 mod Answerings
 mod Chains
 pub mod Exists
+mod Joined
 mod Kept
 pub mod Pages
 mod Roots
@@ -11,5 +12,6 @@ mod Tuples
 mod Walks
 mod Ways
 mod Words
+mod WordSets
 mod Agreed
 mod LastEnds

@@ -1,9 +1,9 @@
 -- Runs over letters, the first marked text, and the ends of texts.
 use Rattle.span_enum.proofs.Base.{Accepted, All, Any, Any-from_list_any, Bool, CanRun, Contains, Contains-get_or, DeterministicAutomaton, IsDeterministic, IsFirst, IsTable, IsTableOf, List, Marked, None, Option, Parts, Row, Some, []}
-use Rattle.span_enum.proofs.Base.{and_le_l, ap, arith, bit-member, bit_and, bit_at, bit_at-lt, bit_at-trailing_zeros, bit_at-zero, bit_at_and, bool-cases, bytes-append, bytes-none, bytes-plain, bytes_of, can_reach_of, cases_eq, end_in}
+use Rattle.span_enum.proofs.Base.{ap, arith, bit-member, bit_and, bit_at, bit_at-lt, bit_at-suc, bit_at-zero, bit_at_and, bit_at_lowest, bool-cases, bytes-append, bytes-none, bytes-plain, bytes_of, can_reach_of, cases_eq, end_in}
 use Rattle.span_enum.proofs.Base.{ends_of, eq-eqb, eqb-true, false, four_le, get_or, has_mark, if◌then◌else◌, inl, inr, is_final, is_goal, length, list_any, list_any_at, marked_of, marks_of, member, member-bit, member-single_same, min}
 use Rattle.span_enum.proofs.Base.{ne_eqb, next_of, not, not-both, one-letter, onto, or-cases, or-left, or-right, path, path-on, path-one, path-parts, plain, plain-from_no_mark, precedes-append, precedes-prefix, reached, refl, same-state}
-use Rattle.span_enum.proofs.Base.{states_of, subst, suc, sym, then-between, trailing_zeros, true, unmarked_of, w128, zero, ℕ, ◌++◌, ◌<◌, ◌==◌, ◌^◌, ◌↔◌, ◌∙◌, ◌∷◌, ◌≡◌, ◌≤◌, ◌⊎◌}
+use Rattle.span_enum.proofs.Base.{states_of, subst, suc, sym, then-between, true, unmarked_of, zero, ℕ, ◌%◌, ◌^◌, ◌++◌, ◌/◌, ◌<◌, ◌==◌, ◌↔◌, ◌∙◌, ◌∷◌, ◌≡◌, ◌≤◌, ◌⊎◌}
 use Rattle.span_enum.specs.Letters.{step_of}
 
 -- ---- marks in the list of those with which a text may end
@@ -105,13 +105,19 @@ shared-none a b q none ha hb =
     let zero' : bit_at (bit_and a b) q ≡ 0 = rw (none, bit_at-zero q) refl in
     omega (arith, both, zero')
 
-pub shared-some : (a b : ℕ) → a < 2 ^ 128 → (bit_and a b ≡ 0 → ⊥) → (q : ℕ) × (member a q ≡ true) × (member b q ≡ true)
-shared-some a b ha some =
+some-bit : (most n : ℕ) → n ≤ most → 0 < n → (i : ℕ) × (bit_at n i ≡ 1)
+some-bit zero n le pos = absurd (omega (arith, le, pos))
+some-bit (suc most) n le pos = elim (cases_eq (n % 2) 1) [
+  | inl odd ↦ (0, bit_at_lowest n ∙ odd)
+  | inr even ↦ let half = some-bit most (n / 2) (omega (arith, le, pos, even)) (omega (arith, pos, even)) in (suc half.0, bit_at-suc n half.0 ∙ half.1)
+]
+
+pub shared-some : (a b : ℕ) → (bit_and a b ≡ 0 → ⊥) → (q : ℕ) × (member a q ≡ true) × (member b q ≡ true)
+shared-some a b some =
     let n = bit_and a b in
     let pos : 0 < n = elim (cases_eq n 0) [ inl e ↦ absurd (some e) | inr ne ↦ omega arith ] in
-    let low : n < 2 ^ 128 = omega (arith, and_le_l a b) in
-    let at = bit_at-trailing_zeros w128 n pos low in
-    let q = trailing_zeros w128 n in
+    let at = some-bit n n (omega arith) pos in
+    let q = at.0 in
     let both : min (bit_at a q) (bit_at b q) ≡ 1 = sym (bit_at_and a b q) ∙ at.1 in
     (q, member-bit a q (omega (arith, both, bit_at-lt a q)), member-bit b q (omega (arith, both, bit_at-lt b q)))
 
@@ -153,18 +159,18 @@ marks-or_plain a s t p q w is low bytes ends = elim (bool-cases (has_mark w)) [
 ]
 
 -- some run with marks leads into a goal
-pub marked-run : (a : DeterministicAutomaton) (s : List ℕ) (t : List Row) (p goals : ℕ) → Tells a s t → p < states_of a → marked_of t p < 2 ^ 128 → (bit_and (marked_of t p) goals ≡ 0 → ⊥)
+pub marked-run : (a : DeterministicAutomaton) (s : List ℕ) (t : List Row) (p goals : ℕ) → Tells a s t → p < states_of a → (bit_and (marked_of t p) goals ≡ 0 → ⊥)
     → (q : ℕ) × (member goals q ≡ true) × HasMarkedRun a p s q
-marked-run a s t p goals is low small some =
-    let found = shared-some (marked_of t p) goals small some in
+marked-run a s t p goals is low some =
+    let found = shared-some (marked_of t p) goals some in
     (found.0, found.2, (is.marked p found.0 low).0 found.1)
 
-pub run-from_table : (a : DeterministicAutomaton) (s : List ℕ) (t : List Row) (p goals : ℕ) → Tells a s t → p < states_of a → marked_of t p < 2 ^ 128
+pub run-from_table : (a : DeterministicAutomaton) (s : List ℕ) (t : List Row) (p goals : ℕ) → Tells a s t → p < states_of a
     → can_reach_of t p goals ≡ true → CanRun a p s goals
-run-from_table a s t p goals is low small can = elim (reach-cases t p goals can) [
+run-from_table a s t p goals is low can = elim (reach-cases t p goals can) [
   | inl e ↦ record { word = plain s; state = e.0; bytes = bytes-plain s; ends = sym (is.unmarked p low) ∙ e.1; goal = e.2 }
   | inr some ↦
-      let k = marked-run a s t p goals is low small some in
+      let k = marked-run a s t p goals is low some in
       record { word = k.2.word; state = k.0; bytes = k.2.bytes; ends = k.2.ends; goal = k.1 }
 ]
 

@@ -33,10 +33,10 @@ pub record IsMarkInto (a : DeterministicAutomaton) (p b goals mark state : ℕ) 
   pub goal : member goals state ≡ true
 
 -- a run with marks over one letter has one
-pub mark-into : (a : DeterministicAutomaton) (auto : IsDeterministic a) (s : List ℕ) (t : List Row) (p b goals : ℕ) → Tells a s t → p < states_of a → marked_of t p < 2 ^ 128 → s ≡ b ∷ []
+pub mark-into : (a : DeterministicAutomaton) (auto : IsDeterministic a) (s : List ℕ) (t : List Row) (p b goals : ℕ) → Tells a s t → p < states_of a → s ≡ b ∷ []
     → (bit_and (marked_of t p) goals ≡ 0 → ⊥) → (m : ℕ) × ((q : ℕ) × IsMarkInto a p b goals m q)
-mark-into a auto s t p b goals is low few at some =
-    let run = marked-run a s t p goals is low few some in
+mark-into a auto s t p b goals is low at some =
+    let run = marked-run a s t p goals is low some in
     let one = one-letter (step_of a) p b run.0 run.2.word (run.2.bytes ∙ at) run.2.ends in
     let count : 0 < mark_count ((one.mark, b) ∷ []) = rw one.word at (has-count run.2.word run.2.mark) in
     (one.mark, (run.0, record { some = by one.mark count; small = low-mark a auto p one.mark b run.0 one.step; step = one.step; goal = run.1 }))
@@ -126,14 +126,14 @@ are-between a auto s u tl tr p goals from set low il ir is among = record {
         | inr bare ↦ or-right _ _ (ap (λ o. member (single_of o) n) bare.1 ∙ member-single_same n)
       ] in
       among.all n row (table-from_run a u tr n goals ir (run-within a auto p n x low ends) run);
-  onward = λ n h. let k = among.only n h in run-from_table a u tr n goals ir (omega (arith, k.0, ir.shape.states)) k.2 k.1;
+  onward = λ n h. let k = among.only n h in run-from_table a u tr n goals ir (omega (arith, k.0, ir.shape.states)) k.1;
 }
 
 -- a run over both goes over the first into a state between
-pub between-left : (a : DeterministicAutomaton) (s u : List ℕ) (t tl : List Row) (p goals between : ℕ) → Tells a (s ++ u) t → Tells a s tl → p < states_of a → marked_of t p < 2 ^ 128
+pub between-left : (a : DeterministicAutomaton) (s u : List ℕ) (t tl : List Row) (p goals between : ℕ) → Tells a (s ++ u) t → Tells a s tl → p < states_of a
     → AreBetween a p s u goals between → can_reach_of t p goals ≡ true → can_reach_of tl p between ≡ true
-between-left a s u t tl p goals between it il low small is can =
-    let run = run-from_table a (s ++ u) t p goals it low small can in
+between-left a s u t tl p goals between it il low is can =
+    let run = run-from_table a (s ++ u) t p goals it low can in
     let c = path-parts (step_of a) p s u run.word run.state run.bytes run.ends in
     let goal = is.reach c.middle c.left c.left_bytes c.left_ends (run-behind a p s u run.word run.state goals c run.goal) in
     table-from_run a s tl p between il low (record { word = c.left; state = c.middle; bytes = c.left_bytes; ends = c.left_ends; goal = goal })
@@ -179,11 +179,11 @@ mark-plain [] v = refl
 mark-plain (b ∷ s) v = mark-plain s v
 
 module _ (a : DeterministicAutomaton) (s u : List ℕ) (t tl tr : List Row) (p q goals : ℕ) (it : Tells a (s ++ u) t) (il : Tells a s tl) (ir : Tells a u tr) (low : p < states_of a)
-    (small : marked_of t p < 2 ^ 128) (within : q < states_of a) (some : bit_and (marked_of t p) goals ≡ 0 → ⊥) (step : unmarked_of tl p ≡ Some q) where
+    (within : q < states_of a) (some : bit_and (marked_of t p) goals ≡ 0 → ⊥) (step : unmarked_of tl p ≡ Some q) where
   -- where no run with marks over the first text leads on, one with marks over the second does
   some-right : (between : ℕ) → AreBetween a p s u goals between → bit_and (marked_of tl p) between ≡ 0 → bit_and (marked_of tr q) goals ≡ 0 → ⊥
   some-right between are none zero' =
-      let run = marked-run a (s ++ u) t p goals it low small some in
+      let run = marked-run a (s ++ u) t p goals it low some in
       let c = path-parts (step_of a) p s u run.2.word run.0 run.2.bytes run.2.ends in
       elim (marks-or_plain a s tl p c.middle c.left il low c.left_bytes c.left_ends) [
         | inl marked ↦ shared-none (marked_of tl p) between c.middle none marked (are.reach c.middle c.left c.left_bytes c.left_ends (run-behind a p s u run.2.word run.0 goals c run.1))
@@ -216,7 +216,7 @@ module _ (a : DeterministicAutomaton) (s u : List ℕ) (t tl tr : List Row) (p q
 
       are : AreBetween a p s u goals (2 ^ q)
       are =
-          let run = run-from_table a (s ++ u) t p goals it low small (some-can t p goals some) in
+          let run = run-from_table a (s ++ u) t p goals it low (some-can t p goals some) in
           let c = path-parts (step_of a) p s u run.word run.state run.bytes run.ends in
           let on = subst (λ k. CanRun a k u goals) (one c.middle c.left c.left_bytes c.left_ends) (run-behind a p s u run.word run.state goals c run.goal) in
           record {

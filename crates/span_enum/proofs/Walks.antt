@@ -14,21 +14,21 @@ use Rattle.span_enum.proofs.Ways.{Next, back-none, meets-on, next-node, some-mar
 use Rattle.span_enum.proofs.Words.{none-passed, none-plain, over-append, over-count, over-plain, write-bare, write_word-append}
 
 -- ---- heights
-pub height-short : (g : EnumerationInput) (h : Ahead) (len : ℕ) → IsAhead g h → length (text_at g h.id.index) ≤ len → height_at g h.id.index ≤ height_limit len
+pub height-short : {words : ℕ} (g : EnumerationInput words) (h : Ahead words) (len : ℕ) → IsAhead g h → length (text_at g h.id.index) ≤ len → height_at g h.id.index ≤ height_limit len
 height-short g h len is le = height-within (tree g.view.store.now h.id.index) len (height_limit len) is.look.balanced (rw (length-text (tree g.view.store.now h.id.index)) at le) (height_limit-right len)
 
-pub height-lowest : (g : EnumerationInput) (h : Ahead) → IsAhead g h → height_at g h.id.index ≤ 68
+pub height-lowest : {words : ℕ} (g : EnumerationInput words) (h : Ahead words) → IsAhead g h → height_at g h.id.index ≤ 68
 height-lowest g h is = height-most (tree g.view.store.now h.id.index) is.look.balanced (omega (arith, length-text (tree g.view.store.now h.id.index), is.look.len_is, is.look.short))
 
 -- ---- the node at which the walk turns
 -- the walk comes to the node, and the list is cut before it
-pub record Arrives (g : EnumerationInput) (hs : List (Option Ahead)) (cut at : ℕ) (from place : Place) (c : List Ahead) (h : Ahead) : Type 0 where
+pub record Arrives {words : ℕ} (g : EnumerationInput words) (hs : List (Option (Ahead words))) (cut at : ℕ) (from place : Place) (c : List (Ahead words)) (h : Ahead words) : Type 0 where
   pub passes : PassesPlain g hs at from place c
   pub turns : Turns place.state passes.passes.back
   pub node : Next g hs at from place c passes.passes h
   pub before : StandsBefore g (take cut hs) h place.state node.rest
 
-pub arrives : (g : EnumerationInput) → IsEnumerationInput g → (hs : List (Option Ahead)) (base cut at : ℕ) (from place : Place) (c : List Ahead) (h : Ahead) → (p : PassesPlain g hs at from place c) × Turns place.state p.passes.back → 0 < place.next
+pub arrives : {words : ℕ} (g : EnumerationInput words) → IsEnumerationInput g → (hs : List (Option (Ahead words))) (base cut at : ℕ) (from place : Place) (c : List (Ahead words)) (h : Ahead words) → (p : PassesPlain g hs at from place c) × Turns place.state p.passes.back → 0 < place.next
     → ((before : ℕ) → place.next ≡ suc before → slice_get hs before ≡ Some (Some h)) → cut ≡ max base (place.next - 1) → Arrives g hs cut at from place c h
 arrives g is hs base cut at from place c h pass some found e =
     let n = next-node g is hs at from place c pass.0.passes h some found in
@@ -36,7 +36,7 @@ arrives g is hs base cut at from place c h pass some found e =
     let low : h.next ≤ cut = omega (arith, e, n.stands.ahead.0.counted, n.stands.ahead.0.earlier) in
     record { passes = pass.0; turns = pass.1; node = n; before = record { ahead = ahead-move hs (take cut hs) cut h.next n.rest (λ i x lt there. slice-take cut i hs lt ∙ there) low k.ahead; join = k.join; goals = k.goals; state = k.state } }
 
-module _ (g : EnumerationInput) (hs : List (Option Ahead)) (cut at : ℕ) (from place : Place) (c : List Ahead) (h : Ahead) (a : Arrives g hs cut at from place c h) where
+module _ {words : ℕ} (g : EnumerationInput words) (hs : List (Option (Ahead words))) (cut at : ℕ) (from place : Place) (c : List (Ahead words)) (h : Ahead words) (a : Arrives g hs cut at from place c h) where
   abbrev x : List ℕ
   x = a.passes.passes.front
 
@@ -51,14 +51,14 @@ module _ (g : EnumerationInput) (hs : List (Option Ahead)) (cut at : ℕ) (from 
       height-short g h len a.node.stands.goals.0
       (omega (arith, le, ap length to-node.parts, length-append x (text_ahead g (h ∷ a.node.rest)), length-append (text_at g h.id.index) (text_ahead g a.node.rest)))
 
-  pub arrives-meets : (base before after : ℕ) (marks more : List Mark) (new : List (Option Ahead)) (out out' : Tuple) (to : Place)
+  pub arrives-meets : (base before after : ℕ) (marks more : List (Mark words)) (new : List (Option (Ahead words))) (out out' : Tuple) (to : Place)
       → (d : Descends g h place.state base marks more (take cut hs) new before after out out' to) → Meets g new at from.state c d.keeps.mark to
   arrives-meets base before after marks more new out out' to d =
       meets-on g new at h.at from.state place.state x c (h ∷ a.node.rest) d.keeps.mark to to-node a.node.stands.join.0
       (subst (λ b. GoesFirst g from.state c (plain x) place.state b) a.node.back a.passes.first) (d.meets a.node.rest a.before (rw a.node.back at a.passes.can))
 
 -- ---- room for the way down
-pub cut-deep : (g : EnumerationInput) (hs : List (Option Ahead)) (at base : ℕ) (h : Ahead) (b : List Ahead) → AreAhead hs at (h ∷ b) → IsAhead g h → base ≤ length hs → Fits g base hs
+pub cut-deep : {words : ℕ} (g : EnumerationInput words) (hs : List (Option (Ahead words))) (at base : ℕ) (h : Ahead words) (b : List (Ahead words)) → AreAhead hs at (h ∷ b) → IsAhead g h → base ≤ length hs → Fits g base hs
     → height_at g h.id.index + (length (take (max base (at - 1)) hs) - base) ≤ 68
 cut-deep g hs at base h b ahead is low fits =
     let within = slice_get_within hs ahead.0.before (Some h) ahead.0.there in
@@ -71,8 +71,8 @@ cut-deep g hs at base h b ahead is low fits =
     ]
 
 -- ---- the rest of the first marked text
-module _ (g : EnumerationInput) (from : Place) (base : ℕ) (word : Marked) (marks : List Mark) (hs : List (Option Ahead)) (b : Begins g from base word marks hs) where
-  abbrev c : List Ahead
+module _ {words : ℕ} (g : EnumerationInput words) (from : Place) (base : ℕ) (word : Marked) (marks : List (Mark words)) (hs : List (Option (Ahead words))) (b : Begins g from base word marks hs) where
+  abbrev c : List (Ahead words)
   c = b.chain
 
   abbrev back : List ℕ
@@ -118,7 +118,7 @@ module _ (g : EnumerationInput) (from : Place) (base : ℕ) (word : Marked) (mar
       finds-plain (Some place.state) looks place.state out refl (subst (λ w. IsFirst g.dfa.now from.state back g.finals w place.state) (append-nil (plain x) ∙ ap plain (sym texts)) first)
 
   -- a mark is found at a node, and then the rest after it
-  module _ (place : Place) (h : Ahead) (cut : ℕ) (n : Arrives g hs cut b.at from place c h) (fit : base ≤ cut) where
+  module _ (place : Place) (h : Ahead words) (cut : ℕ) (n : Arrives g hs cut b.at from place c h) (fit : base ≤ cut) where
     abbrev low : base ≤ length (take cut hs)
     low = omega (arith, length-take cut hs, fit, b.behind.low)
 
@@ -140,14 +140,14 @@ module _ (g : EnumerationInput) (from : Place) (base : ℕ) (word : Marked) (mar
           deep = rw e (cut-deep g hs place.next base h n.node.rest n.node.stands.ahead n.node.stands.goals.0 b.behind.low b.fits);
         }
 
-    module _ (auto : IsDeterministic g.dfa.now) (to : Place) (ms1 : List Mark) (hs1 : List (Option Ahead)) (before mid : ℕ) (out out1 : Tuple) (d : Descends g h place.state base marks ms1 (take cut hs) hs1 before mid out out1 to) where
+    module _ (auto : IsDeterministic g.dfa.now) (to : Place) (ms1 : List (Mark words)) (hs1 : List (Option (Ahead words))) (before mid : ℕ) (out out1 : Tuple) (d : Descends g h place.state base marks ms1 (take cut hs) hs1 before mid out out1 to) where
       abbrev k : Meets g hs1 b.at from.state c d.keeps.mark to
       k = arrives-meets g hs cut b.at from place c h n base before mid marks ms1 hs1 out out1 to d
 
       abbrev same : take base (take cut hs) ≡ take base hs
       same = take-take base cut hs fit
 
-      abbrev m : Mark
+      abbrev m : Mark words
       m = d.keeps.mark
 
       abbrev letters : Marked
@@ -161,7 +161,7 @@ module _ (g : EnumerationInput) (from : Place) (base : ℕ) (word : Marked) (mar
           let on = behind-mark g b.at from base word marks ms1 hs (take cut hs) hs1 c b.behind d.keeps same low k.way k.on.some to auto k.on.step k.on.next k.on.quiet in
           (word-on, record { at = m.at + 1; chain = k.way.back; behind = on; can = k.on.can; fits = fits-none g hs1 })
 
-      pub finds-more : (hs2 : List (Option Ahead)) (ms2 : List Mark) (after : ℕ) (r : Option ℕ) (out2 : Tuple) → Completes g to (length hs1) ms1 ms2 hs1 hs2 mid after r out1 out2 → Finds g from word back ms2 hs2 before after r out out2
+      pub finds-more : (hs2 : List (Option (Ahead words))) (ms2 : List (Mark words)) (after : ℕ) (r : Option ℕ) (out2 : Tuple) → Completes g to (length hs1) ms1 ms2 hs1 hs2 mid after r out1 out2 → Finds g from word back ms2 hs2 before after r out out2
       finds-more hs2 ms2 after r out2 on =
           let f = on word-on begins-on.1 in
           let high = arrives-high g hs cut b.at from place c h n (length (whole_text g)) (omega (arith, leads-size g word from.state back b.behind.leads)) in
@@ -188,13 +188,13 @@ module _ (g : EnumerationInput) (from : Place) (base : ℕ) (word : Marked) (mar
 
 -- ---- along the marks of a tuple
 -- the walk is before the node over the position
-pub record StandsOver (g : EnumerationInput) (t : Tuple) (hs : List (Option Ahead)) (position : ℕ) (to : Place) (ms : List Mark) (h : Ahead) : Type 0 where
-  pub rest : List Ahead
+pub record StandsOver {words : ℕ} (g : EnumerationInput words) (t : Tuple) (hs : List (Option (Ahead words))) (position : ℕ) (to : Place) (ms : List (Mark words)) (h : Ahead words) : Type 0 where
+  pub rest : List (Ahead words)
   pub follows : Follows g t hs h.at to ms (h ∷ rest)
   pub over : IsOver g h position
   pub quiet : IsUnmarked t h.at position
 
-module _ (g : EnumerationInput) (t : Tuple) (hs : List (Option Ahead)) (at : ℕ) (place : Place) (ms : List Mark) (c : List Ahead) (f : Follows g t hs at place ms c) where
+module _ {words : ℕ} (g : EnumerationInput words) (t : Tuple) (hs : List (Option (Ahead words))) (at : ℕ) (place : Place) (ms : List (Mark words)) (c : List (Ahead words)) (f : Follows g t hs at place ms c) where
   abbrev ahead : List ℕ
   ahead = text_ahead g c
 
@@ -267,12 +267,12 @@ module _ (g : EnumerationInput) (t : Tuple) (hs : List (Option Ahead)) (at : ℕ
       (ap (reached a place.state) words ∙ path-dead (step_of a) place.state (plain near) rest dies) cost
 
 -- what holds of each place where the walk may stand holds of this one
-module _ (g : EnumerationInput) (t : Tuple) (hs : List (Option Ahead)) (at : ℕ) (place : Place) (ms : List Mark) (c : List Ahead) (f : Follows g t hs at place ms c) (position : ℕ) (late : at ≤ position) (le : position ≤ length (whole_text g) + 1) (quiet : IsUnmarked t at position) where
+module _ {words : ℕ} (g : EnumerationInput words) (t : Tuple) (hs : List (Option (Ahead words))) (at : ℕ) (place : Place) (ms : List (Mark words)) (c : List (Ahead words)) (f : Follows g t hs at place ms c) (position : ℕ) (late : at ≤ position) (le : position ≤ length (whole_text g) + 1) (quiet : IsUnmarked t at position) where
   pub most : position ≤ at + length (text_ahead g c)
   most = omega (arith, le, follows-size g t hs at place ms c f)
 
   abbrev Comes : Place → Type 0
-  Comes to = (x : ℕ) (d : List Ahead) → Stands g hs x place d → x ≤ position → position ≤ x + length (text_ahead g d) → (p : PassesTo g hs x position place to d) × EndsBehind g position p.passes.back
+  Comes to = (x : ℕ) (d : List (Ahead words)) → Stands g hs x place d → x ≤ position → position ≤ x + length (text_ahead g d) → (p : PassesTo g hs x position place to d) × EndsBehind g position p.passes.back
 
   pub comes-there : (to : Place) → Comes to → (p : PassesTo g hs at position place to c) × EndsBehind g position p.passes.back
   comes-there to all = all at c f.behind.stands late most
@@ -287,7 +287,7 @@ module _ (g : EnumerationInput) (t : Tuple) (hs : List (Option Ahead)) (at : ℕ
       followed-none g t hs (at + length p.passes.front) to ms [] on (Some to.state) looks looks (none-plain g.dfa.now to.state [] g.finals) refl (omega arith)
 
   -- the node over the position comes next
-  pub over-node : IsEnumerationInput g → (to : Place) (h : Ahead) → Comes to → 0 < to.next → ((before : ℕ) → to.next ≡ suc before → slice_get hs before ≡ Some (Some h)) → StandsOver g t hs position to ms h
+  pub over-node : IsEnumerationInput g → (to : Place) (h : Ahead words) → Comes to → 0 < to.next → ((before : ℕ) → to.next ≡ suc before → slice_get hs before ≡ Some (Some h)) → StandsOver g t hs position to ms h
   over-node input to h all pos found =
       let there = comes-there to all in
       let p = there.0.passes in
@@ -301,7 +301,7 @@ module _ (g : EnumerationInput) (t : Tuple) (hs : List (Option Ahead)) (at : ℕ
       }
 
 -- ---- at the node
-module _ (g : EnumerationInput) (t : Tuple) (old : List (Option Ahead)) (position : ℕ) (to : Place) (ms : List Mark) (h : Ahead) (o : StandsOver g t old position to ms h) where
+module _ {words : ℕ} (g : EnumerationInput words) (t : Tuple) (old : List (Option (Ahead words))) (position : ℕ) (to : Place) (ms : List (Mark words)) (h : Ahead words) (o : StandsOver g t old position to ms h) where
   abbrev all : List ℕ
   all = text_ahead g (h ∷ o.rest)
 
@@ -336,15 +336,15 @@ module _ (g : EnumerationInput) (t : Tuple) (old : List (Option Ahead)) (positio
       }
 
   -- no run comes to the position
-  pub followed-fails : (before after : ℕ) (more : List Mark) (new : List (Option Ahead)) → Fails g h to.state position (length old) ms more old new
+  pub followed-fails : (before after : ℕ) (more : List (Mark words)) (new : List (Option (Ahead words))) → Fails g h to.state position (length old) ms more old new
       → after ≤ before + 2 * height_at g h.id.index → Followed g t ms more (take (length old) new) before after None
   followed-fails before after more new k cost =
       let same : take (length old) new ≡ old = k.ahead ∙ take-length old in
       let dies : Dies g to.state h.at all position = ap (λ x. reached g.dfa.now to.state (plain x)) (take-append-le (position - h.at) (text_at g h.id.index) (text_ahead g o.rest) (omega (arith, o.over.before))) ∙ k.dies in
       rw (k.kept, same) (followed-dead g t old h.at to ms (h ∷ o.rest) o.follows position before after o.over.from (omega (arith, o.over.before, over-size)) o.quiet dies (omega (arith, cost, over-high)))
 
-  module _ (more : List Mark) (mid : List (Option Ahead)) (k : Lays g t h to.state position (length old) ms more old mid) (some : 0 < mark_of t position) where
-    abbrev laid-mark : Mark
+  module _ (more : List (Mark words)) (mid : List (Option (Ahead words))) (k : Lays g t h to.state position (length old) ms more old mid) (some : 0 < mark_of t position) where
+    abbrev laid-mark : Mark words
     laid-mark = k.keeps.mark
 
     pub lays-way : Way g mid h.at to.state (h ∷ o.rest) laid-mark
@@ -383,7 +383,7 @@ module _ (g : EnumerationInput) (t : Tuple) (old : List (Option Ahead)) (positio
     lays-leads = leads-pass g word to.state all o.follows.behind.leads bare laid-mark.state (laid-mark.byte ∷ rest) lays-way.passed
 
     -- the walk continues after the mark
-    pub lays-goes : IsDeterministic g.dfa.now → (q : ℕ) (last : Mark) → last ≡ laid-mark → step_of g.dfa.now last.state last.mark last.byte ≡ Some q
+    pub lays-goes : IsDeterministic g.dfa.now → (q : ℕ) (last : Mark words) → last ≡ laid-mark → step_of g.dfa.now last.state last.mark last.byte ≡ Some q
         → CanFollow g t mid (position + 1) (record { state = q; next = last.next; quiet = false }) more
     lays-goes auto q last same step =
         let here : step_of g.dfa.now laid-mark.state laid-mark.mark laid-mark.byte ≡ Some q = rw same at step in
@@ -415,7 +415,7 @@ module _ (g : EnumerationInput) (t : Tuple) (old : List (Option Ahead)) (positio
         }
 
     -- the marks after it were kept too
-    pub followed-on : (marks : List Mark) (new : List (Option Ahead)) (before between after : ℕ) (r : Option ℕ) → between ≤ before + 2 * height_at g h.id.index
+    pub followed-on : (marks : List (Mark words)) (new : List (Option (Ahead words))) (before between after : ℕ) (r : Option ℕ) → between ≤ before + 2 * height_at g h.id.index
         → Followed g t more marks new between after r → Followed g t ms marks new before after r
     followed-on marks new before between after r cost f =
         let high = height_limit (length (whole_text g)) in

@@ -14,10 +14,10 @@ passed-on a p q r s u v x y one two = record {
   step = plain-on (step_of a) p q x y one.step ∙ two.step;
 }
 
-first-on : (g : EnumerationInput) (p q r : ℕ) (b c d : List Ahead) (x y : Marked) → GoesFirst g p b x q c → GoesFirst g q c y r d → GoesFirst g p b (x ++ y) r d
+first-on : {words : ℕ} (g : EnumerationInput words) (p q r : ℕ) (b c d : List (Ahead words)) (x y : Marked) → GoesFirst g p b x q c → GoesFirst g q c y r d → GoesFirst g p b (x ++ y) r d
 first-on g p q r b c d x y one two w n f = rw (append_assoc x y w) (one (y ++ w) n (two w n f))
 
-abbrev pub way-on : (g : EnumerationInput) (hs : List (Option Ahead)) (at here p q : ℕ) (x : List ℕ) (c d : List Ahead) (m : Mark) → Passed g.dfa.now p (text_ahead g c) x q (text_ahead g d) → here ≡ at + length x
+abbrev pub way-on : {words : ℕ} (g : EnumerationInput words) (hs : List (Option (Ahead words))) (at here p q : ℕ) (x : List ℕ) (c d : List (Ahead words)) (m : Mark words) → Passed g.dfa.now p (text_ahead g c) x q (text_ahead g d) → here ≡ at + length x
     → Way g hs here q d m → Way g hs at p c m
 way-on g hs at here p q x c d m over e k = record {
   front = x ++ k.front;
@@ -27,9 +27,9 @@ way-on g hs at here p q x c d m over e k = record {
   is_mark = k.is_mark;
 }
 
-pub meets-on : (g : EnumerationInput) (hs : List (Option Ahead)) (at here p q : ℕ) (x : List ℕ) (c d : List Ahead) (m : Mark) (to : Place) → Passed g.dfa.now p (text_ahead g c) x q (text_ahead g d) → here ≡ at + length x
+pub meets-on : {words : ℕ} (g : EnumerationInput words) (hs : List (Option (Ahead words))) (at here p q : ℕ) (x : List ℕ) (c d : List (Ahead words)) (m : Mark words) (to : Place) → Passed g.dfa.now p (text_ahead g c) x q (text_ahead g d) → here ≡ at + length x
     → GoesFirst g p c (plain x) q d → Meets g hs here q d m to → Meets g hs at p c m to
-meets-on g hs at here p q x c d m to over e first k =
+meets-on {words = words} g hs at here p q x c d m to over e first k =
     let last : Marked = (m.mark, m.byte) ∷ [] in
     let y = k.way.front in
     let words : plain (x ++ y) ++ last ≡ plain x ++ (plain y ++ last) = ap (λ v. v ++ last) (plain-append x y) ∙ append_assoc (plain x) (plain y) last in
@@ -40,20 +40,20 @@ meets-on g hs at here p q x c d m to over e first k =
     }
 
 -- ---- nodes ahead
-abbrev pub passes-none : (g : EnumerationInput) (hs : List (Option Ahead)) (at : ℕ) (from : Place) (c : List Ahead) → Stands g hs at from c → Passes g hs at from from c
+abbrev pub passes-none : {words : ℕ} (g : EnumerationInput words) (hs : List (Option (Ahead words))) (at : ℕ) (from : Place) (c : List (Ahead words)) → Stands g hs at from c → Passes g hs at from from c
 passes-none g hs at from c s = record { front = []; back = c; passed = record { parts = refl; step = refl }; stands = let same : at ≡ at + 0 = omega arith in subst (λ n. Stands g hs n from c) same s }
 
-pub plain-none : (g : EnumerationInput) (hs : List (Option Ahead)) (at : ℕ) (from : Place) (c : List Ahead) → Stands g hs at from c → CanEnd g from.state c → PassesPlain g hs at from from c
+pub plain-none : {words : ℕ} (g : EnumerationInput words) (hs : List (Option (Ahead words))) (at : ℕ) (from : Place) (c : List (Ahead words)) → Stands g hs at from c → CanEnd g from.state c → PassesPlain g hs at from from c
 plain-none g hs at from c s can = record { passes = passes-none g hs at from c s; can = can; first = λ w r f. f }
 
 -- the node that comes next, after those that were passed
-pub record Next (g : EnumerationInput) (hs : List (Option Ahead)) (at : ℕ) (from place : Place) (c : List Ahead) (p : Passes g hs at from place c) (h : Ahead) : Type 0 where
-  pub rest : List Ahead
+pub record Next {words : ℕ} (g : EnumerationInput words) (hs : List (Option (Ahead words))) (at : ℕ) (from place : Place) (c : List (Ahead words)) (p : Passes g hs at from place c) (h : Ahead words) : Type 0 where
+  pub rest : List (Ahead words)
   pub back : p.back ≡ h ∷ rest
   pub stands : Stands g hs (at + length p.front) place (h ∷ rest)
   pub tells : Tells g.dfa.now (text_at g h.id.index) h.look.table.now
 
-pub next-node : (g : EnumerationInput) → IsEnumerationInput g → (hs : List (Option Ahead)) (at : ℕ) (from place : Place) (c : List Ahead) (p : Passes g hs at from place c) (h : Ahead) → 0 < place.next
+pub next-node : {words : ℕ} (g : EnumerationInput words) → IsEnumerationInput g → (hs : List (Option (Ahead words))) (at : ℕ) (from place : Place) (c : List (Ahead words)) (p : Passes g hs at from place c) (h : Ahead words) → 0 < place.next
     → ((before : ℕ) → place.next ≡ suc before → slice_get hs before ≡ Some (Some h)) → Next g hs at from place c p h
 next-node g is hs at from place c p h some found =
     let head = next-is hs place.next p.back h p.stands.ahead some found in
@@ -65,7 +65,7 @@ next-node g is hs at from place c p h some found =
       tells = look-table g.dfa.now g.view.store.now g.view.tables.now is.ready.tables g.view.counted h.id.index _ _ _ stands.goals.0.live stands.goals.0.look;
     }
 
-module _ (g : EnumerationInput) (auto : IsDeterministic g.dfa.now) (hs : List (Option Ahead)) (at : ℕ) (from place : Place) (c : List Ahead) (p : Passes g hs at from place c) (h : Ahead) (n : Next g hs at from place c p h) where
+module _ {words : ℕ} (g : EnumerationInput words) (auto : IsDeterministic g.dfa.now) (hs : List (Option (Ahead words))) (at : ℕ) (from place : Place) (c : List (Ahead words)) (p : Passes g hs at from place c) (h : Ahead words) (n : Next g hs at from place c p h) where
   -- one node more is passed
   module _ (q : ℕ) (step : unmarked_of h.look.table.now place.state ≡ Some q) where
     abbrev pub node-text : List ℕ
@@ -91,7 +91,7 @@ module _ (g : EnumerationInput) (auto : IsDeterministic g.dfa.now) (hs : List (O
     }
 
 -- no run without marks comes over the next node, which ends before the position
-pub passes-dies : (g : EnumerationInput) (hs : List (Option Ahead)) (at position : ℕ) (from place : Place) (c : List Ahead) (p : PassesTo g hs at position from place c) (h : Ahead) → (n : Next g hs at from place c p.passes h)
+pub passes-dies : {words : ℕ} (g : EnumerationInput words) (hs : List (Option (Ahead words))) (at position : ℕ) (from place : Place) (c : List (Ahead words)) (p : PassesTo g hs at position from place c) (h : Ahead words) → (n : Next g hs at from place c p.passes h)
     → h.at + h.look.len ≤ position → unmarked_of h.look.table.now place.state ≡ None → Dies g from.state at (text_ahead g c) position
 passes-dies g hs at position from place c p h n le none =
     let front = p.passes.front in
@@ -104,7 +104,7 @@ passes-dies g hs at position from place c p h n le none =
     ap (λ y. reached g.dfa.now from.state (plain y)) letters ∙ plain-dead (step_of g.dfa.now) from.state (front ++ x) far dead
 
 -- where the walk can go on, a run over the next node leads into its goals
-pub can-head : (g : EnumerationInput) (hs : List (Option Ahead)) (at : ℕ) (from place : Place) (c : List Ahead) (p : PassesPlain g hs at from place c) (h : Ahead) → Next g hs at from place c p.passes h
+pub can-head : {words : ℕ} (g : EnumerationInput words) (hs : List (Option (Ahead words))) (at : ℕ) (from place : Place) (c : List (Ahead words)) (p : PassesPlain g hs at from place c) (h : Ahead words) → Next g hs at from place c p.passes h
     → can_reach_of h.look.table.now place.state h.goals ≡ true
 can-head g hs at from place c p h n =
     let a = g.dfa.now in
@@ -119,7 +119,7 @@ can-head g hs at from place c p h n =
       goal = n.stands.goals.1.reach k.middle k.left k.left_bytes k.left_ends (run-behind a place.state x (text_ahead g n.rest) can.word can.state g.finals k can.goal);
     })
 
-pub node-on : (g : EnumerationInput) (auto : IsDeterministic g.dfa.now) (hs : List (Option Ahead)) (at : ℕ) (from place : Place) (c : List Ahead) (p : PassesPlain g hs at from place c) (h : Ahead) (q : ℕ)
+pub node-on : {words : ℕ} (g : EnumerationInput words) (auto : IsDeterministic g.dfa.now) (hs : List (Option (Ahead words))) (at : ℕ) (from place : Place) (c : List (Ahead words)) (p : PassesPlain g hs at from place c) (h : Ahead words) (q : ℕ)
     → Next g hs at from place c p.passes h → bit_and (marked_of h.look.table.now place.state) h.goals ≡ 0
     → unmarked_of h.look.table.now place.state ≡ Some q → PassesPlain g hs at from (record { state = q; next = h.next; quiet = false }) c
 node-on g auto hs at from place c p h q n none step =
@@ -136,18 +136,18 @@ node-on g auto hs at from place c p h q n none step =
     }
 
 -- nothing is left where no node comes next
-pub back-none : (hs : List (Option Ahead)) (place : ℕ) (c : List Ahead) → AreAhead hs place c → place ≤ 0 → c ≡ []
+pub back-none : {words : ℕ} (hs : List (Option (Ahead words))) (place : ℕ) (c : List (Ahead words)) → AreAhead hs place c → place ≤ 0 → c ≡ []
 back-none hs place [] h zero' = refl
 back-none hs place (x ∷ c) h zero' = absurd (omega (arith, h.0.counted))
 
 -- where the walk turns, some accepted text has a mark
-pub some-mark : (g : EnumerationInput) (hs : List (Option Ahead)) (at : ℕ) (from place : Place) (c : List Ahead) (p : PassesPlain g hs at from place c) (h : Ahead) (most : ℕ)
+pub some-mark : {words : ℕ} (g : EnumerationInput words) (hs : List (Option (Ahead words))) (at : ℕ) (from place : Place) (c : List (Ahead words)) (p : PassesPlain g hs at from place c) (h : Ahead words) (most : ℕ)
     → Next g hs at from place c p.passes h → Turns place.state p.passes.back → AtMost g from.state c most → 1 ≤ most
 some-mark g hs at from place c p h most n turns few =
     let a = g.dfa.now in
     let x = p.passes.front in
     let here : Turns place.state (h ∷ n.rest) = rw n.back at turns in
-    let run = marked-run a (text_at g h.id.index) h.look.table.now place.state h.goals n.tells n.stands.state here.0 here.1 in
+    let run = marked-run a (text_at g h.id.index) h.look.table.now place.state h.goals n.tells n.stands.state here in
     let on = n.stands.goals.1.onward run.0 run.1 in
     let behind : CanEnd g place.state (h ∷ n.rest) = run-join a place.state run.0 g.finals (text_at g h.id.index) (text_ahead g n.rest) run.2.word run.2.bytes run.2.ends on in
     let w : Marked = run.2.word ++ on.word in
@@ -157,7 +157,7 @@ some-mark g hs at from place c p h most n turns few =
     omega (arith, few (plain x ++ w) on.state bytes ends on.goal, has-count run.2.word run.2.mark, mark_count-append (plain x) w, mark_count-append run.2.word on.word)
 
 -- ---- a letter
-abbrev pub way-byte : (g : EnumerationInput) (hs : List (Option Ahead)) (h : Ahead) (q : ℕ) (c : List Ahead) (b m base : ℕ) → IsNodeAt g.view.store.now h.id.index (Byte b) → StandsBefore g hs h q c → Way g hs h.at q (h ∷ c) (mark_over h b q m base)
+abbrev pub way-byte : {words : ℕ} (g : EnumerationInput words) (hs : List (Option (Ahead words))) (h : Ahead words) (q : ℕ) (c : List (Ahead words)) (b m base : ℕ) → IsNodeAt g.view.store.now h.id.index (Byte b) → StandsBefore g hs h q c → Way g hs h.at q (h ∷ c) (mark_over h b q m base)
 way-byte g hs h q c b m base node s =
     let one : text_at g h.id.index ≡ b ∷ [] = byte-text g.view.store.now h.id.index b node in
     record {
@@ -174,7 +174,7 @@ way-byte g hs h q c b m base node s =
       };
     }
 
-pub meets-byte : (g : EnumerationInput) (auto : IsDeterministic g.dfa.now) (hs : List (Option Ahead)) (h : Ahead) (q : ℕ) (c : List Ahead) (b m r base : ℕ) → b < 256 → IsNodeAt g.view.store.now h.id.index (Byte b)
+pub meets-byte : {words : ℕ} (g : EnumerationInput words) (auto : IsDeterministic g.dfa.now) (hs : List (Option (Ahead words))) (h : Ahead words) (q : ℕ) (c : List (Ahead words)) (b m r base : ℕ) → b < 256 → IsNodeAt g.view.store.now h.id.index (Byte b)
     → 0 < m → IsGreatestMark g.dfa.now q b h.goals 65536 m r → StandsBefore g hs h q c
     → Meets g hs h.at q (h ∷ c) (mark_over h b q m base) (record { state = r; next = h.next; quiet = member h.quiet r })
 meets-byte g auto hs h q c b m r base byte node some best s =
@@ -188,25 +188,25 @@ meets-byte g auto hs h q c b m r base byte node some best s =
     }
 
 -- ---- a pair
-abbrev pub keeps-left : (g : EnumerationInput) (base : ℕ) (marks more : List Mark) (hs new : List (Option Ahead)) (x : Option Ahead) → Keeps g base marks more (hs ++ x ∷ []) new → Keeps g base marks more hs new
+abbrev pub keeps-left : {words : ℕ} (g : EnumerationInput words) (base : ℕ) (marks more : List (Mark words)) (hs new : List (Option (Ahead words))) (x : Option (Ahead words)) → Keeps g base marks more (hs ++ x ∷ []) new → Keeps g base marks more hs new
 keeps-left g base marks more hs new x k = record { mark = k.mark; kept = k.kept; base_is = k.base_is; beside = x ∷ k.beside; ahead = k.ahead ∙ append_assoc hs (x ∷ []) k.beside; fits = k.fits }
 
-module _ (g : EnumerationInput) (h : Ahead) (l r : NodeId) (left right : Look) (f : Fork g h l r left right) (hs : List (Option Ahead)) (q base : ℕ) (marks more : List Mark) (new : List (Option Ahead)) where
+module _ {words : ℕ} (g : EnumerationInput words) (h : Ahead words) (l r : NodeId) (left right : Look) (f : Fork g h l r left right) (hs : List (Option (Ahead words))) (q base : ℕ) (marks more : List (Mark words)) (new : List (Option (Ahead words))) where
   abbrev left-text : List ℕ
   left-text = text_at g l.index
 
   -- the right child is put ahead
-  over-left : (c : List Ahead) (between : Between) → Passed g.dfa.now q (text_ahead g (h ∷ c)) [] q (text_ahead g (child h l left between (length hs + 1) ∷ sibling h r left right ∷ c))
+  over-left : (c : List (Ahead words)) (between : Between words) → Passed g.dfa.now q (text_ahead g (h ∷ c)) [] q (text_ahead g (child h l left between (length hs + 1) ∷ sibling h r left right ∷ c))
   over-left c between = record { parts = fork-text g h l r left right f c; step = refl }
 
-  over-right : (c : List Ahead) (to : ℕ) → reached g.dfa.now q (plain left-text) ≡ Some to → Passed g.dfa.now q (text_ahead g (h ∷ c)) left-text to (text_ahead g (sibling h r left right ∷ c))
+  over-right : (c : List (Ahead words)) (to : ℕ) → reached g.dfa.now q (plain left-text) ≡ Some to → Passed g.dfa.now q (text_ahead g (h ∷ c)) left-text to (text_ahead g (sibling h r left right ∷ c))
   over-right c to run = record { parts = fork-text g h l r left right f c; step = run }
 
   right-at : h.at + left.len ≡ h.at + length left-text
   right-at = ap (λ n. h.at + n) f.left_look.len_is
 
   -- the first mark is in the left child
-  pub descends-left : (between : Between) (before mid after : ℕ) (out out' : Tuple) (to : Place) → mid ≡ before + 2
+  pub descends-left : (between : Between words) (before mid after : ℕ) (out out' : Tuple) (to : Place) → mid ≡ before + 2
       → IsMarkedLeft g.dfa.now q left-text (text_at g r.index) h.goals h.quiet left.table.now between
       → Descends g (child h l left between (length hs + 1)) q base marks more (hs ++ Some (sibling h r left right) ∷ []) new mid after out out' to → Descends g h q base marks more hs new before after out out' to
   descends-left between before mid after out out' to em marked d = record {
@@ -240,7 +240,7 @@ module _ (g : EnumerationInput) (h : Ahead) (l r : NodeId) (left right : Look) (
 
   -- the way along a tuple's marks continues into the left child, or into the right one
   module _ (t : Tuple) (position : ℕ) where
-    pub laid-left : (between : Between) → AreBetween g.dfa.now q left-text (text_at g r.index) h.goals between.goals
+    pub laid-left : (between : Between words) → AreBetween g.dfa.now q left-text (text_at g r.index) h.goals between.goals
         → LeadQuiet g.dfa.now q left-text (text_at g r.index) h.goals h.quiet between.quiet → base ≤ length hs → position ≤ h.at + length left-text
         → (z : Bool) → Laid g t (child h l left between (length hs + 1)) q position base marks more (hs ++ Some (sibling h r left right) ∷ []) new z
         → Laid g t h q position base marks more hs new z
@@ -290,7 +290,7 @@ module _ (g : EnumerationInput) (h : Ahead) (l r : NodeId) (left right : Look) (
     }
 
 -- the letter at the position
-pub lays-mark : (g : EnumerationInput) (t : Tuple) (h : Ahead) (b q position base : ℕ) (marks : List Mark) (hs : List (Option Ahead)) → IsNodeAt g.view.store.now h.id.index (Byte b) → IsOver g h position → Fits g base hs
+pub lays-mark : {words : ℕ} (g : EnumerationInput words) (t : Tuple) (h : Ahead words) (b q position base : ℕ) (marks : List (Mark words)) (hs : List (Option (Ahead words))) → IsNodeAt g.view.store.now h.id.index (Byte b) → IsOver g h position → Fits g base hs
     → Lays g t h q position base marks (marks ++ mark_over h b q (mark_of t h.at) base ∷ []) hs hs
 lays-mark g t h b q position base marks hs byte over fits =
     let here : h.at ≡ position = omega (arith, over.from, over.before, ap length (byte-text g.view.store.now h.id.index b byte)) in

@@ -1,9 +1,12 @@
 pub mod Letters
+pub mod States
+pub mod Width
 pub mod Members
 pub mod Pages
 pub mod LastEnd
 pub mod Listing
 pub mod ListingView
+pub mod AnswersView
 pub mod Sets
 pub mod Tuples
 pub mod Words
@@ -13,6 +16,8 @@ pub mod Quiet
 pub mod Ends
 pub mod Agreement
 pub mod OverLeft
+pub mod AheadList
+pub mod AheadView
 pub mod Trail
 pub mod WayDown
 pub mod Answering

@@ -19,11 +19,11 @@ pub record IsPlainLeft (a : DeterministicAutomaton) (p : ℕ) (s u : List ℕ) (
   pub some : bit_and (marked_of right q) goals ≡ 0 → ⊥
 
 -- some run with marks over s leads into one of these states, and on. The quiet ones among them are known
-pub record IsMarkedLeft (a : DeterministicAutomaton) (p : ℕ) (s u : List ℕ) (goals quiet : ℕ) (left : List Row) (between : Between) : Type 0 where
+pub record IsMarkedLeft {words : ℕ} (a : DeterministicAutomaton) (p : ℕ) (s u : List ℕ) (goals quiet : ℕ) (left : List Row) (between : Between words) : Type 0 where
   pub are : AreBetween a p s u goals between.goals
   pub some : bit_and (marked_of left p) between.goals ≡ 0 → ⊥
   pub are_quiet : LeadQuiet a p s u goals quiet between.quiet
 
-abbrev pub IsOverLeft : DeterministicAutomaton → ℕ → List ℕ → List ℕ → ℕ → ℕ → List Row → List Row → OverLeft → Type 0
+abbrev pub IsOverLeft : {words : ℕ} → DeterministicAutomaton → ℕ → List ℕ → List ℕ → ℕ → ℕ → List Row → List Row → OverLeft words → Type 0
 IsOverLeft a p s u goals quiet left right (Plain q) = IsPlainLeft a p s u goals left right q
 IsOverLeft a p s u goals quiet left right (Marked between) = IsMarkedLeft a p s u goals quiet left between

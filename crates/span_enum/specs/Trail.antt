@@ -1,5 +1,5 @@
 -- What is kept of the last answer: its marks, and the nodes ahead of each.
-use Rattle.std.specs.Prelude.{zero, suc, ◌≡◌, ℕ, ◌+◌, ◌-◌, ◌*◌, ◌^◌, ◌<◌, ◌≤◌, Bool, true, false, List, [], ◌∷◌, ◌++◌, length, take, slice_get, bit_and, Option, Some, None}
+use Rattle.std.specs.Prelude.{zero, suc, ◌≡◌, ℕ, ◌+◌, ◌-◌, ◌*◌, ◌<◌, ◌≤◌, Bool, true, false, List, [], ◌∷◌, ◌++◌, length, take, slice_get, bit_and, Option, Some, None}
 use Rattle.span_types.specs.Places.{AreSpans}
 use Rattle.span_types.specs.Marks.{mark_of}
 use Rattle.span_types.specs.Words.{Marked, mark_count}
@@ -28,69 +28,71 @@ use Rattle.span_enum.specs.declared.trail.Mark.{Mark}
 use Rattle.span_enum.specs.declared.trail.Place.{Place}
 use Rattle.span_enum.specs.declared.trail.Turn.{Turn}
 use Rattle.span_enum.specs.declared.walk.Lowered.{Lowered}
-use Rattle.span_enum.specs.declared.answers.Found.{Found}
+use Rattle.span_enum.specs.declared.enumeration.Found.{Found}
 
--- the tables are those of the automaton, the root is there, and the final states and the quiet ones among them are
--- known
-pub record IsEnumerationInput (g : EnumerationInput) : Type 0 where
+-- the tables are those of the automaton, whose states have a bit each, the root is there, and the final states and the
+-- quiet ones among them are known
+pub record IsEnumerationInput {words : ℕ} (g : EnumerationInput words) : Type 0 where
   pub ready : IsReady g.dfa.now g.view.store.now g.view.tables.now g.root
   pub automaton : IsDeterministic g.dfa.now
+  pub wide : states_of g.dfa.now ≤ 64 * words
+  pub narrow : words ≤ 16
   pub all : AreFinals g.dfa.now g.finals
   pub quiet : AreQuietFinals g.dfa.now g.quiet
 
 -- the whole text
-abbrev pub whole_text : EnumerationInput → List ℕ
+abbrev pub whole_text : {words : ℕ} → EnumerationInput words → List ℕ
 whole_text g = text_of g.view.store.now g.root
 
 -- the text of a node
-abbrev pub text_at : EnumerationInput → ℕ → List ℕ
+abbrev pub text_at : {words : ℕ} → EnumerationInput words → ℕ → List ℕ
 text_at g id = text (tree g.view.store.now id)
 
-abbrev pub height_at : EnumerationInput → ℕ → ℕ
+abbrev pub height_at : {words : ℕ} → EnumerationInput words → ℕ → ℕ
 height_at g id = height (tree g.view.store.now id)
 
 -- a node ahead is one of the store, with its length and table, and its text ends within the limit
-pub record IsAhead (g : EnumerationInput) (h : Ahead) : Type 0 where
+pub record IsAhead {words : ℕ} (g : EnumerationInput words) (h : Ahead words) : Type 0 where
   pub live : h.id.index < length g.view.store.now
   pub look : IsLook g.view.store.now g.view.tables.now h.id.index h.look.node h.look.len h.look.table.now
   pub positive : 1 ≤ h.at
   pub low : h.at + length (text_at g h.id.index) ≤ 281474976710657
 
 -- the list has h at this index, counted from 1, and the node that h names as the next one comes before it
-pub record HasAhead (hs : List (Option Ahead)) (place : ℕ) (h : Ahead) : Type 0 where
+pub record HasAhead {words : ℕ} (hs : List (Option (Ahead words))) (place : ℕ) (h : Ahead words) : Type 0 where
   pub before : ℕ
   pub counted : place ≡ suc before
   pub there : slice_get hs before ≡ Some (Some h)
   pub earlier : h.next ≤ before
 
 -- the nodes ahead, from the one with this index in the list on
-abbrev pub AreAhead : List (Option Ahead) → ℕ → List Ahead → Type 0
+abbrev pub AreAhead : {words : ℕ} → List (Option (Ahead words)) → ℕ → List (Ahead words) → Type 0
 AreAhead hs place [] = place ≡ 0
 AreAhead hs place (h ∷ c) = HasAhead hs place h × AreAhead hs h.next c
 
 -- their text
-abbrev pub text_ahead : EnumerationInput → List Ahead → List ℕ
+abbrev pub text_ahead : {words : ℕ} → EnumerationInput words → List (Ahead words) → List ℕ
 text_ahead g [] = []
 text_ahead g (h ∷ c) = text_at g h.id.index ++ text_ahead g c
 
 -- each node begins where the one before it ends, the first at this position
-abbrev pub Join : EnumerationInput → ℕ → List Ahead → Type 0
+abbrev pub Join : {words : ℕ} → EnumerationInput words → ℕ → List (Ahead words) → Type 0
 Join g at [] = Unit {0}
 Join g at (h ∷ c) = (h.at ≡ at) × Join g (at + length (text_at g h.id.index)) c
 
 -- of the states reached from p over s and then over the nodes up to one, its goals are those from which the rest is accepted. From its quiet states
 -- the rest has no marks
-abbrev pub AreGoals : EnumerationInput → ℕ → List ℕ → List Ahead → Type 0
+abbrev pub AreGoals : {words : ℕ} → EnumerationInput words → ℕ → List ℕ → List (Ahead words) → Type 0
 AreGoals g p s [] = Unit {0}
 AreGoals g p s (h ∷ c) = IsAhead g h × AreBetween g.dfa.now p (s ++ text_at g h.id.index) (text_ahead g c) g.finals h.goals × AreGoals g p (s ++ text_at g h.id.index) c
     × AreQuiet g.dfa.now h.quiet (text_ahead g c) g.finals
 
 -- if the walk's position is marked as quiet, the rest has no marks
-abbrev pub IsQuietPlace : EnumerationInput → Place → List Ahead → Type 0
+abbrev pub IsQuietPlace : {words : ℕ} → EnumerationInput words → Place → List (Ahead words) → Type 0
 IsQuietPlace g place c = place.quiet ≡ true → IsQuiet g.dfa.now place.state (text_ahead g c) g.finals
 
 -- at this position the walk is in a state, and these are the nodes ahead
-pub record Stands (g : EnumerationInput) (hs : List (Option Ahead)) (at : ℕ) (place : Place) (c : List Ahead) : Type 0 where
+pub record Stands {words : ℕ} (g : EnumerationInput words) (hs : List (Option (Ahead words))) (at : ℕ) (place : Place) (c : List (Ahead words)) : Type 0 where
   pub ahead : AreAhead hs place.next c
   pub join : Join g at c
   pub goals : AreGoals g place.state [] c
@@ -98,24 +100,24 @@ pub record Stands (g : EnumerationInput) (hs : List (Option Ahead)) (at : ℕ) (
   pub quiet : IsQuietPlace g place c
 
 -- from there the rest is accepted with some marks
-abbrev pub CanEnd : EnumerationInput → ℕ → List Ahead → Type 0
+abbrev pub CanEnd : {words : ℕ} → EnumerationInput words → ℕ → List (Ahead words) → Type 0
 CanEnd g p c = CanRun g.dfa.now p (text_ahead g c) g.finals
 
 -- the rest is accepted with at most `most` marks
-abbrev pub AtMost : EnumerationInput → ℕ → List Ahead → ℕ → Type 0
+abbrev pub AtMost : {words : ℕ} → EnumerationInput words → ℕ → List (Ahead words) → ℕ → Type 0
 AtMost g p c most = (w : Marked) (r : ℕ) → bytes_of w ≡ text_ahead g c → reached g.dfa.now p w ≡ Some r → member g.finals r ≡ true → mark_count w ≤ most
 
 -- what the walk needs to continue
-pub record CanGo (g : EnumerationInput) (hs : List (Option Ahead)) (place : Place) : Type 0 where
+pub record CanGo {words : ℕ} (g : EnumerationInput words) (hs : List (Option (Ahead words))) (place : Place) : Type 0 where
   pub at : ℕ
-  pub chain : List Ahead
+  pub chain : List (Ahead words)
   pub stands : Stands g hs at place chain
   pub can : CanEnd g place.state chain
 
 -- the next node, if there is one, has a run with marks into its goals
-abbrev pub Turns : ℕ → List Ahead → Type 0
+abbrev pub Turns : {words : ℕ} → ℕ → List (Ahead words) → Type 0
 Turns q [] = Unit {0}
-Turns q (h ∷ c) = (marked_of h.look.table.now q < 2 ^ 128) × (bit_and (marked_of h.look.table.now q) h.goals ≡ 0 → ⊥)
+Turns q (h ∷ c) = bit_and (marked_of h.look.table.now q) h.goals ≡ 0 → ⊥
 
 -- the letters in front are passed without marks, from one state to another
 pub record Passed (a : DeterministicAutomaton) (q : ℕ) (s front : List ℕ) (to : ℕ) (rest : List ℕ) : Type 0 where
@@ -123,31 +125,31 @@ pub record Passed (a : DeterministicAutomaton) (q : ℕ) (s front : List ℕ) (t
   pub step : reached a q (plain front) ≡ Some to
 
 -- the first marked text over these nodes is the word and then the first one over those
-abbrev pub GoesFirst : EnumerationInput → ℕ → List Ahead → Marked → ℕ → List Ahead → Type 0
+abbrev pub GoesFirst : {words : ℕ} → EnumerationInput words → ℕ → List (Ahead words) → Marked → ℕ → List (Ahead words) → Type 0
 GoesFirst g q c word to back = (w : Marked) (r : ℕ) → IsFirst g.dfa.now to (text_ahead g back) g.finals w r → IsFirst g.dfa.now q (text_ahead g c) g.finals (word ++ w) r
 
 -- nodes in front are passed without marks
-pub record Passes (g : EnumerationInput) (hs : List (Option Ahead)) (at : ℕ) (from to : Place) (c : List Ahead) : Type 0 where
+pub record Passes {words : ℕ} (g : EnumerationInput words) (hs : List (Option (Ahead words))) (at : ℕ) (from to : Place) (c : List (Ahead words)) : Type 0 where
   pub front : List ℕ
-  pub back : List Ahead
+  pub back : List (Ahead words)
   pub passed : Passed g.dfa.now from.state (text_ahead g c) front to.state (text_ahead g back)
   pub stands : Stands g hs (at + length front) to back
 
 -- and so does the first marked text
-pub record PassesPlain (g : EnumerationInput) (hs : List (Option Ahead)) (at : ℕ) (from to : Place) (c : List Ahead) : Type 0 where
+pub record PassesPlain {words : ℕ} (g : EnumerationInput words) (hs : List (Option (Ahead words))) (at : ℕ) (from to : Place) (c : List (Ahead words)) : Type 0 where
   pub passes : Passes g hs at from to c
   pub can : CanEnd g to.state passes.back
   pub first : GoesFirst g from.state c (plain passes.front) to.state passes.back
 
 -- the walk is in this state before a node, after which these come
-pub record StandsBefore (g : EnumerationInput) (hs : List (Option Ahead)) (h : Ahead) (q : ℕ) (c : List Ahead) : Type 0 where
+pub record StandsBefore {words : ℕ} (g : EnumerationInput words) (hs : List (Option (Ahead words))) (h : Ahead words) (q : ℕ) (c : List (Ahead words)) : Type 0 where
   pub ahead : AreAhead hs h.next c
   pub join : Join g h.at (h ∷ c)
   pub goals : AreGoals g q [] (h ∷ c)
   pub state : q < states_of g.dfa.now
 
 -- m is a mark over its letter, from its state, and these are the nodes ahead of it
-pub record IsMark (g : EnumerationInput) (hs : List (Option Ahead)) (m : Mark) (c : List Ahead) : Type 0 where
+pub record IsMark {words : ℕ} (g : EnumerationInput words) (hs : List (Option (Ahead words))) (m : Mark words) (c : List (Ahead words)) : Type 0 where
   pub ahead : AreAhead hs m.next c
   pub join : Join g (m.at + 1) c
   pub letter : AreBetween g.dfa.now m.state (m.byte ∷ []) (text_ahead g c) g.finals m.goals
@@ -155,15 +157,15 @@ pub record IsMark (g : EnumerationInput) (hs : List (Option Ahead)) (m : Mark) (
   pub state : m.state < states_of g.dfa.now
 
 -- m is a mark over a letter of the nodes, to which the letters in front lead without marks
-pub record Way (g : EnumerationInput) (hs : List (Option Ahead)) (at q : ℕ) (c : List Ahead) (m : Mark) : Type 0 where
+pub record Way {words : ℕ} (g : EnumerationInput words) (hs : List (Option (Ahead words))) (at q : ℕ) (c : List (Ahead words)) (m : Mark words) : Type 0 where
   pub front : List ℕ
-  pub back : List Ahead
+  pub back : List (Ahead words)
   pub passed : Passed g.dfa.now q (text_ahead g c) front m.state (m.byte ∷ text_ahead g back)
   pub at_is : m.at ≡ at + length front
   pub is_mark : IsMark g hs m back
 
 -- after the mark the rest is accepted
-pub record GoesOn (g : EnumerationInput) (m : Mark) (to : Place) (back : List Ahead) : Type 0 where
+pub record GoesOn {words : ℕ} (g : EnumerationInput words) (m : Mark words) (to : Place) (back : List (Ahead words)) : Type 0 where
   pub some : 0 < m.mark
   pub step : step_of g.dfa.now m.state m.mark m.byte ≡ Some to.state
   pub next : to.next ≡ m.next
@@ -171,22 +173,22 @@ pub record GoesOn (g : EnumerationInput) (m : Mark) (to : Place) (back : List Ah
   pub quiet : IsQuietPlace g to back
 
 -- m is the first mark of the first marked text over the nodes, from the state before them
-pub record Meets (g : EnumerationInput) (hs : List (Option Ahead)) (at q : ℕ) (c : List Ahead) (m : Mark) (to : Place) : Type 0 where
+pub record Meets {words : ℕ} (g : EnumerationInput words) (hs : List (Option (Ahead words))) (at q : ℕ) (c : List (Ahead words)) (m : Mark words) (to : Place) : Type 0 where
   pub way : Way g hs at q c m
   pub on : GoesOn g m to way.back
   pub first : GoesFirst g q c (plain way.front ++ (m.mark, m.byte) ∷ []) to.state way.back
 
 -- a node this far after the base is as much lower than the tallest tree
-abbrev pub FitsAt : EnumerationInput → ℕ → Option Ahead → Type 0
+abbrev pub FitsAt : {words : ℕ} → EnumerationInput words → ℕ → Option (Ahead words) → Type 0
 FitsAt g n None = ⊥
 FitsAt g n (Some h) = height_at g h.id.index + n ≤ 68
 
 -- from the base of the list on, each node is at least a level lower than what led to the one before
-abbrev pub Fits : EnumerationInput → ℕ → List (Option Ahead) → Type 0
-Fits g base hs = (k : ℕ) (o : Option Ahead) → base ≤ k → slice_get hs k ≡ Some o → FitsAt g (k - base) o
+abbrev pub Fits : {words : ℕ} → EnumerationInput words → ℕ → List (Option (Ahead words)) → Type 0
+Fits {words = words} g base hs = (k : ℕ) (o : Option (Ahead words)) → base ≤ k → slice_get hs k ≡ Some o → FitsAt g (k - base) o
 
 -- the walk may descend into the node: there is room for a mark and for the nodes beside the path to it
-pub record CanGoDown (g : EnumerationInput) (h : Ahead) (q base : ℕ) (marks : List Mark) (marks_room : ℕ) (hs : List (Option Ahead)) (ahead_room : ℕ) : Type 0 where
+pub record CanGoDown {words : ℕ} (g : EnumerationInput words) (h : Ahead words) (q base : ℕ) (marks : List (Mark words)) (marks_room : ℕ) (hs : List (Option (Ahead words))) (ahead_room : ℕ) : Type 0 where
   pub is_ahead : IsAhead g h
   pub state : q < states_of g.dfa.now
   pub next : h.next ≤ length hs
@@ -197,38 +199,38 @@ pub record CanGoDown (g : EnumerationInput) (h : Ahead) (q base : ℕ) (marks : 
   pub deep : height_at g h.id.index + (length hs - base) ≤ 68
 
 -- the position lies in the node
-pub record IsOver (g : EnumerationInput) (h : Ahead) (position : ℕ) : Type 0 where
+pub record IsOver {words : ℕ} (g : EnumerationInput words) (h : Ahead words) (position : ℕ) : Type 0 where
   pub from : h.at ≤ position
   pub before : position < h.at + length (text_at g h.id.index)
 
 -- a mark at the letter of a node, from this state
-abbrev pub mark_over : Ahead → ℕ → ℕ → ℕ → ℕ → Mark
+abbrev pub mark_over : {words : ℕ} → Ahead words → ℕ → ℕ → ℕ → ℕ → Mark words
 mark_over h byte state mark base = record { at = h.at; mark = mark; byte = byte; state = state; goals = h.goals; next = h.next; base = base }
 
 -- a mark is kept, and the nodes beside the path down to it are put ahead
-pub record Keeps (g : EnumerationInput) (base : ℕ) (marks more : List Mark) (old new : List (Option Ahead)) : Type 0 where
-  pub mark : Mark
+pub record Keeps {words : ℕ} (g : EnumerationInput words) (base : ℕ) (marks more : List (Mark words)) (old new : List (Option (Ahead words))) : Type 0 where
+  pub mark : Mark words
   pub kept : more ≡ marks ++ mark ∷ []
   pub base_is : mark.base ≡ base
-  pub beside : List (Option Ahead)
+  pub beside : List (Option (Ahead words))
   pub ahead : new ≡ old ++ beside
   pub fits : Fits g base new
 
 -- the path down to the first mark was added
-pub record Descends (g : EnumerationInput) (h : Ahead) (q base : ℕ) (marks more : List Mark) (old new : List (Option Ahead)) (before after : ℕ) (out out' : Tuple) (to : Place) : Type 0 where
+pub record Descends {words : ℕ} (g : EnumerationInput words) (h : Ahead words) (q base : ℕ) (marks more : List (Mark words)) (old new : List (Option (Ahead words))) (before after : ℕ) (out out' : Tuple) (to : Place) : Type 0 where
   pub keeps : Keeps g base marks more old new
-  pub meets : (c : List Ahead) → StandsBefore g old h q c → CanEnd g q (h ∷ c) → Meets g new h.at q (h ∷ c) keeps.mark to
+  pub meets : (c : List (Ahead words)) → StandsBefore g old h q c → CanEnd g q (h ∷ c) → Meets g new h.at q (h ∷ c) keeps.mark to
   pub written : out' ≡ write_mark keeps.mark.mark keeps.mark.at out
   pub cost : after ≤ before + 2 * height_at g h.id.index
 
 -- a word was read, which leads to the state. The text after it is left
-pub record Leads (g : EnumerationInput) (word : Marked) (q : ℕ) (back : List ℕ) : Type 0 where
+pub record Leads {words : ℕ} (g : EnumerationInput words) (word : Marked) (q : ℕ) (back : List ℕ) : Type 0 where
   pub parts : whole_text g ≡ bytes_of word ++ back
   pub ends : reached g.dfa.now 0 word ≡ Some q
 
 -- m is the mark of the letter after the word, and its nodes are in the list from its base on
-pub record IsKept (g : EnumerationInput) (word : Marked) (hs : List (Option Ahead)) (m : Mark) : Type 0 where
-  pub chain : List Ahead
+pub record IsKept {words : ℕ} (g : EnumerationInput words) (word : Marked) (hs : List (Option (Ahead words))) (m : Mark words) : Type 0 where
+  pub chain : List (Ahead words)
   pub is_mark : IsMark g hs m chain
   pub leads : Leads g word m.state (m.byte ∷ text_ahead g chain)
   pub at_is : m.at ≡ length word + 1
@@ -237,9 +239,9 @@ pub record IsKept (g : EnumerationInput) (word : Marked) (hs : List (Option Ahea
   pub fits : Fits g m.base hs
 
 -- the last of the marks is that of the last letter of the word that has one
-pub record LastKept (g : EnumerationInput) (word : Marked) (ms : List Mark) (hs : List (Option Ahead)) : Type 0 where
-  pub others : List Mark
-  pub mark : Mark
+pub record LastKept {words : ℕ} (g : EnumerationInput words) (word : Marked) (ms : List (Mark words)) (hs : List (Option (Ahead words))) : Type 0 where
+  pub others : List (Mark words)
+  pub mark : Mark words
   pub marks_are : ms ≡ others ++ mark ∷ []
   pub before : Marked
   pub bare : List ℕ
@@ -247,12 +249,12 @@ pub record LastKept (g : EnumerationInput) (word : Marked) (ms : List Mark) (hs 
   pub kept : IsKept g before hs mark
 
 -- these are the marks of the word, of which n letters have one. Those before the last one need only the nodes up to its base
-abbrev pub AreKept : EnumerationInput → ℕ → Marked → List Mark → List (Option Ahead) → Type 0
+abbrev pub AreKept : {words : ℕ} → EnumerationInput words → ℕ → Marked → List (Mark words) → List (Option (Ahead words)) → Type 0
 AreKept g zero word ms hs = (s : List ℕ) × (word ≡ plain s) × (ms ≡ []) × (length hs ≤ 1)
 AreKept g (suc n) word ms hs = (last : LastKept g word ms hs) × AreKept g n last.before last.others (take last.mark.base hs)
 
 -- the walk is after a word, and these are the nodes ahead. The marks of the word are kept in the list up to the base
-pub record Behind (g : EnumerationInput) (at : ℕ) (place : Place) (base : ℕ) (word : Marked) (ms : List Mark) (hs : List (Option Ahead)) (c : List Ahead) : Type 0 where
+pub record Behind {words : ℕ} (g : EnumerationInput words) (at : ℕ) (place : Place) (base : ℕ) (word : Marked) (ms : List (Mark words)) (hs : List (Option (Ahead words))) (c : List (Ahead words)) : Type 0 where
   pub at_is : at ≡ length word + 1
   pub stands : Stands g hs at place c
   pub leads : Leads g word place.state (text_ahead g c)
@@ -261,15 +263,15 @@ pub record Behind (g : EnumerationInput) (at : ℕ) (place : Place) (base : ℕ)
   pub kept : AreKept g count word ms (take base hs)
 
 -- and the rest is accepted
-pub record Begins (g : EnumerationInput) (place : Place) (base : ℕ) (word : Marked) (ms : List Mark) (hs : List (Option Ahead)) : Type 0 where
+pub record Begins {words : ℕ} (g : EnumerationInput words) (place : Place) (base : ℕ) (word : Marked) (ms : List (Mark words)) (hs : List (Option (Ahead words))) : Type 0 where
   pub at : ℕ
-  pub chain : List Ahead
+  pub chain : List (Ahead words)
   pub behind : Behind g at place base word ms hs chain
   pub can : CanEnd g place.state chain
   pub fits : Fits g base hs
 
 -- the first marked text after the word was found and written, and its marks are kept with those of the word
-pub record Finds (g : EnumerationInput) (from : Place) (word : Marked) (back : List ℕ) (ms : List Mark) (hs : List (Option Ahead)) (before after : ℕ) (r : Option ℕ) (old new : Tuple) : Type 0 where
+pub record Finds {words : ℕ} (g : EnumerationInput words) (from : Place) (word : Marked) (back : List ℕ) (ms : List (Mark words)) (hs : List (Option (Ahead words))) (before after : ℕ) (r : Option ℕ) (old new : Tuple) : Type 0 where
   pub rest : Marked
   pub state : ℕ
   pub ends : EndsIn g.dfa.now r state
@@ -280,24 +282,24 @@ pub record Finds (g : EnumerationInput) (from : Place) (word : Marked) (back : L
   pub kept : AreKept g count (word ++ rest) ms hs
 
 -- the walk can continue after some word
-abbrev pub CanFinish : EnumerationInput → Place → ℕ → List Mark → List (Option Ahead) → Type 0
+abbrev pub CanFinish : {words : ℕ} → EnumerationInput words → Place → ℕ → List (Mark words) → List (Option (Ahead words)) → Type 0
 CanFinish g from base marks hs = (word : Marked) × Begins g from base word marks hs
 
 -- the first marked text was found for each such word
-abbrev pub Completes : EnumerationInput → Place → ℕ → List Mark → List Mark → List (Option Ahead) → List (Option Ahead) → ℕ → ℕ → Option ℕ → Tuple → Tuple → Type 0
+abbrev pub Completes : {words : ℕ} → EnumerationInput words → Place → ℕ → List (Mark words) → List (Mark words) → List (Option (Ahead words)) → List (Option (Ahead words)) → ℕ → ℕ → Option ℕ → Tuple → Tuple → Type 0
 Completes g from base marks ms old new before after r out out' =
     (word : Marked) (b : Begins g from base word marks old) → Finds g from word (text_ahead g b.chain) ms new before after r out out'
 
 -- nothing is read yet
-pub record IsFresh (g : EnumerationInput) (ms : List Mark) (hs : List (Option Ahead)) : Type 0 where
+pub record IsFresh {words : ℕ} (g : EnumerationInput words) (ms : List (Mark words)) (hs : List (Option (Ahead words))) : Type 0 where
   pub no_marks : ms ≡ []
-  pub chain : List Ahead
+  pub chain : List (Ahead words)
   pub stands : Stands g hs 1 (record { state = 0; next = length hs; quiet = false }) chain
   pub text_is : text_ahead g chain ≡ whole_text g
   pub one : length hs ≤ 1
 
 -- the marks of a part of the tuple's word are kept, after which nothing that comes after the tuple is accepted
-pub record IsTrailOf (g : EnumerationInput) (t : Tuple) (ms : List Mark) (hs : List (Option Ahead)) : Type 0 where
+pub record IsTrailOf {words : ℕ} (g : EnumerationInput words) (t : Tuple) (ms : List (Mark words)) (hs : List (Option (Ahead words))) : Type 0 where
   pub read : Marked
   pub left : Marked
   pub back : List ℕ
@@ -307,18 +309,18 @@ pub record IsTrailOf (g : EnumerationInput) (t : Tuple) (ms : List Mark) (hs : L
   pub kept : AreKept g count read ms hs
   pub none : (q : ℕ) → reached g.dfa.now 0 read ≡ Some q → NoneAfter g.dfa.now q back g.finals left
 
-abbrev pub IsTrail : EnumerationInput → Option Tuple → List Mark → List (Option Ahead) → Type 0
+abbrev pub IsTrail : {words : ℕ} → EnumerationInput words → Option Tuple → List (Mark words) → List (Option (Ahead words)) → Type 0
 IsTrail g None ms hs = IsFresh g ms hs
 IsTrail g (Some t) ms hs = IsTrailOf g t ms hs
 
 -- the state after the tuple's marks over the text is known, or else no run follows them there or the tuple has no mark at the end
-abbrev pub IsStateAt : EnumerationInput → Option Tuple → Option ℕ → Type 0
+abbrev pub IsStateAt : {words : ℕ} → EnumerationInput words → Option Tuple → Option ℕ → Type 0
 IsStateAt g None o = Unit {0}
 IsStateAt g (Some t) None = (q : ℕ) → reached g.dfa.now 0 (word_over t 1 (whole_text g)) ≡ Some q → end_mark t (length (whole_text g) + 1) ≡ 0
 IsStateAt g (Some t) (Some q) = reached g.dfa.now 0 (word_over t 1 (whole_text g)) ≡ Some q
 
 -- after the tuple's marks over the text, no lower mark is accepted at its end
-abbrev pub NoEndAfter : EnumerationInput → Tuple → ℕ → Type 0
+abbrev pub NoEndAfter : {words : ℕ} → EnumerationInput words → Tuple → ℕ → Type 0
 NoEndAfter g t end = (q : ℕ) → reached g.dfa.now 0 (word_over t 1 (whole_text g)) ≡ Some q → (m : ℕ) → IsNoMark g.dfa.now q 256 1 (end_mark t end) m
 
 -- room for the marks of a tuple of this many variables, and for the nodes ahead of them
@@ -328,49 +330,49 @@ pub record HasRoom (variables marks ahead : ℕ) : Type 0 where
 
 -- ---- the way along the marks of a given tuple
 -- the walk is at a position in the word of the tuple, whose marks up to there are kept
-pub record Follows (g : EnumerationInput) (t : Tuple) (hs : List (Option Ahead)) (at : ℕ) (place : Place) (ms : List Mark) (c : List Ahead) : Type 0 where
+pub record Follows {words : ℕ} (g : EnumerationInput words) (t : Tuple) (hs : List (Option (Ahead words))) (at : ℕ) (place : Place) (ms : List (Mark words)) (c : List (Ahead words)) : Type 0 where
   pub word : Marked
   pub behind : Behind g at place (length hs) word ms hs c
   pub word_is : word_over t 1 (whole_text g) ≡ word ++ word_over t at (text_ahead g c)
 
 -- over some nodes ahead
-abbrev pub CanFollow : EnumerationInput → Tuple → List (Option Ahead) → ℕ → Place → List Mark → Type 0
-CanFollow g t hs at place ms = (c : List Ahead) × Follows g t hs at place ms c
+abbrev pub CanFollow : {words : ℕ} → EnumerationInput words → Tuple → List (Option (Ahead words)) → ℕ → Place → List (Mark words) → Type 0
+CanFollow {words = words} g t hs at place ms = (c : List (Ahead words)) × Follows g t hs at place ms c
 
 -- no run without marks over the text up to this position
-abbrev pub Dies : EnumerationInput → ℕ → ℕ → List ℕ → ℕ → Type 0
+abbrev pub Dies : {words : ℕ} → EnumerationInput words → ℕ → ℕ → List ℕ → ℕ → Type 0
 Dies g q at s position = reached g.dfa.now q (plain (take (position - at) s)) ≡ None
 
 -- the nodes in front of the position are passed without marks
-pub record PassesTo (g : EnumerationInput) (hs : List (Option Ahead)) (at position : ℕ) (from to : Place) (c : List Ahead) : Type 0 where
+pub record PassesTo {words : ℕ} (g : EnumerationInput words) (hs : List (Option (Ahead words))) (at position : ℕ) (from to : Place) (c : List (Ahead words)) : Type 0 where
   pub passes : Passes g hs at from to c
   pub before : at + length passes.front ≤ position
 
 -- the position lies before the end of the next node, if there is one
-abbrev pub EndsBehind : EnumerationInput → ℕ → List Ahead → Type 0
+abbrev pub EndsBehind : {words : ℕ} → EnumerationInput words → ℕ → List (Ahead words) → Type 0
 EndsBehind g position [] = Unit {0}
 EndsBehind g position (h ∷ c) = position < h.at + length (text_at g h.id.index)
 
 -- the path down to the position was added: the tuple's mark there is kept, and the nodes ahead of it
-pub record Lays (g : EnumerationInput) (t : Tuple) (h : Ahead) (q position base : ℕ) (marks more : List Mark) (old new : List (Option Ahead)) : Type 0 where
+pub record Lays {words : ℕ} (g : EnumerationInput words) (t : Tuple) (h : Ahead words) (q position base : ℕ) (marks more : List (Mark words)) (old new : List (Option (Ahead words))) : Type 0 where
   pub keeps : Keeps g base marks more old new
   pub position_is : keeps.mark.at ≡ position
   pub mark_is : keeps.mark.mark ≡ mark_of t position
-  pub way : (c : List Ahead) → StandsBefore g old h q c → Way g new h.at q (h ∷ c) keeps.mark
+  pub way : (c : List (Ahead words)) → StandsBefore g old h q c → Way g new h.at q (h ∷ c) keeps.mark
 
 -- no run reaches the position: no mark is kept, and the nodes up to the base are unchanged
-pub record Fails (g : EnumerationInput) (h : Ahead) (q position base : ℕ) (marks more : List Mark) (old new : List (Option Ahead)) : Type 0 where
+pub record Fails {words : ℕ} (g : EnumerationInput words) (h : Ahead words) (q position base : ℕ) (marks more : List (Mark words)) (old new : List (Option (Ahead words))) : Type 0 where
   pub dies : Dies g q h.at (text_at g h.id.index) position
   pub kept : more ≡ marks
   pub ahead : take base new ≡ take base old
 
 -- one of the two
-abbrev pub Laid : EnumerationInput → Tuple → Ahead → ℕ → ℕ → ℕ → List Mark → List Mark → List (Option Ahead) → List (Option Ahead) → Bool → Type 0
+abbrev pub Laid : {words : ℕ} → EnumerationInput words → Tuple → Ahead words → ℕ → ℕ → ℕ → List (Mark words) → List (Mark words) → List (Option (Ahead words)) → List (Option (Ahead words)) → Bool → Type 0
 Laid g t h q position base marks more old new true = Lays g t h q position base marks more old new
 Laid g t h q position base marks more old new false = Fails g h q position base marks more old new
 
 -- the tuple's marks were kept, as far as a run follows them
-pub record Followed (g : EnumerationInput) (t : Tuple) (marks ms : List Mark) (new : List (Option Ahead)) (before after : ℕ) (end : Option ℕ) : Type 0 where
+pub record Followed {words : ℕ} (g : EnumerationInput words) (t : Tuple) (marks ms : List (Mark words)) (new : List (Option (Ahead words))) (before after : ℕ) (end : Option ℕ) : Type 0 where
   pub trail : IsTrailOf g t ms new
   pub more : ℕ
   pub count : length ms ≡ length marks + more
@@ -379,19 +381,19 @@ pub record Followed (g : EnumerationInput) (t : Tuple) (marks ms : List Mark) (n
 
 -- ---- the last mark that can be lowered
 -- m is the last of the marks
-abbrev pub IsLast : List Mark → Mark → Type 0
+abbrev pub IsLast : {words : ℕ} → List (Mark words) → Mark words → Type 0
 IsLast ms m = ms ≡ take (length ms - 1) ms ++ m ∷ []
 
 -- the last mark is the one that l lowers
-pub record LowersLast (g : EnumerationInput) (ms : List Mark) (l : Lowered) : Type 0 where
-  pub mark : Mark
+pub record LowersLast {words : ℕ} (g : EnumerationInput words) (ms : List (Mark words)) (l : Lowered) : Type 0 where
+  pub mark : Mark words
   pub is_last : IsLast ms mark
   pub at : l.at ≡ mark.at
   pub best : IsGreatestMark g.dfa.now mark.state mark.byte mark.goals mark.mark l.mark l.state
 
 -- the last mark is lowered: after a word that ends with the lower one the first text over the rest is that of the next
 -- answer
-pub record IsTurned (g : EnumerationInput) (t : Tuple) (l : Lowered) (turn : Turn) (ms : List Mark) (hs : List (Option Ahead)) : Type 0 where
+pub record IsTurned {words : ℕ} (g : EnumerationInput words) (t : Tuple) (l : Lowered) (turn : Turn) (ms : List (Mark words)) (hs : List (Option (Ahead words))) : Type 0 where
   pub word : Marked
   pub positive : 1 ≤ l.at
   pub inside : l.at ≤ length (whole_text g)
@@ -402,7 +404,7 @@ pub record IsTurned (g : EnumerationInput) (t : Tuple) (l : Lowered) (turn : Tur
 
 -- ---- the next answer
 -- the rest was completed, and the greatest mark was written at the end
-pub record Finishes (g : EnumerationInput) (from : Place) (base : ℕ) (marks ms : List Mark) (old new : List (Option Ahead)) (before after : ℕ) (out : Tuple) (end : ℕ) (found : Found) : Type 0 where
+pub record Finishes {words : ℕ} (g : EnumerationInput words) (from : Place) (base : ℕ) (marks ms : List (Mark words)) (old new : List (Option (Ahead words))) (before after : ℕ) (out : Tuple) (end : ℕ) (found : Found) : Type 0 where
   pub written : Tuple
   pub mark : ℕ
   pub completes : Completes g from base marks ms old new before after found.state out written

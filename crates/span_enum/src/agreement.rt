@@ -19,20 +19,24 @@ use crate::trail::Ahead;
 use crate::walk::{is_marked_between, step_to_goal};
 use node_store::Node;
 use span_types::{Span, Steps, Tuple, mark_at};
-use state_tables::state_set::holds;
 use std::sync::ledger::Ledger;
 
 /// How far runs over a text into a goal follow the marks of a tuple.
 #[derive(Clone, Copy)]
 pub(crate) enum Agreement {
     /// One of them follows all of the marks, into this state.
-    Whole(u8),
+    Whole(u16),
     /// One of them follows the marks before the letter at this position, and none follows them over it.
     Until(u64),
 }
 
 /// The state after a node in which the tuple has no mark, if it is a goal.
-fn pass_whole(input: &EnumerationInput<'_>, here: &Ahead<'_>, p: u8, t: &Tuple) -> Option<u8>
+fn pass_whole<const N: usize>(
+    input: &EnumerationInput<'_, N>,
+    here: &Ahead<'_, N>,
+    p: u16,
+    t: &Tuple,
+) -> Option<u16>
     requires input { IsEnumerationInput input.now }
     requires is_ahead { IsAhead input.now here.now }
     requires state { p < states_of input.now.dfa.now }
@@ -46,16 +50,16 @@ fn pass_whole(input: &EnumerationInput<'_>, here: &Ahead<'_>, p: u8, t: &Tuple) 
         return None;
     }
     match here.look.table.unmarked(p) {
-        Some(q) => { if holds(here.goals, q) { Some(q) } else { None } }
+        Some(q) => { if here.goals.holds(q) { Some(q) } else { None } }
         None => None,
     }
 }
 
 /// How far runs over a letter from `p` into a goal follow the tuple's mark there. There is such a run.
-fn letter_agreement(
-    input: &EnumerationInput<'_>,
-    here: &Ahead<'_>,
-    p: u8,
+fn letter_agreement<const N: usize>(
+    input: &EnumerationInput<'_, N>,
+    here: &Ahead<'_, N>,
+    p: u16,
     byte: u8,
     t: &Tuple,
 ) -> Agreement
@@ -67,18 +71,17 @@ fn letter_agreement(
     ensures { IsAgreement input.now.dfa.now p t.now here.now.at (text_at input.now here.now.id.index) here.now.goals result }
 {
     let _states = input.dfa.states();
-    let _marked = here.look.table.marked(p);
-    match step_to_goal(input.dfa, p, byte, mark_at(t, here.at), here.goals, 65536) {
+    match step_to_goal(input.dfa, p, byte, mark_at(t, here.at), &here.goals, 65536) {
         Some(q) => Agreement::Whole(q),
         None => Agreement::Until(here.at),
     }
 }
 
 /// How far runs over a node from `p` into one of its goals follow the marks of the tuple. There is such a run.
-pub(crate) fn agreement_over<L: Ledger>(
-    input: &EnumerationInput<'_>,
-    here: &Ahead<'_>,
-    p: u8,
+pub(crate) fn agreement_over<L: Ledger, const N: usize>(
+    input: &EnumerationInput<'_, N>,
+    here: &Ahead<'_, N>,
+    p: u16,
     t: &Tuple,
     looks: &mut Steps<L>,
 ) -> Agreement
@@ -135,8 +138,8 @@ fn opened(start: u64) -> Tuple
 }
 
 /// The greatest end of the answers of one variable whose span starts at this position.
-pub(crate) fn last_end_from<L: Ledger>(
-    input: &EnumerationInput<'_>,
+pub(crate) fn last_end_from<L: Ledger, const N: usize>(
+    input: &EnumerationInput<'_, N>,
     end: u64,
     start: u64,
     looks: &mut Steps<L>,

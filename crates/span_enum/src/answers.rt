@@ -1,31 +1,22 @@
 //! The answers of an automaton on a text.
-ghost use Rattle.std.specs.Prelude.{◌≡◌, ℕ, ◌+◌, ◌-◌, ◌*◌, ◌<◌, ◌≤◌, [], None, Some, length, true, IsTrue, ◌↔◌, MatchOption, IfOk};
+ghost use Rattle.std.specs.Prelude.{◌≡◌, ℕ, ◌+◌, ◌*◌, ◌<◌, ◌≤◌, None, Some, List, length, IsTrue, ◌↔◌, MatchOption, IfOk};
 ghost use Rattle.span_types.specs.Fibonacci.{looks_limit};
-ghost use Rattle.span_types.specs.Writes.{write_mark};
 ghost use Rattle.marker_dfa.specs.Deterministic.{states_of};
 ghost use Rattle.slp_model.specs.Nodes.{text_of};
+ghost use Rattle.state_tables.specs.Meaning.{IsTable};
+ghost use Rattle.span_enum.specs.Ends.{Accepted};
 ghost use Rattle.span_enum.specs.Listing.{IsReady};
 ghost use Rattle.span_enum.specs.Members.{IsMember, IsFirstMember, NoMemberLeft, HasMember};
 ghost use Rattle.span_enum.specs.LastEnd.{HasStart, IsLastEnd};
-ghost use Rattle.span_enum.specs.Sets.{is_final};
-ghost use Rattle.span_enum.specs.Trail.{IsEnumerationInput, whole_text, CanFinish, Finishes, HasRoom, IsFresh, IsStateAt, IsTrailOf, NoEndAfter};
-ghost use Rattle.span_enum.specs.Answering.{IsFoundAfter, IsLoweredAtEnd, IsNoneAfter};
-ghost use Rattle.span_enum.specs.Words.{CanRun, IsGreatestMark};
+ghost use Rattle.span_enum.specs.Width.{IsWidthFor};
 
-use crate::agreement::last_end_from;
-use crate::ends::{accepts_end, end_limit, greatest_end};
-use crate::follow::follow;
-use crate::input::EnumerationInput;
-use crate::onward::complete;
-use crate::trail::{
-    Ahead, Place, Position, Trail, ahead_at, clear, empty_trail, lower_last, lower_to,
-};
+use crate::ends::accepts_end;
+use crate::enumeration::Enumeration;
 use crate::walk::{Part, can_reach, final_states, state_over};
 use marker_dfa::Dfa;
 use node_store::NodeId;
 use span_types::{NoMemory, Steps, Tuple};
-use state_tables::View;
-use state_tables::state_set::holds;
+use state_tables::{Table, View};
 use std::alloc::Global;
 use std::marker::Model;
 use std::sync::ledger::Ledger;
@@ -39,11 +30,7 @@ use std::sync::ledger::Ledger;
 /// distance and not on the height of the tree.
 #[derive(Drop)]
 pub struct Answers<'a> {
-    input: EnumerationInput<'a>,
-    last: Option<Tuple>,
-    end: u64,
-    state: Option<u8>,
-    trail: Trail<'a>,
+    enumeration: AnyEnumeration<'a>,
 }
 
 impl<'a> Model for Answers<'a> {
@@ -51,16 +38,50 @@ impl<'a> Model for Answers<'a> {
 
     ghost Value = { Listing };
 
-    ghost use Rattle.span_enum.specs.ListingView.{view_of, IsListing};
+    ghost use Rattle.span_enum.specs.AnswersView.{view_of};
 
     ghost view = { view_of };
+}
 
-    ghost invariant = { IsListing };
+/// An enumeration, by the width of its sets of states.
+#[derive(Drop)]
+enum AnyEnumeration<'a> {
+    /// Of at most 64 states.
+    One(Enumeration<'a, 1>),
+    /// Of at most 128 states.
+    Two(Enumeration<'a, 2>),
+    /// Of at most 1,024 states.
+    Sixteen(Enumeration<'a, 16>),
+}
+
+/// How many words a set of an automaton's states has.
+enum Width {
+    /// For at most 64 states.
+    One,
+    /// For at most 128 states.
+    Two,
+    /// For at most 1,024 states.
+    Sixteen,
+}
+
+/// The least width for the automaton's states.
+fn width_for(dfa: &Dfa) -> Width
+    ensures { IsWidthFor result (states_of dfa.now) }
+{
+    let states = dfa.states();
+    if states <= 64 {
+        Width::One
+    } else if states <= 128 {
+        Width::Two
+    } else {
+        Width::Sixteen
+    }
 }
 
 impl<'a> Answers<'a> {
     /// An iterator before the first answer. It makes at most one table lookup, and allocates the memory that `next`
-    /// will need.
+    /// will need: for k variables 138·k + 1 nodes of two sets of states, of 8, 16 or 128 bytes each, and some 100 bytes
+    /// more.
     ///
     /// The view's tables are those of the automaton, and the root is one of its nodes or none.
     ///
@@ -79,21 +100,19 @@ impl<'a> Answers<'a> {
         ensures look { looks.new ≤ looks.old + 1 }
         ensures cost { looks.new ≤ looks.old + looks_limit dfa.now.variables (length (text_of view.entry.store.now root)) }
     {
-        let input = EnumerationInput::new(view, dfa, root);
-        let mut trail = empty_trail(alloc, dfa.variables())?;
-        let end = put_root(&input, &mut trail, looks);
-        Ok(Answers {
-            input,
-            last: None,
-            end,
-            state: None,
-            trail,
-        })
+        let enumeration = match width_for(dfa) {
+            Width::One => AnyEnumeration::One(Enumeration::start(alloc, view, dfa, root, looks)?),
+            Width::Two => AnyEnumeration::Two(Enumeration::start(alloc, view, dfa, root, looks)?),
+            Width::Sixteen => {
+                AnyEnumeration::Sixteen(Enumeration::start(alloc, view, dfa, root, looks)?)
+            }
+        };
+        Ok(Answers { enumeration })
     }
 
     /// An iterator before the first answer that comes strictly after the tuple, which needn't be an answer and may lie
     /// outside the text. It follows the tuple's marks with at most 2·B(k, n) table lookups, and allocates the memory
-    /// that `next` will need.
+    /// that `next` will need, as `start` does.
     ///
     /// # Errors
     ///
@@ -111,17 +130,18 @@ impl<'a> Answers<'a> {
         ensures listing { IfOk result (λ a. a ≡ record { automaton = dfa.now; text = text_of view.entry.store.now root; after = Some after.now }) }
         ensures cost { looks.new ≤ looks.old + 2 * looks_limit dfa.now.variables (length (text_of view.entry.store.now root)) }
     {
-        let input = EnumerationInput::new(view, dfa, root);
-        let mut trail = empty_trail(alloc, dfa.variables())?;
-        let end = put_root(&input, &mut trail, looks);
-        let state = follow_whole(&input, end, &mut trail, after, looks);
-        Ok(Answers {
-            input,
-            last: Some(*after),
-            end,
-            state,
-            trail,
-        })
+        let enumeration = match width_for(dfa) {
+            Width::One => {
+                AnyEnumeration::One(Enumeration::seek(alloc, view, dfa, root, after, looks)?)
+            }
+            Width::Two => {
+                AnyEnumeration::Two(Enumeration::seek(alloc, view, dfa, root, after, looks)?)
+            }
+            Width::Sixteen => {
+                AnyEnumeration::Sixteen(Enumeration::seek(alloc, view, dfa, root, after, looks)?)
+            }
+        };
+        Ok(Answers { enumeration })
     }
 
     /// Moves to before the first answer that comes strictly after the tuple, as `seek` does, and from any position. It
@@ -131,15 +151,22 @@ impl<'a> Answers<'a> {
         ensures listing { self.new ≡ record self.old { after = Some after.now } }
         ensures cost { looks.new ≤ looks.old + 2 * looks_limit self.old.automaton.variables (length self.old.text) }
     {
-        self.last = Some(*after);
-        self.state = follow_anew(&self.input, self.end, &mut self.trail, after, looks);
+        match &mut self.enumeration {
+            AnyEnumeration::One(enumeration) => enumeration.reseek(after, looks),
+            AnyEnumeration::Two(enumeration) => enumeration.reseek(after, looks),
+            AnyEnumeration::Sixteen(enumeration) => enumeration.reseek(after, looks),
+        }
     }
 
     /// The last answer returned. If there is none, the tuple of `seek`, and otherwise none.
     pub fn cursor(&self) -> Option<Tuple>
         ensures { result ≡ self.now.after }
     {
-        self.last
+        match &self.enumeration {
+            AnyEnumeration::One(enumeration) => enumeration.cursor(),
+            AnyEnumeration::Two(enumeration) => enumeration.cursor(),
+            AnyEnumeration::Sixteen(enumeration) => enumeration.cursor(),
+        }
     }
 
     /// The greatest end of the answers whose span starts at this position, for an automaton of one variable. There is such
@@ -150,7 +177,11 @@ impl<'a> Answers<'a> {
         ensures end { IsLastEnd self.now.automaton self.now.text start result }
         ensures cost { looks.new ≤ looks.old + looks_limit 1 (length self.now.text) }
     {
-        last_end_from(&self.input, self.end, start, looks)
+        match &self.enumeration {
+            AnyEnumeration::One(enumeration) => enumeration.last_end(start, looks),
+            AnyEnumeration::Two(enumeration) => enumeration.last_end(start, looks),
+            AnyEnumeration::Sixteen(enumeration) => enumeration.last_end(start, looks),
+        }
     }
 
     /// The next answer. It allocates nothing. After `None` it always returns `None`.
@@ -162,289 +193,12 @@ impl<'a> Answers<'a> {
         ensures listing { MatchOption result (self.new ≡ self.old) (λ u. self.new ≡ record self.old { after = Some u }) }
         ensures cost { looks.new ≤ looks.old + looks_limit self.old.automaton.variables (length self.old.text) }
     {
-        let found = match self.last {
-            None => first_answer(&self.input, self.end, &mut self.trail, looks),
-            Some(t) => answer_after(
-                &self.input,
-                self.end,
-                self.state,
-                &t,
-                &mut self.trail,
-                looks,
-            ),
-        };
-        match found {
-            Some(found) => {
-                self.last = Some(found.tuple);
-                self.state = found.state;
-                Some(found.tuple)
-            }
-            None => None,
+        match &mut self.enumeration {
+            AnyEnumeration::One(enumeration) => enumeration.next(looks),
+            AnyEnumeration::Two(enumeration) => enumeration.next(looks),
+            AnyEnumeration::Sixteen(enumeration) => enumeration.next(looks),
         }
     }
-}
-
-/// An answer, and the state after its marks over the text. The state may be unknown if the answer has no mark at the
-/// end.
-#[derive(Clone, Copy)]
-pub(crate) struct Found {
-    pub(crate) tuple: Tuple,
-    pub(crate) state: Option<u8>,
-}
-
-/// An answer up to a position of the walk: its marks before the position, and how many nodes are kept for them.
-#[derive(Clone, Copy)]
-struct Prefix {
-    place: Place,
-    base: usize,
-    marks: Tuple,
-}
-
-/// Puts the root ahead of the first letter, and returns the position after the text.
-fn put_root<'a, L: Ledger>(
-    input: &EnumerationInput<'a>,
-    trail: &mut Trail<'a>,
-    looks: &mut Steps<L>,
-) -> u64
-    requires input { IsEnumerationInput input.now }
-    requires ahead { trail.old.ahead.items ≡ [] }
-    requires marks { trail.old.marks.items ≡ [] }
-    requires room { 0 < trail.old.ahead.capacity }
-    ensures fresh { IsFresh input.now trail.new.marks.items trail.new.ahead.items }
-    ensures end { result ≡ length (whole_text input.now) + 1 }
-    ensures low { result ≤ 281474976710657 }
-    ensures cost { looks.new ≤ looks.old + 1 }
-    ensures marks_room { trail.new.marks.capacity ≡ trail.old.marks.capacity }
-    ensures ahead_room { trail.new.ahead.capacity ≡ trail.old.ahead.capacity }
-{
-    match input.root {
-        None => 1,
-        Some(id) => {
-            let look = input.view.look(id, looks);
-            trail.ahead.push_reserved(Some(Ahead {
-                id,
-                look,
-                at: 1,
-                goals: input.finals,
-                quiet: input.quiet,
-                next: 0,
-            }));
-            look.len + 1
-        }
-    }
-}
-
-/// Keeps the marks of the tuple from the first letter on, as far as a run follows them. Returns the state at the end of the
-/// text, if a run follows all of them.
-fn follow_whole<'a, L: Ledger>(
-    input: &EnumerationInput<'a>,
-    end: u64,
-    trail: &mut Trail<'a>,
-    t: &Tuple,
-    looks: &mut Steps<L>,
-) -> Option<u8>
-    requires input { IsEnumerationInput input.now }
-    requires end { end ≡ length (whole_text input.now) + 1 }
-    requires tuple { length t.now ≡ input.now.dfa.now.variables }
-    requires fresh { IsFresh input.now trail.old.marks.items trail.old.ahead.items }
-    requires room { HasRoom input.now.dfa.now.variables trail.old.marks.capacity trail.old.ahead.capacity }
-    ensures state { IsStateAt input.now (Some t.now) result }
-    ensures trail { IsTrailOf input.now t.now trail.new.marks.items trail.new.ahead.items }
-    ensures cost { looks.new ≤ looks.old + looks_limit input.now.dfa.now.variables (length (whole_text input.now)) }
-    ensures marks_room { trail.new.marks.capacity ≡ trail.old.marks.capacity }
-    ensures ahead_room { trail.new.ahead.capacity ≡ trail.old.ahead.capacity }
-{
-    let first = Place {
-        state: 0,
-        next: trail.ahead.len(),
-        quiet: false,
-    };
-    let from = Position {
-        place: first,
-        at: 1,
-    };
-    follow(input, trail, from, t, end, looks)
-}
-
-/// Keeps the marks of the tuple in place of what is kept. Returns the state at the end of the text, if a run follows all
-/// of them.
-fn follow_anew<'a, L: Ledger>(
-    input: &EnumerationInput<'a>,
-    end: u64,
-    trail: &mut Trail<'a>,
-    t: &Tuple,
-    looks: &mut Steps<L>,
-) -> Option<u8>
-    requires input { IsEnumerationInput input.now }
-    requires end { end ≡ length (whole_text input.now) + 1 }
-    requires tuple { length t.now ≡ input.now.dfa.now.variables }
-    requires room { HasRoom input.now.dfa.now.variables trail.old.marks.capacity trail.old.ahead.capacity }
-    ensures state { IsStateAt input.now (Some t.now) result }
-    ensures trail { IsTrailOf input.now t.now trail.new.marks.items trail.new.ahead.items }
-    ensures cost { looks.new ≤ looks.old + 2 * looks_limit input.now.dfa.now.variables (length (whole_text input.now)) }
-    ensures marks_room { trail.new.marks.capacity ≡ trail.old.marks.capacity }
-    ensures ahead_room { trail.new.ahead.capacity ≡ trail.old.ahead.capacity }
-{
-    clear(trail);
-    let _end = put_root(input, trail, looks);
-    follow_whole(input, end, trail, t, looks)
-}
-
-/// The tuple with the greatest mark with which the text may end in the state.
-fn with_end(dfa: &Dfa, q: u8, tuple: Tuple, end: u64) -> Tuple
-    requires state { q < states_of dfa.now }
-    requires ends { is_final dfa.now q ≡ true }
-    requires positive { 1 ≤ end }
-    requires short { end ≤ 281474976710657 }
-    ensures { (mark : ℕ) × (result ≡ write_mark mark end tuple) × IsGreatestMark dfa.now q 256 1 65536 mark 0 }
-{
-    let _states = dfa.states();
-    match greatest_end(dfa, q, 65536) {
-        Some(mark) => tuple.with_mark(mark, end),
-        None => unreachable!(),
-    }
-}
-
-/// The first answer with this prefix.
-fn finish<'a, L: Ledger>(
-    input: &EnumerationInput<'a>,
-    end: u64,
-    trail: &mut Trail<'a>,
-    prefix: &Prefix,
-    looks: &mut Steps<L>,
-) -> Found
-    requires input { IsEnumerationInput input.now }
-    requires end { end ≡ length (whole_text input.now) + 1 }
-    requires low { end ≤ 281474976710657 }
-    requires finish { CanFinish input.now prefix.now.place prefix.now.base trail.old.marks.items trail.old.ahead.items }
-    requires room { HasRoom input.now.dfa.now.variables trail.old.marks.capacity trail.old.ahead.capacity }
-    ensures finishes { Finishes input.now prefix.now.place prefix.now.base trail.old.marks.items trail.new.marks.items
-        trail.old.ahead.items trail.new.ahead.items looks.old looks.new prefix.now.marks end result }
-    ensures marks_room { trail.new.marks.capacity ≡ trail.old.marks.capacity }
-    ensures ahead_room { trail.new.ahead.capacity ≡ trail.old.ahead.capacity }
-{
-    let mut out = prefix.marks;
-    let state = complete(input, trail, prefix.place, prefix.base, &mut out, looks);
-    match state {
-        Some(q) => Found {
-            tuple: with_end(input.dfa, q, out, end),
-            state,
-        },
-        None => Found { tuple: out, state },
-    }
-}
-
-/// Whether there is an answer, before anything is read.
-fn has_first(input: &EnumerationInput<'_>, trail: &Trail<'_>) -> bool
-    requires input { IsEnumerationInput input.now }
-    requires fresh { IsFresh input.now trail.now.marks.items trail.now.ahead.items }
-    ensures { IsTrue result ↔ CanRun input.now.dfa.now 0 (whole_text input.now) input.now.finals }
-{
-    let count = trail.ahead.len();
-    if count == 0 {
-        return holds(input.finals, 0);
-    }
-    can_reach(ahead_at(trail, count).look.table, 0, input.finals)
-}
-
-/// The first answer.
-fn first_answer<'a, L: Ledger>(
-    input: &EnumerationInput<'a>,
-    end: u64,
-    trail: &mut Trail<'a>,
-    looks: &mut Steps<L>,
-) -> Option<Found>
-    requires input { IsEnumerationInput input.now }
-    requires end { end ≡ length (whole_text input.now) + 1 }
-    requires fresh { IsFresh input.now trail.old.marks.items trail.old.ahead.items }
-    requires room { HasRoom input.now.dfa.now.variables trail.old.marks.capacity trail.old.ahead.capacity }
-    ensures answer { MatchOption result (IsNoneAfter input.now None trail.new.marks.items trail.new.ahead.items)
-        (IsFoundAfter input.now None trail.new.marks.items trail.new.ahead.items)
-        × (looks.new ≤ looks.old + looks_limit input.now.dfa.now.variables (length (whole_text input.now))) }
-    ensures marks_room { trail.new.marks.capacity ≡ trail.old.marks.capacity }
-    ensures ahead_room { trail.new.ahead.capacity ≡ trail.old.ahead.capacity }
-{
-    if !has_first(input, &*trail) {
-        return None;
-    }
-    let count = trail.ahead.len();
-    let first = Place {
-        state: 0,
-        next: count,
-        quiet: false,
-    };
-    let none = Tuple::none(input.dfa.variables());
-    let empty = Prefix {
-        place: first,
-        base: count,
-        marks: none,
-    };
-    Some(finish(input, end, trail, &empty, looks))
-}
-
-/// The first answer strictly after the tuple whose marks are kept. From then on those of the answer are kept.
-fn answer_after<'a, L: Ledger>(
-    input: &EnumerationInput<'a>,
-    end: u64,
-    state: Option<u8>,
-    t: &Tuple,
-    trail: &mut Trail<'a>,
-    looks: &mut Steps<L>,
-) -> Option<Found>
-    requires input { IsEnumerationInput input.now }
-    requires end { end ≡ length (whole_text input.now) + 1 }
-    requires low { end ≤ 281474976710657 }
-    requires tuple { length t.now ≡ input.now.dfa.now.variables }
-    requires state { IsStateAt input.now (Some t.now) state }
-    requires trail { IsTrailOf input.now t.now trail.old.marks.items trail.old.ahead.items }
-    requires room { HasRoom input.now.dfa.now.variables trail.old.marks.capacity trail.old.ahead.capacity }
-    ensures answer { MatchOption result (IsNoneAfter input.now (Some t.now) trail.new.marks.items trail.new.ahead.items)
-        (IsFoundAfter input.now (Some t.now) trail.new.marks.items trail.new.ahead.items)
-        × (looks.new ≤ looks.old + looks_limit input.now.dfa.now.variables (length (whole_text input.now))) }
-    ensures marks_room { trail.new.marks.capacity ≡ trail.old.marks.capacity }
-    ensures ahead_room { trail.new.ahead.capacity ≡ trail.old.ahead.capacity }
-{
-    let _count = t.count();
-    if let Some(found) = lowered_at_end(input, end, state, t) {
-        return Some(found);
-    }
-    let lowered = lower_last(input, trail, t)?;
-    let turn = lower_to(input, trail, t, &lowered);
-    let place = Place {
-        state: lowered.state,
-        next: turn.next,
-        quiet: false,
-    };
-    let marks = t.cut_at(lowered.at).with_mark(lowered.mark, lowered.at);
-    let prefix = Prefix {
-        place,
-        base: turn.base,
-        marks,
-    };
-    Some(finish(input, end, trail, &prefix, looks))
-}
-
-/// The first answer after the tuple, if only its mark at the end is lower.
-fn lowered_at_end(
-    input: &EnumerationInput<'_>,
-    end: u64,
-    state: Option<u8>,
-    t: &Tuple,
-) -> Option<Found>
-    requires input { IsEnumerationInput input.now }
-    requires end { end ≡ length (whole_text input.now) + 1 }
-    requires low { end ≤ 281474976710657 }
-    requires tuple { length t.now ≡ input.now.dfa.now.variables }
-    requires state { IsStateAt input.now (Some t.now) state }
-    ensures { MatchOption result (NoEndAfter input.now t.now end) (IsLoweredAtEnd input.now t.now) }
-{
-    let _count = t.count();
-    let q = state?;
-    let mark = greatest_end(input.dfa, q, end_limit(t, end))?;
-    Some(Found {
-        tuple: t.cut_at(end).with_mark(mark, end),
-        state,
-    })
 }
 
 /// Whether there is an answer. It makes at most one table lookup and allocates nothing.
@@ -464,9 +218,32 @@ pub fn nonempty<L: Ledger>(
         None => !dfa.ends(0).is_empty(),
         Some(id) => {
             let look = view.look(id, looks);
-            can_reach(look.table, 0, final_states(dfa))
+            is_accepted(dfa, look.table)
         }
     }
+}
+
+/// Whether the automaton accepts the text of the table with some marks.
+fn is_accepted(dfa: &Dfa, table: &Table) -> bool
+    requires { 0 < length table.now }
+    ensures { (s : List ℕ) → IsTable dfa.now s table.now → IsTrue result ↔ Accepted dfa.now s }
+{
+    match width_for(dfa) {
+        Width::One => has_accepted::<1>(dfa, table),
+        Width::Two => has_accepted::<2>(dfa, table),
+        Width::Sixteen => has_accepted::<16>(dfa, table),
+    }
+}
+
+/// The same, by sets of N words.
+fn has_accepted<const N: usize>(dfa: &Dfa, table: &Table) -> bool
+    requires wide { states_of dfa.now ≤ 64 * N }
+    requires narrow { N ≤ 16 }
+    requires state { 0 < length table.now }
+    ensures { (s : List ℕ) → IsTable dfa.now s table.now → IsTrue result ↔ Accepted dfa.now s }
+{
+    let _states = dfa.states();
+    can_reach(table, 0, &final_states::<N>(dfa))
 }
 
 /// Whether the tuple is an answer. It allocates nothing.

@@ -1,5 +1,5 @@
 //! The marks at the end of a text.
-ghost use Rattle.std.specs.Prelude.{◌≡◌, true, ℕ, ◌+◌, ◌<◌, ◌≤◌, ◌^◌, IsTrue, ◌↔◌, MatchOption, Some, IfSome};
+ghost use Rattle.std.specs.Prelude.{◌≡◌, true, ℕ, ◌+◌, ◌<◌, ◌≤◌, ◌*◌, ◌^◌, IsTrue, ◌↔◌, MatchOption, Some, IfSome};
 ghost use Rattle.marker_dfa.specs.Deterministic.{states_of};
 ghost use Rattle.span_enum.specs.Letters.{step_of};
 ghost use Rattle.span_enum.specs.Tuples.{EndsPast, end_mark, reaches};
@@ -7,12 +7,12 @@ ghost use Rattle.span_enum.specs.Words.{IsNoMark, IsGreatestMark};
 ghost use Rattle.span_enum.specs.Ends.{AcceptsEnd};
 ghost use Rattle.span_enum.specs.Quiet.{EndsQuietly, AreQuietFinals};
 
-use crate::walk::state_if;
+use crate::states::States;
 use marker_dfa::Dfa;
 use span_types::{Span, Tuple, mark_at};
 
 /// The greatest mark below the limit with which a text may end in the state.
-pub(crate) fn greatest_end(dfa: &Dfa, q: u8, limit: u32) -> Option<u16>
+pub(crate) fn greatest_end(dfa: &Dfa, q: u16, limit: u32) -> Option<u16>
     requires { q < states_of dfa.now }
     ensures { MatchOption result ((m : ℕ) → IsNoMark dfa.now q 256 1 limit m) (λ m. IsGreatestMark dfa.now q 256 1 limit m 0) }
 {
@@ -26,7 +26,7 @@ pub(crate) fn greatest_end(dfa: &Dfa, q: u8, limit: u32) -> Option<u16>
 }
 
 /// Whether a text may end in the state, and only without a mark, so that the greatest mark is none.
-fn ends_quietly(dfa: &Dfa, q: u8) -> bool
+fn ends_quietly(dfa: &Dfa, q: u16) -> bool
     requires { q < states_of dfa.now }
     ensures { result ≡ true → EndsQuietly dfa.now q }
 {
@@ -37,12 +37,14 @@ fn ends_quietly(dfa: &Dfa, q: u8) -> bool
 }
 
 /// The states in which a text may end, and only without a mark.
-pub(crate) fn quiet_finals(dfa: &Dfa) -> u128
+pub(crate) fn quiet_finals<const N: usize>(dfa: &Dfa) -> States<N>
+    requires wide { states_of dfa.now ≤ 64 * N }
+    requires narrow { N ≤ 16 }
     ensures { AreQuietFinals dfa.now result }
 {
-    let mut set = 0;
+    let mut set = States::none();
     for q in 0..dfa.states() {
-        set |= state_if(q, ends_quietly(dfa, q));
+        set.include(q, ends_quietly(dfa, q));
     }
     set
 }
@@ -80,7 +82,7 @@ pub(crate) fn end_limit(t: &Tuple, end: u64) -> u32
 }
 
 /// Whether a text may end in the state with the mark.
-fn may_end(dfa: &Dfa, q: u8, mark: u16) -> bool
+fn may_end(dfa: &Dfa, q: u16, mark: u16) -> bool
     requires { q < states_of dfa.now }
     ensures { IsTrue result ↔ (step_of dfa.now q mark 256 ≡ Some 0) }
 {
@@ -94,7 +96,7 @@ fn may_end(dfa: &Dfa, q: u8, mark: u16) -> bool
 }
 
 /// Whether the text may end in the state with the tuple's mark, and the tuple has no bound past the end.
-pub(crate) fn accepts_end(dfa: &Dfa, state: Option<u8>, tuple: &Tuple, end: u64) -> bool
+pub(crate) fn accepts_end(dfa: &Dfa, state: Option<u16>, tuple: &Tuple, end: u64) -> bool
     requires state { IfSome state (λ q. q < states_of dfa.now) }
     requires low { end < 2 ^ 60 }
     ensures { IsTrue result ↔ AcceptsEnd dfa.now state tuple.now end }

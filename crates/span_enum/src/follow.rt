@@ -13,16 +13,16 @@ use span_types::{Steps, Tuple, mark_at};
 use std::sync::ledger::Ledger;
 
 /// Passes the nodes ahead without marks, up to the one over this position, or to the end.
-fn pass_to<'a>(
-    input: &EnumerationInput<'a>,
-    trail: &Trail<'a>,
+fn pass_to<'a, const N: usize>(
+    input: &EnumerationInput<'a, N>,
+    trail: &Trail<'a, N>,
     from: Place,
     position: u64,
 ) -> Option<Place>
     requires input { IsEnumerationInput input.now }
-    requires stands { (at : ℕ) × ((c : List Ahead) × Stands input.now trail.now.ahead.items at from c × (at ≤ position)
+    requires stands { (at : ℕ) × ((c : List (Ahead N)) × Stands input.now trail.now.ahead.items at from c × (at ≤ position)
         × (position ≤ at + length (text_ahead input.now c))) }
-    ensures { (at : ℕ) (c : List Ahead) → Stands input.now trail.now.ahead.items at from c → at ≤ position → position ≤ at + length (text_ahead input.now c)
+    ensures { (at : ℕ) (c : List (Ahead N)) → Stands input.now trail.now.ahead.items at from c → at ≤ position → position ≤ at + length (text_ahead input.now c)
         → MatchOption result (Dies input.now from.state at (text_ahead input.now c) position)
         (λ to. (p : PassesTo input.now trail.now.ahead.items at position from to c) × EndsBehind input.now position p.passes.back) }
 {
@@ -45,10 +45,10 @@ fn pass_to<'a>(
 /// Descends to the letter at this position, and keeps the tuple's mark there with the nodes that are then ahead.
 /// `descent` becomes each node on the path in turn. Returns whether a run reaches the letter. If none does, the caller
 /// removes the nodes that were put ahead.
-fn reach<'a, L: Ledger>(
-    input: &EnumerationInput<'a>,
-    trail: &mut Trail<'a>,
-    descent: &mut Descent<'a>,
+fn reach<'a, L: Ledger, const N: usize>(
+    input: &EnumerationInput<'a, N>,
+    trail: &mut Trail<'a, N>,
+    descent: &mut Descent<'a, N>,
     t: &Tuple,
     to: u64,
     looks: &mut Steps<L>,
@@ -79,7 +79,7 @@ fn reach<'a, L: Ledger>(
                     right.table,
                     descent.state,
                 );
-                go_left(trail, &mut descent.here, &children, between);
+                go_left(trail, &mut descent.here, &children, &between);
                 return reach(input, trail, descent, t, to, looks);
             }
             match left.table.unmarked(descent.state) {
@@ -96,14 +96,14 @@ fn reach<'a, L: Ledger>(
 
 /// Keeps the marks of the tuple from a position on, as far as a run follows them. Returns the state at the end of the
 /// text, if a run follows all of them.
-pub(crate) fn follow<'a, L: Ledger>(
-    input: &EnumerationInput<'a>,
-    trail: &mut Trail<'a>,
+pub(crate) fn follow<'a, L: Ledger, const N: usize>(
+    input: &EnumerationInput<'a, N>,
+    trail: &mut Trail<'a, N>,
     from: Position,
     t: &Tuple,
     end: u64,
     looks: &mut Steps<L>,
-) -> Option<u8>
+) -> Option<u16>
     requires input { IsEnumerationInput input.now }
     requires tuple { length t.now ≡ input.now.dfa.now.variables }
     requires end { end ≡ length (whole_text input.now) + 1 }
@@ -119,7 +119,7 @@ pub(crate) fn follow<'a, L: Ledger>(
     }
     let base = trail.ahead.len();
     let mut descent = Descent {
-        here: *ahead_at(&*trail, place.next),
+        here: ahead_at(&*trail, place.next),
         state: place.state,
         base,
     };

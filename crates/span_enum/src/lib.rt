@@ -5,6 +5,9 @@
 //! near answer. It allocates nothing: the memory for the marks of an answer and for the nodes ahead of them is
 //! allocated at the start. `reseek` moves the iterator to after any tuple, with the memory that it has.
 //!
+//! An automaton has at most 1,024 states. A set of states has one, two or 16 words of 64 bits, the least of these widths
+//! that has a bit for each state of the automaton. The width is chosen at the start.
+//!
 //! An answer is a text with marks at some letters. Of the last answer each mark is kept, with its letter, the state
 //! before the letter, and the node that comes next: the first of the nodes ahead, which have all letters after this one
 //! below them.
@@ -49,12 +52,15 @@
 #![tactic(auto)]
 
 mod agreement;
+mod ahead;
 mod answers;
 mod ends;
+mod enumeration;
 mod follow;
 mod input;
 mod onward;
 mod sets;
+mod states;
 mod trail;
 mod walk;
 

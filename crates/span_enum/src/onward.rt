@@ -14,24 +14,23 @@ ghost use Rattle.span_enum.specs.declared.trail.Ahead.{Ahead};
 
 use crate::input::EnumerationInput;
 use crate::sets::{Between, goals_between};
+use crate::states::States;
 use crate::trail::{Ahead, Children, Descent, Mark, Place, Trail, ahead_at};
 use crate::walk::greatest_mark;
 use node_store::{Node, NodeId};
 use span_types::{Steps, Tuple};
 use state_tables::Table;
-use state_tables::state_set::holds;
 use std::sync::ledger::Ledger;
 
 /// The state after the text without marks, if there is no run with marks into a goal.
-fn plain_into(table: &Table, q: u8, goals: u128) -> Option<u8>
+fn plain_into<const N: usize>(table: &Table, q: u16, goals: &States<N>) -> Option<u16>
     requires state { q < length table.now }
-    requires can { can_reach_of table.now q goals ≡ true }
-    ensures plain { MatchOption result (bit_and (marked_of table.now q) goals ≡ 0 → ⊥)
-        (λ n. (bit_and (marked_of table.now q) goals ≡ 0) × (unmarked_of table.now q ≡ Some n)) }
+    requires can { can_reach_of table.now q goals.now ≡ true }
+    ensures plain { MatchOption result (bit_and (marked_of table.now q) goals.now ≡ 0 → ⊥)
+        (λ n. (bit_and (marked_of table.now q) goals.now ≡ 0) × (unmarked_of table.now q ≡ Some n)) }
     ensures within { IfSome result (λ n. n < length table.now) }
-    ensures small { marked_of table.now q < 2 ^ 128 }
 {
-    if table.marked(q) & goals != 0 {
+    if goals.meets(table.marked(q)) {
         return None;
     }
     match table.unmarked(q) {
@@ -41,12 +40,12 @@ fn plain_into(table: &Table, q: u8, goals: u128) -> Option<u8>
 }
 
 /// The state after the text, if every run over it has no marks.
-fn sole_state(table: &Table, p: u8) -> Option<u8>
+fn sole_state(table: &Table, p: u16) -> Option<u16>
     requires { p < length table.now }
     ensures sole { IfSome result (λ q. (marked_of table.now p ≡ 0) × (unmarked_of table.now p ≡ Some q)) }
     ensures within { IfSome result (λ q. q < length table.now) }
 {
-    if table.marked(p) == 0 {
+    if table.marked(p).is_empty() {
         table.unmarked(p)
     } else {
         None
@@ -54,16 +53,20 @@ fn sole_state(table: &Table, p: u8) -> Option<u8>
 }
 
 /// Passes the nodes ahead up to the first one over which a run with marks leads into a goal.
-fn pass_plain<'a>(input: &EnumerationInput<'a>, trail: &Trail<'a>, from: Place) -> Place
+fn pass_plain<'a, const N: usize>(
+    input: &EnumerationInput<'a, N>,
+    trail: &Trail<'a, N>,
+    from: Place,
+) -> Place
     requires input { IsEnumerationInput input.now }
     requires go { CanGo input.now trail.now.ahead.items from }
-    ensures { (at : ℕ) (c : List Ahead) → Stands input.now trail.now.ahead.items at from c → CanEnd input.now from.state c
+    ensures { (at : ℕ) (c : List (Ahead N)) → Stands input.now trail.now.ahead.items at from c → CanEnd input.now from.state c
         → (p : PassesPlain input.now trail.now.ahead.items at from result c) × Turns result.state p.passes.back }
 {
     let mut place = from;
     while place.next > 0 {
         let node = ahead_at(trail, place.next);
-        match plain_into(node.look.table, place.state, node.goals) {
+        match plain_into(node.look.table, place.state, &node.goals) {
             Some(state) => place = Place {
                 state,
                 next: node.next,
@@ -76,7 +79,7 @@ fn pass_plain<'a>(input: &EnumerationInput<'a>, trail: &Trail<'a>, from: Place) 
 }
 
 /// Moves from a node to its right child.
-pub(crate) fn go_right<'a>(here: &mut Ahead<'a>, children: &Children<'a>)
+pub(crate) fn go_right<'a, const N: usize>(here: &mut Ahead<'a, N>, children: &Children<'a>)
     requires { here.old.at + children.now.left.len < 2 ^ 64 }
     ensures { here.new ≡ record {
       id = children.now.r;
@@ -93,27 +96,27 @@ pub(crate) fn go_right<'a>(here: &mut Ahead<'a>, children: &Children<'a>)
 }
 
 /// Moves from a node to its left child, and puts the right one ahead.
-pub(crate) fn go_left<'a>(
-    trail: &mut Trail<'a>,
-    here: &mut Ahead<'a>,
+pub(crate) fn go_left<'a, const N: usize>(
+    trail: &mut Trail<'a, N>,
+    here: &mut Ahead<'a, N>,
     children: &Children<'a>,
-    between: Between,
+    between: &Between<N>,
 )
     requires room { length trail.old.ahead.items < trail.old.ahead.capacity }
     requires low { here.old.at + children.now.left.len < 2 ^ 64 }
-    ensures child { here.new ≡ child here.old children.now.l children.now.left between (length trail.old.ahead.items + 1) }
+    ensures child { here.new ≡ child here.old children.now.l children.now.left between.now (length trail.old.ahead.items + 1) }
     ensures items { trail.new.ahead.items ≡ trail.old.ahead.items ++ Some (sibling here.old children.now.r children.now.left children.now.right) ∷ [] }
     ensures room { trail.new.ahead.capacity ≡ trail.old.ahead.capacity }
     ensures marks { trail.new.marks ≡ trail.old.marks }
 {
-    trail.ahead.push_reserved(Some(Ahead {
+    trail.ahead.push_reserved(&Ahead {
         id: children.r,
         look: children.right,
         at: here.at + children.left.len,
         goals: here.goals,
         quiet: here.quiet,
         next: here.next,
-    }));
+    });
     here.id = children.l;
     here.look = children.left;
     here.goals = between.goals;
@@ -122,21 +125,21 @@ pub(crate) fn go_left<'a>(
 }
 
 /// How the first marked text over a pair passes its left child.
-enum OverLeft {
+enum OverLeft<const N: usize> {
     /// Without marks, into this state.
-    Plain(u8),
+    Plain(u16),
     /// With marks, into one of these states.
-    Marked(Between),
+    Marked(Between<N>),
 }
 
 /// How the first marked text over a pair passes its left child, if some run over the pair has marks.
-fn over_left(
-    input: &EnumerationInput<'_>,
-    here: &Ahead<'_>,
+fn over_left<const N: usize>(
+    input: &EnumerationInput<'_, N>,
+    here: &Ahead<'_, N>,
     left: &Table,
     right: &Table,
-    p: u8,
-) -> OverLeft
+    p: u16,
+) -> OverLeft<N>
     requires input { IsEnumerationInput input.now }
     requires fork { IsFork input.now.dfa.now here.now.look.table.now left.now right.now }
     requires state { p < states_of input.now.dfa.now }
@@ -144,19 +147,23 @@ fn over_left(
     ensures over { (s u : List ℕ) → IsTable input.now.dfa.now (s ++ u) here.now.look.table.now → IsTable input.now.dfa.now s left.now
         → IsTable input.now.dfa.now u right.now → IsOverLeft input.now.dfa.now p s u here.now.goals here.now.quiet left.now right.now result }
 {
-    let _marked = here.look.table.marked(p);
     if let Some(q) = sole_state(left, p) {
         return OverLeft::Plain(q);
     }
     let between = goals_between(input.dfa, here, left, right, p);
-    match plain_into(left, p, between.goals) {
+    match plain_into(left, p, &between.goals) {
         Some(q) => OverLeft::Plain(q),
         None => OverLeft::Marked(between),
     }
 }
 
 /// Keeps a mark at a letter.
-pub(crate) fn keep_mark<'a>(trail: &mut Trail<'a>, descent: &Descent<'a>, byte: u8, mark: u16)
+pub(crate) fn keep_mark<'a, const N: usize>(
+    trail: &mut Trail<'a, N>,
+    descent: &Descent<'a, N>,
+    byte: u8,
+    mark: u16,
+)
     requires { length trail.old.marks.items < trail.old.marks.capacity }
     ensures marks { trail.new.marks.items ≡ trail.old.marks.items ++ mark_over descent.now.here byte descent.now.state mark descent.now.base ∷ [] }
     ensures room { trail.new.marks.capacity ≡ trail.old.marks.capacity }
@@ -175,10 +182,10 @@ pub(crate) fn keep_mark<'a>(trail: &mut Trail<'a>, descent: &Descent<'a>, byte: 
 }
 
 /// Keeps the greatest mark at a letter, and writes it. Returns the walk's position after the letter.
-fn place_mark<'a>(
-    input: &EnumerationInput<'a>,
-    trail: &mut Trail<'a>,
-    descent: &Descent<'a>,
+fn place_mark<'a, const N: usize>(
+    input: &EnumerationInput<'a, N>,
+    trail: &mut Trail<'a, N>,
+    descent: &Descent<'a, N>,
     byte: u8,
     out: &mut Tuple,
 ) -> Place
@@ -193,15 +200,14 @@ fn place_mark<'a>(
     ensures ahead_room { trail.new.ahead.capacity ≡ trail.old.ahead.capacity }
 {
     let here = &descent.here;
-    let _marked = here.look.table.marked(descent.state);
-    match greatest_mark(input.dfa, descent.state, byte, here.goals, 65536) {
+    match greatest_mark(input.dfa, descent.state, byte, &here.goals, 65536) {
         Some(step) => {
             keep_mark(trail, descent, byte, step.mark);
             *out = out.with_mark(step.mark, here.at);
             Place {
                 state: step.state,
                 next: here.next,
-                quiet: holds(here.quiet, step.state),
+                quiet: here.quiet.holds(step.state),
             }
         }
         None => unreachable!(),
@@ -209,10 +215,10 @@ fn place_mark<'a>(
 }
 
 /// Moves from a pair to the child over which the first marked text has its first mark.
-fn go_down<'a, L: Ledger>(
-    input: &EnumerationInput<'a>,
-    trail: &mut Trail<'a>,
-    descent: &mut Descent<'a>,
+fn go_down<'a, L: Ledger, const N: usize>(
+    input: &EnumerationInput<'a, N>,
+    trail: &mut Trail<'a, N>,
+    descent: &mut Descent<'a, N>,
     l: NodeId,
     r: NodeId,
     looks: &mut Steps<L>,
@@ -243,16 +249,16 @@ fn go_down<'a, L: Ledger>(
             go_right(&mut descent.here, &children);
             descent.state = q;
         }
-        OverLeft::Marked(between) => go_left(trail, &mut descent.here, &children, between),
+        OverLeft::Marked(between) => go_left(trail, &mut descent.here, &children, &between),
     }
 }
 
 /// Descends to the first mark of the first marked text over a node, and keeps it with the nodes that are then ahead.
 /// `descent` becomes each node on the path in turn.
-fn descend<'a, L: Ledger>(
-    input: &EnumerationInput<'a>,
-    trail: &mut Trail<'a>,
-    descent: &mut Descent<'a>,
+fn descend<'a, L: Ledger, const N: usize>(
+    input: &EnumerationInput<'a, N>,
+    trail: &mut Trail<'a, N>,
+    descent: &mut Descent<'a, N>,
     out: &mut Tuple,
     looks: &mut Steps<L>,
 ) -> Place
@@ -275,14 +281,14 @@ fn descend<'a, L: Ledger>(
 
 /// Writes the marks of the first marked text after the walk's position, and keeps them. Of the nodes ahead the first `base`
 /// stay. Returns the state at the end, or none if a quiet state came first: then no mark is left, not even at the end.
-pub(crate) fn complete<'a, L: Ledger>(
-    input: &EnumerationInput<'a>,
-    trail: &mut Trail<'a>,
+pub(crate) fn complete<'a, L: Ledger, const N: usize>(
+    input: &EnumerationInput<'a, N>,
+    trail: &mut Trail<'a, N>,
     from: Place,
     base: usize,
     out: &mut Tuple,
     looks: &mut Steps<L>,
-) -> Option<u8>
+) -> Option<u16>
     requires input { IsEnumerationInput input.now }
     requires short { length (whole_text input.now) ≤ 281474976710656 }
     requires finish { CanFinish input.now from base trail.old.marks.items trail.old.ahead.items }
@@ -303,7 +309,7 @@ pub(crate) fn complete<'a, L: Ledger>(
         return Some(place.state);
     }
     let mut descent = Descent {
-        here: *ahead_at(&*trail, place.next),
+        here: ahead_at(&*trail, place.next),
         state: place.state,
         base,
     };

@@ -1,26 +1,25 @@
-//! Sets of states, visited bit by bit.
-ghost use Rattle.std.specs.Prelude.{◌≡◌, ◌≢◌, ℕ, ◌<◌, ◌≤◌, ◌^◌, length, true, false, List};
+//! The states between two texts.
+ghost use Rattle.std.specs.Prelude.{◌≡◌, ℕ, ◌<◌, ◌≤◌, ◌*◌, length, true, List};
 ghost use Rattle.marker_dfa.specs.Deterministic.{states_of};
 ghost use Rattle.state_tables.specs.StateSet.{member};
-ghost use Rattle.state_tables.specs.Table.{marked_of, reached_of, row_at};
+ghost use Rattle.state_tables.specs.Table.{reached_of, row_at};
 ghost use Rattle.state_tables.specs.Meaning.{IsTable};
 ghost use Rattle.span_enum.specs.Sets.{can_reach_of};
 ghost use Rattle.span_enum.specs.Words.{IsFork};
 ghost use Rattle.span_enum.specs.Between.{AreAmong, AreBetween};
 ghost use Rattle.span_enum.specs.Quiet.{StaysQuiet, StayQuiet, LeadQuiet};
 
+use crate::states::States;
 use crate::trail::Ahead;
-use crate::walk::state_if;
 use marker_dfa::Dfa;
 use state_tables::Table;
-use state_tables::state_set::{holds, single};
 
 /// States between two texts: those from which the second one leads into a goal, and those of them that are known to be
 /// quiet.
-#[derive(Clone, Copy)]
-pub(crate) struct Between {
-    pub(crate) goals: u128,
-    pub(crate) quiet: u128,
+#[derive(Clone, Copy, Default)]
+pub(crate) struct Between<const N: usize> {
+    pub(crate) goals: States<N>,
+    pub(crate) quiet: States<N>,
 }
 
 /// Whether runs over a text lead on from a state, and quietly.
@@ -30,49 +29,34 @@ struct Way {
     quiet: bool,
 }
 
-/// The least state of a set that has one.
-fn least(set: u128) -> u8
-    requires { 0 < set }
-    ensures member { member set result ≡ true }
-    ensures few { result < 128 }
-{
-    set.trailing_zeros() as u8
-}
-
-/// The set without one of its states.
-fn without(set: u128, q: u8) -> u128
-    requires few { q < 128 }
-    requires member { member set q ≡ true }
-    ensures gone { member result q ≡ false }
-    ensures others { (i : ℕ) → i ≢ q → member result i ≡ member set i }
-    ensures less { result < set }
-{
-    set ^ single(Some(q))
-}
-
 /// The states reached from `p` over the text, with any marks.
-fn reached(table: &Table, p: u8) -> u128
-    requires { p < length table.now }
+fn reached<const N: usize>(table: &Table, p: u16) -> States<N>
+    requires wide { length table.now ≤ 64 * N }
+    requires narrow { N ≤ 16 }
+    requires state { p < length table.now }
     ensures value { result ≡ reached_of (row_at table.now p) }
     ensures within { (q : ℕ) → member result q ≡ true → q < length table.now }
 {
-    table.marked(p) | single(table.unmarked(p))
+    let mut set = States::of(table.marked(p));
+    match table.unmarked(p) {
+        Some(q) => set.include(q, true),
+        None => {}
+    }
+    set
 }
 
 /// Whether some run over the text leads from `p` into a goal, and whether the only such run has no marks and leads into
 /// a quiet state.
-fn way_on(table: &Table, p: u8, goals: u128, quiet: u128) -> Way
+fn way_on<const N: usize>(table: &Table, p: u16, goals: &States<N>, quiet: &States<N>) -> Way
     requires { p < length table.now }
-    ensures leads { result.leads ≡ can_reach_of table.now p goals }
-    ensures quiet { result.quiet ≡ true → StaysQuiet table.now p goals quiet }
-    ensures small { marked_of table.now p < 2 ^ 128 }
+    ensures leads { result.leads ≡ can_reach_of table.now p goals.now }
+    ensures quiet { result.quiet ≡ true → StaysQuiet table.now p goals.now quiet.now }
 {
-    let _states = table.states();
-    let marked = table.marked(p) & goals != 0;
+    let marked = goals.meets(table.marked(p));
     match table.unmarked(p) {
         Some(q) => Way {
-            leads: holds(goals, q) || marked,
-            quiet: holds(quiet, q) && !marked,
+            leads: goals.holds(q) || marked,
+            quiet: quiet.holds(q) && !marked,
         },
         None => Way {
             leads: marked,
@@ -82,20 +66,26 @@ fn way_on(table: &Table, p: u8, goals: u128, quiet: u128) -> Way
 }
 
 /// The states of the set from which some run over the text ends in a goal, and the quiet ones among them.
-fn goals_among(table: &Table, from: u128, goals: u128, quiet: u128) -> Between
-    requires { (q : ℕ) → member from q ≡ true → q < length table.now }
-    ensures goals { AreAmong table.now from goals result.goals }
-    ensures quiet { StayQuiet table.now from goals quiet result.quiet }
+fn goals_among<const N: usize>(
+    table: &Table,
+    from: &States<N>,
+    goals: &States<N>,
+    quiet: &States<N>,
+) -> Between<N>
+    requires narrow { N ≤ 16 }
+    requires states { (q : ℕ) → member from.now q ≡ true → q < length table.now }
+    ensures goals { AreAmong table.now from.now goals.now result.goals }
+    ensures quiet { StayQuiet table.now from.now goals.now quiet.now result.quiet }
 {
-    let mut rest = from;
-    let mut set = 0;
-    let mut stay = 0;
-    while rest != 0 {
-        let q = least(rest);
+    let _states = table.states();
+    let mut rest = *from;
+    let mut set = States::none();
+    let mut stay = States::none();
+    while let Some(q) = rest.least() {
         let way = way_on(table, q, goals, quiet);
-        set |= state_if(q, way.leads);
-        stay |= state_if(q, way.quiet);
-        rest = without(rest, q);
+        set.include(q, way.leads);
+        stay.include(q, way.quiet);
+        rest.remove(q);
     }
     Between {
         goals: set,
@@ -105,13 +95,15 @@ fn goals_among(table: &Table, from: u128, goals: u128, quiet: u128) -> Between
 
 /// The states reached from `p` over the left child of a node from which the right one leads into its goals, and the
 /// quiet ones among them. Only these few are tested.
-pub(crate) fn goals_between(
+pub(crate) fn goals_between<const N: usize>(
     dfa: &Dfa,
-    here: &Ahead<'_>,
+    here: &Ahead<'_, N>,
     left: &Table,
     right: &Table,
-    p: u8,
-) -> Between
+    p: u16,
+) -> Between<N>
+    requires wide { states_of dfa.now ≤ 64 * N }
+    requires narrow { N ≤ 16 }
     requires fork { IsFork dfa.now here.now.look.table.now left.now right.now }
     requires state { p < states_of dfa.now }
     ensures between { (s u : List ℕ) → IsTable dfa.now s left.now → IsTable dfa.now u right.now → AreBetween dfa.now p s u here.now.goals result.goals }
@@ -121,6 +113,5 @@ pub(crate) fn goals_between(
         → LeadQuiet dfa.now p s u here.now.goals here.now.quiet result.quiet }
 {
     let _states = dfa.states();
-    let _marked = here.look.table.marked(p);
-    goals_among(right, reached(left, p), here.goals, here.quiet)
+    goals_among(right, &reached(left, p), &here.goals, &here.quiet)
 }

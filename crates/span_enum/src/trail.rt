@@ -1,13 +1,16 @@
 //! What is kept of the last answer: its marks, and the nodes ahead of each.
 ghost use Rattle.std.specs.Prelude.{◌≡◌, ℕ, Option, ◌<◌, ◌≤◌, [], suc, length, slice_get, Some, IfOk, MatchOption};
+ghost use Rattle.marker_dfa.specs.Deterministic.{states_of};
 ghost use Rattle.span_enum.specs.Next.{NoneAfter};
-ghost use Rattle.span_enum.specs.Words.{IsNoMark};
+ghost use Rattle.span_enum.specs.Words.{IsGreatestMark, IsNoMark};
 ghost use Rattle.span_enum.specs.Tuples.{word_over};
 ghost use Rattle.span_enum.specs.Trail.{IsEnumerationInput, HasRoom, IsLast, IsTrailOf, IsTurned, LowersLast, whole_text};
 ghost use Rattle.span_enum.specs.declared.trail.Ahead.{Ahead};
 ghost use Rattle.span_enum.specs.declared.trail.Mark.{Mark};
 
+use crate::ahead::AheadList;
 use crate::input::EnumerationInput;
+use crate::states::States;
 use crate::walk::{Lowered, greatest_mark};
 use node_store::NodeId;
 use smallvec::SmallVec;
@@ -20,24 +23,24 @@ use std::alloc::Global;
 /// rest of the text is accepted. The quiet ones, as far as they are known, are those from which it is accepted without
 /// marks and only so. The next node is an index in the list, counted from 1, or 0 at the end of the text.
 #[derive(Clone, Copy)]
-pub(crate) struct Ahead<'a> {
+pub(crate) struct Ahead<'a, const N: usize> {
     pub(crate) id: NodeId,
     pub(crate) look: Look<'a>,
     pub(crate) at: u64,
-    pub(crate) goals: u128,
-    pub(crate) quiet: u128,
+    pub(crate) goals: States<N>,
+    pub(crate) quiet: States<N>,
     pub(crate) next: usize,
 }
 
 /// A mark of the last answer: its letter, the state before the letter, and the states after it from which the rest is
 /// accepted. Also the node that comes next, and how many nodes were kept before the path down to it was added.
 #[derive(Clone, Copy, Default)]
-pub(crate) struct Mark {
+pub(crate) struct Mark<const N: usize> {
     pub(crate) at: u64,
     pub(crate) mark: u16,
     pub(crate) byte: u8,
-    pub(crate) state: u8,
-    pub(crate) goals: u128,
+    pub(crate) state: u16,
+    pub(crate) goals: States<N>,
     pub(crate) next: usize,
     pub(crate) base: usize,
 }
@@ -46,7 +49,7 @@ pub(crate) struct Mark {
 /// known to be quiet.
 #[derive(Clone, Copy)]
 pub(crate) struct Place {
-    pub(crate) state: u8,
+    pub(crate) state: u16,
     pub(crate) next: usize,
     pub(crate) quiet: bool,
 }
@@ -61,9 +64,9 @@ pub(crate) struct Position {
 /// A node on the path down to a letter, the state before the node, and how many nodes were kept before the path was
 /// added.
 #[derive(Clone, Copy)]
-pub(crate) struct Descent<'a> {
-    pub(crate) here: Ahead<'a>,
-    pub(crate) state: u8,
+pub(crate) struct Descent<'a, const N: usize> {
+    pub(crate) here: Ahead<'a, N>,
+    pub(crate) state: u16,
     pub(crate) base: usize,
 }
 
@@ -83,20 +86,23 @@ pub(crate) struct Turn {
     pub(crate) base: usize,
 }
 
-/// The marks of the last answer, and the nodes ahead of them. Every entry has a node. It is an option since a
-/// `SmallVec` writes a default value in place of what it removes.
+/// The marks of the last answer, and the nodes ahead of them.
 #[derive(Drop)]
-pub(crate) struct Trail<'a> {
-    pub(crate) marks: SmallVec<Mark, 0>,
-    pub(crate) ahead: SmallVec<Option<Ahead<'a>>, 0>,
+pub(crate) struct Trail<'a, const N: usize> {
+    pub(crate) marks: SmallVec<Mark<N>, 0>,
+    pub(crate) ahead: AheadList<'a, N>,
 }
 
 /// One more than the maximum number of nodes beside the path down in the tallest tree.
 const BESIDE: usize = 69;
 
 /// Nothing kept, with room for the answers of this many variables.
-pub(crate) fn empty_trail<'a>(alloc: Global, variables: u8) -> Result<Trail<'a>, NoMemory>
-    requires { variables ≤ 8 }
+pub(crate) fn empty_trail<'a, const N: usize>(
+    alloc: Global,
+    variables: u8,
+) -> Result<Trail<'a, N>, NoMemory>
+    requires few { variables ≤ 8 }
+    requires narrow { N ≤ 16 }
     ensures marks { IfOk result (λ trail. trail.marks.items ≡ []) }
     ensures ahead { IfOk result (λ trail. trail.ahead.items ≡ []) }
     ensures room { IfOk result (λ trail. HasRoom variables trail.marks.capacity trail.ahead.capacity) }
@@ -104,13 +110,13 @@ pub(crate) fn empty_trail<'a>(alloc: Global, variables: u8) -> Result<Trail<'a>,
     let most = 2 * variables as usize;
     let mut marks = SmallVec::new(alloc);
     marks.reserve(most)?;
-    let mut ahead = SmallVec::new(alloc);
-    ahead.reserve(1 + BESIDE * most)?;
+    let ahead = AheadList::with_room(alloc, 1 + BESIDE * most)?;
     Ok(Trail { marks, ahead })
 }
 
 /// Removes everything that is kept. The room for it stays.
-pub(crate) fn clear(trail: &mut Trail<'_>)
+pub(crate) fn clear<const N: usize>(trail: &mut Trail<'_, N>)
+    requires { N ≤ 16 }
     ensures marks { trail.new.marks.items ≡ [] }
     ensures ahead { trail.new.ahead.items ≡ [] }
     ensures marks_room { trail.new.marks.capacity ≡ trail.old.marks.capacity }
@@ -121,18 +127,18 @@ pub(crate) fn clear(trail: &mut Trail<'_>)
 }
 
 /// The node with this index in the list, counted from 1.
-pub(crate) fn ahead_at<'t, 'a>(trail: &'t Trail<'a>, place: usize) -> &'t Ahead<'a>
-    requires { (before : ℕ) × ((h : Ahead) × (place ≡ suc before) × (slice_get trail.now.ahead.items before ≡ Some (Some h))) }
-    ensures { (before : ℕ) → place ≡ suc before → slice_get trail.now.ahead.items before ≡ Some (Some result.now) }
+pub(crate) fn ahead_at<'a, const N: usize>(trail: &Trail<'a, N>, place: usize) -> Ahead<'a, N>
+    requires { (before : ℕ) × ((h : Ahead N) × (place ≡ suc before) × (slice_get trail.now.ahead.items before ≡ Some (Some h))) }
+    ensures { (before : ℕ) → place ≡ suc before → slice_get trail.now.ahead.items before ≡ Some (Some result) }
 {
-    match &trail.ahead.as_slice()[place - 1] {
+    match trail.ahead.get(place - 1) {
         Some(node) => node,
         None => unreachable!(),
     }
 }
 
 /// The last mark.
-pub(crate) fn last_of<'t>(trail: &'t Trail<'_>) -> &'t Mark
+pub(crate) fn last_of<'t, const N: usize>(trail: &'t Trail<'_, N>) -> &'t Mark<N>
     requires { 0 < length trail.now.marks.items }
     ensures { IsLast trail.now.marks.items result.now }
 {
@@ -140,7 +146,12 @@ pub(crate) fn last_of<'t>(trail: &'t Trail<'_>) -> &'t Mark
 }
 
 /// Removes the last mark and the path down to it.
-fn forget_last(input: &EnumerationInput<'_>, trail: &mut Trail<'_>, last: Mark, t: &Tuple)
+fn forget_last<const N: usize>(
+    input: &EnumerationInput<'_, N>,
+    trail: &mut Trail<'_, N>,
+    last: Mark<N>,
+    t: &Tuple,
+)
     requires input { IsEnumerationInput input.now }
     requires trail { IsTrailOf input.now t.now trail.old.marks.items trail.old.ahead.items }
     requires last { IsLast trail.old.marks.items last }
@@ -155,10 +166,33 @@ fn forget_last(input: &EnumerationInput<'_>, trail: &mut Trail<'_>, last: Mark, 
     trail.marks.truncate(count - 1);
 }
 
+/// Where the mark can be lowered, if it can be.
+fn lowered<const N: usize>(input: &EnumerationInput<'_, N>, mark: &Mark<N>) -> Option<Lowered>
+    requires input { IsEnumerationInput input.now }
+    requires state { mark.now.state < states_of input.now.dfa.now }
+    ensures { MatchOption result ((n : ℕ) → IsNoMark input.now.dfa.now mark.now.state mark.now.byte mark.now.goals mark.now.mark n)
+        (λ l. (l.at ≡ mark.now.at) × IsGreatestMark input.now.dfa.now mark.now.state mark.now.byte mark.now.goals mark.now.mark l.mark l.state) }
+{
+    match greatest_mark(
+        input.dfa,
+        mark.state,
+        mark.byte,
+        &mark.goals,
+        mark.mark as u32,
+    ) {
+        Some(step) => Some(Lowered {
+            at: mark.at,
+            mark: step.mark,
+            state: step.state,
+        }),
+        None => None,
+    }
+}
+
 /// The last mark that can be lowered, with the lower one. The marks after it are removed.
-pub(crate) fn lower_last(
-    input: &EnumerationInput<'_>,
-    trail: &mut Trail<'_>,
+pub(crate) fn lower_last<const N: usize>(
+    input: &EnumerationInput<'_, N>,
+    trail: &mut Trail<'_, N>,
     t: &Tuple,
 ) -> Option<Lowered>
     requires input { IsEnumerationInput input.now }
@@ -170,31 +204,21 @@ pub(crate) fn lower_last(
     ensures ahead_room { trail.new.ahead.capacity ≡ trail.old.ahead.capacity }
 {
     while trail.marks.len() > 0 {
-        let last = *last_of(&*trail);
-        match greatest_mark(
-            input.dfa,
-            last.state,
-            last.byte,
-            last.goals,
-            last.mark as u32,
-        ) {
-            Some(step) => {
-                return Some(Lowered {
-                    at: last.at,
-                    mark: step.mark,
-                    state: step.state,
-                });
+        match lowered(input, last_of(&*trail)) {
+            Some(lowered) => return Some(lowered),
+            None => {
+                let last = *last_of(&*trail);
+                forget_last(input, trail, last, t);
             }
-            None => forget_last(input, trail, last, t),
         }
     }
     None
 }
 
 /// Replaces the last mark by the lower one, or removes it if the lower one is none.
-pub(crate) fn lower_to(
-    input: &EnumerationInput<'_>,
-    trail: &mut Trail<'_>,
+pub(crate) fn lower_to<const N: usize>(
+    input: &EnumerationInput<'_, N>,
+    trail: &mut Trail<'_, N>,
     t: &Tuple,
     lowered: &Lowered,
 ) -> Turn

@@ -1,89 +1,78 @@
 //! Steps of the automaton, and the marks of tuples.
-ghost use Rattle.std.specs.Prelude.{◌≡◌, ℕ, ◌<◌, ◌≤◌, ◌+◌, ◌*◌, ◌^◌, true, false, length, Some, IfSome, MatchOption, if◌then◌else◌};
+ghost use Rattle.std.specs.Prelude.{◌≡◌, ℕ, ◌<◌, ◌≤◌, ◌+◌, ◌*◌, true, false, length, Some, IfSome, MatchOption};
 ghost use Rattle.span_types.specs.Marks.{mark_of};
 ghost use Rattle.span_types.specs.Words.{mark_count};
 ghost use Rattle.slp_model.specs.Tree.{text, height};
 ghost use Rattle.slp_model.specs.Nodes.{tree};
 ghost use Rattle.marker_dfa.specs.Deterministic.{states_of};
 ghost use Rattle.state_tables.specs.StateSet.{member};
-ghost use Rattle.state_tables.specs.Table.{marked_of};
 ghost use Rattle.state_tables.specs.Dictionary.{AreTables, IsLook};
 ghost use Rattle.span_enum.specs.Letters.{step_of, reached};
 ghost use Rattle.span_enum.specs.Sets.{is_final, can_reach_of};
 ghost use Rattle.span_enum.specs.Tuples.{word_over, IsBound, IsBoundBetween, IsMarkedBetween};
 ghost use Rattle.span_enum.specs.Words.{IsGreatestMark, IsNoMark};
 
+use crate::states::States;
 use marker_dfa::Dfa;
 use node_store::{Node, NodeId};
 use span_types::{Span, Steps, Tuple, mark_at};
-use state_tables::state_set::holds;
 use state_tables::{Look, Table, View};
 use std::sync::ledger::Ledger;
 
 /// Whether some run over the text from `p` ends in a goal.
-pub(crate) fn can_reach(table: &Table, p: u8, goals: u128) -> bool
+pub(crate) fn can_reach<const N: usize>(table: &Table, p: u16, goals: &States<N>) -> bool
     requires { p < length table.now }
-    ensures value { result ≡ can_reach_of table.now p goals }
-    ensures small { marked_of table.now p < 2 ^ 128 }
+    ensures { result ≡ can_reach_of table.now p goals.now }
 {
-    let _states = table.states();
-    let marked = table.marked(p);
     let unmarked = match table.unmarked(p) {
-        Some(q) => holds(goals, q),
+        Some(q) => goals.holds(q),
         None => false,
     };
-    unmarked || marked & goals != 0
-}
-
-// The set of this state, or of none.
-pub(crate) fn state_if(p: u8, include: bool) -> u128
-    requires { p < 128 }
-    ensures { result ≡ (if include then 2 ^ p else 0) }
-{
-    if include { 1 << p } else { 0 }
+    unmarked || goals.meets(table.marked(p))
 }
 
 /// The states in which a text may end.
-pub(crate) fn final_states(dfa: &Dfa) -> u128
+pub(crate) fn final_states<const N: usize>(dfa: &Dfa) -> States<N>
+    requires wide { states_of dfa.now ≤ 64 * N }
+    requires narrow { N ≤ 16 }
     ensures { (p : ℕ) → p < states_of dfa.now → member result p ≡ is_final dfa.now p }
 {
-    let mut set = 0;
+    let mut set = States::none();
     for p in 0..dfa.states() {
-        set |= state_if(p, !dfa.ends(p).is_empty());
+        set.include(p, !dfa.ends(p).is_empty());
     }
     set
 }
 
 // The state after the mark and the byte.
-pub(crate) fn step(dfa: &Dfa, p: u8, mark: u16, byte: u8) -> Option<u8>
+pub(crate) fn step(dfa: &Dfa, p: u16, mark: u16, byte: u8) -> Option<u16>
     requires { p < states_of dfa.now }
     ensures value { result ≡ step_of dfa.now p mark byte }
     ensures within { IfSome result (λ q. q < states_of dfa.now) }
-    ensures few { states_of dfa.now ≤ 128 }
 {
     let _states = dfa.states();
     dfa.next(p, mark, byte)
 }
 
 // The state after the mark and the byte, if the mark is below the limit and that state is a goal.
-pub(crate) fn step_to_goal(
+pub(crate) fn step_to_goal<const N: usize>(
     dfa: &Dfa,
-    p: u8,
+    p: u16,
     byte: u8,
     mark: u16,
-    goals: u128,
+    goals: &States<N>,
     limit: u32,
-) -> Option<u8>
+) -> Option<u16>
     requires { p < states_of dfa.now }
-    ensures step { MatchOption result (IsNoMark dfa.now p byte goals limit mark) (λ q.
-        (step_of dfa.now p mark byte ≡ Some q) × (member goals q ≡ true) × (mark < limit)) }
+    ensures step { MatchOption result (IsNoMark dfa.now p byte goals.now limit mark) (λ q.
+        (step_of dfa.now p mark byte ≡ Some q) × (member goals.now q ≡ true) × (mark < limit)) }
     ensures within { IfSome result (λ q. q < states_of dfa.now) }
 {
     if mark as u32 >= limit {
         return None;
     }
     match step(dfa, p, mark, byte) {
-        Some(q) => { if holds(goals, q) { Some(q) } else { None } }
+        Some(q) => { if goals.holds(q) { Some(q) } else { None } }
         None => None,
     }
 }
@@ -92,14 +81,20 @@ pub(crate) fn step_to_goal(
 #[derive(Clone, Copy, Debug, PartialEq, Eq)]
 pub(crate) struct MarkStep {
     pub(crate) mark: u16,
-    pub(crate) state: u8,
+    pub(crate) state: u16,
 }
 
 /// The greatest mark below the limit that leads over the byte into a goal, with the state after it.
-pub(crate) fn greatest_mark(dfa: &Dfa, p: u8, byte: u8, goals: u128, limit: u32) -> Option<MarkStep>
+pub(crate) fn greatest_mark<const N: usize>(
+    dfa: &Dfa,
+    p: u16,
+    byte: u8,
+    goals: &States<N>,
+    limit: u32,
+) -> Option<MarkStep>
     requires { p < states_of dfa.now }
-    ensures mark { MatchOption result ((m : ℕ) → IsNoMark dfa.now p byte goals limit m) (λ r.
-        IsGreatestMark dfa.now p byte goals limit r.mark r.state) }
+    ensures mark { MatchOption result ((m : ℕ) → IsNoMark dfa.now p byte goals.now limit m) (λ r.
+        IsGreatestMark dfa.now p byte goals.now limit r.mark r.state) }
     ensures within { IfSome result (λ r. r.state < states_of dfa.now) }
 {
     let _states = dfa.states();
@@ -184,7 +179,7 @@ fn earlier(at: u64, from: u64, first: u64) -> u64
 pub(crate) struct Lowered {
     pub(crate) at: u64,
     pub(crate) mark: u16,
-    pub(crate) state: u8,
+    pub(crate) state: u16,
 }
 
 /// A node of a text, with its lookup and the position of its first letter.
@@ -200,10 +195,10 @@ pub(crate) fn state_over<L: Ledger>(
     view: &View<'_>,
     dfa: &Dfa,
     part: &Part<'_>,
-    p: u8,
+    p: u16,
     t: &Tuple,
     looks: &mut Steps<L>,
-) -> Option<u8>
+) -> Option<u16>
     requires live { part.now.id.index < length view.now.store.now }
     requires look { IsLook view.now.store.now view.now.tables.now part.now.id.index part.now.look.node part.now.look.len part.now.look.table.now }
     requires tables { AreTables dfa.now view.now.store.now view.now.tables.now }

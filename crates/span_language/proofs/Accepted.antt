@@ -40,7 +40,7 @@ module _ (old : World) (r s : List ℕ) (n m : World) where
     h.1 ∙ ap (λ (z : Query). world (with_queries old.state (put old.state.queries name z)) old.files) e ∙ sym k.1,
   )
 
-  accepted : (name : List ℕ) (q : Query) → IsAccepted q × IsRegistered old n name q r → IsAccepted q × IsRegistered old m name q s → Same r s n m
+  accepted : (name : List ℕ) (q : Query) → IsAccepted old.state.most_states q × IsRegistered old n name q r → IsAccepted old.state.most_states q × IsRegistered old m name q s → Same r s n m
   accepted name q h k = registered name q q refl h.1 k.1
 
 pub one_done : (old : World) (command : Command) (r s : List ℕ) (n m : World) → IsSettled old.files command → Does old command r n → Does old command s m → Same r s n m
@@ -50,14 +50,14 @@ one_done old (LetDoc name expr) r s n m settled (e, t, reads, value, reply, new)
     given old r s n m name t u (one_text old.state.documents expr e f t u reads reads2 value value2) (reply, new) (reply2, new2)
 one_done old (Show name i j) r s n m settled (b, is, reply, new) (c, it, reply2, new2) =
     (reply ∙ ap shown_text (one_ok (shown old.state.documents name i j) b c is it) ∙ sym reply2, new ∙ sym new2)
-one_done old (form.Query name text) r s n m settled (q, is, h) (p, it, k) = registered old r s n m name q p (one_query text q p is it) h k
+one_done old (form.Query name text) r s n m settled (q, is, h) (p, it, k) = registered old r s n m name q p (one_query old.state.most_states text q p is it) h k
 one_done old (form.UnionQuery name left right) r s n m settled h k =
-    one_pair Union old.state.queries left right (λ q. IsAccepted q × IsRegistered old n name q r) (λ q. IsAccepted q × IsRegistered old m name q s) (Same r s n m) h k (accepted old r s n m name)
+    one_pair Union old.state.queries left right (λ q. IsAccepted old.state.most_states q × IsRegistered old n name q r) (λ q. IsAccepted old.state.most_states q × IsRegistered old m name q s) (Same r s n m) h k (accepted old r s n m name)
 one_done old (form.JoinQuery name left right) r s n m settled h k =
-    one_pair Join old.state.queries left right (λ q. IsAccepted q × IsRegistered old n name q r) (λ q. IsAccepted q × IsRegistered old m name q s) (Same r s n m) h k (accepted old r s n m name)
+    one_pair Join old.state.queries left right (λ q. IsAccepted old.state.most_states q × IsRegistered old n name q r) (λ q. IsAccepted old.state.most_states q × IsRegistered old m name q s) (Same r s n m) h k (accepted old r s n m name)
 one_done old (form.ProjectQuery name source keep) r s n m settled h k =
-    let P : Query → Type 0 = λ p. IsAccepted p × IsRegistered old n name p r in
-    let R : Query → Type 0 = λ p. IsAccepted p × IsRegistered old m name p s in
+    let P : Query → Type 0 = λ p. IsAccepted old.state.most_states p × IsRegistered old n name p r in
+    let R : Query → Type 0 = λ p. IsAccepted old.state.most_states p × IsRegistered old m name p s in
     one_named old.state.queries source (λ q. HasProjection q keep P) (λ q. HasProjection q keep R) (Same r s n m) h k
     (λ q a b. one_projection q keep P R (Same r s n m) a b (accepted old r s n m name))
 one_done old (form.List query name start limit) r s n m settled (q, t, h, reply, new) (p, u, k, reply2, new2) =

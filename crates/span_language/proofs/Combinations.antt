@@ -15,11 +15,11 @@ One P = (r s : CombineRefusal) (why other : Refusal) → P r → P s → IsCombi
 abbrev Never : (CombineRefusal → Type 0) → Type 0
 Never P = (r : CombineRefusal) (why : Refusal) → P r → IsCombineRefusal r why → ⊥
 
-one_past : (q : Query) → One (IsPast q)
-one_past q r s why other h k is it = grind arith
+one_past : (most : ℕ) (q : Query) → One (IsPast most q)
+one_past most q r s why other h k is it = grind arith
 
-accepted_once : (q : Query) → IsAccepted q → Never (IsPast q)
-accepted_once q a r why h is = grind arith
+accepted_once : (most : ℕ) (q : Query) → IsAccepted most q → Never (IsPast most q)
+accepted_once most q a r why h is = grind arith
 
 absent : (queries : Named Query) (name : List ℕ) (r : CombineRefusal) (why : Refusal) → IsAbsent queries name r → IsCombineRefusal r why → (value_of queries name ≡ None) × (why ≡ NoSuchQuery name)
 absent queries name (combine.NoSuchQuery wanted) why h is = (h.1, is ∙ ap NoSuchQuery h.0)
@@ -46,14 +46,14 @@ module _ (queries : Named Query) (name : List ℕ) where
   stage_once A P never h r why (inr k) is = one_named A (λ q. P q r) ⊥ h k (λ q a b. never q a r why b is)
 
 module _ (Tree : Query → Query → Query) (queries : Named Query) (left right : List ℕ) where
-  pub one_pair_refusal : (why other : Refusal) → IsUncombined (IsPairRefused Tree queries left right) why → IsUncombined (IsPairRefused Tree queries left right) other → why ≡ other
-  one_pair_refusal why other (r, h, is) (s, k, it) =
-      one_stage queries left (λ p. Stage queries right (λ q. IsPast (Tree p q))) (λ p. one_stage queries right (λ q. IsPast (Tree p q)) (λ q. one_past (Tree p q))) r s why other h k is it
+  pub one_pair_refusal : (most : ℕ) (why other : Refusal) → IsUncombined (IsPairRefused most Tree queries left right) why → IsUncombined (IsPairRefused most Tree queries left right) other → why ≡ other
+  one_pair_refusal most why other (r, h, is) (s, k, it) =
+      one_stage queries left (λ p. Stage queries right (λ q. IsPast most (Tree p q))) (λ p. one_stage queries right (λ q. IsPast most (Tree p q)) (λ q. one_past most (Tree p q))) r s why other h k is it
 
-  pub pair_once : (P : Query → Type 0) (why : Refusal) → HasPair Tree queries left right (λ q. IsAccepted q × P q) → IsUncombined (IsPairRefused Tree queries left right) why → ⊥
-  pair_once P why h (r, k, is) =
-      stage_once queries left (λ p. IsNamed queries right (λ q. IsAccepted (Tree p q) × P (Tree p q))) (λ p. Stage queries right (λ q. IsPast (Tree p q)))
-      (λ p. stage_once queries right (λ q. IsAccepted (Tree p q) × P (Tree p q)) (λ q. IsPast (Tree p q)) (λ q a. accepted_once (Tree p q) a.0)) h r why k is
+  pub pair_once : (most : ℕ) (P : Query → Type 0) (why : Refusal) → HasPair Tree queries left right (λ q. IsAccepted most q × P q) → IsUncombined (IsPairRefused most Tree queries left right) why → ⊥
+  pair_once most P why h (r, k, is) =
+      stage_once queries left (λ p. IsNamed queries right (λ q. IsAccepted most (Tree p q) × P (Tree p q))) (λ p. Stage queries right (λ q. IsPast most (Tree p q)))
+      (λ p. stage_once queries right (λ q. IsAccepted most (Tree p q) × P (Tree p q)) (λ q. IsPast most (Tree p q)) (λ q a. accepted_once most (Tree p q) a.0)) h r why k is
 
   pub one_pair : (P R : Query → Type 0) (S : Type 0) → HasPair Tree queries left right P → HasPair Tree queries left right R → ((q : Query) → P q → R q → S) → S
   one_pair P R S h k both =
@@ -68,34 +68,34 @@ module _ (q : Query) (keep : List ℕ) where
   one_side : (names more : List (List ℕ)) → IsVarsText keep names → HasOther (names_of q) names → IsVarsText keep more → (HasOther (names_of q) more → ⊥) → ⊥
   one_side names more text other text2 kept = kept (subst (HasOther (names_of q)) (one_names keep names more text text2) other)
 
-  one_refused : One (IsProjectionPast q keep)
-  one_refused (combine.QueryTooLarge m) (combine.QueryTooLarge n) why other h k is it = is ∙ ap QueryTooLarge (h.0 ∙ sym k.0) ∙ sym it
-  one_refused (combine.QueryTooLarge m) combine.OtherVariables why other h k is it = absurd (omega (arith, h.0, h.1, k.0))
-  one_refused (combine.QueryTooLarge m) combine.TooManyStates why other h (ns, text, kept, k) is it = absurd (omega (arith, h.0, h.1, k.0))
-  one_refused combine.OtherVariables (combine.QueryTooLarge n) why other h k is it = absurd (omega (arith, k.0, k.1, h.0))
-  one_refused combine.OtherVariables combine.OtherVariables why other h k is it = is ∙ sym it
-  one_refused combine.OtherVariables combine.TooManyStates why other (few, (ns, text, others)) (ms, text2, kept, k) is it = absurd (one_side ns ms text others text2 kept)
-  one_refused combine.TooManyStates (combine.QueryTooLarge n) why other (ns, text, kept, h) k is it = absurd (omega (arith, k.0, k.1, h.0))
-  one_refused combine.TooManyStates combine.OtherVariables why other (ms, text2, kept, h) (few, (ns, text, others)) is it = absurd (one_side ns ms text others text2 kept)
-  one_refused combine.TooManyStates combine.TooManyStates why other h k is it = is ∙ sym it
-  one_refused combine.NoMemory _ why other h k is it = absurd is
-  one_refused _ combine.NoMemory why other h k is it = absurd it
-  one_refused (combine.NoSuchQuery name) _ why other h k is it = absurd h
-  one_refused combine.TooManyVariables _ why other h k is it = absurd h
-  one_refused _ _ why other h k is it = absurd k
+  one_refused : (most : ℕ) → One (IsProjectionPast most q keep)
+  one_refused most (combine.QueryTooLarge m) (combine.QueryTooLarge n) why other h k is it = is ∙ ap QueryTooLarge (h.0 ∙ sym k.0) ∙ sym it
+  one_refused most (combine.QueryTooLarge m) combine.OtherVariables why other h k is it = absurd (omega (arith, h.0, h.1, k.0))
+  one_refused most (combine.QueryTooLarge m) combine.TooManyStates why other h (ns, text, kept, k) is it = absurd (omega (arith, h.0, h.1, k.0))
+  one_refused most combine.OtherVariables (combine.QueryTooLarge n) why other h k is it = absurd (omega (arith, k.0, k.1, h.0))
+  one_refused most combine.OtherVariables combine.OtherVariables why other h k is it = is ∙ sym it
+  one_refused most combine.OtherVariables combine.TooManyStates why other (few, (ns, text, others)) (ms, text2, kept, k) is it = absurd (one_side ns ms text others text2 kept)
+  one_refused most combine.TooManyStates (combine.QueryTooLarge n) why other (ns, text, kept, h) k is it = absurd (omega (arith, k.0, k.1, h.0))
+  one_refused most combine.TooManyStates combine.OtherVariables why other (ms, text2, kept, h) (few, (ns, text, others)) is it = absurd (one_side ns ms text others text2 kept)
+  one_refused most combine.TooManyStates combine.TooManyStates why other h k is it = is ∙ sym it
+  one_refused most combine.NoMemory _ why other h k is it = absurd is
+  one_refused most _ combine.NoMemory why other h k is it = absurd it
+  one_refused most (combine.NoSuchQuery name) _ why other h k is it = absurd h
+  one_refused most combine.TooManyVariables _ why other h k is it = absurd h
+  one_refused most _ _ why other h k is it = absurd k
 
-  projected_once : (P : Query → Type 0) → HasProjection q keep (λ p. IsAccepted p × P p) → Never (IsProjectionPast q keep)
-  projected_once P (ns, text, kept, h) (combine.QueryTooLarge m) why k is = omega (arith, h.0.few_parts, k.0, k.1)
-  projected_once P (ns, text, kept, h) combine.OtherVariables why (few, (ms, text2, others)) is = one_side ms ns text2 others text kept
-  projected_once P h combine.TooManyStates why k is = one_projection (λ p. IsAccepted p × P p) (λ p. IsPast p combine.TooManyStates) ⊥ h k (λ p a b. a.0.few b.2)
-  projected_once P h combine.NoMemory why k is = is
-  projected_once P h _ why k is = k
+  projected_once : (most : ℕ) (P : Query → Type 0) → HasProjection q keep (λ p. IsAccepted most p × P p) → Never (IsProjectionPast most q keep)
+  projected_once most P (ns, text, kept, h) (combine.QueryTooLarge m) why k is = omega (arith, h.0.few_parts, k.0, k.1)
+  projected_once most P (ns, text, kept, h) combine.OtherVariables why (few, (ms, text2, others)) is = one_side ms ns text2 others text kept
+  projected_once most P h combine.TooManyStates why k is = one_projection (λ p. IsAccepted most p × P p) (λ p. IsPast most p combine.TooManyStates) ⊥ h k (λ p a b. a.0.few b.2)
+  projected_once most P h combine.NoMemory why k is = is
+  projected_once most P h _ why k is = k
 
 module _ (queries : Named Query) (source keep : List ℕ) where
-  pub one_project_refusal : (why other : Refusal) → IsUncombined (IsProjectRefused queries source keep) why → IsUncombined (IsProjectRefused queries source keep) other → why ≡ other
-  one_project_refusal why other (r, h, is) (s, k, it) = one_stage queries source (λ q. IsProjectionPast q keep) (λ q. one_refused q keep) r s why other h k is it
+  pub one_project_refusal : (most : ℕ) (why other : Refusal) → IsUncombined (IsProjectRefused most queries source keep) why → IsUncombined (IsProjectRefused most queries source keep) other → why ≡ other
+  one_project_refusal most why other (r, h, is) (s, k, it) = one_stage queries source (λ q. IsProjectionPast most q keep) (λ q. one_refused q keep most) r s why other h k is it
 
-  pub project_once : (P : Query → Type 0) (why : Refusal) → IsNamed queries source (λ q. HasProjection q keep (λ p. IsAccepted p × P p))
-      → IsUncombined (IsProjectRefused queries source keep) why → ⊥
-  project_once P why h (r, k, is) =
-      stage_once queries source (λ q. HasProjection q keep (λ p. IsAccepted p × P p)) (λ q. IsProjectionPast q keep) (λ q. projected_once q keep P) h r why k is
+  pub project_once : (most : ℕ) (P : Query → Type 0) (why : Refusal) → IsNamed queries source (λ q. HasProjection q keep (λ p. IsAccepted most p × P p))
+      → IsUncombined (IsProjectRefused most queries source keep) why → ⊥
+  project_once most P why h (r, k, is) =
+      stage_once queries source (λ q. HasProjection q keep (λ p. IsAccepted most p × P p)) (λ q. IsProjectionPast most q keep) (λ q. projected_once q keep most P) h r why k is

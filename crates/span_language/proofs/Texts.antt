@@ -54,33 +54,33 @@ one_outcome s o p h k = is-outcome s o h ∙ sym (is-outcome s p k)
 same_formulas : (f g : FormulaTree) (n m : List Name) → Formula f n ≡ Formula g m → (f ≡ g) × (n ≡ m)
 same_formulas f g n m e = (cc, cc)
 
-pub one_query : (s : List ℕ) (q p : Query) → IsQueryOf s q → IsQueryOf s p → q ≡ p
-one_query s q p h k =
+pub one_query : (most : ℕ) (s : List ℕ) (q p : Query) → IsQueryOf most s q → IsQueryOf most s p → q ≡ p
+one_query most s q p h k =
     let same = same_formulas h.formula k.formula h.names k.names (one_outcome s (Formula h.formula h.names) (Formula k.formula k.names) h.outcome k.outcome) in
     h.query ∙ (λ i. Leaf (same.0 i) (same.1 i)) ∙ sym k.query
 
 -- the rejection in an outcome; that of a formula is about its reachable sets
-abbrev Tells : Outcome → Refusal → Type 0
-Tells (formula.TooLong len) r = r ≡ why.FormulaTooLong len
-Tells formula.BadText r = r ≡ why.BadFormula
-Tells formula.TooDeep r = r ≡ why.TooDeep
-Tells formula.TooManyPositions r = r ≡ why.TooManyPositions
-Tells formula.TooManyVariables r = r ≡ why.TooManyVariables
-Tells (formula.NotFunctional name) r = r ≡ why.NotFunctional name
-Tells (Formula f names) r = CountIsAbove 128 f × (r ≡ why.TooManyStates)
+abbrev Tells : ℕ → Outcome → Refusal → Type 0
+Tells most (formula.TooLong len) r = r ≡ why.FormulaTooLong len
+Tells most formula.BadText r = r ≡ why.BadFormula
+Tells most formula.TooDeep r = r ≡ why.TooDeep
+Tells most formula.TooManyPositions r = r ≡ why.TooManyPositions
+Tells most formula.TooManyVariables r = r ≡ why.TooManyVariables
+Tells most (formula.NotFunctional name) r = r ≡ why.NotFunctional name
+Tells most (Formula f names) r = CountIsAbove most f × (r ≡ why.TooManyStates)
 
-tells_one : (o : Outcome) (r s : Refusal) → Tells o r → Tells o s → r ≡ s
-tells_one (Formula f names) r s h k = h.1 ∙ sym k.1
-tells_one _ r s h k = h ∙ sym k
+tells_one : (most : ℕ) (o : Outcome) (r s : Refusal) → Tells most o r → Tells most o s → r ≡ s
+tells_one most (Formula f names) r s h k = h.1 ∙ sym k.1
+tells_one most _ r s h k = h ∙ sym k
 
 -- each outcome of a text determines its rejection
-tells : (s : List ℕ) (p : Outcome) (r : Refusal) → FormulaOf s p → IsTextRefused s r → Tells p r
-tells s p r of h = by r h
+tells : (most : ℕ) (s : List ℕ) (p : Outcome) (r : Refusal) → FormulaOf s p → IsTextRefused most s r → Tells most p r
+tells most s p r of h = by r h
   where
-    at : (o : Outcome) (r : Refusal) → FormulaOf s o → Tells o r → Tells p r
-    at o r h is = subst (λ z. Tells z r) (one_outcome s o p h of) is
+    at : (o : Outcome) (r : Refusal) → FormulaOf s o → Tells most o r → Tells most p r
+    at o r h is = subst (λ z. Tells most z r) (one_outcome s o p h of) is
 
-    by : (r : Refusal) → IsTextRefused s r → Tells p r
+    by : (r : Refusal) → IsTextRefused most s r → Tells most p r
     by (why.FormulaTooLong len) h = at (formula.TooLong len) (why.FormulaTooLong len) h refl
     by why.BadFormula h = at formula.BadText why.BadFormula h refl
     by why.TooDeep h = at formula.TooDeep why.TooDeep h refl
@@ -90,8 +90,8 @@ tells s p r of h = by r h
     by why.TooManyStates h = at (Formula h.formula h.names) why.TooManyStates h.outcome (h.many, refl)
     by _ h = absurd h
 
-pub text_once : (s : List ℕ) (q : Query) (r : Refusal) → IsQueryOf s q → IsTextRefused s r → ⊥
-text_once s q r h k = h.few (tells s (Formula h.formula h.names) r h.outcome k).0
+pub text_once : (most : ℕ) (s : List ℕ) (q : Query) (r : Refusal) → IsQueryOf most s q → IsTextRefused most s r → ⊥
+text_once most s q r h k = h.few (tells most s (Formula h.formula h.names) r h.outcome k).0
 
-pub one_text_refusal : (s : List ℕ) (r t : Refusal) → IsTextRefused s r → IsTextRefused s t → r ≡ t
-one_text_refusal s r t h k = tells_one (outcome s) r t (tells s (outcome s) r (has-outcome s) h) (tells s (outcome s) t (has-outcome s) k)
+pub one_text_refusal : (most : ℕ) (s : List ℕ) (r t : Refusal) → IsTextRefused most s r → IsTextRefused most s t → r ≡ t
+one_text_refusal most s r t h k = tells_one most (outcome s) r t (tells most s (outcome s) r (has-outcome s) h) (tells most s (outcome s) t (has-outcome s) k)

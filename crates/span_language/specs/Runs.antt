@@ -69,9 +69,9 @@ pub record Outside : Type 0 where
 abbrev pub outside : Option (List ℕ) → Option Files → ℕ → ℕ → ℕ → Outside
 outside written files looks pairs places = record { written = written; files = files; counters = record { looks = looks; pairs = pairs }; places = places }
 
--- the world before the first line
-abbrev pub start : Outside → World
-start before = world nothing before.files
+-- the world before the first line, if an automaton may have at most `most` states
+abbrev pub start : ℕ → Outside → World
+start most before = world (nothing most) before.files
 
 -- the maximum number of nodes that ever existed: the 256 bytes, which are made again after each compaction, and the pairs
 -- that were made
@@ -82,11 +82,11 @@ most_nodes sum before after = 256 * (1 + sum.compactions) + (after.counters.pair
 abbrev pub PlacesFew : Bool → Sum → Outside → Outside → Type 0
 PlacesFew asked sum before after = after.places ≤ before.places + (if asked then 2 else 1) * (sum.queries * most_nodes sum before after)
 
--- all lines ran, and their whole output was written
-pub record RunsAll (lines : List (List ℕ)) (refused : Bool) (before after : Outside) : Type 0 where
+-- all lines ran, in a session whose automata may have at most `most` states, and their whole output was written
+pub record RunsAll (lines : List (List ℕ)) (refused : Bool) (most : ℕ) (before after : Outside) : Type 0 where
   pub sum : Sum
   pub state : State
-  pub ran : Runs (start before) 1 lines sum (world state after.files)
+  pub ran : Runs (start most before) 1 lines sum (world state after.files)
   pub refused_is : sum.refused ≡ refused
   pub wrote : Appends before.written after.written sum.output
   pub paid : IsPaid sum.cost before.counters after.counters
@@ -130,15 +130,15 @@ InFileLine meaning part before after = Of IsOfFile meaning × (part ≡ []) × (
 abbrev pub UnlessList : ℕ → ℕ → Ending
 UnlessList wants_before wants_after meaning part before after = Of IsList meaning → Rose wants_before wants_after ⊎ (part ≡ [])
 
--- the run ended early: the first lines ran and their output was written, and then possibly a prefix of the next line's
--- reply
-pub record RunsFront (Ends : Ending) (lines : List (List ℕ)) (before after : Outside) : Type 0 where
+-- the run of a session whose automata may have at most `most` states ended early: the first lines ran and their output
+-- was written, and then possibly a prefix of the next line's reply
+pub record RunsFront (Ends : Ending) (lines : List (List ℕ)) (most : ℕ) (before after : Outside) : Type 0 where
   pub done : List (List ℕ)
   pub left : List (List ℕ)
   pub cut : lines ≡ done ++ left
   pub sum : Sum
   pub mid : World
-  pub ran : Runs (start before) 1 done sum mid
+  pub ran : Runs (start most before) 1 done sum mid
   pub part : List ℕ
   pub last : Allowance
   pub counted : Bool

@@ -10,8 +10,9 @@ use Rattle.edge_io.specs.Files.{Files}
 abbrev pub Documents : Type 0
 Documents = Named (List ℕ)
 
--- the state of a session
+-- the state of a session: how many states the automaton of a query may have, documents, queries and versions
 pub record State : Type 0 where
+  pub most_states : ℕ
   pub documents : Documents
   pub queries : Named Query
   pub versions : Named Documents
@@ -19,11 +20,11 @@ pub record State : Type 0 where
 abbrev documents_code : Coded Documents
 documents_code = coded_list (coded× (coded_list coded_ℕ) (coded_list coded_ℕ))
 
--- a state is encoded as its three lists
+-- a state is encoded as its number and its three lists
 abbrev pub state_code : Coded State
-state_code = code_by (Documents × (Named Query × Named Documents))
-    (coded× documents_code (coded× (coded_list (coded× (coded_list coded_ℕ) query_code)) (coded_list (coded× (coded_list coded_ℕ) documents_code))))
-    (λ s. (s.documents, (s.queries, s.versions))) (λ p. record { documents = p.0; queries = p.1.0; versions = p.1.1 }) (λ _. refl)
+state_code = code_by (ℕ × (Documents × (Named Query × Named Documents)))
+    (coded× coded_ℕ (coded× documents_code (coded× (coded_list (coded× (coded_list coded_ℕ) query_code)) (coded_list (coded× (coded_list coded_ℕ) documents_code)))))
+    (λ s. (s.most_states, (s.documents, (s.queries, s.versions)))) (λ p. record { most_states = p.0; documents = p.1.0; queries = p.1.1.0; versions = p.1.1.1 }) (λ _. refl)
 
 -- the state, and the files if they are observable
 pub record World : Type 0 where
@@ -33,17 +34,18 @@ pub record World : Type 0 where
 abbrev pub world : State → Option Files → World
 world state files = record { state = state; files = files }
 
-abbrev pub nothing : State
-nothing = record { documents = []; queries = []; versions = [] }
+-- no documents, queries and versions
+abbrev pub nothing : ℕ → State
+nothing most = record { most_states = most; documents = []; queries = []; versions = [] }
 
 -- the state with other documents
 abbrev pub with_documents : State → Documents → State
-with_documents st documents = record { documents = documents; queries = st.queries; versions = st.versions }
+with_documents st documents = record { most_states = st.most_states; documents = documents; queries = st.queries; versions = st.versions }
 
 -- the state with other queries
 abbrev pub with_queries : State → Named Query → State
-with_queries st queries = record { documents = st.documents; queries = queries; versions = st.versions }
+with_queries st queries = record { most_states = st.most_states; documents = st.documents; queries = queries; versions = st.versions }
 
 -- the state with other versions
 abbrev pub with_versions : State → Named Documents → State
-with_versions st versions = record { documents = st.documents; queries = st.queries; versions = versions }
+with_versions st versions = record { most_states = st.most_states; documents = st.documents; queries = st.queries; versions = versions }

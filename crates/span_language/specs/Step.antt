@@ -105,16 +105,16 @@ pub record IsFaulty (bytes : List ℕ) (kind : ℕ) : Type 0 where
   pub means : (image bytes).answer ≡ Err refusal
   pub kind_is : kind_of refusal ≡ Some kind
 
--- why a query's text is rejected: the first reason
-abbrev pub IsTextRefused : List ℕ → Refusal → Type 0
-IsTextRefused text (FormulaTooLong len) = FormulaOf text (formula.TooLong len)
-IsTextRefused text BadFormula = FormulaOf text formula.BadText
-IsTextRefused text TooDeep = FormulaOf text formula.TooDeep
-IsTextRefused text TooManyPositions = FormulaOf text formula.TooManyPositions
-IsTextRefused text TooManyVariables = FormulaOf text formula.TooManyVariables
-IsTextRefused text (NotFunctional name) = FormulaOf text (formula.NotFunctional name)
-IsTextRefused text TooManyStates = IsTooLarge text
-IsTextRefused text _ = ⊥
+-- why a query's text is rejected, if an automaton may have at most `most` states: the first reason
+abbrev pub IsTextRefused : ℕ → List ℕ → Refusal → Type 0
+IsTextRefused most text (FormulaTooLong len) = FormulaOf text (formula.TooLong len)
+IsTextRefused most text BadFormula = FormulaOf text formula.BadText
+IsTextRefused most text TooDeep = FormulaOf text formula.TooDeep
+IsTextRefused most text TooManyPositions = FormulaOf text formula.TooManyPositions
+IsTextRefused most text TooManyVariables = FormulaOf text formula.TooManyVariables
+IsTextRefused most text (NotFunctional name) = FormulaOf text (formula.NotFunctional name)
+IsTextRefused most text TooManyStates = IsTooLarge most text
+IsTextRefused most text _ = ⊥
 
 -- why an operation on queries failed, as the reply reports it
 abbrev pub IsCombineRefusal : CombineRefusal → Refusal → Type 0
@@ -225,11 +225,11 @@ Does old (DropDoc name) reply new = (text : List ℕ) × (value_of old.state.doc
     × (reply ≡ ok_text) × HasDocuments old new (taken_out old.state.documents name)
 Does old Names reply new = (reply ≡ names_text old.state.documents) × (new ≡ old)
 Does old (Show name i j) reply new = (bytes : List ℕ) × (shown old.state.documents name i j ≡ Ok bytes) × (reply ≡ shown_text bytes) × (new ≡ old)
-Does old (form.Query name text) reply new = (q : Query) × IsQueryOf text q × IsRegistered old new name q reply
+Does old (form.Query name text) reply new = (q : Query) × IsQueryOf old.state.most_states text q × IsRegistered old new name q reply
 Does old (form.Unquery name) reply new = (q : Query) × (value_of old.state.queries name ≡ Some q) × (reply ≡ ok_text) × HasQueries old new (taken_out old.state.queries name)
-Does old (form.UnionQuery name left right) reply new = HasPair Union old.state.queries left right (λ q. IsAccepted q × IsRegistered old new name q reply)
-Does old (form.JoinQuery name left right) reply new = HasPair Join old.state.queries left right (λ q. IsAccepted q × IsRegistered old new name q reply)
-Does old (form.ProjectQuery name source keep) reply new = IsNamed old.state.queries source (λ q. HasProjection q keep (λ p. IsAccepted p × IsRegistered old new name p reply))
+Does old (form.UnionQuery name left right) reply new = HasPair Union old.state.queries left right (λ q. IsAccepted old.state.most_states q × IsRegistered old new name q reply)
+Does old (form.JoinQuery name left right) reply new = HasPair Join old.state.queries left right (λ q. IsAccepted old.state.most_states q × IsRegistered old new name q reply)
+Does old (form.ProjectQuery name source keep) reply new = IsNamed old.state.queries source (λ q. HasProjection q keep (λ p. IsAccepted old.state.most_states p × IsRegistered old new name p reply))
 Does old (form.List query name start n) reply new = (q : Query) × (text : List ℕ) × IsAsked old query name q text × IsListReply q text start n reply × (new ≡ old)
 Does old (form.Count query name) reply new = (q : Query) × (text : List ℕ) × (n : ℕ) × IsAsked old query name q text × IsNumberOf q text n × IsNumberReply n reply × (new ≡ old)
 Does old (form.Rank query name word) reply new = (q : Query) × (text : List ℕ) × (tuple : Tuple) × (n : ℕ) × IsAsked old query name q text × TupleText word (names_of q) tuple
@@ -266,11 +266,11 @@ IsRefused old (LetDoc name expr) why = (((e : Expr) → ExprReads expr e → ⊥
 IsRefused old (DropDoc name) why = (value_of old.state.documents name ≡ None) × (why ≡ NoSuchDocument name)
 IsRefused old Names why = ⊥
 IsRefused old (Show name i j) why = shown old.state.documents name i j ≡ Err why
-IsRefused old (form.Query name text) why = IsTextRefused text why
+IsRefused old (form.Query name text) why = IsTextRefused old.state.most_states text why
 IsRefused old (form.Unquery name) why = (value_of old.state.queries name ≡ None) × (why ≡ NoSuchQuery name)
-IsRefused old (form.UnionQuery name left right) why = IsUncombined (IsPairRefused Union old.state.queries left right) why
-IsRefused old (form.JoinQuery name left right) why = IsUncombined (IsPairRefused Join old.state.queries left right) why
-IsRefused old (form.ProjectQuery name source keep) why = IsUncombined (IsProjectRefused old.state.queries source keep) why
+IsRefused old (form.UnionQuery name left right) why = IsUncombined (IsPairRefused old.state.most_states Union old.state.queries left right) why
+IsRefused old (form.JoinQuery name left right) why = IsUncombined (IsPairRefused old.state.most_states Join old.state.queries left right) why
+IsRefused old (form.ProjectQuery name source keep) why = IsUncombined (IsProjectRefused old.state.most_states old.state.queries source keep) why
 IsRefused old (form.List query name start n) why = IsUnasked old query name why
     ⊎ ((q : Query) × (text : List ℕ) × IsAsked old query name q text × IsStartRefused q start why)
 IsRefused old (form.Count query name) why = IsUnasked old query name why

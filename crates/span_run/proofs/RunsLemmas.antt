@@ -16,12 +16,12 @@ told_of s out = outside out.written s.files s.looks s.pairs s.places
 
 -- the state of a run: these lines are left, this is the next one's number, and the output of the first lines was
 -- written
-pub record IsAt (lines left : List (List ℕ)) (number : ℕ) (refused : Bool) (st : SessionModel) (before now : Outside) : Type 0 where
+pub record IsAt (lines left : List (List ℕ)) (number : ℕ) (refused : Bool) (st : SessionModel) (most : ℕ) (before now : Outside) : Type 0 where
   pub done : List (List ℕ)
   pub cut : lines ≡ done ++ left
   pub counted : number ≡ 1 + length done
   pub sum : Sum
-  pub ran : Runs (start before) 1 done sum (world st.state now.files)
+  pub ran : Runs (start most before) 1 done sum (world st.state now.files)
   pub refused_is : sum.refused ≡ refused
   pub wrote : Appends before.written now.written sum.output
   pub paid : IsPaid sum.cost before.counters now.counters
@@ -91,9 +91,9 @@ pub each_some : (o : Option (List ℕ)) (P : List ℕ → Type 0) → ((x : List
 each_some None P h = tt
 each_some (Some x) P h = h x
 
-pub at_start : (lines : List (List ℕ)) (before : Outside) (st : SessionModel) → st.state ≡ nothing → st.covered ≡ [] → st.counted ≡ [] → st.store ≡ [] → IsAt lines lines 1 false st before before
+pub at_start : (lines : List (List ℕ)) (most : ℕ) (before : Outside) (st : SessionModel) → st.state ≡ nothing most → st.covered ≡ [] → st.counted ≡ [] → st.store ≡ [] → IsAt lines lines 1 false st most before before
 unfolding pair_count
-at_start lines before st is none uncounted new = record {
+at_start lines most before st is none uncounted new = record {
   done = [];
   cut = refl;
   counted = refl;
@@ -131,8 +131,8 @@ few_of false sum before after nodes grown few =
     let products : sum.queries * nodes ≤ sum.queries * most_nodes sum before after = mul-le-mul_left sum.queries grown in
     omega (arith, few, products)
 
-module _ (lines left rest : List (List ℕ)) (line : List ℕ) (number : ℕ) (refused : Bool) (before : Outside) (old : LineState) (sink : Outlet) (new : LineState) (after : Outlet) (is : left ≡ line ∷ rest) (at : IsAt lines left number refused old.model before (told_of old sink)) where
-  pub goes_on : (told : Told) → IsDone line number old sink new after told → IsAt lines rest (number + 1) (refused || is_refused told) new.model before (told_of new after)
+module _ (lines left rest : List (List ℕ)) (line : List ℕ) (number : ℕ) (refused : Bool) (most : ℕ) (before : Outside) (old : LineState) (sink : Outlet) (new : LineState) (after : Outlet) (is : left ≡ line ∷ rest) (at : IsAt lines left number refused old.model most before (told_of old sink)) where
+  pub goes_on : (told : Told) → IsDone line number old sink new after told → IsAt lines rest (number + 1) (refused || is_refused told) new.model most before (told_of new after)
   goes_on told (meaning, means, d) =
       let one : Sum = record { refused = is_refused told; output = d.finishes.0; cost = d.paid.0; queries = d.tallies.queries; compactions = d.tallies.compactions; counted = d.tallies.counts } in
       let adds : Adds (world_in old) number line one (world_in new) = record {
@@ -151,7 +151,7 @@ module _ (lines left rest : List (List ℕ)) (line : List ℕ) (number : ℕ) (r
         cut = at.cut ∙ ap (λ (l : List (List ℕ)). at.done ++ l) is ∙ sym (append_assoc at.done (line ∷ []) rest);
         counted = omega (arith, at.counted, length-append at.done (line ∷ []));
         sum = both at.sum one;
-        ran = one_more (start before) 1 at.done at.sum (world_in old) line one (world_in new) at.ran (subst (λ (k : ℕ). Adds (world_in old) k line one (world_in new)) at.counted adds);
+        ran = one_more (start most before) 1 at.done at.sum (world_in old) line one (world_in new) at.ran (subst (λ (k : ℕ). Adds (world_in old) k line one (world_in new)) at.counted adds);
         refused_is = ap (λ (b : Bool). b || is_refused told) at.refused_is;
         wrote = Appends-trans before.written sink.written after.written at.sum.output d.finishes.0 at.wrote d.finishes.2;
         paid = both_paid at.sum.cost d.paid.0 before.counters (told_of old sink).counters (told_of new after).counters at.paid d.paid.2;
@@ -177,7 +177,7 @@ module _ (lines left rest : List (List ℕ)) (line : List ℕ) (number : ℕ) (r
 
   -- a run that is stopped in this line
   stops : (Ends : Ending) (why : Stop) (meaning : Option Command) → IsSessionModel old.model → IsSessionModel new.model → Means line meaning → Stopped number meaning old sink new after why → (h : HaltsAt meaning) → Ends meaning (part_of meaning h) old.files new.files
-      → RunsFront Ends lines before (told_of new after)
+      → RunsFront Ends lines most before (told_of new after)
   stops Ends why meaning session stands means s h ends =
       let n = 256 + pairs_of old.model + (new.pairs - old.pairs) in
       let few : nodes_of new.model ≤ n = omega (arith, stands.few, s.passes.more_pairs, s.passes.calls) in
@@ -200,24 +200,24 @@ module _ (lines left rest : List (List ℕ)) (line : List ℕ) (number : ℕ) (r
       }
 
   -- a failure of the sink may stop it anywhere
-  pub stops_anywhere : IsSessionModel old.model → IsSessionModel new.model → IsStopped line number old sink new after stop.OutFault → Rose sink.faults after.faults × RunsFront Anywhere lines before (told_of new after)
+  pub stops_anywhere : IsSessionModel old.model → IsSessionModel new.model → IsStopped line number old sink new after stop.OutFault → Rose sink.faults after.faults × RunsFront Anywhere lines most before (told_of new after)
   stops_anywhere session stands (inl (other, same, kept)) = let bad : ⊥ = cc other in absurd bad
   stops_anywhere session stands (inr (meaning, means, s)) = ((s.fault refl).1, stops Anywhere stop.OutFault meaning session stands means s s.halts tt)
 
   -- a failure of the file store stops a line that uses files, of which nothing was written
-  pub stops_in_file : IsSessionModel old.model → IsSessionModel new.model → IsStopped line number old sink new after stop.ShelfFault → Rose old.faults new.faults × RunsFront InFileLine lines before (told_of new after)
+  pub stops_in_file : IsSessionModel old.model → IsSessionModel new.model → IsStopped line number old sink new after stop.ShelfFault → Rose old.faults new.faults × RunsFront InFileLine lines most before (told_of new after)
   stops_in_file session stands (inl (other, same, kept)) = let bad : ⊥ = cc other in absurd bad
   stops_in_file session stands (inr (meaning, means, s)) =
       let file = s.shelf_fault refl in
       (file.1, stops InFileLine stop.ShelfFault meaning session stands means s (inl file.2) (file.0, refl, ap (λ (w : World). w.files) file.2.world))
 
   -- an allocation failure: a line of the form `list` was stopped before any of it was written, unless a count increased
-  pub stops_wanting : (wants : ℕ) → wants ≤ sink.wants → IsSessionModel old.model → IsSessionModel new.model → IsStopped line number old sink new after stop.NoMemory → RunsFront (UnlessList wants after.wants) lines before (told_of new after)
+  pub stops_wanting : (wants : ℕ) → wants ≤ sink.wants → IsSessionModel old.model → IsSessionModel new.model → IsStopped line number old sink new after stop.NoMemory → RunsFront (UnlessList wants after.wants) lines most before (told_of new after)
   stops_wanting wants later session stands (inl (unread, same, kept)) =
-      subst (λ (s : LineState). RunsFront (UnlessList wants after.wants) lines before (told_of s after)) (sym same)
-      (subst (λ (o : Outlet). RunsFront (UnlessList wants after.wants) lines before (told_of old o)) (sym kept) unbegun)
+      subst (λ (s : LineState). RunsFront (UnlessList wants after.wants) lines most before (told_of s after)) (sym same)
+      (subst (λ (o : Outlet). RunsFront (UnlessList wants after.wants) lines most before (told_of old o)) (sym kept) unbegun)
     where
-      unbegun : RunsFront (UnlessList wants after.wants) lines before (told_of old sink)
+      unbegun : RunsFront (UnlessList wants after.wants) lines most before (told_of old sink)
       unbegun = record {
         done = at.done;
         left = left;
@@ -236,18 +236,18 @@ module _ (lines left rest : List (List ℕ)) (line : List ℕ) (number : ℕ) (r
       }
   stops_wanting wants later session stands (inr (meaning, means, s)) = by (s.want refl)
     where
-      by : (Of IsList meaning → ⊥) ⊎ (Rose sink.wants after.wants ⊎ Leaves (world_in old) sink.written after.written (world_in new)) → RunsFront (UnlessList wants after.wants) lines before (told_of new after)
+      by : (Of IsList meaning → ⊥) ⊎ (Rose sink.wants after.wants ⊎ Leaves (world_in old) sink.written after.written (world_in new)) → RunsFront (UnlessList wants after.wants) lines most before (told_of new after)
       by (inl other) = stops (UnlessList wants after.wants) stop.NoMemory meaning session stands means s s.halts (λ list. absurd (other list))
       by (inr (inl rose)) = stops (UnlessList wants after.wants) stop.NoMemory meaning session stands means s s.halts (λ list. inl (rose_later wants sink.wants after.wants later rose))
       by (inr (inr left)) = stops (UnlessList wants after.wants) stop.NoMemory meaning session stands means s (inl left) (λ list. inr refl)
 
-pub ends : (lines left : List (List ℕ)) (number : ℕ) (refused : Bool) (st : SessionModel) (before now : Outside) → left ≡ [] → IsSessionModel st → IsAt lines left number refused st before now → RunsAll lines refused before now
-ends lines left number refused st before now none is at =
+pub ends : (lines left : List (List ℕ)) (number : ℕ) (refused : Bool) (st : SessionModel) (most : ℕ) (before now : Outside) → left ≡ [] → IsSessionModel st → IsAt lines left number refused st most before now → RunsAll lines refused most before now
+ends lines left number refused st most before now none is at =
     let all : lines ≡ at.done = at.cut ∙ ap (λ (l : List (List ℕ)). at.done ++ l) none ∙ append-nil at.done in
     record {
       sum = at.sum;
       state = st.state;
-      ran = subst (λ (l : List (List ℕ)). Runs (start before) 1 l at.sum (world st.state now.files)) (sym all) at.ran;
+      ran = subst (λ (l : List (List ℕ)). Runs (start most before) 1 l at.sum (world st.state now.files)) (sym all) at.ran;
       refused_is = at.refused_is;
       wrote = at.wrote;
       paid = at.paid;
@@ -255,13 +255,13 @@ ends lines left number refused st before now none is at =
     }
 
 -- a run that ended before its first line
-pub none_ran : (Ends : Ending) (lines : List (List ℕ)) (before : Outside) → Ends None [] before.files before.files → RunsFront Ends lines before before
-none_ran Ends lines before ends = record {
+pub none_ran : (Ends : Ending) (lines : List (List ℕ)) (most : ℕ) (before : Outside) → Ends None [] before.files before.files → RunsFront Ends lines most before before
+none_ran Ends lines most before ends = record {
   done = [];
   left = lines;
   cut = refl;
   sum = no_lines;
-  mid = start before;
+  mid = start most before;
   ran = (refl, refl);
   part = [];
   last = no_steps;

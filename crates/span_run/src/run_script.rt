@@ -112,11 +112,13 @@ fn with_refusal(before: bool, told: Told) -> bool
     before || matches!(told, Told::Refused)
 }
 
-/// Executes the lines of a script in order, and returns whether one was rejected. If the sink had nothing buffered
-/// before, everything written has been sent whenever a line begins.
+/// Executes the lines of a script in order, and returns whether one was rejected. The automaton of a query may have at
+/// most `states` states. If the sink had nothing buffered before, everything written has been sent whenever a line
+/// begins.
 fn run_lines<R: Threads + Sync, K: Sink, F: Shelf, G: Gate, P: Ledger, T: Ledger, L: Ledger>(
     lent: Lent<'_, R, G>,
     alloc: Global,
+    states: u16,
     script: &[u8],
     out: &mut K,
     shelf: &mut F,
@@ -124,23 +126,25 @@ fn run_lines<R: Threads + Sync, K: Sink, F: Shelf, G: Gate, P: Ledger, T: Ledger
     places: &mut Steps<T>,
     looks: &mut Steps<L>,
 ) -> Result<bool, Stop>
-    ensures done { IfOk result (λ refused. RunsAll (lines_of script.now) refused
+    requires few { 128 ≤ states }
+    requires many { states ≤ 1024 }
+    ensures done { IfOk result (λ refused. RunsAll (lines_of script.now) refused states
         (outside (K.written out.old) (F.files shelf.old) looks.old pairs.old places.old)
         (outside (K.written out.new) (F.files shelf.new) looks.new pairs.new places.new)) }
     ensures out_fault { IfErr result (λ why. why ≡ Stop.OutFault → Rose (K.faults out.old) (K.faults out.new) × RunsFront Anywhere
-        (lines_of script.now) (outside (K.written out.old) (F.files shelf.old) looks.old pairs.old places.old)
+        (lines_of script.now) states (outside (K.written out.old) (F.files shelf.old) looks.old pairs.old places.old)
         (outside (K.written out.new) (F.files shelf.new) looks.new pairs.new places.new)) }
     ensures shelf_fault { IfErr result (λ why. why ≡ Stop.ShelfFault → Rose (F.faults shelf.old) (F.faults shelf.new)
-        × RunsFront InFileLine (lines_of script.now)
+        × RunsFront InFileLine (lines_of script.now) states
         (outside (K.written out.old) (F.files shelf.old) looks.old pairs.old places.old)
         (outside (K.written out.new) (F.files shelf.new) looks.new pairs.new places.new)) }
     ensures want { IfErr result (λ why. why ≡ Stop.NoMemory → RunsFront (UnlessList (K.wants out.old) (K.wants out.new))
-        (lines_of script.now) (outside (K.written out.old) (F.files shelf.old) looks.old pairs.old places.old)
+        (lines_of script.now) states (outside (K.written out.old) (F.files shelf.old) looks.old pairs.old places.old)
         (outside (K.written out.new) (F.files shelf.new) looks.new pairs.new places.new)) }
     ensures sound { OnOk result ((K.faults out.new ≡ K.faults out.old) × (K.wants out.new ≡ K.wants out.old) × (F.faults shelf.new ≡ F.faults shelf.old)) }
     ensures gone { K.kept out.old ≡ 0 → MatchResult result (λ _. K.kept out.new ≡ 0) (λ why. why ≡ Stop.ShelfFault → K.kept out.new ≡ 0) }
 {
-    let mut session = Session::new(alloc);
+    let mut session = Session::with_states(alloc, states);
     let mut rest = script;
     let mut number = 1u64;
     let mut refused = false;
@@ -171,9 +175,10 @@ fn run_lines<R: Threads + Sync, K: Sink, F: Shelf, G: Gate, P: Ledger, T: Ledger
 /// the run.
 ///
 /// `words` are the command-line arguments after the program's name. They may set the number of workers that compute
-/// tables, from 1 to 64. They may also select the script of a demo, which runs instead of the source's script; the
-/// source isn't read then. `shelf` is the file store. `pairs` counts node constructions, `places` counts computed
-/// tables, and `looks` counts table lookups, except those of `listall`.
+/// tables, from 1 to 64, and the number of states that the automaton of a query may have, from 128 to 1,024. They may
+/// also select the script of a demo, which runs instead of the source's script; the source isn't read then. `shelf` is
+/// the file store. `pairs` counts node constructions, `places` counts computed tables, and `looks` counts table lookups,
+/// except those of `listall`.
 #[tactic(auto, using(crate::proofs::ScriptLemmas::never_refused))]
 pub fn run<
     R: Threads + Sync,
@@ -201,10 +206,10 @@ pub fn run<
         × (outside (K.written out.new) (F.files shelf.new) looks.new pairs.new places.new
         ≡ outside (K.written out.old) (F.files shelf.old) looks.old pairs.old places.old) }
     ensures done { result ≡ Status.Done → OfScript (map string_bytes words.now) (S.left script.old)
-        (λ bytes. RunsAll (lines_of bytes) false (outside (K.written out.old) (F.files shelf.old) looks.old pairs.old places.old)
+        (λ states bytes. RunsAll (lines_of bytes) false states (outside (K.written out.old) (F.files shelf.old) looks.old pairs.old places.old)
         (outside (K.written out.new) (F.files shelf.new) looks.new pairs.new places.new)) }
     ensures some_refused { result ≡ Status.SomeRefused → OfScript (map string_bytes words.now) (S.left script.old)
-        (λ bytes. RunsAll (lines_of bytes) true (outside (K.written out.old) (F.files shelf.old) looks.old pairs.old places.old)
+        (λ states bytes. RunsAll (lines_of bytes) true states (outside (K.written out.old) (F.files shelf.old) looks.old pairs.old places.old)
         (outside (K.written out.new) (F.files shelf.new) looks.new pairs.new places.new)) }
     ensures script_fault { result ≡ Status.ScriptFault → AsksForNoDemo (map string_bytes words.now) × Rose (S.faults script.old) (S.faults script.new) }
     ensures out_fault { result ≡ Status.OutFault → Rose (K.faults out.old) (K.faults out.new) }
@@ -213,7 +218,7 @@ pub fn run<
         (λ bytes. 2 ^ 24 < length bytes) }
     ensures short { (result ≡ Status.Done) ⊎ (result ≡ Status.SomeRefused) ⊎ (result ≡ Status.OutFault)
         ⊎ (result ≡ Status.ShelfFault) → OfScript (map string_bytes words.now) (S.left script.old)
-        (λ bytes. length bytes ≤ 2 ^ 24) }
+        (λ _ bytes. length bytes ≤ 2 ^ 24) }
 
     // A run that came to its end had no failure: no failed call of the source, the sink or the file store was retried.
     ensures sound { (result ≡ Status.Done) ⊎ (result ≡ Status.SomeRefused) → (S.faults script.new ≡ S.faults script.old)
@@ -241,15 +246,15 @@ pub fn run<
     // `share`, `write`, `save` or `open` before any of its reply is written, and leaves the files unchanged. An
     // allocation failure stops a `list` before any of its reply is written, unless the sink's allocation failed.
     ensures front { result ≡ Status.OutFault → OfScript (map string_bytes words.now) (S.left script.old)
-        (λ bytes. RunsFront Anywhere (lines_of bytes)
+        (λ states bytes. RunsFront Anywhere (lines_of bytes) states
         (outside (K.written out.old) (F.files shelf.old) looks.old pairs.old places.old)
         (outside (K.written out.new) (F.files shelf.new) looks.new pairs.new places.new)) }
     ensures shelf_front { result ≡ Status.ShelfFault → OfScript (map string_bytes words.now) (S.left script.old)
-        (λ bytes. RunsFront InFileLine (lines_of bytes)
+        (λ states bytes. RunsFront InFileLine (lines_of bytes) states
         (outside (K.written out.old) (F.files shelf.old) looks.old pairs.old places.old)
         (outside (K.written out.new) (F.files shelf.new) looks.new pairs.new places.new)) }
     ensures want_front { result ≡ Status.NoMemory → OfScript (map string_bytes words.now) (S.left script.old)
-        (λ bytes. RunsFront (UnlessList (K.wants out.old) (K.wants out.new)) (lines_of bytes)
+        (λ states bytes. RunsFront (UnlessList (K.wants out.old) (K.wants out.new)) (lines_of bytes) states
         (outside (K.written out.old) (F.files shelf.old) looks.old pairs.old places.old)
         (outside (K.written out.new) (F.files shelf.new) looks.new pairs.new places.new)) }
 {
@@ -269,7 +274,17 @@ pub fn run<
         workers: options.workers,
         gate,
     };
-    match run_lines(lent, alloc, &bytes, out, shelf, pairs, places, looks) {
+    match run_lines(
+        lent,
+        alloc,
+        options.states,
+        &bytes,
+        out,
+        shelf,
+        pairs,
+        places,
+        looks,
+    ) {
         Ok(false) => Status::Done,
         Ok(true) => Status::SomeRefused,
         Err(Stop::OutFault) => Status::OutFault,

@@ -16,6 +16,9 @@ use std::sync::ledger::Ledger;
 use std::thread::Threads;
 use work_gate::Gate;
 
+/// The number of states that each session allows.
+const LEAST_STATES: u16 = 128;
+
 /// Named documents, queries and versions over one store of nodes. Contracts see the documents as their texts. They also
 /// see the store's nodes, the roots of the documents, those of the versions, and for each query the number of nodes
 /// that have tables.
@@ -40,16 +43,30 @@ impl Model for Session {
 }
 
 impl Session {
-    /// A session without documents, queries, versions and nodes.
+    /// A session without documents, queries, versions and nodes. The automaton of a query may have at most 128 states.
     pub fn new(alloc: Global) -> Session
-        ensures state { result.state ≡ nothing }
+        ensures state { result.state ≡ nothing 128 }
+        ensures store { result.store ≡ [] }
+        ensures covered { result.covered ≡ [] }
+        ensures counted { result.counted ≡ [] }
+        ensures model { IsSessionModel result }
+    {
+        Session::with_states(alloc, LEAST_STATES)
+    }
+
+    /// A session without documents, queries, versions and nodes. The automaton of a query may have at most `states`
+    /// states, from 128 to 1,024.
+    pub fn with_states(alloc: Global, states: u16) -> Session
+        requires few { 128 ≤ states }
+        requires many { states ≤ 1024 }
+        ensures state { result.state ≡ nothing states }
         ensures store { result.store ≡ [] }
         ensures covered { result.covered ≡ [] }
         ensures counted { result.counted ≡ [] }
         ensures model { IsSessionModel result }
     {
         Session {
-            state: SessionState::new(alloc),
+            state: SessionState::with_states(alloc, states),
         }
     }
 

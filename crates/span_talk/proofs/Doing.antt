@@ -25,8 +25,8 @@ means_kept line None h = λ command text. h command (subst (λ (l : List ℕ). L
 means_kept line (Some command) h = subst (λ (l : List ℕ). LineText l command) (short_take 65537 line (omega (arith, h.short))) h
 
 -- the lines that follow may be known before they are executed
-pub further : (lines more : List (List ℕ)) (number : ℕ) (refused : Bool) (st : SessionModel) (before now : Outside) → IsAt lines [] number refused st before now → IsAt (lines ++ more) more number refused st before now
-further lines more number refused st before now at = record {
+pub further : (lines more : List (List ℕ)) (number : ℕ) (refused : Bool) (st : SessionModel) (most : ℕ) (before now : Outside) → IsAt lines [] number refused st most before now → IsAt (lines ++ more) more number refused st most before now
+further lines more number refused st most before now at = record {
   done = at.done;
   cut = ap (λ (l : List (List ℕ)). l ++ more) (at.cut ∙ append-nil at.done);
   counted = at.counted;
@@ -41,10 +41,10 @@ further lines more number refused st before now at = record {
 }
 
 -- a run that was stopped when no line had begun
-pub stopped_between : (Ends : Ending) (lines left : List (List ℕ)) (before : Outside) (p : Place) → IsSessionModel p.model → Ends None [] p.now.files p.now.files → StandsAt lines before p
-    → RunsFront Ends (lines ++ left) before p.now
-stopped_between Ends lines left before p session ends_so at =
-    let all = ends lines [] p.number p.refused p.model before p.now refl session at in
+pub stopped_between : (Ends : Ending) (lines left : List (List ℕ)) (most : ℕ) (before : Outside) (p : Place) → IsSessionModel p.model → Ends None [] p.now.files p.now.files → StandsAt lines most before p
+    → RunsFront Ends (lines ++ left) most before p.now
+stopped_between Ends lines left most before p session ends_so at =
+    let all = ends lines [] p.number p.refused p.model most before p.now refl session at in
     record {
       done = lines;
       left = left;
@@ -71,8 +71,8 @@ module _ (kept : List ℕ) (number : ℕ) (old : LineState) (sink : Outlet) (new
 
   pub does : (refused : Bool) (told : Told) → IsDone kept number old sink new after told
       → Does kept (place number refused old.model (told_of old sink)) (place (number + 1) (refused || is_refused told) new.model (told_of new after))
-  does refused told done = λ line lines before is at.
-      goes_on (lines ++ line ∷ []) (line ∷ []) [] line number refused before old sink new after refl (further lines (line ∷ []) number refused old.model before (told_of old sink) at) told (done_as line told is done)
+  does refused told done = λ line lines most before is at.
+      goes_on (lines ++ line ∷ []) (line ∷ []) [] line number refused most before old sink new after refl (further lines (line ∷ []) number refused old.model most before (told_of old sink) at) told (done_as line told is done)
 
   out_rose : IsStopped kept number old sink new after stop.OutFault → Rose sink.faults after.faults
   out_rose (inl (other, same, unsaid)) = let bad : ⊥ = cc other in absurd bad
@@ -88,14 +88,14 @@ module _ (kept : List ℕ) (number : ℕ) (old : LineState) (sink : Outlet) (new
   halts refused why session stands stopped = record {
     out_fault = λ is.
         let s = subst (λ (w : Stop). IsStopped kept number old sink new after w) is stopped in
-        (out_rose s, λ line lines more before same at. (stops_anywhere (lines ++ line ∷ more) (line ∷ more) more line number refused before old sink new after refl (begun line lines more before at) session stands (stopped_as line stop.OutFault same s)).1);
+        (out_rose s, λ line lines more most before same at. (stops_anywhere (lines ++ line ∷ more) (line ∷ more) more line number refused most before old sink new after refl (begun line lines more most before at) session stands (stopped_as line stop.OutFault same s)).1);
     shelf_fault = λ is.
         let s = subst (λ (w : Stop). IsStopped kept number old sink new after w) is stopped in
-        (shelf_rose s, λ line lines more before same at. (stops_in_file (lines ++ line ∷ more) (line ∷ more) more line number refused before old sink new after refl (begun line lines more before at) session stands (stopped_as line stop.ShelfFault same s)).1);
-    want = λ is wants few line lines more before same at.
+        (shelf_rose s, λ line lines more most before same at. (stops_in_file (lines ++ line ∷ more) (line ∷ more) more line number refused most before old sink new after refl (begun line lines more most before at) session stands (stopped_as line stop.ShelfFault same s)).1);
+    want = λ is wants few line lines more most before same at.
         let s = subst (λ (w : Stop). IsStopped kept number old sink new after w) is stopped in
-        stops_wanting (lines ++ line ∷ more) (line ∷ more) more line number refused before old sink new after refl (begun line lines more before at) wants few session stands (stopped_as line stop.NoMemory same s);
+        stops_wanting (lines ++ line ∷ more) (line ∷ more) more line number refused most before old sink new after refl (begun line lines more most before at) wants few session stands (stopped_as line stop.NoMemory same s);
   }
     where
-      begun : (line : List ℕ) (lines more : List (List ℕ)) (before : Outside) → StandsAt lines before (place number refused old.model (told_of old sink)) → IsAt (lines ++ line ∷ more) (line ∷ more) number refused old.model before (told_of old sink)
-      begun line lines more before at = further lines (line ∷ more) number refused old.model before (told_of old sink) at
+      begun : (line : List ℕ) (lines more : List (List ℕ)) (most : ℕ) (before : Outside) → StandsAt lines most before (place number refused old.model (told_of old sink)) → IsAt (lines ++ line ∷ more) (line ∷ more) number refused old.model most before (told_of old sink)
+      begun line lines more most before at = further lines (line ∷ more) number refused old.model most before (told_of old sink) at

@@ -21,14 +21,14 @@ all_and_one : (P : Moment → Type 0) (ms : List Moment) (m : Moment) → AllByR
 all_and_one P [] m all one = (one, tt)
 all_and_one P (x ∷ ms) m all one = (all.0, all_and_one P ms m all.1 one)
 
-pub none_served : (sent : Option (List ℕ)) (before : Outside) (ms : Option (List Moment)) → AreServed sent before ms ms
-none_served sent before None = tt
-none_served sent before (Some ms) = ([], sym (append-nil ms), tt)
+pub none_served : (sent : Option (List ℕ)) (most : ℕ) (before : Outside) (ms : Option (List Moment)) → AreServed sent most before ms ms
+none_served sent most before None = tt
+none_served sent most before (Some ms) = ([], sym (append-nil ms), tt)
 
 -- one more moment
-pub more_served : (sent : Option (List ℕ)) (before : Outside) (a b c : Option (List Moment)) (m : Moment) → AreServed sent before a b → Notes b c m → IsServed sent before m → AreServed sent before a c
-more_served sent before None b c m served notes one = tt
-more_served sent before (Some a) None c m served notes one = absurd served
-more_served sent before (Some a) (Some b) None m served notes one = absurd notes
-more_served sent before (Some a) (Some b) (Some c) m (further, is, all) notes one =
-    (further ++ m ∷ [], notes ∙ ap (λ l. l ++ m ∷ []) is ∙ append_assoc a further (m ∷ []), all_and_one (IsServed sent before) further m all one)
+pub more_served : (sent : Option (List ℕ)) (most : ℕ) (before : Outside) (a b c : Option (List Moment)) (m : Moment) → AreServed sent most before a b → Notes b c m → IsServed sent most before m → AreServed sent most before a c
+more_served sent most before None b c m served notes one = tt
+more_served sent most before (Some a) None c m served notes one = absurd served
+more_served sent most before (Some a) (Some b) None m served notes one = absurd notes
+more_served sent most before (Some a) (Some b) (Some c) m (further, is, all) notes one =
+    (further ++ m ∷ [], notes ∙ ap (λ l. l ++ m ∷ []) is ∙ append_assoc a further (m ∷ []), all_and_one (IsServed sent most before) further m all one)

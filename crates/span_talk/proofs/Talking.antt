@@ -16,72 +16,72 @@ use Rattle.span_talk.proofs.Cuts.{ended_with, ended_without, kept_goes_on, line_
 use Rattle.span_talk.proofs.Doing.{stopped_between}
 use Rattle.span_talk.proofs.Known.{of_sent}
 
-pub begins : (before : Outside) (st : SessionModel) (kept : List ℕ) → kept ≡ [] → st.state ≡ nothing → st.covered ≡ [] → st.counted ≡ [] → st.store ≡ [] → IsTalking [] before kept (place 1 false st before)
-begins before st kept none state covered counted store = record { done = []; begun = []; cut = nothing_cut; kept_is = none; at = at_start [] before st state covered counted store }
+pub begins : (most : ℕ) (before : Outside) (st : SessionModel) (kept : List ℕ) → kept ≡ [] → st.state ≡ nothing most → st.covered ≡ [] → st.counted ≡ [] → st.store ≡ [] → IsTalking [] most before kept (place 1 false st before)
+begins most before st kept none state covered counted store = record { done = []; begun = []; cut = nothing_cut; kept_is = none; at = at_start [] most before st state covered counted store }
 
-module _ (bytes : List ℕ) (before : Outside) (kept : List ℕ) (p : Place) (t : IsTalking bytes before kept p) where
+module _ (bytes : List ℕ) (most : ℕ) (before : Outside) (kept : List ℕ) (p : Place) (t : IsTalking bytes most before kept p) where
   module _ (part kept_after : List ℕ) (plain : All (λ b. b ≢ 10) part) (is : kept_after ≡ take 65537 (kept ++ part)) where
     kept_of : kept_after ≡ take 65537 (t.begun ++ part)
     kept_of = is ∙ ap (λ l. take 65537 (l ++ part)) t.kept_is ∙ kept_goes_on 65537 t.begun part
 
-    pub talks_on : IsTalking (bytes ++ part) before kept_after p
+    pub talks_on : IsTalking (bytes ++ part) most before kept_after p
     talks_on = record { done = t.done; begun = t.begun ++ part; cut = part_cut bytes t.done t.begun part t.cut (no_newline part plain); kept_is = kept_of; at = t.at }
 
-    pub ends_line : (new : Place) (empty : List ℕ) → empty ≡ [] → Does kept_after p new → IsTalking (bytes ++ (part ++ 10 ∷ [])) before empty new
+    pub ends_line : (new : Place) (empty : List ℕ) → empty ≡ [] → Does kept_after p new → IsTalking (bytes ++ (part ++ 10 ∷ [])) most before empty new
     ends_line new empty none does = record {
       done = t.done ++ (t.begun ++ part) ∷ [];
       begun = [];
       cut = line_cut bytes t.done t.begun part t.cut (no_newline part plain);
       kept_is = none;
-      at = does (t.begun ++ part) t.done before kept_of t.at;
+      at = does (t.begun ++ part) t.done most before kept_of t.at;
     }
 
-    pub stops_in_line : (Ends : Ending) (after : Outside) (tail : List ℕ) → StopsIn Ends kept_after p after → RunsFront Ends (lines_of (bytes ++ (part ++ 10 ∷ tail))) before after
+    pub stops_in_line : (Ends : Ending) (after : Outside) (tail : List ℕ) → StopsIn Ends kept_after p after → RunsFront Ends (lines_of (bytes ++ (part ++ 10 ∷ tail))) most before after
     stops_in_line Ends after tail stops =
         let cut = line_cut bytes t.done t.begun part t.cut (no_newline part plain) in
         let joined : (bytes ++ (part ++ 10 ∷ [])) ++ tail ≡ bytes ++ (part ++ 10 ∷ tail) = append_assoc bytes (part ++ 10 ∷ []) tail ∙ ap (λ l. bytes ++ l) (append_assoc part (10 ∷ []) tail) in
         let lines : lines_of (bytes ++ (part ++ 10 ∷ tail)) ≡ t.done ++ (t.begun ++ part) ∷ lines_of tail =
         sym (ap lines_of joined) ∙ cut.lines tail ∙ append_assoc t.done ((t.begun ++ part) ∷ []) (lines_of tail)
-        in subst (λ (l : List (List ℕ)). RunsFront Ends l before after) (sym lines) (stops (t.begun ++ part) t.done (lines_of tail) before kept_of t.at)
+        in subst (λ (l : List (List ℕ)). RunsFront Ends l most before after) (sym lines) (stops (t.begun ++ part) t.done (lines_of tail) most before kept_of t.at)
 
   -- stopped when no further line had begun
-  pub stops_here : (Ends : Ending) (tail : List ℕ) → IsSessionModel p.model → Ends None [] p.now.files p.now.files → RunsFront Ends (lines_of (bytes ++ tail)) before p.now
+  pub stops_here : (Ends : Ending) (tail : List ℕ) → IsSessionModel p.model → Ends None [] p.now.files p.now.files → RunsFront Ends (lines_of (bytes ++ tail)) most before p.now
   stops_here Ends tail session so =
-      subst (λ (l : List (List ℕ)). RunsFront Ends l before p.now) (sym (t.cut.lines tail)) (stopped_between Ends t.done (lines_of (t.begun ++ tail)) before p session so t.at)
+      subst (λ (l : List (List ℕ)). RunsFront Ends l most before p.now) (sym (t.cut.lines tail)) (stopped_between Ends t.done (lines_of (t.begun ++ tail)) most before p session so t.at)
 
   -- the replies to the complete lines were written, and the number is that of the next line
-  pub replied : AreReplied (whole_lines bytes) before p.now.written × (p.number ≡ 1 + length (whole_lines bytes))
+  pub replied : AreReplied (whole_lines bytes) most before p.now.written × (p.number ≡ 1 + length (whole_lines bytes))
   replied =
       let same : whole_lines bytes ≡ t.at.done = whole_is bytes t.done t.begun t.cut ∙ t.at.cut ∙ append-nil t.at.done in (
         record {
           sum = t.at.sum;
           mid = world p.model.state p.now.files;
-          ran = subst (λ (l : List (List ℕ)). Runs (start before) 1 l t.at.sum (world p.model.state p.now.files)) (sym same) t.at.ran;
+          ran = subst (λ (l : List (List ℕ)). Runs (start most before) 1 l t.at.sum (world p.model.state p.now.files)) (sym same) t.at.ran;
           wrote = t.at.wrote;
         },
         t.at.counted ∙ ap (λ (l : List (List ℕ)). 1 + length l) (sym same),
       )
 
-  pub have_run : IsSessionModel p.model → HaveRun (whole_lines bytes) before p.now
-  have_run session = (p.refused, subst (λ (l : List (List ℕ)). RunsAll l p.refused before p.now) (sym (whole_is bytes t.done t.begun t.cut)) (ends t.done [] p.number p.refused p.model before p.now refl session t.at))
+  pub have_run : IsSessionModel p.model → HaveRun (whole_lines bytes) most before p.now
+  have_run session = (p.refused, subst (λ (l : List (List ℕ)). RunsAll l p.refused most before p.now) (sym (whole_is bytes t.done t.begun t.cut)) (ends t.done [] p.number p.refused p.model most before p.now refl session t.at))
 
   -- the end of the bytes, if no line has begun, and if one has
-  pub ends_so : IsSessionModel p.model → kept ≡ [] → RunsAll (lines_of bytes) p.refused before p.now
+  pub ends_so : IsSessionModel p.model → kept ≡ [] → RunsAll (lines_of bytes) p.refused most before p.now
   ends_so session none =
       let begun : t.begun ≡ [] = none_kept 65537 t.begun (omega arith) (sym t.kept_is ∙ none) in
-      subst (λ (l : List (List ℕ)). RunsAll l p.refused before p.now) (sym (ended_without bytes t.done t.begun t.cut begun)) (ends t.done [] p.number p.refused p.model before p.now refl session t.at)
+      subst (λ (l : List (List ℕ)). RunsAll l p.refused most before p.now) (sym (ended_without bytes t.done t.begun t.cut begun)) (ends t.done [] p.number p.refused p.model most before p.now refl session t.at)
 
   last_of : 0 < length kept → lines_of bytes ≡ t.done ++ t.begun ∷ []
   last_of some = ended_with bytes t.done t.begun t.cut (some_begun 65537 t.begun (omega (arith, some, ap length t.kept_is)))
 
-  pub ends_with_last : (new : Place) → IsSessionModel new.model → 0 < length kept → Does kept p new → RunsAll (lines_of bytes) new.refused before new.now
+  pub ends_with_last : (new : Place) → IsSessionModel new.model → 0 < length kept → Does kept p new → RunsAll (lines_of bytes) new.refused most before new.now
   ends_with_last new session some does =
-      subst (λ (l : List (List ℕ)). RunsAll l new.refused before new.now) (sym (last_of some))
-      (ends (t.done ++ t.begun ∷ []) [] new.number new.refused new.model before new.now refl session (does t.begun t.done before t.kept_is t.at))
+      subst (λ (l : List (List ℕ)). RunsAll l new.refused most before new.now) (sym (last_of some))
+      (ends (t.done ++ t.begun ∷ []) [] new.number new.refused new.model most before new.now refl session (does t.begun t.done most before t.kept_is t.at))
 
-  pub stops_in_last : (Ends : Ending) (after : Outside) → 0 < length kept → StopsIn Ends kept p after → RunsFront Ends (lines_of bytes) before after
+  pub stops_in_last : (Ends : Ending) (after : Outside) → 0 < length kept → StopsIn Ends kept p after → RunsFront Ends (lines_of bytes) most before after
   stops_in_last Ends after some stops =
-      subst (λ (l : List (List ℕ)). RunsFront Ends l before after) (sym (last_of some)) (stops t.begun t.done [] before t.kept_is t.at)
+      subst (λ (l : List (List ℕ)). RunsFront Ends l most before after) (sym (last_of some)) (stops t.begun t.done [] most before t.kept_is t.at)
 
 -- a piece of which a part has been read
 module _ (piece read rest : List ℕ) (kept : List ℕ) (p : Place) (kept_now : List ℕ) (now : Place) (is : piece ≡ read ++ rest) (hears : Hears read kept p kept_now now) where
@@ -90,33 +90,33 @@ module _ (piece read rest : List ℕ) (kept : List ℕ) (p : Place) (kept_now : 
 
   -- stopped when nothing of the rest had begun
   pub stops_between : (Ends : Ending) → IsSessionModel now.model → Ends None [] now.now.files now.now.files → StopsWithin Ends piece kept p now.now
-  stops_between Ends session so = λ bytes tail before t.
-      subst (λ l. RunsFront Ends (lines_of l) before now.now) (sym (split bytes tail)) (stops_here (bytes ++ read) before kept_now now (hears bytes before t) Ends (rest ++ tail) session so)
+  stops_between Ends session so = λ bytes tail most before t.
+      subst (λ l. RunsFront Ends (lines_of l) most before now.now) (sym (split bytes tail)) (stops_here (bytes ++ read) most before kept_now now (hears bytes most before t) Ends (rest ++ tail) session so)
 
   -- the rest belongs to the line that has begun
   pub hears_rest : (kept_after : List ℕ) → All (λ b. b ≢ 10) rest → kept_after ≡ take 65537 (kept_now ++ rest) → Hears piece kept p kept_after now
-  hears_rest kept_after plain kept_is = λ bytes before t.
-      subst (λ l. IsTalking l before kept_after now) (append_assoc bytes read rest ∙ ap (λ l. bytes ++ l) (sym is)) (talks_on (bytes ++ read) before kept_now now (hears bytes before t) rest kept_after plain kept_is)
+  hears_rest kept_after plain kept_is = λ bytes most before t.
+      subst (λ l. IsTalking l most before kept_after now) (append_assoc bytes read rest ∙ ap (λ l. bytes ++ l) (sym is)) (talks_on (bytes ++ read) most before kept_now now (hears bytes most before t) rest kept_after plain kept_is)
 
   module _ (part left kept_whole : List ℕ) (cut : rest ≡ part ++ 10 ∷ left) (plain : All (λ b. b ≢ 10) part) (kept_is : kept_whole ≡ take 65537 (kept_now ++ part)) where
     -- stopped in the line that ends in the rest
     pub stops_line : (Ends : Ending) (after : Outside) → StopsIn Ends kept_whole now after → StopsWithin Ends piece kept p after
-    stops_line Ends after stops = λ bytes tail before t.
+    stops_line Ends after stops = λ bytes tail most before t.
         let same : bytes ++ (piece ++ tail) ≡ (bytes ++ read) ++ (part ++ 10 ∷ (left ++ tail)) =
         split bytes tail ∙ ap (λ l. (bytes ++ read) ++ (l ++ tail)) cut ∙ ap (λ l. (bytes ++ read) ++ l) (append_assoc part (10 ∷ left) tail)
-        in subst (λ l. RunsFront Ends (lines_of l) before after) (sym same) (stops_in_line (bytes ++ read) before kept_now now (hears bytes before t) part kept_whole plain kept_is Ends after (left ++ tail) stops)
+        in subst (λ l. RunsFront Ends (lines_of l) most before after) (sym same) (stops_in_line (bytes ++ read) most before kept_now now (hears bytes most before t) part kept_whole plain kept_is Ends after (left ++ tail) stops)
 
     -- that line is executed
     pub hears_line : (new : Place) (empty : List ℕ) → empty ≡ [] → Does kept_whole now new → (more : List ℕ) × (piece ≡ more ++ left) × Hears more kept p empty new
     hears_line new empty none does = (
       read ++ (part ++ 10 ∷ []),
       is ∙ ap (λ l. read ++ l) (cut ∙ sym (append_assoc part (10 ∷ []) left)) ∙ sym (append_assoc read (part ++ 10 ∷ []) left),
-      (λ bytes before t. subst (λ l. IsTalking l before empty new) (append_assoc bytes read (part ++ 10 ∷ [])) (ends_line (bytes ++ read) before kept_now now (hears bytes before t) part kept_whole plain kept_is new empty none does)),
+      (λ bytes most before t. subst (λ l. IsTalking l most before empty new) (append_assoc bytes read (part ++ 10 ∷ [])) (ends_line (bytes ++ read) most before kept_now now (hears bytes most before t) part kept_whole plain kept_is new empty none does)),
     )
 
 -- a run that was stopped in a piece
-pub stops_sent : (a b c : Option (List ℕ)) (bytes piece : List ℕ) (before : Outside) (kept : List ℕ) (p : Place) (Ends : Ending) (after : Outside)
-    → Consumes a b bytes → Consumes b c piece → IsTalking bytes before kept p → StopsWithin Ends piece kept p after → OfSent a (λ sent. RunsFront Ends (lines_of sent) before after)
-stops_sent a b c bytes piece before kept p Ends after first second t stops =
-    of_sent a c (bytes ++ piece) (λ sent. RunsFront Ends (lines_of sent) before after) (Consumes-trans a b c bytes piece first second)
-    (λ tail. subst (λ l. RunsFront Ends (lines_of l) before after) (sym (append_assoc bytes piece tail)) (stops bytes tail before t))
+pub stops_sent : (a b c : Option (List ℕ)) (bytes piece : List ℕ) (most : ℕ) (before : Outside) (kept : List ℕ) (p : Place) (Ends : Ending) (after : Outside)
+    → Consumes a b bytes → Consumes b c piece → IsTalking bytes most before kept p → StopsWithin Ends piece kept p after → OfSent a (λ sent. RunsFront Ends (lines_of sent) most before after)
+stops_sent a b c bytes piece most before kept p Ends after first second t stops =
+    of_sent a c (bytes ++ piece) (λ sent. RunsFront Ends (lines_of sent) most before after) (Consumes-trans a b c bytes piece first second)
+    (λ tail. subst (λ l. RunsFront Ends (lines_of l) most before after) (sym (append_assoc bytes piece tail)) (stops bytes tail most before t))

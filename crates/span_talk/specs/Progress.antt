@@ -27,8 +27,8 @@ abbrev pub stands : Progress → Outside → Place
 stands p now = place p.number p.refused p.session now
 
 -- these lines ran, and resulted in this state
-abbrev pub StandsAt : List (List ℕ) → Outside → Place → Type 0
-StandsAt lines before p = IsAt lines [] p.number p.refused p.model before p.now
+abbrev pub StandsAt : List (List ℕ) → ℕ → Outside → Place → Type 0
+StandsAt lines most before p = IsAt lines [] p.number p.refused p.model most before p.now
 
 -- these bytes are those lines and the beginning of one more
 pub record IsCut (bytes : List ℕ) (done : List (List ℕ)) (begun : List ℕ) : Type 0 where
@@ -37,38 +37,38 @@ pub record IsCut (bytes : List ℕ) (done : List (List ℕ)) (begun : List ℕ) 
   pub plain : NoNewline begun
 
 -- the complete lines of these bytes ran, and these bytes are stored of the line that has begun
-pub record IsTalking (bytes : List ℕ) (before : Outside) (kept : List ℕ) (p : Place) : Type 0 where
+pub record IsTalking (bytes : List ℕ) (most : ℕ) (before : Outside) (kept : List ℕ) (p : Place) : Type 0 where
   pub done : List (List ℕ)
   pub begun : List ℕ
   pub cut : IsCut bytes done begun
   pub kept_is : kept ≡ take 65537 begun
-  pub at : StandsAt done before p
+  pub at : StandsAt done most before p
 
 -- a line with these stored bytes was executed
 abbrev pub Does : List ℕ → Place → Place → Type 0
-Does kept old new = (line : List ℕ) (lines : List (List ℕ)) (before : Outside) → kept ≡ take 65537 line → StandsAt lines before old → StandsAt (lines ++ line ∷ []) before new
+Does kept old new = (line : List ℕ) (lines : List (List ℕ)) (most : ℕ) (before : Outside) → kept ≡ take 65537 line → StandsAt lines most before old → StandsAt (lines ++ line ∷ []) most before new
 
 -- a run was stopped in such a line
 abbrev pub StopsIn : Ending → List ℕ → Place → Outside → Type 0
-StopsIn Ends kept old after = (line : List ℕ) (lines more : List (List ℕ)) (before : Outside) → kept ≡ take 65537 line → StandsAt lines before old
-    → RunsFront Ends (lines ++ line ∷ more) before after
+StopsIn Ends kept old after = (line : List ℕ) (lines more : List (List ℕ)) (most : ℕ) (before : Outside) → kept ≡ take 65537 line → StandsAt lines most before old
+    → RunsFront Ends (lines ++ line ∷ more) most before after
 
 -- the lines that end in these bytes were executed
 abbrev pub Hears : List ℕ → List ℕ → Place → List ℕ → Place → Type 0
-Hears piece kept old kept_after new = (bytes : List ℕ) (before : Outside) → IsTalking bytes before kept old → IsTalking (bytes ++ piece) before kept_after new
+Hears piece kept old kept_after new = (bytes : List ℕ) (most : ℕ) (before : Outside) → IsTalking bytes most before kept old → IsTalking (bytes ++ piece) most before kept_after new
 
 -- a run was stopped in one of them
 abbrev pub StopsWithin : Ending → List ℕ → List ℕ → Place → Outside → Type 0
-StopsWithin Ends piece kept old after = (bytes tail : List ℕ) (before : Outside) → IsTalking bytes before kept old
-    → RunsFront Ends (lines_of (bytes ++ (piece ++ tail))) before after
+StopsWithin Ends piece kept old after = (bytes tail : List ℕ) (most : ℕ) (before : Outside) → IsTalking bytes most before kept old
+    → RunsFront Ends (lines_of (bytes ++ (piece ++ tail))) most before after
 
 -- and the end of the bytes ended the script
 abbrev pub Finishes : Bool → List ℕ → Place → Outside → Type 0
-Finishes refused kept old after = (sent : List ℕ) (before : Outside) → IsTalking sent before kept old → RunsAll (lines_of sent) refused before after
+Finishes refused kept old after = (sent : List ℕ) (most : ℕ) (before : Outside) → IsTalking sent most before kept old → RunsAll (lines_of sent) refused most before after
 
 -- or a run was stopped in a last line without a newline
 abbrev pub StopsAtEnd : Ending → List ℕ → Place → Outside → Type 0
-StopsAtEnd Ends kept old after = (sent : List ℕ) (before : Outside) → IsTalking sent before kept old → RunsFront Ends (lines_of sent) before after
+StopsAtEnd Ends kept old after = (sent : List ℕ) (most : ℕ) (before : Outside) → IsTalking sent most before kept old → RunsFront Ends (lines_of sent) most before after
 
 -- a run was stopped for this reason: the reason's count increased, of the sink or of the file store, and the run ended
 -- as it may for this reason

@@ -26,8 +26,8 @@ abbrev pub OfHeard : Option (List ℕ) → Option (List ℕ) → (List ℕ → T
 OfHeard old new Holds = (heard : List ℕ) × Consumes old new heard × Holds heard
 
 -- all these lines ran, rejected or not
-abbrev pub HaveRun : List (List ℕ) → Outside → Outside → Type 0
-HaveRun lines before after = (refused : Bool) × RunsAll lines refused before after
+abbrev pub HaveRun : List (List ℕ) → ℕ → Outside → Outside → Type 0
+HaveRun lines most before after = (refused : Bool) × RunsAll lines refused most before after
 
 -- a moment at which the client was called: what it had left to send, what had been written for it, and the number of
 -- the next line, which it was passed
@@ -46,19 +46,19 @@ Notes (Some old) None m = ⊥
 Notes (Some old) (Some new) m = new ≡ old ++ m ∷ []
 
 -- the whole output of these lines was written, and nothing else
-pub record AreReplied (lines : List (List ℕ)) (before : Outside) (written : Option (List ℕ)) : Type 0 where
+pub record AreReplied (lines : List (List ℕ)) (most : ℕ) (before : Outside) (written : Option (List ℕ)) : Type 0 where
   pub sum : Sum
   pub mid : World
-  pub ran : Runs (start before) 1 lines sum mid
+  pub ran : Runs (start most before) 1 lines sum mid
   pub wrote : Appends before.written written sum.output
 
 -- the replies to all complete lines by this moment had been written, and the number was that of the next line
-abbrev pub IsServed : Option (List ℕ) → Outside → Moment → Type 0
-IsServed sent before m = OfHeard sent m.left
-    (λ heard. AreReplied (whole_lines heard) before m.written × (m.number ≡ 1 + length (whole_lines heard)))
+abbrev pub IsServed : Option (List ℕ) → ℕ → Outside → Moment → Type 0
+IsServed sent most before m = OfHeard sent m.left
+    (λ heard. AreReplied (whole_lines heard) most before m.written × (m.number ≡ 1 + length (whole_lines heard)))
 
 -- the same at each further observable moment
-abbrev pub AreServed : Option (List ℕ) → Outside → Option (List Moment) → Option (List Moment) → Type 0
-AreServed sent before None new = Unit {0}
-AreServed sent before (Some old) None = ⊥
-AreServed sent before (Some old) (Some new) = (further : List Moment) × (new ≡ old ++ further) × AllByRecursion (IsServed sent before) further
+abbrev pub AreServed : Option (List ℕ) → ℕ → Outside → Option (List Moment) → Option (List Moment) → Type 0
+AreServed sent most before None new = Unit {0}
+AreServed sent most before (Some old) None = ⊥
+AreServed sent most before (Some old) (Some new) = (further : List Moment) × (new ≡ old ++ further) × AllByRecursion (IsServed sent most before) further

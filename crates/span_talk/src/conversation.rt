@@ -19,7 +19,7 @@ use work_gate::Gate;
 /// Runs a conversation with a client: executes each line of its script when it has come, and writes its reply before
 /// reading on. The end of the client's bytes ends the last line and the conversation. The first failure of the client,
 /// the sink or the file store, and an allocation failure, end the conversation too. At most 65,537 bytes of a line are
-/// stored. `workers` is 1 to 64.
+/// stored. `workers` is 1 to 64. The automaton of a query may have at most `states` states, 128 to 1,024.
 pub fn talk<
     R: Threads + Sync,
     C: Client<K>,
@@ -34,6 +34,7 @@ pub fn talk<
     alloc: Global,
     client: &mut C,
     workers: u8,
+    states: u16,
     out: &mut K,
     shelf: &mut F,
     gate: &G,
@@ -43,35 +44,37 @@ pub fn talk<
 ) -> Status
     requires least { 1 ≤ workers }
     requires most { workers ≤ 64 }
+    requires few { 128 ≤ states }
+    requires many { states ≤ 1024 }
     ensures done { result ≡ Status.Done → OfSent (C.left client.old)
-        (λ sent. RunsAll (lines_of sent) false (outside (K.written out.old) (F.files shelf.old) looks.old pairs.old places.old)
+        (λ sent. RunsAll (lines_of sent) false states (outside (K.written out.old) (F.files shelf.old) looks.old pairs.old places.old)
         (outside (K.written out.new) (F.files shelf.new) looks.new pairs.new places.new)) }
     ensures some_refused { result ≡ Status.SomeRefused → OfSent (C.left client.old)
-        (λ sent. RunsAll (lines_of sent) true (outside (K.written out.old) (F.files shelf.old) looks.old pairs.old places.old)
+        (λ sent. RunsAll (lines_of sent) true states (outside (K.written out.old) (F.files shelf.old) looks.old pairs.old places.old)
         (outside (K.written out.new) (F.files shelf.new) looks.new pairs.new places.new)) }
     ensures at_end { (result ≡ Status.Done) ⊎ (result ≡ Status.SomeRefused) → IsAtEnd (C.left client.new) }
 
     // The client failed, or it sent 2^62 bytes: the complete lines were executed, and the incomplete one wasn't.
     ensures script_fault { result ≡ Status.ScriptFault → Rose (C.faults client.old) (C.faults client.new)
         × OfHeard (C.left client.old) (C.left client.new)
-        (λ heard. HaveRun (whole_lines heard) (outside (K.written out.old) (F.files shelf.old) looks.old pairs.old places.old)
+        (λ heard. HaveRun (whole_lines heard) states (outside (K.written out.old) (F.files shelf.old) looks.old pairs.old places.old)
         (outside (K.written out.new) (F.files shelf.new) looks.new pairs.new places.new)) }
     ensures too_long { result ≡ Status.ScriptTooLong → OfHeard (C.left client.old) (C.left client.new)
-        (λ heard. (2 ^ 62 ≤ length heard) × HaveRun (whole_lines heard)
+        (λ heard. (2 ^ 62 ≤ length heard) × HaveRun (whole_lines heard) states
         (outside (K.written out.old) (F.files shelf.old) looks.old pairs.old places.old)
         (outside (K.written out.new) (F.files shelf.new) looks.new pairs.new places.new)) }
 
     // What was written is a prefix of the whole output.
     ensures out_fault { result ≡ Status.OutFault → Rose (K.faults out.old) (K.faults out.new) × OfSent (C.left client.old)
-        (λ sent. RunsFront Anywhere (lines_of sent)
+        (λ sent. RunsFront Anywhere (lines_of sent) states
         (outside (K.written out.old) (F.files shelf.old) looks.old pairs.old places.old)
         (outside (K.written out.new) (F.files shelf.new) looks.new pairs.new places.new)) }
     ensures shelf_fault { result ≡ Status.ShelfFault → Rose (F.faults shelf.old) (F.faults shelf.new) × OfSent (C.left client.old)
-        (λ sent. RunsFront InFileLine (lines_of sent)
+        (λ sent. RunsFront InFileLine (lines_of sent) states
         (outside (K.written out.old) (F.files shelf.old) looks.old pairs.old places.old)
         (outside (K.written out.new) (F.files shelf.new) looks.new pairs.new places.new)) }
     ensures want { result ≡ Status.NoMemory → OfSent (C.left client.old)
-        (λ sent. RunsFront (UnlessList (K.wants out.old) (K.wants out.new)) (lines_of sent)
+        (λ sent. RunsFront (UnlessList (K.wants out.old) (K.wants out.new)) (lines_of sent) states
         (outside (K.written out.old) (F.files shelf.old) looks.old pairs.old places.old)
         (outside (K.written out.new) (F.files shelf.new) looks.new pairs.new places.new)) }
     ensures no_words { result ≡ Status.Usage → ⊥ }
@@ -87,12 +90,12 @@ pub fn talk<
 
     // Each time the client was called, exactly the replies to all complete lines had been written, and it was passed
     // the number of the next line.
-    ensures served { AreServed (C.left client.old)
+    ensures served { AreServed (C.left client.old) states
         (outside (K.written out.old) (F.files shelf.old) looks.old pairs.old places.old) (C.moments client.old)
         (C.moments client.new) }
 {
     match hear_script(
-        rt, alloc, client, workers, out, shelf, gate, pairs, places, looks,
+        rt, alloc, client, workers, states, out, shelf, gate, pairs, places, looks,
     ) {
         Ok(false) => Status::Done,
         Ok(true) => Status::SomeRefused,

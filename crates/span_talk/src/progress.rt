@@ -161,6 +161,7 @@ fn hear_all<
     alloc: Global,
     client: &mut C,
     workers: u8,
+    states: u16,
     out: &mut K,
     shelf: &mut F,
     gate: &G,
@@ -170,6 +171,8 @@ fn hear_all<
 ) -> Result<Progress, End>
     requires least { 1 ≤ workers }
     requires most { workers ≤ 64 }
+    requires few { 128 ≤ states }
+    requires many { states ≤ 1024 }
     ensures model { IfOk result (λ progress. IsSessionModel progress.session) }
     ensures few { IfOk result (λ progress. progress.number < 2 ^ 63) }
     ensures later { K.faults out.old ≤ K.faults out.new }
@@ -177,37 +180,37 @@ fn hear_all<
     ensures shelf_later { F.faults shelf.old ≤ F.faults shelf.new }
     ensures at_end { OnOk result (IsAtEnd (C.left client.new)) }
     ensures all { IfOk result (λ progress. OfSent (C.left client.old)
-        (λ sent. IsTalking sent (outside (K.written out.old)
+        (λ sent. IsTalking sent states (outside (K.written out.old)
         (F.files shelf.old) looks.old pairs.old places.old) progress.kept.items
         (stands progress (outside (K.written out.new) (F.files shelf.new) looks.new pairs.new places.new)))) }
     ensures fault { IfErr result (λ why. why ≡ End.Fault → Rose (C.faults client.old) (C.faults client.new)
         × OfHeard (C.left client.old) (C.left client.new)
-        (λ heard. HaveRun (whole_lines heard) (outside (K.written out.old) (F.files shelf.old) looks.old pairs.old places.old)
+        (λ heard. HaveRun (whole_lines heard) states (outside (K.written out.old) (F.files shelf.old) looks.old pairs.old places.old)
         (outside (K.written out.new) (F.files shelf.new) looks.new pairs.new places.new))) }
     ensures too_long { IfErr result (λ why. why ≡ End.TooLong → OfHeard (C.left client.old) (C.left client.new)
-        (λ heard. (2 ^ 62 ≤ length heard) × HaveRun (whole_lines heard)
+        (λ heard. (2 ^ 62 ≤ length heard) × HaveRun (whole_lines heard) states
         (outside (K.written out.old) (F.files shelf.old) looks.old pairs.old places.old)
         (outside (K.written out.new) (F.files shelf.new) looks.new pairs.new places.new))) }
     ensures out_fault { IfErr result (λ why. why ≡ End.Stopped Stop.OutFault → Rose (K.faults out.old) (K.faults out.new)
-        × OfSent (C.left client.old) (λ sent. RunsFront Anywhere (lines_of sent)
+        × OfSent (C.left client.old) (λ sent. RunsFront Anywhere (lines_of sent) states
         (outside (K.written out.old) (F.files shelf.old) looks.old pairs.old places.old)
         (outside (K.written out.new) (F.files shelf.new) looks.new pairs.new places.new))) }
     ensures shelf_fault { IfErr result (λ why. why ≡ End.Stopped Stop.ShelfFault → Rose (F.faults shelf.old) (F.faults shelf.new)
-        × OfSent (C.left client.old) (λ sent. RunsFront InFileLine (lines_of sent)
+        × OfSent (C.left client.old) (λ sent. RunsFront InFileLine (lines_of sent) states
         (outside (K.written out.old) (F.files shelf.old) looks.old pairs.old places.old)
         (outside (K.written out.new) (F.files shelf.new) looks.new pairs.new places.new))) }
     ensures want { IfErr result (λ why. why ≡ End.Stopped Stop.NoMemory → OfSent (C.left client.old)
-        (λ sent. RunsFront (UnlessList (K.wants out.old) (K.wants out.new)) (lines_of sent)
+        (λ sent. RunsFront (UnlessList (K.wants out.old) (K.wants out.new)) (lines_of sent) states
         (outside (K.written out.old) (F.files shelf.old) looks.old pairs.old places.old)
         (outside (K.written out.new) (F.files shelf.new) looks.new pairs.new places.new))) }
-    ensures served { AreServed (C.left client.old)
+    ensures served { AreServed (C.left client.old) states
         (outside (K.written out.old) (F.files shelf.old) looks.old pairs.old places.old) (C.moments client.old)
         (C.moments client.new) }
     ensures sound { OnOk result ((C.faults client.new ≡ C.faults client.old) × (K.faults out.new ≡ K.faults out.old) × (K.wants out.new ≡ K.wants out.old)
         × (F.faults shelf.new ≡ F.faults shelf.old)) }
     ensures gone { K.kept out.old ≡ 0 → MatchResult result (λ _. K.kept out.new ≡ 0) (λ why. (K.kept out.new ≡ 0) ⊎ (why ≡ End.Stopped Stop.OutFault) ⊎ (why ≡ End.Stopped Stop.NoMemory)) }
 {
-    let session = Session::new(alloc);
+    let session = Session::with_states(alloc, states);
     let kept = Vec::new(alloc);
     let mut progress = Progress {
         session,
@@ -296,6 +299,7 @@ pub fn hear_script<
     alloc: Global,
     client: &mut C,
     workers: u8,
+    states: u16,
     out: &mut K,
     shelf: &mut F,
     gate: &G,
@@ -305,31 +309,33 @@ pub fn hear_script<
 ) -> Result<bool, End>
     requires least { 1 ≤ workers }
     requires most { workers ≤ 64 }
+    requires few { 128 ≤ states }
+    requires many { states ≤ 1024 }
     ensures at_end { OnOk result (IsAtEnd (C.left client.new)) }
     ensures done { IfOk result (λ refused. OfSent (C.left client.old)
-        (λ sent. RunsAll (lines_of sent) refused (outside (K.written out.old) (F.files shelf.old) looks.old pairs.old places.old)
+        (λ sent. RunsAll (lines_of sent) refused states (outside (K.written out.old) (F.files shelf.old) looks.old pairs.old places.old)
         (outside (K.written out.new) (F.files shelf.new) looks.new pairs.new places.new))) }
     ensures fault { IfErr result (λ why. why ≡ End.Fault → Rose (C.faults client.old) (C.faults client.new)
         × OfHeard (C.left client.old) (C.left client.new)
-        (λ heard. HaveRun (whole_lines heard) (outside (K.written out.old) (F.files shelf.old) looks.old pairs.old places.old)
+        (λ heard. HaveRun (whole_lines heard) states (outside (K.written out.old) (F.files shelf.old) looks.old pairs.old places.old)
         (outside (K.written out.new) (F.files shelf.new) looks.new pairs.new places.new))) }
     ensures too_long { IfErr result (λ why. why ≡ End.TooLong → OfHeard (C.left client.old) (C.left client.new)
-        (λ heard. (2 ^ 62 ≤ length heard) × HaveRun (whole_lines heard)
+        (λ heard. (2 ^ 62 ≤ length heard) × HaveRun (whole_lines heard) states
         (outside (K.written out.old) (F.files shelf.old) looks.old pairs.old places.old)
         (outside (K.written out.new) (F.files shelf.new) looks.new pairs.new places.new))) }
     ensures out_fault { IfErr result (λ why. why ≡ End.Stopped Stop.OutFault → Rose (K.faults out.old) (K.faults out.new)
-        × OfSent (C.left client.old) (λ sent. RunsFront Anywhere (lines_of sent)
+        × OfSent (C.left client.old) (λ sent. RunsFront Anywhere (lines_of sent) states
         (outside (K.written out.old) (F.files shelf.old) looks.old pairs.old places.old)
         (outside (K.written out.new) (F.files shelf.new) looks.new pairs.new places.new))) }
     ensures shelf_fault { IfErr result (λ why. why ≡ End.Stopped Stop.ShelfFault → Rose (F.faults shelf.old) (F.faults shelf.new)
-        × OfSent (C.left client.old) (λ sent. RunsFront InFileLine (lines_of sent)
+        × OfSent (C.left client.old) (λ sent. RunsFront InFileLine (lines_of sent) states
         (outside (K.written out.old) (F.files shelf.old) looks.old pairs.old places.old)
         (outside (K.written out.new) (F.files shelf.new) looks.new pairs.new places.new))) }
     ensures want { IfErr result (λ why. why ≡ End.Stopped Stop.NoMemory → OfSent (C.left client.old)
-        (λ sent. RunsFront (UnlessList (K.wants out.old) (K.wants out.new)) (lines_of sent)
+        (λ sent. RunsFront (UnlessList (K.wants out.old) (K.wants out.new)) (lines_of sent) states
         (outside (K.written out.old) (F.files shelf.old) looks.old pairs.old places.old)
         (outside (K.written out.new) (F.files shelf.new) looks.new pairs.new places.new))) }
-    ensures served { AreServed (C.left client.old)
+    ensures served { AreServed (C.left client.old) states
         (outside (K.written out.old) (F.files shelf.old) looks.old pairs.old places.old) (C.moments client.old)
         (C.moments client.new) }
     ensures sound { OnOk result ((C.faults client.new ≡ C.faults client.old) × (K.faults out.new ≡ K.faults out.old) × (K.wants out.new ≡ K.wants out.old)
@@ -337,7 +343,7 @@ pub fn hear_script<
     ensures gone { K.kept out.old ≡ 0 → MatchResult result (λ _. K.kept out.new ≡ 0) (λ why. (K.kept out.new ≡ 0) ⊎ (why ≡ End.Stopped Stop.OutFault) ⊎ (why ≡ End.Stopped Stop.NoMemory)) }
 {
     let mut progress = hear_all(
-        rt, alloc, client, workers, out, shelf, gate, pairs, places, looks,
+        rt, alloc, client, workers, states, out, shelf, gate, pairs, places, looks,
     )?;
     match finish(
         rt,

@@ -378,7 +378,15 @@ fn faults(rt: HostRuntime) -> Result<(), Fail> {
 #[test]
 fn refused_words(rt: HostRuntime) -> Result<(), Fail> {
     let alloc = rt.alloc();
-    for word in ["--workers=0", "--workers=65", "--demo=47", "--help"] {
+    let words = [
+        "--workers=0",
+        "--workers=65",
+        "--states=127",
+        "--states=1025",
+        "--demo=47",
+        "--help",
+    ];
+    for word in words {
         let words = words_of(alloc, &[word])?;
         let setting = Setting {
             words: &words,
@@ -387,6 +395,32 @@ fn refused_words(rt: HostRuntime) -> Result<(), Fail> {
         let (told, written) = ran(&rt, alloc, b"names\n".to_vec(alloc)?, setting)?;
         assert_eq!(rt; told, Status::Usage, "{word}");
         assert_eq!(rt; written.len(), 0, "{word}");
+    }
+    Ok(())
+}
+
+#[test]
+fn states_that_the_words_allow(rt: HostRuntime) -> Result<(), Fail> {
+    let alloc = rt.alloc();
+    let script = b"query q [ab]*a[ab][ab][ab][ab][ab][ab]\n".as_slice();
+    let rows = [
+        (
+            "--states=128",
+            "line 1: TooManyStates\n",
+            Status::SomeRefused,
+        ),
+        ("--states=129", "ok q\n", Status::Done),
+        ("--states=1024", "ok q\n", Status::Done),
+    ];
+    for (word, output, status) in rows {
+        let words = words_of(alloc, &[word])?;
+        let setting = Setting {
+            words: &words,
+            ..plain()
+        };
+        let (told, written) = ran(&rt, alloc, script.to_vec(alloc)?, setting)?;
+        assert_eq!(rt; told, status, "{word}");
+        assert_eq!(rt; written.as_slice(), output.as_bytes(), "{word}");
     }
     Ok(())
 }

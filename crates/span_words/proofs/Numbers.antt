@@ -1,5 +1,5 @@
--- The texts that clap keeps for the two options are numbers of their ranges.
-use Rattle.std.proofs.Common.{◌≡◌, ◌∷◌, ◌++◌, [], List, ℕ, pos, Bool, true, false, cond, codes, get_or, ap, arith, refl, subst, sym, inl, inr}
+-- The texts that clap keeps for the three options are numbers of their ranges.
+use Rattle.std.proofs.Common.{◌≡◌, ◌≤◌, ◌∷◌, ◌++◌, [], List, ℕ, pos, Bool, true, false, cond, codes, get_or, ap, arith, refl, subst, sym, inl, inr}
 use Rattle.std.specs.Prelude.{Option, Some, None, find, slice_get, if◌then◌else◌, ◌⊎◌}
 use Rattle.std.specs.Option.{option_and_then}
 use Rattle.std.specs.Str.{bytes_eq}
@@ -21,23 +21,24 @@ use Rattle.span_words.specs.Words.{AsksFor, AsksForOr, ClapTakes, IsNumber, Word
 use Rattle.span_words.proofs.Kept.{neither, settle_kept, walk_kept}
 
 -- a signed number of 1 or more is written without a minus
-number_at : (minus : Bool) (most : ℕ) (text : Text) → starts_with_minus text ≡ minus → IsSignedIn (pos 1) (pos most) text → IsNumber most text (digits_value 10 (without_leading_plus text))
-number_at true most text e in_range =
-    let least = rw e at in_range.2 in
+number_at : (minus : Bool) (least most : ℕ) (text : Text) → 1 ≤ least → starts_with_minus text ≡ minus → IsSignedIn (pos least) (pos most) text → IsNumber least most text (digits_value 10 (without_leading_plus text))
+number_at true least most text one e in_range =
+    let low = rw e at in_range.2 in
     absurd (omega (arith, ints))
-number_at false most text e in_range =
+number_at false least most text one e in_range =
     let numeral = rw e at in_range.0 in
-    let least = rw e at in_range.2 in
-    let greatest = rw e at in_range.3 in
-    record { digits = numeral; value = refl; least = omega (arith, ints); greatest = omega (arith, ints) }
+    let low = rw e at in_range.2 in
+    let high = rw e at in_range.3 in
+    record { digits = numeral; value = refl; at_least = omega (arith, ints); at_most = omega (arith, ints) }
 
-number_of : (most : ℕ) (text : Text) → accepts false (vp.Signed (pos 1) (pos most)) text ≡ true → IsNumber most text (digits_value 10 (without_leading_plus text))
-number_of most text passes = number_at (starts_with_minus text) most text refl (accepts-Accepts false (vp.Signed (pos 1) (pos most)) text passes)
+number_of : (least most : ℕ) (text : Text) → 1 ≤ least → accepts false (vp.Signed (pos least) (pos most)) text ≡ true → IsNumber least most text (digits_value 10 (without_leading_plus text))
+number_of least most text one passes = number_at (starts_with_minus text) least most text one refl (accepts-Accepts false (vp.Signed (pos least) (pos most)) text passes)
 
 -- a value that the option with this name takes
 abbrev pub Takes : Text → Text → Type 0
 Takes name text =
     (name ≡ codes "workers" → accepts false (vp.Signed (pos 1) (pos 64)) text ≡ true)
+    × (name ≡ codes "states" → accepts false (vp.Signed (pos 128) (pos 1024)) text ≡ true)
     × (name ≡ codes "demo" → accepts false (vp.Signed (pos 1) (pos 46)) text ≡ true)
 
 abbrev pub TakesAll : Text → List Text → Type 0
@@ -71,8 +72,8 @@ good_set id how values rows takes good =
     (λ r e old. (takes_both r.id r.values values old (subst (λ (name : Text). TakesAll name values) (sym ((bytes_eq-Decides r.id id).0 e)) takes), tt))
     (takes, tt) (good_at_row id (λ _. []) [] rows (λ r e old. tt) tt good)
 
-one_passes : (most : ℕ) (v : Text) → value_kinds false (vp.Signed (pos 1) (pos most)) v ≡ [] → accepts false (vp.Signed (pos 1) (pos most)) v ≡ true
-one_passes most v e = go (accepts false (vp.Signed (pos 1) (pos most)) v) e
+one_passes : (least most : ℕ) (v : Text) → value_kinds false (vp.Signed (pos least) (pos most)) v ≡ [] → accepts false (vp.Signed (pos least) (pos most)) v ≡ true
+one_passes least most v e = go (accepts false (vp.Signed (pos least) (pos most)) v) e
   where
     go : (b : Bool) → (if b then [] else kind.ValueValidation ∷ []) ≡ [] → b ≡ true
     go true e = refl
@@ -81,38 +82,63 @@ one_passes most v e = go (accepts false (vp.Signed (pos 1) (pos most)) v) e
 workers_take : (vs : List Text) → values_kinds false (vp.Signed (pos 1) (pos 64)) vs ≡ [] → TakesAll (codes "workers") vs
 workers_take [] e = tt
 workers_take (v ∷ vs) e =
-    let each = neither _ _ e in
-    (((λ same. one_passes 64 v each.0), (λ same. let bad : 119 ≡ 100 = ap (λ l. get_or l 0 0) same in absurd (omega arith))), workers_take vs each.1)
+    let each = neither _ _ e in (
+      (
+        (λ same. one_passes 1 64 v each.0),
+        (λ same. let bad : 119 ≡ 115 = ap (λ l. get_or l 0 0) same in absurd (omega arith)),
+        (λ same. let bad : 119 ≡ 100 = ap (λ l. get_or l 0 0) same in absurd (omega arith)),
+      ),
+      workers_take vs each.1,
+    )
+
+states_take : (vs : List Text) → values_kinds false (vp.Signed (pos 128) (pos 1024)) vs ≡ [] → TakesAll (codes "states") vs
+states_take [] e = tt
+states_take (v ∷ vs) e =
+    let each = neither _ _ e in (
+      (
+        (λ same. let bad : 115 ≡ 119 = ap (λ l. get_or l 0 0) same in absurd (omega arith)),
+        (λ same. one_passes 128 1024 v each.0),
+        (λ same. let bad : 115 ≡ 100 = ap (λ l. get_or l 0 0) same in absurd (omega arith)),
+      ),
+      states_take vs each.1,
+    )
 
 demo_takes : (vs : List Text) → values_kinds false (vp.Signed (pos 1) (pos 46)) vs ≡ [] → TakesAll (codes "demo") vs
 demo_takes [] e = tt
 demo_takes (v ∷ vs) e =
-    let each = neither _ _ e in
-    (((λ same. let bad : 100 ≡ 119 = ap (λ l. get_or l 0 0) same in absurd (omega arith)), (λ same. one_passes 46 v each.0)), demo_takes vs each.1)
+    let each = neither _ _ e in (
+      (
+        (λ same. let bad : 100 ≡ 119 = ap (λ l. get_or l 0 0) same in absurd (omega arith)),
+        (λ same. let bad : 100 ≡ 115 = ap (λ l. get_or l 0 0) same in absurd (omega arith)),
+        (λ same. one_passes 1 46 v each.0),
+      ),
+      demo_takes vs each.1,
+    )
 
 abbrev ours : Shape
 ours = (built spanbase_app).top
 
-one_of_three : (p : Rule → Bool) (x y z a : Rule) → find p (x ∷ y ∷ z ∷ []) ≡ Some a → (x ≡ a) ⊎ ((y ≡ a) ⊎ (z ≡ a))
-one_of_three p x y z a e = first (p x) e
+-- the rule is one of the list
+abbrev Among : List Rule → Rule → Type 0
+Among [] a = ⊥
+Among (r ∷ rs) a = (r ≡ a) ⊎ Among rs a
+
+among : (p : Rule → Bool) (rs : List Rule) (a : Rule) → find p rs ≡ Some a → Among rs a
+among p [] a e = cc
+among p (r ∷ rs) a e = go (p r) e (among p rs a)
   where
-    third : (is : Bool) → cond is (Some z) None ≡ Some a → z ≡ a
-    third true e = cc
-    third false e = cc
-
-    second : (is : Bool) → cond is (Some y) (cond (p z) (Some z) None) ≡ Some a → (y ≡ a) ⊎ (z ≡ a)
-    second true e = inl cc
-    second false e = inr (third (p z) e)
-
-    first : (is : Bool) → cond is (Some x) (cond (p y) (Some y) (cond (p z) (Some z) None)) ≡ Some a → (x ≡ a) ⊎ ((y ≡ a) ⊎ (z ≡ a))
-    first true e = inl cc
-    first false e = inr (second (p y) e)
+    go : (is : Bool) → cond is (Some r) (find p rs) ≡ Some a → (find p rs ≡ Some a → Among rs a) → (r ≡ a) ⊎ Among rs a
+    go true e later = inl cc
+    go false e later = inr (later e)
 
 abbrev workers_rule : Rule
-workers_rule = with_index 1 (filled (number_rule (codes "workers") 64))
+workers_rule = with_index 1 (filled (number_rule (codes "workers") 1 64))
+
+abbrev states_rule : Rule
+states_rule = with_index 1 (filled (number_rule (codes "states") 128 1024))
 
 abbrev demo_rule : Rule
-demo_rule = with_index 1 (filled (number_rule (codes "demo") 46))
+demo_rule = with_index 1 (filled (number_rule (codes "demo") 1 46))
 
 abbrev flag_rule : Rule
 flag_rule = with_index 1 (filled help_rule)
@@ -122,6 +148,11 @@ good_workers values rows fault good =
     let passed = neither _ _ (neither _ _ fault).1 in
     good_set (codes "workers") (reading_by workers_rule) (values_or_missing workers_rule values) rows (workers_take (values_or_missing workers_rule values) passed.1) good
 
+good_states : (values : List Text) (rows : List Row) → use_fault false states_rule values rows ≡ [] → Good rows → Good (used states_rule values rows)
+good_states values rows fault good =
+    let passed = neither _ _ (neither _ _ fault).1 in
+    good_set (codes "states") (reading_by states_rule) (values_or_missing states_rule values) rows (states_take (values_or_missing states_rule values) passed.1) good
+
 good_demo : (values : List Text) (rows : List Row) → use_fault false demo_rule values rows ≡ [] → Good rows → Good (used demo_rule values rows)
 good_demo values rows fault good =
     let passed = neither _ _ (neither _ _ fault).1 in
@@ -130,13 +161,14 @@ good_demo values rows fault good =
 good_uses : (find_by : Rule → Bool) (a : Rule) (values : List Text) (rows : List Row) → find find_by ours.rules ≡ Some a → use_fault ours.args_override_self a values rows ≡ [] → Good rows → Good (used a values rows)
 good_uses find_by a values rows e =
     let P : Rule → Type 0 = λ b. use_fault false b values rows ≡ [] → Good rows → Good (used b values rows) in
-    elim (one_of_three find_by workers_rule demo_rule flag_rule a e) [
-      | inl is ↦ subst P is (good_workers values rows)
-      | inr other ↦ elim other [
-        | inl is ↦ subst P is (good_demo values rows)
-        | inr is ↦ subst P is (λ fault good. good)
-      ]
-    ]
+    by P (good_workers values rows) (good_states values rows) (good_demo values rows) (λ fault good. good) (among find_by (workers_rule ∷ states_rule ∷ demo_rule ∷ flag_rule ∷ []) a e)
+  where
+    by : (P : Rule → Type 0) → P workers_rule → P states_rule → P demo_rule → P flag_rule → Among (workers_rule ∷ states_rule ∷ demo_rule ∷ flag_rule ∷ []) a → P a
+    by P w s d f (inl is) = subst P is w
+    by P w s d f (inr (inl is)) = subst P is s
+    by P w s d f (inr (inr (inl is))) = subst P is d
+    by P w s d f (inr (inr (inr (inl is)))) = subst P is f
+    by P w s d f (inr (inr (inr (inr none)))) = absurd none
 
 default_kept : (a : Rule) (rows : List Row) → a.defaults ≡ [] → Good rows → Good (with_default rows a)
 default_kept a rows none good = go (has_row a.id rows) a.defaults none
@@ -167,20 +199,26 @@ good_matches words taken =
     let rows = (settled ours.rules end).rows in
     let good : Good rows = settle_kept ours Good good_uses end ended.0 (walk_kept ours Good good_uses [] words (walk_from nothing_held) walked.0 tt) in
     let one = default_kept workers_rule rows refl good in
-    let two = default_kept demo_rule (with_default rows workers_rule) refl one in
-    default_kept flag_rule (with_default (with_default rows workers_rule) demo_rule) refl two
+    let two = default_kept states_rule (with_default rows workers_rule) refl one in
+    let three = default_kept demo_rule (with_default (with_default rows workers_rule) states_rule) refl two in
+    default_kept flag_rule (with_default (with_default (with_default rows workers_rule) states_rule) demo_rule) refl three
 
-workers_in : (text : Option Text) → ((v : Text) → text ≡ Some v → Takes (codes "workers") v) → (workers : ℕ) × AsksForOr 64 1 text workers
+workers_in : (text : Option Text) → ((v : Text) → text ≡ Some v → Takes (codes "workers") v) → (workers : ℕ) × AsksForOr 1 64 1 text workers
 workers_in None takes = (1, refl)
-workers_in (Some v) takes = (digits_value 10 (without_leading_plus v), number_of 64 v ((takes v refl).0 refl))
+workers_in (Some v) takes = (digits_value 10 (without_leading_plus v), number_of 1 64 v (omega arith) ((takes v refl).0 refl))
 
-demo_in : (text : Option Text) → ((v : Text) → text ≡ Some v → Takes (codes "demo") v) → (demo : Option ℕ) × AsksFor 46 text demo
+states_in : (text : Option Text) → ((v : Text) → text ≡ Some v → Takes (codes "states") v) → (states : ℕ) × AsksForOr 128 1024 128 text states
+states_in None takes = (128, refl)
+states_in (Some v) takes = (digits_value 10 (without_leading_plus v), number_of 128 1024 v (omega arith) ((takes v refl).1 refl))
+
+demo_in : (text : Option Text) → ((v : Text) → text ≡ Some v → Takes (codes "demo") v) → (demo : Option ℕ) × AsksFor 1 46 text demo
 demo_in None takes = (None, refl)
-demo_in (Some v) takes = (Some (digits_value 10 (without_leading_plus v)), number_of 46 v ((takes v refl).1 refl))
+demo_in (Some v) takes = (Some (digits_value 10 (without_leading_plus v)), number_of 1 46 v (omega arith) ((takes v refl).2 refl))
 
-pub reading_of : (words : List Text) → ClapTakes words → (workers : ℕ) × (demo : Option ℕ) × Words words workers demo
+pub reading_of : (words : List Text) → ClapTakes words → (workers : ℕ) × (states : ℕ) × (demo : Option ℕ) × Words words workers states demo
 reading_of words taken =
     let good = good_matches words taken in
     let workers = workers_in (text_of (codes "workers") words) (λ v e. first_takes (codes "workers") (matches_of spanbase_app words) v good e) in
+    let states = states_in (text_of (codes "states") words) (λ v e. first_takes (codes "states") (matches_of spanbase_app words) v good e) in
     let demo = demo_in (text_of (codes "demo") words) (λ v e. first_takes (codes "demo") (matches_of spanbase_app words) v good e) in
-    (workers.0, demo.0, record { taken = taken; workers_asked = workers.1; demo_asked = demo.1 })
+    (workers.0, states.0, demo.0, record { taken = taken; workers_asked = workers.1; states_asked = states.1; demo_asked = demo.1 })

@@ -7,9 +7,9 @@ pub fn one_reading()
     ensures { OneReading }
 {}
 
-/// The empty list of arguments is accepted: one worker, and no demo.
+/// The empty list of arguments is accepted: one worker, at most 128 states, and no demo.
 pub fn no_words()
-    ensures { Words [] 1 None }
+    ensures { Words [] 1 128 None }
 {}
 
 /// What `clap` accepts has a reading, so arguments are rejected exactly if `clap` rejects them.

@@ -7,7 +7,7 @@
 //! "ab"
 //! ```
 //!
-//! The arguments are those of spanbase, `--workers N` and `--demo N`, and so are the exit statuses. At a terminal, the
+//! The arguments are those of spanbase, `--workers N`, `--states N` and `--demo N`, and so are the exit statuses. At a terminal, the
 //! number of the next line is shown on standard error. The lines are executed by `talk` of span_talk; this crate reads
 //! the arguments, and passes it standard input, standard output and the files of the current folder.
 //!
@@ -51,7 +51,7 @@ fn words_of(rt: &(impl Env + AllocGlobal)) -> Result<Vec<String>, Status> {
 
 /// Parses the arguments. Returns the options, or the status with which the run ends.
 fn options_of(alloc: Global, words: &[String]) -> Result<Options, Status>
-    ensures taken { IfOk result (λ options. Words (map string_bytes words.now) options.workers options.demo) }
+    ensures taken { IfOk result (λ options. Words (map string_bytes words.now) options.workers options.states options.demo) }
     ensures usage { IfErr result (λ status. status ≡ Status.Usage → Refused (map string_bytes words.now)) }
 {
     match read_words(alloc, words) {
@@ -88,14 +88,16 @@ fn talk_with<
 >(
     rt: &R,
     client: &mut C,
-    workers: u8,
+    options: Options,
     out: &mut K,
     pairs: Blank,
     places: Blank,
     looks: Blank,
 ) -> Status
-    requires least { 1 ≤ workers }
-    requires most { workers ≤ 64 }
+    requires least { 1 ≤ options.workers }
+    requires most { options.workers ≤ 64 }
+    requires few { 128 ≤ options.states }
+    requires many { options.states ≤ 1024 }
     requires pairs { (pairs.name ≡ P.name) × (pairs.parts ≡ P.parts) × (0 < P.parts) }
     requires places { (places.name ≡ T.name) × (places.parts ≡ T.parts) × (0 < T.parts) }
     requires looks { (looks.name ≡ L.name) × (looks.parts ≡ L.parts) × (0 < L.parts) }
@@ -110,7 +112,8 @@ fn talk_with<
         rt,
         rt.alloc(),
         client,
-        workers,
+        options.workers,
+        options.states,
         out,
         &mut shelf,
         &OpenGate,
@@ -120,23 +123,25 @@ fn talk_with<
     )
 }
 
-/// Runs a conversation with the sender of a source's bytes, with `workers` workers, and writes the replies to standard
-/// output.
+/// Runs a conversation with the sender of a source's bytes, with the workers and states of the options, and writes the
+/// replies to standard output.
 fn talk_over<R: Threads + Sync + Files + AllocGlobal + Print, S: Source + Drop>(
     rt: &R,
     source: S,
     prompts: Option<Stderr>,
-    workers: u8,
+    options: Options,
 ) -> Status
-    requires least { 1 ≤ workers }
-    requires most { workers ≤ 64 }
+    requires least { 1 ≤ options.workers }
+    requires most { options.workers ≤ 64 }
+    requires few { 128 ≤ options.states }
+    requires many { options.states ≤ 1024 }
 {
     let mut client = Listener::new(source, prompts);
     let mut out = StdSink::new(io::writer(rt));
     talk_with::<_, _, _, Brand, Brand, Brand>(
         rt,
         &mut client,
-        workers,
+        options,
         &mut out,
         Blank::new(1),
         Blank::new(1),
@@ -176,20 +181,12 @@ fn main(rt: HostRuntime) -> io::Result<ExitCode> {
     let status = match words_of(&rt) {
         Ok(words) => {
             let status = match options_of(rt.alloc(), &words) {
-                Ok(
-                    Options {
-                        workers,
-                        demo: None,
+                Ok(options) => match options.demo {
+                    None => talk_over(&rt, StdSource::new(rt.reader()), prompts_of(&rt), options),
+                    Some(number) => match demo(rt.alloc(), number) {
+                        Ok(script) => talk_over(&rt, SureSource::new(script), None, options),
+                        Err(_) => Status::NoMemory,
                     },
-                ) => talk_over(&rt, StdSource::new(rt.reader()), prompts_of(&rt), workers),
-                Ok(
-                    Options {
-                        workers,
-                        demo: Some(number),
-                    },
-                ) => match demo(rt.alloc(), number) {
-                    Ok(script) => talk_over(&rt, SureSource::new(script), None, workers),
-                    Err(_) => Status::NoMemory,
                 },
                 Err(status) => status,
             };

@@ -1,5 +1,5 @@
--- Each row takes the digests, and each digest the marked sets, one to one.
-use Rattle.std.proofs.Common.{◌≡◌, ℕ, ◌+◌, ◌*◌, ◌/◌, ◌%◌, ◌^◌, ◌<◌, bit_and, refl, ap, sym, ◌∙◌, arith}
+-- Each number takes the digests, and each digest the numbers, one to one.
+use Rattle.std.proofs.Common.{◌≡◌, ℕ, ◌+◌, ◌*◌, ◌/◌, ◌%◌, ◌^◌, ◌<◌, refl, ap, sym, ◌∙◌, arith}
 use Rattle.std.specs.Int.{bit_at}
 use Rattle.std.specs.Int.Bits.{bit_xor}
 use Rattle.std.proofs.Math.Nat.{add-mul-mod_self_right, mod-eq_of_lt}
@@ -56,19 +56,15 @@ low-sum : (n : ℕ) → n % 2 ^ 64 < 2 ^ 64
 low-sum n = omega arith
 
 -- what a step gives tells the second number, and the lower half of the first product
-told : (code a b s t : ℕ) → s < 2 ^ 64 → t < 2 ^ 64 → joined_of code a (s * 0xd6e8_feb8_6659_fd93) ≡ joined_of code b (t * 0xd6e8_feb8_6659_fd93) → (s ≡ t) × (low_of a ≡ low_of b)
-told code a b s t ls lt e =
+told : (a b s t : ℕ) → s < 2 ^ 64 → t < 2 ^ 64 → joined_of a (s * 0xd6e8_feb8_6659_fd93) ≡ joined_of b (t * 0xd6e8_feb8_6659_fd93) → (s ≡ t) × (low_of a ≡ low_of b)
+told a b s t ls lt e =
     let high : ℕ → ℕ = λ n. high_of (n * 0xd6e8_feb8_6659_fd93) in
-    let step : ℕ = (code * 0xa076_1d64_78bd_642f) % 2 ^ 64 in
     let parts =
-    split (low_of (s * 0xd6e8_feb8_6659_fd93)) (low_of (t * 0xd6e8_feb8_6659_fd93)) (((low_of a + high s) % 2 ^ 64 + step) % 2 ^ 64) (((low_of b + high t) % 2 ^ 64 + step) % 2 ^ 64)
-    (low-sum ((low_of a + high s) % 2 ^ 64 + step)) (low-sum ((low_of b + high t) % 2 ^ 64 + step)) e in
+    split (low_of (s * 0xd6e8_feb8_6659_fd93)) (low_of (t * 0xd6e8_feb8_6659_fd93)) ((low_of a + high s) % 2 ^ 64) ((low_of b + high t) % 2 ^ 64) (low-sum (low_of a + high s))
+    (low-sum (low_of b + high t)) e in
     let same : s ≡ t = back-told s t ls lt parts.0 in
-    let sums : ((low_of a + high s) % 2 ^ 64 + step) % 2 ^ 64 ≡ ((low_of b + high s) % 2 ^ 64 + step) % 2 ^ 64 =
-    parts.1 ∙ ap (λ n. ((low_of b + high n) % 2 ^ 64 + step) % 2 ^ 64) (sym same) in
-    let inner : (low_of a + high s) % 2 ^ 64 ≡ (low_of b + high s) % 2 ^ 64 =
-    sum-told ((low_of a + high s) % 2 ^ 64) ((low_of b + high s) % 2 ^ 64) step (low-sum (low_of a + high s)) (low-sum (low_of b + high s)) sums in
-    (same, sum-told (low_of a) (low_of b) (high s) (low-lt a) (low-lt b) inner)
+    let sums : (low_of a + high s) % 2 ^ 64 ≡ (low_of b + high s) % 2 ^ 64 = parts.1 ∙ ap (λ n. (low_of b + high n) % 2 ^ 64) (sym same) in
+    (same, sum-told (low_of a) (low_of b) (high s) (low-lt a) (low-lt b) sums)
 
 high-lt : (n : ℕ) → n < 2 ^ 128 → high_of n < 2 ^ 64
 high-lt n lt = omega (arith, lt)
@@ -79,13 +75,13 @@ second-lt digest set across lt = xor_lt 64 ((high_of digest + high_of across) % 
 joined-lt : (digest set : ℕ) → bit_xor (low_of digest) (low_of set) < 2 ^ 64
 joined-lt digest set = xor_lt 64 (low_of digest) (low_of set) (low-lt digest) (low-lt set)
 
--- digests that differ before a row differ after it
-pub digest-told : (d e code set : ℕ) → d < 2 ^ 128 → e < 2 ^ 128 → set < 2 ^ 128 → digest_with d code set ≡ digest_with e code set → d ≡ e
+-- digests that differ before a number differ after it
+pub digest-told : (d e set : ℕ) → d < 2 ^ 128 → e < 2 ^ 128 → set < 2 ^ 128 → digest_with d set ≡ digest_with e set → d ≡ e
 unfolding digest_with
-digest-told d e code set ld le ls same =
+digest-told d e set ld le ls same =
     let a = across_of d set in
     let b = across_of e set in
-    let both = told code a b (second_of d set a) (second_of e set b) (second-lt d set a ls) (second-lt e set b ls) same in
+    let both = told a b (second_of d set a) (second_of e set b) (second-lt d set a ls) (second-lt e set b ls) same in
     let joined : bit_xor (low_of d) (low_of set) ≡ bit_xor (low_of e) (low_of set) = across-told _ _ (joined-lt d set) (joined-lt e set) both.1 in
     let low : low_of d ≡ low_of e = xor-told (low_of d) (low_of e) (low_of set) joined in
     let across : across_of d set ≡ across_of e set = ap (λ n. n * 0x9e37_79b9_7f4a_7c15) joined in
@@ -93,13 +89,13 @@ digest-told d e code set ld le ls same =
     xor-told _ _ (high_of set) (both.0 ∙ ap (λ x. second_of e set x) (sym across)) in
     halves-told d e low (sum-told (high_of d) (high_of e) (high_of (across_of d set)) (high-lt d ld) (high-lt e le) sums)
 
--- marked sets that differ after the same digest differ in the digest after them
-pub set-told : (d code s t : ℕ) → s < 2 ^ 128 → t < 2 ^ 128 → digest_with d code s ≡ digest_with d code t → s ≡ t
+-- numbers that differ after the same digest differ in the digest after them
+pub number-told : (d s t : ℕ) → s < 2 ^ 128 → t < 2 ^ 128 → digest_with d s ≡ digest_with d t → s ≡ t
 unfolding digest_with
-set-told d code s t ls lt same =
+number-told d s t ls lt same =
     let a = across_of d s in
     let b = across_of d t in
-    let both = told code a b (second_of d s a) (second_of d t b) (second-lt d s a ls) (second-lt d t b lt) same in
+    let both = told a b (second_of d s a) (second_of d t b) (second-lt d s a ls) (second-lt d t b lt) same in
     let joined : bit_xor (low_of d) (low_of s) ≡ bit_xor (low_of d) (low_of t) = across-told _ _ (joined-lt d s) (joined-lt d t) both.1 in
     let low : low_of s ≡ low_of t = xor-told (low_of s) (low_of t) (low_of d) (xor_comm (low_of s) (low_of d) ∙ (joined ∙ xor_comm (low_of d) (low_of t))) in
     let across : across_of d s ≡ across_of d t = ap (λ n. n * 0x9e37_79b9_7f4a_7c15) joined in

@@ -92,7 +92,7 @@ module _ (d : Dictionary) (keep : List Bool) (e : Dictionary) (is : IsDictionary
 
   pub IsDictionary-dropped : IsDictionary e
   IsDictionary-dropped = record {
-    few = subst (λ n. n ≤ 128) (sym are.states) is.few;
+    few = subst (λ n. n ≤ 1024) (sym are.states) is.few;
     narrow = omega (arith, is.narrow, new-distinct, rank-most (used_by d keep) (distinct_of d));
     numbers_kept = λ j lt.
         subst (λ n. n < distinct_of e) (sym (number-is j lt))

@@ -9,7 +9,7 @@ use Rattle.state_tables.specs.Table.{Row, row_at, reach, reach_by_marks, reached
 use Rattle.state_tables.proofs.StateSets.{member-zero, or_assoc, or_swap}
 
 -- sets that agree from k on
-reach-same : (s t k : ℕ) (rows : List Row) → ((i : ℕ) → k ≤ i → member s i ≡ member t i) → reach s k rows ≡ reach t k rows
+pub reach-same : (s t k : ℕ) (rows : List Row) → ((i : ℕ) → k ≤ i → member s i ≡ member t i) → reach s k rows ≡ reach t k rows
 reach-same s t k [] e = refl
 reach-same s t k (row ∷ rows) e =
     ap (λ b. bit_or (if b then reached_of row else 0) (reach s (k + 1) rows)) (e k (omega arith))

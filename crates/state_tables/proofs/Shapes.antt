@@ -1,9 +1,8 @@
 -- The tables that are made have the right number of rows, and reach none but their states.
-use Rattle.std.proofs.Common.{zero, suc, ◌++◌, ◌≡◌, ℕ, ◌+◌, ◌<◌, ◌≤◌, true, refl, ap, sym, ◌∙◌, arith, List, [], ◌∷◌, length, map, get_or, Option, Some, None, inl, inr}
-use Rattle.std.specs.List.{range_with_len}
+use Rattle.std.proofs.Common.{zero, suc, ◌≡◌, ℕ, ◌<◌, ◌≤◌, true, refl, ap, sym, ◌∙◌, arith, List, [], ◌∷◌, length, map, get_or, Option, Some, None, inl, inr}
 use Rattle.std.proofs.lemmas.Bool.{cases_lt}
 use Rattle.std.proofs.lemmas.List.{length-map}
-use Rattle.std.proofs.lemmas.List.FromFn.{get_or-map-range_with_len, map-range_with_len_more, length-map-range_with_len}
+use Rattle.std.proofs.lemmas.List.FromFn.{get_or-map-range_with_len, length-map-range_with_len}
 use Rattle.std.proofs.Math.ListN.{get_or-eq_default}
 use Rattle.marker_dfa.specs.Deterministic.{DeterministicAutomaton, IsDeterministic, states_of, marks_of, and_then}
 use Rattle.state_tables.specs.StateSet.{member}
@@ -37,7 +36,7 @@ past-marked t p q h e = not-both (member (marked_of t p) q) e (ap (λ r. member 
 pub IsTableOf-byte : (a : DeterministicAutomaton) (b : ℕ) → IsDeterministic a → IsTableOf (states_of a) (byte_table a b)
 IsTableOf-byte a b auto = record {
   states = length-byte_table a b;
-  few = auto.few_states;
+  few = omega (arith, auto.few_states);
   unmarked_within = λ p q h. elim (cases_lt p (states_of a)) [
     | inl lt ↦ auto.within p 0 b q (ap (λ r. r.unmarked) (sym (byte_table-row a b p lt)) ∙ h)
     | inr ge ↦ past-unmarked (byte_table a b) p q (rw (length-byte_table a b) ge) h
@@ -61,7 +60,7 @@ compose-row_at left right p h = row-of-map left p h
 pub length-compose : (left right : List Row) → length (compose_of left right) ≡ length left
 length-compose left right = length-map left (compose_row right)
 
-composed-within : (n : ℕ) (right : List Row) (row : Row) (q : ℕ) → IsTableOf n right → member (compose_row right row).marked q ≡ true → q < n
+pub composed-within : (n : ℕ) (right : List Row) (row : Row) (q : ℕ) → IsTableOf n right → member (compose_row right row).marked q ≡ true → q < n
 composed-within n right row q r h =
     elim (or-cases (member (marked_from right row.unmarked) q) (member (reach row.marked 0 right) q)
     (sym (member-or (marked_from right row.unmarked) (reach row.marked 0 right) q) ∙ h)) [
@@ -89,7 +88,3 @@ IsTableOf-compose n left right l r = record {
     | inr ge ↦ past-marked (compose_of left right) p q (rw (length-compose left right) ge) h
   ];
 }
-
--- one more row
-pub byte_rows-last : (a : DeterministicAutomaton) (b p : ℕ) → map (byte_row a b) (range_with_len 0 (p + 1)) ≡ map (byte_row a b) (range_with_len 0 p) ++ byte_row a b p ∷ []
-byte_rows-last a b p = map-range_with_len_more (byte_row a b) 0 p p (omega arith)

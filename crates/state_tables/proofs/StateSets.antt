@@ -1,10 +1,10 @@
 -- Sets of states, by their members.
-use Rattle.std.proofs.Common.{zero, suc, ◌≡◌, ◌≢◌, ℕ, ◌+◌, ◌<◌, ◌^◌, ◌*◌, ◌/◌, ◌%◌, ◌==◌, max, true, false, ◌||◌, refl, ap, ◌∙◌, arith, bit_or, bit_and}
+use Rattle.std.proofs.Common.{zero, suc, ◌≡◌, ◌≢◌, ℕ, ◌+◌, ◌<◌, ◌^◌, ◌*◌, ◌%◌, ◌==◌, max, true, false, ◌||◌, refl, ap, ◌∙◌, arith, bit_or, bit_and}
 use Rattle.std.specs.Int.{bit_at}
 use Rattle.std.specs.Int.Bits.{bit_xor, xor_add_and}
 use Rattle.std.proofs.lemmas.Bool.{eqb-true}
 use Rattle.std.proofs.lemmas.Nat.{pow_pos}
-use Rattle.std.proofs.lemmas.Nat.Bits.{bit_at_or, bit_at_xor, bit_at-pow_same, bit_at-pow_other, bit_at-zero, bit_at-lt, same_from_bits, shr_and_one, and_pow}
+use Rattle.std.proofs.lemmas.Nat.Bits.{bit_at_or, bit_at_xor, bit_at-pow_same, bit_at-pow_other, bit_at-zero, bit_at-lt, same_from_bits, and_pow}
 use Rattle.state_tables.specs.StateSet.{member}
 
 or_bit : (x y : ℕ) → x < 2 → y < 2 → (max x y == 1) ≡ (x == 1 || y == 1)
@@ -31,10 +31,6 @@ member-single_same q = rw (bit_at-pow_same q) refl
 pub member-single_other : (k q : ℕ) → q ≢ k → member (2 ^ k) q ≡ false
 unfolding member
 member-single_other k q ne = rw (bit_at-pow_other k q ne) refl
-
-pub member-by_shift : (set q : ℕ) → (bit_and (set / 2 ^ q) 1 == 1) ≡ member set q
-unfolding member
-member-by_shift set q = rw (shr_and_one set q) refl
 
 -- a bit that is set
 pub member-bit : (set q : ℕ) → bit_at set q ≡ 1 → member set q ≡ true

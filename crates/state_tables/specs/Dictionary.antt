@@ -44,7 +44,7 @@ GainsTable old new t = (new ≡ old) ⊎ (new ≡ old ++ t ∷ [])
 
 -- what holds of each value of the type Tables
 pub record IsDictionary (d : Dictionary) : Type 0 where
-  pub few : d.states ≤ 128
+  pub few : d.states ≤ 1024
   pub narrow : distinct_of d < 2 ^ 32
   pub numbers_kept : (id : ℕ) → id < count_of d → number_of d id < distinct_of d
   pub shapes : (n : ℕ) → n < distinct_of d → IsTableOf d.states (kept_of d n)

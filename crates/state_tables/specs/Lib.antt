@@ -1,6 +1,11 @@
 pub mod StateSet
+pub mod StateSetView
+pub mod StateSetLaws
 pub mod Table
 pub mod Coded
+pub mod RowSet
+pub mod Classed
+pub mod Reached
 pub mod Digest
 pub mod Branch
 pub mod Same

@@ -60,9 +60,9 @@ byte_row a b p = record { unmarked = next_of a p 0 b; marked = reach_by_marks a 
 abbrev pub byte_table : DeterministicAutomaton → ℕ → List Row
 byte_table a b = map (byte_row a b) (range_with_len 0 (states_of a))
 
--- a table of n states, at most 128, that reaches only these
+-- a table of n states, at most 1,024, that reaches only these
 pub record IsTableOf (n : ℕ) (t : List Row) : Type 0 where
   pub states : length t ≡ n
-  pub few : n ≤ 128
+  pub few : n ≤ 1024
   pub unmarked_within : (p q : ℕ) → unmarked_of t p ≡ Some q → q < n
   pub marked_within : (p q : ℕ) → member (marked_of t p) q ≡ true → q < n

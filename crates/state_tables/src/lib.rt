@@ -5,7 +5,7 @@
 //! let a = of_byte(alloc, &dfa, b'a')?;
 //! let twice = compose(alloc, &a, &a)?;                     // the table of `aa`, and no text is read for it
 //! let next = twice.unmarked(0);                            // the state that `aa` leads to from state 0 without marks
-//! let set = twice.marked(0);                               // the states that it leads to with some, as a set of bits
+//! let set = twice.marked(0);                               // the states that it leads to with some, as words of bits
 //! let number = tables.keep(twice)?;                        // equal tables of many nodes are kept once
 //! ```
 //!
@@ -13,14 +13,20 @@
 //! store's nodes. `view.look(id, &mut looks)` returns a node, its length and its table, in constant time. It is the
 //! only way to a node, so a function that receives a view counts a step for each.
 //!
-//! A table of q states, at most 128, takes 17 bytes per state and some 90 more, and a node takes 4 bytes for the number
-//! of its table. A composition visits q rows, and in each the states that the left row reaches with marks, so it takes
-//! time at most quadratic in q. A table has a digest of its rows, so `keep` takes expected constant time besides the
-//! comparison with an equal table. It never takes more than a search by the bits of a table, however the tables are
-//! chosen.
+//! Most states lead to the same few states after a few bytes. So the states of a table, at most 1,024, are in classes,
+//! and each class has one row: the state reached without marks, and the words of a set, one word for each 64 states. A
+//! table takes 2 bytes for each state, for each class 2 bytes and 8 for each word, and some 150 bytes more. A node takes 4
+//! bytes for the number of its table.
+//!
+//! A composition computes one row for each class of the left table. Where the class reaches states with marks, each row
+//! of the right table is added to the set at most once, and no state is visited twice. Equal rows are then one class
+//! again. So it takes time linear in the states, in the members of the left sets, and in the words of the rows that are
+//! added; at most 1,024 classes times 1,024 rows of 16 words. A table has a digest of the rows of its states, so `keep`
+//! takes expected constant time besides the comparison with an equal table. It never takes more than a search by the
+//! bits of a table, however the tables are chosen.
 //!
 //! The tables are those of M. L. Schmid and N. Schweikardt, *Spanner evaluation over SLP-compressed documents*, PODS
-//! 2021. Equal tables are stored once.
+//! 2021. Rows by classes of states are this project's own. Equal tables are stored once.
 //!
 //! Proved: The table of a byte, and of two texts joined (`of_byte`, `compose`). Each distinct table is kept once
 //! (`Tables`). After a compaction kept nodes have their tables, and tables that no node has are dropped
@@ -29,7 +35,12 @@
 //! Neither: Memory per table.
 #![tactic(auto)]
 
+pub mod composition;
+mod digest;
+pub mod one_byte;
+mod reached;
 mod renumbering;
+mod row_set;
 mod rows;
 pub mod state_set;
 pub mod table;
@@ -37,6 +48,8 @@ mod table_set;
 pub mod tables;
 pub mod view;
 
-pub use table::{Table, compose, of_byte};
+pub use composition::compose;
+pub use one_byte::of_byte;
+pub use table::Table;
 pub use tables::Tables;
 pub use view::{Look, View};

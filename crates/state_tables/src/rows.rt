@@ -1,215 +1,134 @@
-//! The rows of a table, in 17 bytes per state, and a digest of them.
+//! The rows of a table, one for each class of states.
 
-ghost use Rattle.std.specs.Prelude.{◌≡◌, ℕ, ◌<◌, ◌*◌, ◌^◌, ◌++◌, [], ◌∷◌, length, IfSome, IfOk, OnOk};
-ghost use Rattle.std.specs.Int.{bit_at};
-ghost use Rattle.std.specs.Cmp.Rules.{comparing};
-ghost use Rattle.std.proofs.Common.{rules};
-ghost use Rattle.state_tables.specs.Table.{marked_of, unmarked_of};
-ghost use Rattle.state_tables.specs.Coded.{code_of, rows_of};
-ghost use Rattle.state_tables.specs.Digest.{digest_with, high_of, low_of};
-ghost use Rattle.state_tables.specs.Branch.{branch_of, root_of, rows_bit};
-ghost use Rattle.state_tables.specs.Same.{table_eq};
+ghost use Rattle.std.specs.Prelude.{◌≡◌, ◌+◌, ◌*◌, ◌<◌, ◌≤◌, [], drop, length, take, true, ◌↔◌, IfOk, IsTrue, OnErr, OnOk};
+ghost use Rattle.std.specs.Bool.{OnTrue};
+ghost use Rattle.state_tables.specs.Table.{row_at};
+ghost use Rattle.state_tables.specs.Coded.{RowList, code_of, row_of, with_row};
+ghost use Rattle.state_tables.specs.StateSetView.{set_of, width_of};
 
+use crate::state_set::{StateSet, is_same};
 use span_types::NoMemory;
 use std::alloc::Global;
 use std::marker::Model;
 
-/// For each state the state reached with every mark 0, and the set of those reached with some other mark.
+/// For each class of states the state reached with every mark 0, and the set of those reached with some other mark. A
+/// row takes 2 bytes and the words of its set.
 #[derive(Drop)]
 pub(crate) struct Rows {
+    // The number of words of each set.
+    width: usize,
     // One more than the state, or 0 for none.
-    unmarked: Vec<u8>,
-    marked: Vec<u128>,
-    // Computed from all rows as they were added. Equal rows are found by it.
-    digest: u128,
+    unmarked: Vec<u16>,
+    // The words of the sets, one set after the other.
+    marked: Vec<u64>,
 }
 
 impl Model for Rows {
-    ghost use Rattle.std.specs.Prelude.{List};
-    ghost use Rattle.state_tables.specs.Table.{Row};
+    ghost use Rattle.std.specs.Prelude.{◌≡◌, ◌*◌, length};
+    ghost use Rattle.state_tables.specs.Coded.{RowList, rows_of};
 
-    ghost Value = { List Row };
+    ghost Value = { RowList };
 
-    ghost use Rattle.state_tables.specs.Coded.{rows_of};
-    ghost use Rattle.state_tables.specs.Digest.{AreCoded};
+    ghost view = { λ r. record { width = r.width; rows = rows_of r.width r.unmarked.items r.marked.items } };
 
-    ghost view = { λ r. rows_of r.unmarked.items r.marked.items };
-
-    ghost invariant = { λ r. AreCoded r.unmarked.items r.marked.items r.digest };
-}
-
-fn coded(step: Option<u8>) -> u8
-    requires { IfSome step (λ q. q < 128) }
-    ensures { result ≡ code_of step }
-{
-    match step {
-        Some(q) => q + 1,
-        None => 0,
-    }
-}
-
-// The digest of no rows.
-const NO_ROWS: u128 = 0x1319_8A2E_0370_7344_243F_6A88_85A3_08D3;
-
-// Odd numbers without a pattern.
-const ACROSS: u64 = 0x9E37_79B9_7F4A_7C15;
-
-const BACK: u64 = 0xD6E8_FEB8_6659_FD93;
-
-const STEP: u64 = 0xA076_1D64_78BD_642F;
-
-fn low_half(number: u128) -> u64
-    ensures { result ≡ low_of number }
-{
-    (number & 0xFFFF_FFFF_FFFF_FFFF) as u64
-}
-
-fn high_half(number: u128) -> u64
-    ensures { result ≡ high_of number }
-{
-    (number >> 64) as u64
-}
-
-// All 128 bits of a product.
-fn product(a: u64, b: u64) -> u128
-    ensures { result ≡ a * b }
-{
-    a as u128 * b as u128
-}
-
-// The digest of some rows and then one more. It takes two multiplications, one after the other. No factor depends on
-// the rows alone, and each step is a bijection of the digest, so no row can erase what the digest says of the rows
-// before it.
-fn with_row(digest: u128, unmarked: u8, marked: u128) -> u128
-    ensures value { result ≡ digest_with digest unmarked marked }
-    ensures digests { (other : ℕ) → other < 2 ^ 128 → digest_with other unmarked marked ≡ result → other ≡ digest }
-    ensures sets { (other : ℕ) → other < 2 ^ 128 → digest_with digest unmarked other ≡ result → other ≡ marked }
-{
-    let across = product(low_half(digest) ^ low_half(marked), ACROSS);
-    let second = high_half(digest).wrapping_add(high_half(across)) ^ high_half(marked);
-    let back = product(second, BACK);
-    let step = (unmarked as u64).wrapping_mul(STEP);
-    let first = low_half(across)
-        .wrapping_add(high_half(back))
-        .wrapping_add(step);
-    low_half(back) as u128 * 0x1_0000_0000_0000_0000 + first as u128
-}
-
-// The bit of a number at this index.
-fn bit(number: u128, place: u8) -> usize
-    requires { place < 128 }
-    ensures { result ≡ bit_at number place }
-{
-    (number >> place & 1) as usize
-}
-
-// A row has 128 bits for the marked states and 8 for the unmarked one.
-const ROW_BITS: usize = 136;
-
-// A bit of the concatenated rows, or 0 past the end.
-fn rows_bit(unmarked: &[u8], marked: &[u128], place: usize) -> usize
-    requires { length unmarked.now ≡ length marked.now }
-    ensures { result ≡ rows_bit (rows_of unmarked.now marked.now) place }
-{
-    let row = place / ROW_BITS;
-    if row >= marked.len() {
-        return 0;
-    }
-    let place = (place % ROW_BITS) as u8;
-    if place < 128 {
-        bit(marked[row], place)
-    } else {
-        bit(unmarked[row] as u128, place - 128)
-    }
+    ghost invariant = { λ r. length r.marked.items ≡ length r.unmarked.items * r.width };
 }
 
 impl Rows {
-    /// No rows, and room for this many.
-    pub(crate) fn with_capacity(alloc: Global, states: usize) -> Result<Rows, NoMemory>
-        ensures { IfOk result (λ rows. rows ≡ []) }
+    /// No rows, and room for this many, with sets of this many words.
+    pub(crate) fn with_capacity(alloc: Global, width: usize, rows: usize) -> Result<Rows, NoMemory>
+        ensures { IfOk result (λ r. r ≡ record { width = width; rows = [] }) }
     {
         Ok(Rows {
-            unmarked: Vec::with_capacity(alloc, states)?,
-            marked: Vec::with_capacity(alloc, states)?,
-            digest: NO_ROWS,
+            width,
+            unmarked: Vec::with_capacity(alloc, rows)?,
+            marked: Vec::with_capacity(alloc, rows.saturating_mul(width))?,
         })
     }
 
-    /// The number of states.
+    /// The number of rows.
     pub(crate) fn len(&self) -> usize
-        ensures { result ≡ length self.now }
+        ensures { result ≡ length self.now.rows }
     {
-        self.marked.len()
+        self.unmarked.len()
     }
 
-    /// The state reached from `p` with every mark 0.
-    pub(crate) fn unmarked(&self, p: u8) -> Option<u8>
-        requires { p < length self.now }
-        ensures { result ≡ unmarked_of self.now p }
+    /// The number of words of each set.
+    pub(crate) fn width(&self) -> usize
+        ensures { result ≡ self.now.width }
     {
-        self.unmarked[p as usize].checked_sub(1)
+        self.width
     }
 
-    /// The set of the states reached from `p` with some other mark.
-    pub(crate) fn marked(&self, p: u8) -> u128
-        requires { p < length self.now }
-        ensures { result ≡ marked_of self.now p }
+    /// One more than the unmarked state of the row, or 0 for none.
+    pub(crate) fn code(&self, row: usize) -> u16
+        requires { row < length self.now.rows }
+        ensures { result ≡ code_of (row_at self.now.rows row).unmarked }
     {
-        self.marked[p as usize]
+        self.unmarked[row]
+    }
+
+    /// The marked set of the row.
+    pub(crate) fn marked(&self, row: usize) -> StateSet<'_>
+        requires { row < length self.now.rows }
+        ensures set { set_of result ≡ (row_at self.now.rows row).marked }
+        ensures width { width_of result ≡ self.now.width }
+    {
+        StateSet::new(words_at(&self.marked, self.width, row))
+    }
+
+    /// Whether this row has this code and these words.
+    pub(crate) fn is_at(&self, row: usize, code: u16, words: &[u64]) -> bool
+        requires { row < length self.now.rows }
+        ensures { OnTrue result (row_at self.now.rows row ≡ row_of code words.now) }
+    {
+        self.code(row) == code && self.marked(row).words() == words
     }
 
     /// Adds a row at the end.
-    pub(crate) fn push(&mut self, unmarked: Option<u8>, marked: u128) -> Result<(), NoMemory>
-        requires { IfSome unmarked (λ q. q < 128) }
-        ensures { OnOk result (self.new ≡ self.old ++ record { unmarked = unmarked; marked = marked } ∷ []) }
+    pub(crate) fn push(&mut self, code: u16, words: &[u64]) -> Result<(), NoMemory>
+        requires { length words.now ≡ self.old.width }
+        ensures ok { OnOk result (self.new ≡ with_row self.old (row_of code words.now)) }
+        ensures err { OnErr result (self.new ≡ self.old) }
     {
-        let code = coded(unmarked);
         self.unmarked.reserve(1)?;
-        self.marked.push(marked)?;
+        self.marked.extend_from_slice(words)?;
         self.unmarked.push_reserved(code);
-        self.digest = with_row(self.digest, code, marked);
         Ok(())
     }
 
-    /// The bucket of the rows, for this number of buckets.
-    pub(crate) fn root(&self, roots: usize) -> usize
-        requires { 0 < roots }
-        ensures value { result ≡ root_of roots self.now }
-        ensures within { result < roots }
+    /// Whether this row is a row of others, whose sets have as many words.
+    pub(crate) fn has_row_of(&self, row: usize, others: &Rows, other: usize) -> bool
+        requires row { row < length self.now.rows }
+        requires other { other < length others.now.rows }
+        requires width { self.now.width ≡ others.now.width }
+        ensures { IsTrue result ↔ row_at self.now.rows row ≡ row_at others.now.rows other }
     {
-        (self.digest & (roots - 1) as u128) as usize
+        self.code(row) == others.code(other)
+            && is_same(self.marked(row).words(), others.marked(other).words())
     }
 
-    /// The bit at this depth of a search tree: first the digest's upper half from its highest bit on, then the rows.
-    pub(crate) fn branch(&self, depth: usize) -> usize
-        ensures value { result ≡ branch_of self.now depth }
-        ensures bit { result < 2 }
+    /// Frees the room for further rows.
+    pub(crate) fn shrink(&mut self)
+        ensures { self.new ≡ self.old }
     {
-        if depth < 64 {
-            bit(self.digest, 127 - depth as u8)
-        } else {
-            rows_bit(&self.unmarked, &self.marked, depth - 64)
-        }
+        self.unmarked.shrink_to_fit();
+        self.marked.shrink_to_fit();
     }
 
-    // Whether the rows are the same.
-    fn has_rows_of(&self, other: &Rows) -> bool
-        ensures { result ≡ table_eq self.now other.now }
+    /// Whether the rows are the same.
+    pub(crate) fn is_same(&self, other: &Rows) -> bool
+        ensures { OnTrue result (self.now ≡ other.now) }
     {
-        self.unmarked == other.unmarked && self.marked == other.marked
+        self.width == other.width && self.unmarked == other.unmarked && self.marked == other.marked
     }
 }
 
-impl PartialEq for Rows {
-    ghost eq = { table_eq };
-
-    ghost laws = { Prim.search (comparing, rules) depth 9 };
-
-    fn eq(&self, other: &Rows) -> bool {
-        self.digest == other.digest && self.has_rows_of(other)
-    }
-}
-
-impl Eq for Rows {
-    ghost laws = { Prim.search (comparing, rules) depth 9 };
+// The words of the set at this index.
+fn words_at(marked: &[u64], width: usize, row: usize) -> &[u64]
+    requires { row * width + width ≤ length marked.now }
+    ensures words { result.now ≡ take width (drop (row * width) marked.now) }
+    ensures width { length result.now ≡ width }
+{
+    &marked[row * width..row * width + width]
 }

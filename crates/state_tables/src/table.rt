@@ -1,68 +1,94 @@
 //! The table of one text.
 
-ghost use Rattle.std.specs.Prelude.{◌≡◌, ℕ, ◌<◌, ◌≤◌, ◌++◌, ◌==◌, [], ◌∷◌, List, length, true, IfSome, IfOk, if◌then◌else◌};
+ghost use Rattle.std.specs.Prelude.{◌≡◌, ℕ, ◌<◌, ◌≤◌, length, true, IfSome};
+ghost use Rattle.std.specs.Bool.{OnTrue};
 ghost use Rattle.std.specs.Cmp.Rules.{comparing};
 ghost use Rattle.std.proofs.Common.{rules};
-ghost use Rattle.marker_dfa.specs.Deterministic.{DeterministicAutomaton, IsDeterministic, marks_of, next_of, states_of};
-ghost use Rattle.state_tables.specs.StateSet.{member, single_of};
-ghost use Rattle.state_tables.specs.Table.{IsTableOf, byte_row, compose_of, compose_row, marked_of, reach, reach_by_marks, reached_of, row_at, unmarked_of};
-ghost use Rattle.state_tables.specs.Meaning.{IsTable};
-ghost use Rattle.state_tables.specs.Branch.{branch_of, root_of};
+ghost use Rattle.state_tables.specs.StateSet.{member, word_count};
+ghost use Rattle.state_tables.specs.StateSetView.{set_of, width_of};
+ghost use Rattle.state_tables.specs.Table.{IsTableOf, marked_of, unmarked_of};
+ghost use Rattle.state_tables.specs.Coded.{table_of};
+ghost use Rattle.state_tables.specs.Classed.{IsClassed};
+ghost use Rattle.state_tables.specs.Branch.{branch_of, root_of, rows_bit};
 ghost use Rattle.state_tables.specs.Same.{table_eq};
 
+use crate::row_set::RowSet;
 use crate::rows::Rows;
-use crate::state_set::{least, single, without};
-use marker_dfa::Dfa;
-use span_types::NoMemory;
-use std::alloc::Global;
+use crate::state_set::StateSet;
 use std::marker::Model;
 
 /// Which states are reached over a text, from each state (M. L. Schmid and N. Schweikardt, Spanner
-/// evaluation over SLP-compressed documents, PODS 2021). Contracts see it as a list of rows, one for each state.
+/// evaluation over SLP-compressed documents, PODS 2021). Contracts see it as a list of rows, one for each state. States
+/// with the same row are in one class, and each class has its row once.
 #[derive(Drop)]
 pub struct Table {
-    rows: Rows,
+    // The class of each state.
+    pub(crate) classes: Vec<u16>,
+    // The row of each class.
+    pub(crate) rows: Rows,
+    // Computed from the rows of the states. Equal tables are found by it.
+    digest: u128,
 }
 
 impl Model for Table {
-    ghost use Rattle.std.specs.Prelude.{List, length};
+    ghost use Rattle.std.specs.Prelude.{List};
     ghost use Rattle.state_tables.specs.Table.{Row};
 
     ghost Value = { List Row };
 
-    ghost use Rattle.state_tables.specs.Table.{IsTableOf};
+    ghost use Rattle.state_tables.specs.Coded.{table_of};
+    ghost use Rattle.state_tables.specs.Classed.{IsInClasses};
 
-    ghost view = { λ t. t.rows };
+    ghost view = { λ t. table_of t.classes.items t.rows.rows };
 
-    ghost invariant = { λ t. IsTableOf (length t.rows) t.rows };
+    ghost invariant = { λ t. IsInClasses t.classes.items t.rows t.digest };
 }
 
 impl Table {
-    /// The number of states, at most 128.
-    pub fn states(&self) -> u8
+    /// The table in which each state has the row of its class.
+    pub(crate) fn from_classes(mut classes: Vec<u16>, set: RowSet) -> Table
+        requires { IsClassed classes.items set }
+        ensures { result ≡ table_of classes.items set.rows }
+    {
+        let digest = set.digest(&classes);
+        classes.shrink_to_fit();
+        Table {
+            classes,
+            rows: set.into_rows(),
+            digest,
+        }
+    }
+
+    /// The number of states, at most 1,024.
+    pub fn states(&self) -> u16
         ensures value { result ≡ length self.now }
         ensures shape { IsTableOf (length self.now) self.now }
     {
-        self.rows.len() as u8
+        self.classes.len() as u16
     }
 
     /// The state reached from `p` over the text with every mark 0.
-    pub fn unmarked(&self, p: u8) -> Option<u8>
+    pub fn unmarked(&self, p: u16) -> Option<u16>
         requires { p < length self.now }
         ensures value { result ≡ unmarked_of self.now p }
         ensures within { IfSome result (λ q. q < length self.now) }
-        ensures few { length self.now ≤ 128 }
+        ensures few { length self.now ≤ 1024 }
     {
-        self.rows.unmarked(p)
+        self.rows
+            .code(self.classes[p as usize] as usize)
+            .checked_sub(1)
     }
 
-    /// The set of the states reached from `p` over the text with some mark other than 0. Bit q stands for state q.
-    pub fn marked(&self, p: u8) -> u128
+    /// The set of the states reached from `p` over the text with some mark other than 0. It has as many words as the
+    /// states of the table take.
+    pub fn marked(&self, p: u16) -> StateSet<'_>
         requires { p < length self.now }
-        ensures value { result ≡ marked_of self.now p }
-        ensures within { (q : ℕ) → member result q ≡ true → q < length self.now }
+        ensures value { set_of result ≡ marked_of self.now p }
+        ensures width { width_of result ≡ word_count (length self.now) }
+        ensures within { (q : ℕ) → member (set_of result) q ≡ true → q < length self.now }
+        ensures few { length self.now ≤ 1024 }
     {
-        self.rows.marked(p)
+        self.rows.marked(self.classes[p as usize] as usize)
     }
 
     /// The bucket of the table, for this number of buckets.
@@ -71,23 +97,27 @@ impl Table {
         ensures value { result ≡ root_of roots self.now }
         ensures within { result < roots }
     {
-        self.rows.root(roots)
+        (self.digest & (roots - 1) as u128) as usize
     }
 
-    /// The bit at this depth of a search tree. Two tables of q states differ in one of the first 64 + 136·q bits.
+    /// The bit at this depth of a search tree: first the digest's upper half from its highest bit on, then the rows. Two
+    /// tables of q states differ in one of the first 64 + 1040·q bits.
     pub(crate) fn branch(&self, depth: usize) -> usize
         ensures value { result ≡ branch_of self.now depth }
         ensures bit { result < 2 }
     {
-        self.rows.branch(depth)
+        if depth < 64 {
+            (self.digest >> (127 - depth) & 1) as usize
+        } else {
+            rows_bit(&self.classes, &self.rows, depth - 64)
+        }
     }
 
-    // All states reached from `p`.
-    fn reached(&self, p: u8) -> u128
-        requires { p < length self.now }
-        ensures { result ≡ reached_of (row_at self.now p) }
+    // Whether the classes and their rows are the same.
+    fn has_form_of(&self, other: &Table) -> bool
+        ensures { OnTrue result (self.now ≡ other.now) }
     {
-        self.marked(p) | single(self.unmarked(p))
+        self.classes == other.classes && self.rows.is_same(&other.rows)
     }
 }
 
@@ -97,7 +127,9 @@ impl PartialEq for Table {
     ghost laws = { Prim.search (comparing, rules) depth 9 };
 
     fn eq(&self, other: &Table) -> bool {
-        self.rows == other.rows
+        self.digest == other.digest
+            && (self.has_form_of(other)
+                || are_same(&self.classes, &self.rows, &other.classes, &other.rows))
     }
 }
 
@@ -105,92 +137,42 @@ impl Eq for Table {
     ghost laws = { Prim.search (comparing, rules) depth 9 };
 }
 
-// The states that the states of the set reach with any marks.
-fn reached(set: u128, right: &Table) -> u128
-    requires { (q : ℕ) → member set q ≡ true → q < length right.now }
-    ensures { result ≡ reach set 0 right.now }
-{
-    let mut rest = set;
-    let mut all = 0;
-    while rest != 0 {
-        let q = least(rest);
-        all |= right.reached(q);
-        rest = without(rest, q);
-    }
-    all
-}
+// A row has 1,024 bits for the marked states and 16 for the unmarked one.
+const SET_BITS: u16 = 1_024;
 
-// The states reached with some mark, from one state over the left text and then over the right one.
-fn composed(unmarked: Option<u8>, marked: u128, right: &Table) -> u128
-    requires unmarked { IfSome unmarked (λ q. q < length right.now) }
-    requires marked { (q : ℕ) → member marked q ≡ true → q < length right.now }
-    ensures { result ≡ (compose_row right.now (record { unmarked = unmarked; marked = marked })).marked }
-{
-    match unmarked {
-        Some(q) => right.marked(q) | reached(marked, right),
-        None => reached(marked, right),
-    }
-}
+const ROW_BITS: usize = 1_040;
 
-/// The table of two texts joined, from the tables of the two. It takes time at most quadratic in the number of states.
-///
-/// # Errors
-///
-/// `NoMemory` if allocation fails.
-pub fn compose(alloc: Global, left: &Table, right: &Table) -> Result<Table, NoMemory>
-    requires { length left.now ≡ length right.now }
-    ensures value { IfOk result (λ t. t ≡ compose_of left.now right.now) }
-    ensures meaning { IfOk result (λ t. (a : DeterministicAutomaton) (s u : List ℕ) → IsDeterministic a
-        → IsTable a s left.now → IsTable a u right.now → IsTable a (s ++ u) t) }
+// A bit of the concatenated rows of the states, or 0 past the end.
+fn rows_bit(classes: &[u16], rows: &Rows, place: usize) -> usize
+    requires { IsClassed classes.now rows.now }
+    ensures { result ≡ rows_bit (table_of classes.now rows.now.rows) place }
 {
-    let mut rows = Rows::with_capacity(alloc, right.states() as usize)?;
-    for p in 0..left.states() {
-        let unmarked = left.unmarked(p);
-        let marked = composed(unmarked, left.marked(p), right);
-        rows.push(unmarked.and_then(|q| right.unmarked(q)), marked)?;
+    let state = place / ROW_BITS;
+    if state >= classes.len() {
+        return 0;
     }
-    Ok(Table { rows })
-}
-
-// The state that the mark reaches, if it isn't 0.
-fn reached_by_mark(dfa: &Dfa, p: u8, byte: u8, mark: u16) -> u128
-    requires automaton { IsDeterministic dfa.now }
-    requires state { p < states_of dfa.now }
-    ensures { result ≡ (if mark == 0 then 0 else single_of (next_of dfa.now p mark byte)) }
-{
-    if mark == 0 {
-        0
+    let row = classes[state] as usize;
+    let place = (place % ROW_BITS) as u16;
+    if place < SET_BITS {
+        rows.marked(row).bit(place) as usize
     } else {
-        single(dfa.next(p, mark, byte))
+        (rows.code(row) >> (place - SET_BITS) & 1) as usize
     }
 }
 
-// The states that the marks other than 0 reach from `p` over the byte.
-fn reached_by_marks(dfa: &Dfa, p: u8, byte: u8) -> u128
-    requires automaton { IsDeterministic dfa.now }
-    requires state { p < states_of dfa.now }
-    ensures { result ≡ reach_by_marks dfa.now p byte (marks_of dfa.now p byte) }
+// Whether each state has the same row in both tables, however their states are in classes.
+fn are_same(classes: &[u16], rows: &Rows, others: &[u16], other_rows: &Rows) -> bool
+    requires left { IsClassed classes.now rows.now }
+    requires right { IsClassed others.now other_rows.now }
+    ensures { result ≡ table_eq (table_of classes.now rows.now.rows) (table_of others.now other_rows.now.rows) }
 {
-    let mut all = 0;
-    for mark in dfa.marks(p, byte) {
-        all |= reached_by_mark(dfa, p, byte, *mark);
+    if classes.len() != others.len() {
+        return false;
     }
-    all
-}
-
-/// The table of one byte. It looks up the automaton's next state once for each state and each mark with a next state
-/// there.
-///
-/// # Errors
-///
-/// `NoMemory` if allocation fails.
-pub fn of_byte(alloc: Global, dfa: &Dfa, byte: u8) -> Result<Table, NoMemory>
-    ensures { IfOk result (λ t. IsTable dfa.now (byte ∷ []) t) }
-{
-    let states = dfa.states();
-    let mut rows = Rows::with_capacity(alloc, states as usize)?;
-    for p in 0..states {
-        rows.push(dfa.next(p, 0, byte), reached_by_marks(dfa, p, byte))?;
+    for p in 0..classes.len() {
+        if !rows.has_row_of(classes[p] as usize, other_rows, others[p] as usize) {
+            return false;
+        }
     }
-    Ok(Table { rows })
+    true
 }

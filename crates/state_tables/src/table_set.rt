@@ -17,7 +17,7 @@ use std::marker::Model;
 /// section 6.3). The lower half of a table's digest chooses the bucket; there are one to two buckets for each table. In
 /// a bucket each table has two links, and one bit at each depth chooses between them: first the bits of the digest's
 /// upper half, then those of the rows. A lookup takes expected constant time. However the tables are chosen, it
-/// compares at most 64 + 136·q tables of q states that aren't equal. The links take 12 to 24 bytes for each table.
+/// compares at most 64 + 1040·q tables of q states that aren't equal. The links take 12 to 24 bytes for each table.
 #[derive(Drop)]
 pub(crate) struct TableSet {
     tables: Vec<Table>,

@@ -26,7 +26,7 @@ const MAX_TABLES: usize = (1 << 32) - 1;
 /// Each distinct table once, under a number from 0, and for each node the number of its table.
 #[derive(Drop)]
 pub struct Tables {
-    states: u8,
+    states: u16,
     kept: TableSet,
     numbers: Vec<u32>,
 }
@@ -95,8 +95,8 @@ impl Tables {
         self.kept(self.number(id))
     }
 
-    /// The number of an equal kept table. If there is none, the table is added last. It takes time linear in the number
-    /// of states, and expected constant time besides. No node's table changes.
+    /// The number of an equal kept table. If there is none, the table is added last. It takes time linear in the size of
+    /// the table, and expected constant time besides. No node's table changes.
     ///
     /// # Errors
     ///

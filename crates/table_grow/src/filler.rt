@@ -82,7 +82,8 @@ impl Filler {
     }
 
     /// The table of a new node, whose children are old or assigned and have the tables of their texts. It takes at most
-    /// as many steps as the square of the automaton's number of states, and memory for the table.
+    /// as many steps as the square of the automaton's number of states, each over a word for every 64 states, and memory for
+    /// the table.
     ///
     /// # Errors
     ///

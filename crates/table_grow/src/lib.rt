@@ -13,8 +13,9 @@
 //! the cache are computed once. What all pieces computed is kept and cached before the next height. The result depends
 //! neither on the cache nor on the workers.
 //!
-//! A composition takes at most as many steps as the square of the automaton's number of states, a cached one expected
-//! constant time. Besides the tables, memory is allocated for an entry for each new node and for the cache.
+//! A composition takes at most as many steps as the square of the automaton's number of states, each over a word for every
+//! 64 states. A cached one takes expected constant time. Besides the tables, memory is allocated for an entry for each new
+//! node and for the cache.
 //!
 //! This is the preparation of M. L. Schmid and N. Schweikardt, *Spanner Evaluation over SLP-Compressed Documents*, PODS
 //! 2021.

@@ -79,6 +79,7 @@ fn counted<R: Threads + Sync, C: Client<K>, K: Sink, P: Ledger, T: Ledger, L: Le
         alloc,
         client,
         2,
+        128,
         out,
         &mut shelf,
         &OpenGate,

@@ -9,7 +9,7 @@ pub use Rattle.edit_expr.specs.Expressions.{ExprReads}
 pub use Rattle.edit_expr.specs.declared.expr.Expr.{Expr}
 pub use Rattle.query_book.specs.Book.{queries_of}
 pub use Rattle.query_book.specs.Serving.{Serves, counted_of, covered_of, sum_of}
-pub use Rattle.query_book.specs.declared.entry.Entry.{Entry}
+pub use Rattle.query_book.specs.Book.{Book}
 pub use Rattle.report_text.specs.Reply.{refusal_text, saved_text}
 pub use Rattle.report_text.specs.declared.refusal.Refusal.{Refusal}
 pub use Rattle.report_text.specs.declared.refusal.Refusal.TheVariants.{BadImage, CannotRead, FileTooLong, NoSuchDocument, NoSuchFile}

@@ -1,6 +1,6 @@
 -- The state after a compaction.
 use Rattle.text_commands.proofs.Names.{[], Accepted, AllByRecursion, Answer, Answers, ap, arith, at, Bool, Carries, Compacts, counted_of, covered_of, Doc}
-use Rattle.text_commands.proofs.Names.{Entry, false, Files, inr, IsConsistent, length, List, map, Named, no_steps, Node, ok_text, Option, pair_weight, Places}
+use Rattle.text_commands.proofs.Names.{Book, false, Files, inr, IsConsistent, length, List, map, Named, no_steps, Node, ok_text, Option, pair_weight, Places}
 use Rattle.text_commands.proofs.Names.{PlacesOfBoth, queries_of, refl, Registers, Serves, SessionState, State, state_of, subst, suc, sum_by-cons, sum_of, sym}
 use Rattle.text_commands.proofs.Names.{Told, true, world, zero, ℕ, ◌*◌, ◌+◌, ◌-◌, ◌∙◌, ◌∷◌, ◌≡◌, ◌≤◌}
 use Rattle.slp_model.proofs.RankLemmas.{rank-most}
@@ -64,15 +64,15 @@ length-moved : (keep : List Bool) (covered : Named ℕ) → length (ranked keep 
 length-moved keep [] = refl
 length-moved keep (p ∷ ps) = ap suc (length-moved keep ps)
 
-module _ (h : SessionState) (store : List Node) (docs : List Doc) (versions : Named (List Doc)) (book : List Entry) (keep : List Bool) (number : ℕ) (answer : Answer) (files : Option Files) (faults looks pairs places : ℕ)
+module _ (h : SessionState) (store : List Node) (docs : List Doc) (versions : Named (List Doc)) (book : Book) (keep : List Bool) (number : ℕ) (answer : Answer) (files : Option Files) (faults looks pairs places : ℕ)
     (is : IsConsistent h) (few : length h.store ≤ 256 + pair_count h.store) (c : IsCompacted h.store h.docs h.versions keep store docs versions)
-    (serves : Serves store book) (same : queries_of book ≡ queries_of h.book) (moved : covered_of book ≡ ranked keep (covered_of h.book)) (counts_moved : counted_of book ≡ ranked keep (counted_of h.book))
+    (serves : Serves store book) (states : book.states ≡ h.book.states) (same : queries_of book ≡ queries_of h.book) (moved : covered_of book ≡ ranked keep (covered_of h.book)) (counts_moved : counted_of book ≡ ranked keep (counted_of h.book))
     (accepted : answer.told ≡ Accepted) (written : answer.line.items ≡ ok_text) where
   abbrev compacted : SessionState
   compacted = record h { store = store; docs = docs; versions = versions; book = book }
 
   same_state : state_of compacted ≡ state_of h
-  same_state = λ i. record { documents = c.texts i; queries = same i; versions = c.versions i }
+  same_state = λ i. record { most_states = states i; documents = c.texts i; queries = same i; versions = c.versions i }
 
   nodes_left : length store ≡ rank keep (length h.store)
   nodes_left = c.trees.long

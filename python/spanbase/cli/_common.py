@@ -8,11 +8,11 @@ from pathlib import Path
 from typing import NoReturn, TypeVar
 
 from spanbase.formula import FormulaError, Untranslatable
+from spanbase.limits import FEWEST_STATES, MOST_STATES
 
 Result = TypeVar("Result")
 
 FOUND, NOT_FOUND, TROUBLE, INTERRUPTED = 0, 1, 2, 130
-TOO_MANY_STATES = "TooManyStates: the automaton of the query has too many states"
 
 
 class Trouble(Exception):
@@ -36,6 +36,13 @@ class Parser(argparse.ArgumentParser):
             "--program", "--shell", dest="program", type=Path, metavar="PATH", help="the spanshell that is run"
         )
         self.add_argument("--workers", type=positive, default=1, metavar="N", help="its threads, 1 by default")
+        self.add_argument(
+            "--states",
+            type=states,
+            default=MOST_STATES,
+            metavar="N",
+            help=f"how many states a query may have, {FEWEST_STATES} to {MOST_STATES:,} (the default)",
+        )
 
 
 def package_version() -> str:
@@ -47,6 +54,12 @@ def package_version() -> str:
 def positive(text: str) -> int:
     if not text.isdecimal() or int(text) == 0:
         raise argparse.ArgumentTypeError(f"{text!r} is no positive number")
+    return int(text)
+
+
+def states(text: str) -> int:
+    if not text.isdecimal() or not FEWEST_STATES <= int(text) <= MOST_STATES:
+        raise argparse.ArgumentTypeError(f"{text!r} isn't a number from {FEWEST_STATES} to {MOST_STATES}")
     return int(text)
 
 

@@ -6,7 +6,7 @@ from collections.abc import Iterator, Sequence
 from dataclasses import dataclass
 
 import spanbase
-from spanbase.cli._common import TOO_MANY_STATES, Parser, Tool, Trouble, shown, translated
+from spanbase.cli._common import Parser, Tool, Trouble, shown, translated
 from spanbase.cli._content import Content
 from spanbase.cli._output import Answer, hull
 from spanbase.formula import Translation, check, translate
@@ -118,8 +118,8 @@ def replies(database: spanbase.Database, lines: Sequence[bytes]) -> list[list[by
 def opened(asked: argparse.Namespace, image: str | os.PathLike[str] | None = None) -> spanbase.Database:
     """A database, with the documents of an image if there is one, by the options of the program."""
     if image is not None:
-        return spanbase.Database.open(image, asked.program, workers=asked.workers)
-    return spanbase.Database(asked.program, workers=asked.workers)
+        return spanbase.Database.open(image, asked.program, workers=asked.workers, states=asked.states)
+    return spanbase.Database(asked.program, workers=asked.workers, states=asked.states)
 
 
 def documents_of(database: spanbase.Database, image: str, names: Sequence[str], tool: Tool) -> Iterator[Searched]:
@@ -166,21 +166,23 @@ class Pattern:
         shown_names = (lines,) if lines else found.variables
         try:
             return Search(database.formula(found.formula), shown_names, found.warnings)
-        except spanbase.TooManyStates:
-            return self.with_gap(database, shown_names, lines)
+        except spanbase.TooManyStates as error:
+            return self.with_gap(database, shown_names, lines, error)
 
     def of_formula(self, database: spanbase.Database) -> Search:
         formula = self.text.replace("\n", r"\n")
         names = translated(lambda: check(formula), formula)
         return Search(database.formula(os.fsencode(formula)), names)
 
-    def with_gap(self, database: spanbase.Database, shown_names: tuple[str, ...], lines: str | None) -> Search:
+    def with_gap(
+        self, database: spanbase.Database, shown_names: tuple[str, ...], lines: str | None, error: spanbase.TooManyStates
+    ) -> Search:
         """The query with a gap captured, such that the program takes it."""
         found = query_with_gap(database, self.text, lambda text: self.translated(names=True, lines=lines, text=text))
         if found is None:
-            raise Trouble(f"{TOO_MANY_STATES}; search for its parts one by one")
+            raise Trouble(f"{error.fact()}; search for its parts one by one")
         if not self.split:
-            raise Trouble(f"{TOO_MANY_STATES}; capture a gap, as --split does: {found.regex}")
+            raise Trouble(f"{error.fact()}; capture a gap, as --split does: {found.regex}")
         return Search(found.query, shown_names, found.translation.warnings)
 
 

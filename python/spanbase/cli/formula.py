@@ -11,7 +11,7 @@ import re
 import sys
 from collections.abc import Callable, Sequence
 
-from spanbase.cli._common import TOO_MANY_STATES, Parser, Tool, Trouble, name_of_language, translated
+from spanbase.cli._common import Parser, Tool, Trouble, name_of_language, translated
 from spanbase.formula import Translation, check, translate
 
 TOOL = Tool("formula")
@@ -42,18 +42,19 @@ def tried(asked: argparse.Namespace, found: Translation, make: Callable[[str], T
     from spanbase.query import query_with_gap
 
     try:
-        with spanbase.Database(asked.program, workers=asked.workers) as database:
+        with spanbase.Database(asked.program, workers=asked.workers, states=asked.states) as database:
             try:
                 database.formula(found.formula)
                 return found
-            except spanbase.TooManyStates:
+            except spanbase.TooManyStates as error:
+                fact = error.fact()
                 better = query_with_gap(database, asked.text, make)
     except spanbase.SpanbaseError as error:
         raise Trouble(str(error)) from None
     if better is None:
-        raise Trouble(f"{TOO_MANY_STATES}; write smaller bounds, or search for its parts by separate queries")
+        raise Trouble(f"{fact}; write smaller bounds, or search for its parts by separate queries")
     if not asked.split:
-        raise Trouble(f"{TOO_MANY_STATES}; capture a gap, as --split does: {better.regex}")
+        raise Trouble(f"{fact}; capture a gap, as --split does: {better.regex}")
     TOOL.say(f"note: the regex with a gap captured: {better.regex}")
     return better.translation
 

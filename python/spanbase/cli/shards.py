@@ -236,6 +236,7 @@ def ask(words: Sequence[str]) -> int:
             client=client,
             program=asked.program,
             workers=asked.workers,
+            states=asked.states,
             retries=asked.retries,
             patience=asked.wait,
             report=lambda failure: TOOL.trouble(shown(str(failure))),

@@ -4,24 +4,24 @@ use Rattle.marker_dfa.proofs.determinise_over.Goals as goal
 pub from_rows-requires-clause-deterministic : goal.from_rows-requires-clause-deterministic
 from_rows-requires-clause-deterministic c =
     let rows = rw (c.deref.ensures.value) at c.in_ok-rows.ensures.rows in
-    rw (c.variables-variables.ensures.value) (is_deterministic c.args.nfa.now c.in_ok-classes.classes c.in_ok-rows.rows.items c.variables-variables.ensures.automaton c.in_ok-classes.ensures.classes (λ e k. c.in_ok-classes.ensures.fit e.letters (c.requires e k)) rows)
+    rw (c.variables-variables.ensures.value) (is_deterministic c.args.most c.args.nfa.now c.in_ok-classes.classes c.in_ok-rows.rows.items c.variables-variables.ensures.automaton c.in_ok-classes.ensures.classes (λ e k. c.in_ok-classes.ensures.fit e.letters (c.requires.letters e k)) rows c.requires.many)
 
 pub from_rows-requires-clause-wide : goal.from_rows-requires-clause-wide
 from_rows-requires-clause-wide c =
     let rows = rw (c.deref.ensures.value) at c.in_ok-rows.ensures.rows in
-    rw (c.variables-variables.ensures.value) (is_wide c.args.nfa.now c.in_ok-classes.classes c.in_ok-rows.rows.items c.variables-variables.ensures.automaton c.in_ok-classes.ensures.classes (λ e k. c.in_ok-classes.ensures.fit e.letters (c.requires e k)) rows)
+    rw (c.variables-variables.ensures.value) (is_wide c.args.most c.args.nfa.now c.in_ok-classes.classes c.in_ok-rows.rows.items c.variables-variables.ensures.automaton c.in_ok-classes.ensures.classes (λ e k. c.in_ok-classes.ensures.fit e.letters (c.requires.letters e k)) rows)
 
 pub returns-clause-states : goal.returns-clause-states
 returns-clause-states c =
     let rows = rw (c.deref.ensures.value) at c.in_ok-rows.ensures.rows in
-    rw (c.from_rows.ensures, c.variables-variables.ensures.value) (stands_for c.args.nfa.now c.in_ok-classes.classes c.in_ok-rows.rows.items c.variables-variables.ensures.automaton c.in_ok-classes.ensures.classes (λ e k. c.in_ok-classes.ensures.fit e.letters (c.requires e k)) rows)
+    rw (c.from_rows.ensures, c.variables-variables.ensures.value) (stands_for c.args.most c.args.nfa.now c.in_ok-classes.classes c.in_ok-rows.rows.items c.variables-variables.ensures.automaton c.in_ok-classes.ensures.classes (λ e k. c.in_ok-classes.ensures.fit e.letters (c.requires.letters e k)) rows)
 
 pub returns-clause-accepts : goal.returns-clause-accepts
 returns-clause-accepts c =
     let rows = rw (c.deref.ensures.value) at c.in_ok-rows.ensures.rows in
-    rw (c.from_rows.ensures, c.variables-variables.ensures.value) (accepts_same c.args.nfa.now c.in_ok-classes.classes c.in_ok-rows.rows.items c.variables-variables.ensures.automaton c.in_ok-classes.ensures.classes (λ e k. c.in_ok-classes.ensures.fit e.letters (c.requires e k)) rows)
+    rw (c.from_rows.ensures, c.variables-variables.ensures.value) (accepts_same c.args.most c.args.nfa.now c.in_ok-classes.classes c.in_ok-rows.rows.items c.variables-variables.ensures.automaton c.in_ok-classes.ensures.classes (λ e k. c.in_ok-classes.ensures.fit e.letters (c.requires.letters e k)) rows)
 
 pub returns-clause-few : goal.returns-clause-few
 returns-clause-few c =
     let rows = rw (c.deref.ensures.value) at c.in_ok-rows.ensures.rows in
-    not_too_many c.args.nfa.now c.in_ok-classes.classes c.in_ok-rows.rows.items c.variables-variables.ensures.automaton c.in_ok-classes.ensures.classes (λ e k. c.in_ok-classes.ensures.fit e.letters (c.requires e k)) rows
+    not_too_many c.args.most c.args.nfa.now c.in_ok-classes.classes c.in_ok-rows.rows.items c.variables-variables.ensures.automaton c.in_ok-classes.ensures.classes (λ e k. c.in_ok-classes.ensures.fit e.letters (c.requires.letters e k)) rows

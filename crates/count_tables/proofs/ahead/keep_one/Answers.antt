@@ -1,4 +1,4 @@
-use Rattle.std.proofs.Common.{◌≡◌, ◌+◌, ◌-◌, ◌<◌, length, sym, subst, ◌∙◌, arith}
+use Rattle.std.proofs.Common.{◌≡◌, ◌+◌, ◌-◌, ◌<◌, length, sym, subst, arith}
 use Rattle.marker_dfa.specs.Deterministic.{states_of}
 use Rattle.count_tables.specs.Ahead.{AreFound, HasTable}
 use Rattle.count_tables.specs.Dictionary.{AreKept}
@@ -8,7 +8,7 @@ use Rattle.count_tables.proofs.ahead.keep_one.Goals as goal
 pub returns-in_err-number-clause-found : goal.returns-in_err-number-clause-found
 returns-in_err-number-clause-found g c =
     let a = c.args.growth.now.dfa.now in
-    let kept : AreKept (states_of c.args.growth.now.dfa.now) c.keep_composed.new.kept = subst (λ n. AreKept n c.keep_composed.new.kept) (c.from-states.ensures ∙ c.states.ensures.value) c.keep_composed.ensures.kept in
+    let kept : AreKept (states_of c.args.growth.now.dfa.now) c.keep_composed.new.kept = subst (λ n. AreKept n c.keep_composed.new.kept) c.states-states.ensures.value c.keep_composed.ensures.kept in
     found-extend a c.args.growth.now.store.now c.args.kept.now c.keep_composed.new.kept c.args.numbers.now c.args.found.now c.keep_composed.ensures.extends kept c.requires.found
 
 pub returns-clause-found : goal.returns-clause-found
@@ -18,7 +18,7 @@ returns-clause-found g c =
     let new = c.keep_composed.new.kept in
     let numbers = c.args.numbers.now in
     let number = c.in_ok-number.ensures.number in
-    let kept : AreKept (states_of c.args.growth.now.dfa.now) c.keep_composed.new.kept = subst (λ n. AreKept n c.keep_composed.new.kept) (c.from-states.ensures ∙ c.states.ensures.value) c.keep_composed.ensures.kept in
+    let kept : AreKept (states_of c.args.growth.now.dfa.now) c.keep_composed.new.kept = subst (λ n. AreKept n c.keep_composed.new.kept) c.states-states.ensures.value c.keep_composed.ensures.kept in
     let are = found-extend a nodes c.args.kept.now new numbers c.args.found.now c.keep_composed.ensures.extends kept c.requires.found in
     let first = c.requires.job.new in
     let last = c.requires.job.live in

@@ -19,7 +19,7 @@ returns-then-index-ways c =
     let left = left-at a p b c.args.after.now ms c.args.from.now.index c.loop-mark.index k 0 c.loop-mark.invariant (omega (arith, c.loop-mark-test.true, ap length e)) in
     let step : next_of a p (get_or ms k 0) b ≡ Some c.in-Some.q = ap (λ ns. next_of a p (get_or ns k 0) b) (sym e) ∙ sym c.next.ensures ∙ c.in-Some.is in (
       get_or ms k 0,
-      rw c.from.ensures (left-found a p b c.args.after.now (get_or ms k 0) (drop (k + 1) ms) c.args.from.now.index c.loop-mark.index left c.in-Some.q step c.if-index-ways.true),
+      left-found a p b c.args.after.now (get_or ms k 0) (drop (k + 1) ms) c.args.from.now.index c.loop-mark.index left c.in-Some.q step c.if-index-ways.true,
       c.with_mark.ensures.value ∙ ap (λ ns. write_mark (get_or ns k 0) c.args.at c.args.from.now.tuple) e,
     )
 

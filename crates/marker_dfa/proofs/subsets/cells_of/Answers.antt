@@ -9,13 +9,13 @@ pub cell_of-requires-clause-readers : goal.cell_of-requires-clause-readers
 cell_of-requires-clause-readers c =
     let r = c.readers-item.result in
     let k = c.loop-readers.readers-index in
-    let there : slice_get c.args.by_byte.now k ≡ Some r = slice_get-get_or c.args.by_byte.now k r c.loop-readers-test.true ∙ ap Some (sym c.readers-item.is) in
+    let there : slice_get c.args.plan.now.by_byte.items k ≡ Some r = ap (λ l. slice_get l k) (sym c.deref-readers-items.ensures.value) ∙ slice_get-get_or c.deref-readers-items.result.now k r c.loop-readers-test.true ∙ ap Some (sym c.readers-item.is) in
     c.requires.readers k r there
 
 pub loop-readers-preserved : goal.loop-readers-preserved
 loop-readers-preserved c =
     let r = c.readers-item.result in
     let k = c.loop-readers.readers-index in
-    let there : slice_get c.args.by_byte.now k ≡ Some r = slice_get-get_or c.args.by_byte.now k r c.loop-readers-test.true ∙ ap Some (sym c.readers-item.is) in
-    let at : slice_get (bytes_of c.args.by_byte.now) k ≡ Some r.byte = byte_at c.args.by_byte.now k r there in
-    rw (c.in_ok-push.ensures.items) (so_far_more c.args.nfa.now c.args.exits.now.from (bytes_of c.args.by_byte.now) k _ _ _ _ _ c.in_ok-cell.cell at c.loop-readers.invariant c.in_ok-cell.ensures.found c.in_ok-cell.ensures.extends c.in_ok-cell.ensures.cell)
+    let there : slice_get c.args.plan.now.by_byte.items k ≡ Some r = ap (λ l. slice_get l k) (sym c.deref-readers-items.ensures.value) ∙ slice_get-get_or c.deref-readers-items.result.now k r c.loop-readers-test.true ∙ ap Some (sym c.readers-item.is) in
+    let at : slice_get (bytes_of c.args.plan.now.by_byte.items) k ≡ Some r.byte = byte_at c.args.plan.now.by_byte.items k r there in
+    rw (c.in_ok-push.ensures.items) (so_far_more c.args.plan.now.most c.args.nfa.now c.args.exits.now.from (bytes_of c.args.plan.now.by_byte.items) k _ _ _ _ _ c.in_ok-cell.cell at c.loop-readers.invariant c.in_ok-cell.ensures.found c.in_ok-cell.ensures.extends c.in_ok-cell.ensures.cell)

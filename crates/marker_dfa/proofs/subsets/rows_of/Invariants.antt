@@ -3,7 +3,7 @@ use Rattle.marker_dfa.specs.Making.{AreRows}
 use Rattle.marker_dfa.proofs.subsets.rows_of.Given as goal
 
 abbrev pub invariant-rows : goal.invariant-rows
-invariant-rows l = AreRows l.nfa l.sets.items l.bytes l.rows.items
+invariant-rows l = AreRows l.most l.nfa l.found.sets.items l.bytes l.rows.items
 
 abbrev pub decreases-rows : goal.decreases-rows
-decreases-rows l = 128 - vec_len l.rows
+decreases-rows l = l.most - vec_len l.rows

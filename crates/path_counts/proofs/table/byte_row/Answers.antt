@@ -1,16 +1,12 @@
-use Rattle.std.proofs.Common.{Some, ◌<◌, length, arith, ap, sym, ◌∙◌}
+use Rattle.std.proofs.Common.{◌<◌, length, arith}
 use Rattle.path_counts.specs.Counting.{number_by_marks}
 use Rattle.marker_dfa.specs.Deterministic.{marks_of}
 use Rattle.path_counts.proofs.Adding.{sums-one}
 use Rattle.path_counts.proofs.table.byte_row.Goals as goal
-use Rattle.path_counts.proofs.table.byte_row.Goals.{in-Some, in-None}
 
 pub returns-clause-row : goal.returns-clause-row
 returns-clause-row c = record {
-  unmarked = elim c.match-next.branch [
-    | in-Some w ↦ w.unmarked-is ∙ ap Some w.from.ensures ∙ sym w.in-Some.is ∙ c.next.ensures
-    | in-None w ↦ w.unmarked-is ∙ sym w.in-None.is ∙ c.next.ensures
-  ];
+  unmarked = c.next.ensures;
   numbers = λ q lt.
       let first : q < length c.args.sums.now = omega (arith, lt, c.requires.long) in
       let second : q < length c.add_marks.new.sums = omega (arith, first, c.add_marks.auto.sums) in

@@ -16,7 +16,7 @@ many_by (Err TooManyStates) P Q f h = f h
 many_by (Err NoMemory) P Q f h = tt
 
 pub returns-clause-few : goal.returns-clause-few
-returns-clause-few c = few_by c.determinise.result _ _ (leaf-automata.count (tree_of c.args.formula.now) [] c.in_ok-nfa.nfa c.in_ok-nfa.ensures.parts).1 c.determinise.ensures.few
+returns-clause-few c = few_by c.determinise_within.result _ _ (leaf-automata.count c.args.most (tree_of c.args.formula.now) [] c.in_ok-nfa.nfa c.in_ok-nfa.ensures.parts).1 c.determinise_within.ensures.few
 
 pub returns-clause-many : goal.returns-clause-many
-returns-clause-many c = many_by c.determinise.result _ _ (leaf-automata.count (tree_of c.args.formula.now) [] c.in_ok-nfa.nfa c.in_ok-nfa.ensures.parts).0 c.determinise.ensures.too_many
+returns-clause-many c = many_by c.determinise_within.result _ _ (leaf-automata.count c.args.most (tree_of c.args.formula.now) [] c.in_ok-nfa.nfa c.in_ok-nfa.ensures.parts).0 c.determinise_within.ensures.too_many

@@ -5,8 +5,8 @@ use Rattle.query_book.proofs.ByteSets.{reads-bytes}
 use Rattle.query_book.proofs.Numbered.{reads_bound}
 use Rattle.query_book.proofs.compiled.compile.Goals as goal
 
-pub compile_leaf-requires : goal.compile_leaf-requires
-compile_leaf-requires c =
+pub compile_leaf-requires-clause-read : goal.compile_leaf-requires-clause-read
+compile_leaf-requires-clause-read c =
     let d = c.in-Ok.ensures.0 in
     let m = c.in-Ok.ensures.1 in
     let fault = c.in-Ok.ensures.2 in

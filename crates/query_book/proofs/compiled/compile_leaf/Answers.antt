@@ -12,12 +12,12 @@ returns-clause-compiled c =
     let a = c.in-Ok.ensures.automaton in
     let f = tree_of c.args.formula in
     let d = c.in-Ok.dfa in
-    let is = leaf-automata.automaton f c.args.vars a.automaton d c.requires.numbers a.positions a.states a.same in
+    let is = leaf-automata.automaton f c.args.vars a.automaton d c.requires.read.numbers a.positions a.states a.same in
     record {
       parts = refl;
       few_parts = omega arith;
       names = c.in_ok-names.ensures;
-      defines = leaf-defines f c.args.vars a.automaton d c.requires.within c.requires.numbers c.count-count.ensures.vars a.positions a.same;
+      defines = leaf-defines f c.args.vars a.automaton d c.requires.read.within c.requires.read.numbers c.count-count.ensures.vars a.positions a.same;
       tree = is;
-      bytes = reads-by (suc (sets f)) (Steps f) (IsEnd f) d (steps-bytes f c.requires.bytes) is.automaton;
+      bytes = reads-by (suc (sets f)) (Steps f) (IsEnd f) d (steps-bytes f c.requires.read.bytes) is.automaton;
     }

@@ -16,3 +16,9 @@ returns-in_err-answers-in-At g c =
     let r = c.from_residual-in_err-answers-in-At in
     let l = c.start_at.ensures.list in
     begins_at (query_of s.query.now.tree) (text_of s.query.now.nodes s.root) c.args.start.now r.result c.args.looks.now c.start_at.new.looks _ l.all c.in-At.is l.answers (no_value r.result _ _ r.ensures.1) c.start_at.ensures.cost
+
+pub returns-in_ok-answers-in-At : goal.returns-in_ok-answers-in-At
+returns-in_ok-answers-in-At g c =
+    let s = c.args.subject in
+    let l = c.in_ok-answers-in-At.ensures.listing in
+    begins_at (query_of s.query.now.tree) (text_of s.query.now.nodes s.root) c.args.start.now _ c.args.looks.now c.start_at.new.looks _ l.all c.in-At.is l.answers (record { cursor = l.cursor; iterator = l.iterator; after = l.after }) c.start_at.ensures.cost

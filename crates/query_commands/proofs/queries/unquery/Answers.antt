@@ -1,4 +1,4 @@
-use Rattle.query_commands.proofs.Names.{ap, counted_of, covered_of, Entry, IsSome, length, List, queries_of, refl, state_of, subst, sym, taken_out, value_of, ℕ, ◌∙◌}
+use Rattle.query_commands.proofs.Names.{ap, counted_of, covered_of, Book, IsSome, length, List, queries_of, refl, state_of, subst, sym, taken_out, value_of, ℕ, ◌∙◌}
 use Rattle.session_state.specs.SessionState.{tables_of}
 use Rattle.script_syntax.specs.declared.form.Command.TheVariants as form
 use Rattle.query_commands.proofs.Facts.{booked_answers, never, passed_on, stays, tables-within, take_placed, unquery_carries}
@@ -11,7 +11,7 @@ pub returns-in-Ok-clause-done : goal.returns-in-Ok-clause-done
 returns-in-Ok-clause-done c = λ files faults looks pairs places.
     let h = c.args.session.now in
     let told = c.accepted.result.told in
-    booked_answers h c.remove.new.self c.args.number (form.Unquery c.args.name) c.accepted.result files faults looks pairs places 0 c.requires (c.remove.ensures.serves h.store c.requires.serves) refl
+    booked_answers h c.remove.new.self c.args.number (form.Unquery c.args.name) c.accepted.result files faults looks pairs places 0 c.requires (c.remove.ensures.serves h.store c.requires.serves) c.remove.ensures.states refl
     (never _ (λ no. no) told) (never _ (λ no. no) told)
     (take_placed (length h.store) places (tables_of h.book) (tables_of c.remove.new.self) c.args.name (c.remove.ensures.covered ∙ ap (λ (n : List ℕ). taken_out (covered_of h.book) n) c.bytes.ensures.value)
     (c.remove.ensures.counted ∙ ap (λ (n : List ℕ). taken_out (counted_of h.book) n) c.bytes.ensures.value) (tables-within h.store h.book c.requires.serves))
@@ -23,7 +23,7 @@ pub returns-in-Err : goal.returns-in-Err
 returns-in-Err c =
     let h = c.args.session.now in
     let missing = ap (λ (n : List ℕ). value_of (queries_of h.book) n) (sym c.bytes.ensures.value) ∙ c.in-Err.ensures.missing.none in
-    let same = ap (λ (es : List Entry). record h { book = es }) c.in-Err.ensures.err in
+    let same = ap (λ (b : Book). record h { book = b }) c.in-Err.ensures.err in
     record {
       done = λ files faults looks pairs places. c.reject.ensures.done h (form.Unquery c.args.name) files faults looks pairs places (record { session = c.requires; refused = (missing, refl); free = refl }) same;
       stopped = c.reject.ensures.stopped h (form.Unquery c.args.name) c.requires same;

@@ -1,5 +1,4 @@
-use Rattle.std.proofs.Common.{◌≡◌, ℕ, ◌+◌, subst, arith}
-use Rattle.marker_nfa.specs.Parts.{Adds}
+use Rattle.std.proofs.Common.{◌≡◌, ◌+◌, arith}
 use Rattle.marker_dfa.specs.Deterministic.{states_of}
 use Rattle.span_algebra.specs.Making.{IsEdgeAmong}
 use Rattle.span_algebra.proofs.EdgeLaws.{ok-by, adds-next, copied-edges}
@@ -7,8 +6,7 @@ use Rattle.span_algebra.proofs.copies.push_edges.Goals as goal
 
 pub loop-state-preserved : goal.loop-state-preserved
 loop-state-preserved c =
-    let P : ℕ → Type 0 = λ q. Adds c.loop-state.edges.items c.push_state.new.edges.items (IsEdgeAmong c.args.copy.dfa.now c.args.copy.places.now (c.args.copy.base + q) c.args.copy.base c.loop-state.state c.args.classes.now) in
-    adds-next _ _ _ (λ q. IsEdgeAmong c.args.copy.dfa.now c.args.copy.places.now (c.args.copy.base + q) c.args.copy.base q c.args.classes.now) c.loop-state.state c.loop-state.invariant (subst P c.from.ensures c.in_ok-push_state.ensures)
+    adds-next _ _ _ (λ q. IsEdgeAmong c.args.copy.dfa.now c.args.copy.places.now (c.args.copy.base + q) c.args.copy.base q c.args.classes.now) c.loop-state.state c.loop-state.invariant c.in_ok-push_state.ensures
 
 pub returns : goal.returns
 returns c =

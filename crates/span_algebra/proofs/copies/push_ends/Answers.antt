@@ -1,5 +1,4 @@
-use Rattle.std.proofs.Common.{◌≡◌, ℕ, ◌+◌, subst, arith}
-use Rattle.marker_nfa.specs.Parts.{Adds}
+use Rattle.std.proofs.Common.{◌≡◌, ◌+◌, arith}
 use Rattle.marker_dfa.specs.Deterministic.{states_of}
 use Rattle.span_algebra.specs.Making.{IsEndOf}
 use Rattle.span_algebra.proofs.EdgeLaws.{ok-by, adds-next, copied-ends}
@@ -7,8 +6,7 @@ use Rattle.span_algebra.proofs.copies.push_ends.Goals as goal
 
 pub loop-state-preserved : goal.loop-state-preserved
 loop-state-preserved c =
-    let P : ℕ → Type 0 = λ q. Adds c.loop-state.ends.items c.push_state_ends.new.ends.items (IsEndOf c.args.copy.dfa.now c.args.copy.places.now (c.args.copy.base + q) c.loop-state.state) in
-    adds-next _ _ _ (λ q. IsEndOf c.args.copy.dfa.now c.args.copy.places.now (c.args.copy.base + q) q) c.loop-state.state c.loop-state.invariant (subst P c.from.ensures c.in_ok-push_state_ends.ensures)
+    adds-next _ _ _ (λ q. IsEndOf c.args.copy.dfa.now c.args.copy.places.now (c.args.copy.base + q) q) c.loop-state.state c.loop-state.invariant c.in_ok-push_state_ends.ensures
 
 pub returns : goal.returns
 returns c =

@@ -4,4 +4,4 @@ use Rattle.span_algebra.specs.Products.{IsPairStepBy}
 use Rattle.span_algebra.proofs.product.push_class.Given as goal
 
 abbrev pub invariant-loop-joint : goal.invariant-loop-joint
-invariant-loop-joint l = Adds l.fn.edges.items l.edges.items (EachBefore (IsPairStepBy l.sides.left.now l.sides.right.now l.pair.left l.pair.right l.class) l.joint-items l.joint-index)
+invariant-loop-joint l = Adds l.fn.steps.items l.steps.items (EachBefore (IsPairStepBy l.sides.left.now l.sides.right.now l.pair l.class) l.joint-items l.joint-index)

@@ -18,12 +18,12 @@ returns-clause-answers c = let a = c.args.left.dfa.now in let va = c.args.left.n
 
 pub returns-clause-few : goal.returns-clause-few
 returns-clause-few c =
-    ok-map c.determined.result _ _ (λ d h k. h (count-moved (turned (parts-matched c.in_ok-nfa.ensures.made.parts)) 128 k)) c.determined.ensures.few
+    ok-map c.determined.result _ _ (λ d h k. h (count-moved (turned (parts-matched c.in_ok-nfa.ensures.made.parts)) c.args.most k)) c.determined.ensures.few
 
 pub returns-clause-refused : goal.returns-clause-refused
 returns-clause-refused c = let va = c.args.left.names.now in let vb = c.args.right.names.now in
     let few : length (both_names va vb) ≤ 8 = omega (arith, c.count-variables.ensures.vars.few, ap length c.requires.names) in
-    refused-by c.determined.result _ _ _ few (count-moved (parts-matched c.in_ok-nfa.ensures.made.parts) 128) c.determined.ensures.refused
+    refused-by c.determined.result _ _ _ few (count-moved (parts-matched c.in_ok-nfa.ensures.made.parts) c.args.most) c.determined.ensures.refused
 
-pub determined-requires : goal.determined-requires
-determined-requires c = same-letters c.in_ok-nfa.nfa.edges c.deref.result.now c.deref-2.result.now c.in_ok-classes.classes.items c.deref.ensures.value c.deref-2.ensures.value c.in_ok-nfa.ensures.letters
+pub determined-requires-clause-letters : goal.determined-requires-clause-letters
+determined-requires-clause-letters c = same-letters c.in_ok-nfa.nfa.edges c.deref.result.now c.deref-2.result.now c.in_ok-classes.classes.items c.deref.ensures.value c.deref-2.ensures.value c.in_ok-nfa.ensures.letters

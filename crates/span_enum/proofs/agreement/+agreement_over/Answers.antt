@@ -1,6 +1,8 @@
 use Rattle.span_enum.proofs.Base.{arith, mark_count, member, reached, Some, subst, sym, text_at, true, word_over, ℕ, ◌*◌, ◌++◌, ◌+◌, ◌<◌, ◌≡◌, ◌≤◌}
 use Rattle.span_enum.proofs.Agreed.{agree-right, left-lookups, right-lookups, until-left}
-use Rattle.span_enum.proofs.Chains.{Fork, fork, fork-height}
+use Rattle.std.proofs.Common.{rules}
+use Rattle.span_enum.proofs.Chains.{Fork, ahead-left, ahead-right, fork, fork-height}
+use Rattle.span_enum.proofs.Runs.{run-within}
 use Rattle.span_enum.proofs.Tables.{pair-text}
 use Rattle.span_enum.specs.Agreement.{AgreesUntil, IsAgreement, path_lookups}
 use Rattle.span_enum.specs.Trail.{height_at}
@@ -23,6 +25,22 @@ both g t c =
     let h = c.args.here.now in
     let right = subst (λ n. IsAgreement input.dfa.now c.in-Whole.q c.args.t.now (h.at + n) (text_at input c.in-Pair.r.index) h.goals c.agreement_over-in-Whole.result) c.look-left.ensures.look.len_is c.agreement_over-in-Whole.ensures.agreement in
     agree-right input.dfa.now c.args.p c.in-Whole.q h.at c.args.t.now (text_at input c.in-Pair.l.index) (text_at input c.in-Pair.r.index) h.goals c.agreement_over-in-Whole.result c.in-Whole.ensures.agreement.0 right
+
+pub agreement_over-requires : goal.agreement_over-requires
+agreement_over-requires g t c κs within =
+    let f = pair g t (goal.at.agreement_over-requires g t c).After-look-right in
+    let child = ahead-left c.args.input.now c.args.here.now c.in-Pair.l c.in-Pair.r c.look-left.result c.look-right.result f c.goals_between-between.result c.args.here.now.next in
+    let can = c.goals_between-between.ensures.can c.requires.can in
+    (omega (arith, c.decreases, f.pair.1), (within, ((λ a m. search rules), (omega (arith, c.requires.input.narrow), (omega (arith, c.requires.input.narrow), (c.requires.input, (child, (c.requires.state, can))))))))
+
+pub agreement_over-requires-in-Whole : goal.agreement_over-requires-in-Whole
+agreement_over-requires-in-Whole g t c κs within =
+    let f = pair g t (goal.at.agreement_over-requires-in-Whole g t c).After-look-right in
+    let sibling = ahead-right c.args.input.now c.args.here.now c.in-Pair.l c.in-Pair.r c.look-left.result c.look-right.result f in
+    let agrees = c.in-Whole.ensures.agreement in
+    let state = run-within c.args.input.now.dfa.now c.requires.input.automaton c.args.p c.in-Whole.q _ c.requires.state agrees.0 in
+    let can = c.goals_between-between.ensures.on c.in-Whole.q agrees.1 in
+    (omega (arith, c.decreases, f.pair.2), (within, ((λ a m. search rules), (omega (arith, c.requires.input.narrow), (omega (arith, c.requires.input.narrow), (c.requires.input, (sibling, (state, can))))))))
 
 pub returns-in-Whole-clause-agreement : goal.returns-in-Whole-clause-agreement
 returns-in-Whole-clause-agreement g t c =

@@ -1,4 +1,4 @@
-use Rattle.span_enum.proofs.Base.{[], ap, arith, height, height-by_leaves, length, length-text, looks_limit, mark_count, reached, refl, Some, subst, sym, text, text_of, tree, whole_text, word_over, ◌*◌, ◌+◌, ◌<◌, ◌∷◌, ◌≡◌, ◌≤◌}
+use Rattle.span_enum.proofs.Base.{IsAhead, [], ap, arith, height, height-by_leaves, length, length-text, looks_limit, mark_count, reached, refl, Some, subst, sym, text, text_of, tree, whole_text, word_over, ◌*◌, ◌+◌, ◌<◌, ◌∷◌, ◌≡◌, ◌≤◌}
 use Rattle.span_enum.proofs.LastEnds.{late-end, until-end, whole-end}
 use Rattle.span_enum.proofs.Roots.{input-text}
 use Rattle.span_enum.proofs.Runs.{run-from_accepted, table-from_run}
@@ -30,17 +30,20 @@ root-text g c = ap (text_of c.args.input.now.view.store.now) c.in-Some.is
 is-text : (g : Over) (c : After-look-look g) → IsText (whole_text c.args.input.now)
 is-text g c = input-text c.args.input.now c.requires.input (omega (arith, c.requires.end, c.requires.low))
 
-pub agreement_over-requires-clause-can : goal.agreement_over-requires-clause-can
-agreement_over-requires-clause-can g c =
+pub agreement_over-requires : goal.agreement_over-requires
+agreement_over-requires g c =
     let input = c.args.input.now in
     let a = input.dfa.now in
     let auto = c.requires.input.automaton in
-    let k = (goal.at.agreement_over-requires-clause-can g c).After-look-look in
+    let k = (goal.at.agreement_over-requires g c).After-look-look in
     let live : c.in-Some.id.index < length input.view.store.now = rw c.in-Some.is at c.requires.input.ready.live in
     let is = look-table a input.view.store.now input.view.tables.now c.requires.input.ready.tables input.view.counted c.in-Some.id.index _ _ _ live c.look-look.ensures.look in
     let accepted = accepted-from_some a auto (whole_text input) (is-text g k) (Some c.requires.some.span ∷ [], c.requires.some.member) in
     let run = subst (λ x. CanRun a 0 x input.finals) (root-text g k) (run-from_accepted a auto input.finals c.requires.input.all (whole_text input) accepted) in
-    table-from_run a (text (tree input.view.store.now c.in-Some.id.index)) c.look-look.result.table.now 0 input.finals is auto.has_start run
+    let can = table-from_run a (text (tree input.view.store.now c.in-Some.id.index)) c.look-look.result.table.now 0 input.finals is auto.has_start run in
+    let look = c.look-look.ensures.look in
+    let ahead : IsAhead input (record { id = c.in-Some.id; look = c.look-look.result; at = 1; goals = input.finals; quiet = input.quiet; next = 0 }) = record { live = live; look = look; positive = omega arith; low = omega (arith, look.short, look.len_is) } in
+    (omega (arith, c.requires.input.narrow), (omega (arith, c.requires.input.narrow), (c.requires.input, (ahead, (auto.has_start, can)))))
 
 pub returns-in-None-clause-end : goal.returns-in-None-clause-end
 returns-in-None-clause-end g c =

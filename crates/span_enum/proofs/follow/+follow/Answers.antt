@@ -1,4 +1,5 @@
 use Rattle.span_enum.proofs.Base.{Lays, None, [], ap, arith, length, length-append, mark_of, step_of, sym, ℕ, ◌+◌, ◌<◌, ◌∙◌, ◌∷◌, ◌≡◌}
+use Rattle.std.proofs.Common.{rules}
 use Rattle.span_enum.proofs.Chains.{next-there}
 use Rattle.span_enum.proofs.Kept.{last-same}
 use Rattle.span_enum.proofs.Walks.{StandsOver, comes-there, followed-dead, followed-fails, followed-last, followed-on, followed-stuck, lays-goes, lays-way, most, over-down, over-early, over-few, over-node}
@@ -6,11 +7,11 @@ use Rattle.span_enum.proofs.follow.+follow.Given.{Over}
 use Rattle.span_enum.proofs.follow.+follow.Goals.{After-ahead_at, After-last_of-last}
 use Rattle.span_enum.proofs.follow.+follow.Goals as goal
 
-pub pass_to-requires-clause-stands : goal.pass_to-requires-clause-stands
-pass_to-requires-clause-stands g t c =
+pub pass_to-requires : goal.pass_to-requires
+pass_to-requires g t c =
     let f = c.requires.can.1 in
     let first = c.first_mark-to.ensures in
-    (c.args.from.at, (c.requires.can.0, f.behind.stands, first.from, most _ _ _ _ _ _ _ f _ first.from (omega (arith, first.end, c.requires.end)) first.none))
+    (omega (arith, c.requires.input.narrow), (omega (arith, c.requires.input.narrow), (c.requires.input, (c.args.from.at, (c.requires.can.0, f.behind.stands, first.from, most _ _ _ _ _ _ _ f _ first.from (omega (arith, first.end, c.requires.end)) first.none)))))
 
 pub returns-in_err-place-clause-followed : goal.returns-in_err-place-clause-followed
 returns-in_err-place-clause-followed g t c =
@@ -29,24 +30,25 @@ pub ahead_at-requires : goal.ahead_at-requires
 ahead_at-requires g t c =
     let first = c.first_mark-to.ensures in
     let p = (comes-there _ _ _ _ _ _ _ c.requires.can.1 _ first.from (omega (arith, first.end, c.requires.end)) first.none c.in_ok-place.place c.in_ok-place.ensures).0.passes in
-    next-there c.args.trail.now.ahead.items c.in_ok-place.place.next p.back p.stands.ahead (omega (arith, c.if-place-eq0.false))
+    (omega (arith, c.requires.input.narrow), (omega (arith, c.requires.input.narrow), next-there c.args.trail.now.ahead.items c.in_ok-place.place.next p.back p.stands.ahead (omega (arith, c.if-place-eq0.false))))
 
 -- the node over the position
 over : (g : Over) (t : ℕ) (c : After-ahead_at g t)
-    → StandsOver c.args.input.now c.args.t.now c.args.trail.now.ahead.items c.first_mark-to.result c.in_ok-place.place c.args.trail.now.marks.items c.ahead_at.result.now
+    → StandsOver c.args.input.now c.args.t.now c.args.trail.now.ahead.items c.first_mark-to.result c.in_ok-place.place c.args.trail.now.marks.items c.ahead_at.result
 over g t c =
     let first = c.first_mark-to.ensures in
-    over-node _ _ _ _ _ _ _ c.requires.can.1 _ first.from (omega (arith, first.end, c.requires.end)) first.none c.requires.input c.in_ok-place.place c.ahead_at.result.now
+    over-node _ _ _ _ _ _ _ c.requires.can.1 _ first.from (omega (arith, first.end, c.requires.end)) first.none c.requires.input c.in_ok-place.place c.ahead_at.result
     c.in_ok-place.ensures (omega (arith, c.if-place-eq0.false)) c.ahead_at.ensures
 
 -- the end isn't reached, so the tuple has a mark there
 marked : (g : Over) (t : ℕ) (c : After-ahead_at g t) → 0 < mark_of c.args.t.now c.first_mark-to.result
 marked g t c = c.first_mark-to.ensures.some (omega (arith, over-early _ _ _ _ _ _ _ (over g t c), c.requires.end))
 
-pub reach-comes-requires-clause-down : goal.reach-comes-requires-clause-down
-reach-comes-requires-clause-down g t c =
-    let at = (goal.at.reach-comes-requires-clause-down g t c).After-ahead_at in
-    rw c.len-base.ensures.value (over-down _ _ _ _ _ _ _ (over g t at) c.args.input.now.dfa.now.variables _ _ c.requires.tuple (marked g t at) c.requires.room)
+pub reach-comes-requires : goal.reach-comes-requires
+reach-comes-requires g t c =
+    let at = (goal.at.reach-comes-requires g t c).After-ahead_at in
+    let down = over-down _ _ _ _ _ _ _ (over g t at) c.args.input.now.dfa.now.variables _ _ c.requires.tuple (marked g t at) c.requires.room in
+    rw c.len-base.ensures.value (omega (arith, c.requires.input.narrow), (omega (arith, c.requires.input.narrow), (omega (arith, c.requires.input.narrow), (c.requires.input, (down, (over g t at).over)))))
 
 pub returns-then-not-comes-clause-followed : goal.returns-then-not-comes-clause-followed
 returns-then-not-comes-clause-followed g t c =
@@ -55,7 +57,7 @@ returns-then-not-comes-clause-followed g t c =
     _ _ (rw c.len-base.ensures.value at c.if-not-comes.ensures.laid) c.reach-comes.ensures.cost)
 
 -- the way down to the position was laid
-laid : (g : Over) (t : ℕ) (c : After-last_of-last g t) → Lays c.args.input.now c.args.t.now c.ahead_at.result.now c.in_ok-place.place.state c.first_mark-to.result (length c.args.trail.now.ahead.items)
+laid : (g : Over) (t : ℕ) (c : After-last_of-last g t) → Lays c.args.input.now c.args.t.now c.ahead_at.result c.in_ok-place.place.state c.first_mark-to.result (length c.args.trail.now.ahead.items)
     c.args.trail.now.marks.items c.reach-comes.new.trail.marks.items c.args.trail.now.ahead.items c.reach-comes.new.trail.ahead.items
 laid g t c = rw c.len-base.ensures.value at c.if-not-comes.ensures.laid
 
@@ -87,7 +89,7 @@ follow-requires g t c κs within =
     let can = lays-goes _ _ _ _ _ _ _ (over g t at) _ _ k (marked g t at) c.requires.input.automaton c.in_ok-state.state c.last_of-last.result.now (same g t last) (sym c.in_ok-state.ensures.value) in
     let q = c.requires in
     let room = c.reach-comes.ensures.room in
-    (omega (arith, c.decreases, more, few), (within, (q.input, (q.tuple, (q.end, (can, record { marks_fit = omega (arith, q.room.marks_fit, room); ahead_fits = omega (arith, q.room.ahead_fits, room) }))))))
+    (omega (arith, c.decreases, more, few), (within, ((λ a m. search rules), (omega (arith, c.requires.input.narrow), (omega (arith, c.requires.input.narrow), (q.input, (q.tuple, (q.end, (can, record { marks_fit = omega (arith, q.room.marks_fit, room); ahead_fits = omega (arith, q.room.ahead_fits, room) })))))))))
 
 pub returns-clause-followed : goal.returns-clause-followed
 returns-clause-followed g t c =

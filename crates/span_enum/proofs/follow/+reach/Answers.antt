@@ -1,4 +1,5 @@
 use Rattle.span_enum.proofs.Base.{arith, sym, ℕ, ◌∙◌}
+use Rattle.std.proofs.Common.{rules}
 use Rattle.span_enum.proofs.Chains.{Fork, down-left, down-right, fork, fork-size}
 use Rattle.span_enum.proofs.Runs.{tells}
 use Rattle.span_enum.proofs.Ways.{fails-here, laid-left, laid-right, lays-mark}
@@ -23,7 +24,7 @@ reach-requires g t c κs within =
     let down = down-left c.args.input.now c.args.descent.now.here c.in-Pair.l c.in-Pair.r _ _ f c.args.descent.now.state c.args.descent.now.base c.args.trail.now.marks.items _ c.args.trail.now.ahead.items _ c.requires.down c.goals_between-between.result in
     let put = c.go_left.ensures in
     rw (put.child, put.room, put.marks, put.items)
-    (omega (arith, c.decreases, f.pair.1), (within, (c.requires.input, (down, record { from = c.requires.over.from; before = omega (arith, c.if-to-descent.true, c.look-left.ensures.look.len_is) }))))
+    (omega (arith, c.decreases, f.pair.1), (within, ((λ a m. search rules), (omega (arith, c.requires.input.narrow), (omega (arith, c.requires.input.narrow), (omega (arith, c.requires.input.narrow), (c.requires.input, (down, record { from = c.requires.over.from; before = omega (arith, c.if-to-descent.true, c.look-left.ensures.look.len_is) }))))))))
 
 pub returns-then-to-descent-clause-laid : goal.returns-then-to-descent-clause-laid
 returns-then-to-descent-clause-laid g t c =
@@ -41,7 +42,7 @@ reach-requires-in-Some g t c κs within =
     let down = down-right c.args.input.now c.args.descent.now.here c.in-Pair.l c.in-Pair.r _ _ f c.args.descent.now.state c.args.descent.now.base c.args.trail.now.marks.items _ c.args.trail.now.ahead.items _ c.requires.down c.in-Some.q
     (omega (arith, c.in-Some.ensures.within, f.left_is.shape.states)) in
     rw c.go_right.ensures
-    (omega (arith, c.decreases, f.pair.2), (within, (c.requires.input, (down, record { from = omega (arith, c.if-to-descent.false); before = omega (arith, c.requires.over.before, size) }))))
+    (omega (arith, c.decreases, f.pair.2), (within, ((λ a m. search rules), (omega (arith, c.requires.input.narrow), (omega (arith, c.requires.input.narrow), (omega (arith, c.requires.input.narrow), (c.requires.input, (down, record { from = omega (arith, c.if-to-descent.false); before = omega (arith, c.requires.over.before, size) }))))))))
 
 pub returns-in-Some-clause-laid : goal.returns-in-Some-clause-laid
 returns-in-Some-clause-laid g t c =

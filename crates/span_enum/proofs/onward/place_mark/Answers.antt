@@ -1,30 +1,30 @@
-use Rattle.span_enum.proofs.Base.{[], append-nil, arith, mark_over, marked_of, refl, sym, text_at, ℕ, ◌<◌, ◌^◌}
+use Rattle.span_enum.proofs.Base.{[], append-nil, arith, mark_over, refl, sym, text_at, ℕ, ◌<◌}
 use Rattle.span_enum.proofs.Runs.{Tells}
 use Rattle.span_enum.proofs.Tables.{IsMarkInto, byte-text, look-table, mark-into}
 use Rattle.span_enum.proofs.Ways.{meets-byte}
-use Rattle.span_enum.proofs.onward.place_mark.Goals.{After-marked-marked}
+use Rattle.span_enum.proofs.onward.place_mark.Goals.{Start}
 use Rattle.span_enum.proofs.onward.place_mark.Goals as goal
+use Rattle.span_enum.proofs.onward.place_mark.Given.{Over}
 
 -- what the table of the letter says, and a mark that leads into a goal
-tells-all : (c : After-marked-marked) → Tells c.args.input.now.dfa.now (text_at c.args.input.now c.args.descent.now.here.id.index) c.args.descent.now.here.look.table.now
+tells-all : (g : Over) (c : Start g) → Tells c.args.input.now.dfa.now (text_at c.args.input.now c.args.descent.now.here.id.index) c.args.descent.now.here.look.table.now
     × ((m : ℕ) × ((q : ℕ) × IsMarkInto c.args.input.now.dfa.now c.args.descent.now.state c.args.byte c.args.descent.now.here.goals m q))
-tells-all c =
+tells-all g c =
     let input = c.args.input.now in
     let h = c.args.descent.now.here in
-    let small : marked_of h.look.table.now c.args.descent.now.state < 2 ^ 128 = rw c.marked-marked.ensures.value at c.marked-marked.type_inv in
     let is = look-table input.dfa.now input.view.store.now input.view.tables.now c.requires.input.ready.tables input.view.counted h.id.index _ _ _ c.requires.down.is_ahead.live c.requires.down.is_ahead.look in
-    (is, mark-into input.dfa.now c.requires.input.automaton _ h.look.table.now c.args.descent.now.state c.args.byte h.goals is c.requires.down.state small (byte-text input.view.store.now h.id.index c.args.byte c.requires.byte) c.requires.some)
+    (is, mark-into input.dfa.now c.requires.input.automaton _ h.look.table.now c.args.descent.now.state c.args.byte h.goals is c.requires.down.state (byte-text input.view.store.now h.id.index c.args.byte c.requires.byte) c.requires.some)
 
 pub unreachable-requires : goal.unreachable-requires
-unreachable-requires c =
-    let k = (tells-all (goal.at.unreachable-requires c).After-marked-marked).1 in
+unreachable-requires g c =
+    let k = (tells-all g (goal.at.unreachable-requires g c).Start).1 in
     c.in-None.ensures.mark k.0 k.1.1.small k.1.0 k.1.1.step k.1.1.goal
 
 pub returns-clause-descends : goal.returns-clause-descends
-returns-clause-descends c = λ looks.
+returns-clause-descends g c = λ looks.
     let input = c.args.input.now in
     let h = c.args.descent.now.here in
-    let all = tells-all (goal.at.returns-clause-descends c).After-marked-marked in
+    let all = tells-all g (goal.at.returns-clause-descends g c).Start in
     let one = byte-text input.view.store.now h.id.index c.args.byte c.requires.byte in
     let low : c.args.byte < 256 = (rw one at all.0.bytes) 0 0 (omega arith) in
     let into = all.1.1.1 in

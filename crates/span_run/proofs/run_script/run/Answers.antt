@@ -6,28 +6,28 @@ pub returns-in-Err-Usage-clause-usage : goal.returns-in-Err-Usage-clause-usage
 returns-in-Err-Usage-clause-usage g c = λ _. c.in-Err-Usage.ensures.refused c.in-Err-Usage.field-0-is
 
 pub returns-in-Err-NoMemory-clause-want_front : goal.returns-in-Err-NoMemory-clause-want_front
-returns-in-Err-NoMemory-clause-want_front g c = λ _ workers demo asked. each_some (script_of demo (g.S.Source.left c.args.script.now)) _ (λ bytes. none_ran (UnlessList (g.K.Sink.wants c.args.out.now) (g.K.Sink.wants c.args.out.now)) (lines_of bytes) (outside (g.K.Sink.written c.args.out.now) (g.F.Shelf.files c.args.shelf.now) c.args.looks.now c.args.pairs.now c.args.places.now) (none_written (g.K.Sink.wants c.args.out.now) (g.F.Shelf.files c.args.shelf.now)))
+returns-in-Err-NoMemory-clause-want_front g c = λ _ workers most demo asked. each_some (script_of demo (g.S.Source.left c.args.script.now)) _ (λ bytes. none_ran (UnlessList (g.K.Sink.wants c.args.out.now) (g.K.Sink.wants c.args.out.now)) (lines_of bytes) most (outside (g.K.Sink.written c.args.out.now) (g.F.Shelf.files c.args.shelf.now) c.args.looks.now c.args.pairs.now c.args.places.now) (none_written (g.K.Sink.wants c.args.out.now) (g.F.Shelf.files c.args.shelf.now)))
 
 pub returns-in-Err-NoMemory-asked_script-clause-want_front : goal.returns-in-Err-NoMemory-asked_script-clause-want_front
-returns-in-Err-NoMemory-asked_script-clause-want_front g c = λ _ workers demo asked. each_some (script_of demo (g.S.Source.left c.args.script.now)) _ (λ bytes. none_ran (UnlessList (g.K.Sink.wants c.args.out.now) (g.K.Sink.wants c.args.out.now)) (lines_of bytes) (outside (g.K.Sink.written c.args.out.now) (g.F.Shelf.files c.args.shelf.now) c.args.looks.now c.args.pairs.now c.args.places.now) (none_written (g.K.Sink.wants c.args.out.now) (g.F.Shelf.files c.args.shelf.now)))
+returns-in-Err-NoMemory-asked_script-clause-want_front g c = λ _ workers most demo asked. each_some (script_of demo (g.S.Source.left c.args.script.now)) _ (λ bytes. none_ran (UnlessList (g.K.Sink.wants c.args.out.now) (g.K.Sink.wants c.args.out.now)) (lines_of bytes) most (outside (g.K.Sink.written c.args.out.now) (g.F.Shelf.files c.args.shelf.now) c.args.looks.now c.args.pairs.now c.args.places.now) (none_written (g.K.Sink.wants c.args.out.now) (g.F.Shelf.files c.args.shelf.now)))
 
 pub returns-in-Err-OutFault-clause-unread : goal.returns-in-Err-OutFault-clause-unread
-returns-in-Err-OutFault-clause-unread g c = of_demo (map string_bytes c.args.words.now) c.in-Ok.options.workers c.in-Ok.options.demo c.in-Ok.ensures.taken _ c.asked_script.ensures.unread
+returns-in-Err-OutFault-clause-unread g c = of_demo (map string_bytes c.args.words.now) c.in-Ok.options.workers c.in-Ok.options.states c.in-Ok.options.demo c.in-Ok.ensures.taken _ c.asked_script.ensures.unread
 
 pub returns-in-Err-ShelfFault-clause-unread : goal.returns-in-Err-ShelfFault-clause-unread
-returns-in-Err-ShelfFault-clause-unread g c = of_demo (map string_bytes c.args.words.now) c.in-Ok.options.workers c.in-Ok.options.demo c.in-Ok.ensures.taken _ c.asked_script.ensures.unread
+returns-in-Err-ShelfFault-clause-unread g c = of_demo (map string_bytes c.args.words.now) c.in-Ok.options.workers c.in-Ok.options.states c.in-Ok.options.demo c.in-Ok.ensures.taken _ c.asked_script.ensures.unread
 
 pub returns-clause-unread : goal.returns-clause-unread
-returns-clause-unread g c = of_demo (map string_bytes c.args.words.now) c.in-Ok.options.workers c.in-Ok.options.demo c.in-Ok.ensures.taken _ c.asked_script.ensures.unread
+returns-clause-unread g c = of_demo (map string_bytes c.args.words.now) c.in-Ok.options.workers c.in-Ok.options.states c.in-Ok.options.demo c.in-Ok.ensures.taken _ c.asked_script.ensures.unread
 
 pub returns-in-Err-ShelfFault-clause-short : goal.returns-in-Err-ShelfFault-clause-short
-returns-in-Err-ShelfFault-clause-short g c = λ _. of_script (map string_bytes c.args.words.now) c.in-Ok.options.workers c.in-Ok.options.demo c.in-Ok.ensures.taken (g.S.Source.left c.args.script.now) c.in-Ok-asked_script.bytes.items c.in-Ok-asked_script.bytes.items (λ bytes. length bytes ≤ 2 ^ 24) c.in-Ok-asked_script.ensures.all refl c.in-Ok-asked_script.ensures.short
+returns-in-Err-ShelfFault-clause-short g c = λ _. of_script (map string_bytes c.args.words.now) c.in-Ok.options.workers c.in-Ok.options.states c.in-Ok.options.demo c.in-Ok.ensures.taken (g.S.Source.left c.args.script.now) c.in-Ok-asked_script.bytes.items c.in-Ok-asked_script.bytes.items (λ _ bytes. length bytes ≤ 2 ^ 24) c.in-Ok-asked_script.ensures.all refl c.in-Ok-asked_script.ensures.short
 
 pub returns-in-Err-OutFault-clause-front : goal.returns-in-Err-OutFault-clause-front
-returns-in-Err-OutFault-clause-front g c = λ _. of_script (map string_bytes c.args.words.now) c.in-Ok.options.workers c.in-Ok.options.demo c.in-Ok.ensures.taken (g.S.Source.left c.args.script.now) c.in-Ok-asked_script.bytes.items c.deref.result.now (λ bytes. RunsFront Anywhere (lines_of bytes) (outside (g.K.Sink.written c.args.out.now) (g.F.Shelf.files c.args.shelf.now) c.args.looks.now c.args.pairs.now c.args.places.now) (outside (g.K.Sink.written c.run_lines.new.out) (g.F.Shelf.files c.run_lines.new.shelf) c.run_lines.new.looks c.run_lines.new.pairs c.run_lines.new.places)) c.in-Ok-asked_script.ensures.all c.deref.ensures.value (c.in-Err-OutFault.ensures.out_fault c.in-Err-OutFault.field-0-is).1
+returns-in-Err-OutFault-clause-front g c = λ _. of_script (map string_bytes c.args.words.now) c.in-Ok.options.workers c.in-Ok.options.states c.in-Ok.options.demo c.in-Ok.ensures.taken (g.S.Source.left c.args.script.now) c.in-Ok-asked_script.bytes.items c.deref.result.now (λ states bytes. RunsFront Anywhere (lines_of bytes) states (outside (g.K.Sink.written c.args.out.now) (g.F.Shelf.files c.args.shelf.now) c.args.looks.now c.args.pairs.now c.args.places.now) (outside (g.K.Sink.written c.run_lines.new.out) (g.F.Shelf.files c.run_lines.new.shelf) c.run_lines.new.looks c.run_lines.new.pairs c.run_lines.new.places)) c.in-Ok-asked_script.ensures.all c.deref.ensures.value (c.in-Err-OutFault.ensures.out_fault c.in-Err-OutFault.field-0-is).1
 
 pub returns-in-Err-ShelfFault-clause-shelf_front : goal.returns-in-Err-ShelfFault-clause-shelf_front
-returns-in-Err-ShelfFault-clause-shelf_front g c = λ _. of_script (map string_bytes c.args.words.now) c.in-Ok.options.workers c.in-Ok.options.demo c.in-Ok.ensures.taken (g.S.Source.left c.args.script.now) c.in-Ok-asked_script.bytes.items c.deref.result.now (λ bytes. RunsFront InFileLine (lines_of bytes) (outside (g.K.Sink.written c.args.out.now) (g.F.Shelf.files c.args.shelf.now) c.args.looks.now c.args.pairs.now c.args.places.now) (outside (g.K.Sink.written c.run_lines.new.out) (g.F.Shelf.files c.run_lines.new.shelf) c.run_lines.new.looks c.run_lines.new.pairs c.run_lines.new.places)) c.in-Ok-asked_script.ensures.all c.deref.ensures.value (c.in-Err-ShelfFault.ensures.shelf_fault c.in-Err-ShelfFault.field-0-is).1
+returns-in-Err-ShelfFault-clause-shelf_front g c = λ _. of_script (map string_bytes c.args.words.now) c.in-Ok.options.workers c.in-Ok.options.states c.in-Ok.options.demo c.in-Ok.ensures.taken (g.S.Source.left c.args.script.now) c.in-Ok-asked_script.bytes.items c.deref.result.now (λ states bytes. RunsFront InFileLine (lines_of bytes) states (outside (g.K.Sink.written c.args.out.now) (g.F.Shelf.files c.args.shelf.now) c.args.looks.now c.args.pairs.now c.args.places.now) (outside (g.K.Sink.written c.run_lines.new.out) (g.F.Shelf.files c.run_lines.new.shelf) c.run_lines.new.looks c.run_lines.new.pairs c.run_lines.new.places)) c.in-Ok-asked_script.ensures.all c.deref.ensures.value (c.in-Err-ShelfFault.ensures.shelf_fault c.in-Err-ShelfFault.field-0-is).1
 
 pub returns-clause-want_front : goal.returns-clause-want_front
-returns-clause-want_front g c = λ _. of_script (map string_bytes c.args.words.now) c.in-Ok.options.workers c.in-Ok.options.demo c.in-Ok.ensures.taken (g.S.Source.left c.args.script.now) c.in-Ok-asked_script.bytes.items c.deref.result.now (λ bytes. RunsFront (UnlessList (g.K.Sink.wants c.args.out.now) (g.K.Sink.wants c.run_lines.new.out)) (lines_of bytes) (outside (g.K.Sink.written c.args.out.now) (g.F.Shelf.files c.args.shelf.now) c.args.looks.now c.args.pairs.now c.args.places.now) (outside (g.K.Sink.written c.run_lines.new.out) (g.F.Shelf.files c.run_lines.new.shelf) c.run_lines.new.looks c.run_lines.new.pairs c.run_lines.new.places)) c.in-Ok-asked_script.ensures.all c.deref.ensures.value (c.in-Err-NoMemory-run_lines.ensures.want c.in-Err-NoMemory-run_lines.field-0-is)
+returns-clause-want_front g c = λ _. of_script (map string_bytes c.args.words.now) c.in-Ok.options.workers c.in-Ok.options.states c.in-Ok.options.demo c.in-Ok.ensures.taken (g.S.Source.left c.args.script.now) c.in-Ok-asked_script.bytes.items c.deref.result.now (λ states bytes. RunsFront (UnlessList (g.K.Sink.wants c.args.out.now) (g.K.Sink.wants c.run_lines.new.out)) (lines_of bytes) states (outside (g.K.Sink.written c.args.out.now) (g.F.Shelf.files c.args.shelf.now) c.args.looks.now c.args.pairs.now c.args.places.now) (outside (g.K.Sink.written c.run_lines.new.out) (g.F.Shelf.files c.run_lines.new.shelf) c.run_lines.new.looks c.run_lines.new.pairs c.run_lines.new.places)) c.in-Ok-asked_script.ensures.all c.deref.ensures.value (c.in-Err-NoMemory-run_lines.ensures.want c.in-Err-NoMemory-run_lines.field-0-is)

@@ -25,13 +25,13 @@ returns-in_err-told g c =
       sound = tt;
       gone = λ none is. gone_still k.kept next.out now.out (c.in_err-told.ensures.unsent is) (i.gone none);
       out_fault = λ is.
-          let h = stops_anywhere lines (lines_of now.rest.now) rest line now.number now.refused before old sink new after c.next_line.ensures.lines i.at i.model c.line.ensures.model (stopped stop.OutFault is) in
+          let h = stops_anywhere lines (lines_of now.rest.now) rest line now.number now.refused c.args.states before old sink new after c.next_line.ensures.lines i.at i.model c.line.ensures.model (stopped stop.OutFault is) in
           (rose_later (k.faults c.args.out.now) sink.faults after.faults (omega (arith, i.faults)) h.0, h.1);
       shelf_fault = λ is.
-          let h = stops_in_file lines (lines_of now.rest.now) rest line now.number now.refused before old sink new after c.next_line.ensures.lines i.at i.model c.line.ensures.model (stopped stop.ShelfFault is) in
+          let h = stops_in_file lines (lines_of now.rest.now) rest line now.number now.refused c.args.states before old sink new after c.next_line.ensures.lines i.at i.model c.line.ensures.model (stopped stop.ShelfFault is) in
           (rose_later (f.faults c.args.shelf.now) old.faults new.faults (omega (arith, i.shelf_faults)) h.0, h.1);
       want = λ is.
-          stops_wanting lines (lines_of now.rest.now) rest line now.number now.refused before old sink new after c.next_line.ensures.lines i.at (k.wants c.args.out.now) (omega (arith, i.wants)) i.model c.line.ensures.model (stopped stop.NoMemory is);
+          stops_wanting lines (lines_of now.rest.now) rest line now.number now.refused c.args.states before old sink new after c.next_line.ensures.lines i.at (k.wants c.args.out.now) (omega (arith, i.wants)) i.model c.line.ensures.model (stopped stop.NoMemory is);
     })
 
 pub loop-rest-preserved : goal.loop-rest-preserved
@@ -46,9 +46,9 @@ loop-rest-preserved g c =
     let new = seen next.self (f.files next.shelf) (f.faults next.shelf) next.looks next.pairs next.places in
     let after = outlet (k.written next.out) (k.faults next.out) (k.wants next.out) in
     let done = c.in_ok-told.ensures.done in
-    let at = goes_on (lines_of c.args.script.now) (lines_of now.rest.now) (lines_of c.next_line.result.1.now) c.next_line.result.0.now now.number now.refused before old sink new after c.next_line.ensures.lines now.invariant.at c.in_ok-told.told done in
+    let at = goes_on (lines_of c.args.script.now) (lines_of now.rest.now) (lines_of c.next_line.result.1.now) c.next_line.result.0.now now.number now.refused c.args.states before old sink new after c.next_line.ensures.lines now.invariant.at c.in_ok-told.told done in
     record {
-      at = subst (λ (b : Bool). IsAt (lines_of c.args.script.now) (lines_of c.next_line.result.1.now) (now.number + 1) b next.self before (told_of new after)) (sym c.with_refusal-refused.ensures) at;
+      at = subst (λ (b : Bool). IsAt (lines_of c.args.script.now) (lines_of c.next_line.result.1.now) (now.number + 1) b next.self c.args.states before (told_of new after)) (sym c.with_refusal-refused.ensures) at;
       model = c.line.ensures.model;
       few = omega (arith, now.invariant.few, c.next_line.ensures.shorter);
       faults = done.2.sink_sound.0 ∙ now.invariant.faults;
@@ -59,8 +59,8 @@ loop-rest-preserved g c =
 
 pub loop-rest-init : goal.loop-rest-init
 loop-rest-init g c = record {
-  at = at_start (lines_of c.args.script.now) (outside (g.K.Sink.written c.args.out.now) (g.F.Shelf.files c.args.shelf.now) c.args.looks.now c.args.pairs.now c.args.places.now) c.new-session.result c.new-session.ensures.state c.new-session.ensures.covered c.new-session.ensures.counted c.new-session.ensures.store;
-  model = c.new-session.ensures.model;
+  at = at_start (lines_of c.args.script.now) c.args.states (outside (g.K.Sink.written c.args.out.now) (g.F.Shelf.files c.args.shelf.now) c.args.looks.now c.args.pairs.now c.args.places.now) c.with_states-session.result c.with_states-session.ensures.state c.with_states-session.ensures.covered c.with_states-session.ensures.counted c.with_states-session.ensures.store;
+  model = c.with_states-session.ensures.model;
   few = omega arith;
   faults = refl;
   wants = refl;
@@ -70,4 +70,4 @@ loop-rest-init g c = record {
 
 pub returns-clause-done : goal.returns-clause-done
 returns-clause-done g c =
-    ends (lines_of c.args.script.now) (lines_of c.loop-rest.rest.now) c.loop-rest.number c.loop-rest.refused c.loop-rest.session (outside (g.K.Sink.written c.args.out.now) (g.F.Shelf.files c.args.shelf.now) c.args.looks.now c.args.pairs.now c.args.places.now) (outside (g.K.Sink.written c.loop-rest.out) (g.F.Shelf.files c.loop-rest.shelf) c.loop-rest.looks c.loop-rest.pairs c.loop-rest.places) (ap lines_of (empty_of c.loop-rest.rest.now c.loop-rest-test.ensures)) c.loop-rest.invariant.model c.loop-rest.invariant.at
+    ends (lines_of c.args.script.now) (lines_of c.loop-rest.rest.now) c.loop-rest.number c.loop-rest.refused c.loop-rest.session c.args.states (outside (g.K.Sink.written c.args.out.now) (g.F.Shelf.files c.args.shelf.now) c.args.looks.now c.args.pairs.now c.args.places.now) (outside (g.K.Sink.written c.loop-rest.out) (g.F.Shelf.files c.loop-rest.shelf) c.loop-rest.looks c.loop-rest.pairs c.loop-rest.places) (ap lines_of (empty_of c.loop-rest.rest.now c.loop-rest-test.ensures)) c.loop-rest.invariant.model c.loop-rest.invariant.at

@@ -4,7 +4,7 @@ use Rattle.span_run.proofs.run_script.run_lines.Given as goal
 
 abbrev pub invariant-loop-rest : goal.invariant-loop-rest
 invariant-loop-rest g l = record {
-  at : IsAt (lines_of l.script) (lines_of l.rest) l.number l.refused l.session
+  at : IsAt (lines_of l.script) (lines_of l.rest) l.number l.refused l.session l.states
       (outside (g.K.Sink.written l.fn.out) (g.F.Shelf.files l.fn.shelf) l.fn.looks l.fn.pairs l.fn.places)
       (outside (g.K.Sink.written l.out) (g.F.Shelf.files l.shelf) l.looks l.pairs l.places);
   model : IsSessionModel l.session;

@@ -34,9 +34,9 @@ returns-clause-done g c =
     let new = seen n.self (f.files n.shelf) (f.faults n.shelf) n.looks n.pairs n.places in
     let after = outlet (k.written n.out) (k.faults n.out) (k.wants n.out) in
     let done = subst (λ (l : List ℕ). IsDone l number old sink new after c.in_ok-told.told) c.deref.ensures.value c.in_ok-told.ensures.done in
-    λ line lines before kept at.
-    subst (λ (b : Bool). IsAt (lines ++ line ∷ []) [] (number + 1) b n.self before (told_of new after)) (sym c.with_refusal-progress.ensures)
-    (does a.progress.now.kept.items number old sink new after refused c.in_ok-told.told done line lines before kept at)
+    λ line lines most before kept at.
+    subst (λ (b : Bool). IsAt (lines ++ line ∷ []) [] (number + 1) b n.self most before (told_of new after)) (sym c.with_refusal-progress.ensures)
+    (does a.progress.now.kept.items number old sink new after refused c.in_ok-told.told done line lines most before kept at)
 
 pub returns-clause-sound : goal.returns-clause-sound
 returns-clause-sound g c = let d = c.in_ok-told.ensures.done.2 in (d.sink_sound.0, d.sink_sound.1, d.shelf_sound)

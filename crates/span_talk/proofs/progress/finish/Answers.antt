@@ -11,7 +11,7 @@ use Rattle.span_talk.proofs.progress.finish.Goals as goal
 pub returns-then-is_empty-clause-done : goal.returns-then-is_empty-clause-done
 returns-then-is_empty-clause-done g c =
     let kept = c.args.progress.now.kept in
-    λ sent before t. ends_so sent before kept.items _ t c.requires.model (none_by kept.items kept.len (omega (arith, kept.ok.0)) c.if-is_empty.ensures)
+    λ sent most before t. ends_so sent most before kept.items _ t c.requires.model (none_by kept.items kept.len (omega (arith, kept.ok.0)) c.if-is_empty.ensures)
 
 pub returns-in_err-end_line-clause-stopped : goal.returns-in_err-end_line-clause-stopped
 returns-in_err-end_line-clause-stopped g c =
@@ -23,7 +23,7 @@ returns-in_err-end_line-clause-stopped g c =
     let some = some_by kept.items kept.len (omega (arith, kept.ok.0)) c.if-is_empty.ensures in
     let p = err_from_is_err_and c.from_residual.result c.from_residual.ensures.1 in
     rw (p.1, p.2) (halted_later _ _ sink sink _ _ _ _ _ (omega arith) (omega arith) (omega arith) c.in_err-end_line.ensures.stopped
-    (λ Ends stops sent before t. stops_in_last sent before kept.items _ t Ends _ some stops))
+    (λ Ends stops sent most before t. stops_in_last sent most before kept.items _ t Ends _ some stops))
 
 pub returns-clause-done : goal.returns-clause-done
 returns-clause-done g c =
@@ -31,7 +31,7 @@ returns-clause-done g c =
     let kept = c.args.progress.now.kept in
     let some = some_by kept.items kept.len (omega (arith, kept.ok.0)) c.if-is_empty.ensures in
     let new = place n.progress.number n.progress.refused n.progress.session (outside (g.K.Sink.written n.out) (g.F.Shelf.files n.shelf) n.looks n.pairs n.places) in
-    λ sent before t. ends_with_last sent before kept.items _ t new c.end_line.ensures.model some c.in_ok-end_line.ensures.done
+    λ sent most before t. ends_with_last sent most before kept.items _ t new c.end_line.ensures.model some c.in_ok-end_line.ensures.done
 
 pub returns-in_err-end_line-clause-gone : goal.returns-in_err-end_line-clause-gone
 returns-in_err-end_line-clause-gone g c =

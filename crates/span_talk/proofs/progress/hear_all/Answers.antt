@@ -18,13 +18,13 @@ pieces-init g c =
     let t = g.C.Client in
     let a = c.args in
     let before = outside (g.K.Sink.written a.out.now) (g.F.Shelf.files a.shelf.now) a.looks.now a.pairs.now a.places.now in
-    let s = c.new-session in
+    let s = c.with_states-session in
     record {
-      so_far = ([], Consumes-nil (t.left a.client.now), refl, begins before s.result c.new-kept.result.items c.new-kept.ensures.items s.ensures.state s.ensures.covered s.ensures.counted s.ensures.store);
+      so_far = ([], Consumes-nil (t.left a.client.now), refl, begins a.states before s.result c.new-kept.result.items c.new-kept.ensures.items s.ensures.state s.ensures.covered s.ensures.counted s.ensures.store);
       model = s.ensures.model;
       next = omega arith;
       kept = omega (arith, ap length c.new-kept.ensures.items);
-      served = none_served (t.left a.client.now) before (t.moments a.client.now);
+      served = none_served (t.left a.client.now) a.states before (t.moments a.client.now);
       client_faults = refl;
       faults = refl;
       wants = refl;
@@ -38,18 +38,18 @@ returns-in-Err-clause-fault g c =
     let i = c.pieces.invariant in
     λ _. (
       rose_later (t.faults c.args.client.now) (t.faults c.pieces.client) (t.faults c.hear.new.self) (omega (arith, i.client_faults)) c.in-Err.ensures.cause.failed,
-      (i.so_far.0, Consumes-kept (t.left c.args.client.now) (t.left c.pieces.client) (t.left c.hear.new.self) i.so_far.0 i.so_far.1 c.in-Err.ensures.bytes, have_run i.so_far.0 _ _ _ i.so_far.3 i.model),
+      (i.so_far.0, Consumes-kept (t.left c.args.client.now) (t.left c.pieces.client) (t.left c.hear.new.self) i.so_far.0 i.so_far.1 c.in-Err.ensures.bytes, have_run i.so_far.0 _ _ _ _ i.so_far.3 i.model),
     )
 
 -- the replies to all complete lines had been written when the client was called
 served : (g : Over) (c : After-hear g)
-    → AreServed (g.C.Client.left c.args.client.now) (outside (g.K.Sink.written c.args.out.now) (g.F.Shelf.files c.args.shelf.now) c.args.looks.now c.args.pairs.now c.args.places.now) (g.C.Client.moments c.args.client.now) (g.C.Client.moments c.hear.new.self)
+    → AreServed (g.C.Client.left c.args.client.now) c.args.states (outside (g.K.Sink.written c.args.out.now) (g.F.Shelf.files c.args.shelf.now) c.args.looks.now c.args.pairs.now c.args.places.now) (g.C.Client.moments c.args.client.now) (g.C.Client.moments c.hear.new.self)
 served g c =
     let t = g.C.Client in
     let l = c.pieces in
     let i = l.invariant in
-    more_served (t.left c.args.client.now) _ (t.moments c.args.client.now) (t.moments l.client) (t.moments c.hear.new.self) (moment (t.left l.client) (g.K.Sink.written l.out) l.progress.number)
-    i.served c.hear.ensures.moment (i.so_far.0, i.so_far.1, replied i.so_far.0 _ _ _ i.so_far.3)
+    more_served (t.left c.args.client.now) _ _ (t.moments c.args.client.now) (t.moments l.client) (t.moments c.hear.new.self) (moment (t.left l.client) (g.K.Sink.written l.out) l.progress.number)
+    i.served c.hear.ensures.moment (i.so_far.0, i.so_far.1, replied i.so_far.0 _ _ _ _ i.so_far.3)
 
 pub returns-in-Err-clause-served : goal.returns-in-Err-clause-served
 returns-in-Err-clause-served g c = served g (goal.at.returns-in-Err-clause-served g c).After-hear
@@ -62,7 +62,7 @@ returns-in-Err-hear_piece-clause-served g c = served g (goal.at.returns-in-Err-h
 
 -- a run that was stopped in a piece
 halted : (g : Over) (c : In-Err-hear_piece g) → IsHalted
-    (λ Ends. OfSent (g.C.Client.left c.args.client.now) (λ sent. RunsFront Ends (lines_of sent)
+    (λ Ends. OfSent (g.C.Client.left c.args.client.now) (λ sent. RunsFront Ends (lines_of sent) c.args.states
     (outside (g.K.Sink.written c.args.out.now) (g.F.Shelf.files c.args.shelf.now) c.args.looks.now c.args.pairs.now c.args.places.now)
     (outside (g.K.Sink.written c.hear_piece.new.out) (g.F.Shelf.files c.hear_piece.new.shelf) c.hear_piece.new.looks c.hear_piece.new.pairs c.hear_piece.new.places)))
     (outlet (g.K.Sink.written c.args.out.now) (g.K.Sink.faults c.args.out.now) (g.K.Sink.wants c.args.out.now)) (g.F.Shelf.faults c.args.shelf.now)
@@ -73,7 +73,7 @@ halted g c =
     let l = c.pieces in
     let i = l.invariant in
     halted_later _ _ _ (outlet (k.written l.out) (k.faults l.out) (k.wants l.out)) _ _ (g.F.Shelf.faults l.shelf) _ _ (omega (arith, i.faults)) (omega (arith, i.wants)) (omega (arith, i.shelf_faults)) c.in-Err-hear_piece.ensures.stopped
-    (λ Ends stops. stops_sent (t.left c.args.client.now) (t.left l.client) (t.left c.hear.new.self) i.so_far.0 _ _ _ _ Ends _ i.so_far.1 c.in-Ok.ensures.bytes.0 i.so_far.3 stops)
+    (λ Ends stops. stops_sent (t.left c.args.client.now) (t.left l.client) (t.left c.hear.new.self) i.so_far.0 _ _ _ _ _ Ends _ i.so_far.1 c.in-Ok.ensures.bytes.0 i.so_far.3 stops)
 
 pub returns-in-Err-hear_piece-clause-out_fault : goal.returns-in-Err-hear_piece-clause-out_fault
 returns-in-Err-hear_piece-clause-out_fault g c = λ is. (halted g (goal.at.returns-in-Err-hear_piece-clause-out_fault g c).In-Err-hear_piece).out_fault (same_stop _ _ is)
@@ -98,7 +98,7 @@ pieces-preserved g c =
         bytes ++ piece,
         Consumes-trans (t.left c.args.client.now) (t.left c.pieces.client) (t.left c.hear.new.self) bytes piece i.so_far.1 c.in-Ok.ensures.bytes.0,
         omega (arith, i.so_far.2, count, length-append bytes piece),
-        o.ensures.done bytes _ i.so_far.3,
+        o.ensures.done bytes _ _ i.so_far.3,
       );
       model = c.hear_piece.ensures.model;
       next = omega (arith, i.next, o.ensures.next, count);
@@ -114,7 +114,7 @@ pieces-preserved g c =
 pub returns-clause-too_long : goal.returns-clause-too_long
 returns-clause-too_long g c =
     let i = c.pieces.invariant in
-    λ _. (i.so_far.0, i.so_far.1, (omega (arith, i.so_far.2), have_run i.so_far.0 _ _ _ i.so_far.3 i.model))
+    λ _. (i.so_far.0, i.so_far.1, (omega (arith, i.so_far.2), have_run i.so_far.0 _ _ _ _ i.so_far.3 i.model))
 
 pub returns-in-Err-clause-gone : goal.returns-in-Err-clause-gone
 returns-in-Err-clause-gone g c = λ none. inl (c.pieces.invariant.gone none)

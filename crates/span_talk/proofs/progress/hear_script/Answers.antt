@@ -18,11 +18,11 @@ returns-in-Ok-clause-done g c =
     let n = c.finish.new in
     let before = outside (k.written a.out.now) (f.files a.shelf.now) a.looks.now a.pairs.now a.places.now in
     let after = outside (k.written n.out) (f.files n.shelf) n.looks n.pairs n.places in
-    each_sent (g.C.Client.left a.client.now) _ (λ sent. RunsAll (lines_of sent) c.in-Ok.refused before after) (λ sent talks. c.in-Ok.ensures.done sent before talks) c.in_ok-progress.ensures.all
+    each_sent (g.C.Client.left a.client.now) _ (λ sent. RunsAll (lines_of sent) c.in-Ok.refused a.states before after) (λ sent talks. c.in-Ok.ensures.done sent a.states before talks) c.in_ok-progress.ensures.all
 
 -- stopped in the last line
 halted : (g : Over) (c : In-Err g) → IsHalted
-    (λ Ends. OfSent (g.C.Client.left c.args.client.now) (λ sent. RunsFront Ends (lines_of sent)
+    (λ Ends. OfSent (g.C.Client.left c.args.client.now) (λ sent. RunsFront Ends (lines_of sent) c.args.states
     (outside (g.K.Sink.written c.args.out.now) (g.F.Shelf.files c.args.shelf.now) c.args.looks.now c.args.pairs.now c.args.places.now)
     (outside (g.K.Sink.written c.finish.new.out) (g.F.Shelf.files c.finish.new.shelf) c.finish.new.looks c.finish.new.pairs c.finish.new.places)))
     (outlet (g.K.Sink.written c.args.out.now) (g.K.Sink.faults c.args.out.now) (g.K.Sink.wants c.args.out.now)) (g.F.Shelf.faults c.args.shelf.now)
@@ -32,7 +32,7 @@ halted g c =
     let m = c.hear_all.new in
     let e = c.hear_all.ensures in
     halted_later _ _ _ (outlet (k.written m.out) (k.faults m.out) (k.wants m.out)) _ _ (g.F.Shelf.faults m.shelf) _ _ e.later e.wants_later e.shelf_later c.in-Err.ensures.stopped
-    (λ Ends stops. each_sent (g.C.Client.left c.args.client.now) _ _ (λ sent talks. stops sent _ talks) c.in_ok-progress.ensures.all)
+    (λ Ends stops. each_sent (g.C.Client.left c.args.client.now) _ _ (λ sent talks. stops sent _ _ talks) c.in_ok-progress.ensures.all)
 
 pub returns-clause-out_fault : goal.returns-clause-out_fault
 returns-clause-out_fault g c = λ is. (halted g (goal.at.returns-clause-out_fault g c).In-Err).out_fault (same_stop _ _ is)

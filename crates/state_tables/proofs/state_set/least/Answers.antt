@@ -1,7 +1,6 @@
-use Rattle.std.specs.Int.{w128}
+use Rattle.std.specs.Int.{w64}
 use Rattle.std.proofs.lemmas.Nat.Bits.{bit_at-trailing_zeros}
-use Rattle.state_tables.proofs.StateSets.{member-bit}
 use Rattle.state_tables.proofs.state_set.least.Goals as goal
 
-pub returns-clause-member : goal.returns-clause-member
-returns-clause-member c = member-bit c.args.set _ (bit_at-trailing_zeros w128 c.args.set c.requires c.ranges.set.fits).1
+pub returns-clause-bit : goal.returns-clause-bit
+returns-clause-bit c = (bit_at-trailing_zeros w64 c.args.word c.requires c.ranges.word.fits).1

@@ -1,11 +1,11 @@
-use Rattle.state_tables.proofs.StateSets.{member-without_same, member-without_other, without-less}
+use Rattle.state_tables.proofs.Words.{bit-gone, bit-others, bit-less, single-bit}
 use Rattle.state_tables.proofs.state_set.without.Goals as goal
 
 pub returns-clause-gone : goal.returns-clause-gone
-returns-clause-gone c = rw c.single.ensures (member-without_same c.args.set c.args.q c.requires.member)
+returns-clause-gone c = rw (single-bit c.args.bit c.requires.few) (bit-gone c.args.word c.args.bit c.requires.bit)
 
 pub returns-clause-others : goal.returns-clause-others
-returns-clause-others c = λ i ne. rw c.single.ensures (member-without_other c.args.set c.args.q i ne)
+returns-clause-others c = λ i ne. rw (single-bit c.args.bit c.requires.few) (bit-others c.args.word c.args.bit i ne)
 
 pub returns-clause-less : goal.returns-clause-less
-returns-clause-less c = rw c.single.ensures (without-less c.args.set c.args.q c.requires.member)
+returns-clause-less c = rw (single-bit c.args.bit c.requires.few) (bit-less c.args.word c.args.bit c.requires.bit)

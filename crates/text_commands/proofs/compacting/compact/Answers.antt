@@ -27,5 +27,5 @@ returns-clause-done c = λ files faults looks pairs places.
     let n = c.compact.new in
     compact_answers h n.store n.docs n.versions c.renumber.new.self c.in_ok-moves.moves c.args.number c.accepted.result files faults looks pairs places
     c.requires c.count.ensures.few c.in_ok-moves.ensures.compacted
-    (c.renumber.ensures.serves h.store n.store c.in_ok-moves.ensures.compacted.trees c.requires.serves) c.renumber.ensures.queries c.renumber.ensures.covered c.renumber.ensures.counted
+    (c.renumber.ensures.serves h.store n.store c.in_ok-moves.ensures.compacted.trees c.requires.serves) c.renumber.ensures.states c.renumber.ensures.queries c.renumber.ensures.covered c.renumber.ensures.counted
     c.accepted.ensures.0 (ap (λ v. v.items) c.accepted.ensures.1 ∙ c.in_ok-line.ensures)

@@ -19,7 +19,7 @@ invariant_of-result c =
 
 pub returns-clause-query : goal.returns-clause-query
 returns-clause-query c =
-    value-by_name (λ t. query_of t.query.tree) c.args.self.now c.args.name.now ∙ ap (λ o. option_map (λ (t : TabledQuery). query_of t.query.tree) o) c.in_ok-tabled.ensures.found
+    value-by_name (λ t. query_of t.query.tree) c.args.self.now.entries c.args.name.now ∙ ap (λ o. option_map (λ (t : TabledQuery). query_of t.query.tree) o) c.in_ok-tabled.ensures.found
 
 pub returns-clause-counted : goal.returns-clause-counted
 returns-clause-counted c = λ n has. has c.in_ok-tabled.tabled.now c.in_ok-tabled.ensures.found

@@ -10,14 +10,18 @@ use Rattle.query_book.proofs.book.QueryBook.take.Goals as goal
 
 pub returns-clause-rest : goal.returns-clause-rest
 returns-clause-rest c =
-    ap entries_of c.take_out-taken.ensures.rest ∙ (taken_out-entries c.self.inside.by_name c.args.name.now ∙ ap (λ es. without_entry es c.args.name.now) c.self.view_is)
+    ap entries_of c.take_out-taken.ensures.rest ∙ (taken_out-entries c.self.inside.by_name c.args.name.now ∙ ap (λ book. without_entry book.entries c.args.name.now) c.self.view_is)
 
 pub invariant_of-self : goal.invariant_of-self
-invariant_of-self c = subst AreSound (sym c.take_out-taken.ensures.rest) (AreSound-taken_out c.self.inside.by_name c.args.name.now c.self.invariant)
+invariant_of-self c = record {
+  sound = subst AreSound (sym c.take_out-taken.ensures.rest) (AreSound-taken_out c.self.inside.by_name c.args.name.now c.self.invariant.sound);
+  few = c.self.invariant.few;
+  many = c.self.invariant.many;
+}
 
 pub returns-clause-ok : goal.returns-clause-ok
 returns-clause-ok c =
-    let e : c.take_out-taken.result ≡ tabled_of c.args.self.now c.args.name.now = c.take_out-taken.ensures.value ∙ (sym (tabled-entries c.self.inside.by_name c.args.name.now) ∙ ap (λ es. tabled_of es c.args.name.now) c.self.view_is) in
+    let e : c.take_out-taken.result ≡ tabled_of c.args.self.now c.args.name.now = c.take_out-taken.ensures.value ∙ (sym (tabled-entries c.self.inside.by_name c.args.name.now) ∙ ap (λ book. tabled_of book c.args.name.now) c.self.view_is) in
     elim c.match-taken.branch [
       | in-Some w ↦ let p : tabled_of c.args.self.now c.args.name.now ≡ Some w.in-Some.field-0 = sym e ∙ w.in-Some.is in rw (w.result-is, p) (search rules)
       | in-None w ↦ rw (w.result-is) (search rules)
@@ -25,12 +29,12 @@ returns-clause-ok c =
 
 pub returns-clause-missing : goal.returns-clause-missing
 returns-clause-missing c =
-    let e : c.take_out-taken.result ≡ tabled_of c.args.self.now c.args.name.now = c.take_out-taken.ensures.value ∙ (sym (tabled-entries c.self.inside.by_name c.args.name.now) ∙ ap (λ es. tabled_of es c.args.name.now) c.self.view_is) in
+    let e : c.take_out-taken.result ≡ tabled_of c.args.self.now c.args.name.now = c.take_out-taken.ensures.value ∙ (sym (tabled-entries c.self.inside.by_name c.args.name.now) ∙ ap (λ book. tabled_of book c.args.name.now) c.self.view_is) in
     elim c.match-taken.branch [
       | in-Some w ↦ rw (w.result-is) (search rules)
       | in-None w ↦
           let p : tabled_of c.args.self.now c.args.name.now ≡ None = sym e ∙ w.in-None.is in
-          rw (w.result-is) (record { none = value-by_name (λ t. query_of t.query.tree) c.args.self.now c.args.name.now ∙ ap (λ o. option_map (λ t. query_of t.query.tree) o) p; refusal = refl })
+          rw (w.result-is) (record { none = value-by_name (λ t. query_of t.query.tree) c.args.self.now.entries c.args.name.now ∙ ap (λ o. option_map (λ t. query_of t.query.tree) o) p; refusal = refl })
     ]
 
 pub returns-clause-distinct : goal.returns-clause-distinct

@@ -1,0 +1,5 @@
+use Rattle.span_enum.proofs.WordSets.{number-zeros}
+use Rattle.span_enum.proofs.states.States.none.Goals as goal
+
+pub returns : goal.returns
+returns g c = number-zeros g.row.N
