@@ -260,8 +260,8 @@ fn many_letters(alloc: Global, most: u16) -> Option<Query>
     )
 }
 
-// An automaton of 1,009 states: the one of 127 states, for texts whose length is divisible by eight.
-fn many_letters_by_eight(alloc: Global, most: u16) -> Option<Query>
+// An automaton of 253 states: the one of 127 states, for texts of an even length.
+fn many_letters_in_pairs(alloc: Global, most: u16) -> Option<Query>
     requires few { 128 ≤ most }
     requires many { most ≤ 1024 }
     ensures { IfSome result (λ q. length q.names ≡ q.dfa.variables) }
@@ -269,7 +269,7 @@ fn many_letters_by_eight(alloc: Global, most: u16) -> Option<Query>
     joined(
         alloc,
         many_letters(alloc, most),
-        read_query(alloc, star(alloc, b".", 8, b""), most),
+        read_query(alloc, star(alloc, b".", 2, b""), most),
         most,
     )
 }
@@ -298,9 +298,9 @@ fn measure_large(rt: &HostRuntime, most: u16) -> io::Result<()>
     )?;
     measure_both(
         rt,
-        "63 letters in groups of eight, and 256 marks at each second state",
-        many_letters_by_eight(alloc, most),
-        many_letters_by_eight(alloc, most),
+        "63 letters in pairs, and 256 marks at each second state",
+        many_letters_in_pairs(alloc, most),
+        many_letters_in_pairs(alloc, most),
         most,
     )?;
     measure_both(
