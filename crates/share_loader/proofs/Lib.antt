@@ -1,3 +1,4 @@
+pub mod ByteLemmas
 pub mod WordLemmas
 pub mod SymbolLemmas
 pub mod CostLemmas

@@ -66,28 +66,30 @@ fn height_of(len: usize) -> u8
     if len > 4 { WORD_LEVEL + 1 } else { WORD_LEVEL }
 }
 
-// Puts the symbol of a word behind the others.
+// Puts the symbol of the word of the first `len` bytes of a text behind the others.
 fn push_word<L: Ledger>(
     blocks: &mut Blocks,
     store: &mut Store,
-    word: &[u8],
+    text: &[u8],
+    len: usize,
     pairs: &mut Steps<L>,
 ) -> Result<(), NoMemory>
     requires taken { IsTaken store.old (taken_of blocks.old) }
-    requires least { 3 ≤ length word.now }
-    requires most { length word.now ≤ 8 }
+    requires least { 3 ≤ len }
+    requires most { len ≤ 8 }
+    requires within { len ≤ length text.now }
     ensures grows { Grows store.old store.new pairs.old pairs.new }
     ensures taken { OnOk result (IsTaken store.new (taken_of blocks.new)) }
     ensures root { blocks.new.root ≡ blocks.old.root }
-    ensures text { OnOk result (symbols_text store.new blocks.new.symbols.items ≡ symbols_text store.old blocks.old.symbols.items ++ word.now) }
+    ensures text { OnOk result (symbols_text store.new blocks.new.symbols.items ≡ symbols_text store.old blocks.old.symbols.items ++ take len text.now) }
     ensures len { OnOk result (vec_len blocks.new.symbols ≡ vec_len blocks.old.symbols + 1) }
-    ensures cost { pairs.new + 1 ≤ pairs.old + length word.now }
+    ensures cost { pairs.new + 1 ≤ pairs.old + len }
 {
-    let found = word_of(&mut blocks.words, store, word, pairs)?;
+    let found = word_of(&mut blocks.words, store, text, len, pairs)?;
     let symbol = Symbol {
         node: found.node,
         hash: symbol_hash(found.hash),
-        height: height_of(word.len()),
+        height: height_of(len),
     };
     blocks.window = window_hash(blocks.window, found.hash);
     push_symbol(&mut blocks.symbols, symbol)?;
@@ -174,7 +176,7 @@ fn take_word<L: Ledger>(
     ensures most { pairs.new ≤ pairs.old + vec_len blocks.old.symbols + length text.now + 6 * height_limit (length (taken_text store.old (taken_of blocks.old)) + length text.now) }
 {
     let len = word_len(text);
-    push_word(blocks, store, &text[..len], pairs)?;
+    push_word(blocks, store, text, len, pairs)?;
     if !ends_block(blocks) {
         return Ok(len);
     }

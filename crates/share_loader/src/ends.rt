@@ -7,49 +7,49 @@ pub(crate) const LEAST: usize = 3;
 /// The maximum length of a word in bytes.
 pub(crate) const MOST: usize = 8;
 
-#[derive(Clone, Copy, PartialEq, Eq)]
-enum Kind {
-    Space,
-    Sign,
-    Letter,
-}
+/// From this number of bytes on the end of the first word is the same whatever follows, and the next word has at least three
+/// bytes.
+pub(crate) const ENOUGH: usize = LEAST + MOST;
 
-fn kind_of(byte: u8) -> Kind {
-    match byte {
-        b' ' | b'\t' | b'\n' | 12 | b'\r' => Kind::Space,
-        b'a'..=b'z' | b'A'..=b'Z' | b'0'..=b'9' | b'_' | 128.. => Kind::Letter,
-        _ => Kind::Sign,
-    }
-}
+// The kind of each byte: 0 is a space, 1 a sign, and 2 a letter, a digit, `_` or a byte from 128 on.
+#[rattlefmt::skip]
+const KINDS: [u8; 256] = [
+    1, 1, 1, 1, 1, 1, 1, 1, 1, 0, 0, 1, 0, 0, 1, 1, 1, 1, 1, 1, 1, 1, 1, 1, 1, 1, 1, 1, 1, 1, 1, 1,
+    0, 1, 1, 1, 1, 1, 1, 1, 1, 1, 1, 1, 1, 1, 1, 1, 2, 2, 2, 2, 2, 2, 2, 2, 2, 2, 1, 1, 1, 1, 1, 1,
+    1, 2, 2, 2, 2, 2, 2, 2, 2, 2, 2, 2, 2, 2, 2, 2, 2, 2, 2, 2, 2, 2, 2, 2, 2, 2, 2, 1, 1, 1, 1, 2,
+    1, 2, 2, 2, 2, 2, 2, 2, 2, 2, 2, 2, 2, 2, 2, 2, 2, 2, 2, 2, 2, 2, 2, 2, 2, 2, 2, 1, 1, 1, 1, 1,
+    2, 2, 2, 2, 2, 2, 2, 2, 2, 2, 2, 2, 2, 2, 2, 2, 2, 2, 2, 2, 2, 2, 2, 2, 2, 2, 2, 2, 2, 2, 2, 2,
+    2, 2, 2, 2, 2, 2, 2, 2, 2, 2, 2, 2, 2, 2, 2, 2, 2, 2, 2, 2, 2, 2, 2, 2, 2, 2, 2, 2, 2, 2, 2, 2,
+    2, 2, 2, 2, 2, 2, 2, 2, 2, 2, 2, 2, 2, 2, 2, 2, 2, 2, 2, 2, 2, 2, 2, 2, 2, 2, 2, 2, 2, 2, 2, 2,
+    2, 2, 2, 2, 2, 2, 2, 2, 2, 2, 2, 2, 2, 2, 2, 2, 2, 2, 2, 2, 2, 2, 2, 2, 2, 2, 2, 2, 2, 2, 2, 2,
+];
 
-// How badly a word ends between two bytes. It is worst between equal ones, so that a run isn't cut by chance, and best behind a
-// space. The lower bits are a hash of both bytes.
+// How badly a word ends between bytes of two kinds: four numbers for each kind of the byte before, one for each kind of the byte
+// after. The fourth isn't used. A word ends best behind a space.
+const KIND_RANKS: [u32; 16] = [3, 0, 0, 0, 3, 2, 1, 0, 2, 2, 3, 0, 0, 0, 0, 0];
+
+// How badly a word ends between two equal bytes, so that a run isn't cut by chance.
+const EQUAL_RANK: u32 = 4;
+
+// How badly a word ends between two bytes, by their kinds. The lower bits are a hash of both bytes.
+#[inline(always)]
 fn rank(before: u8, after: u8) -> u32 {
-    let by_kind = match (kind_of(before), kind_of(after)) {
-        _ if before == after => 4,
-        (Kind::Space, Kind::Space) | (Kind::Sign, Kind::Space) | (Kind::Letter, Kind::Letter) => 3,
-        (Kind::Space, _) => 0,
-        (Kind::Sign, Kind::Letter) => 1,
-        _ => 2,
-    };
+    let row = KINDS[before as usize] % 4 * 4;
+    let by_kind = KIND_RANKS[(row + KINDS[after as usize] % 4) as usize];
+    let by_kind = if before == after { EQUAL_RANK } else { by_kind };
     let both = u32::from(after) << 8 | u32::from(before);
     by_kind << 29 | both.wrapping_mul(0x9E37_79B1) >> 6
 }
 
-/// How many bytes the first word of a text has: a word ends where the rank of the two bytes beside its end is least, and at
-/// the last of several such positions. At most eight bytes are one word, and nine or more leave at least three to the next
-/// one.
-pub(crate) fn word_len(text: &[u8]) -> usize
-    requires { 3 ≤ length text.now }
+// The end of the first word, which is at most `last`: where the rank of the two bytes beside it is least, and the last of several
+// such positions.
+#[inline(always)]
+fn best_end(text: &[u8], last: usize) -> usize
+    requires least { 3 ≤ last }
+    requires within { last < length text.now }
     ensures least { 3 ≤ result }
-    ensures most { result ≤ 8 }
-    ensures within { result ≤ length text.now }
-    ensures left { (result ≡ length text.now) ⊎ (result + 3 ≤ length text.now) }
+    ensures most { result ≤ last }
 {
-    if text.len() <= MOST {
-        return text.len();
-    }
-    let last = MOST.min(text.len() - LEAST);
     let mut len = LEAST;
     let mut least = rank(text[LEAST - 1], text[LEAST]);
     for end in LEAST + 1..last + 1 {
@@ -59,4 +59,24 @@ pub(crate) fn word_len(text: &[u8]) -> usize
         }
     }
     len
+}
+
+/// How many bytes the first word of a text has: a word ends where the rank of the two bytes beside its end is least, and at
+/// the last of several such positions. At most eight bytes are one word, and nine or more leave at least three to the next
+/// one.
+#[inline(always)]
+pub(crate) fn word_len(text: &[u8]) -> usize
+    requires { 3 ≤ length text.now }
+    ensures least { 3 ≤ result }
+    ensures most { result ≤ 8 }
+    ensures within { result ≤ length text.now }
+    ensures left { (result ≡ length text.now) ⊎ (result + 3 ≤ length text.now) }
+{
+    if text.len() >= ENOUGH {
+        return best_end(text, MOST);
+    }
+    if text.len() <= MOST {
+        return text.len();
+    }
+    best_end(text, text.len() - LEAST)
 }

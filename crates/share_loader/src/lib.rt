@@ -14,7 +14,7 @@
 //! words is cut into blocks, again by a hash of the words there, and each block's root is joined to the blocks before.
 //!
 //! For n bytes there are at most n + (n/65,536 + 1)·(6·H(n) + 1) calls to `pair`, each of expected constant time. Beside the
-//! store a sharer has the symbols of one block of at most 4 MiB, of 16 bytes each, as much room for the next round, and 2 MB
+//! store a sharer has the symbols of one block of at most 4 MiB, of 16 bytes each, as much room for the next round, and 4 MB
 //! for words that it has seen before.
 //!
 //! Cuts that depend on the content are those of A. Muthitacharoen, B. Chen and D. Mazières, *A low-bandwidth network file
@@ -55,8 +55,8 @@ use std::sync::ledger::Ledger;
 ///
 /// It has the root of the blocks that ended, the symbols of fewer than 2^19 words behind them, and at most 10 bytes that aren't
 /// in a word yet. After an error it has none, and returns `NoMemory` from every call. From 4,096 bytes on it also has a cache
-/// of the nodes of the last words, if memory allows. The cache takes 64 KB, and 2 MB from 262,144 bytes on. So most words need
-/// no calls to `pair`.
+/// of the nodes of the last words and of their halves, if memory allows. The cache takes 64 KB, and 4 MB from 262,144 bytes on.
+/// So most words need no calls to `pair`.
 #[derive(Drop)]
 pub struct Sharer {
     parts: Option<Parts>,

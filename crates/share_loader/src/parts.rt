@@ -2,20 +2,17 @@
 ghost use Rattle.std.specs.Prelude.{◌≡◌, ◌+◌, ◌^◌, ◌<◌, ◌≤◌, ◌++◌, length, vec_len, drop, IfOk, OnOk};
 ghost use Rattle.slp_model.specs.Tree.{root_text};
 ghost use Rattle.slp_model.specs.Nodes.{root_tree, Grows, IsLive};
+ghost use Rattle.share_loader.specs.Known.{AreKnown};
 ghost use Rattle.share_loader.specs.Blocks.{all_cost};
 ghost use Rattle.share_loader.specs.Sharer.{IsKept, kept_text, kept_count, kept_cost};
 ghost use Rattle.share_loader.specs.PartsView.{kept_of};
 
 use super::blocks::{Blocks, end_block, take_words};
-use super::ends::{LEAST, MOST};
-use super::words::node_of;
+use super::ends::{ENOUGH, LEAST};
+use super::words::{Words, node_of};
 use node_store::{NodeId, Store};
 use span_types::{NoMemory, Steps};
 use std::sync::ledger::Ledger;
-
-// While pieces come, a word is taken only if this number of bytes is there. So its end is the same whatever follows, and the
-// next word has at least three bytes.
-const ENOUGH: usize = LEAST + MOST;
 
 // The number of bytes of a piece that are copied at once.
 const CHUNK: usize = 1 << 16;
@@ -86,11 +83,13 @@ pub(crate) fn feed_piece<L: Ledger>(
 
 // The root of at most two bytes.
 fn short_root<L: Ledger>(
+    words: &mut Words,
     store: &mut Store,
     text: &[u8],
     pairs: &mut Steps<L>,
 ) -> Result<Option<NodeId>, NoMemory>
-    requires { length text.now ≤ 2 }
+    requires known { AreKnown store.old words.old.entries.items }
+    requires short { length text.now ≤ 2 }
     ensures grows { Grows store.old store.new pairs.old pairs.new }
     ensures live { IfOk result (λ root. IsLive store.new root) }
     ensures text { IfOk result (λ root. root_text (root_tree store.new root) ≡ text.now) }
@@ -99,7 +98,7 @@ fn short_root<L: Ledger>(
     if text.is_empty() {
         return Ok(None);
     }
-    let node = node_of(store, text, pairs)?;
+    let node = node_of(words, store, text, pairs)?;
     Ok(Some(node))
 }
 
@@ -116,7 +115,7 @@ pub(crate) fn finish_parts<L: Ledger>(
     ensures cost { pairs.new + kept_cost store.old (kept_of parts) ≤ pairs.old + kept_count (kept_of parts) + all_cost (length (kept_text store.old (kept_of parts))) }
 {
     if parts.rest.len() < LEAST {
-        let root = short_root(store, &parts.rest, pairs)?;
+        let root = short_root(&mut parts.blocks.words, store, &parts.rest, pairs)?;
         return Ok(root);
     }
     take_words(&mut parts.blocks, store, &parts.rest, 1, pairs)?;

@@ -18,10 +18,10 @@ const SHORT_TEXT: usize = 1 << 12;
 // From this number of bytes on it pays for a large one.
 const LONG_TEXT: usize = 1 << 18;
 
-// How many entries the tables have.
+// The numbers of entries of the tables.
 const FEW: usize = 1 << 12;
 
-const MANY: usize = 1 << 17;
+const MANY: usize = 1 << 18;
 
 /// A word that was met, with the index of its node: its bytes as a number with the first byte lowest, and how many they are.
 /// An empty entry has length 0.
@@ -79,45 +79,89 @@ fn make_entries(entries: &mut Vec<Entry>, count: usize)
     }
 }
 
-/// The node of a word, whose hash and height are known beside it.
+/// The bytes of a word as a number with the first byte lowest, how many they are, and a hash of both.
+#[derive(Clone, Copy)]
+pub(crate) struct Key {
+    pub(crate) bytes: u64,
+    pub(crate) len: u8,
+    pub(crate) hash: u64,
+}
+
+/// The node of a word, and the hash of its bytes.
 #[derive(Clone, Copy)]
 pub(crate) struct Word {
     pub(crate) node: NodeId,
     pub(crate) hash: u64,
 }
 
-/// The node of a word of at most eight bytes.
+/// The node of the first `len` bytes of a text, at most eight.
 pub(crate) fn word_of<L: Ledger>(
     words: &mut Words,
     store: &mut Store,
-    word: &[u8],
+    text: &[u8],
+    len: usize,
     pairs: &mut Steps<L>,
 ) -> Result<Word, NoMemory>
     requires known { AreKnown store.old words.old.entries.items }
-    requires some { 0 < length word.now }
-    requires short { length word.now ≤ 8 }
+    requires some { 0 < len }
+    requires short { len ≤ 8 }
+    requires within { len ≤ length text.now }
     ensures grows { Grows store.old store.new pairs.old pairs.new }
     ensures known { AreKnown store.new words.new.entries.items }
-    ensures word { IfOk result (λ found. IsWordAt store.new word.now found.node.index) }
-    ensures cost { pairs.new + 1 ≤ pairs.old + length word.now }
+    ensures word { IfOk result (λ found. IsWordAt store.new (take len text.now) found.node.index) }
+    ensures cost { pairs.new + 1 ≤ pairs.old + len }
 {
-    let bytes = number_of(word);
-    let len = word.len() as u8;
-    let hash = word_hash(bytes, len);
-    if let Some(node) = found(&words.entries, hash, bytes, len) {
+    let key = key_of(text, len);
+    let hash = key.hash;
+    if let Some(node) = found(&words.entries, key) {
         return Ok(Word { node, hash });
     }
-    let node = node_of(store, word, pairs)?;
-    note(&mut words.entries, hash, bytes, len, node);
+    let node = node_of(words, store, &text[..len], pairs)?;
     Ok(Word { node, hash })
 }
 
-// The bytes of a word as a number, with the first byte lowest.
-fn number_of(word: &[u8]) -> u64
-    requires { length word.now ≤ 8 }
-    ensures { take (length word.now) (to_le_bytes w64 result) ≡ word.now }
+// The key of the first `len` bytes of a text.
+#[inline(always)]
+fn key_of(text: &[u8], len: usize) -> Key
+    requires short { len ≤ 8 }
+    requires within { len ≤ length text.now }
+    ensures len { result.len ≡ len }
+    ensures word { take result.len (to_le_bytes w64 result.bytes) ≡ take len text.now }
 {
-    u64::from_le_bytes(padded(word))
+    let bytes = number_of(text, len);
+    let hash = word_hash(bytes, len as u8);
+    Key {
+        bytes,
+        len: len as u8,
+        hash,
+    }
+}
+
+// The first `len` bytes of a text as a number, with the first byte lowest.
+#[inline(always)]
+fn number_of(text: &[u8], len: usize) -> u64
+    requires short { len ≤ 8 }
+    requires within { len ≤ length text.now }
+    ensures { take len (to_le_bytes w64 result) ≡ take len text.now }
+{
+    if text.len() < MOST {
+        return number_of_eight(&padded(&text[..len]));
+    }
+    let number = number_of_eight(&text[..MOST]);
+    if len == MOST {
+        return number;
+    }
+    number % (1 << (8 * len))
+}
+
+#[inline(always)]
+fn number_of_eight(bytes: &[u8]) -> u64
+    requires { length bytes.now ≡ 8 }
+    ensures { to_le_bytes w64 result ≡ bytes.now }
+{
+    u64::from_le_bytes([
+        bytes[0], bytes[1], bytes[2], bytes[3], bytes[4], bytes[5], bytes[6], bytes[7],
+    ])
 }
 
 // The bytes of a word, and zeros behind them.
@@ -137,12 +181,13 @@ fn place_of(entries: &[Entry], hash: u64) -> usize {
 }
 
 // The node of the word, if it is at its index.
-fn found(entries: &[Entry], hash: u64, bytes: u64, len: u8) -> Option<NodeId>
-    requires { 0 < len }
-    ensures { IfSome result (λ id. (nodes : List Node) → AreKnown nodes entries.now → IsWordAt nodes (take len (to_le_bytes w64 bytes)) id.index) }
+#[inline(always)]
+fn found(entries: &[Entry], key: Key) -> Option<NodeId>
+    requires { 0 < key.len }
+    ensures { IfSome result (λ id. (nodes : List Node) → AreKnown nodes entries.now → IsWordAt nodes (take key.len (to_le_bytes w64 key.bytes)) id.index) }
 {
-    let entry = entries.get(place_of(entries, hash))?;
-    if entry.bytes == bytes && entry.len == len {
+    let entry = entries.get(place_of(entries, key.hash))?;
+    if entry.bytes == key.bytes && entry.len == key.len {
         let index = entry.index as usize;
         return Some(NodeId { index });
     }
@@ -150,34 +195,44 @@ fn found(entries: &[Entry], hash: u64, bytes: u64, len: u8) -> Option<NodeId>
 }
 
 // Puts a word at its index, if there is a table.
-fn note(entries: &mut Vec<Entry>, hash: u64, bytes: u64, len: u8, node: NodeId)
-    ensures { (nodes : List Node) → IsWordAt nodes (take len (to_le_bytes w64 bytes)) node.index → AreKnown nodes entries.old.items → AreKnown nodes entries.new.items }
+fn note(entries: &mut Vec<Entry>, key: Key, node: NodeId)
+    ensures { (nodes : List Node) → IsWordAt nodes (take key.len (to_le_bytes w64 key.bytes)) node.index → AreKnown nodes entries.old.items → AreKnown nodes entries.new.items }
 {
-    let place = place_of(entries, hash);
+    let place = place_of(entries, key.hash);
+    let Key { bytes, len, .. } = key;
     if let (Some(entry), Ok(index)) = (entries.get_mut(place), u32::try_from(node.index)) {
         *entry = Entry { bytes, len, index };
     }
 }
 
-/// The node of at most eight bytes, by the store: that of the first half of them beside that of the second one.
+/// The node of at most eight bytes: the pair of the nodes of their halves, which are in the table as words are. Most words that
+/// aren't in the table have halves that are.
 pub(crate) fn node_of<L: Ledger>(
+    words: &mut Words,
     store: &mut Store,
     bytes: &[u8],
     pairs: &mut Steps<L>,
 ) -> Result<NodeId, NoMemory>
+    requires known { AreKnown store.old words.old.entries.items }
     requires some { 0 < length bytes.now }
     requires short { length bytes.now ≤ 8 }
     ensures grows { Grows store.old store.new pairs.old pairs.new }
+    ensures known { AreKnown store.new words.new.entries.items }
     ensures word { IfOk result (λ id. IsWordAt store.new bytes.now id.index) }
     ensures cost { pairs.new + 1 ≤ pairs.old + length bytes.now }
 {
     if bytes.len() == 1 {
         return store.byte(bytes[0]);
     }
+    let key = key_of(bytes, bytes.len());
+    if let Some(node) = found(&words.entries, key) {
+        return Ok(node);
+    }
     let middle = bytes.len() - bytes.len() / 2;
     let (first, second) = bytes.split_at(middle);
-    let left = node_of(store, first, pairs)?;
-    let right = node_of(store, second, pairs)?;
+    let left = node_of(words, store, first, pairs)?;
+    let right = node_of(words, store, second, pairs)?;
     let node = store.pair(left, right, pairs)?;
+    note(&mut words.entries, key, node);
     Ok(node)
 }

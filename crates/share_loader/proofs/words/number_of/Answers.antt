@@ -1,10 +1,19 @@
-use Rattle.std.proofs.Common.{rules, ◌≡◌, ℕ, ◌<◌, get_or, length, take, ap, ◌∙◌}
+use Rattle.std.proofs.Common.{◌≡◌, length, take, ap, subst, sym, ◌∙◌, arith}
+use Rattle.std.proofs.lemmas.List.{length-take-le}
 use Rattle.std.specs.Int.{w64, to_le_bytes}
-use Rattle.std.proofs.lemmas.Nat.{le_bytes_8}
+use Rattle.share_loader.proofs.ByteLemmas.{take-take, low-bytes}
 use Rattle.share_loader.proofs.words.number_of.Goals as goal
+
+pub returns-then-text-lt-MOST : goal.returns-then-text-lt-MOST
+returns-then-text-lt-MOST c =
+    ap (take c.args.len) c.number_of_eight.ensures
+    ∙ subst (λ n. take n c.padded.result ≡ take c.args.len c.args.text.now) (length-take-le c.args.len c.args.text.now c.requires.within) c.padded.ensures.front
+
+pub returns-then-len-eq-MOST : goal.returns-then-len-eq-MOST
+returns-then-len-eq-MOST c =
+    ap (take c.args.len) c.number_of_eight-number.ensures ∙ take-take c.args.len 8 c.args.text.now c.requires.short
 
 pub returns : goal.returns
 returns c =
-    let below : (i : ℕ) → get_or c.padded.result i 0 < 256 = search rules in
-    let same : to_le_bytes w64 c.from_le_bytes.result ≡ c.padded.result = le_bytes_8 _ _ c.padded.ensures.long below c.from_le_bytes.ensures in
-    ap (take (length c.args.word.now)) same ∙ c.padded.ensures.front
+    low-bytes c.args.len c.number_of_eight-number.result (omega (arith, c.requires.short, c.if-len-eq-MOST.false))
+    ∙ (ap (take c.args.len) c.number_of_eight-number.ensures ∙ take-take c.args.len 8 c.args.text.now c.requires.short)
