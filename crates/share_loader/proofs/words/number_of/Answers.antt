@@ -1,6 +1,5 @@
-use Rattle.std.proofs.Common.{◌≡◌, length, take, ap, subst, sym, ◌∙◌, arith}
+use Rattle.std.proofs.Common.{◌≡◌, take, ap, subst, ◌∙◌, arith}
 use Rattle.std.proofs.lemmas.List.{length-take-le}
-use Rattle.std.specs.Int.{w64, to_le_bytes}
 use Rattle.share_loader.proofs.ByteLemmas.{take-take, low-bytes}
 use Rattle.share_loader.proofs.words.number_of.Goals as goal
 

@@ -1,6 +1,5 @@
-use Rattle.std.proofs.Common.{arith, sym, subst}
+use Rattle.std.proofs.Common.{arith}
 use Rattle.slp_model.proofs.NodesLemmas.{Grows-none}
-use Rattle.share_loader.specs.Known.{IsWordAt}
 use Rattle.share_loader.proofs.words.word_of.Goals as goal
 
 pub returns-in-Some-clause-grows : goal.returns-in-Some-clause-grows
