@@ -1,0 +1,4 @@
+pub mod SearchLemmas
+pub mod Moving
+pub mod Marks
+pub mod Used
