@@ -1,6 +1,8 @@
 -- Where the fields of a form are not there.
 use Rattle.std.proofs.Common.{◌≡◌, ◌≢◌, ℕ, Bool, true, false, List, [], ◌∷◌, ◌++◌, refl, sym, ◌∙◌, subst, arith, codes}
-use Rattle.std.specs.Prelude.{All}
+use Rattle.std.specs.Prelude.{All, Result, Ok, Err, IfErr, IsErrAnd}
+use Rattle.script_syntax.specs.declared.syntax.LineRefusal.{LineRefusal}
+use Rattle.script_syntax.specs.declared.syntax.LineRefusal.TheVariants.{Syntax}
 use Rattle.script_syntax.specs.Fields.{Field, Named, Filed, Worded, Numbered, Equals, Varied, Quoted, Rest, Paged, Limited, Longest, Fits, Fields}
 use Rattle.line_parts.proofs.Cuts.{num_plain, NoByte, from_all, from_test, no_cut, one_cut}
 use Rattle.line_parts.proofs.Names.{name_no_space}
@@ -33,6 +35,11 @@ plain Rest e w h = absurd (no_inner e)
 plain Paged e w h = absurd (no_inner e)
 plain Limited e w h = absurd (no_inner e)
 plain Longest e w h = absurd (no_inner e)
+
+-- a function passes the error of a part on, so it is `Syntax` only if the part's error is
+pub passed : {T : Type 0} (result : Result T LineRefusal) (why : LineRefusal) (A : Type 0) → IsErrAnd result (λ e. e ≡ why) → (why ≡ Syntax → A → ⊥) → IfErr result (λ e. e ≡ Syntax → A → ⊥)
+passed (Ok x) why A h bad = absurd h
+passed (Err e) why A h bad = λ is. bad (sym h ∙ is)
 
 -- a text without a space has not two fields
 pub one_field : (text : List ℕ) (f g : Field) (fs : List Field) → All (λ b. b ≢ 32) text → Fields (f ∷ g ∷ fs) text → ⊥

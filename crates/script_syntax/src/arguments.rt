@@ -4,8 +4,9 @@ ghost use Rattle.script_syntax.specs.declared.keyword.Keyword.TheVariants as key
 ghost use Rattle.script_syntax.specs.Syntax.{Reads};
 ghost use Rattle.script_syntax.specs.Fields.{Fields, fields_of};
 
+use crate::groups::{name_and_bytes, name_and_file, three_names, two_names, two_names_and_word};
 use crate::options::longest_of;
-use crate::parts::{file_of, name_of, three_words, vars_of, word_of};
+use crate::parts::{file_of, name_of, three_words, two_words, vars_of};
 use crate::quoted::quoted_of;
 use crate::{Command, LineRefusal};
 use line_parts::{cut_word, is_same, number};
@@ -17,11 +18,7 @@ pub fn text_of(alloc: Global, args: &[u8]) -> Result<Command, LineRefusal>
     ensures ok { IfOk result (λ command. Reads (codes "text " ++ args.now) command) }
     ensures syntax { IfErr result (λ why. why ≡ LineRefusal.Syntax → Fields (fields_of keyword.Text) args.now → ⊥) }
 {
-    let Some((name, bytes)) = cut_word(args) else {
-        return Err(LineRefusal::Syntax);
-    };
-    let name = name_of(alloc, name)?;
-    let bytes = ByteList::new(alloc, bytes)?;
+    let (name, bytes) = name_and_bytes(alloc, args)?;
     Ok(Command::Text { name, bytes })
 }
 
@@ -30,11 +27,7 @@ pub fn query_of(alloc: Global, args: &[u8]) -> Result<Command, LineRefusal>
     ensures ok { IfOk result (λ command. Reads (codes "query " ++ args.now) command) }
     ensures syntax { IfErr result (λ why. why ≡ LineRefusal.Syntax → Fields (fields_of keyword.Query) args.now → ⊥) }
 {
-    let Some((name, formula)) = cut_word(args) else {
-        return Err(LineRefusal::Syntax);
-    };
-    let name = name_of(alloc, name)?;
-    let formula = ByteList::new(alloc, formula)?;
+    let (name, formula) = name_and_bytes(alloc, args)?;
     Ok(Command::Query { name, formula })
 }
 
@@ -43,11 +36,7 @@ pub fn load_of(alloc: Global, args: &[u8]) -> Result<Command, LineRefusal>
     ensures ok { IfOk result (λ command. Reads (codes "load " ++ args.now) command) }
     ensures syntax { IfErr result (λ why. why ≡ LineRefusal.Syntax → Fields (fields_of keyword.Load) args.now → ⊥) }
 {
-    let Some((name, file)) = cut_word(args) else {
-        return Err(LineRefusal::Syntax);
-    };
-    let name = name_of(alloc, name)?;
-    let file = file_of(alloc, file)?;
+    let (name, file) = name_and_file(alloc, args)?;
     Ok(Command::LoadFile { name, file })
 }
 
@@ -56,11 +45,7 @@ pub fn share_of(alloc: Global, args: &[u8]) -> Result<Command, LineRefusal>
     ensures ok { IfOk result (λ command. Reads (codes "share " ++ args.now) command) }
     ensures syntax { IfErr result (λ why. why ≡ LineRefusal.Syntax → Fields (fields_of keyword.Share) args.now → ⊥) }
 {
-    let Some((name, file)) = cut_word(args) else {
-        return Err(LineRefusal::Syntax);
-    };
-    let name = name_of(alloc, name)?;
-    let file = file_of(alloc, file)?;
+    let (name, file) = name_and_file(alloc, args)?;
     Ok(Command::ShareFile { name, file })
 }
 
@@ -69,7 +54,7 @@ pub fn bytes_of(alloc: Global, args: &[u8]) -> Result<Command, LineRefusal>
     ensures ok { IfOk result (λ command. Reads (codes "bytes " ++ args.now) command) }
     ensures syntax { IfErr result (λ why. why ≡ LineRefusal.Syntax → Fields (fields_of keyword.Bytes) args.now → ⊥) }
 {
-    let Some((name, quoted)) = cut_word(args) else {
+    let Some((name, quoted)) = two_words(args) else {
         return Err(LineRefusal::Syntax);
     };
     let name = name_of(alloc, name)?;
@@ -82,11 +67,7 @@ pub fn write_of(alloc: Global, args: &[u8]) -> Result<Command, LineRefusal>
     ensures ok { IfOk result (λ command. Reads (codes "write " ++ args.now) command) }
     ensures syntax { IfErr result (λ why. why ≡ LineRefusal.Syntax → Fields (fields_of keyword.Write) args.now → ⊥) }
 {
-    let Some((name, file)) = cut_word(args) else {
-        return Err(LineRefusal::Syntax);
-    };
-    let name = name_of(alloc, name)?;
-    let file = file_of(alloc, file)?;
+    let (name, file) = name_and_file(alloc, args)?;
     Ok(Command::WriteFile { name, file })
 }
 
@@ -129,11 +110,7 @@ pub fn test_of(alloc: Global, args: &[u8]) -> Result<Command, LineRefusal>
     ensures ok { IfOk result (λ command. Reads (codes "test " ++ args.now) command) }
     ensures syntax { IfErr result (λ why. why ≡ LineRefusal.Syntax → Fields (fields_of keyword.Test) args.now → ⊥) }
 {
-    let Some((query, name)) = cut_word(args) else {
-        return Err(LineRefusal::Syntax);
-    };
-    let query = name_of(alloc, query)?;
-    let name = name_of(alloc, name)?;
+    let (query, name) = two_names(alloc, args)?;
     Ok(Command::Nonempty { query, name })
 }
 
@@ -142,12 +119,7 @@ pub fn has_of(alloc: Global, args: &[u8]) -> Result<Command, LineRefusal>
     ensures ok { IfOk result (λ command. Reads (codes "has " ++ args.now) command) }
     ensures syntax { IfErr result (λ why. why ≡ LineRefusal.Syntax → Fields (fields_of keyword.Has) args.now → ⊥) }
 {
-    let Some((query, name, tuple)) = three_words(args) else {
-        return Err(LineRefusal::Syntax);
-    };
-    let query = name_of(alloc, query)?;
-    let name = name_of(alloc, name)?;
-    let tuple = word_of(alloc, tuple)?;
+    let (query, name, tuple) = two_names_and_word(alloc, args)?;
     Ok(Command::Has { query, name, tuple })
 }
 
@@ -156,11 +128,7 @@ pub fn count_of(alloc: Global, args: &[u8]) -> Result<Command, LineRefusal>
     ensures ok { IfOk result (λ command. Reads (codes "count " ++ args.now) command) }
     ensures syntax { IfErr result (λ why. why ≡ LineRefusal.Syntax → Fields (fields_of keyword.Count) args.now → ⊥) }
 {
-    let Some((query, doc)) = cut_word(args) else {
-        return Err(LineRefusal::Syntax);
-    };
-    let query = name_of(alloc, query)?;
-    let doc = name_of(alloc, doc)?;
+    let (query, doc) = two_names(alloc, args)?;
     Ok(Command::Count { query, doc })
 }
 
@@ -169,12 +137,7 @@ pub fn rank_of(alloc: Global, args: &[u8]) -> Result<Command, LineRefusal>
     ensures ok { IfOk result (λ command. Reads (codes "rank " ++ args.now) command) }
     ensures syntax { IfErr result (λ why. why ≡ LineRefusal.Syntax → Fields (fields_of keyword.Rank) args.now → ⊥) }
 {
-    let Some((query, doc, tuple)) = three_words(args) else {
-        return Err(LineRefusal::Syntax);
-    };
-    let query = name_of(alloc, query)?;
-    let doc = name_of(alloc, doc)?;
-    let tuple = word_of(alloc, tuple)?;
+    let (query, doc, tuple) = two_names_and_word(alloc, args)?;
     Ok(Command::Rank { query, doc, tuple })
 }
 
@@ -183,12 +146,7 @@ pub fn union_of(alloc: Global, args: &[u8]) -> Result<Command, LineRefusal>
     ensures ok { IfOk result (λ command. Reads (codes "union " ++ args.now) command) }
     ensures syntax { IfErr result (λ why. why ≡ LineRefusal.Syntax → Fields (fields_of keyword.Union) args.now → ⊥) }
 {
-    let Some((name, left, right)) = three_words(args) else {
-        return Err(LineRefusal::Syntax);
-    };
-    let name = name_of(alloc, name)?;
-    let left = name_of(alloc, left)?;
-    let right = name_of(alloc, right)?;
+    let (name, left, right) = three_names(alloc, args)?;
     Ok(Command::UnionQuery { name, left, right })
 }
 
@@ -197,12 +155,7 @@ pub fn join_of(alloc: Global, args: &[u8]) -> Result<Command, LineRefusal>
     ensures ok { IfOk result (λ command. Reads (codes "join " ++ args.now) command) }
     ensures syntax { IfErr result (λ why. why ≡ LineRefusal.Syntax → Fields (fields_of keyword.Join) args.now → ⊥) }
 {
-    let Some((name, left, right)) = three_words(args) else {
-        return Err(LineRefusal::Syntax);
-    };
-    let name = name_of(alloc, name)?;
-    let left = name_of(alloc, left)?;
-    let right = name_of(alloc, right)?;
+    let (name, left, right) = three_names(alloc, args)?;
     Ok(Command::JoinQuery { name, left, right })
 }
 

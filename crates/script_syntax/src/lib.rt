@@ -19,6 +19,7 @@
 
 mod arguments;
 mod form;
+mod groups;
 mod keyword;
 pub mod law;
 mod options;

@@ -8,7 +8,7 @@ ghost use Rattle.script_syntax.specs.Syntax.{IsLimit, IsStart, Reads, limit_word
 ghost use Rattle.script_syntax.specs.declared.form.ListStart.{ListStart};
 ghost use Rattle.script_syntax.specs.Fields.{Fields, Fits, Limited, Paged, fields_of};
 
-use crate::parts::{name_of, word_of};
+use crate::parts::{name_of, two_words, word_of};
 use crate::{Command, LineRefusal, ListStart};
 use line_parts::{cut_word, is_same, number};
 use span_types::Name;
@@ -149,7 +149,7 @@ pub fn list_of(alloc: Global, args: &[u8]) -> Result<Command, LineRefusal>
     ensures ok { IfOk result (λ command. Reads (codes "list " ++ args.now) command) }
     ensures syntax { IfErr result (λ why. why ≡ LineRefusal.Syntax → Fields (fields_of keyword.List) args.now → ⊥) }
 {
-    let Some((query, rest)) = cut_word(args) else {
+    let Some((query, rest)) = two_words(args) else {
         return Err(LineRefusal::Syntax);
     };
     let query = name_of(alloc, query)?;

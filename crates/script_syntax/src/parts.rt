@@ -13,6 +13,15 @@ use std::alloc::Global;
 
 const MAX_FILE: usize = 255;
 
+/// The bytes before the first space, and those after it.
+pub fn two_words(text: &[u8]) -> Option<(&[u8], &[u8])>
+    ensures { MatchOption result ((g : Field) (fs : List Field) → Fields (Named ∷ g ∷ fs) text.now → ⊥)
+        (λ p. (text.now ≡ p.0.now ++ 32 ∷ p.1.now) × All (λ b. b ≢ 32) p.0.now) }
+{
+    let (first, rest) = cut_word(text)?;
+    Some((first, rest))
+}
+
 /// The bytes before the first space, those before the second, and those after it.
 pub fn three_words(text: &[u8]) -> Option<(&[u8], &[u8], &[u8])>
     ensures { MatchOption result ((g h : Field) (fs : List Field) → Fields (Named ∷ g ∷ h ∷ fs) text.now → ⊥)

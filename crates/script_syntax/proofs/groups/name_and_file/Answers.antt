@@ -1,0 +1,10 @@
+use Rattle.std.proofs.Common.{refl, []}
+use Rattle.script_syntax.specs.Fields.{Filed, Named}
+use Rattle.script_syntax.proofs.FieldsLemmas.{bad_first, bad_rest, passed}
+use Rattle.script_syntax.proofs.groups.name_and_file.Goals as goal
+
+pub returns-in_err-name-clause-syntax : goal.returns-in_err-name-clause-syntax
+returns-in_err-name-clause-syntax c = passed c.from_residual.result _ _ c.from_residual.ensures.1 (λ is. bad_first c.args.args.now c.in-Some.name.now c.in-Some.file.now Named Filed [] c.in-Some.ensures.0 c.in-Some.ensures.1 refl (c.in_err-name.ensures.syntax is))
+
+pub returns-in_err-file-clause-syntax : goal.returns-in_err-file-clause-syntax
+returns-in_err-file-clause-syntax c = passed c.from_residual-in_err-file.result _ _ c.from_residual-in_err-file.ensures.1 (λ is. bad_rest c.args.args.now c.in-Some.name.now c.in-Some.file.now Named Filed [] c.in-Some.ensures.0 c.in-Some.ensures.1 refl (c.in_err-file.ensures.syntax is))
