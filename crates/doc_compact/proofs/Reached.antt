@@ -3,14 +3,13 @@ use Rattle.std.proofs.Common.{◌≡◌, ℕ, zero, suc, ◌⊎◌, inl, inr, Bo
 use Rattle.std.specs.Prelude.{◌↔◌, replicate}
 use Rattle.slp_model.specs.declared.NodeId.{NodeId}
 use Rattle.slp_model.specs.declared.Node.{Node}
-use Rattle.slp_model.specs.Nodes.{IsLive}
 use Rattle.slp_model.specs.Kept.{AddsExactly, Keeps, RootReaches}
 use Rattle.slp_model.specs.Thin.{AnyReaches}
 use Rattle.doc_book.specs.declared.Doc.{Doc}
 use Rattle.doc_book.specs.Texts.{AreLive}
 use Rattle.name_map.specs.Named.{Named}
 use Rattle.doc_book.specs.Docs.{roots_of}
-use Rattle.doc_compact.specs.Roots.{AreKept, version_roots}
+use Rattle.doc_versions.specs.Texts.{AreKept, version_roots}
 
 -- at first nothing is kept
 pub none-kept : (i n : ℕ) → Keeps (replicate n false) i → ⊥
@@ -80,11 +79,6 @@ any-next_version ns (x ∷ vs) (suc place) v at j =
       (λ h. elim (more.0 h) [ inl own ↦ inl (less.1 (inl own)) | inr late ↦ elim (rest.0 late) [ inl before ↦ inl (less.1 (inr before)) | inr here ↦ inr here ] ]),
       (λ s. elim s [ inl first ↦ elim (less.0 first) [ inl own ↦ more.1 (inl own) | inr before ↦ more.1 (inr (rest.1 (inl before))) ] | inr here ↦ more.1 (inr (rest.1 (inr here))) ]),
     )
-
-pub live-at : (ns : List Node) (ds : List Doc) (place : ℕ) (d : Doc) → AreLive ns ds → slice_get ds place ≡ Some d → IsLive ns d.root
-live-at ns [] place d h e = let bad : ⊥ = cc e in absurd bad
-live-at ns (x ∷ ds) zero d h e = let same : x ≡ d = cc e in subst (λ (y : Doc). IsLive ns y.root) same h.0
-live-at ns (x ∷ ds) (suc place) d h e = live-at ns ds place d h.1 e
 
 pub kept-at : (ns : List Node) (vs : Named (List Doc)) (place : ℕ) (v : List ℕ × List Doc) → AreKept ns vs → slice_get vs place ≡ Some v → AreLive ns v.1
 kept-at ns [] place v h e = let bad : ⊥ = cc e in absurd bad

@@ -11,7 +11,7 @@ use Rattle.doc_book.specs.declared.Doc.{Doc}
 use Rattle.doc_book.specs.Texts.{AreLive, plain}
 use Rattle.name_map.specs.Named.{Named}
 use Rattle.doc_book.specs.Docs.{roots_of}
-use Rattle.doc_compact.specs.Roots.{AreKept, plain_versions, version_roots}
+use Rattle.doc_versions.specs.Texts.{AreKept, plain_versions, version_roots}
 use Rattle.doc_compact.specs.Compacted.{AreKeptRoots, AreKeptVersions, IsCompacted, moved_docs, moved_versions}
 use Rattle.doc_compact.proofs.Reached.{any-append}
 

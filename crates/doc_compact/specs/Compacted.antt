@@ -7,7 +7,7 @@ use Rattle.doc_book.specs.declared.Doc.{Doc}
 use Rattle.doc_book.specs.Texts.{AreLive, plain}
 use Rattle.name_map.specs.Named.{Named}
 use Rattle.doc_book.specs.Docs.{roots_of}
-use Rattle.doc_compact.specs.Roots.{AreKept, plain_versions, version_roots}
+use Rattle.doc_versions.specs.Texts.{AreKept, plain_versions, version_roots}
 
 -- each document's root is none, or its node is kept, and the same for the documents of each version
 abbrev pub AreKeptRoots : List Bool → List Doc → Type 0

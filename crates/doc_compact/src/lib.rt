@@ -24,7 +24,7 @@ ghost use Rattle.doc_book.specs.Texts.{AreLive};
 ghost use Rattle.doc_versions.specs.Versions.{docs_at};
 ghost use Rattle.name_map.specs.Named.{with_value};
 ghost use Rattle.doc_book.specs.Docs.{roots_of};
-ghost use Rattle.doc_compact.specs.Roots.{AreKept, version_roots};
+ghost use Rattle.doc_versions.specs.Texts.{AreKept, version_roots};
 ghost use Rattle.doc_compact.specs.Compacted.{AreKeptRoots, AreKeptVersions, IsCompacted, moved_docs, moved_versions};
 
 use doc_book::Docs;

@@ -1,17 +1,16 @@
 -- The relation between evaluation on texts and evaluation on roots.
-use Rattle.std.proofs.Common.{◌≡◌, ℕ, ◌+◌, ◌*◌, ◌^◌, ◌≤◌, ◌<◌, max, List, [], ◌∷◌, length, Option, Some, None, Ok, Err, refl, ap, ◌∙◌, arith}
+use Rattle.std.proofs.Common.{◌≡◌, ℕ, ◌+◌, ◌*◌, ◌^◌, ◌≤◌, ◌<◌, max, List, length, Option, Some, None, Ok, Err, ap, ◌∙◌, arith}
 use Rattle.std.proofs.lemmas.Bool.{le-leb, lt-leb}
 use Rattle.slp_model.specs.declared.NodeId.{NodeId}
 use Rattle.slp_model.specs.declared.Node.{Node}
-use Rattle.slp_model.specs.Tree.{Tree, root_text, root_leaves, root_height}
-use Rattle.slp_model.specs.Nodes.{Grows, IsLive, root_tree, text_of}
+use Rattle.slp_model.specs.Tree.{Tree, root_leaves, root_height}
+use Rattle.slp_model.specs.Nodes.{Grows, IsLive, root_tree}
 use Rattle.slp_model.specs.Join.{root_cost}
-use Rattle.slp_model.proofs.NodesLemmas.{root_tree-grows, Grows-length}
-use Rattle.doc_book.specs.declared.Doc.{Doc}
+use Rattle.slp_model.proofs.NodesLemmas.{root_tree-grows}
 use Rattle.edit_expr.specs.declared.expr.Expr.{Expr}
 use Rattle.edit_expr.specs.declared.expr.Expr.TheVariants.{Doc as NameOf, Concat', Extract', Delete', Insert', Copy'}
 use Rattle.edit_expr.specs.declared.refusal.EditRefusal.TheVariants.{TooLong}
-use Rattle.doc_book.specs.Texts.{Document, AreLive, plain}
+use Rattle.doc_book.specs.Texts.{Document}
 use Rattle.edit_expr.specs.Eval.{Outcome, eval, fitting, greatest, inserted, joined, onward, operations, size, reached}
 use Rattle.edit_expr.specs.Costs.{total_cost}
 
@@ -21,26 +20,11 @@ root_cost-most None b h p q = omega arith
 root_cost-most (Some a) None h p q = omega arith
 root_cost-most (Some a) (Some b) h p q = omega arith
 
-pub IsLive-grows : (old new : List Node) (p q : ℕ) → Grows old new p q → (r : Option NodeId) → IsLive old r → IsLive new r
-IsLive-grows old new p q g None h = tt
-IsLive-grows old new p q g (Some id) h = omega (arith, h, Grows-length old new p q g)
-
-pub text_of-grows : (old new : List Node) (p q : ℕ) → Grows old new p q → (r : Option NodeId) → IsLive old r → text_of new r ≡ text_of old r
-text_of-grows old new p q g r h = ap root_text (root_tree-grows old new p q g r h)
-
 pub height-grows : (old new : List Node) (p q : ℕ) → Grows old new p q → (r : Option NodeId) → IsLive old r → root_height (root_tree new r) ≡ root_height (root_tree old r)
 height-grows old new p q g r h = ap root_height (root_tree-grows old new p q g r h)
 
 pub leaves-grows : (old new : List Node) (p q : ℕ) → Grows old new p q → (r : Option NodeId) → IsLive old r → root_leaves (root_tree new r) ≡ root_leaves (root_tree old r)
 leaves-grows old new p q g r h = ap root_leaves (root_tree-grows old new p q g r h)
-
-pub AreLive-grows : (old new : List Node) (p q : ℕ) → Grows old new p q → (ds : List Doc) → AreLive old ds → AreLive new ds
-AreLive-grows old new p q g [] h = tt
-AreLive-grows old new p q g (d ∷ ds) h = (IsLive-grows old new p q g d.root h.0, AreLive-grows old new p q g ds h.1)
-
-pub plain-grows : (old new : List Node) (p q : ℕ) → Grows old new p q → (ds : List Doc) → AreLive old ds → plain new ds ≡ plain old ds
-plain-grows old new p q g [] h = refl
-plain-grows old new p q g (d ∷ ds) h = λ j. (d.name, text_of-grows old new p q g d.root h.0 j) ∷ plain-grows old new p q g ds h.1 j
 
 -- a value is no longer than the greatest
 pub size-most : (docs : List Document) (e : Expr) (x : List ℕ) → eval docs e ≡ Ok x → length x ≤ greatest docs e

@@ -1,14 +1,13 @@
 //! The editing operations, on roots in a store.
 ghost use Rattle.std.specs.Prelude.{◌≡◌, ◌≤◌, ◌+◌, ◌*◌, ◌^◌, ℕ, length};
-ghost use Rattle.slp_model.specs.Tree.{root_height};
-ghost use Rattle.slp_model.specs.Nodes.{root_tree, Grows, IsLive, text_of};
+ghost use Rattle.slp_model.specs.Nodes.{Grows, IsLive, text_of};
 ghost use Rattle.span_types.specs.Fibonacci.{height_limit};
-ghost use Rattle.span_types.specs.Ranges.{is_range};
 ghost use Rattle.edit_expr.specs.Eval.{copied, deleted, extracted, inserted, joined};
 ghost use Rattle.edit_expr.specs.Values.{IsValue};
 
 use crate::EditRefusal;
 use node_store::Store;
+use range_read::{is_within, root_len};
 use slp_concat::concat;
 use slp_model::NodeId;
 use slp_split::{extract, split};
@@ -17,27 +16,6 @@ use std::sync::ledger::Ledger;
 
 /// The maximum length of a text, in bytes.
 const LONGEST: u64 = 1 << 48;
-
-/// The length of a root's text, in bytes, at most 2^48.
-pub(crate) fn root_len(store: &Store, root: Option<NodeId>) -> u64
-    requires { IsLive store.now root }
-    ensures len { result ≡ length (text_of store.now root) }
-    ensures short { result ≤ 2 ^ 48 }
-    ensures low { (n : ℕ) → length (text_of store.now root) ≤ n → root_height (root_tree store.now root) ≤ height_limit n }
-{
-    match root {
-        Some(id) => store.len(id),
-        None => 0,
-    }
-}
-
-/// Whether 1 ≤ first ≤ last ≤ len + 1.
-pub(crate) fn is_within(first: u64, last: u64, len: u64) -> bool
-    requires { len ≤ 2 ^ 48 }
-    ensures { result ≡ is_range first last len }
-{
-    1 <= first && first <= last && last <= len + 1
-}
 
 /// The first text followed by the second. Returns `TooLong` exactly if the result would have more than 2^48 bytes.
 pub(crate) fn join<L: Ledger>(

@@ -1,8 +1,8 @@
 -- Names from std and from the layers below that the proofs of this crate use, each re-exported from its declaration.
+pub use Rattle.doc_book.proofs.TextLemmas.{AreLive-grows, plain-grows}
 pub use Rattle.doc_book.specs.Texts.{AreLive, plain}
 pub use Rattle.doc_book.specs.declared.Doc.{Doc}
 pub use Rattle.edge_io.specs.Files.{Files, Holds}
-pub use Rattle.edit_expr.proofs.EvalLemmas.{AreLive-grows, plain-grows}
 pub use Rattle.list_all.specs.Page.{IsPageOf, Page}
 pub use Rattle.marker_dfa.specs.Deterministic.{DeterministicAutomaton}
 pub use Rattle.query_book.specs.Answers.{HasAnswer, HasList, IsAnswer, IsListingOf, IsNamed}

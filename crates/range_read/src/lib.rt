@@ -12,12 +12,15 @@
 //! middle of a text of any length take time proportional to m plus the height. It is a walk in order over a tree with a
 //! stack of what is still to come (D. Knuth, *The Art of Computer Programming*, volume 1, section 2.3.1).
 //!
-//! Proved: The bytes of a span, in order (`RangeBytes`).
+//! `root_len` returns the length of a text, and `is_within` whether a text of this length has a range.
+//!
+//! Proved: The bytes of a span, in order (`RangeBytes`), and the length of a text, whose tree is low (`root_len`).
 #![tactic(auto)]
 
-ghost use Rattle.std.specs.Prelude.{◌≡◌, ◌+◌, ◌<◌, ◌≤◌, ◌∷◌, ◌++◌, length, drop, IfOk, vec_len, vec_capacity};
-ghost use Rattle.span_types.specs.Ranges.{content};
-ghost use Rattle.slp_model.specs.Tree.{text, height, leaves, root_leaves};
+ghost use Rattle.std.specs.Prelude.{◌≡◌, ℕ, ◌+◌, ◌^◌, ◌<◌, ◌≤◌, ◌∷◌, ◌++◌, length, drop, IfOk, vec_len, vec_capacity};
+ghost use Rattle.span_types.specs.Fibonacci.{height_limit};
+ghost use Rattle.span_types.specs.Ranges.{content, is_range};
+ghost use Rattle.slp_model.specs.Tree.{text, height, leaves, root_height, root_leaves};
 ghost use Rattle.slp_model.specs.Nodes.{tree, root_tree, IsLive, text_of};
 ghost use Rattle.range_read.specs.Waiting.{IsTrail, trail_text};
 
@@ -155,4 +158,26 @@ impl<'a> Iterator for RangeBytes<'a> {
         self.left -= 1;
         Some(first_byte(store, &mut self.trail, id))
     }
+}
+
+/// The length of a root's text, in bytes. Takes constant time.
+pub fn root_len(store: &Store, root: Option<NodeId>) -> u64
+    requires { IsLive store.now root }
+    ensures len { result ≡ length (text_of store.now root) }
+    ensures short { result ≤ 2 ^ 48 }
+    ensures low { (n : ℕ) → length (text_of store.now root) ≤ n → root_height (root_tree store.now root) ≤ height_limit n }
+    ensures most { root_height (root_tree store.now root) ≤ 68 }
+{
+    match root {
+        Some(id) => store.len(id),
+        None => 0,
+    }
+}
+
+/// Whether a text of `len` bytes has the range from `i` to `j - 1`: 1 ≤ i ≤ j ≤ len + 1. The range is empty if i = j.
+pub fn is_within(i: u64, j: u64, len: u64) -> bool
+    requires { len ≤ 2 ^ 48 }
+    ensures { result ≡ is_range i j len }
+{
+    1 <= i && i <= j && j <= len + 1
 }

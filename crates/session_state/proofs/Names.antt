@@ -1,9 +1,9 @@
 -- Names from std and from the layers below that the proofs of this crate use, each re-exported from its declaration.
+pub use Rattle.doc_book.proofs.TextLemmas.{AreLive-grows, plain-grows}
 pub use Rattle.doc_book.specs.Texts.{AreLive, plain}
 pub use Rattle.doc_book.specs.declared.Doc.{Doc}
 pub use Rattle.edge_io.specs.Causes.{Rose}
 pub use Rattle.edge_io.specs.Files.{AllowsWrites, Files}
-pub use Rattle.edit_expr.proofs.EvalLemmas.{AreLive-grows, plain-grows}
 pub use Rattle.query_book.specs.Answers.{IsNamed}
 pub use Rattle.query_book.specs.Book.{Book, queries_of}
 pub use Rattle.query_book.specs.Serving.{ArePartlyAt, Serves, counted_of, covered_of, sum_of}

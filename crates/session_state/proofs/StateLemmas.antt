@@ -9,12 +9,6 @@ use Rattle.doc_book.specs.Docs as book
 pub length-text_of : (ns : List Node) (root : Option NodeId) → length (text_of ns root) ≡ root_leaves (root_tree ns root)
 length-text_of ns root = length-root_text (root_tree ns root)
 
-pub AreLive-put : (ns : List Node) (ds : List Doc) (name : List ℕ) (root : Option NodeId) → AreLive ns ds → IsLive ns root → AreLive ns (book.put ds name root)
-AreLive-put ns [] name root h live = (live, tt)
-AreLive-put ns (d ∷ ds) name root h live =
-    elim (is_same name d.name) as (λ b. AreLive ns (cond b (record { name = name; root = root } ∷ ds) (d ∷ book.put ds name root)))
-    [ true ↦ (live, h.1) | false ↦ (h.0, AreLive-put ns ds name root h.1 live) ]
-
 pub plain-put : (ns : List Node) (ds : List Doc) (name : List ℕ) (root : Option NodeId) → plain ns (book.put ds name root) ≡ put (plain ns ds) name (text_of ns root)
 plain-put ns [] name root = refl
 plain-put ns (d ∷ ds) name root =

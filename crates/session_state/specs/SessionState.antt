@@ -7,7 +7,7 @@ use Rattle.slp_model.specs.Nodes.{pair_count}
 use Rattle.slp_model.specs.Thin.{AnyReaches}
 use Rattle.doc_book.specs.Texts.{AreLive, plain}
 pub use Rattle.doc_book.specs.Docs.{roots_of}
-pub use Rattle.doc_compact.specs.Roots.{AreKept, plain_versions, version_roots}
+pub use Rattle.doc_versions.specs.Texts.{AreKept, plain_versions, version_roots}
 use Rattle.query_book.specs.Book.{Book, queries_of}
 use Rattle.query_book.specs.Serving.{Serves, counted_of, covered_of}
 use Rattle.span_language.specs.Counts.{Tabled}

@@ -26,4 +26,4 @@ pub use rejecting::{reject, write_rejection};
 pub use replies::{Answer, ok_line};
 pub use sending::{close, offer, send, send_out, send_rejection};
 pub use session::SessionState;
-pub use texts::{bytes_between, head_of, is_within, root_len, set_document};
+pub use texts::{bytes_between, head_of, set_document};

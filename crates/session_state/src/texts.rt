@@ -1,14 +1,14 @@
-//! Lengths and bytes of the texts in a store, and the assignment of a text to a name.
-ghost use Rattle.std.specs.Prelude.{◌≡◌, ◌≤◌, ◌+◌, ◌^◌, length, take, IfOk, OnErr};
+//! Bytes of the texts in a store, and the assignment of a text to a name.
+ghost use Rattle.std.specs.Prelude.{◌≡◌, ◌≤◌, ◌+◌, length, take, IfOk, OnErr};
 ghost use Rattle.doc_book.specs.Texts.{AreLive, plain};
 ghost use Rattle.session_state.specs.DocumentReply.{Sets, IsDocumentReply};
 ghost use Rattle.slp_model.specs.Nodes.{IsLive, text_of};
-ghost use Rattle.span_types.specs.Ranges.{content, is_range};
+ghost use Rattle.span_types.specs.Ranges.{content};
 
 use crate::replies::Answer;
 use doc_book::Docs;
 use node_store::Store;
-use range_read::RangeBytes;
+use range_read::{RangeBytes, root_len};
 use report_text::doc_line;
 use slp_model::NodeId;
 use span_types::{Name, NoMemory};
@@ -16,26 +16,6 @@ use std::alloc::Global;
 
 /// The number of bytes of a text that a reply shows.
 const HEAD: u64 = 32;
-
-/// The length of a root's text, in bytes.
-pub fn root_len(store: &Store, root: Option<NodeId>) -> u64
-    requires { IsLive store.now root }
-    ensures len { result ≡ length (text_of store.now root) }
-    ensures short { result ≤ 2 ^ 48 }
-{
-    match root {
-        None => 0,
-        Some(id) => store.len(id),
-    }
-}
-
-/// Whether 1 ≤ i ≤ j ≤ len+1.
-pub fn is_within(i: u64, j: u64, len: u64) -> bool
-    requires { len ≤ 2 ^ 48 }
-    ensures { result ≡ is_range i j len }
-{
-    1 <= i && i <= j && j <= len + 1
-}
 
 /// Bytes i to j-1 of a root's text.
 pub fn bytes_between(

@@ -6,7 +6,7 @@ use Rattle.std.proofs.lemmas.Option.{slice_get_within, slice_get-get_or}
 use Rattle.span_types.specs.Names.{is_name}
 use Rattle.slp_model.specs.declared.NodeId.{NodeId}
 use Rattle.slp_model.specs.declared.Node.{Node}
-use Rattle.slp_model.specs.Nodes.{tree, root_tree, IsSound, IsLive}
+use Rattle.slp_model.specs.Nodes.{tree, root_tree, IsSound}
 use Rattle.slp_model.specs.Distinct.{AreDistinct}
 use Rattle.slp_model.specs.Kept.{AddsExactly, IsKeptRoot, Keeps, Reaches, RootReaches, Here}
 use Rattle.slp_model.specs.Thin.{rank, moved, AnyReaches, KeepsExactly, IsThinOf}
@@ -26,11 +26,6 @@ use Rattle.slp_image.proofs.FollowLemmas.{all-follow}
 use Rattle.slp_image.proofs.SavedLemmas.{saved_doc, take-next}
 use Rattle.slp_image.proofs.ReadLemmas.{image-one, trees-one, nodes-meant}
 use Rattle.slp_image.proofs.WriteLemmas.{front, body_bytes, contents-again, version-again}
-
-pub live-at : (ns : List Node) (ds : List Doc) (place : ℕ) (d : Doc) → AreLive ns ds → slice_get ds place ≡ Some d → IsLive ns d.root
-live-at ns [] place d a h = cc
-live-at ns (x ∷ xs) zero d a h = let e : x ≡ d = cc in subst (λ (y : Doc). IsLive ns y.root) e a.0
-live-at ns (x ∷ xs) (suc place) d a h = live-at ns xs place d a.1 h
 
 -- one document further
 pub exactly-next : (ns : List Node) (old new : List Bool) (ds : List Doc) (k : ℕ) (d : Doc) → KeepsExactly ns old (roots_of (take k ds)) → slice_get ds k ≡ Some d → AddsExactly old new (RootReaches ns d.root) → KeepsExactly ns new (roots_of (take (k + 1) ds))

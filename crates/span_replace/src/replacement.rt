@@ -1,7 +1,6 @@
 //! A text in which spans are replaced.
 ghost use Rattle.std.specs.Prelude.{◌≡◌, ℕ, ◌+◌, ◌-◌, ◌*◌, ◌^◌, ◌<◌, ◌≤◌, List, ◌++◌, length, take, drop, IfOk};
-ghost use Rattle.slp_model.specs.Tree.{root_height};
-ghost use Rattle.slp_model.specs.Nodes.{root_tree, Grows, IsLive, text_of};
+ghost use Rattle.slp_model.specs.Nodes.{Grows, IsLive, text_of};
 ghost use Rattle.span_replace.specs.Replaced as meaning;
 ghost use Rattle.span_replace.specs.Replaced.{AreApart};
 ghost use Rattle.span_replace.specs.Outcomes.{IfTooLong, IsReplacement};
@@ -9,6 +8,7 @@ ghost use Rattle.span_replace.specs.Outcomes.{IfTooLong, IsReplacement};
 use crate::refusal::ReplaceRefusal;
 use crate::spans::Chosen;
 use node_store::{NodeId, Store};
+use range_read::root_len;
 use slp_concat::concat;
 use slp_split::split;
 use span_types::{NoMemory, Span, Steps};
@@ -176,20 +176,4 @@ fn join<L: Ledger>(
     let _left = root_len(store, left);
     let _right = root_len(store, right);
     concat(store, left, right, pairs)
-}
-
-/// The length of a root's text, whose tree is low enough for splits and joins in few steps.
-fn root_len(store: &Store, root: Option<NodeId>) -> u64
-    requires { IsLive store.now root }
-    ensures len { result ≡ length (text_of store.now root) }
-    ensures short { result ≤ 2 ^ 48 }
-    ensures low { root_height (root_tree store.now root) ≤ 68 }
-{
-    match root {
-        Some(id) => {
-            let _height = store.height(id);
-            store.len(id)
-        }
-        None => 0,
-    }
 }

@@ -1,9 +1,8 @@
 -- Names from std and from the layers below that the proofs of this crate use, each re-exported from its declaration.
+pub use Rattle.doc_book.proofs.TextLemmas.{AreLive-grows, live-at, plain-grows}
 pub use Rattle.doc_book.specs.Texts.{AreLive, plain}
 pub use Rattle.doc_book.specs.declared.Doc.{Doc}
-pub use Rattle.doc_compact.proofs.Reached.{live-at}
 pub use Rattle.edge_io.specs.Files.{AllowsReads, AllowsWrites, DeniesWrites, Files, HasPiece, Holds, KeepsOthers}
-pub use Rattle.edit_expr.proofs.EvalLemmas.{AreLive-grows, plain-grows}
 pub use Rattle.edit_expr.specs.Eval.{Outcome, eval, greatest, operations}
 pub use Rattle.edit_expr.specs.Expressions.{ExprReads}
 pub use Rattle.edit_expr.specs.declared.expr.Expr.{Expr}

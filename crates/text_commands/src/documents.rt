@@ -21,10 +21,10 @@ use edge_io::Sink;
 use edit_expr::{EditRefusal, Expr, ExprRefusal, eval, read};
 use node_store::Store;
 use pair_loader::load;
+use range_read::{is_within, root_len};
 use report_text::{Refusal, name_line, shown_line};
 use session_state::{
-    Answer, SessionState, bytes_between, close, is_within, offer, ok_line, reject, root_len,
-    set_document,
+    Answer, SessionState, bytes_between, close, offer, ok_line, reject, set_document,
 };
 use slp_model::NodeId;
 use span_language::{Stop, Told};

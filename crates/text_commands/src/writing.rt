@@ -9,9 +9,9 @@ ghost use Rattle.session_state.specs.SessionState.{IsConsistent};
 
 use doc_book::Missing;
 use edge_io::{PutRefusal, Shelf};
-use range_read::RangeBytes;
+use range_read::{RangeBytes, root_len};
 use report_text::{Refusal, written_line};
-use session_state::{Answer, SessionState, reject, root_len};
+use session_state::{Answer, SessionState, reject};
 use span_language::Stop;
 use span_types::{ByteList, Name};
 

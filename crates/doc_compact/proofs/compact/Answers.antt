@@ -5,7 +5,7 @@ use Rattle.slp_model.specs.Thin.{AnyReaches, IsThinOf, thin}
 use Rattle.doc_book.specs.declared.Doc.{Doc}
 use Rattle.name_map.specs.Named.{Named}
 use Rattle.doc_book.specs.Docs.{roots_of}
-use Rattle.doc_compact.specs.Roots.{version_roots}
+use Rattle.doc_versions.specs.Texts.{version_roots}
 use Rattle.doc_compact.specs.Compacted.{IsCompacted, moved_docs}
 use Rattle.doc_compact.proofs.Reached.{any-append}
 use Rattle.doc_compact.proofs.Texts.{compacted, roots-kept, versions-kept}

@@ -3,7 +3,8 @@ use Rattle.slp_model.specs.Kept.{AddsExactly, RootReaches}
 use Rattle.slp_model.specs.Thin.{AnyReaches}
 use Rattle.doc_book.specs.declared.Doc.{Doc}
 use Rattle.doc_book.specs.Docs.{roots_of}
-use Rattle.doc_compact.proofs.Reached.{adds-both, any-next, live-at}
+use Rattle.doc_book.proofs.TextLemmas.{live-at}
+use Rattle.doc_compact.proofs.Reached.{adds-both, any-next}
 use Rattle.doc_compact.proofs.keep_docs.Goals as goal
 
 pub keep_root-requires-clause-live : goal.keep_root-requires-clause-live

@@ -3,7 +3,7 @@ use Rattle.slp_model.specs.Kept.{AddsExactly}
 use Rattle.slp_model.specs.Thin.{AnyReaches}
 use Rattle.doc_book.specs.declared.Doc.{Doc}
 use Rattle.doc_book.specs.Docs.{roots_of}
-use Rattle.doc_compact.specs.Roots.{version_roots}
+use Rattle.doc_versions.specs.Texts.{version_roots}
 use Rattle.doc_compact.proofs.Reached.{adds-both, any-next_version, kept-at}
 use Rattle.doc_compact.proofs.keep_versions.Goals as goal
 

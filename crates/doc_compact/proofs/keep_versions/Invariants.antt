@@ -1,7 +1,7 @@
 use Rattle.std.proofs.Common.{take}
 use Rattle.slp_model.specs.Kept.{AddsExactly, IsPlanOf}
 use Rattle.slp_model.specs.Thin.{AnyReaches}
-use Rattle.doc_compact.specs.Roots.{version_roots}
+use Rattle.doc_versions.specs.Texts.{version_roots}
 use Rattle.doc_compact.proofs.keep_versions.Given as goal
 
 abbrev pub invariant-loop-place : goal.invariant-loop-place

@@ -2,7 +2,7 @@ use Rattle.std.proofs.Common.{◌++◌, inl, inr, length, subst, List, Bool}
 use Rattle.slp_model.specs.Kept.{Keeps}
 use Rattle.slp_model.specs.Thin.{AnyReaches}
 use Rattle.doc_book.specs.Docs.{roots_of}
-use Rattle.doc_compact.specs.Roots.{version_roots}
+use Rattle.doc_versions.specs.Texts.{version_roots}
 use Rattle.doc_compact.proofs.Reached.{adds-both, any-append, none-kept}
 use Rattle.doc_compact.proofs.plan_of.Goals as goal
 

@@ -6,7 +6,8 @@ use Rattle.slp_model.proofs.NodesLemmas.{Grows-none, Grows-trans}
 use Rattle.slp_model.proofs.TreeLemmas.{length-root_text}
 use Rattle.span_types.specs.Ranges.{is_range}
 use Rattle.edit_expr.proofs.CutLemmas.{range-end, range-start, range-order, ranged-in, cut-lengths, take-most, take-shorter}
-use Rattle.edit_expr.proofs.EvalLemmas.{height-grows, leaves-grows, root_cost-most, text_of-grows}
+use Rattle.doc_book.proofs.TextLemmas.{text_of-grows}
+use Rattle.edit_expr.proofs.EvalLemmas.{height-grows, leaves-grows, root_cost-most}
 use Rattle.edit_expr.proofs.edits.delete.Goals as goal
 
 pub returns-then-not-is_within-clause-grows : goal.returns-then-not-is_within-clause-grows

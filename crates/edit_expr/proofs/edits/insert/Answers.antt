@@ -5,7 +5,8 @@ use Rattle.slp_model.proofs.TreeLemmas.{length-root_text}
 use Rattle.span_types.specs.Fibonacci.{height_limit}
 use Rattle.span_types.specs.Ranges.{is_range}
 use Rattle.edit_expr.proofs.CutLemmas.{range-end, cut-lengths, ranged-in}
-use Rattle.edit_expr.proofs.EvalLemmas.{fitting-fits, height-grows, leaves-grows, root_cost-most, text_of-grows}
+use Rattle.doc_book.proofs.TextLemmas.{text_of-grows}
+use Rattle.edit_expr.proofs.EvalLemmas.{fitting-fits, height-grows, leaves-grows, root_cost-most}
 use Rattle.edit_expr.proofs.edits.insert.Goals as goal
 
 pub returns-then-not-is_within-clause-grows : goal.returns-then-not-is_within-clause-grows

@@ -8,7 +8,7 @@ use Rattle.edit_expr.specs.Eval.{eval, greatest, inserted, joined, operations}
 use Rattle.slp_model.specs.Nodes.{text_of}
 use Rattle.edit_expr.specs.Values.{IsValue}
 use Rattle.edit_expr.specs.Costs.{edit_cost, total_cost}
-use Rattle.edit_expr.proofs.EvalLemmas.{AreLive-grows, plain-grows, text_of-grows}
+use Rattle.doc_book.proofs.TextLemmas.{AreLive-grows, plain-grows, text_of-grows}
 use Rattle.edit_expr.proofs.PartLemmas.{IsPart, one_cost, refused_cost, second_refused, two_cost, two_value}
 use Rattle.edit_expr.proofs.evaluation.+value.Goals as goal
 

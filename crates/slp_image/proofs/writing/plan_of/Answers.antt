@@ -1,5 +1,6 @@
 use Rattle.doc_book.specs.declared.Doc.{Doc}
-use Rattle.slp_image.proofs.KeptLemmas.{live-at, exactly-next}
+use Rattle.doc_book.proofs.TextLemmas.{live-at}
+use Rattle.slp_image.proofs.KeptLemmas.{exactly-next}
 use Rattle.slp_image.proofs.writing.plan_of.Goals as goal
 
 pub keep_root-requires-clause-live : goal.keep_root-requires-clause-live

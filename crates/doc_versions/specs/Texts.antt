@@ -1,4 +1,4 @@
--- The roots of versions, and their plain texts.
+-- The plain texts of versions, and their roots.
 use Rattle.std.specs.Prelude.{List, [], ◌∷◌, ◌++◌, Option}
 use Rattle.slp_model.specs.declared.NodeId.{NodeId}
 use Rattle.slp_model.specs.declared.Node.{Node}
