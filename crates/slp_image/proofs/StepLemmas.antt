@@ -1,5 +1,5 @@
 -- Records one after the other, as a loop reads them.
-use Rattle.std.proofs.Common.{◌≡◌, ℕ, zero, suc, ◌+◌, ◌-◌, ◌<◌, ◌≤◌, List, [], ◌∷◌, ◌++◌, length, Result, Ok, Err, ap, sym, subst, ◌∙◌, arith}
+use Rattle.std.proofs.Common.{IsErrAnd, ◌≡◌, ℕ, zero, suc, ◌+◌, ◌-◌, ◌<◌, ◌≤◌, List, [], ◌∷◌, ◌++◌, length, Result, Ok, Err, ap, sym, subst, ◌∙◌, arith}
 use Rattle.slp_model.specs.declared.NodeId.{NodeId}
 use Rattle.slp_model.specs.declared.Node.{Node}
 use Rattle.slp_model.specs.Tree.{Tree}
@@ -11,7 +11,7 @@ use Rattle.slp_image.specs.declared.refusal.ImageRefusal.TheVariants.{NoMemory}
 use Rattle.slp_image.specs.Fields.{◌>>=◌, Field}
 use Rattle.slp_image.specs.Image.{Added, Outcome, records_onto}
 use Rattle.slp_image.specs.Documents.{Fails}
-use Rattle.slp_image.specs.Reads.{IsRecord, IsReading, AreRecords, cost_of}
+use Rattle.slp_image.specs.Reads.{IsRecord, IsReading, AreRecords, ReadsRecord, cost_of}
 
 -- if the first part fails, everything fails
 pub fails-bind : {A B : Type 0} (e : ImageRefusal) (read : Result A ImageRefusal) (f : A → Result B ImageRefusal) → Fails e read → Fails e (read >>= f)
@@ -21,6 +21,16 @@ fails-bind e read f h = ap (λ r. r >>= f) h
 -- a rejection of an equal value
 pub fails-same : {A : Type 0} (e : ImageRefusal) (read other : Result A ImageRefusal) → read ≡ other → Fails e other → Fails e read
 fails-same {A} e read other s h = subst (λ (r : Result A ImageRefusal). Fails e r) (sym s) h
+
+-- nothing is added to the store
+pub none_grows : (ns : List Node) (p : ℕ) → Grows ns ns p p
+none_grows ns p = Grows-none ns p p (omega arith)
+
+-- a reader of a record passes the error of a field on
+pub passed : {M X : Type 0} (Shows : List M → List Tree → Type 0) (view : X → List ℕ) (ms : List M) (read : Field (Added M)) (new : List Tree) (result : Result X ImageRefusal) (e : ImageRefusal)
+    → IsErrAnd result (λ y. y ≡ e) → Fails e read → ReadsRecord Shows view ms read new result
+passed Shows view ms read new (Ok x) e h fails = absurd h
+passed Shows view ms read new (Err y) e h fails = subst (λ z. Fails z read) (sym h) fails
 
 pub Grows-free : (old new : List Node) (p : ℕ) → Grows old new 0 0 → Grows old new p p
 Grows-free old new p g = record { more = g.more; added = g.added; paid = omega (arith, g.paid) }

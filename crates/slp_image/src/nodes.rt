@@ -55,6 +55,7 @@ pub(crate) fn are_short(roots: &Roots, store: &Store, left: usize, right: usize)
 }
 
 /// Reads a byte's record, after its kind, and adds its node.
+#[tactic(auto, using(crate::proofs::StepLemmas::none_grows))]
 pub(crate) fn byte_entry<'a>(
     bytes: &'a [u8],
     roots: &mut Roots,
@@ -71,6 +72,7 @@ pub(crate) fn byte_entry<'a>(
 }
 
 // Reads a pair's record, after its kind, and adds its node.
+#[tactic(auto, using(crate::proofs::StepLemmas::none_grows))]
 fn pair_entry<'a, L: Ledger>(
     bytes: &'a [u8],
     roots: &mut Roots,
@@ -97,6 +99,7 @@ fn pair_entry<'a, L: Ledger>(
 }
 
 // Reads a record and adds its node.
+#[tactic(auto, using(crate::proofs::StepLemmas::none_grows))]
 fn node_entry<'a, L: Ledger>(
     bytes: &'a [u8],
     roots: &mut Roots,

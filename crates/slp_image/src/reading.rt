@@ -18,6 +18,7 @@ use std::alloc::Global;
 use std::sync::ledger::Ledger;
 
 // Reads what follows the version, in version 1.
+#[tactic(auto, using(crate::proofs::StepLemmas::none_grows))]
 fn read_nodes<L: Ledger>(
     alloc: Global,
     bytes: &[u8],
@@ -35,6 +36,7 @@ fn read_nodes<L: Ledger>(
 }
 
 // Reads what follows the version, in version 2.
+#[tactic(auto, using(crate::proofs::StepLemmas::none_grows))]
 fn read_texts<L: Ledger>(
     alloc: Global,
     bytes: &[u8],
@@ -61,6 +63,7 @@ fn read_texts<L: Ledger>(
 /// # Errors
 ///
 /// The first error in the order of the fields, or `NoMemory` if allocation fails. The store may then have more nodes.
+#[tactic(auto, using(crate::proofs::StepLemmas::none_grows))]
 pub fn read<L: Ledger>(
     alloc: Global,
     bytes: &[u8],

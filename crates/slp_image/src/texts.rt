@@ -15,6 +15,7 @@ use span_types::Steps;
 use std::sync::ledger::Ledger;
 
 // Reads a pair's record, after its kind, and adds the concatenation of its children.
+#[tactic(auto, using(crate::proofs::StepLemmas::none_grows))]
 fn join_entry<'a, L: Ledger>(
     bytes: &'a [u8],
     roots: &mut Roots,
@@ -50,6 +51,7 @@ fn is_short_run(roots: &Roots, store: &Store, place: usize, times: u64) -> bool
 }
 
 // Reads a run's record, after its kind, and adds the repetition of its child.
+#[tactic(auto, using(crate::proofs::StepLemmas::none_grows))]
 fn run_entry<'a, L: Ledger>(
     bytes: &'a [u8],
     roots: &mut Roots,
@@ -76,6 +78,7 @@ fn run_entry<'a, L: Ledger>(
 }
 
 // Reads a record and adds its text.
+#[tactic(auto, using(crate::proofs::StepLemmas::none_grows))]
 fn text_entry<'a, L: Ledger>(
     bytes: &'a [u8],
     roots: &mut Roots,

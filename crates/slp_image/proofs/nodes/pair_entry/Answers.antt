@@ -1,36 +1,18 @@
-use Rattle.std.proofs.Common.{rules, ◌≡◌, ◌+◌, ◌^◌, ◌≤◌, true, false, get_or, Ok, sym, ◌∙◌, arith, nat_le}
-use Rattle.std.proofs.lemmas.Result.{err_from_is_err_and}
+use Rattle.std.proofs.Common.{rules, ◌≡◌, ◌+◌, ◌^◌, ◌≤◌, true, false, get_or, Ok, sym, ◌∙◌, nat_le}
 use Rattle.slp_model.specs.Tree.{Leaf, leaves, height}
 use Rattle.slp_model.specs.Join.{is_near}
-use Rattle.slp_model.proofs.NodesLemmas.{Grows-none}
 use Rattle.slp_rebalance.specs.Entries.{entry_trees}
 use Rattle.slp_image.specs.Image.{node_pair}
+use Rattle.slp_image.specs.Reads.{HaveThese}
+use Rattle.slp_image.proofs.StepLemmas.{passed}
 use Rattle.slp_image.proofs.NodeLemmas.{length-records, left-fails, right-fails, pair-is, far, long, fine, near-heights, pair-read, pair_of}
 use Rattle.slp_image.proofs.nodes.pair_entry.Goals as goal
 
-pub returns-in_err-left-clause-grows : goal.returns-in_err-left-clause-grows
-returns-in_err-left-clause-grows g c =
-    Grows-none c.args.store.now c.args.pairs.now c.args.pairs.now (omega arith)
-
-pub returns-in_err-right-clause-grows : goal.returns-in_err-right-clause-grows
-returns-in_err-right-clause-grows g c =
-    Grows-none c.args.store.now c.args.pairs.now c.args.pairs.now (omega arith)
-
-pub returns-then-not-are_near-clause-grows : goal.returns-then-not-are_near-clause-grows
-returns-then-not-are_near-clause-grows g c =
-    Grows-none c.args.store.now c.args.pairs.now c.args.pairs.now (omega arith)
-
-pub returns-then-not-are_short-clause-grows : goal.returns-then-not-are_short-clause-grows
-returns-then-not-are_short-clause-grows g c =
-    Grows-none c.args.store.now c.args.pairs.now c.args.pairs.now (omega arith)
-
 pub returns-in_err-left-clause-read : goal.returns-in_err-left-clause-read
-returns-in_err-left-clause-read g c =
-    λ ns h. let p = err_from_is_err_and c.from_residual.result c.from_residual.ensures.1 in rw (p.1, p.2) (left-fails ns c.count-own.result c.args.bytes.now c.in_err-left.field-0.0 (length-records ns c.args.store.now c.args.roots.now h ∙ sym c.count-own.ensures) c.in_err-left.ensures.read)
+returns-in_err-left-clause-read g c ns h = passed HaveThese (λ rest. rest.now) ns _ _ c.from_residual.result _ c.from_residual.ensures.1 (left-fails ns c.count-own.result c.args.bytes.now c.in_err-left.field-0.0 (length-records ns c.args.store.now c.args.roots.now h ∙ sym c.count-own.ensures) c.in_err-left.ensures.read)
 
 pub returns-in_err-right-clause-read : goal.returns-in_err-right-clause-read
-returns-in_err-right-clause-read g c =
-    λ ns h. let p = err_from_is_err_and c.from_residual-in_err-right.result c.from_residual-in_err-right.ensures.1 in rw (p.1, p.2) (right-fails ns c.count-own.result c.in_ok-left.left c.args.bytes.now c.in_ok-left.after.now c.in_err-right.field-0.0 (length-records ns c.args.store.now c.args.roots.now h ∙ sym c.count-own.ensures) c.in_ok-left.ensures.read c.in_err-right.ensures.read)
+returns-in_err-right-clause-read g c ns h = passed HaveThese (λ rest. rest.now) ns _ _ c.from_residual-in_err-right.result _ c.from_residual-in_err-right.ensures.1 (right-fails ns c.count-own.result c.in_ok-left.left c.args.bytes.now c.in_ok-left.after.now c.in_err-right.field-0.0 (length-records ns c.args.store.now c.args.roots.now h ∙ sym c.count-own.ensures) c.in_ok-left.ensures.read c.in_err-right.ensures.read)
 
 pub returns-then-not-are_near-clause-read : goal.returns-then-not-are_near-clause-read
 returns-then-not-are_near-clause-read g c =

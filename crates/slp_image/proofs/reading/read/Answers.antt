@@ -1,12 +1,8 @@
 use Rattle.std.proofs.Common.{arith}
 use Rattle.std.proofs.lemmas.Result.{err_from_is_err_and}
-use Rattle.slp_model.proofs.NodesLemmas.{Grows-none}
 use Rattle.slp_image.specs.Image.{node_at, text_at, contents}
 use Rattle.slp_image.proofs.ReadLemmas.{image-fails, image-one, image-two, reads-nodes, reads-texts, trees-one, trees-two}
 use Rattle.slp_image.proofs.reading.read.Goals as goal
-
-pub returns-in_err-version-clause-grows : goal.returns-in_err-version-clause-grows
-returns-in_err-version-clause-grows g c = Grows-none c.args.store.now c.args.pairs.now c.args.pairs.now (omega arith)
 
 pub returns-in_err-version-clause-read : goal.returns-in_err-version-clause-read
 returns-in_err-version-clause-read g c =

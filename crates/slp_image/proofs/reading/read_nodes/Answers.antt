@@ -1,12 +1,8 @@
-use Rattle.std.proofs.Common.{[], arith}
+use Rattle.std.proofs.Common.{[]}
 use Rattle.std.proofs.lemmas.Result.{err_from_is_err_and}
-use Rattle.slp_model.proofs.NodesLemmas.{Grows-none}
 use Rattle.slp_image.specs.Image.{node_at, records_onto}
 use Rattle.slp_image.proofs.ReadLemmas.{contents-is, contents-fail, after-fails, nodes-read}
 use Rattle.slp_image.proofs.reading.read_nodes.Goals as goal
-
-pub returns-in_err-count-clause-grows : goal.returns-in_err-count-clause-grows
-returns-in_err-count-clause-grows g c = Grows-none c.args.store.now c.args.pairs.now c.args.pairs.now (omega arith)
 
 pub returns-in_err-count-clause-read : goal.returns-in_err-count-clause-read
 returns-in_err-count-clause-read g c =

@@ -1,33 +1,19 @@
 use Rattle.std.proofs.Common.{rules, ◌≡◌, ◌+◌, ◌^◌, ◌<◌, true, false, length, Ok, sym, ◌∙◌, arith, nat_le}
 use Rattle.std.proofs.lemmas.List.{length-map}
-use Rattle.std.proofs.lemmas.Result.{err_from_is_err_and}
 use Rattle.slp_model.specs.declared.NodeId.{NodeId}
 use Rattle.slp_model.specs.Nodes.{tree}
-use Rattle.slp_model.proofs.NodesLemmas.{Grows-none}
 use Rattle.slp_rebalance.specs.Entries.{entry_trees}
 use Rattle.slp_image.specs.Image.{at, text_pair}
+use Rattle.slp_image.specs.Reads.{AreTexts}
+use Rattle.slp_image.proofs.StepLemmas.{passed}
 use Rattle.slp_image.proofs.TextLemmas.{length-texts, left-fails, right-fails, join-is, join-long, pair-short, join-read, joined_of}
 use Rattle.slp_image.proofs.texts.join_entry.Goals as goal
 
-pub returns-in_err-left-clause-grows : goal.returns-in_err-left-clause-grows
-returns-in_err-left-clause-grows g c =
-    Grows-none c.args.store.now c.args.pairs.now c.args.pairs.now (omega arith)
-
-pub returns-in_err-right-clause-grows : goal.returns-in_err-right-clause-grows
-returns-in_err-right-clause-grows g c =
-    Grows-none c.args.store.now c.args.pairs.now c.args.pairs.now (omega arith)
-
-pub returns-then-not-are_short-clause-grows : goal.returns-then-not-are_short-clause-grows
-returns-then-not-are_short-clause-grows g c =
-    Grows-none c.args.store.now c.args.pairs.now c.args.pairs.now (omega arith)
-
 pub returns-in_err-left-clause-read : goal.returns-in_err-left-clause-read
-returns-in_err-left-clause-read g c =
-    λ ts h. let p = err_from_is_err_and c.from_residual.result c.from_residual.ensures.1 in rw (p.1, p.2) (left-fails ts c.count-own.result c.args.bytes.now c.in_err-left.field-0.0 (length-texts ts c.args.store.now c.args.roots.now h ∙ sym c.count-own.ensures) c.in_err-left.ensures.read)
+returns-in_err-left-clause-read g c ts h = passed AreTexts (λ rest. rest.now) ts _ _ c.from_residual.result _ c.from_residual.ensures.1 (left-fails ts c.count-own.result c.args.bytes.now c.in_err-left.field-0.0 (length-texts ts c.args.store.now c.args.roots.now h ∙ sym c.count-own.ensures) c.in_err-left.ensures.read)
 
 pub returns-in_err-right-clause-read : goal.returns-in_err-right-clause-read
-returns-in_err-right-clause-read g c =
-    λ ts h. let p = err_from_is_err_and c.from_residual-in_err-right.result c.from_residual-in_err-right.ensures.1 in rw (p.1, p.2) (right-fails ts c.count-own.result c.in_ok-left.left c.args.bytes.now c.in_ok-left.after.now c.in_err-right.field-0.0 (length-texts ts c.args.store.now c.args.roots.now h ∙ sym c.count-own.ensures) c.in_ok-left.ensures.read c.in_err-right.ensures.read)
+returns-in_err-right-clause-read g c ts h = passed AreTexts (λ rest. rest.now) ts _ _ c.from_residual-in_err-right.result _ c.from_residual-in_err-right.ensures.1 (right-fails ts c.count-own.result c.in_ok-left.left c.args.bytes.now c.in_ok-left.after.now c.in_err-right.field-0.0 (length-texts ts c.args.store.now c.args.roots.now h ∙ sym c.count-own.ensures) c.in_ok-left.ensures.read c.in_err-right.ensures.read)
 
 pub returns-then-not-are_short-clause-read : goal.returns-then-not-are_short-clause-read
 returns-then-not-are_short-clause-read g c =

@@ -1,38 +1,20 @@
 use Rattle.std.proofs.Common.{rules, ◌≡◌, ◌+◌, ◌*◌, ◌^◌, ◌<◌, ◌≤◌, true, false, length, Ok, sym, ◌∙◌, arith, nat_le}
 use Rattle.std.proofs.lemmas.List.{length-map}
-use Rattle.std.proofs.lemmas.Result.{err_from_is_err_and}
 use Rattle.slp_model.specs.declared.NodeId.{NodeId}
 use Rattle.slp_model.specs.Nodes.{tree}
-use Rattle.slp_model.proofs.NodesLemmas.{Grows-none}
 use Rattle.slp_rebalance.specs.Entries.{entry_trees}
 use Rattle.slp_rebalance.specs.Copies.{run_cost}
 use Rattle.slp_image.specs.Image.{at, text_run}
+use Rattle.slp_image.specs.Reads.{AreTexts}
+use Rattle.slp_image.proofs.StepLemmas.{passed}
 use Rattle.slp_image.proofs.TextLemmas.{length-texts, child-fails, times-fails, none-fails, run-is, run-long, run-short, run-read, run_of}
 use Rattle.slp_image.proofs.texts.run_entry.Goals as goal
 
-pub returns-in_err-place-clause-grows : goal.returns-in_err-place-clause-grows
-returns-in_err-place-clause-grows g c =
-    Grows-none c.args.store.now c.args.pairs.now c.args.pairs.now (omega arith)
-
-pub returns-in_err-times-clause-grows : goal.returns-in_err-times-clause-grows
-returns-in_err-times-clause-grows g c =
-    Grows-none c.args.store.now c.args.pairs.now c.args.pairs.now (omega arith)
-
-pub returns-then-times-eq0-clause-grows : goal.returns-then-times-eq0-clause-grows
-returns-then-times-eq0-clause-grows g c =
-    Grows-none c.args.store.now c.args.pairs.now c.args.pairs.now (omega arith)
-
-pub returns-then-not-is_short_run-clause-grows : goal.returns-then-not-is_short_run-clause-grows
-returns-then-not-is_short_run-clause-grows g c =
-    Grows-none c.args.store.now c.args.pairs.now c.args.pairs.now (omega arith)
-
 pub returns-in_err-place-clause-read : goal.returns-in_err-place-clause-read
-returns-in_err-place-clause-read g c =
-    λ ts h. let p = err_from_is_err_and c.from_residual.result c.from_residual.ensures.1 in rw (p.1, p.2) (child-fails ts c.count-own.result c.args.bytes.now c.in_err-place.field-0.0 (length-texts ts c.args.store.now c.args.roots.now h ∙ sym c.count-own.ensures) c.in_err-place.ensures.read)
+returns-in_err-place-clause-read g c ts h = passed AreTexts (λ rest. rest.now) ts _ _ c.from_residual.result _ c.from_residual.ensures.1 (child-fails ts c.count-own.result c.args.bytes.now c.in_err-place.field-0.0 (length-texts ts c.args.store.now c.args.roots.now h ∙ sym c.count-own.ensures) c.in_err-place.ensures.read)
 
 pub returns-in_err-times-clause-read : goal.returns-in_err-times-clause-read
-returns-in_err-times-clause-read g c =
-    λ ts h. let p = err_from_is_err_and c.from_residual-in_err-times.result c.from_residual-in_err-times.ensures.1 in rw (p.1, p.2) (times-fails ts c.count-own.result c.in_ok-place.place c.args.bytes.now c.in_ok-place.after.now c.in_err-times.field-0.0 (length-texts ts c.args.store.now c.args.roots.now h ∙ sym c.count-own.ensures) c.in_ok-place.ensures.read c.in_err-times.ensures.read)
+returns-in_err-times-clause-read g c ts h = passed AreTexts (λ rest. rest.now) ts _ _ c.from_residual-in_err-times.result _ c.from_residual-in_err-times.ensures.1 (times-fails ts c.count-own.result c.in_ok-place.place c.args.bytes.now c.in_ok-place.after.now c.in_err-times.field-0.0 (length-texts ts c.args.store.now c.args.roots.now h ∙ sym c.count-own.ensures) c.in_ok-place.ensures.read c.in_err-times.ensures.read)
 
 pub returns-then-times-eq0-clause-read : goal.returns-then-times-eq0-clause-read
 returns-then-times-eq0-clause-read g c =

@@ -1,21 +1,12 @@
 use Rattle.std.proofs.Common.{arith}
-use Rattle.std.proofs.lemmas.Result.{err_from_is_err_and}
-use Rattle.slp_model.proofs.NodesLemmas.{Grows-none}
 use Rattle.slp_rebalance.specs.Entries.{entry_trees}
+use Rattle.slp_image.specs.Reads.{AreTexts}
+use Rattle.slp_image.proofs.StepLemmas.{passed}
 use Rattle.slp_image.proofs.TextLemmas.{kind-fails, kind-zero, kind-one, kind-two, kind-other, byte-reads}
 use Rattle.slp_image.proofs.texts.text_entry.Goals as goal
 
-pub returns-in_err-kind-clause-grows : goal.returns-in_err-kind-clause-grows
-returns-in_err-kind-clause-grows g c =
-    Grows-none c.args.store.now c.args.pairs.now c.args.pairs.now (omega arith)
-
-pub returns-clause-grows : goal.returns-clause-grows
-returns-clause-grows g c =
-    Grows-none c.args.store.now c.args.pairs.now c.args.pairs.now (omega arith)
-
 pub returns-in_err-kind-clause-read : goal.returns-in_err-kind-clause-read
-returns-in_err-kind-clause-read g c =
-    λ ts h. let p = err_from_is_err_and c.from_residual.result c.from_residual.ensures.1 in rw (p.1, p.2) (kind-fails ts c.args.bytes.now c.in_err-kind.field-0.0 c.in_err-kind.ensures)
+returns-in_err-kind-clause-read g c ts h = passed AreTexts (λ rest. rest.now) ts _ _ c.from_residual.result _ c.from_residual.ensures.1 (kind-fails ts c.args.bytes.now c.in_err-kind.field-0.0 c.in_err-kind.ensures)
 
 pub returns-then-kind-eq0-clause-read : goal.returns-then-kind-eq0-clause-read
 returns-then-kind-eq0-clause-read g c =
