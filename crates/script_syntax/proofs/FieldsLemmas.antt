@@ -72,3 +72,10 @@ bad_after text a b c f g h fs cut all_a all_b inner_f inner_g bad =
 pub bad_third : (text a b c : List ℕ) (f g h : Field) → text ≡ a ++ 32 ∷ (b ++ 32 ∷ c) → All (λ b. b ≢ 32) a → All (λ b. b ≢ 32) b
     → is_inner f ≡ true → is_inner g ≡ true → (Fits h c → ⊥) → Fields (f ∷ g ∷ h ∷ []) text → ⊥
 bad_third text a b c f g h cut all_a all_b inner_f inner_g bad = bad_after text a b c f g h [] cut all_a all_b inner_f inner_g bad
+
+-- the first two words are not both names
+pub bad_names : (text a b c : List ℕ) (h : Field) → text ≡ a ++ 32 ∷ (b ++ 32 ∷ c) → All (λ b. b ≢ 32) a → All (λ b. b ≢ 32) b
+    → (Fits Named a × Fits Named b → ⊥) → Fields (Named ∷ Named ∷ h ∷ []) text → ⊥
+bad_names text a b c h cut all_a all_b bad (v, more, fit, is, others) =
+    let same = one_cut 32 a (b ++ 32 ∷ c) v more (from_all 32 a all_a) (plain Named refl v fit) (sym cut ∙ is) in
+    bad_first (b ++ 32 ∷ c) b c Named h [] refl all_b refl (λ second. bad (subst (Fits Named) (sym same.0) fit, second)) (subst (Fields (Named ∷ h ∷ [])) (sym same.1) others)

@@ -6,7 +6,7 @@ ghost use Rattle.script_syntax.specs.Fields.{Fields, fields_of};
 
 use crate::groups::{name_and_bytes, name_and_file, three_names, two_names, two_names_and_word};
 use crate::options::longest_of;
-use crate::parts::{file_of, name_of, three_words, two_words, vars_of};
+use crate::parts::{file_of, name_of, names_of, three_words, two_words, vars_of};
 use crate::quoted::quoted_of;
 use crate::{Command, LineRefusal};
 use line_parts::{cut_word, is_same, number};
@@ -167,8 +167,7 @@ pub fn project_of(alloc: Global, args: &[u8]) -> Result<Command, LineRefusal>
     let Some((name, source, keep)) = three_words(args) else {
         return Err(LineRefusal::Syntax);
     };
-    let name = name_of(alloc, name)?;
-    let source = name_of(alloc, source)?;
+    let (name, source) = names_of(alloc, name, source)?;
     let keep = vars_of(alloc, keep)?;
     Ok(Command::ProjectQuery { name, source, keep })
 }

@@ -5,7 +5,7 @@ ghost use Rattle.script_syntax.specs.Syntax.{IsFile, IsWord};
 ghost use Rattle.script_syntax.specs.Fields.{Fields, Filed, Named, Rest, Worded};
 
 use crate::LineRefusal;
-use crate::parts::{file_of, name_of, three_words, two_words, word_of};
+use crate::parts::{file_of, name_of, names_of, three_words, two_words, word_of};
 use span_types::{ByteList, Name};
 use std::alloc::Global;
 
@@ -56,8 +56,7 @@ pub fn two_names_and_word(alloc: Global, args: &[u8]) -> Result<(Name, Name, Byt
     let Some((first, second, word)) = three_words(args) else {
         return Err(LineRefusal::Syntax);
     };
-    let first = name_of(alloc, first)?;
-    let second = name_of(alloc, second)?;
+    let (first, second) = names_of(alloc, first, second)?;
     let word = word_of(alloc, word)?;
     Ok((first, second, word))
 }
@@ -70,8 +69,7 @@ pub fn three_names(alloc: Global, args: &[u8]) -> Result<(Name, Name, Name), Lin
     let Some((first, second, third)) = three_words(args) else {
         return Err(LineRefusal::Syntax);
     };
-    let first = name_of(alloc, first)?;
-    let second = name_of(alloc, second)?;
+    let (first, second) = names_of(alloc, first, second)?;
     let third = name_of(alloc, third)?;
     Ok((first, second, third))
 }

@@ -44,6 +44,16 @@ pub fn name_of(alloc: Global, text: &[u8]) -> Result<Name, LineRefusal>
     }
 }
 
+/// Two NAMEs.
+pub fn names_of(alloc: Global, first: &[u8], second: &[u8]) -> Result<(Name, Name), LineRefusal>
+    ensures ok { IfOk result (λ p. (p.0 ≡ first.now) × (p.1 ≡ second.now) × IsName p.0 × IsName p.1) }
+    ensures syntax { IfErr result (λ why. why ≡ LineRefusal.Syntax → IsName first.now × IsName second.now → ⊥) }
+{
+    let first = name_of(alloc, first)?;
+    let second = name_of(alloc, second)?;
+    Ok((first, second))
+}
+
 /// Whether all bytes are printable and none is a space.
 fn all_shown(text: &[u8]) -> bool
     ensures { result ≡ list_all (is_between 33 126) text.now }
