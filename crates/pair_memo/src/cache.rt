@@ -6,17 +6,20 @@ ghost use Rattle.pair_memo.specs.Entries.{Entry};
 use std::alloc::Global;
 use std::marker::Model;
 
-// The number of slots. They take 128 KB.
-const SLOTS: usize = 4096;
+// The number of slots. They take 256 KB.
+const SLOTS: usize = 1 << 14;
 
 // The number of entries from which the slots pay.
 const PAYS_FROM: usize = 64;
 
+// The slots have numbers below this one, so that they take half as much memory.
+const NUMBERS: usize = 1 << 32;
+
 /// Some entries, each in the slot of its pair, so that a lookup is one comparison. A new entry replaces the one in its
-/// slot. It has 4,096 slots once it has an entry. Contracts see it as the list of its slots.
+/// slot. It has 16,384 slots once it has an entry. Contracts see it as the list of its slots.
 #[derive(Drop)]
 pub struct PairCache {
-    slots: Vec<Option<((usize, usize), usize)>>,
+    slots: Vec<Option<((u32, u32), u32)>>,
 }
 
 impl Model for PairCache {
@@ -44,23 +47,26 @@ impl PairCache {
         ensures { IfSome result (λ number. (es : List Entry) → AreAmong self.now es → Contains es ((left, right), number)) }
     {
         let ((first, second), number) = (*self.slots.get(slot_of(left, right))?)?;
-        if first == left && second == right {
-            Some(number)
+        if first as usize == left && second as usize == right {
+            Some(number as usize)
         } else {
             None
         }
     }
 
-    /// Writes an entry to its slot, if memory allows. Until `count`, the number of entries that its user has, is 64, the
-    /// cache stays empty: it wouldn't pay.
+    /// Writes an entry whose numbers are below 2^32 to its slot, if memory allows. Until `count`, the number of entries that its
+    /// user has, is 64, the cache stays empty: it wouldn't pay.
     pub fn note(&mut self, left: usize, right: usize, number: usize, count: usize)
         ensures { (es : List Entry) → Contains es ((left, right), number) → AreAmong self.old es → AreAmong self.new es }
     {
         if self.slots.is_empty() && (count < PAYS_FROM || self.slots.resize(SLOTS, None).is_err()) {
             return;
         }
+        if left >= NUMBERS || right >= NUMBERS || number >= NUMBERS {
+            return;
+        }
         if let Some(slot) = self.slots.get_mut(slot_of(left, right)) {
-            *slot = Some(((left, right), number));
+            *slot = Some(((left as u32, right as u32), number as u32));
         }
     }
 
@@ -76,5 +82,5 @@ impl PairCache {
 // section 6.4).
 fn slot_of(left: usize, right: usize) -> usize {
     let mixed = left.wrapping_mul(0x9E37_79B9_7F4A_7C15).wrapping_add(right);
-    mixed.wrapping_mul(0x9E37_79B9_7F4A_7C15) >> 52
+    mixed.wrapping_mul(0x9E37_79B9_7F4A_7C15) >> 50
 }

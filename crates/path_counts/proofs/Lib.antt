@@ -8,3 +8,4 @@ pub mod Order
 pub mod Rows
 pub mod Numbers
 pub mod Meanings
+pub mod Unmarked

@@ -2,3 +2,4 @@ pub mod Paths
 pub mod Counting
 pub mod Digest
 pub mod Runs
+pub mod Pushed

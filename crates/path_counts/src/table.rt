@@ -4,6 +4,7 @@ ghost use Rattle.std.specs.Prelude.{◌↔◌, IsTrue, ◌≡◌, ℕ, ◌+◌, 
 ghost use Rattle.marker_dfa.specs.Deterministic.{DeterministicAutomaton, IsDeterministic, marks_of, next_of, states_of};
 ghost use Rattle.path_counts.specs.Paths.{stopped};
 ghost use Rattle.path_counts.specs.Digest.{digest_of};
+ghost use Rattle.path_counts.specs.Pushed.{IsPushed};
 ghost use Rattle.path_counts.specs.Counting.{AreCounts, IsByteRow, IsComposed, IsComposedRow, IsCountTable, IsCountTableOf, any_number_at, counts_at, hits, number_at, number_by_marks, number_from, number_onward, number_through, onward_from, unmarked_at};
 
 use crate::count::{Count, add, add_counts, is_same, sum_onward, take_counts};
@@ -177,8 +178,8 @@ fn add_from(sums: &mut [u64], table: &CountTable, state: Option<u16>)
     }
 }
 
-// The row of two texts joined, from that of the left text. The sums are a number for each state, all 0.
-fn composed(
+// The row of two texts joined, from the one of the left text with some counts or none. The sums are a number for each state, all 0.
+fn composed_by_sums(
     alloc: Global,
     left: &Row,
     right: &CountTable,
@@ -206,6 +207,86 @@ fn composed(
     })
 }
 
+// The row of two texts joined, from that of a left text without counts.
+fn composed_unmarked(
+    alloc: Global,
+    unmarked: Option<u16>,
+    right: &CountTable,
+) -> Result<Row, NoMemory>
+    requires { IfSome unmarked (λ q. q < length right.now) }
+    ensures row { IfOk result (IsComposedRow right.now (record { unmarked = unmarked; counts = [] })) }
+    ensures unmarked { IfOk result (λ r. IfSome r.unmarked (λ q. q < length right.now)) }
+    ensures counts { IfOk result (λ r. AreCounts (length right.now) r.counts) }
+{
+    let mut counts = Vec::new(alloc);
+    match unmarked {
+        Some(q) => {
+            counts.extend_from_slice(right.counts(q))?;
+            Ok(Row {
+                unmarked: right.unmarked(q),
+                counts,
+            })
+        }
+        None => Ok(Row {
+            unmarked: None,
+            counts,
+        }),
+    }
+}
+
+// The row of two texts joined, from that of the left text. The sums are a number for each state, all 0. Most rows have no counts,
+// and need no sums.
+fn composed(
+    alloc: Global,
+    left: &Row,
+    right: &CountTable,
+    sums: &mut [u64],
+) -> Result<Row, NoMemory>
+    requires unmarked { IfSome left.now.unmarked (λ q. q < length right.now) }
+    requires counts { All (λ c. c.state < length right.now) left.now.counts }
+    requires long { length sums.old ≡ length right.now }
+    requires few { length right.now < 2 ^ 16 }
+    requires clear { All (λ n. n ≡ 0) sums.old }
+    ensures row { IfOk result (IsComposedRow right.now left.now) }
+    ensures unmarked { IfOk result (λ r. IfSome r.unmarked (λ q. q < length right.now)) }
+    ensures counts { IfOk result (λ r. AreCounts (length right.now) r.counts) }
+    ensures clear { OnOk result (All (λ n. n ≡ 0) sums.new) }
+{
+    if left.counts.is_empty() {
+        composed_unmarked(alloc, left.unmarked, right)
+    } else {
+        composed_by_sums(alloc, left, right, sums)
+    }
+}
+
+// Appends the row of two texts joined, from that of the left text. The sums are a number for each state, all 0. Most rows lead
+// nowhere, and are written at once.
+fn push_composed(
+    alloc: Global,
+    rows: &mut Vec<Row>,
+    left: &Row,
+    right: &CountTable,
+    sums: &mut [u64],
+) -> Result<(), NoMemory>
+    requires unmarked { IfSome left.now.unmarked (λ q. q < length right.now) }
+    requires counts { All (λ c. c.state < length right.now) left.now.counts }
+    requires long { length sums.old ≡ length right.now }
+    requires few { length right.now < 2 ^ 16 }
+    requires clear { All (λ n. n ≡ 0) sums.old }
+    ensures row { OnOk result (IsPushed right.now left.now rows.old.items rows.new.items) }
+    ensures clear { OnOk result (All (λ n. n ≡ 0) sums.new) }
+{
+    if left.counts.is_empty() && left.unmarked.is_none() {
+        rows.push(Row {
+            unmarked: None,
+            counts: Vec::new(alloc),
+        })?;
+    } else {
+        rows.push(composed(alloc, left, right, sums)?)?;
+    }
+    Ok(())
+}
+
 // The rows of two texts joined. The sums are a number for each state, all 0.
 fn composed_rows(
     alloc: Global,
@@ -221,7 +302,7 @@ fn composed_rows(
 {
     let mut rows = Vec::with_capacity(alloc, right.states() as usize)?;
     for row in &left.rows {
-        rows.push(composed(alloc, row, right, sums)?)?;
+        push_composed(alloc, &mut rows, row, right, sums)?;
     }
     Ok(rows)
 }

@@ -3,8 +3,8 @@ use Rattle.marker_dfa.specs.Deterministic.{and_then}
 use Rattle.path_counts.specs.Paths.{stopped}
 use Rattle.path_counts.specs.Counting.{number_from, number_in, number_through, unmarked_at}
 use Rattle.path_counts.proofs.Adding.{sums-two}
-use Rattle.path_counts.proofs.table.composed.Goals as goal
-use Rattle.path_counts.proofs.table.composed.Goals.{in-Some, in-None}
+use Rattle.path_counts.proofs.table.composed_by_sums.Goals as goal
+use Rattle.path_counts.proofs.table.composed_by_sums.Goals.{in-Some, in-None}
 
 numbers : (c : goal.In_ok-take_counts) (q : ℕ) → q < length c.args.right.now
     → number_in c.in_ok-take_counts.field-0.items q ≡ stopped (number_from c.args.right.now c.args.left.now.unmarked q + number_through c.args.right.now c.args.left.now.counts q)
