@@ -5,7 +5,6 @@ use Rattle.std.specs.Map.{lookup}
 use Rattle.lru.specs.LruCache.{LruCache, lru_cache, put_entries}
 use Rattle.lru.proofs.CallerLemmas.{Contains-lookup, Contains-put_entries}
 use Rattle.std.specs.Map.{lookup_entry}
-use Rattle.std.specs.Option.{is_some}
 use Rattle.std.proofs.lemmas.List.{take_all}
 use Rattle.pair_memo.specs.Entries.{Entry}
 
@@ -65,7 +64,3 @@ room-put c k n none room =
 
 pub put-all : (c d : LruCache (ℕ × ℕ) ℕ) (k : ℕ × ℕ) (n : ℕ) → lookup (pair_eq k) c.entries ≡ None → length c.entries < c.cap → d ≡ lru_cache (put_entries pair_eq c k n) c.cap → d.entries ≡ (k, n) ∷ c.entries
 put-all c d k n none room is = ap (λ (x : LruCache (ℕ × ℕ) ℕ). x.entries) is ∙ room-put c k n none room
-
-pub none-of : (o : Option ℕ) → is_some o ≡ false → o ≡ None
-none-of None h = refl
-none-of (Some n) h = cc

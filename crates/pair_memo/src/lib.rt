@@ -149,12 +149,11 @@ fn put(
     ensures more { (e : Entry) → Contains entries.new.entries e → Contains entries.old.entries e ⊎ (e ≡ ((left, right), number)) }
     ensures among { AreAmong cache.old entries.old.entries → AreAmong cache.new entries.new.entries }
 {
-    if entries.contains(&(left, right)) {
-        return;
-    }
     let count = entries.len();
     match entries.put((left, right), number) {
-        Ok(_) => cache.note(left, right, number, count),
+        Ok(None) => cache.note(left, right, number, count),
+        // The pair had a number, which may be in the cache.
+        Ok(Some(_)) => cache.forget(),
         Err(_) => {}
     }
 }
