@@ -7,10 +7,10 @@ use Rattle.path_counts.specs.Counting.{CountRow, IsCountTableOf}
 unfoldable pub mixed : ℕ → ℕ → ℕ
 mixed digest n = bit_xor ((bit_xor digest n * 0x9e37_79b9_7f4a_7c15) % 2 ^ 64) ((bit_xor digest n * 0x9e37_79b9_7f4a_7c15) % 2 ^ 64 / 2 ^ 32)
 
--- a digest with some counts
+-- a digest with some counts: their states are told from coded ones, which are below 2^17
 abbrev pub with_counts : ℕ → List Count → ℕ
 with_counts digest [] = digest
-with_counts digest (c ∷ cs) = with_counts (mixed (mixed digest c.state) c.number) cs
+with_counts digest (c ∷ cs) = with_counts (mixed (mixed digest (c.state + 2 ^ 17)) c.number) cs
 
 -- 0 for no state, and else one more than the state
 abbrev pub code_of : Option ℕ → ℕ
@@ -19,7 +19,7 @@ code_of (Some q) = q + 1
 
 -- a digest with a row
 abbrev pub with_row : ℕ → CountRow → ℕ
-with_row digest row = with_counts (mixed (mixed digest (code_of row.unmarked)) (length row.counts)) row.counts
+with_row digest row = with_counts (mixed digest (code_of row.unmarked)) row.counts
 
 -- a digest with some rows
 abbrev pub with_rows : ℕ → List CountRow → ℕ

@@ -8,6 +8,9 @@ use crate::count::Count;
 // An odd number without a pattern.
 const FACTOR: u64 = 0x9E37_79B9_7F4A_7C15;
 
+// Tells the state of a count from the number of an unmarked state, which is smaller.
+const COUNTED: u64 = 1 << 17;
+
 /// The digest with a further number, by multiplicative hashing (D. E. Knuth, The Art of Computer Programming, volume 3, section
 /// 6.4).
 pub(crate) fn mixed(digest: u64, number: u64) -> u64
@@ -23,7 +26,7 @@ pub(crate) fn with_counts(digest: u64, counts: &[Count]) -> u64
 {
     let mut all = digest;
     for count in counts {
-        all = mixed(mixed(all, u64::from(count.state)), count.number);
+        all = mixed(mixed(all, u64::from(count.state) + COUNTED), count.number);
     }
     all
 }

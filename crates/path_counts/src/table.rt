@@ -120,10 +120,7 @@ fn digest_of(rows: &[Row]) -> u64
 {
     let mut all = 0;
     for row in rows {
-        all = with_counts(
-            mixed(mixed(all, coded(row.unmarked)), row.counts.len() as u64),
-            &row.counts,
-        );
+        all = with_counts(mixed(all, coded(row.unmarked)), &row.counts);
     }
     all
 }
