@@ -7,7 +7,7 @@ use Rattle.path_counts.specs.Counting.{CountRow, IsCountTableOf}
 unfoldable pub mixed : ℕ → ℕ → ℕ
 mixed digest n = bit_xor ((bit_xor digest n * 0x9e37_79b9_7f4a_7c15) % 2 ^ 64) ((bit_xor digest n * 0x9e37_79b9_7f4a_7c15) % 2 ^ 64 / 2 ^ 32)
 
--- a digest with some counts: their states are told from coded ones, which are below 2^17
+-- a digest with some counts: 2^17 keeps their states apart from coded ones, which are below it
 abbrev pub with_counts : ℕ → List Count → ℕ
 with_counts digest [] = digest
 with_counts digest (c ∷ cs) = with_counts (mixed (mixed digest (c.state + 2 ^ 17)) c.number) cs

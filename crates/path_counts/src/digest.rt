@@ -8,7 +8,7 @@ use crate::count::Count;
 // An odd number without a pattern.
 const FACTOR: u64 = 0x9E37_79B9_7F4A_7C15;
 
-// Tells the state of a count from the number of an unmarked state, which is smaller.
+// Keeps the state of a count apart from the number of an unmarked state, which is smaller.
 const COUNTED: u64 = 1 << 17;
 
 /// The digest with a further number, by multiplicative hashing (D. E. Knuth, The Art of Computer Programming, volume 3, section
