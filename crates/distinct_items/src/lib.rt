@@ -3,6 +3,7 @@
 //! ```text
 //! let number = items.insert(item)?;        // that of an equal item, or that of the new one, which is added last
 //! let same = items.at(number);
+//! let found = items.find(same);            // the number again
 //! items.keep_used(&mut numbers);           // the items whose numbers aren't among these go, and the numbers follow
 //! ```
 //!
@@ -14,13 +15,13 @@
 //! A lookup allocates nothing.
 //!
 //! Proved: Each item is kept once, and a number stays that of its item until `keep_used` (`insert`, `at`). Unused items
-//! go, and the others stay in their order (`keep_used`).
+//! go, and the others stay in their order (`keep_used`). A lookup finds an equal item if there is one (`find`).
 #![tactic(auto)]
 
-ghost use Rattle.std.specs.Prelude.{◌≡◌, ℕ, ◌-◌, ◌*◌, ◌^◌, ◌<◌, ◌≤◌, ◌↔◌, [], All, length, map, slice_get, vec_capacity, IfOk, IsTrue, OnErr, OnOk, Some};
+ghost use Rattle.std.specs.Prelude.{◌≡◌, ℕ, ◌-◌, ◌*◌, ◌^◌, ◌<◌, ◌≤◌, ◌↔◌, [], All, length, map, slice_get, vec_capacity, IfNone, IfOk, IfSome, IsTrue, OnErr, OnOk, Some};
 ghost use Rattle.slp_model.specs.Thin.{rank};
 ghost use Rattle.distinct_items.specs.Renumbering.{kept_items, used_of};
-ghost use Rattle.distinct_items.specs.Search.{IsEnd, IsOpen, IsSearchTree, TakesIn, bits_of};
+ghost use Rattle.distinct_items.specs.Search.{IsAbsent, IsEnd, IsOpen, IsSearchTree, TakesIn, bits_of};
 
 mod renumbering;
 #[cfg(test)]
@@ -109,6 +110,20 @@ impl<T: Digested> DistinctItems<T> {
         ensures { slice_get self.now number ≡ Some result.now }
     {
         &self.items[number]
+    }
+
+    /// The number of an equal item, if there is one.
+    pub fn find(&self, item: &T) -> Option<usize>
+        ensures found { IfSome result (λ n. slice_get self.now n ≡ Some item.now) }
+        ensures absent { IfNone result (IsAbsent self.now item.now) }
+    {
+        if self.roots == 0 {
+            return None;
+        }
+        match end_of(&self.items, self.roots, &self.links, item) {
+            End::At(index) => Some(index),
+            End::Open(_) => None,
+        }
     }
 
     /// The number of the item, which is added last if no equal one is there.
