@@ -6,6 +6,7 @@ use Rattle.span_types.specs.Names.{is_name}
 abbrev pub IsName : List ℕ → Type 0
 IsName text = is_name text ≡ true
 
+-- each of these is a name
 abbrev pub AreNames : List (List ℕ) → Type 0
 AreNames [] = Unit {0}
 AreNames (name ∷ names) = IsName name × AreNames names

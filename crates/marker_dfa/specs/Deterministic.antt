@@ -12,9 +12,11 @@ pub record DeterministicAutomaton : Type 0 where
   pub classes : List ℕ
   pub rows : List Row
 
+-- the number of states
 abbrev pub states_of : DeterministicAutomaton → ℕ
 states_of d = length d.rows
 
+-- apply a function to a value, if it is present
 abbrev pub and_then : {X Y : Type 0} → Option X → (X → Option Y) → Option Y
 and_then None f = None
 and_then (Some x) f = f x
@@ -33,6 +35,7 @@ abbrev pub marks_in : Option Cell → List ℕ
 marks_in None = []
 marks_in (Some c) = c.marks.items
 
+-- the marks with which the row of a state accepts at the end of a text
 abbrev pub ends_in : Option Row → List ℕ
 ends_in None = []
 ends_in (Some r) = r.ends.items

@@ -5,6 +5,7 @@ use Rattle.std.specs.Prelude.{◌≡◌, ℕ, ◌<◌, ◌↔◌, Bool, true, fa
 abbrev pub Subset : Type 0
 Subset = List Bool
 
+-- the set has this state
 abbrev pub IsIn : Subset → ℕ → Type 0
 IsIn x o = slice_index_or x o false ≡ true
 

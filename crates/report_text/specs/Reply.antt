@@ -5,6 +5,7 @@ use Rattle.std.specs.Fmt.{decimal}
 use Rattle.report_text.specs.declared.refusal.Refusal.{Refusal}
 use Rattle.report_text.specs.declared.refusal.Refusal.TheVariants.{Syntax, NoSuchDocument, NoSuchQuery, OutOfRange, TooLong, RangeTooWide, FormulaTooLong, BadFormula, TooDeep, TooManyPositions, TooManyVariables, NotFunctional, TooManyStates, BadTuple, OtherVariables, NoSuchFile, FileTooLong, CannotRead, CannotWrite, BadImage, QueryTooLarge, NotOneVariable, TooManyMatches, NoSuchVersion, TooManyAnswers}
 
+-- the hexadecimal digit for a number from 0 to 15, in lower case
 abbrev pub hex_digit : ℕ → ℕ
 hex_digit d = if nat_lt d 10 then 48 + d else 87 + d
 
@@ -15,6 +16,7 @@ shown_byte b = if b == 34 then 92 ∷ 34 ∷ []
     else (if nat_le 32 b && nat_le b 126 then b ∷ []
     else 92 ∷ 120 ∷ hex_digit (b / 16) ∷ hex_digit (b % 16) ∷ []))
 
+-- the bytes between quotes, each as `shown_byte` writes it
 abbrev pub quoted : List ℕ → List ℕ
 quoted bytes = 34 ∷ flat_map shown_byte bytes ++ 34 ∷ []
 

@@ -19,6 +19,7 @@ spaced word (next ∷ words) = word ++ 32 ∷ spaced next words
 abbrev pub is_file : List ℕ → Bool
 is_file text = nat_le 1 (length text) && (nat_le (length text) 255 && list_all (is_between 33 126) text)
 
+-- 1 to 255 bytes, each printable and not the space
 abbrev pub IsFile : List ℕ → Type 0
 IsFile text = is_file text ≡ true
 
@@ -26,6 +27,7 @@ IsFile text = is_file text ≡ true
 abbrev pub is_word : List ℕ → Bool
 is_word text = nat_le 1 (length text) && list_all (λ b. not (b == 32)) text
 
+-- one or more bytes, none of them the space
 abbrev pub IsWord : List ℕ → Type 0
 IsWord text = is_word text ≡ true
 
@@ -35,6 +37,7 @@ start_words First = []
 start_words (After word) = codes "after" ∷ word ∷ []
 start_words (At n) = codes "at" ∷ decimal n ∷ []
 
+-- what `after` or `at` specifies is a word, or a number from 1 to 2^64 - 2
 abbrev pub IsStart : ListStart → Type 0
 IsStart First = Unit {0}
 IsStart (After word) = IsWord word
@@ -45,6 +48,7 @@ abbrev pub limit_words : Option ℕ → List (List ℕ)
 limit_words None = []
 limit_words (Some n) = codes "limit" ∷ decimal n ∷ []
 
+-- the limit is 100 if none is specified, else a number from 1 to 10,000
 abbrev pub IsLimit : Option ℕ → ℕ → Type 0
 IsLimit None limit = limit ≡ 100
 IsLimit (Some n) limit = (1 ≤ n) × (n ≤ 10000) × (limit ≡ n)

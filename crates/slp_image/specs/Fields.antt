@@ -30,6 +30,7 @@ abbrev pub ◌>>=◌ : {A B : Type 0} → Result A ImageRefusal → (A → Resul
 abbrev pub Field : Type 0 → Type 0
 Field A = Result (A × List ℕ) ImageRefusal
 
+-- one byte
 abbrev pub byte_at : List ℕ → Field ℕ
 byte_at [] = Err Cut
 byte_at (b ∷ rest) = Ok (b, rest)

@@ -27,6 +27,7 @@ near_pair ns l r rest =
     then (if nat_le (leaves (tree ns l) + leaves (tree ns r)) (2 ^ 48) then Ok (record { entry = Pair (record { index = l }) (record { index = r }); cost = 1 }, rest) else Err Length)
     else Err Balance
 
+-- a record of kind 1 of version 1: the numbers of two earlier nodes whose pair is balanced
 unfoldable pub node_pair : List Node → List ℕ → Field (Added Node)
 node_pair ns bytes = do
   left ← child_at (length ns) bytes
@@ -39,6 +40,7 @@ byte_record keep bytes = do
   b ← byte_at bytes
   Ok (record { entry = keep b.0; cost = 0 }, b.1)
 
+-- a record of version 1: its kind, which is 0 for a byte or 1 for a pair, and its fields
 unfoldable pub node_at : List Node → List ℕ → Field (Added Node)
 node_at ns bytes = do
   kind ← byte_at bytes
@@ -46,21 +48,25 @@ node_at ns bytes = do
 
 -- VERSION 2: the value kept for a record is its text, and ts are the texts so far
 
+-- the text of an earlier record
 abbrev pub at : List (List ℕ) → ℕ → List ℕ
 at ts i = get_or ts i []
 
+-- a record of kind 1 of version 2: the numbers of two earlier records; its text is theirs, one after the other
 unfoldable pub text_pair : List (List ℕ) → List ℕ → Field (Added (List ℕ))
 text_pair ts bytes = do
   left ← child_at (length ts) bytes
   right ← child_at (length ts) left.1
   if nat_le (length (at ts left.0) + length (at ts right.0)) (2 ^ 48) then Ok (record { entry = at ts left.0 ++ at ts right.0; cost = 205 }, right.1) else Err Length
 
+-- a record of kind 2: the number of an earlier record and a count from 1; its text is that many copies
 unfoldable pub text_run : List (List ℕ) → List ℕ → Field (Added (List ℕ))
 text_run ts bytes = do
   child ← child_at (length ts) bytes
   count ← number_at child.1
   if count.0 == 0 then Err Count else if nat_le (count.0 * length (at ts child.0)) (2 ^ 48) then Ok (record { entry = copies count.0 (at ts child.0); cost = run_cost 64 count.0 }, count.1) else Err Length
 
+-- a record of version 2: its kind, which is 0 for a byte, 1 for a pair or 2 for copies, and its fields
 unfoldable pub text_at : List (List ℕ) → List ℕ → Field (Added (List ℕ))
 text_at ts bytes = do
   kind ← byte_at bytes
@@ -104,9 +110,11 @@ root_at count bytes = do
   root ← number_at bytes
   if root.0 == 2 ^ 64 - 1 then Ok (None, root.1) else if nat_lt root.0 count then Ok (Some root.0, root.1) else Err Root
 
+-- the names of the documents, in order
 abbrev pub names_of : List Document → List (List ℕ)
 names_of ds = map (λ d. d.name) ds
 
+-- a document: a name that none of these has, and its root
 unfoldable pub document_at : ℕ → List Document → List ℕ → Field Document
 document_at count ds bytes = do
   name ← name_at (names_of ds) bytes
@@ -130,9 +138,11 @@ pub record Contents (M : Type 0) : Type 0 where
   pub records : List M
   pub documents : List Document
 
+-- the documents that follow the records, with the cost of the records
 abbrev pub contents_after : {M : Type 0} → Outcome (List M × List ℕ) → Outcome (Contents M)
 contents_after read = record { cost = read.cost; answer = read.answer >>= λ x. documents_of (length x.0) x.1 >>= λ ds. Ok (record { records = x.0; documents = ds }) }
 
+-- the records and the documents that follow the number of records
 abbrev pub after_count : {M : Type 0} → (List M → List ℕ → Field (Added M)) → Field ℕ → Outcome (Contents M)
 after_count step (Err why) = record { cost = 0; answer = Err why }
 after_count step (Ok n) = contents_after (records_onto step n.0 [] 0 n.1)
@@ -141,6 +151,7 @@ after_count step (Ok n) = contents_after (records_onto step n.0 [] 0 n.1)
 unfoldable pub contents : {M : Type 0} → (List M → List ℕ → Field (Added M)) → List ℕ → Outcome (Contents M)
 contents step bytes = after_count step (number_at bytes)
 
+-- the version: one byte, 1 or 2
 unfoldable pub version_of : List ℕ → Field ℕ
 version_of bytes = do
   version ← byte_at bytes
@@ -166,15 +177,19 @@ abbrev pub content_of : (ℕ → List ℕ) → Option ℕ → List ℕ
 content_of content None = []
 content_of content (Some i) = content i
 
+-- what an image specifies: the text of each document, and the number of records
 abbrev pub meaning : {M : Type 0} → (List M → ℕ → List ℕ) → Outcome (Contents M) → Outcome Meaning
 meaning content read = record { cost = read.cost; answer = read.answer >>= λ x. Ok (record { documents = map (λ d. (d.name, content_of (content x.records) d.root)) x.documents; nodes = length x.records }) }
 
+-- the text of the node with this number
 abbrev pub node_text : List Node → ℕ → List ℕ
 node_text ns i = text (tree ns i)
 
+-- what an image specifies whose version has been read
 abbrev pub image_of : Field ℕ → Outcome Meaning
 image_of (Err why) = record { cost = 0; answer = Err why }
 image_of (Ok v) = if v.0 == 1 then meaning node_text (contents node_at v.1) else meaning at (contents text_at v.1)
 
+-- what the bytes of an image specify, or why they are rejected
 unfoldable pub image : List ℕ → Outcome Meaning
 image bytes = image_of (version_at bytes)

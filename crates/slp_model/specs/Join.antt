@@ -2,6 +2,7 @@
 use Rattle.std.specs.Prelude.{◌≡◌, ◌++◌, max, ℕ, ◌+◌, ◌-◌, ◌*◌, ◌≤◌, Bool, ◌&&◌, nat_le, nat_lt, if◌then◌else◌, Option, Some, None}
 use Rattle.slp_model.specs.Tree.{Tree, Leaf, Fork, height, text, IsBalanced, root_text, root_height}
 
+-- two heights differ by at most 1
 abbrev pub is_near : ℕ → ℕ → Bool
 is_near g h = nat_le g (h + 1) && nat_le h (g + 1)
 

@@ -30,9 +30,11 @@ pub record CopiedEnd (to from : List (List ℕ)) (base : ℕ) (a : Deterministic
 abbrev pub union_size : DeterministicAutomaton → DeterministicAutomaton → ℕ
 union_size a b = suc (states_of a) + states_of b
 
+-- Union: the occurrences are a start, the states of the left automaton and then those of the right one
 abbrev pub UnionStep : DeterministicAutomaton → List (List ℕ) → DeterministicAutomaton → List (List ℕ) → ℕ → ℕ → ℕ → ℕ → Type 0
 UnionStep a va b vb o m c p = CopiedStep (both_names va vb) va 1 a o m c p ⊎ CopiedStep (both_names va vb) vb (suc (states_of a)) b o m c p
 
+-- an occurrence of the union accepts at the end of a text where its source does
 abbrev pub UnionEnd : DeterministicAutomaton → List (List ℕ) → DeterministicAutomaton → List (List ℕ) → ℕ → ℕ → Type 0
 UnionEnd a va b vb o m = CopiedEnd (both_names va vb) va 1 a o m ⊎ CopiedEnd (both_names va vb) vb (suc (states_of a)) b o m
 
@@ -40,6 +42,7 @@ UnionEnd a va b vb o m = CopiedEnd (both_names va vb) va 1 a o m ⊎ CopiedEnd (
 abbrev pub ProjectStep : DeterministicAutomaton → List (List ℕ) → List (List ℕ) → ℕ → ℕ → ℕ → ℕ → Type 0
 ProjectStep a va keep o m b p = CopiedStep keep va 0 a o m b p
 
+-- an occurrence of the projection accepts at the end of a text where its source does
 abbrev pub ProjectEnd : DeterministicAutomaton → List (List ℕ) → List (List ℕ) → ℕ → ℕ → Type 0
 ProjectEnd a va keep o m = CopiedEnd keep va 0 a o m
 

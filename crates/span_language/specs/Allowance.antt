@@ -20,13 +20,16 @@ use Rattle.span_language.specs.Listed.{IsListReply}
 use Rattle.span_language.specs.Step.{IsWithin, IsAsked, IsFileRefused, IsRefused, IsReplacing, IsTakenOf, IsUnaskedOf, IsUnreplaced, load_size, most_spans, open_size}
 use Rattle.span_types.specs.declared.tuple.Span.{Span}
 
+-- the maximum number of table lookups and of node constructions
 pub record Allowance : Type 0 where
   pub looks : ℕ
   pub pairs : ℕ
 
+-- nothing may be spent
 abbrev pub no_steps : Allowance
 no_steps = record { looks = 0; pairs = 0 }
 
+-- the sum of two allowances
 abbrev pub both_of : Allowance → Allowance → Allowance
 both_of a b = record { looks = a.looks + b.looks; pairs = a.pairs + b.pairs }
 

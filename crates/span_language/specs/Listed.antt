@@ -57,6 +57,7 @@ pub record IsListReply (q : Query) (s : List ℕ) (start : ListStart) (n : ℕ) 
 abbrev pub doc_line : List ℕ → List ℕ
 doc_line name = codes "doc " ++ (name ++ 10 ∷ [])
 
+-- the line `done`
 abbrev pub done_line : List ℕ
 done_line = codes "done" ++ 10 ∷ []
 

@@ -18,6 +18,7 @@ ok_text = codes "ok" ++ 10 ∷ []
 abbrev pub yes_text : List ℕ
 yes_text = codes "yes" ++ 10 ∷ []
 
+-- the reply `no`
 abbrev pub no_text : List ℕ
 no_text = codes "no" ++ 10 ∷ []
 

@@ -12,6 +12,7 @@ use Rattle.span_language.specs.Step.{IsList, IsOfFile}
 use Rattle.span_language.specs.declared.told.Told.{Told}
 use Rattle.span_language.specs.declared.told.Told.TheVariants.{Quiet, Accepted, Refused}
 
+-- the line was rejected
 abbrev pub is_refused : Told → Bool
 is_refused Quiet = false
 is_refused Accepted = false
@@ -27,9 +28,11 @@ pub record Sum : Type 0 where
   pub compactions : ℕ
   pub counted : Bool
 
+-- the sum over no lines
 abbrev pub no_lines : Sum
 no_lines = record { refused = false; output = []; cost = no_steps; queries = 0; compactions = 0; counted = false }
 
+-- the sum over some lines and those after them
 abbrev pub both : Sum → Sum → Sum
 both a b = record {
   refused = a.refused || b.refused;
@@ -66,6 +69,7 @@ pub record Outside : Type 0 where
   pub counters : Counters
   pub places : ℕ
 
+-- what was written, the files and the three counters, as one record
 abbrev pub outside : Option (List ℕ) → Option Files → ℕ → ℕ → ℕ → Outside
 outside written files looks pairs places = record { written = written; files = files; counters = record { looks = looks; pairs = pairs }; places = places }
 

@@ -31,6 +31,7 @@ pub record World : Type 0 where
   pub state : State
   pub files : Option Files
 
+-- a state with the files outside, if they are known
 abbrev pub world : State → Option Files → World
 world state files = record { state = state; files = files }
 

@@ -64,6 +64,7 @@ IsFileRefused files name limit why = (LacksFile files name × (why ≡ NoSuchFil
 abbrev pub load_size : ℕ
 load_size = 2 ^ 32
 
+-- the maximum size of an image to open, in bytes: 2^30
 abbrev pub open_size : ℕ
 open_size = 2 ^ 30
 

@@ -36,6 +36,7 @@ pub record Moment : Type 0 where
   pub written : Option (List ℕ)
   pub number : ℕ
 
+-- a moment by its three fields
 abbrev pub moment : Option (List ℕ) → Option (List ℕ) → ℕ → Moment
 moment left written number = record { left = left; written = written; number = number }
 

@@ -6,6 +6,7 @@ abbrev pub fibonacci_pair : ℕ → ℕ × ℕ
 fibonacci_pair zero = (0, 1)
 fibonacci_pair (suc n) = let p = fibonacci_pair n in (p.1, p.0 + p.1)
 
+-- F(n): the n-th Fibonacci number
 unfoldable pub fibonacci : ℕ → ℕ
 fibonacci n = (fibonacci_pair n).0
 

@@ -19,6 +19,7 @@ last_lines =
     ∷ codes "names"
     ∷ []
 
+-- the lines of Demo(n): a text that is concatenated with itself n times, and then queries on it
 abbrev pub demo_lines : ℕ → List (List ℕ)
 demo_lines n = codes "text a ab" ∷ replicate n (codes "let a = concat(a,a)") ++ last_lines
 
