@@ -11,11 +11,11 @@ use Rattle.slp_model.specs.Nodes.{tree}
 use Rattle.slp_model.specs.Kept.{Keeps}
 use Rattle.slp_model.specs.Thin.{rank}
 use Rattle.marker_dfa.specs.Deterministic.{DeterministicAutomaton}
-use Rattle.state_tables.specs.Renumbering.{kept_items}
+use Rattle.distinct_items.specs.Renumbering.{kept_items}
 use Rattle.path_counts.specs.Counting.{CountRow, IsCountTable, IsCountTableOf}
 use Rattle.count_tables.specs.Dictionary.{CountDictionary, IsCountDictionary, AreDistinctTables, AreCountTables, count_of, distinct_of, kept_of, table_of, used_by}
-use Rattle.state_tables.proofs.Marks.{used-at, used-of-at}
-use Rattle.state_tables.proofs.Moving.{kept-long, kept-back, kept-at}
+use Rattle.distinct_items.proofs.Marks.{used-at, used-of-at}
+use Rattle.distinct_items.proofs.Moving.{kept-long, kept-back, kept-at}
 
 -- e has of d's tables those of the kept nodes
 pub record AreDropped (d : CountDictionary) (keep : List Bool) (e : CountDictionary) : Type 0 where

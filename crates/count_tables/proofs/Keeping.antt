@@ -1,29 +1,26 @@
 -- Each distinct table once.
-use Rattle.std.proofs.Common.{zero, suc, ◌≡◌, ℕ, ◌+◌, ◌<◌, ◌≤◌, ◌^◌, ◌⊎◌, refl, ap, sym, subst, arith, inl, inr, List, [], ◌∷◌, ◌++◌, ◌∙◌, length, length-append, get_or, Some, Result, Ok, Err, slice_get}
+use Rattle.std.proofs.Common.{◌≡◌, ℕ, ◌+◌, ◌<◌, ◌^◌, ◌⊎◌, ap, sym, subst, arith, inl, inr, List, [], ◌∷◌, ◌++◌, ◌∙◌, length, length-append, get_or, Some, Result, Ok, Err, slice_get}
 use Rattle.std.specs.Prelude.{IfOk, OnErr, OnOk}
 use Rattle.std.proofs.lemmas.Bool.{cases_lt}
+use Rattle.std.proofs.lemmas.List.{get_or_push}
 use Rattle.std.proofs.Math.ListN.{get_or-append}
-use Rattle.std.proofs.lemmas.Option.{slice_get-get_or}
-use Rattle.path_counts.specs.Counting.{CountRow, IsCountTableOf}
-use Rattle.count_tables.specs.Search.{IsAbsent, TakesIn}
+use Rattle.std.proofs.lemmas.Option.{get_or_from_slice_get, slice_get_within, slice_get-get_or}
+use Rattle.path_counts.specs.Counting.{CountRow, IsComposed, IsCountTableOf}
+use Rattle.distinct_items.specs.Search.{IsAbsent, TakesIn}
 use Rattle.count_tables.specs.Dictionary.{AreDistinctTables, AreKept}
 use Rattle.count_tables.specs.Remembered.{Extends}
 
 -- a kept table that is read
 pub kept-read : (kept : List (List CountRow)) (n : ℕ) (t : List CountRow) → slice_get kept n ≡ Some t → (n < length kept) × (get_or kept n [] ≡ t)
-kept-read [] n t h = cc
-kept-read (x ∷ kept) zero t h = (omega arith, cc)
-kept-read (x ∷ kept) (suc n) t h = let rest = kept-read kept n t h in (omega (arith, rest.0), rest.1)
+kept-read kept n t h = (slice_get_within kept n t h, get_or_from_slice_get kept n t [] h)
 
 pub read-ok : {E : Type 0} (r : Result ℕ E) (kept : List (List CountRow)) (t : List CountRow) → IfOk r (λ n. slice_get kept n ≡ Some t) → IfOk r (λ n. (n < length kept) × (get_or kept n [] ≡ t))
 read-ok (Ok n) kept t h = kept-read kept n t h
 read-ok (Err e) kept t h = h
 
-get_or-last : (kept : List (List CountRow)) (t : List CountRow) (n : ℕ) → length kept ≤ n → n < length (kept ++ t ∷ []) → get_or (kept ++ t ∷ []) n [] ≡ t
-get_or-last [] t zero h k = refl
-get_or-last [] t (suc n) h k = absurd (omega arith)
-get_or-last (x ∷ kept) t zero h k = absurd (omega arith)
-get_or-last (x ∷ kept) t (suc n) h k = get_or-last kept t n (omega arith) (omega arith)
+-- a composition of two kept tables that are read
+pub composed-read : (kept : List (List CountRow)) (left right : ℕ) (x y t : List CountRow) → slice_get kept left ≡ Some x → slice_get kept right ≡ Some y → IsComposed x y t → IsComposed (get_or kept left []) (get_or kept right []) t
+composed-read kept left right x y t first second is = rw (get_or_from_slice_get kept left x [] first, get_or_from_slice_get kept right y [] second) is
 
 -- a further table
 module _ (n : ℕ) (kept : List (List CountRow)) (t : List CountRow) (is : AreKept n kept) (shape : IsCountTableOf n t) (absent : IsAbsent kept t) (room : length kept + 1 < 2 ^ 32) where
@@ -33,7 +30,7 @@ module _ (n : ℕ) (kept : List (List CountRow)) (t : List CountRow) (is : AreKe
   shapes : (i : ℕ) → i < length (kept ++ t ∷ []) → IsCountTableOf n (get_or (kept ++ t ∷ []) i [])
   shapes i lt = elim (cases_lt i (length kept)) [
     | inl less ↦ subst (IsCountTableOf n) (sym (get_or-append kept (t ∷ []) [] i less)) (is.shapes i less)
-    | inr ge ↦ subst (IsCountTableOf n) (sym (get_or-last kept t i ge lt)) shape
+    | inr ge ↦ let same : length kept ≡ i = omega (arith, ge, lt, longer) in subst (IsCountTableOf n) (sym (get_or_push kept t [] i same)) shape
   ]
 
   -- where a kept table stands
@@ -42,7 +39,7 @@ module _ (n : ℕ) (kept : List (List CountRow)) (t : List CountRow) (is : AreKe
       let read = kept-read (kept ++ t ∷ []) i u h in
       elim (cases_lt i (length kept)) [
         | inl less ↦ inl (slice_get-get_or kept i [] less ∙ ap Some (sym (get_or-append kept (t ∷ []) [] i less) ∙ read.1))
-        | inr ge ↦ inr (omega (arith, ge, read.0, longer), sym (get_or-last kept t i ge read.0) ∙ read.1)
+        | inr ge ↦ let same : length kept ≡ i = omega (arith, ge, read.0, longer) in inr (sym same, sym (get_or_push kept t [] i same) ∙ read.1)
       ]
 
   apart : AreDistinctTables (kept ++ t ∷ [])

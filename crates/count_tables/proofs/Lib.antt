@@ -1,4 +1,3 @@
-pub mod SearchLemmas
 pub mod Keeping
 pub mod Joining
 pub mod Growing

@@ -4,7 +4,7 @@ use Rattle.slp_model.specs.declared.Node.{Node}
 use Rattle.slp_model.specs.Tree.{text}
 use Rattle.slp_model.specs.Nodes.{tree}
 use Rattle.marker_dfa.specs.Deterministic.{DeterministicAutomaton}
-use Rattle.state_tables.specs.Renumbering.{kept_items, used_of}
+use Rattle.distinct_items.specs.Renumbering.{kept_items, used_of}
 use Rattle.path_counts.specs.Counting.{CountRow, IsCountTable, IsCountTableOf}
 
 pub record CountDictionary : Type 0 where

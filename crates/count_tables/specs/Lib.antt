@@ -1,6 +1,3 @@
-pub mod Branch
-pub mod Search
-pub mod SetView
 pub mod Dictionary
 pub mod Remembered
 pub mod Kept

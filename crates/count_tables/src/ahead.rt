@@ -7,7 +7,7 @@ ghost use Rattle.count_tables.specs.Remembered.{AreTrueEntries, Extends};
 
 use crate::growth::{Growth, byte_number, keep_composed};
 use crate::pieces::{Job, Made, in_pieces};
-use crate::table_set::TableSet;
+use crate::tables::TableSet;
 use node_store::{Node, NodeId};
 use pair_memo::PairMemo;
 use span_types::NoMemory;

@@ -9,7 +9,7 @@ ghost use Rattle.count_tables.specs.Dictionary.{AreKept, AreNodeTables};
 ghost use Rattle.count_tables.specs.Remembered.{AreTrueEntries, Extends};
 
 use crate::ahead::{NODES_ALWAYS_CUT, ROWS_WORTH_A_THREAD, find_ahead};
-use crate::table_set::TableSet;
+use crate::tables::TableSet;
 use marker_dfa::Dfa;
 use node_store::{Node, NodeId, Store};
 use pair_memo::PairMemo;

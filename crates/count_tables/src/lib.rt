@@ -35,7 +35,6 @@ mod part;
 mod pieces;
 pub mod rank;
 mod renumbering;
-mod table_set;
 pub mod tables;
 
 pub use tables::CountTables;

@@ -4,7 +4,7 @@ ghost use Rattle.std.specs.Prelude.{◌≡◌, ◌++◌, All, IfOk};
 ghost use Rattle.std.specs.Thread.{IsSync};
 ghost use Rattle.count_tables.specs.Ahead.{AreMade, IsComposable};
 
-use crate::table_set::TableSet;
+use crate::tables::TableSet;
 use path_counts::{CountTable, compose};
 use span_types::NoMemory;
 use std::alloc::Global;

@@ -5,12 +5,12 @@ ghost use Rattle.slp_model.specs.declared.Node.{Node};
 ghost use Rattle.slp_model.specs.Kept.{Keeps};
 ghost use Rattle.slp_model.specs.Thin.{IsThinOf, rank};
 ghost use Rattle.marker_dfa.specs.Deterministic.{DeterministicAutomaton, states_of};
-ghost use Rattle.state_tables.specs.Renumbering.{kept_items};
+ghost use Rattle.distinct_items.specs.Renumbering.{kept_items};
 ghost use Rattle.count_tables.specs.Dictionary.{AreCountTables, IsCountDictionary, count_of, distinct_of, kept_of, table_of, used_by};
 
 use crate::growth::{Growth, REMEMBERED, grow};
 use crate::renumbering::renumber;
-use crate::table_set::TableSet;
+use distinct_items::DistinctItems;
 use marker_dfa::Dfa;
 use node_store::{Moves, NodeId, Store};
 use pair_memo::PairMemo;
@@ -21,6 +21,9 @@ use std::marker::Model;
 use std::sync::ledger::Ledger;
 use std::thread::Threads;
 use work_gate::Gate;
+
+/// Distinct counting tables under numbers.
+pub(crate) type TableSet = DistinctItems<CountTable>;
 
 /// Each distinct counting table once, under a number from 0, and for each node the number of its table.
 #[derive(Drop)]

@@ -3,12 +3,14 @@
 ghost use Rattle.std.specs.Prelude.{◌↔◌, IsTrue, ◌≡◌, ℕ, ◌+◌, ◌*◌, ◌<◌, ◌≤◌, ◌^◌, ◌==◌, ◌++◌, [], ◌∷◌, List, length, All, IfSome, IfOk, OnOk, slice_index, if◌then◌else◌};
 ghost use Rattle.marker_dfa.specs.Deterministic.{DeterministicAutomaton, IsDeterministic, marks_of, next_of, states_of};
 ghost use Rattle.path_counts.specs.Paths.{stopped};
+ghost use Rattle.path_counts.specs.Branch.{branch_of, root_of};
 ghost use Rattle.path_counts.specs.Digest.{digest_of};
 ghost use Rattle.path_counts.specs.Pushed.{IsPushed};
 ghost use Rattle.path_counts.specs.Counting.{AreCounts, IsByteRow, IsComposed, IsComposedRow, IsCountTable, IsCountTableOf, any_number_at, counts_at, hits, number_at, number_by_marks, number_from, number_onward, number_through, onward_from, unmarked_at};
 
 use crate::count::{Count, add, add_counts, is_same, sum_onward, take_counts};
 use crate::digest::{coded, mixed, with_counts};
+use distinct_items::Digested;
 use marker_dfa::Dfa;
 use span_types::NoMemory;
 use std::alloc::Global;
@@ -76,20 +78,6 @@ impl CountTable {
         &self.rows[p as usize].counts
     }
 
-    /// A number by which equal tables are found.
-    pub fn digest(&self) -> u64
-        ensures { result ≡ digest_of self.now }
-    {
-        self.digest
-    }
-
-    /// Whether the tables are the same. It takes constant time where their digests differ.
-    pub fn is_same(&self, other: &CountTable) -> bool
-        ensures { IsTrue result ↔ self.now ≡ other.now }
-    {
-        self.digest == other.digest && is_same_rows(&self.rows, &other.rows)
-    }
-
     /// The sum over the marked texts that lead on from `p` with some mark, of what `after` says of the state to which each leads.
     /// It stops at `u64::MAX`.
     pub fn marked(&self, p: u16, after: &[u64]) -> u64
@@ -111,6 +99,26 @@ impl CountTable {
             Some(q) => marked.saturating_add(after[q as usize]),
             None => marked,
         }
+    }
+}
+
+// A table is found by its digest, which is computed once.
+impl Digested for CountTable {
+    ghost root = { root_of };
+
+    ghost branch = { branch_of };
+
+    fn root(&self, roots: usize) -> usize {
+        (self.digest % roots as u64) as usize
+    }
+
+    fn branch(&self, depth: usize) -> usize {
+        (self.digest >> (63 - depth % 64) as u32 & 1) as usize
+    }
+
+    // It takes constant time where the digests differ.
+    fn is_same(&self, other: &CountTable) -> bool {
+        self.digest == other.digest && is_same_rows(&self.rows, &other.rows)
     }
 }
 

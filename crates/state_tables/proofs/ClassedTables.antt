@@ -1,11 +1,12 @@
 -- Tables by classes.
-use Rattle.std.proofs.Common.{◌≡◌, ℕ, ◌<◌, Bool, true, false, inl, inr, refl, ap, sym, ◌∙◌, arith, List, length, map, get_or, ext_get_or}
+use Rattle.std.proofs.Common.{◌≡◌, ℕ, ◌<◌, Bool, true, false, inl, inr, refl, ap, sym, ◌∙◌, arith, List, length, get_or, ext_get_or}
 use Rattle.std.proofs.lemmas.Bool.{cases_lt}
 use Rattle.state_tables.specs.StateSet.{member, word_count}
 use Rattle.state_tables.specs.Table.{IsTableOf, Row, no_row, row_at}
 use Rattle.state_tables.specs.Coded.{RowList, table_of}
 use Rattle.state_tables.specs.Classed.{IsClassed}
-use Rattle.state_tables.specs.Digest.{digest_of, digest_of_numbers, row_digest}
+use Rattle.state_tables.specs.Digest.{digest_of, row_number, sum_digest}
+use Rattle.state_tables.specs.Weights.{weighted}
 use Rattle.state_tables.specs.Same.{table_eq, table_same}
 use Rattle.state_tables.proofs.Collecting.{length-table, state-row}
 use Rattle.state_tables.proofs.Keeping.{table-self}
@@ -29,10 +30,11 @@ shape-classed cs list is =
     }
 
 -- the digest of the table
-pub digest-classed : (cs : List ℕ) (list : RowList) → IsClassed cs list → digest_of_numbers (map (row_digest list.width) (table_of cs list.rows)) ≡ digest_of (table_of cs list.rows)
+pub digest-classed : (cs : List ℕ) (list : RowList) → IsClassed cs list
+    → sum_digest (weighted (row_number list.width) 0 (table_of cs list.rows)) ≡ digest_of (table_of cs list.rows)
 unfolding digest_of
 digest-classed cs list is =
-    ap (λ w. digest_of_numbers (map (row_digest w) (table_of cs list.rows))) (is.width ∙ ap word_count (sym (length-table cs list.rows)))
+    ap (λ w. sum_digest (weighted (row_number w) 0 (table_of cs list.rows))) (is.width ∙ ap word_count (sym (length-table cs list.rows)))
 
 -- ---- tables that differ
 differ-by : (xs ys : List Row) (p : ℕ) (b : Bool) → table_eq xs ys ≡ b → (row_at xs p ≡ row_at ys p → ⊥) → b ≡ false

@@ -1,9 +1,10 @@
 -- What the lists of rows give.
-use Rattle.std.proofs.Common.{zero, suc, ◌≡◌, ℕ, ◌+◌, ◌-◌, ◌*◌, ◌<◌, ◌≤◌, Bool, true, false, nat_eq, refl, ap, sym, ◌∙◌, arith, List, [], ◌∷◌, ◌++◌, length, take, drop, get_or, Option, Some, None, mul-le-mul_right, suc-mul, zero-mul}
+use Rattle.std.proofs.Common.{zero, suc, ◌≡◌, ℕ, ◌+◌, ◌-◌, ◌*◌, ◌<◌, ◌≤◌, Bool, true, false, nat_eq, refl, ap, sym, ◌∙◌, arith, List, [], ◌∷◌, ◌++◌, length, take, drop, get_or, ext_get_or, Option, Some, None, mul-le-mul_right, suc-mul, zero-mul}
 use Rattle.std.proofs.lemmas.Bool.{eq-eqb}
 use Rattle.std.proofs.lemmas.List.{drop-append-le, drop-drop, length-drop, take-append-le, take_all}
 use Rattle.std.specs.Option.{SomeIff}
-use Rattle.state_tables.specs.Table.{Row, row_at}
+use Rattle.state_tables.specs.StateSet.{number_of_words}
+use Rattle.state_tables.specs.Table.{Row, no_row, row_at}
 use Rattle.state_tables.specs.Coded.{RowList, code_of, row_of, rows_of, step_of}
 use Rattle.state_tables.specs.Digest.{digest_of}
 use Rattle.state_tables.specs.Same.{table_eq, table_same}
@@ -22,6 +23,18 @@ step_of-code_of (Some q) = refl
 pub code_of-step_of : (u : ℕ) → code_of (step_of u) ≡ u
 code_of-step_of zero = refl
 code_of-step_of (suc q) = refl
+
+-- a row is told by its code and the words of its set
+pub row-told : (row : Row) (code : ℕ) (ws : List ℕ) → code ≡ code_of row.unmarked → number_of_words ws ≡ row.marked → row_of code ws ≡ row
+row-told row code ws e m =
+    let make : Option ℕ → ℕ → Row = λ u n. record { unmarked = u; marked = n } in
+    ap (λ z. make z (number_of_words ws)) (ap step_of e ∙ step_of-code_of row.unmarked) ∙ ap (make row.unmarked) m
+
+-- two lists of rows are the same
+pub lists-same : (a b : RowList) → a.width ≡ b.width → length a.rows ≡ length b.rows → ((k : ℕ) → k < length a.rows → row_at a.rows k ≡ row_at b.rows k) → a ≡ b
+lists-same a b wide long each =
+    let make : ℕ → List Row → RowList = λ w rows. record { width = w; rows = rows } in
+    ap (λ w. make w a.rows) wide ∙ ap (make b.width) (ext_get_or no_row a.rows b.rows long each)
 
 -- ---- the rows of the lists
 pub rows-length : (w : ℕ) (us ws : List ℕ) → length (rows_of w us ws) ≡ length us

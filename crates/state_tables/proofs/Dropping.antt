@@ -14,10 +14,10 @@ use Rattle.marker_dfa.specs.Deterministic.{DeterministicAutomaton}
 use Rattle.state_tables.specs.Table.{Row, IsTableOf}
 use Rattle.state_tables.specs.Meaning.{IsTable}
 use Rattle.state_tables.specs.Dictionary.{Dictionary, IsDictionary, AreDistinctTables, AreTables, count_of, distinct_of, kept_of, table_of}
-use Rattle.state_tables.specs.Renumbering.{kept_items}
+use Rattle.distinct_items.specs.Renumbering.{kept_items}
 use Rattle.state_tables.specs.Dropped.{used_by}
-use Rattle.state_tables.proofs.Marks.{used-at, used-of-at}
-use Rattle.state_tables.proofs.Moving.{kept-long, kept-back, kept-at}
+use Rattle.distinct_items.proofs.Marks.{used-at, used-of-at}
+use Rattle.distinct_items.proofs.Moving.{kept-long, kept-back, kept-at}
 
 -- e has of d's tables those of the kept nodes
 pub record AreDropped (d : Dictionary) (keep : List Bool) (e : Dictionary) : Type 0 where

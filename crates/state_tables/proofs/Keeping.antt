@@ -5,9 +5,9 @@ use Rattle.std.specs.Option.{option_eq}
 use Rattle.std.proofs.lemmas.Bool.{cases_lt, eq-eqb}
 use Rattle.std.proofs.Math.ListN.{get_or-append}
 use Rattle.std.proofs.lemmas.Option.{slice_get-get_or}
+use Rattle.distinct_items.specs.Search.{IsAbsent, TakesIn}
 use Rattle.state_tables.specs.Table.{Row, IsTableOf}
 use Rattle.state_tables.specs.Same.{row_eq, table_eq}
-use Rattle.state_tables.specs.Search.{IsAbsent, TakesIn}
 use Rattle.state_tables.specs.Dictionary.{Dictionary, IsDictionary, AreDistinctTables}
 
 option-self : (o : Option ℕ) → option_eq nat_eq o o ≡ true

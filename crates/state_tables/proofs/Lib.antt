@@ -1,7 +1,8 @@
 pub mod StateSets
 pub mod Words
 pub mod CodedRows
-pub mod Digests
+pub mod Weights
+pub mod Partitions
 pub mod RowSets
 pub mod Bijection
 pub mod Members
@@ -13,9 +14,7 @@ pub mod Paths
 pub mod Keeping
 pub mod ClassedTables
 pub mod Placing
-pub mod Moving
 pub mod Branches
-pub mod Marks
-pub mod Used
+pub mod SetBranches
+pub mod SharedLists
 pub mod Dropping
-pub mod SearchLemmas

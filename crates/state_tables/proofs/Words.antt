@@ -1,11 +1,11 @@
 -- Sets of states as words.
-use Rattle.std.proofs.Common.{zero, suc, ◌≡◌, ◌≢◌, ℕ, ◌+◌, ◌-◌, ◌<◌, ◌*◌, ◌%◌, ◌^◌, inl, inr, max, bit_and, bit_or, List, [], ◌∷◌, length, get_or, set, refl, ap, sym, ◌∙◌, arith, add-zero, zero-add, one-mul, mod-eq_of_lt}
+use Rattle.std.proofs.Common.{zero, suc, ◌≡◌, ◌≢◌, ℕ, ◌+◌, ◌-◌, ◌<◌, ◌*◌, ◌/◌, ◌%◌, ◌^◌, inl, inr, max, bit_and, bit_or, List, [], ◌∷◌, length, get_or, set, refl, ap, sym, ◌∙◌, arith, add-zero, zero-add, one-mul, mod-eq_of_lt}
 use Rattle.std.proofs.lemmas.Bool.{cases_lt}
 use Rattle.std.specs.Int.{bit_at}
 use Rattle.std.specs.Int.Bits.{bit_xor, or_zero_r, xor_add_and}
 use Rattle.std.proofs.lemmas.Nat.{or_lt, pow-add, pow_below, pow_pos}
 use Rattle.std.proofs.lemmas.Nat.Bits.{bit_at_or, bit_at_xor, bit_at-pow_same, bit_at-pow_other, bit_at-lt, same_from_bits, bit_at_cat_low, bit_at_cat_high, and_pow}
-use Rattle.state_tables.specs.StateSet.{AreWords, number_of_words}
+use Rattle.state_tables.specs.StateSet.{AreWords, number_of_words, words_of}
 
 -- a word that isn't 0
 pub words-some : (ws : List ℕ) (i : ℕ) → get_or ws i 0 ≢ 0 → number_of_words ws ≢ 0
@@ -87,3 +87,20 @@ bit-less word bit h =
 -- a bit of a word, as it is computed
 pub single-bit : (b : ℕ) → b < 64 → 1 * 2 ^ b % 2 ^ 64 ≡ 2 ^ b
 single-bit b few = ap (λ n. n % 2 ^ 64) (one-mul (2 ^ b)) ∙ mod-eq_of_lt (pow_below b 64 few)
+
+-- ---- the words come back from the number
+low-part : (n w : ℕ) → w < 2 ^ 64 → (n * 2 ^ 64 + w) % 2 ^ 64 ≡ w
+low-part n w lt = omega (arith, lt)
+
+high-part : (n w : ℕ) → w < 2 ^ 64 → (n * 2 ^ 64 + w) / 2 ^ 64 ≡ n
+high-part n w lt = omega (arith, lt)
+
+pub words-back : (ws : List ℕ) → AreWords ws → words_of (length ws) (number_of_words ws) ≡ ws
+words-back [] are = refl
+words-back (w ∷ ws) are =
+    ap (λ x. x ∷ words_of (length ws) ((number_of_words ws * 2 ^ 64 + w) / 2 ^ 64)) (low-part (number_of_words ws) w (are 0))
+    ∙ ap (λ n. w ∷ words_of (length ws) n) (high-part (number_of_words ws) w (are 0))
+    ∙ ap (λ x. w ∷ x) (words-back ws (λ i. are (suc i)))
+
+pub words-told : (ws vs : List ℕ) → AreWords ws → AreWords vs → length ws ≡ length vs → number_of_words ws ≡ number_of_words vs → ws ≡ vs
+words-told ws vs w v long e = sym (words-back ws w) ∙ ap (λ n. words_of n (number_of_words ws)) long ∙ ap (words_of (length vs)) e ∙ words-back vs v

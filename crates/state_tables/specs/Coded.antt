@@ -22,6 +22,12 @@ abbrev pub rows_of : ℕ → List ℕ → List ℕ → List Row
 rows_of width [] words = []
 rows_of width (code ∷ codes) words = row_of code (take width words) ∷ rows_of width codes (drop width words)
 
+-- the rows of these codes and the words of these sets
+abbrev pub rows_with : List ℕ → List (List ℕ) → List Row
+rows_with [] sets = []
+rows_with (code ∷ codes) [] = row_of code [] ∷ rows_with codes []
+rows_with (code ∷ codes) (words ∷ sets) = row_of code words ∷ rows_with codes sets
+
 -- rows, and how many words the set of each has
 pub record RowList : Type 0 where
   pub width : ℕ

@@ -1,10 +1,10 @@
 -- A number of 128 bits computed from a table, by which equal tables are found. It is two numbers of 64 bits, the first
 -- one the lower half.
-use Rattle.std.specs.Prelude.{ℕ, ◌+◌, ◌-◌, ◌*◌, ◌/◌, ◌%◌, ◌^◌, List, ◌∷◌, length, map, bit_and, bit_xor}
-use Rattle.std.specs.List.{fold}
+use Rattle.std.specs.Prelude.{ℕ, ◌+◌, ◌-◌, ◌*◌, ◌/◌, ◌%◌, ◌^◌, List, length, bit_and, bit_xor}
 use Rattle.state_tables.specs.StateSet.{word_count, words_of}
 use Rattle.state_tables.specs.Table.{Row}
 use Rattle.state_tables.specs.Coded.{code_of}
+use Rattle.state_tables.specs.Weights.{weighted}
 
 abbrev pub low_of : ℕ → ℕ
 low_of n = bit_and n (2 ^ 64 - 1)
@@ -28,14 +28,22 @@ joined_of across back = low_of back * 2 ^ 64 + (low_of across + high_of back) % 
 unfoldable pub digest_with : ℕ → ℕ → ℕ
 digest_with digest n = joined_of (across_of digest n) (second_of digest n (across_of digest n) * 0xd6e8_feb8_6659_fd93)
 
--- the digest of some numbers
-unfoldable pub digest_of_numbers : List ℕ → ℕ
-digest_of_numbers ns = fold digest_with 0x1319_8a2e_0370_7344_243f_6a88_85a3_08d3 ns
+-- the digest of a sum modulo 2^64
+abbrev pub sum_digest : ℕ → ℕ
+sum_digest n = digest_with 0x1319_8a2e_0370_7344_243f_6a88_85a3_08d3 (n % 2 ^ 64)
 
--- the digest of a row, of its code and the words of its set
-abbrev pub row_digest : ℕ → Row → ℕ
-row_digest width row = digest_of_numbers (code_of row.unmarked ∷ words_of width row.marked)
+-- a number of 64 bits for a word: the two halves of its product with an odd constant, added
+unfoldable pub word_number : ℕ → ℕ
+word_number word = (low_of (word * 0x9e37_79b9_7f4a_7c15) + high_of (word * 0x9e37_79b9_7f4a_7c15)) % 2 ^ 64
 
--- the digest of a table, of those of its rows
+-- the digest of a set, of the numbers of its words, each times the weight of its index
+unfoldable pub set_digest : List ℕ → ℕ
+set_digest words = sum_digest (weighted word_number 0 words)
+
+-- a number of 64 bits for a row, of the words of its set and its code
+unfoldable pub row_number : ℕ → Row → ℕ
+row_number width row = low_of (digest_with (set_digest (words_of width row.marked)) (code_of row.unmarked))
+
+-- the digest of a table, of the numbers of its rows, each times the weight of its state
 unfoldable pub digest_of : List Row → ℕ
-digest_of t = digest_of_numbers (map (row_digest (word_count (length t))) t)
+digest_of t = sum_digest (weighted (row_number (word_count (length t))) 0 t)

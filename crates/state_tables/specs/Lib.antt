@@ -6,13 +6,14 @@ pub mod Coded
 pub mod RowSet
 pub mod Classed
 pub mod Reached
+pub mod Weights
 pub mod Digest
+pub mod Partition
+pub mod SharedSet
+pub mod TableRows
 pub mod Branch
 pub mod Same
 pub mod Meaning
-pub mod Search
-pub mod SetView
 pub mod Dictionary
 pub mod Kept
-pub mod Renumbering
 pub mod Dropped

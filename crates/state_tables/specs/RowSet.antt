@@ -1,15 +1,15 @@
--- Rows that are found by their digests.
+-- Rows that are found by their numbers.
 use Rattle.std.specs.Prelude.{◌≡◌, ◌⊎◌, ℕ, ◌<◌, ◌≤◌, List, length, slice_index_or}
 use Rattle.state_tables.specs.Table.{Row, row_at}
 use Rattle.state_tables.specs.Coded.{RowList, with_row}
-use Rattle.state_tables.specs.Digest.{row_digest}
+use Rattle.state_tables.specs.Digest.{row_number}
 use Rattle.state_tables.specs.declared.row_set.Slot.{Slot}
 use Rattle.state_tables.specs.declared.row_set.Slot.TheVariants.{Free, Taken}
 
--- each row has its digest, and each slot one more than the index of a row, or 0
-pub record IsRowSet (list : RowList) (digests slots : List ℕ) : Type 0 where
-  pub as_long : length digests ≡ length list.rows
-  pub digests_are : (k : ℕ) → k < length list.rows → slice_index_or digests k 0 ≡ row_digest list.width (row_at list.rows k)
+-- each row has its number, and each slot one more than the index of a row, or 0
+pub record IsRowSet (list : RowList) (numbers slots : List ℕ) : Type 0 where
+  pub as_long : length numbers ≡ length list.rows
+  pub numbers_are : (k : ℕ) → k < length list.rows → slice_index_or numbers k 0 ≡ row_number list.width (row_at list.rows k)
   pub some : 0 < length slots
   pub within : (s : ℕ) → slice_index_or slots s 0 ≤ length list.rows
 

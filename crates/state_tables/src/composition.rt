@@ -6,11 +6,12 @@ ghost use Rattle.state_tables.specs.Table.{compose_of, compose_row, row_at};
 ghost use Rattle.state_tables.specs.Coded.{table_of};
 ghost use Rattle.state_tables.specs.Classed.{ArePlaced, AreWithin, IsClassed};
 ghost use Rattle.state_tables.specs.Meaning.{IsTable};
+ghost use Rattle.state_tables.specs.TableRows.{list_of};
 
-use crate::reached::compose_row;
+use crate::reached::{compose_row, reach_set};
 use crate::row_set::RowSet;
-use crate::rows::Rows;
 use crate::table::Table;
+use crate::table_rows::TableRows;
 use span_types::NoMemory;
 use std::alloc::Global;
 
@@ -27,46 +28,42 @@ pub fn compose(alloc: Global, left: &Table, right: &Table) -> Result<Table, NoMe
         → IsTable a s left.now → IsTable a u right.now → IsTable a (s ++ u) t) }
 {
     let mut set = RowSet::with_capacity(alloc, right.rows.width(), left.rows.len() as u16)?;
-    let places = compose_rows(alloc, &left.rows, &right.classes, &right.rows, &mut set)?;
-    let classes = through(alloc, &left.classes, &places)?;
-    Ok(Table::from_classes(classes, set))
+    let places = compose_rows(
+        alloc,
+        &left.rows,
+        right.partition.classes(),
+        &right.rows,
+        &mut set,
+    )?;
+    let partition = left.partition.merged(alloc, &places)?;
+    Ok(Table::from_partition(partition, set))
 }
 
 // The rows of the left text composed with those of the right one, and the index of each among them.
 fn compose_rows(
     alloc: Global,
-    left: &Rows,
+    left: &TableRows,
     classes: &[u16],
-    rows: &Rows,
+    rows: &TableRows,
     set: &mut RowSet,
 ) -> Result<Vec<u16>, NoMemory>
-    requires right { IsClassed classes.now rows.now }
-    requires left { AreWithin (length classes.now) left.now.rows }
-    requires few { length left.now.rows ≤ length classes.now }
-    requires width { left.now.width ≡ rows.now.width }
-    requires empty { set.old ≡ record { width = rows.now.width; rows = [] } }
-    ensures width { OnOk result (set.new.width ≡ rows.now.width) }
-    ensures placed { IfOk result (λ places. ArePlaced (λ k. compose_row (table_of classes.now rows.now.rows) (row_at left.now.rows k))
-        (length left.now.rows) (length classes.now) places.items set.new) }
+    requires right { IsClassed classes.now (list_of rows.now) }
+    requires left { AreWithin (length classes.now) (list_of left.now).rows }
+    requires few { length (list_of left.now).rows ≤ length classes.now }
+    requires width { (list_of left.now).width ≡ (list_of rows.now).width }
+    requires empty { set.old ≡ record { width = (list_of rows.now).width; rows = [] } }
+    ensures width { OnOk result (set.new.width ≡ (list_of rows.now).width) }
+    ensures placed { IfOk result (λ places. ArePlaced (λ k. compose_row (table_of classes.now (list_of rows.now).rows) (row_at (list_of left.now).rows k))
+        (length (list_of left.now).rows) (length classes.now) places.items set.new) }
 {
     let mut words = vec![in alloc; 0; rows.width()]?;
+    let mut reached = vec![in alloc; 0; rows.width()]?;
     let mut taken = vec![in alloc; false; rows.len()]?;
     let mut places = Vec::with_capacity(alloc, left.len())?;
     for row in 0..left.len() {
-        let code = compose_row(&mut words, &mut taken, left, row, classes, rows);
+        reach_set(&mut reached, &mut taken, left, row, classes, rows);
+        let code = compose_row(&mut words, &reached, classes, rows, left.code(row));
         places.push(set.place_of(code, &words)?)?;
     }
     Ok(places)
-}
-
-// The index of each state's row, from that of its class.
-fn through(alloc: Global, classes: &[u16], places: &[u16]) -> Result<Vec<u16>, NoMemory>
-    requires { (p : ℕ) → p < length classes.now → get_or classes.now p 0 < length places.now }
-    ensures { IfOk result (λ v. v.items ≡ map (λ c. get_or places.now c 0) classes.now) }
-{
-    let mut result = Vec::with_capacity(alloc, classes.len())?;
-    for class in classes {
-        result.push(places[*class as usize])?;
-    }
-    Ok(result)
 }

@@ -1,7 +1,7 @@
-//! Numbers of 128 bits by which equal rows and equal tables are found.
+//! Numbers by which equal rows, sets and tables are found.
 
-ghost use Rattle.std.specs.Prelude.{◌≡◌, ℕ, ◌<◌, ◌*◌, ◌^◌, ◌∷◌, length, map, get_or};
-ghost use Rattle.state_tables.specs.Digest.{digest_of_numbers, digest_with, high_of, low_of};
+ghost use Rattle.std.specs.Prelude.{◌≡◌, ℕ, ◌<◌, ◌*◌, ◌^◌};
+ghost use Rattle.state_tables.specs.Digest.{digest_with, high_of, low_of, set_digest, word_number};
 
 // The digest of nothing.
 const START: u128 = 0x1319_8A2E_0370_7344_243F_6A88_85A3_08D3;
@@ -11,8 +11,12 @@ const ACROSS: u64 = 0x9E37_79B9_7F4A_7C15;
 
 const BACK: u64 = 0xD6E8_FEB8_6659_FD93;
 
-/// The lower 64 bits.
-pub(crate) fn low_half(number: u128) -> u64
+/// The weight of index p in a sum is this to the power of p. It is 5 modulo 8, so its powers differ in their low bits as
+/// well.
+pub(crate) const WEIGHT: u64 = 0xD134_2543_DE82_EF95;
+
+// The lower 64 bits.
+fn low_half(number: u128) -> u64
     ensures { result ≡ low_of number }
 {
     (number & 0xFFFF_FFFF_FFFF_FFFF) as u64
@@ -46,25 +50,37 @@ fn with_number(digest: u128, number: u128) -> u128
     low_half(back) as u128 * 0x1_0000_0000_0000_0000 + first as u128
 }
 
-/// The digest of a row, from the code of its unmarked state and the words of its marked set.
-pub(crate) fn row_digest(code: u16, words: &[u64]) -> u128
-    ensures { result ≡ digest_of_numbers (code ∷ words.now) }
+// The number of a word, in which each bit of the word has a part in many bits.
+fn word_number(word: u64) -> u64
+    ensures { result ≡ word_number word }
 {
-    let mut digest = with_number(START, code as u128);
-    for word in words {
-        digest = with_number(digest, *word as u128);
-    }
-    digest
+    let across = product(word, ACROSS);
+    low_half(across).wrapping_add(high_half(across))
 }
 
-/// The digest of the digests of the states' rows, each by its index.
-pub(crate) fn states_digest(classes: &[u16], digests: &[u128]) -> u128
-    requires { (p : ℕ) → p < length classes.now → get_or classes.now p 0 < length digests.now }
-    ensures { result ≡ digest_of_numbers (map (λ c. get_or digests.now c 0) classes.now) }
+/// The digest of a set, from its words.
+pub(crate) fn set_digest(words: &[u64]) -> u128
+    ensures { result ≡ set_digest words.now }
 {
-    let mut digest = START;
-    for class in classes {
-        digest = with_number(digest, digests[*class as usize]);
+    let mut sum: u64 = 0;
+    let mut weight: u64 = 1;
+    for word in words {
+        sum = sum.wrapping_add(weight.wrapping_mul(word_number(*word)));
+        weight = weight.wrapping_mul(WEIGHT);
     }
-    digest
+    sum_digest(sum)
+}
+
+/// The number of a row, from the code of its unmarked state and the digest of its marked set.
+pub(crate) fn row_number(code: u16, set: u128) -> u64
+    ensures { result ≡ low_of (digest_with set code) }
+{
+    low_half(with_number(set, code as u128))
+}
+
+/// The digest of a sum modulo 2^64.
+pub(crate) fn sum_digest(sum: u64) -> u128
+    ensures { result ≡ digest_with 0x1319_8a2e_0370_7344_243f_6a88_85a3_08d3 sum }
+{
+    with_number(START, sum as u128)
 }

@@ -7,6 +7,7 @@ ghost use Rattle.state_tables.specs.Table.{byte_row};
 ghost use Rattle.state_tables.specs.Coded.{code_of, row_of};
 ghost use Rattle.state_tables.specs.Meaning.{IsTable};
 
+use crate::partition::SharedPartition;
 use crate::row_set::RowSet;
 use crate::state_set::{add, clear};
 use crate::table::Table;
@@ -32,7 +33,8 @@ pub fn of_byte(alloc: Global, dfa: &Dfa, byte: u8) -> Result<Table, NoMemory>
         let code = byte_row(&mut words, dfa, p, byte);
         classes.push(set.place_of(code, &words)?)?;
     }
-    Ok(Table::from_classes(classes, set))
+    let partition = SharedPartition::new(alloc, classes)?;
+    Ok(Table::from_partition(partition, set))
 }
 
 // The number of words of a set of this many states.

@@ -1,12 +1,12 @@
-//! The rows of a table, one for each class of states.
+//! The rows of a table with words of their own, one for each class of states.
 
-ghost use Rattle.std.specs.Prelude.{◌≡◌, ◌+◌, ◌*◌, ◌<◌, ◌≤◌, [], drop, length, take, true, ◌↔◌, IfOk, IsTrue, OnErr, OnOk};
+ghost use Rattle.std.specs.Prelude.{◌≡◌, ◌+◌, ◌*◌, ◌<◌, ◌≤◌, [], drop, length, take, IfOk, OnErr, OnOk};
 ghost use Rattle.std.specs.Bool.{OnTrue};
 ghost use Rattle.state_tables.specs.Table.{row_at};
 ghost use Rattle.state_tables.specs.Coded.{RowList, code_of, row_of, with_row};
 ghost use Rattle.state_tables.specs.StateSetView.{set_of, width_of};
 
-use crate::state_set::{StateSet, is_same};
+use crate::state_set::StateSet;
 use span_types::NoMemory;
 use std::alloc::Global;
 use std::marker::Model;
@@ -97,30 +97,12 @@ impl Rows {
         Ok(())
     }
 
-    /// Whether this row is a row of others, whose sets have as many words.
-    pub(crate) fn has_row_of(&self, row: usize, others: &Rows, other: usize) -> bool
-        requires row { row < length self.now.rows }
-        requires other { other < length others.now.rows }
-        requires width { self.now.width ≡ others.now.width }
-        ensures { IsTrue result ↔ row_at self.now.rows row ≡ row_at others.now.rows other }
-    {
-        self.code(row) == others.code(other)
-            && is_same(self.marked(row).words(), others.marked(other).words())
-    }
-
     /// Frees the room for further rows.
     pub(crate) fn shrink(&mut self)
         ensures { self.new ≡ self.old }
     {
         self.unmarked.shrink_to_fit();
         self.marked.shrink_to_fit();
-    }
-
-    /// Whether the rows are the same.
-    pub(crate) fn is_same(&self, other: &Rows) -> bool
-        ensures { OnTrue result (self.now ≡ other.now) }
-    {
-        self.width == other.width && self.unmarked == other.unmarked && self.marked == other.marked
     }
 }
 

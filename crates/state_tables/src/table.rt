@@ -1,6 +1,6 @@
 //! The table of one text.
 
-ghost use Rattle.std.specs.Prelude.{◌≡◌, ℕ, ◌<◌, ◌≤◌, length, true, IfSome};
+ghost use Rattle.std.specs.Prelude.{◌≡◌, ℕ, ◌<◌, ◌≤◌, length, true, IfOk, IfSome};
 ghost use Rattle.std.specs.Bool.{OnTrue};
 ghost use Rattle.std.specs.Cmp.Rules.{comparing};
 ghost use Rattle.std.proofs.Common.{rules};
@@ -11,10 +11,15 @@ ghost use Rattle.state_tables.specs.Coded.{table_of};
 ghost use Rattle.state_tables.specs.Classed.{IsClassed};
 ghost use Rattle.state_tables.specs.Branch.{branch_of, root_of, rows_bit};
 ghost use Rattle.state_tables.specs.Same.{table_eq};
+ghost use Rattle.state_tables.specs.TableRows.{list_of};
 
+use crate::interner::Interner;
+use crate::partition::SharedPartition;
 use crate::row_set::RowSet;
-use crate::rows::Rows;
 use crate::state_set::StateSet;
+use crate::table_rows::TableRows;
+use distinct_items::Digested;
+use span_types::NoMemory;
 use std::marker::Model;
 
 /// Which states are reached over a text, from each state (M. L. Schmid and N. Schweikardt, Spanner
@@ -23,9 +28,9 @@ use std::marker::Model;
 #[derive(Drop)]
 pub struct Table {
     // The class of each state.
-    pub(crate) classes: Vec<u16>,
+    pub(crate) partition: SharedPartition,
     // The row of each class.
-    pub(crate) rows: Rows,
+    pub(crate) rows: TableRows,
     // Computed from the rows of the states. Equal tables are found by it.
     digest: u128,
 }
@@ -38,25 +43,45 @@ impl Model for Table {
 
     ghost use Rattle.state_tables.specs.Coded.{table_of};
     ghost use Rattle.state_tables.specs.Classed.{IsInClasses};
+    ghost use Rattle.state_tables.specs.TableRows.{list_of};
 
-    ghost view = { λ t. table_of t.classes.items t.rows.rows };
+    ghost view = { λ t. table_of t.partition (list_of t.rows).rows };
 
-    ghost invariant = { λ t. IsInClasses t.classes.items t.rows t.digest };
+    ghost invariant = { λ t. IsInClasses t.partition (list_of t.rows) t.digest };
 }
 
 impl Table {
     /// The table in which each state has the row of its class.
-    pub(crate) fn from_classes(mut classes: Vec<u16>, set: RowSet) -> Table
-        requires { IsClassed classes.items set }
-        ensures { result ≡ table_of classes.items set.rows }
+    pub(crate) fn from_partition(partition: SharedPartition, set: RowSet) -> Table
+        requires { IsClassed partition set }
+        ensures { result ≡ table_of partition set.rows }
     {
-        let digest = set.digest(&classes);
-        classes.shrink_to_fit();
+        let digest = set.digest(&partition);
         Table {
-            classes,
-            rows: set.into_rows(),
+            partition,
+            rows: TableRows::Own(set.into_rows()),
             digest,
         }
+    }
+
+    /// The same table, whose partition and sets are shared with the tables that have them.
+    ///
+    /// # Errors
+    ///
+    /// `NoMemory` if allocation fails.
+    pub(crate) fn interned(self, interner: &mut Interner) -> Result<Table, NoMemory>
+        ensures { IfOk result (λ t. t ≡ self) }
+    {
+        let Table {
+            partition,
+            rows,
+            digest,
+        } = self;
+        Ok(Table {
+            partition: interner.partition(partition)?,
+            rows: interner.rows(rows)?,
+            digest,
+        })
     }
 
     /// The number of states, at most 1,024.
@@ -64,7 +89,7 @@ impl Table {
         ensures value { result ≡ length self.now }
         ensures shape { IsTableOf (length self.now) self.now }
     {
-        self.classes.len() as u16
+        self.partition.classes().len() as u16
     }
 
     /// The state reached from `p` over the text with every mark 0.
@@ -75,7 +100,7 @@ impl Table {
         ensures few { length self.now ≤ 1024 }
     {
         self.rows
-            .code(self.classes[p as usize] as usize)
+            .code(self.partition.classes()[p as usize] as usize)
             .checked_sub(1)
     }
 
@@ -88,36 +113,39 @@ impl Table {
         ensures within { (q : ℕ) → member (set_of result) q ≡ true → q < length self.now }
         ensures few { length self.now ≤ 1024 }
     {
-        self.rows.marked(self.classes[p as usize] as usize)
-    }
-
-    /// The bucket of the table, for this number of buckets.
-    pub(crate) fn root(&self, roots: usize) -> usize
-        requires { 0 < roots }
-        ensures value { result ≡ root_of roots self.now }
-        ensures within { result < roots }
-    {
-        (self.digest & (roots - 1) as u128) as usize
-    }
-
-    /// The bit at this depth of a search tree: first the digest's upper half from its highest bit on, then the rows. Two
-    /// tables of q states differ in one of the first 64 + 1040·q bits.
-    pub(crate) fn branch(&self, depth: usize) -> usize
-        ensures value { result ≡ branch_of self.now depth }
-        ensures bit { result < 2 }
-    {
-        if depth < 64 {
-            (self.digest >> (127 - depth) & 1) as usize
-        } else {
-            rows_bit(&self.classes, &self.rows, depth - 64)
-        }
+        self.rows
+            .marked(self.partition.classes()[p as usize] as usize)
     }
 
     // Whether the classes and their rows are the same.
     fn has_form_of(&self, other: &Table) -> bool
         ensures { OnTrue result (self.now ≡ other.now) }
     {
-        self.classes == other.classes && self.rows.is_same(&other.rows)
+        self.partition.classes() == other.partition.classes() && self.rows.is_same(&other.rows)
+    }
+}
+
+impl Digested for Table {
+    ghost root = { root_of };
+
+    ghost branch = { branch_of };
+
+    fn root(&self, roots: usize) -> usize {
+        (self.digest & (roots - 1) as u128) as usize
+    }
+
+    // First the digest's upper half from its highest bit on, then the rows. Two tables of q states differ in one of the
+    // first 64 + 1040·q bits.
+    fn branch(&self, depth: usize) -> usize {
+        if depth < 64 {
+            (self.digest >> (127 - depth) & 1) as usize
+        } else {
+            rows_bit(self.partition.classes(), &self.rows, depth - 64)
+        }
+    }
+
+    fn is_same(&self, other: &Table) -> bool {
+        self == other
     }
 }
 
@@ -129,7 +157,12 @@ impl PartialEq for Table {
     fn eq(&self, other: &Table) -> bool {
         self.digest == other.digest
             && (self.has_form_of(other)
-                || are_same(&self.classes, &self.rows, &other.classes, &other.rows))
+                || are_same(
+                    self.partition.classes(),
+                    &self.rows,
+                    other.partition.classes(),
+                    &other.rows,
+                ))
     }
 }
 
@@ -143,9 +176,9 @@ const SET_BITS: u16 = 1_024;
 const ROW_BITS: usize = 1_040;
 
 // A bit of the concatenated rows of the states, or 0 past the end.
-fn rows_bit(classes: &[u16], rows: &Rows, place: usize) -> usize
-    requires { IsClassed classes.now rows.now }
-    ensures { result ≡ rows_bit (table_of classes.now rows.now.rows) place }
+fn rows_bit(classes: &[u16], rows: &TableRows, place: usize) -> usize
+    requires { IsClassed classes.now (list_of rows.now) }
+    ensures { result ≡ rows_bit (table_of classes.now (list_of rows.now).rows) place }
 {
     let state = place / ROW_BITS;
     if state >= classes.len() {
@@ -161,10 +194,10 @@ fn rows_bit(classes: &[u16], rows: &Rows, place: usize) -> usize
 }
 
 // Whether each state has the same row in both tables, however their states are in classes.
-fn are_same(classes: &[u16], rows: &Rows, others: &[u16], other_rows: &Rows) -> bool
-    requires left { IsClassed classes.now rows.now }
-    requires right { IsClassed others.now other_rows.now }
-    ensures { result ≡ table_eq (table_of classes.now rows.now.rows) (table_of others.now other_rows.now.rows) }
+fn are_same(classes: &[u16], rows: &TableRows, others: &[u16], other_rows: &TableRows) -> bool
+    requires left { IsClassed classes.now (list_of rows.now) }
+    requires right { IsClassed others.now (list_of other_rows.now) }
+    ensures { result ≡ table_eq (table_of classes.now (list_of rows.now).rows) (table_of others.now (list_of other_rows.now).rows) }
 {
     if classes.len() != others.len() {
         return false;

@@ -6,13 +6,14 @@ ghost use Rattle.slp_model.specs.Kept.{Keeps};
 ghost use Rattle.slp_model.specs.Thin.{IsThinOf, rank};
 ghost use Rattle.marker_dfa.specs.Deterministic.{DeterministicAutomaton, states_of};
 ghost use Rattle.state_tables.specs.Dictionary.{AreTables, GainsTable, IsDictionary, count_of, distinct_of, kept_of, number_of, table_of};
-ghost use Rattle.state_tables.specs.Renumbering.{kept_items};
+ghost use Rattle.distinct_items.specs.Renumbering.{kept_items};
 ghost use Rattle.state_tables.specs.Dropped.{used_by};
 
+use crate::interner::Interner;
 use crate::renumbering::renumber;
 use crate::table::Table;
-use crate::table_set::TableSet;
 use crate::view::View;
+use distinct_items::DistinctItems;
 use marker_dfa::Dfa;
 use node_store::{Moves, NodeId, Store};
 use span_types::{NoMemory, Steps};
@@ -27,7 +28,8 @@ const MAX_TABLES: usize = (1 << 32) - 1;
 #[derive(Drop)]
 pub struct Tables {
     states: u16,
-    kept: TableSet,
+    kept: DistinctItems<Table>,
+    interner: Interner,
     numbers: Vec<u32>,
 }
 
@@ -50,7 +52,8 @@ impl Tables {
     {
         Tables {
             states: dfa.states(),
-            kept: TableSet::new(alloc),
+            kept: DistinctItems::new(alloc),
+            interner: Interner::new(alloc),
             numbers: Vec::new(alloc),
         }
     }
@@ -111,9 +114,13 @@ impl Tables {
         ensures err { OnErr result (self.new ≡ self.old) }
     {
         let _ = table.states();
+        if let Some(number) = self.kept.find(&table) {
+            return Ok(number);
+        }
         if self.kept.len() >= MAX_TABLES {
             return Err(NoMemory);
         }
+        let table = table.interned(&mut self.interner)?;
         self.kept.insert(table)
     }
 
@@ -159,7 +166,11 @@ impl Tables {
         ensures tables { (a : DeterministicAutomaton) (ns ms : List Node) → IsThinOf ns moves.now ms → AreTables a ns self.old → AreTables a ms self.new }
     {
         renumber(&mut self.numbers, moves);
+        let before = self.kept.len();
         self.kept.keep_used(&mut self.numbers);
+        if self.kept.len() < before {
+            self.interner.clear();
+        }
     }
 
     /// A view of the nodes of the store, each of which has a table.

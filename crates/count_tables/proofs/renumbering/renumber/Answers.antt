@@ -1,7 +1,7 @@
 use Rattle.std.proofs.Common.{arith, ◌≡◌, ◌<◌, get_or, set, false, length, sym, ◌∙◌}
 use Rattle.std.proofs.lemmas.Grind.{common_steps}
 use Rattle.slp_model.specs.Kept.{Keeps}
-use Rattle.state_tables.proofs.Moving.{moved-on, moved-skip, moved-all}
+use Rattle.distinct_items.proofs.Moving.{moved-on, moved-skip, moved-all}
 use Rattle.count_tables.proofs.renumbering.renumber.Goals as goal
 use Rattle.count_tables.proofs.renumbering.renumber.Goals.{then-kept, else-kept}
 

@@ -1,5 +1,5 @@
 use Rattle.std.proofs.Common.{◌≡◌, vec_capacity}
-use Rattle.state_tables.proofs.Moving.{AreMoved}
+use Rattle.distinct_items.proofs.Moving.{AreMoved}
 use Rattle.count_tables.proofs.renumbering.renumber.Given as goal
 
 abbrev pub invariant-loop-index : goal.invariant-loop-index

@@ -4,8 +4,8 @@ use Rattle.std.proofs.lemmas.List.{with_items_is}
 use Rattle.marker_dfa.specs.Deterministic.{states_of}
 use Rattle.state_tables.specs.StateSet.{word_count}
 use Rattle.state_tables.specs.Table.{byte_row}
-use Rattle.state_tables.specs.Coded.{row_of}
-use Rattle.state_tables.specs.Classed.{ArePlaced}
+use Rattle.state_tables.specs.Coded.{row_of, table_of}
+use Rattle.state_tables.specs.Classed.{ArePlaced, IsClassed}
 use Rattle.state_tables.proofs.Meanings.{IsTable-byte}
 use Rattle.state_tables.proofs.Placing.{IsWithin, byte-classed, byte-is-within, placed-byte_table, placed-more, placed-none, width-taken}
 use Rattle.state_tables.proofs.one_byte.of_byte.Goals as goal
@@ -40,12 +40,17 @@ placed c =
     let at : c.loop-p.p ≡ states_of c.args.dfa.now = omega (arith, c.states-states.ensures.value, c.loop-p-test.false, c.loop-p.auto.p-end) in
     subst (λ m. ArePlaced (byte_row c.args.dfa.now c.args.byte) m (states_of c.args.dfa.now) c.loop-p.classes.items c.loop-p.set) at c.loop-p.invariant.placed
 
-pub from_classes-requires : goal.from_classes-requires
-from_classes-requires c =
-    byte-classed c.args.dfa.now c.args.byte c.loop-p.classes.items c.loop-p.set c.states-states.ensures.automaton (placed (goal.at.from_classes-requires c).After-loop-p) c.loop-p.invariant.width
+classed : (c : After-loop-p) → IsClassed c.loop-p.classes.items c.loop-p.set
+classed c = byte-classed c.args.dfa.now c.args.byte c.loop-p.classes.items c.loop-p.set c.states-states.ensures.automaton (placed c) c.loop-p.invariant.width
+
+pub from_partition-requires : goal.from_partition-requires
+from_partition-requires c =
+    subst (λ cs. IsClassed cs c.loop-p.set) (sym c.in_ok-partition.ensures) (classed (goal.at.from_partition-requires c).After-loop-p)
 
 pub returns : goal.returns
 returns c =
     let byte : c.args.byte < 256 = omega arith in
-    rw (c.from_classes.ensures ∙ placed-byte_table c.args.dfa.now c.args.byte c.loop-p.classes.items c.loop-p.set (placed (goal.at.returns c).After-loop-p))
+    let rows = c.loop-p.set.rows in
+    rw (c.from_partition.ensures ∙ ap (λ cs. table_of cs rows) c.in_ok-partition.ensures
+    ∙ placed-byte_table c.args.dfa.now c.args.byte c.loop-p.classes.items c.loop-p.set (placed (goal.at.returns c).After-loop-p))
     (IsTable-byte c.args.dfa.now c.args.byte byte c.states-states.ensures.automaton)

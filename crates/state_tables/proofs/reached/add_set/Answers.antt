@@ -2,6 +2,7 @@ use Rattle.std.proofs.Common.{◌+◌, ◌*◌, ap, sym, ◌∙◌, arith, bit_o
 use Rattle.state_tables.specs.StateSet.{number_of_words}
 use Rattle.state_tables.specs.Table.{reach}
 use Rattle.state_tables.specs.Coded.{table_of}
+use Rattle.state_tables.specs.TableRows.{list_of}
 use Rattle.state_tables.proofs.Collecting.{bit-of-word, word-end, word-step}
 use Rattle.state_tables.proofs.reached.add_set.Goals as goal
 
@@ -12,7 +13,7 @@ add_word-requires-clause-states c = λ b h.
 pub loop-index-preserved : goal.loop-index-preserved
 loop-index-preserved c =
     let at = c.loop-index in
-    let t = table_of c.args.classes.now c.args.rows.now.rows in
+    let t = table_of c.args.classes.now (list_of c.args.rows.now).rows in
     record {
       collecting = c.add_word.ensures.collecting;
       so_far =
@@ -24,5 +25,5 @@ loop-index-preserved c =
 pub returns-clause-value : goal.returns-clause-value
 returns-clause-value c =
     let at = c.loop-index in
-    sym (word-end (number_of_words at.words) at.index c.args.set.now (drop (at.index * 64) (table_of c.args.classes.now c.args.rows.now.rows)) (omega (arith, c.loop-index-test.false)))
+    sym (word-end (number_of_words at.words) at.index c.args.set.now (drop (at.index * 64) (table_of c.args.classes.now (list_of c.args.rows.now).rows)) (omega (arith, c.loop-index-test.false)))
     ∙ at.invariant.so_far

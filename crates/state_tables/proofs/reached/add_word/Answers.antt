@@ -5,6 +5,7 @@ use Rattle.std.proofs.lemmas.Bool.{cases_eq}
 use Rattle.state_tables.specs.StateSet.{number_of_words}
 use Rattle.state_tables.specs.Table.{reach}
 use Rattle.state_tables.specs.Coded.{table_of}
+use Rattle.state_tables.specs.TableRows.{list_of}
 use Rattle.state_tables.proofs.Collecting.{bit-step, length-table}
 use Rattle.state_tables.proofs.Reach.{reach-none}
 use Rattle.state_tables.proofs.reached.add_word.Goals as goal
@@ -14,9 +15,9 @@ loop-rest-preserved c =
     let at = c.loop-rest in
     let b = c.least-bit.result in
     let cs = c.args.classes.now in
-    let t = table_of c.args.classes.now c.args.rows.now.rows in
+    let t = table_of c.args.classes.now (list_of c.args.rows.now).rows in
     let low : c.args.first + c.least-bit.result < length c.args.classes.now = c.requires.states b (at.invariant.within b c.least-bit.ensures.bit) in
-    let lt : c.args.first + c.least-bit.result < length (table_of c.args.classes.now c.args.rows.now.rows) = omega (arith, low, length-table cs c.args.rows.now.rows) in
+    let lt : c.args.first + c.least-bit.result < length (table_of c.args.classes.now (list_of c.args.rows.now).rows) = omega (arith, low, length-table cs (list_of c.args.rows.now).rows) in
     record {
       collecting = c.add_state.ensures.collecting;
       within = λ i h. elim (cases_eq i b) [
@@ -32,6 +33,6 @@ loop-rest-preserved c =
 pub returns-clause-value : goal.returns-clause-value
 returns-clause-value c =
     let at = c.loop-rest in
-    let rows = drop c.args.first (table_of c.args.classes.now c.args.rows.now.rows) in
+    let rows = drop c.args.first (table_of c.args.classes.now (list_of c.args.rows.now).rows) in
     let none : c.loop-rest.rest ≡ 0 = omega (arith, c.loop-rest-test.false) in
     sym (ap (λ r. bit_or (number_of_words at.words) (reach r 0 rows)) none ∙ ap (bit_or (number_of_words at.words)) (reach-none 0 rows) ∙ or_zero_r (number_of_words at.words)) ∙ at.invariant.so_far

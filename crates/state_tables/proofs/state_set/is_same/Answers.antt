@@ -1,6 +1,6 @@
 use Rattle.std.proofs.Common.{ap, arith, get_or, ext_get_or, refl}
 use Rattle.state_tables.specs.StateSet.{number_of_words}
-use Rattle.state_tables.proofs.RowSets.{words-told}
+use Rattle.state_tables.proofs.Words.{words-told}
 use Rattle.state_tables.proofs.state_set.is_same.Goals as goal
 
 pub returns-then-words-index : goal.returns-then-words-index

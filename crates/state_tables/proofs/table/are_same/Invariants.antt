@@ -1,7 +1,8 @@
 use Rattle.std.proofs.Common.{◌≡◌, ℕ, ◌<◌}
 use Rattle.state_tables.specs.Table.{row_at}
 use Rattle.state_tables.specs.Coded.{table_of}
+use Rattle.state_tables.specs.TableRows.{list_of}
 use Rattle.state_tables.proofs.table.are_same.Given as goal
 
 abbrev pub invariant-loop-p : goal.invariant-loop-p
-invariant-loop-p l = (k : ℕ) → k < l.p → row_at (table_of l.classes l.rows.rows) k ≡ row_at (table_of l.others l.other_rows.rows) k
+invariant-loop-p l = (k : ℕ) → k < l.p → row_at (table_of l.classes (list_of l.rows).rows) k ≡ row_at (table_of l.others (list_of l.other_rows).rows) k

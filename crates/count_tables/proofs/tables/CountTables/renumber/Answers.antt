@@ -3,14 +3,14 @@ use Rattle.std.specs.Prelude.{All}
 use Rattle.slp_model.specs.Thin.{rank}
 use Rattle.count_tables.specs.Dictionary.{AreCountTables, count_of, table_of}
 use Rattle.count_tables.specs.Kept.{view_of}
-use Rattle.state_tables.specs.Renumbering.{kept_items, used_of}
+use Rattle.distinct_items.specs.Renumbering.{kept_items, used_of}
 use Rattle.count_tables.proofs.Dropping.{AreDropped, IsCountDictionary-dropped, count-is, kept-within, table-stays, tables-thin}
 use Rattle.count_tables.proofs.Growing.{none-true}
 use Rattle.count_tables.proofs.tables.CountTables.renumber.Goals as goal
 
 dropped : (c : goal.After-forget) → AreDropped (view_of c.self.inside) c.args.moves.now (view_of (record c.self.inside { kept = c.keep_used.new.self; numbers = c.keep_used.new.numbers }))
 dropped c = record {
-  kept = c.keep_used.ensures.tables ∙ ap (λ xs. kept_items c.self.inside.kept (used_of xs (length c.self.inside.kept))) c.renumber.ensures.numbers;
+  kept = c.keep_used.ensures.items ∙ ap (λ xs. kept_items c.self.inside.kept (used_of xs (length c.self.inside.kept))) c.renumber.ensures.numbers;
   numbers = c.keep_used.ensures.numbers ∙ ap (λ xs. map (rank (used_of xs (length c.self.inside.kept))) xs) c.renumber.ensures.numbers;
   states = refl;
 }

@@ -1,0 +1,221 @@
+//! The classes of the states of a table.
+
+ghost use Rattle.std.specs.Prelude.{◌≡◌, ◌↔◌, ℕ, ◌/◌, ◌%◌, ◌^◌, ◌<◌, get_or, length, map, IfOk, IsTrue};
+ghost use Rattle.std.specs.Int.{bit_at};
+ghost use Rattle.state_tables.specs.Weights.{weighted};
+ghost use Rattle.state_tables.specs.Partition.{partition_branch, partition_digest, partition_root};
+
+use crate::digest::{WEIGHT, sum_digest};
+use distinct_items::Digested;
+use span_types::NoMemory;
+use std::alloc::Global;
+use std::marker::Model;
+use std::ops::Deref;
+use std::sync::Arc;
+
+/// The class of each state, with a digest by which equal partitions are found.
+#[derive(Drop)]
+pub(crate) struct Partition {
+    classes: Vec<u16>,
+    digest: u128,
+}
+
+impl Model for Partition {
+    ghost use Rattle.std.specs.Prelude.{◌≡◌, ℕ, List};
+    ghost use Rattle.state_tables.specs.Partition.{partition_digest};
+
+    ghost Value = { List ℕ };
+
+    ghost view = { λ p. p.classes.items };
+
+    ghost invariant = { λ p. p.digest ≡ partition_digest p.classes.items };
+}
+
+impl Partition {
+    /// The partition with these classes.
+    fn new(classes: Vec<u16>) -> Partition
+        ensures { result ≡ classes.items }
+    {
+        let digest = sum_digest(class_sum(&classes));
+        Partition { classes, digest }
+    }
+}
+
+// The sum over the states of the weight of each times its class, modulo 2^64.
+fn class_sum(classes: &[u16]) -> u64
+    ensures { result ≡ weighted (λ c. c) 0 classes.now % 2 ^ 64 }
+{
+    let mut sum: u64 = 0;
+    let mut weight: u64 = 1;
+    for class in classes {
+        sum = sum.wrapping_add(weight.wrapping_mul(*class as u64));
+        weight = weight.wrapping_mul(WEIGHT);
+    }
+    sum
+}
+
+// The sum over the states of the weight of each times the number of its class, modulo 2^64.
+fn number_sum(classes: &[u16], numbers: &[u64]) -> u64
+    requires { (p : ℕ) → p < length classes.now → get_or classes.now p 0 < length numbers.now }
+    ensures { result ≡ weighted (λ c. get_or numbers.now c 0) 0 classes.now % 2 ^ 64 }
+{
+    let mut sum: u64 = 0;
+    let mut weight: u64 = 1;
+    for class in classes {
+        sum = sum.wrapping_add(weight.wrapping_mul(numbers[*class as usize]));
+        weight = weight.wrapping_mul(WEIGHT);
+    }
+    sum
+}
+
+// The new class of each state, from that of its class.
+fn through(alloc: Global, classes: &[u16], places: &[u16]) -> Result<Vec<u16>, NoMemory>
+    requires { (p : ℕ) → p < length classes.now → get_or classes.now p 0 < length places.now }
+    ensures { IfOk result (λ v. v.items ≡ map (λ c. get_or places.now c 0) classes.now) }
+{
+    let mut result = Vec::with_capacity(alloc, classes.len())?;
+    for class in classes {
+        result.push(places[*class as usize])?;
+    }
+    Ok(result)
+}
+
+/// A partition of the states that several tables may have.
+#[derive(Drop)]
+pub(crate) struct SharedPartition {
+    partition: Arc<Partition, Global>,
+}
+
+impl Model for SharedPartition {
+    ghost use Rattle.std.specs.Prelude.{ℕ, List};
+    ghost use Rattle.std.specs.Arc.{arc_value};
+
+    ghost Value = { List ℕ };
+
+    ghost view = { λ s. arc_value s.partition };
+}
+
+impl SharedPartition {
+    /// The partition with these classes.
+    ///
+    /// # Errors
+    ///
+    /// `NoMemory` if allocation fails.
+    pub(crate) fn new(alloc: Global, classes: Vec<u16>) -> Result<SharedPartition, NoMemory>
+        ensures { IfOk result (λ s. s ≡ classes.items) }
+    {
+        let partition = Arc::new(alloc, Partition::new(classes))?;
+        Ok(SharedPartition { partition })
+    }
+
+    /// The same partition once more. Nothing is copied.
+    ///
+    /// # Errors
+    ///
+    /// `NoMemory` if there are too many owners, 2^63.
+    pub(crate) fn share(&self) -> Result<SharedPartition, NoMemory>
+        ensures { IfOk result (λ s. s ≡ self.now) }
+    {
+        let partition = Arc::try_clone(&self.partition)?;
+        Ok(SharedPartition { partition })
+    }
+
+    /// The class of each state.
+    pub(crate) fn classes(&self) -> &[u16]
+        ensures { result.now ≡ self.now }
+    {
+        &Deref::deref(&self.partition).classes
+    }
+
+    /// The partition in which each class goes to a new one.
+    ///
+    /// # Errors
+    ///
+    /// `NoMemory` if allocation fails.
+    pub(crate) fn merged(&self, alloc: Global, places: &[u16]) -> Result<SharedPartition, NoMemory>
+        requires { (p : ℕ) → p < length self.now → get_or self.now p 0 < length places.now }
+        ensures { IfOk result (λ s. s ≡ map (λ c. get_or places.now c 0) self.now) }
+    {
+        if is_in_order(places) {
+            return self.share();
+        }
+        let classes = through(alloc, self.classes(), places)?;
+        SharedPartition::new(alloc, classes)
+    }
+
+    /// The sum over the states of the weight of each times the number of its class, modulo 2^64.
+    pub(crate) fn sum(&self, numbers: &[u64]) -> u64
+        requires { (p : ℕ) → p < length self.now → get_or self.now p 0 < length numbers.now }
+        ensures { result ≡ weighted (λ c. get_or numbers.now c 0) 0 self.now % 2 ^ 64 }
+    {
+        number_sum(self.classes(), numbers)
+    }
+
+    // The digest of the classes.
+    fn digest(&self) -> u128
+        ensures { result ≡ partition_digest self.now }
+    {
+        Deref::deref(&self.partition).digest
+    }
+}
+
+// Whether each class goes to the new one with its own index.
+fn is_in_order(places: &[u16]) -> bool
+    ensures { IsTrue result → (k : ℕ) → k < length places.now → get_or places.now k 0 ≡ k }
+{
+    for class in 0..places.len() {
+        if places[class] as usize != class {
+            return false;
+        }
+    }
+    true
+}
+
+// Whether the classes are the same. It reads all of them, so that several are compared at once.
+fn are_same(classes: &[u16], others: &[u16]) -> bool
+    ensures { IsTrue result ↔ classes.now ≡ others.now }
+{
+    if classes.len() != others.len() {
+        return false;
+    }
+    let mut different: u16 = 0;
+    for index in 0..classes.len() {
+        different |= classes[index] ^ others[index];
+    }
+    different == 0
+}
+
+// A class has 16 bits.
+const CLASS_BITS: usize = 16;
+
+// A bit of the concatenated classes, or 0 past the end.
+fn class_bit(classes: &[u16], place: usize) -> usize
+    ensures { result ≡ bit_at (get_or classes.now (place / 16) 0) (place % 16) }
+{
+    match classes.get(place / CLASS_BITS) {
+        Some(class) => (*class >> (place % CLASS_BITS) as u16 & 1) as usize,
+        None => 0,
+    }
+}
+
+impl Digested for SharedPartition {
+    ghost root = { partition_root };
+
+    ghost branch = { partition_branch };
+
+    fn root(&self, roots: usize) -> usize {
+        (self.digest() & (roots - 1) as u128) as usize
+    }
+
+    fn branch(&self, depth: usize) -> usize {
+        if depth < 64 {
+            (self.digest() >> (127 - depth) & 1) as usize
+        } else {
+            class_bit(self.classes(), depth - 64)
+        }
+    }
+
+    fn is_same(&self, other: &SharedPartition) -> bool {
+        self.digest() == other.digest() && are_same(self.classes(), other.classes())
+    }
+}

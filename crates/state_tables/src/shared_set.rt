@@ -1,0 +1,129 @@
+//! Sets of states that the rows of several tables may have.
+
+ghost use Rattle.std.specs.Prelude.{◌≡◌, ◌/◌, ◌%◌, get_or, IfOk};
+ghost use Rattle.std.specs.Int.{bit_at};
+ghost use Rattle.state_tables.specs.Digest.{set_digest};
+ghost use Rattle.state_tables.specs.SharedSet.{set_branch, set_root};
+
+use crate::digest::set_digest;
+use distinct_items::Digested;
+use span_types::NoMemory;
+use std::alloc::Global;
+use std::marker::Model;
+use std::ops::Deref;
+use std::sync::Arc;
+
+/// The words of a set of states, with their digest.
+#[derive(Drop)]
+pub(crate) struct SetWords {
+    words: Vec<u64>,
+    digest: u128,
+}
+
+impl Model for SetWords {
+    ghost use Rattle.std.specs.Prelude.{◌≡◌, ℕ, List};
+    ghost use Rattle.state_tables.specs.Digest.{set_digest};
+
+    ghost Value = { List ℕ };
+
+    ghost view = { λ s. s.words.items };
+
+    ghost invariant = { λ s. s.digest ≡ set_digest s.words.items };
+}
+
+impl SetWords {
+    /// These words.
+    ///
+    /// # Errors
+    ///
+    /// `NoMemory` if allocation fails.
+    pub(crate) fn new(alloc: Global, words: &[u64]) -> Result<SetWords, NoMemory>
+        ensures { IfOk result (λ s. s ≡ words.now) }
+    {
+        let digest = set_digest(words);
+        let words = Vec::from_slice(alloc, words)?;
+        Ok(SetWords { words, digest })
+    }
+}
+
+const WORD_BITS: usize = 64;
+
+// A bit of the concatenated words, or 0 past the end.
+fn word_bit(words: &[u64], place: usize) -> usize
+    ensures { result ≡ bit_at (get_or words.now (place / 64) 0) (place % 64) }
+{
+    match words.get(place / WORD_BITS) {
+        Some(word) => (*word >> (place % WORD_BITS) as u64 & 1) as usize,
+        None => 0,
+    }
+}
+
+impl Digested for SetWords {
+    ghost root = { set_root };
+
+    ghost branch = { set_branch };
+
+    fn root(&self, roots: usize) -> usize {
+        (self.digest & (roots - 1) as u128) as usize
+    }
+
+    fn branch(&self, depth: usize) -> usize {
+        if depth < 64 {
+            (self.digest >> (127 - depth) & 1) as usize
+        } else {
+            word_bit(self.words.as_slice(), depth - 64)
+        }
+    }
+
+    fn is_same(&self, other: &SetWords) -> bool {
+        self.words.as_slice() == other.words.as_slice()
+    }
+}
+
+/// A set of states that several rows may have, as its words.
+#[derive(Drop)]
+pub(crate) struct SharedSet {
+    words: Arc<Vec<u64>, Global>,
+}
+
+impl Model for SharedSet {
+    ghost use Rattle.std.specs.Prelude.{ℕ, List};
+    ghost use Rattle.std.specs.Arc.{arc_value};
+
+    ghost Value = { List ℕ };
+
+    ghost view = { λ s. (arc_value s.words).items };
+}
+
+impl SharedSet {
+    /// The set with these words.
+    ///
+    /// # Errors
+    ///
+    /// `NoMemory` if allocation fails.
+    pub(crate) fn new(alloc: Global, words: &[u64]) -> Result<SharedSet, NoMemory>
+        ensures { IfOk result (λ s. s ≡ words.now) }
+    {
+        let words = Arc::new(alloc, Vec::from_slice(alloc, words)?)?;
+        Ok(SharedSet { words })
+    }
+
+    /// The same set once more. Nothing is copied.
+    ///
+    /// # Errors
+    ///
+    /// `NoMemory` if there are too many owners, 2^63.
+    pub(crate) fn share(&self) -> Result<SharedSet, NoMemory>
+        ensures { IfOk result (λ s. s ≡ self.now) }
+    {
+        let words = Arc::try_clone(&self.words)?;
+        Ok(SharedSet { words })
+    }
+
+    /// The words of the set, the lowest states first.
+    pub(crate) fn words(&self) -> &[u64]
+        ensures { result.now ≡ self.now }
+    {
+        Deref::deref(&self.words).as_slice()
+    }
+}
