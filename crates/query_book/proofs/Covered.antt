@@ -1,5 +1,5 @@
--- What holds of a query by name if all nodes of the store have tables.
-use Rattle.std.proofs.Common.{◌≡◌, ℕ, ◌<◌, ◌≤◌, Bool, true, false, cond, List, [], ◌∷◌, length, Option, Some, None, All, sym, ap, subst, ◌∙◌, arith}
+-- What holds of a query by name if all nodes of the store have tables in it.
+use Rattle.std.proofs.Common.{◌≡◌, ℕ, ◌<◌, ◌≤◌, Bool, true, false, cond, List, [], ◌∷◌, length, Option, Some, None, All, refl, sym, ap, subst, ◌∙◌, arith}
 use Rattle.std.specs.Prelude.{unwrap_or}
 use Rattle.std.specs.Option.{option_map}
 use Rattle.std.specs.List.{AllByRecursion}
@@ -13,7 +13,7 @@ use Rattle.query_book.specs.declared.entry.Entry.{Entry}
 use Rattle.query_book.specs.declared.entry.TabledQuery.{TabledQuery}
 use Rattle.query_book.specs.Named.{Named, is_same, value_of}
 use Rattle.query_book.specs.Book.{Book, tabled_in, tabled_of}
-use Rattle.query_book.specs.Serving.{IsServed, Covers, covered_of, all_at}
+use Rattle.query_book.specs.Serving.{IsServed, Covers, CoversQuery, HasTables, covered_of, all_at}
 use Rattle.query_book.proofs.Views.{value-by_name}
 
 some_is : {X : Type 0} {x y : X} → Some x ≡ Some y → x ≡ y
@@ -36,12 +36,26 @@ value-all_at n (p ∷ ps) name k q = by (is_same name p.0) q (value-all_at n ps 
     by true r rest = some_is r
     by false r rest = rest r
 
-pub count-found : (ns : List Node) (book : Book) (name : List ℕ) (t : TabledQuery) → Covers ns book → tabled_of book name ≡ Some t → count_of t.tables ≡ length ns
-count-found ns book name t c q =
-    let here : value_of (covered_of book) name ≡ Some (count_of t.tables) = value-by_name (λ x. count_of x.tables) book.entries name ∙ ap (λ o. option_map (λ (x : TabledQuery). count_of x.tables) o) q in
-    sym (value-all_at (length ns) (covered_of book) name (count_of t.tables) (sym (ap (λ ps. value_of ps name) c.all) ∙ here))
+-- the number of nodes with tables in the query of a name
+number-found : (book : Book) (name : List ℕ) (t : TabledQuery) → tabled_of book name ≡ Some t → value_of (covered_of book) name ≡ Some (count_of t.tables)
+number-found book name t q = value-by_name (λ x. count_of x.tables) book.entries name ∙ ap (λ o. option_map (λ (x : TabledQuery). count_of x.tables) o) q
 
-pub served-found : (ns : List Node) (book : Book) (name : List ℕ) (t : TabledQuery) → Covers ns book → tabled_of book name ≡ Some t → IsServed ns t
+-- if each query has all tables, then so has the one with the name
+pub covers-query : (ns : List Node) (book : Book) (name : List ℕ) → Covers ns book → CoversQuery ns book name
+covers-query ns book name c = record {
+  serves = c.serves;
+  tables = λ t q. sym (value-all_at (length ns) (covered_of book) name (count_of t.tables) (sym (ap (λ ps. value_of ps name) c.all) ∙ number-found book name t q));
+}
+
+-- the query of a name still has its tables if the numbers are unchanged
+pub tables-same : (n : ℕ) (old new : Book) (name : List ℕ) → covered_of new ≡ covered_of old → HasTables n old name → HasTables n new name
+tables-same n old new name e has t q = by (tabled_of old name) has (sym (value-by_name (λ x. count_of x.tables) old.entries name) ∙ sym (ap (λ ps. value_of ps name) e) ∙ number-found new name t q)
+  where
+    by : (o : Option TabledQuery) → ((s : TabledQuery) → o ≡ Some s → count_of s.tables ≡ n) → option_map (λ (x : TabledQuery). count_of x.tables) o ≡ Some (count_of t.tables) → count_of t.tables ≡ n
+    by None h r = let bad : ⊥ = cc in absurd bad
+    by (Some s) h r = sym (some_is r) ∙ h s refl
+
+pub served-found : (ns : List Node) (book : Book) (name : List ℕ) (t : TabledQuery) → CoversQuery ns book name → tabled_of book name ≡ Some t → IsServed ns t
 served-found ns book name t c q = all-found (IsServed ns) book.entries name t c.serves q
 
 -- a text of the store has at most 2^48 bytes

@@ -11,8 +11,10 @@ pub mod Served
 pub mod Growth
 pub mod NameIndex
 pub mod TakenCounts
-pub mod CountGrowth
 pub mod Covered
+pub mod Changed
+pub mod CountGrowth
+pub mod QueryGrowth
 pub mod Lists
 pub mod Lent
 pub mod InHand

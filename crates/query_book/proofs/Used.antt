@@ -5,9 +5,9 @@ use Rattle.std.proofs.lemmas.List.{length-map, get_or-map}
 use Rattle.slp_model.specs.Thin.{rank}
 use Rattle.state_tables.specs.Dictionary.{Dictionary}
 use Rattle.state_tables.specs.Dropped.{used_by}
-use Rattle.state_tables.specs.Renumbering.{is_used, kept_items, used_of}
-use Rattle.state_tables.proofs.Marks.{used-of-at}
-use Rattle.state_tables.proofs.Moving.{kept-back}
+use Rattle.distinct_items.specs.Renumbering.{is_used, kept_items, used_of}
+use Rattle.distinct_items.proofs.Marks.{used-of-at}
+use Rattle.distinct_items.proofs.Moving.{kept-back}
 use Rattle.count_tables.specs.Dictionary.{CountDictionary}
 use Rattle.count_tables.specs.Dictionary as counting
 use Rattle.query_book.specs.Counting.{UsesEachCount}

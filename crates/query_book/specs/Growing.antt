@@ -24,6 +24,11 @@ pub record Grows (ns : List Node) (old new : TabledQuery) : Type 0 where
   pub may : MayGrow ns old new
   pub all : count_of new.tables ≡ length ns
 
+-- the query and its counting tables are unchanged, and its tables are those of the same nodes
+pub record Keeps (ns : List Node) (old new : TabledQuery) : Type 0 where
+  pub may : MayGrow ns old new
+  pub same : count_of new.tables ≡ count_of old.tables
+
 -- the query and its tables are unchanged, and its counting tables are those of first nodes
 pub record MayGrowCounts (ns : List Node) (old new : TabledQuery) : Type 0 where
   pub query : new.query ≡ old.query
@@ -57,10 +62,19 @@ pub record ChangesNamed (R : TabledQuery → TabledQuery → Type 0) (name : Lis
   pub set : new ≡ put old name after
   pub allowed : R before after
 
--- why the counting tables of the query of this name aren't computed: it doesn't exist, or an allocation failed
+-- why the tables of the query of this name aren't computed: it doesn't exist, or an allocation failed, and then the query
+-- changes to one that R allows
+abbrev pub Fails : (TabledQuery → TabledQuery → Type 0) → List ℕ → Named TabledQuery → Named TabledQuery → BookRefusal → Type 0
+Fails R name old new NoSuchQuery = (value_of old name ≡ None) × (new ≡ old)
+Fails R name old new NoMemory = ChangesNamed R name old new
+
+-- the same if they are tables
+abbrev pub CannotGrow : List Node → List ℕ → Named TabledQuery → Named TabledQuery → BookRefusal → Type 0
+CannotGrow ns = Fails (Keeps ns)
+
+-- the same if they are counting tables
 abbrev pub CannotCount : List Node → List ℕ → Named TabledQuery → Named TabledQuery → BookRefusal → Type 0
-CannotCount ns name old new NoSuchQuery = (value_of old name ≡ None) × (new ≡ old)
-CannotCount ns name old new NoMemory = ChangesNamed (KeepsCounts ns) name old new
+CannotCount ns = Fails (KeepsCounts ns)
 
 -- the first value of this name is at the index
 pub record IsIndexOf (ps : Named TabledQuery) (name : List ℕ) (index : ℕ) : Type 0 where

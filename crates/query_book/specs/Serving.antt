@@ -40,6 +40,10 @@ counted_of book = counted_in book.entries
 abbrev pub HasCounts : ℕ → Book → List ℕ → Type 0
 HasCounts n book name = (t : TabledQuery) → tabled_of book name ≡ Some t → counts_in t ≡ Some n
 
+-- the query of this name, if there is one, has the tables of n nodes
+abbrev pub HasTables : ℕ → Book → List ℕ → Type 0
+HasTables n book name = (t : TabledQuery) → tabled_of book name ≡ Some t → count_of t.tables ≡ n
+
 -- the same number for each name
 abbrev pub all_at : ℕ → Named ℕ → Named ℕ
 all_at n ps = map (λ p. (p.0, n)) ps
@@ -53,6 +57,11 @@ sum_of (p ∷ ps) = p.1 + sum_of ps
 pub record Covers (ns : List Node) (book : Book) : Type 0 where
   pub serves : Serves ns book
   pub all : covered_of book ≡ all_at (length ns) (covered_of book)
+
+-- in the query of this name, if there is one, all nodes of the list have their tables
+pub record CoversQuery (ns : List Node) (book : Book) (name : List ℕ) : Type 0 where
+  pub serves : Serves ns book
+  pub tables : HasTables (length ns) book name
 
 -- each number is unchanged or n
 abbrev pub ArePartlyAt : ℕ → Named ℕ → Named ℕ → Type 0

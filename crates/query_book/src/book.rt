@@ -1,5 +1,5 @@
 //! The registry of queries.
-ghost use Rattle.std.specs.Prelude.{◌≡◌, ◌+◌, ◌≤◌, List, [], length, OnOk, OnErr, IfOk, IfErr, IsErrOf, IsSome, None, Some, MatchResult, ◌↔◌};
+ghost use Rattle.std.specs.Prelude.{◌≡◌, ◌+◌, ◌≤◌, ℕ, List, [], length, OnOk, OnErr, IfOk, IfErr, IsErrOf, IsSome, None, Some, MatchResult, ◌↔◌};
 ghost use Rattle.std.specs.Option.{option_map};
 ghost use Rattle.span_types.specs.Query.{Query, query_of};
 ghost use Rattle.span_types.specs.Rel.{names_of};
@@ -9,14 +9,14 @@ ghost use Rattle.query_book.specs.Named.{AreDistinctNames, put, taken_out, value
 ghost use Rattle.query_book.specs.Compiling.{IsCompiled};
 ghost use Rattle.query_book.specs.Registering.{IsQueryOf, IsRefused};
 ghost use Rattle.query_book.specs.Book.{IsMissing, book_of, queries_of, tabled_of, with_entry, without_entry};
-ghost use Rattle.query_book.specs.Serving.{ArePartlyAt, Covers, HasCounts, Serves, all_at, counted_of, covered_of, sum_of};
+ghost use Rattle.query_book.specs.Serving.{ArePartlyAt, Covers, CoversQuery, HasCounts, Serves, all_at, counted_of, covered_of, sum_of};
 ghost use Rattle.query_book.specs.Kept.{IsSound};
 ghost use Rattle.query_book.specs.Renumbering.{IsPlanFor, UseEachTable, ranked};
 
 use crate::compiled::{Compiled, compile};
 use crate::counting::count_named;
 use crate::entry::{Entry, Lent, TabledQuery, fresh_entry};
-use crate::growing::grow_entries;
+use crate::growing::{grow_entries, grow_named};
 use crate::refusal::{BookRefusal, QueryRefusal};
 use crate::renumbering::renumber_entries;
 use name_map::NameMap;
@@ -201,6 +201,51 @@ impl QueryBook {
         grow_entries(lent, &mut self.by_name, places)
     }
 
+    /// Computes the missing tables of the query with this name, so that each node of the store has one. The other queries
+    /// keep their tables. The store must be the one that was used before, possibly with more nodes. `places` counts the
+    /// computed tables. The work on the nodes of one height runs in at most `workers` pieces at once, 1 to 64. The query
+    /// is found in time linear in the number of queries.
+    ///
+    /// # Errors
+    ///
+    /// `NoSuchQuery` exactly if no query has the name; the registry is then unchanged. `NoMemory` if allocation fails; the
+    /// query then has the tables of the same nodes as before.
+    pub fn grow_one<R: Threads + Sync, G: Gate, L: Ledger>(
+        &mut self,
+        rt: &R,
+        alloc: Global,
+        name: &[u8],
+        store: &Store,
+        workers: u8,
+        gate: &G,
+        places: &mut Steps<L>,
+    ) -> Result<(), BookRefusal>
+        requires least { 1 ≤ workers }
+        requires most { workers ≤ 64 }
+        requires serves { Serves store.now self.old }
+        ensures all { OnOk result (CoversQuery store.now self.new name.now) }
+        ensures done { OnOk result (covered_of self.new ≡ put (covered_of self.old) name.now (length store.now)) }
+        ensures err { OnErr result (covered_of self.new ≡ covered_of self.old) }
+        ensures missing { IsErrOf result BookRefusal.NoSuchQuery ↔ (value_of (queries_of self.old) name.now ≡ None) }
+        ensures unchanged { IsErrOf result BookRefusal.NoSuchQuery → self.new ≡ self.old }
+        ensures queries { queries_of self.new ≡ queries_of self.old }
+        ensures counted { counted_of self.new ≡ counted_of self.old }
+        ensures serves { Serves store.now self.new }
+        ensures some { ArePartlyAt (length store.now) (covered_of self.old) (covered_of self.new) }
+        ensures steps { places.new + sum_of (covered_of self.old) ≡ places.old + sum_of (covered_of self.new) }
+        ensures states { self.new.states ≡ self.old.states }
+    {
+        self.by_name.settle();
+        let lent = Lent {
+            rt,
+            alloc,
+            store,
+            workers,
+            gate,
+        };
+        grow_named(lent, &mut self.by_name, name, places)
+    }
+
     /// Computes the missing counting tables of the query with this name, so that each node of the store has one. The store
     /// must be the one that was used before, possibly with more nodes. `places` counts the computed counting tables. The
     /// work on the nodes of one height runs in at most `workers` pieces at once, 1 to 64. The query is found in time
@@ -232,6 +277,7 @@ impl QueryBook {
         ensures covered { covered_of self.new ≡ covered_of self.old }
         ensures serves { Serves store.now self.new }
         ensures covers { Covers store.now self.old → Covers store.now self.new }
+        ensures covers_query { (other : List ℕ) → CoversQuery store.now self.old other → CoversQuery store.now self.new other }
         ensures some { ArePartlyAt (length store.now) (counted_of self.old) (counted_of self.new) }
         ensures steps { places.new + sum_of (counted_of self.old) ≡ places.old + sum_of (counted_of self.new) }
         ensures states { self.new.states ≡ self.old.states }

@@ -3,15 +3,14 @@ ghost use Rattle.std.specs.Prelude.{◌≡◌, ◌+◌, ◌<◌, [], length, IfO
 ghost use Rattle.marker_dfa.specs.Deterministic.{states_of};
 ghost use Rattle.query_book.specs.Book.{entries_of};
 ghost use Rattle.query_book.specs.Counting.{counted};
-ghost use Rattle.query_book.specs.Growing.{CannotCount, ChangesAt, ChangesNamed, GrowsCounts, IsIndexOf, KeepsCounts};
+ghost use Rattle.query_book.specs.Growing.{CannotCount, ChangesAt, ChangesNamed, GrowsCounts, KeepsCounts};
 ghost use Rattle.query_book.specs.Kept.{AreSound, IsSound};
-ghost use Rattle.query_book.specs.Named.{value_of};
 ghost use Rattle.query_book.specs.Serving.{AreServed, IsServed, counted_in, sum_of};
 
 use crate::entry::{Lent, TabledQuery};
+use crate::finding::index_of;
 use crate::refusal::BookRefusal;
 use count_tables::CountTables;
-use line_parts::is_same;
 use marker_dfa::Dfa;
 use name_map::NameMap;
 use span_types::{NoMemory, Steps};
@@ -38,18 +37,6 @@ pub(crate) fn count_named<R: Threads + Sync, G: Gate, L: Ledger>(
     };
     count_at(lent, by_name, index, places)?;
     Ok(())
-}
-
-/// The index of the name, if it is there.
-fn index_of(by_name: &NameMap<TabledQuery>, name: &[u8]) -> Option<usize>
-    ensures { MatchOption result (value_of by_name.now name.now ≡ None) (IsIndexOf by_name.now name.now) }
-{
-    for index in 0..by_name.count() {
-        if is_same(name, by_name.at(index).0.bytes()) {
-            return Some(index);
-        }
-    }
-    None
 }
 
 /// Computes the missing counting tables of the query at an index.

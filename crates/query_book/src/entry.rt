@@ -1,8 +1,8 @@
 //! The entries of the registry.
-ghost use Rattle.std.specs.Prelude.{◌≡◌, ◌+◌, ◌≤◌, IfOk, OnOk};
+ghost use Rattle.std.specs.Prelude.{◌≡◌, ◌+◌, ◌≤◌, IfOk, OnErr, OnOk};
 ghost use Rattle.state_tables.specs.Dictionary.{count_of};
 ghost use Rattle.query_book.specs.Compiling.{IsCompiled};
-ghost use Rattle.query_book.specs.Growing.{Grows, MayGrow};
+ghost use Rattle.query_book.specs.Growing.{Grows, Keeps, MayGrow};
 ghost use Rattle.query_book.specs.Kept.{IsSound};
 ghost use Rattle.query_book.specs.Making.{IsFresh};
 ghost use Rattle.query_book.specs.Serving.{IsServed};
@@ -83,6 +83,7 @@ pub(crate) fn grow_query<R: Threads + Sync, G: Gate, L: Ledger>(
     requires sound { IsSound tabled.old }
     requires served { IsServed lent.store.now tabled.old }
     ensures all { OnOk result (Grows lent.entry.store.now tabled.old tabled.new) }
+    ensures same { OnErr result (Keeps lent.entry.store.now tabled.old tabled.new) }
     ensures some { MayGrow lent.entry.store.now tabled.old tabled.new }
     ensures steps { places.new + count_of tabled.old.tables ≡ places.old + count_of tabled.new.tables }
 {

@@ -12,7 +12,7 @@ ghost use Rattle.query_book.specs.Answers.{Defines, HasAnswer, HasList, IsAnswer
 ghost use Rattle.query_book.specs.Book.{IsMissing, queries_of};
 ghost use Rattle.query_book.specs.InHand.{HasAnswersIn};
 ghost use Rattle.query_book.specs.Parts.{HasAnswersOf};
-ghost use Rattle.query_book.specs.Serving.{Covers, HasCounts};
+ghost use Rattle.query_book.specs.Serving.{CoversQuery, HasCounts};
 
 use crate::book::QueryBook;
 use crate::entry::TabledQuery;
@@ -50,15 +50,15 @@ impl<'a> Model for Ready<'a> {
 }
 
 impl QueryBook {
-    /// The query with this name, for evaluation on the texts of the store. Each node of the store must have its table.
-    /// Allocates nothing. Takes time logarithmic in the number of queries, and the calls on the result need no further
-    /// lookup of the name.
+    /// The query with this name, for evaluation on the texts of the store. Each node of the store must have its table
+    /// in this query. Allocates nothing. Takes time logarithmic in the number of queries, and the calls on the result
+    /// need no further lookup of the name.
     ///
     /// # Errors
     ///
     /// `NoSuchQuery` exactly if no query has the name.
     pub fn ready<'a>(&'a self, name: &[u8], store: &'a Store) -> Result<Ready<'a>, BookRefusal>
-        requires { Covers store.now self.now }
+        requires { CoversQuery store.now self.now name.now }
         ensures query { IfOk result (λ r. value_of (queries_of self.now) name.now ≡ Some (query_of r.tree)) }
         ensures store { IfOk result (λ r. r.nodes ≡ store.now) }
         ensures counted { IfOk result (λ r. (n : ℕ) → HasCounts n self.now name.now → r.counted ≡ Some n) }

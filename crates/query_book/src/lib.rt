@@ -3,7 +3,7 @@
 //!
 //! ```text
 //! book.add(alloc, name, b".*$x{ab}.*")?;                   // `name` is called "q"
-//! book.grow_all(&rt, alloc, &store, workers, &gate, &mut places)?;
+//! book.grow_one(&rt, alloc, b"q", &store, workers, &gate, &mut places)?;
 //! let ready = book.ready(b"q", &store)?;                   // or Err(BookRefusal::NoSuchQuery)
 //! let yes = ready.test(root, &mut looks);                  // whether q has an answer on the root's text
 //! book.grow_counts(&rt, alloc, b"q", &store, workers, &gate, &mut places)?;
@@ -12,14 +12,15 @@
 //! ```
 //!
 //! A query is compiled once, and its tables serve every text in the store. After nodes were added to the store,
-//! `grow_all` computes one table for each query and new node. `union`, `join` and `project` copy their operands.
-//! `compile`, `union_of`, `join_of` and `projection_of` compile a query without registering it.
+//! `grow_one` computes the missing tables of one query, one for each new node, and `grow_all` those of all queries. `union`,
+//! `join` and `project` copy their operands. `compile`, `union_of`, `join_of` and `projection_of` compile a query without
+//! registering it.
 //!
 //! A registry limits the states of a query's automaton: `new` allows 128, and `with_states` from 128 to 1,024. More states
 //! take more memory and more time for each table.
 //!
-//! `ready` finds a query once for several evaluations on the texts of a store. `start`, `seek`, `test`, `has` and
-//! `parts` find it by its name each time.
+//! `ready` finds a query once for several evaluations on the texts of a store. It needs the tables of this query alone.
+//! `start`, `seek`, `test`, `has` and `parts` find a query by its name each time, and need the tables of all queries.
 //!
 //! `count` returns the number of answers, `rank` the number of those before a tuple, and `start_at` the answers from a
 //! position on. None of them lists answers. They need the counting tables of one query, which `grow_counts` computes,
@@ -52,6 +53,7 @@ mod combining;
 mod compiled;
 mod counting;
 mod entry;
+mod finding;
 mod growing;
 mod in_hand;
 mod keeping;

@@ -1,12 +1,12 @@
-use Rattle.std.proofs.Common.{◌≡◌, ◌↔◌, sym, ap, ◌∙◌, subst, List, length, None, OnOk, OnErr, arith}
+use Rattle.std.proofs.Common.{◌≡◌, ◌↔◌, sym, ap, ◌∙◌, subst, ℕ, List, length, None, OnOk, OnErr, arith}
 use Rattle.std.specs.Prelude.{IsErrOf}
 use Rattle.query_book.specs.declared.entry.Entry.{Entry}
 use Rattle.query_book.specs.declared.refusal.BookRefusal.TheVariants.{NoSuchQuery}
 use Rattle.query_book.specs.Named.{put, value_of}
 use Rattle.query_book.specs.Book.{book_of, entries_of, queries_in}
 use Rattle.query_book.specs.Kept.{AreSound}
-use Rattle.query_book.specs.Serving.{ArePartlyAt, AreServed, Covers, counted_in, covered_in, sum_of}
-use Rattle.query_book.proofs.CountGrowth.{sound-counted, serves-counted, queries-counted, covered-counted, covers-counted, all-counted, done-counted, err-counted, missing-counted, some-counted}
+use Rattle.query_book.specs.Serving.{ArePartlyAt, AreServed, Covers, CoversQuery, counted_in, covered_in, sum_of}
+use Rattle.query_book.proofs.CountGrowth.{sound-counted, serves-counted, queries-counted, covered-counted, covers-counted, covers_query-counted, all-counted, done-counted, err-counted, missing-counted, some-counted}
 use Rattle.query_book.proofs.book.QueryBook.grow_counts.Goals as goal
 
 pub count_named-requires-clause-kept : goal.count_named-requires-clause-kept
@@ -66,6 +66,13 @@ returns-clause-covers g c =
     let seen = ap (book_of most) c.settle.ensures ∙ c.self.view_is in
     subst (λ book. Covers c.args.store.now book → Covers c.args.store.now (book_of most c.count_named.new.by_name)) seen
     (covers-counted c.args.store.now c.args.name.now c.settle.new.self c.count_named.new.by_name most c.count_named.result c.count_named.ensures.changes)
+
+pub returns-clause-covers_query : goal.returns-clause-covers_query
+returns-clause-covers_query g c =
+    let most = c.self.inside.states in
+    let seen = ap (book_of most) c.settle.ensures ∙ c.self.view_is in
+    subst (λ book. (other : List ℕ) → CoversQuery c.args.store.now book other → CoversQuery c.args.store.now (book_of most c.count_named.new.by_name) other) seen
+    (covers_query-counted c.args.store.now c.args.name.now c.settle.new.self c.count_named.new.by_name most c.count_named.result c.count_named.ensures.changes)
 
 pub returns-clause-some : goal.returns-clause-some
 returns-clause-some g c =

@@ -3,7 +3,7 @@ use Rattle.std.specs.Option.{option_map}
 use Rattle.span_types.specs.Query.{query_of}
 use Rattle.query_book.specs.declared.entry.TabledQuery.{TabledQuery}
 use Rattle.query_book.proofs.Views.{value-by_name}
-use Rattle.query_book.proofs.Covered.{count-found, served-found}
+use Rattle.query_book.proofs.Covered.{served-found}
 use Rattle.query_book.proofs.book.QueryBook.ready.Goals as goal
 
 pub invariant_of-result : goal.invariant_of-result
@@ -13,7 +13,7 @@ invariant_of-result c =
       sound = c.in_ok-tabled.ensures.sound;
       nodes = c.count-nodes.ensures.sound;
       tables = s.tables;
-      all = count-found c.args.store.now c.args.self.now c.args.name.now c.in_ok-tabled.tabled.now c.requires c.in_ok-tabled.ensures.found;
+      all = c.requires.tables c.in_ok-tabled.tabled.now c.in_ok-tabled.ensures.found;
       counts = s.counts;
     }
 

@@ -4,7 +4,11 @@ use Rattle.slp_model.specs.Nodes.{text_of}
 use Rattle.query_book.specs.Answers.{HasList}
 use Rattle.query_book.specs.Book.{queries_of}
 use Rattle.query_book.proofs.Lists.{if-missing, if-named}
+use Rattle.query_book.proofs.Covered.{covers-query}
 use Rattle.query_book.proofs.book.QueryBook.seek.Goals as goal
+
+pub ready-requires : goal.ready-requires
+ready-requires g c = covers-query c.args.store.now c.args.self.now c.args.name.now c.requires.covers
 
 pub returns-in_err-ready-clause-list : goal.returns-in_err-ready-clause-list
 returns-in_err-ready-clause-list g c =

@@ -1,6 +1,6 @@
 use Rattle.std.proofs.Common.{◌≡◌, ℕ, length, sym, subst, arith, add-one}
 use Rattle.query_book.proofs.NameIndex.{AreOthers, index-found, index-none, others-step, other-by, same-by}
-use Rattle.query_book.proofs.counting.index_of.Goals as goal
+use Rattle.query_book.proofs.finding.index_of.Goals as goal
 
 pub returns-then-is_same : goal.returns-then-is_same
 returns-then-is_same c =

@@ -1,5 +1,5 @@
 use Rattle.query_book.proofs.NameIndex.{AreOthers}
-use Rattle.query_book.proofs.counting.index_of.Given as goal
+use Rattle.query_book.proofs.finding.index_of.Given as goal
 
 -- none of the first values has the name
 abbrev pub invariant-loop-index : goal.invariant-loop-index
