@@ -12,8 +12,8 @@ use Rattle.name_map.specs.Named.{is_same}
 use Rattle.query_book.specs.Answers.{most_looks}
 use Rattle.query_book.specs.Book.{queries_in, tabled_in}
 use Rattle.query_book.specs.declared.entry.TabledQuery.{TabledQuery}
-use Rattle.query_book.specs.Counting.{counts_in}
-use Rattle.query_book.specs.Serving.{HasCounts}
+use Rattle.slp_model.specs.declared.Node.{Node}
+use Rattle.query_book.specs.Serving.{CoversQuery, HasCounts, Serves}
 use Rattle.span_types.specs.Query.{query_of}
 use Rattle.session_state.proofs.BookLemmas.{counts_grown, query_of as named_query}
 use Rattle.session_state.proofs.Goes.{placed_answers, placed_stops}
@@ -138,15 +138,17 @@ rank_told queries bytes query text tuple number kept told reply same named repli
 }
 
 -- no entry has the name
-none_among : (es : List Entry) (name : List ℕ) (n : ℕ) → value_of (queries_in es) name ≡ None → (t : TabledQuery) → tabled_in es name ≡ Some t → counts_in t ≡ Some n
-none_among [] name n none t is = let bad : ⊥ = cc is in absurd bad
-none_among (e ∷ es) name n none t is = at (is_same name e.name) (none_among es name n) none is
+no_entry : (es : List Entry) (name : List ℕ) → value_of (queries_in es) name ≡ None → (t : TabledQuery) → tabled_in es name ≡ Some t → ⊥
+no_entry [] name none t is = let bad : ⊥ = cc is in bad
+no_entry (e ∷ es) name none t is = at (is_same name e.name) (no_entry es name) none is
   where
-    at : (b : Bool) → (value_of (queries_in es) name ≡ None → (u : TabledQuery) → tabled_in es name ≡ Some u → counts_in u ≡ Some n) → cond b (Some (query_of e.tabled.query.tree)) (value_of (queries_in es) name) ≡ None → cond b (Some e.tabled) (tabled_in es name) ≡ Some t
-        → counts_in t ≡ Some n
-    at true rest lacks there = let bad : ⊥ = cc lacks in absurd bad
+    at : (b : Bool) → (value_of (queries_in es) name ≡ None → (u : TabledQuery) → tabled_in es name ≡ Some u → ⊥) → cond b (Some (query_of e.tabled.query.tree)) (value_of (queries_in es) name) ≡ None → cond b (Some e.tabled) (tabled_in es name) ≡ Some t → ⊥
+    at true rest lacks there = let bad : ⊥ = cc lacks in bad
     at false rest lacks there = rest lacks t there
 
 -- no query has the name
 pub none_counted : (book : Book) (name : List ℕ) (n : ℕ) → value_of (queries_of book) name ≡ None → HasCounts n book name
-none_counted book name n none = none_among book.entries name n none
+none_counted book name n none t is = absurd (no_entry book.entries name none t is)
+
+pub none_tabled : (ns : List Node) (book : Book) (name : List ℕ) → Serves ns book → value_of (queries_of book) name ≡ None → CoversQuery ns book name
+none_tabled ns book name serves none = record { serves = serves; tables = λ t is. absurd (no_entry book.entries name none t is) }

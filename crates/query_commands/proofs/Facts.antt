@@ -1,7 +1,7 @@
 -- The lemmas that the proofs of this crate's functions use, each re-exported from the file that proves it.
 pub use Rattle.query_commands.proofs.AllListingLemmas.{lists_exist, rest_end, sized_at, tuples_end, tuples_left}
 pub use Rattle.query_commands.proofs.AllListingParts.{batch_left, found_sizes, lists_every}
-pub use Rattle.query_commands.proofs.CountLemmas.{count_answers, count_missing, count_rejected, count_stops, found_before, named_by, none_counted, rank_answers, rank_rejected, rank_stops, rank_told}
+pub use Rattle.query_commands.proofs.CountLemmas.{count_answers, count_missing, count_rejected, count_stops, found_before, named_by, none_counted, none_tabled, rank_answers, rank_rejected, rank_stops, rank_told}
 pub use Rattle.query_commands.proofs.CountLemmas.{told_of}
 pub use Rattle.query_commands.proofs.ListLemmas.{goes_starts, kept_looks, kept_size, looks_more, moved, page_ends, page_goes_on, page_has_more, page_stops}
 pub use Rattle.query_commands.proofs.Listings.{every_ends, every_missing_ends, grown_stops, list_missing_ends, listed_ends}

@@ -7,8 +7,8 @@ use Rattle.span_language.specs.Counts.{IsNumbered}
 use Rattle.span_language.specs.State.{value_of}
 use Rattle.session_state.specs.Tables.{GrowsTables}
 
--- tables of all queries were computed, and counting tables only if the listing starts at the answer with a number and there
--- is a query with this name
+-- tables were computed, and counting tables only if the listing starts at the answer with a number and there is a query with
+-- this name
 pub record GrowsFor (start : ListStart) (name : List ℕ) (ns : List Node) (old new : Book) (before after : ℕ) : Type 0 where
   pub asked : Bool
   pub grown : GrowsTables asked ns old new before after

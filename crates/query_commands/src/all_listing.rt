@@ -214,6 +214,7 @@ pub fn list_all<R: Threads + Sync, K: Sink, G: Gate, T: Ledger>(
     grow(
         context.lent,
         session.alloc,
+        &query,
         &session.store,
         &mut session.book,
         places,

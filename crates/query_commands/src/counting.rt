@@ -114,25 +114,34 @@ fn rank_root<L: Ledger>(
     }
 }
 
+/// The arguments of `rank`: the query, the document's name, and the tuple as a word.
+#[derive(Drop)]
+pub struct Ranking {
+    pub query: Name,
+    pub name: Name,
+    pub word: ByteList,
+}
+
 /// `rank Q NAME TUPLE`
 pub fn rank<R: Threads + Sync, G: Gate, T: Ledger, L: Ledger>(
     context: Context<'_, R, G>,
     session: &mut SessionState,
-    query: Name,
-    name: Name,
-    word: ByteList,
+    ranking: Ranking,
     places: &mut Steps<T>,
     looks: &mut Steps<L>,
 ) -> Result<Answer, Stop>
     requires { IsConsistent session.old }
     ensures done { (files : Option Files) (faults pairs : ℕ) → IfOk result
-        (Answers (at session.old files faults looks.old pairs places.old) context.entry.number (form.Rank query name word)
+        (Answers (at session.old files faults looks.old pairs places.old) context.entry.number
+        (form.Rank ranking.query ranking.name ranking.word)
         (at session.new files faults looks.new pairs places.new)) }
     ensures stopped { (files : Option Files) (faults pairs : ℕ) → IfErr result
-        (Stays (at session.old files faults looks.old pairs places.old) context.entry.number (form.Rank query name word)
+        (Stays (at session.old files faults looks.old pairs places.old) context.entry.number
+        (form.Rank ranking.query ranking.name ranking.word)
         (at session.new files faults looks.new pairs places.new)) }
 {
     let number = context.number;
+    let Ranking { query, name, word } = ranking;
     match session.docs.get(name.bytes()) {
         Ok(root) => match session.book.vars(query.bytes()) {
             Ok(vars) => match tuple_of(vars, &word) {

@@ -2,7 +2,7 @@
 //!
 //! ```text
 //! let answer = register(&mut session, number, name, Recipe::Formula { text })?;
-//! let outcome = list(context, &mut session, name, page, &mut out, &mut places, &mut looks)?;
+//! let outcome = list(context, &mut session, page, &mut out, &mut places, &mut looks)?;
 //! ```
 //!
 //! Each command is one function. A command that evaluates a query first computes the tables of all new nodes (`places`),
@@ -24,8 +24,8 @@ mod tables;
 mod words;
 
 pub use all_listing::list_all;
-pub use counting::{count, rank};
+pub use counting::{Ranking, count, rank};
 pub use listing::{Page, list};
-pub use queries::{ask, unquery};
+pub use queries::{Question, ask, unquery};
 pub use registering::{Recipe, register};
 pub use replacement::{Replacing, replace};

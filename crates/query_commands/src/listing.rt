@@ -8,7 +8,7 @@ ghost use Rattle.span_types.specs.Answers.{IsAfter};
 ghost use Rattle.span_types.specs.Fibonacci.{looks_limit};
 ghost use Rattle.span_enum.specs.Members.{Tuple as ATuple, AreAnswersOf};
 ghost use Rattle.span_types.specs.Query.{query_of};
-ghost use Rattle.query_book.specs.Serving.{Covers, HasCounts, Serves};
+ghost use Rattle.query_book.specs.Serving.{CoversQuery, HasCounts, Serves};
 ghost use Rattle.script_syntax.specs.Syntax.{IsStart};
 ghost use Rattle.span_language.specs.Counts.{IsNumbered};
 ghost use Rattle.span_language.specs.Listed.{tuple_line, first_page_text};
@@ -38,10 +38,12 @@ use std::sync::ledger::Ledger;
 use std::thread::Threads;
 use work_gate::Gate;
 
-/// The requested page of answers: the query, where the listing starts, and its maximum number of answers.
+/// The requested page of answers: the query, the document's name, where the listing starts, and its maximum number of
+/// answers.
 #[derive(Drop)]
 pub struct Page {
     pub query: Name,
+    pub name: Name,
     pub start: ListStart,
     pub limit: u16,
 }
@@ -146,8 +148,7 @@ fn list_page<K: Sink, L: Ledger>(
     }
 }
 
-/// Computes the tables that a page needs: those of all queries, and the counting tables of its query if it starts at the
-/// answer with a number.
+/// Computes the tables of a page's query, and its counting tables if the page starts at the answer with a number.
 fn grow_for<R: Threads + Sync, G: Gate, T: Ledger>(
     lent: Lent<'_, R, G>,
     alloc: Global,
@@ -157,11 +158,11 @@ fn grow_for<R: Threads + Sync, G: Gate, T: Ledger>(
     places: &mut Steps<T>,
 ) -> Result<(), NoMemory>
     requires { Serves store.now book.old }
-    ensures all { OnOk result (Covers store.now book.new) }
+    ensures all { OnOk result (CoversQuery store.now book.new page.now.query) }
     ensures counts { OnOk result (IsNumbered page.now.start → HasCounts (length store.now) book.new page.now.query) }
     ensures grown { GrowsFor page.now.start page.now.query store.now book.old book.new places.old places.new }
 {
-    grow(lent, alloc, store, book, places)?;
+    grow(lent, alloc, &page.query, store, book, places)?;
     match page.start {
         ListStart::At(_) => grow_counts(lent, alloc, &page.query, store, book, places),
         _ => Ok(()),
@@ -173,7 +174,6 @@ fn grow_for<R: Threads + Sync, G: Gate, T: Ledger>(
 pub fn list<R: Threads + Sync, K: Sink, G: Gate, T: Ledger, L: Ledger>(
     context: Context<'_, R, G>,
     session: &mut SessionState,
-    name: Name,
     page: Page,
     out: &mut K,
     places: &mut Steps<T>,
@@ -182,13 +182,13 @@ pub fn list<R: Threads + Sync, K: Sink, G: Gate, T: Ledger, L: Ledger>(
     requires session { IsConsistent session.old }
     requires start { IsStart page.start }
     ensures session { IsConsistent session.new }
-    ensures ends { (files : Option Files) (faults pairs : ℕ) → Ends context.entry.number (Some (form.List page.query name page.start page.limit))
+    ensures ends { (files : Option Files) (faults pairs : ℕ) → Ends context.entry.number (Some (form.List page.query page.name page.start page.limit))
         (seen (model_of session.old) files faults looks.old pairs places.old)
         (outlet (K.written out.old) (K.faults out.old) (K.wants out.old))
         (seen (model_of session.new) files faults looks.new pairs places.new)
         (outlet (K.written out.new) (K.faults out.new) (K.wants out.new)) result }
 {
-    match session.docs.get(name.bytes()) {
+    match session.docs.get(page.name.bytes()) {
         Ok(root) => {
             grow_for(
                 context.lent,
@@ -216,7 +216,7 @@ pub fn list<R: Threads + Sync, K: Sink, G: Gate, T: Ledger, L: Ledger>(
         Err(Missing::NoSuchDocument) => write_rejection(
             session,
             context.number,
-            &Refusal::NoSuchDocument { name },
+            &Refusal::NoSuchDocument { name: page.name },
             out,
         ),
     }

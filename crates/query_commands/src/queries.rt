@@ -75,29 +75,40 @@ fn ask_query<L: Ledger>(
     }
 }
 
+/// A question about a query's answers on a document: the query, the document's name, and the tuple as a word, or `None`
+/// if the question is whether there is an answer.
+#[derive(Drop)]
+pub struct Question {
+    pub query: Name,
+    pub name: Name,
+    pub word: Option<ByteList>,
+}
+
 /// `has Q NAME TUPLE`, or `test Q NAME` without a tuple.
 pub fn ask<R: Threads + Sync, G: Gate, T: Ledger, L: Ledger>(
     context: Context<'_, R, G>,
     session: &mut SessionState,
-    query: Name,
-    name: Name,
-    word: Option<ByteList>,
+    question: Question,
     places: &mut Steps<T>,
     looks: &mut Steps<L>,
 ) -> Result<Answer, Stop>
     requires { IsConsistent session.old }
     ensures done { (files : Option Files) (faults pairs : ℕ) → IfOk result
-        (Answers (at session.old files faults looks.old pairs places.old) context.entry.number (question_of query name word)
+        (Answers (at session.old files faults looks.old pairs places.old) context.entry.number
+        (question_of question.query question.name question.word)
         (at session.new files faults looks.new pairs places.new)) }
     ensures stopped { (files : Option Files) (faults pairs : ℕ) → IfErr result
-        (Stays (at session.old files faults looks.old pairs places.old) context.entry.number (question_of query name word)
+        (Stays (at session.old files faults looks.old pairs places.old) context.entry.number
+        (question_of question.query question.name question.word)
         (at session.new files faults looks.new pairs places.new)) }
 {
+    let Question { query, name, word } = question;
     match session.docs.get(name.bytes()) {
         Ok(root) => {
             grow(
                 context.lent,
                 session.alloc,
+                &query,
                 &session.store,
                 &mut session.book,
                 places,

@@ -11,21 +11,19 @@ ghost use Rattle.session_state.specs.Answers.{Answers, Stays};
 ghost use Rattle.session_state.specs.SessionState.{IsConsistent};
 ghost use Rattle.query_commands.specs.Replacing.{AreChosenApart, AreSources, Chooses, ChoosesFrom, IsSourceMissing, Replaces};
 ghost use Rattle.session_state.specs.CommandState.{at};
-ghost use Rattle.query_book.specs.Serving.{Covers};
+ghost use Rattle.query_book.specs.Serving.{CoversQuery};
 ghost use Rattle.span_types.specs.Query.{query_of};
 ghost use Rattle.span_types.specs.Rel.{names_of};
 
 use crate::subject::Subject;
 use crate::tables::grow;
 use doc_book::{Docs, Missing};
-use node_store::Store;
 use report_text::Refusal;
 use session_state::{Answer, Context, SessionState, reject, set_document};
 use slp_model::NodeId;
 use span_language::Stop;
 use span_replace::{Chosen, ReplaceRefusal, chosen, longest, replaced};
 use span_types::{Name, NoMemory, Steps};
-use std::alloc::Global;
 use std::sync::ledger::Ledger;
 use std::thread::Threads;
 use work_gate::Gate;
@@ -93,7 +91,7 @@ fn choose<L: Ledger>(
     long: bool,
     looks: &mut Steps<L>,
 ) -> Result<Result<Chosen, Refusal>, NoMemory>
-    requires covers { Covers session.now.store session.now.book }
+    requires covers { CoversQuery session.now.store session.now.book query }
     requires live { IsLive session.now.store root }
     ensures choice { ChoosesFrom long (queries_of session.now.book) query (text_of session.now.store root) result looks.old looks.new }
     ensures apart { AreChosenApart (length (text_of session.now.store root)) result }
@@ -120,30 +118,37 @@ fn choose<L: Ledger>(
 
 /// Sets the document with this name to the text with the spans replaced.
 fn put_in_place<P: Ledger>(
-    alloc: Global,
-    store: &mut Store,
-    docs: &mut Docs,
+    session: &mut SessionState,
     number: u64,
     name: Name,
     sources: &Sources,
     spans: &Chosen,
     pairs: &mut Steps<P>,
 ) -> Result<Answer, NoMemory>
-    requires live { AreLive store.old docs.old }
-    requires root { IsLive store.old sources.now.root }
-    requires other { IsLive store.old sources.now.other }
-    requires apart { AreApart (length (text_of store.old sources.now.root)) spans.now }
-    ensures live { AreLive store.new docs.new }
-    ensures grows { Grows store.old store.new pairs.old pairs.new }
-    ensures ok { IfOk result (λ answer. Replaces (plain store.old docs.old) number name
-        (meaning.replaced (text_of store.old sources.now.root) spans.now
-        (text_of store.old sources.now.other)) answer.told answer.line.items (plain store.new docs.new)) }
-    ensures err { OnErr result (plain store.new docs.new ≡ plain store.old docs.old) }
+    requires live { AreLive session.old.store session.old.docs }
+    requires root { IsLive session.old.store sources.now.root }
+    requires other { IsLive session.old.store sources.now.other }
+    requires apart { AreApart (length (text_of session.old.store sources.now.root)) spans.now }
+    ensures others { session.new ≡ record session.old { store = session.new.store; docs = session.new.docs } }
+    ensures live { AreLive session.new.store session.new.docs }
+    ensures grows { Grows session.old.store session.new.store pairs.old pairs.new }
+    ensures ok { IfOk result (λ answer. Replaces (plain session.old.store session.old.docs) number name
+        (meaning.replaced (text_of session.old.store sources.now.root) spans.now
+        (text_of session.old.store sources.now.other)) answer.told answer.line.items
+        (plain session.new.store session.new.docs)) }
+    ensures err { OnErr result (plain session.new.store session.new.docs ≡ plain session.old.store session.old.docs) }
     ensures cost { pairs.new ≤ pairs.old + 1770 * (length spans.now + 1) }
 {
-    match replaced(store, sources.root, spans, sources.other, pairs) {
+    let alloc = session.alloc;
+    match replaced(
+        &mut session.store,
+        sources.root,
+        spans,
+        sources.other,
+        pairs,
+    ) {
         Ok(root) => {
-            let answer = set_document(alloc, store, docs, name, root)?;
+            let answer = set_document(alloc, &session.store, &mut session.docs, name, root)?;
             Ok(answer)
         }
         Err(ReplaceRefusal::TooLong { len }) => {
@@ -186,22 +191,14 @@ pub fn replace<R: Threads + Sync, G: Gate, P: Ledger, T: Ledger, L: Ledger>(
             grow(
                 context.lent,
                 session.alloc,
+                &query,
                 &session.store,
                 &mut session.book,
                 places,
             )?;
             match choose(session, query, sources.root, long, looks) {
                 Ok(Ok(spans)) => {
-                    let answer = put_in_place(
-                        session.alloc,
-                        &mut session.store,
-                        &mut session.docs,
-                        number,
-                        name,
-                        &sources,
-                        &spans,
-                        pairs,
-                    )?;
+                    let answer = put_in_place(session, number, name, &sources, &spans, pairs)?;
                     Ok(answer)
                 }
                 Ok(Err(why)) => {

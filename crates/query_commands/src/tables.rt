@@ -2,7 +2,7 @@
 ghost use Rattle.std.specs.Prelude.{◌≡◌, false, length, None, OnErr, OnOk};
 ghost use Rattle.query_book.specs.Book.{queries_of};
 ghost use Rattle.query_book.specs.Named.{value_of};
-ghost use Rattle.query_book.specs.Serving.{Covers, HasCounts, Serves};
+ghost use Rattle.query_book.specs.Serving.{CoversQuery, HasCounts, Serves};
 ghost use Rattle.session_state.specs.Tables.{GrowsCounts, GrowsTables};
 
 use node_store::Store;
@@ -14,20 +14,26 @@ use std::sync::ledger::Ledger;
 use std::thread::Threads;
 use work_gate::Gate;
 
-/// Computes the missing tables, so that each node of the store has a table in each query. If allocation fails, some
-/// queries may have all tables, and the others have those that they had.
+/// Computes the missing tables of the query with this name, if there is one, so that each node of the store has one. If
+/// allocation fails, the query has the tables that it had.
 pub fn grow<R: Threads + Sync, G: Gate, T: Ledger>(
     lent: Lent<'_, R, G>,
     alloc: Global,
+    query: &Name,
     store: &Store,
     book: &mut QueryBook,
     places: &mut Steps<T>,
 ) -> Result<(), NoMemory>
     requires { Serves store.now book.old }
-    ensures all { OnOk result (Covers store.now book.new) }
+    ensures all { OnOk result (CoversQuery store.now book.new query.now) }
     ensures grown { GrowsTables false store.now book.old book.new places.old places.new }
 {
-    book.grow_all(lent.rt, alloc, store, lent.workers, lent.gate, places)
+    let name = query.bytes();
+    match book.grow_one(lent.rt, alloc, name, store, lent.workers, lent.gate, places) {
+        Ok(()) => Ok(()),
+        Err(BookRefusal::NoSuchQuery) => Ok(()),
+        Err(BookRefusal::NoMemory) => Err(NoMemory),
+    }
 }
 
 /// Computes the missing counting tables of the query with this name, if there is one, so that each node of the store has
@@ -42,7 +48,7 @@ pub fn grow_counts<R: Threads + Sync, G: Gate, T: Ledger>(
 ) -> Result<(), NoMemory>
     requires { Serves store.now book.old }
     ensures counts { OnOk result (HasCounts (length store.now) book.new query.now) }
-    ensures covers { Covers store.now book.old → Covers store.now book.new }
+    ensures covers { CoversQuery store.now book.old query.now → CoversQuery store.now book.new query.now }
     ensures grown { GrowsCounts store.now book.old book.new places.old places.new }
     ensures missing { value_of (queries_of book.old) query.now ≡ None → places.new ≡ places.old }
     ensures err { OnErr result (places.new ≡ places.old) }

@@ -1,6 +1,7 @@
 //! The top call: runs the script that the command-line arguments select, and returns a status.
 ghost use Rattle.std.specs.Prelude.{◌≡◌, ◌⊎◌, ◌+◌, ◌^◌, ◌<◌, ◌≤◌, ◌||◌, true, false, None, Some, IfOk, IfErr, IfSome, MatchResult, OnOk, length, map, string_bytes};
 ghost use Rattle.edge_io.specs.Causes.{Rose};
+ghost use Rattle.span_session.specs.Lending.{IsSameIo, IsSameMeters};
 ghost use Rattle.span_words.specs.Words.{Refused};
 ghost use Rattle.span_run.specs.Taken.{TakesAtMost};
 ghost use Rattle.span_language.specs.Lines.{lines_of};
@@ -11,7 +12,7 @@ use crate::lines::next_line;
 use edge_io::{Shelf, Sink, Source};
 use session_state::Lent;
 use span_language::{Stop, Told};
-use span_session::Session;
+use span_session::{Io, Meters, Session};
 use span_types::Steps;
 use span_words::{WordsRefusal, read_words};
 use std::alloc::Global;
@@ -120,29 +121,28 @@ fn run_lines<R: Threads + Sync, K: Sink, F: Shelf, G: Gate, P: Ledger, T: Ledger
     alloc: Global,
     states: u16,
     script: &[u8],
-    out: &mut K,
-    shelf: &mut F,
-    pairs: &mut Steps<P>,
-    places: &mut Steps<T>,
-    looks: &mut Steps<L>,
+    io: &mut Io<'_, '_, K, F>,
+    meters: &mut Meters<'_, '_, '_, P, T, L>,
 ) -> Result<bool, Stop>
     requires few { 128 ≤ states }
     requires many { states ≤ 1024 }
+    ensures same_io { IsSameIo io.old io.new }
+    ensures same_meters { IsSameMeters meters.old meters.new }
     ensures done { IfOk result (λ refused. RunsAll (lines_of script.now) refused states
-        (outside (K.written out.old) (F.files shelf.old) looks.old pairs.old places.old)
-        (outside (K.written out.new) (F.files shelf.new) looks.new pairs.new places.new)) }
-    ensures out_fault { IfErr result (λ why. why ≡ Stop.OutFault → Rose (K.faults out.old) (K.faults out.new) × RunsFront Anywhere
-        (lines_of script.now) states (outside (K.written out.old) (F.files shelf.old) looks.old pairs.old places.old)
-        (outside (K.written out.new) (F.files shelf.new) looks.new pairs.new places.new)) }
-    ensures shelf_fault { IfErr result (λ why. why ≡ Stop.ShelfFault → Rose (F.faults shelf.old) (F.faults shelf.new)
+        (outside (K.written io.old.out.now) (F.files io.old.shelf.now) meters.old.looks.now meters.old.pairs.now meters.old.places.now)
+        (outside (K.written io.new.out.now) (F.files io.new.shelf.now) meters.new.looks.now meters.new.pairs.now meters.new.places.now)) }
+    ensures out_fault { IfErr result (λ why. why ≡ Stop.OutFault → Rose (K.faults io.old.out.now) (K.faults io.new.out.now) × RunsFront Anywhere
+        (lines_of script.now) states (outside (K.written io.old.out.now) (F.files io.old.shelf.now) meters.old.looks.now meters.old.pairs.now meters.old.places.now)
+        (outside (K.written io.new.out.now) (F.files io.new.shelf.now) meters.new.looks.now meters.new.pairs.now meters.new.places.now)) }
+    ensures shelf_fault { IfErr result (λ why. why ≡ Stop.ShelfFault → Rose (F.faults io.old.shelf.now) (F.faults io.new.shelf.now)
         × RunsFront InFileLine (lines_of script.now) states
-        (outside (K.written out.old) (F.files shelf.old) looks.old pairs.old places.old)
-        (outside (K.written out.new) (F.files shelf.new) looks.new pairs.new places.new)) }
-    ensures want { IfErr result (λ why. why ≡ Stop.NoMemory → RunsFront (UnlessList (K.wants out.old) (K.wants out.new))
-        (lines_of script.now) states (outside (K.written out.old) (F.files shelf.old) looks.old pairs.old places.old)
-        (outside (K.written out.new) (F.files shelf.new) looks.new pairs.new places.new)) }
-    ensures sound { OnOk result ((K.faults out.new ≡ K.faults out.old) × (K.wants out.new ≡ K.wants out.old) × (F.faults shelf.new ≡ F.faults shelf.old)) }
-    ensures gone { K.kept out.old ≡ 0 → MatchResult result (λ _. K.kept out.new ≡ 0) (λ why. why ≡ Stop.ShelfFault → K.kept out.new ≡ 0) }
+        (outside (K.written io.old.out.now) (F.files io.old.shelf.now) meters.old.looks.now meters.old.pairs.now meters.old.places.now)
+        (outside (K.written io.new.out.now) (F.files io.new.shelf.now) meters.new.looks.now meters.new.pairs.now meters.new.places.now)) }
+    ensures want { IfErr result (λ why. why ≡ Stop.NoMemory → RunsFront (UnlessList (K.wants io.old.out.now) (K.wants io.new.out.now))
+        (lines_of script.now) states (outside (K.written io.old.out.now) (F.files io.old.shelf.now) meters.old.looks.now meters.old.pairs.now meters.old.places.now)
+        (outside (K.written io.new.out.now) (F.files io.new.shelf.now) meters.new.looks.now meters.new.pairs.now meters.new.places.now)) }
+    ensures sound { OnOk result ((K.faults io.new.out.now ≡ K.faults io.old.out.now) × (K.wants io.new.out.now ≡ K.wants io.old.out.now) × (F.faults io.new.shelf.now ≡ F.faults io.old.shelf.now)) }
+    ensures gone { K.kept io.old.out.now ≡ 0 → MatchResult result (λ _. K.kept io.new.out.now ≡ 0) (λ why. why ≡ Stop.ShelfFault → K.kept io.new.out.now ≡ 0) }
 {
     let mut session = Session::with_states(alloc, states);
     let mut rest = script;
@@ -155,12 +155,12 @@ fn run_lines<R: Threads + Sync, K: Sink, F: Shelf, G: Gate, P: Ledger, T: Ledger
             number,
             line,
             lent.workers,
-            out,
-            shelf,
+            io.out,
+            io.shelf,
             lent.gate,
-            pairs,
-            places,
-            looks,
+            meters.pairs,
+            meters.places,
+            meters.looks,
         )?;
         refused = with_refusal(refused, told);
         number += 1;
@@ -274,17 +274,13 @@ pub fn run<
         workers: options.workers,
         gate,
     };
-    match run_lines(
-        lent,
-        alloc,
-        options.states,
-        &bytes,
-        out,
-        shelf,
+    let mut io = Io { out, shelf };
+    let mut meters = Meters {
         pairs,
         places,
         looks,
-    ) {
+    };
+    match run_lines(lent, alloc, options.states, &bytes, &mut io, &mut meters) {
         Ok(false) => Status::Done,
         Ok(true) => Status::SomeRefused,
         Err(Stop::OutFault) => Status::OutFault,

@@ -4,13 +4,16 @@ ghost use Rattle.span_language.specs.Step.{IsShort};
 ghost use Rattle.session_state.specs.SessionState.{IsConsistent};
 ghost use Rattle.session_state.specs.CommandState.{at};
 ghost use Rattle.session_state.specs.Answers.{Answers, IsAnswering, IsWellFormed, Stays};
+ghost use Rattle.span_session.specs.Lending.{IsSameMeters};
 
+use crate::lending::Meters;
 use edge_io::Shelf;
-use query_commands::{Recipe, Replacing, ask, count, rank, register, replace, unquery};
+use query_commands::{
+    Question, Ranking, Recipe, Replacing, ask, count, rank, register, replace, unquery,
+};
 use script_syntax::Command;
 use session_state::{Answer, Context, SessionState};
 use span_language::Stop;
-use span_types::Steps;
 use std::sync::ledger::Ledger;
 use std::thread::Threads;
 use text_commands::{
@@ -25,24 +28,23 @@ pub fn answer<R: Threads + Sync, F: Shelf, G: Gate, P: Ledger, T: Ledger, L: Led
     session: &mut SessionState,
     command: Command,
     shelf: &mut F,
-    pairs: &mut Steps<P>,
-    places: &mut Steps<T>,
-    looks: &mut Steps<L>,
+    meters: &mut Meters<'_, '_, '_, P, T, L>,
 ) -> Result<Answer, Stop>
     requires session { IsConsistent session.old }
     requires answering { IsAnswering command }
     requires short { IsShort command }
     requires well_formed { IsWellFormed command }
+    ensures same_meters { IsSameMeters meters.old meters.new }
     ensures done { IfOk result (Answers
-        (at session.old (F.files shelf.old) (F.faults shelf.old) looks.old pairs.old places.old) context.entry.number command
-        (at session.new (F.files shelf.new) (F.faults shelf.new) looks.new pairs.new places.new)) }
+        (at session.old (F.files shelf.old) (F.faults shelf.old) meters.old.looks.now meters.old.pairs.now meters.old.places.now) context.entry.number command
+        (at session.new (F.files shelf.new) (F.faults shelf.new) meters.new.looks.now meters.new.pairs.now meters.new.places.now)) }
     ensures stopped { IfErr result (Stays
-        (at session.old (F.files shelf.old) (F.faults shelf.old) looks.old pairs.old places.old) context.entry.number command
-        (at session.new (F.files shelf.new) (F.faults shelf.new) looks.new pairs.new places.new)) }
+        (at session.old (F.files shelf.old) (F.faults shelf.old) meters.old.looks.now meters.old.pairs.now meters.old.places.now) context.entry.number command
+        (at session.new (F.files shelf.new) (F.faults shelf.new) meters.new.looks.now meters.new.pairs.now meters.new.places.now)) }
 {
     let number = context.number;
     match command {
-        Command::Text { name, bytes } => text(session, number, name, bytes, pairs),
+        Command::Text { name, bytes } => text(session, number, name, bytes, meters.pairs),
         Command::LoadFile { name, file } => {
             let method = Method::Load;
             load_file(
@@ -50,7 +52,7 @@ pub fn answer<R: Threads + Sync, F: Shelf, G: Gate, P: Ledger, T: Ledger, L: Led
                 number,
                 Loading { name, file, method },
                 shelf,
-                pairs,
+                meters.pairs,
             )
         }
         Command::ShareFile { name, file } => {
@@ -60,12 +62,12 @@ pub fn answer<R: Threads + Sync, F: Shelf, G: Gate, P: Ledger, T: Ledger, L: Led
                 number,
                 Loading { name, file, method },
                 shelf,
-                pairs,
+                meters.pairs,
             )
         }
-        Command::QuotedText { name, bytes } => text(session, number, name, bytes, pairs),
+        Command::QuotedText { name, bytes } => text(session, number, name, bytes, meters.pairs),
         Command::WriteFile { name, file } => write_file(session, number, name, file, shelf),
-        Command::LetDoc { name, expr } => let_document(session, number, name, expr, pairs),
+        Command::LetDoc { name, expr } => let_document(session, number, name, expr, meters.pairs),
         Command::DropDoc { name } => drop_document(session, number, name),
         Command::Show { name, from, to } => show(session, number, name, from, to),
         Command::Query { name, formula } => {
@@ -81,21 +83,30 @@ pub fn answer<R: Threads + Sync, F: Shelf, G: Gate, P: Ledger, T: Ledger, L: Led
         Command::ProjectQuery { name, source, keep } => {
             register(session, number, name, Recipe::Project { source, keep })
         }
-        Command::Count { query, doc } => count(context, session, query, doc, places),
-        Command::Rank { query, doc, tuple } => {
-            rank(context, session, query, doc, tuple, places, looks)
+        Command::Count { query, doc } => count(context, session, query, doc, meters.places),
+        Command::Rank {
+            query,
+            doc: name,
+            tuple: word,
+        } => {
+            let ranking = Ranking { query, name, word };
+            rank(context, session, ranking, meters.places, meters.looks)
         }
         Command::Nonempty { query, name } => {
-            ask(context, session, query, name, None, places, looks)
+            let word = None;
+            let question = Question { query, name, word };
+            ask(context, session, question, meters.places, meters.looks)
         }
         Command::Has { query, name, tuple } => {
-            ask(context, session, query, name, Some(tuple), places, looks)
+            let word = Some(tuple);
+            let question = Question { query, name, word };
+            ask(context, session, question, meters.places, meters.looks)
         }
         Command::SaveFile { file } => {
             session.settle();
             save_file(session, number, file, shelf)
         }
-        Command::OpenFile { file } => open_file(session, number, file, shelf, pairs),
+        Command::OpenFile { file } => open_file(session, number, file, shelf, meters.pairs),
         Command::ReplaceDoc {
             name,
             query,
@@ -112,9 +123,9 @@ pub fn answer<R: Threads + Sync, F: Shelf, G: Gate, P: Ledger, T: Ledger, L: Led
                 by,
                 longest,
             },
-            pairs,
-            places,
-            looks,
+            meters.pairs,
+            meters.places,
+            meters.looks,
         ),
         Command::MarkDocs { name } => mark(session, number, name),
         Command::UnmarkDocs { name } => unmark(session, number, name),

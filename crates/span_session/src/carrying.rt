@@ -8,15 +8,16 @@ ghost use Rattle.session_state.specs.SessionState.{IsConsistent, model_of};
 ghost use Rattle.session_state.specs.LineState.{seen};
 ghost use Rattle.session_state.specs.Carried.{IsDone, IsStopped, outlet};
 ghost use Rattle.session_state.specs.Written.{Ends};
+ghost use Rattle.span_session.specs.Lending.{IsSameIo, IsSameMeters};
 
 use crate::answering::answer;
+use crate::lending::{Io, Meters};
 use edge_io::{Shelf, Sink};
 use query_commands::{Page, list, list_all};
 use report_text::Refusal;
 use script_syntax::{Command, LineRefusal, command};
 use session_state::{Context, SessionState, send, send_out, send_rejection};
 use span_language::{Stop, Told};
-use span_types::Steps;
 use std::sync::ledger::Ledger;
 use std::thread::Threads;
 use text_commands::write_names;
@@ -27,26 +28,25 @@ fn reply<R: Threads + Sync, K: Sink, F: Shelf, G: Gate, P: Ledger, T: Ledger, L:
     context: Context<'_, R, G>,
     session: &mut SessionState,
     command: Command,
-    out: &mut K,
-    shelf: &mut F,
-    pairs: &mut Steps<P>,
-    places: &mut Steps<T>,
-    looks: &mut Steps<L>,
+    io: &mut Io<'_, '_, K, F>,
+    meters: &mut Meters<'_, '_, '_, P, T, L>,
 ) -> Result<Told, Stop>
     requires session { IsConsistent session.old }
     requires answering { IsAnswering command }
     requires short { IsShort command }
     requires well_formed { IsWellFormed command }
     ensures session { IsConsistent session.new }
-    ensures unsent { IfErr result (λ why. why ≡ Stop.ShelfFault → out.new ≡ out.old) }
+    ensures same_io { IsSameIo io.old io.new }
+    ensures same_meters { IsSameMeters meters.old meters.new }
+    ensures unsent { IfErr result (λ why. why ≡ Stop.ShelfFault → io.new.out.now ≡ io.old.out.now) }
     ensures ends { Ends context.entry.number (Some command)
-        (seen (model_of session.old) (F.files shelf.old) (F.faults shelf.old) looks.old pairs.old places.old)
-        (outlet (K.written out.old) (K.faults out.old) (K.wants out.old))
-        (seen (model_of session.new) (F.files shelf.new) (F.faults shelf.new) looks.new pairs.new places.new)
-        (outlet (K.written out.new) (K.faults out.new) (K.wants out.new)) result }
+        (seen (model_of session.old) (F.files io.old.shelf.now) (F.faults io.old.shelf.now) meters.old.looks.now meters.old.pairs.now meters.old.places.now)
+        (outlet (K.written io.old.out.now) (K.faults io.old.out.now) (K.wants io.old.out.now))
+        (seen (model_of session.new) (F.files io.new.shelf.now) (F.faults io.new.shelf.now) meters.new.looks.now meters.new.pairs.now meters.new.places.now)
+        (outlet (K.written io.new.out.now) (K.faults io.new.out.now) (K.wants io.new.out.now)) result }
 {
-    let answer = answer(context, session, command, shelf, pairs, places, looks)?;
-    send(answer, out)
+    let answer = answer(context, session, command, io.shelf, meters)?;
+    send(answer, io.out)
 }
 
 /// `names`: writes each document's line before the next one is made.
@@ -67,29 +67,28 @@ fn carry<R: Threads + Sync, K: Sink, F: Shelf, G: Gate, P: Ledger, T: Ledger, L:
     context: Context<'_, R, G>,
     session: &mut SessionState,
     command: Command,
-    out: &mut K,
-    shelf: &mut F,
-    pairs: &mut Steps<P>,
-    places: &mut Steps<T>,
-    looks: &mut Steps<L>,
+    io: &mut Io<'_, '_, K, F>,
+    meters: &mut Meters<'_, '_, '_, P, T, L>,
 ) -> Result<Told, Stop>
     requires session { IsConsistent session.old }
     requires short { IsShort command }
     requires well_formed { IsWellFormed command }
     ensures session { IsConsistent session.new }
-    ensures quiet { IfOk result (λ told. told ≡ Told.Quiet → out.new ≡ out.old) }
-    ensures unsent { IfErr result (λ why. why ≡ Stop.ShelfFault → out.new ≡ out.old) }
+    ensures same_io { IsSameIo io.old io.new }
+    ensures same_meters { IsSameMeters meters.old meters.new }
+    ensures quiet { IfOk result (λ told. told ≡ Told.Quiet → io.new.out.now ≡ io.old.out.now) }
+    ensures unsent { IfErr result (λ why. why ≡ Stop.ShelfFault → io.new.out.now ≡ io.old.out.now) }
     ensures ends { Ends context.entry.number (Some command)
-        (seen (model_of session.old) (F.files shelf.old) (F.faults shelf.old) looks.old pairs.old places.old)
-        (outlet (K.written out.old) (K.faults out.old) (K.wants out.old))
-        (seen (model_of session.new) (F.files shelf.new) (F.faults shelf.new) looks.new pairs.new places.new)
-        (outlet (K.written out.new) (K.faults out.new) (K.wants out.new)) result }
+        (seen (model_of session.old) (F.files io.old.shelf.now) (F.faults io.old.shelf.now) meters.old.looks.now meters.old.pairs.now meters.old.places.now)
+        (outlet (K.written io.old.out.now) (K.faults io.old.out.now) (K.wants io.old.out.now))
+        (seen (model_of session.new) (F.files io.new.shelf.now) (F.faults io.new.shelf.now) meters.new.looks.now meters.new.pairs.now meters.new.places.now)
+        (outlet (K.written io.new.out.now) (K.faults io.new.out.now) (K.wants io.new.out.now)) result }
 {
     match command {
         Command::Nothing => Ok(Told::Quiet),
         Command::Names => {
             session.settle();
-            names(session, out)
+            names(session, io.out)
         }
         Command::List {
             query,
@@ -99,16 +98,17 @@ fn carry<R: Threads + Sync, K: Sink, F: Shelf, G: Gate, P: Ledger, T: Ledger, L:
         } => {
             let page = Page {
                 query,
+                name,
                 start,
                 limit,
             };
-            list(context, session, name, page, out, places, looks)
+            list(context, session, page, io.out, meters.places, meters.looks)
         }
         Command::ListAll { query, limit } => {
             session.settle();
-            list_all(context, session, query, limit, out, places)
+            list_all(context, session, query, limit, io.out, meters.places)
         }
-        command => reply(context, session, command, out, shelf, pairs, places, looks),
+        command => reply(context, session, command, io, meters),
     }
 }
 
@@ -117,31 +117,30 @@ fn write_line<R: Threads + Sync, K: Sink, F: Shelf, G: Gate, P: Ledger, T: Ledge
     context: Context<'_, R, G>,
     session: &mut SessionState,
     line: &[u8],
-    out: &mut K,
-    shelf: &mut F,
-    pairs: &mut Steps<P>,
-    places: &mut Steps<T>,
-    looks: &mut Steps<L>,
+    io: &mut Io<'_, '_, K, F>,
+    meters: &mut Meters<'_, '_, '_, P, T, L>,
 ) -> Result<Told, Stop>
     requires { IsConsistent session.old }
     ensures session { IsConsistent session.new }
-    ensures quiet { IfOk result (λ told. told ≡ Told.Quiet → out.new ≡ out.old) }
-    ensures unsent { IfErr result (λ why. why ≡ Stop.ShelfFault → out.new ≡ out.old) }
+    ensures same_io { IsSameIo io.old io.new }
+    ensures same_meters { IsSameMeters meters.old meters.new }
+    ensures quiet { IfOk result (λ told. told ≡ Told.Quiet → io.new.out.now ≡ io.old.out.now) }
+    ensures unsent { IfErr result (λ why. why ≡ Stop.ShelfFault → io.new.out.now ≡ io.old.out.now) }
     ensures done { IfOk result (IsDone line.now context.entry.number
-        (seen (model_of session.old) (F.files shelf.old) (F.faults shelf.old) looks.old pairs.old places.old)
-        (outlet (K.written out.old) (K.faults out.old) (K.wants out.old))
-        (seen (model_of session.new) (F.files shelf.new) (F.faults shelf.new) looks.new pairs.new places.new)
-        (outlet (K.written out.new) (K.faults out.new) (K.wants out.new))) }
+        (seen (model_of session.old) (F.files io.old.shelf.now) (F.faults io.old.shelf.now) meters.old.looks.now meters.old.pairs.now meters.old.places.now)
+        (outlet (K.written io.old.out.now) (K.faults io.old.out.now) (K.wants io.old.out.now))
+        (seen (model_of session.new) (F.files io.new.shelf.now) (F.faults io.new.shelf.now) meters.new.looks.now meters.new.pairs.now meters.new.places.now)
+        (outlet (K.written io.new.out.now) (K.faults io.new.out.now) (K.wants io.new.out.now))) }
     ensures stopped { IfErr result (IsStopped line.now context.entry.number
-        (seen (model_of session.old) (F.files shelf.old) (F.faults shelf.old) looks.old pairs.old places.old)
-        (outlet (K.written out.old) (K.faults out.old) (K.wants out.old))
-        (seen (model_of session.new) (F.files shelf.new) (F.faults shelf.new) looks.new pairs.new places.new)
-        (outlet (K.written out.new) (K.faults out.new) (K.wants out.new))) }
+        (seen (model_of session.old) (F.files io.old.shelf.now) (F.faults io.old.shelf.now) meters.old.looks.now meters.old.pairs.now meters.old.places.now)
+        (outlet (K.written io.old.out.now) (K.faults io.old.out.now) (K.wants io.old.out.now))
+        (seen (model_of session.new) (F.files io.new.shelf.now) (F.faults io.new.shelf.now) meters.new.looks.now meters.new.pairs.now meters.new.places.now)
+        (outlet (K.written io.new.out.now) (K.faults io.new.out.now) (K.wants io.new.out.now))) }
 {
     match command(session.alloc, line) {
-        Ok(command) => carry(context, session, command, out, shelf, pairs, places, looks),
+        Ok(command) => carry(context, session, command, io, meters),
         Err(LineRefusal::Syntax) => {
-            send_rejection(session.alloc, context.number, &Refusal::Syntax, out)
+            send_rejection(session.alloc, context.number, &Refusal::Syntax, io.out)
         }
         Err(LineRefusal::NoMemory) => Err(Stop::NoMemory),
     }
@@ -152,27 +151,26 @@ pub fn carry_line<R: Threads + Sync, K: Sink, F: Shelf, G: Gate, P: Ledger, T: L
     context: Context<'_, R, G>,
     session: &mut SessionState,
     line: &[u8],
-    out: &mut K,
-    shelf: &mut F,
-    pairs: &mut Steps<P>,
-    places: &mut Steps<T>,
-    looks: &mut Steps<L>,
+    io: &mut Io<'_, '_, K, F>,
+    meters: &mut Meters<'_, '_, '_, P, T, L>,
 ) -> Result<Told, Stop>
     requires { IsConsistent session.old }
     ensures session { IsConsistent session.new }
-    ensures gone { IfOk result (λ told. ((told ≡ Told.Quiet) × (out.new ≡ out.old)) ⊎ (K.kept out.new ≡ 0)) }
-    ensures unsent { IfErr result (λ why. why ≡ Stop.ShelfFault → out.new ≡ out.old) }
+    ensures same_io { IsSameIo io.old io.new }
+    ensures same_meters { IsSameMeters meters.old meters.new }
+    ensures gone { IfOk result (λ told. ((told ≡ Told.Quiet) × (io.new.out.now ≡ io.old.out.now)) ⊎ (K.kept io.new.out.now ≡ 0)) }
+    ensures unsent { IfErr result (λ why. why ≡ Stop.ShelfFault → io.new.out.now ≡ io.old.out.now) }
     ensures done { IfOk result (IsDone line.now context.entry.number
-        (seen (model_of session.old) (F.files shelf.old) (F.faults shelf.old) looks.old pairs.old places.old)
-        (outlet (K.written out.old) (K.faults out.old) (K.wants out.old))
-        (seen (model_of session.new) (F.files shelf.new) (F.faults shelf.new) looks.new pairs.new places.new)
-        (outlet (K.written out.new) (K.faults out.new) (K.wants out.new))) }
+        (seen (model_of session.old) (F.files io.old.shelf.now) (F.faults io.old.shelf.now) meters.old.looks.now meters.old.pairs.now meters.old.places.now)
+        (outlet (K.written io.old.out.now) (K.faults io.old.out.now) (K.wants io.old.out.now))
+        (seen (model_of session.new) (F.files io.new.shelf.now) (F.faults io.new.shelf.now) meters.new.looks.now meters.new.pairs.now meters.new.places.now)
+        (outlet (K.written io.new.out.now) (K.faults io.new.out.now) (K.wants io.new.out.now))) }
     ensures stopped { IfErr result (IsStopped line.now context.entry.number
-        (seen (model_of session.old) (F.files shelf.old) (F.faults shelf.old) looks.old pairs.old places.old)
-        (outlet (K.written out.old) (K.faults out.old) (K.wants out.old))
-        (seen (model_of session.new) (F.files shelf.new) (F.faults shelf.new) looks.new pairs.new places.new)
-        (outlet (K.written out.new) (K.faults out.new) (K.wants out.new))) }
+        (seen (model_of session.old) (F.files io.old.shelf.now) (F.faults io.old.shelf.now) meters.old.looks.now meters.old.pairs.now meters.old.places.now)
+        (outlet (K.written io.old.out.now) (K.faults io.old.out.now) (K.wants io.old.out.now))
+        (seen (model_of session.new) (F.files io.new.shelf.now) (F.faults io.new.shelf.now) meters.new.looks.now meters.new.pairs.now meters.new.places.now)
+        (outlet (K.written io.new.out.now) (K.faults io.new.out.now) (K.wants io.new.out.now))) }
 {
-    let told = write_line(context, session, line, out, shelf, pairs, places, looks)?;
-    send_out(told, out)
+    let told = write_line(context, session, line, io, meters)?;
+    send_out(told, io.out)
 }

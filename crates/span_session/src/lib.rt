@@ -18,7 +18,9 @@
 
 mod answering;
 mod carrying;
+mod lending;
 mod session;
 
+pub use lending::{Io, Meters};
 pub use session::Session;
 pub use span_language::{Stop, Told};

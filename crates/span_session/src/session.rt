@@ -6,6 +6,7 @@ ghost use Rattle.session_state.specs.LineState.{seen};
 ghost use Rattle.session_state.specs.Carried.{IsDone, IsStopped, outlet};
 
 use crate::carrying::carry_line;
+use crate::lending::{Io, Meters};
 use edge_io::{Shelf, Sink};
 use session_state::{Context, Lent, SessionState};
 use span_language::{Stop, Told};
@@ -125,16 +126,13 @@ impl Session {
             lent: Lent { rt, workers, gate },
             number,
         };
-        let told = carry_line(
-            context,
-            &mut self.state,
-            line,
-            out,
-            shelf,
+        let mut io = Io { out, shelf };
+        let mut meters = Meters {
             pairs,
             places,
             looks,
-        );
+        };
+        let told = carry_line(context, &mut self.state, line, &mut io, &mut meters);
         // States a property of the store: apart from pairs it has at most 256 nodes, one for each byte.
         let _ = self.state.store.count();
         told

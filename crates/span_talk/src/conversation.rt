@@ -9,7 +9,9 @@ ghost use Rattle.span_talk.specs.Talk.{whole_lines, AreServed, HaveRun, OfHeard,
 use crate::client::Client;
 use crate::progress::{End, hear_script};
 use edge_io::{Shelf, Sink};
+use session_state::Lent;
 use span_run::{Status, Stop};
+use span_session::{Io, Meters};
 use span_types::Steps;
 use std::alloc::Global;
 use std::sync::ledger::Ledger;
@@ -94,9 +96,14 @@ pub fn talk<
         (outside (K.written out.old) (F.files shelf.old) looks.old pairs.old places.old) (C.moments client.old)
         (C.moments client.new) }
 {
-    match hear_script(
-        rt, alloc, client, workers, states, out, shelf, gate, pairs, places, looks,
-    ) {
+    let lent = Lent { rt, workers, gate };
+    let mut io = Io { out, shelf };
+    let mut meters = Meters {
+        pairs,
+        places,
+        looks,
+    };
+    match hear_script(lent, alloc, client, states, &mut io, &mut meters) {
         Ok(false) => Status::Done,
         Ok(true) => Status::SomeRefused,
         Err(End::Fault) => Status::ScriptFault,

@@ -6,14 +6,16 @@ ghost use Rattle.span_language.specs.Lines.{lines_of};
 ghost use Rattle.span_language.specs.Runs.{is_refused, outside, Anywhere, InFileLine, UnlessList, RunsAll, RunsFront};
 ghost use Rattle.session_state.specs.Carried.{outlet};
 ghost use Rattle.session_state.specs.SessionState.{IsSessionModel};
+ghost use Rattle.span_session.specs.Lending.{IsSameIo, IsSameMeters};
 ghost use Rattle.span_talk.specs.Talk.{whole_lines, AreServed, HaveRun, OfHeard, OfSent};
 ghost use Rattle.span_talk.specs.Progress.{stands, Does, Finishes, Hears, IsHalted, IsTalking, StopsAtEnd, StopsIn, StopsWithin};
 
 use crate::client::Client;
 use crate::lines::{cut_line, keep};
 use edge_io::{Shelf, Sink};
+use session_state::Lent;
 use span_run::{Session, Stop, Told};
-use span_types::Steps;
+use span_session::{Io, Meters};
 use std::alloc::Global;
 use std::sync::ledger::Ledger;
 use std::thread::Threads;
@@ -50,48 +52,43 @@ fn with_refusal(before: bool, told: Told) -> bool
 
 /// Executes the line that has begun, and begins the next one.
 fn end_line<R: Threads + Sync, K: Sink, F: Shelf, G: Gate, P: Ledger, T: Ledger, L: Ledger>(
-    rt: &R,
+    lent: Lent<'_, R, G>,
     progress: &mut Progress,
-    workers: u8,
-    out: &mut K,
-    shelf: &mut F,
-    gate: &G,
-    pairs: &mut Steps<P>,
-    places: &mut Steps<T>,
-    looks: &mut Steps<L>,
+    io: &mut Io<'_, '_, K, F>,
+    meters: &mut Meters<'_, '_, '_, P, T, L>,
 ) -> Result<(), Stop>
-    requires least { 1 ≤ workers }
-    requires most { workers ≤ 64 }
     requires model { IsSessionModel progress.old.session }
     requires few { progress.old.number < 2 ^ 63 }
+    ensures same_io { IsSameIo io.old io.new }
+    ensures same_meters { IsSameMeters meters.old meters.new }
     ensures model { IsSessionModel progress.new.session }
     ensures next { OnOk result (progress.new.number ≡ progress.old.number + 1) }
     ensures empty { OnOk result (progress.new.kept.items ≡ []) }
-    ensures later { K.faults out.old ≤ K.faults out.new }
-    ensures wants_later { K.wants out.old ≤ K.wants out.new }
-    ensures shelf_later { F.faults shelf.old ≤ F.faults shelf.new }
+    ensures later { K.faults io.old.out.now ≤ K.faults io.new.out.now }
+    ensures wants_later { K.wants io.old.out.now ≤ K.wants io.new.out.now }
+    ensures shelf_later { F.faults io.old.shelf.now ≤ F.faults io.new.shelf.now }
     ensures done { OnOk result (Does progress.old.kept.items
-        (stands progress.old (outside (K.written out.old) (F.files shelf.old) looks.old pairs.old places.old))
-        (stands progress.new (outside (K.written out.new) (F.files shelf.new) looks.new pairs.new places.new))) }
+        (stands progress.old (outside (K.written io.old.out.now) (F.files io.old.shelf.now) meters.old.looks.now meters.old.pairs.now meters.old.places.now))
+        (stands progress.new (outside (K.written io.new.out.now) (F.files io.new.shelf.now) meters.new.looks.now meters.new.pairs.now meters.new.places.now))) }
     ensures stopped { IfErr result (IsHalted (λ Ends. StopsIn Ends progress.old.kept.items
-        (stands progress.old (outside (K.written out.old) (F.files shelf.old) looks.old pairs.old places.old))
-        (outside (K.written out.new) (F.files shelf.new) looks.new pairs.new places.new))
-        (outlet (K.written out.old) (K.faults out.old) (K.wants out.old)) (F.faults shelf.old)
-        (outlet (K.written out.new) (K.faults out.new) (K.wants out.new)) (F.faults shelf.new)) }
-    ensures sound { OnOk result ((K.faults out.new ≡ K.faults out.old) × (K.wants out.new ≡ K.wants out.old) × (F.faults shelf.new ≡ F.faults shelf.old)) }
-    ensures gone { K.kept out.old ≡ 0 → MatchResult result (λ _. K.kept out.new ≡ 0) (λ why. why ≡ Stop.ShelfFault → K.kept out.new ≡ 0) }
+        (stands progress.old (outside (K.written io.old.out.now) (F.files io.old.shelf.now) meters.old.looks.now meters.old.pairs.now meters.old.places.now))
+        (outside (K.written io.new.out.now) (F.files io.new.shelf.now) meters.new.looks.now meters.new.pairs.now meters.new.places.now))
+        (outlet (K.written io.old.out.now) (K.faults io.old.out.now) (K.wants io.old.out.now)) (F.faults io.old.shelf.now)
+        (outlet (K.written io.new.out.now) (K.faults io.new.out.now) (K.wants io.new.out.now)) (F.faults io.new.shelf.now)) }
+    ensures sound { OnOk result ((K.faults io.new.out.now ≡ K.faults io.old.out.now) × (K.wants io.new.out.now ≡ K.wants io.old.out.now) × (F.faults io.new.shelf.now ≡ F.faults io.old.shelf.now)) }
+    ensures gone { K.kept io.old.out.now ≡ 0 → MatchResult result (λ _. K.kept io.new.out.now ≡ 0) (λ why. why ≡ Stop.ShelfFault → K.kept io.new.out.now ≡ 0) }
 {
     let told = progress.session.line(
-        rt,
+        lent.rt,
         progress.number,
         &progress.kept,
-        workers,
-        out,
-        shelf,
-        gate,
-        pairs,
-        places,
-        looks,
+        lent.workers,
+        io.out,
+        io.shelf,
+        lent.gate,
+        meters.pairs,
+        meters.places,
+        meters.looks,
     )?;
     progress.refused = with_refusal(progress.refused, told);
     progress.number += 1;
@@ -101,45 +98,38 @@ fn end_line<R: Threads + Sync, K: Sink, F: Shelf, G: Gate, P: Ledger, T: Ledger,
 
 /// Executes the lines that end in a piece, and stores the bytes after them.
 fn hear_piece<R: Threads + Sync, K: Sink, F: Shelf, G: Gate, P: Ledger, T: Ledger, L: Ledger>(
-    rt: &R,
+    lent: Lent<'_, R, G>,
     progress: &mut Progress,
     piece: &[u8],
-    workers: u8,
-    out: &mut K,
-    shelf: &mut F,
-    gate: &G,
-    pairs: &mut Steps<P>,
-    places: &mut Steps<T>,
-    looks: &mut Steps<L>,
+    io: &mut Io<'_, '_, K, F>,
+    meters: &mut Meters<'_, '_, '_, P, T, L>,
 ) -> Result<(), Stop>
-    requires least { 1 ≤ workers }
-    requires most { workers ≤ 64 }
     requires model { IsSessionModel progress.old.session }
     requires few { progress.old.number + length piece.now < 2 ^ 63 }
     requires kept { length progress.old.kept.items ≤ 65537 }
+    ensures same_io { IsSameIo io.old io.new }
+    ensures same_meters { IsSameMeters meters.old meters.new }
     ensures model { IsSessionModel progress.new.session }
     ensures next { OnOk result (progress.new.number ≤ progress.old.number + length piece.now) }
     ensures kept { OnOk result (length progress.new.kept.items ≤ 65537) }
-    ensures later { K.faults out.old ≤ K.faults out.new }
-    ensures wants_later { K.wants out.old ≤ K.wants out.new }
-    ensures shelf_later { F.faults shelf.old ≤ F.faults shelf.new }
+    ensures later { K.faults io.old.out.now ≤ K.faults io.new.out.now }
+    ensures wants_later { K.wants io.old.out.now ≤ K.wants io.new.out.now }
+    ensures shelf_later { F.faults io.old.shelf.now ≤ F.faults io.new.shelf.now }
     ensures done { OnOk result (Hears piece.now progress.old.kept.items
-        (stands progress.old (outside (K.written out.old) (F.files shelf.old) looks.old pairs.old places.old)) progress.new.kept.items
-        (stands progress.new (outside (K.written out.new) (F.files shelf.new) looks.new pairs.new places.new))) }
+        (stands progress.old (outside (K.written io.old.out.now) (F.files io.old.shelf.now) meters.old.looks.now meters.old.pairs.now meters.old.places.now)) progress.new.kept.items
+        (stands progress.new (outside (K.written io.new.out.now) (F.files io.new.shelf.now) meters.new.looks.now meters.new.pairs.now meters.new.places.now))) }
     ensures stopped { IfErr result (IsHalted (λ Ends. StopsWithin Ends piece.now progress.old.kept.items
-        (stands progress.old (outside (K.written out.old) (F.files shelf.old) looks.old pairs.old places.old))
-        (outside (K.written out.new) (F.files shelf.new) looks.new pairs.new places.new))
-        (outlet (K.written out.old) (K.faults out.old) (K.wants out.old)) (F.faults shelf.old)
-        (outlet (K.written out.new) (K.faults out.new) (K.wants out.new)) (F.faults shelf.new)) }
-    ensures sound { OnOk result ((K.faults out.new ≡ K.faults out.old) × (K.wants out.new ≡ K.wants out.old) × (F.faults shelf.new ≡ F.faults shelf.old)) }
-    ensures gone { K.kept out.old ≡ 0 → MatchResult result (λ _. K.kept out.new ≡ 0) (λ why. why ≡ Stop.ShelfFault → K.kept out.new ≡ 0) }
+        (stands progress.old (outside (K.written io.old.out.now) (F.files io.old.shelf.now) meters.old.looks.now meters.old.pairs.now meters.old.places.now))
+        (outside (K.written io.new.out.now) (F.files io.new.shelf.now) meters.new.looks.now meters.new.pairs.now meters.new.places.now))
+        (outlet (K.written io.old.out.now) (K.faults io.old.out.now) (K.wants io.old.out.now)) (F.faults io.old.shelf.now)
+        (outlet (K.written io.new.out.now) (K.faults io.new.out.now) (K.wants io.new.out.now)) (F.faults io.new.shelf.now)) }
+    ensures sound { OnOk result ((K.faults io.new.out.now ≡ K.faults io.old.out.now) × (K.wants io.new.out.now ≡ K.wants io.old.out.now) × (F.faults io.new.shelf.now ≡ F.faults io.old.shelf.now)) }
+    ensures gone { K.kept io.old.out.now ≡ 0 → MatchResult result (λ _. K.kept io.new.out.now ≡ 0) (λ why. why ≡ Stop.ShelfFault → K.kept io.new.out.now ≡ 0) }
 {
     let mut rest = piece;
     'lines: while let Some(parts) = cut_line(rest) {
         keep(&mut progress.kept, parts.0)?;
-        end_line(
-            rt, progress, workers, out, shelf, gate, pairs, places, looks,
-        )?;
+        end_line(lent, progress, io, meters)?;
         rest = parts.1;
     }
     keep(&mut progress.kept, rest)?;
@@ -157,58 +147,53 @@ fn hear_all<
     T: Ledger,
     L: Ledger,
 >(
-    rt: &R,
+    lent: Lent<'_, R, G>,
     alloc: Global,
     client: &mut C,
-    workers: u8,
     states: u16,
-    out: &mut K,
-    shelf: &mut F,
-    gate: &G,
-    pairs: &mut Steps<P>,
-    places: &mut Steps<T>,
-    looks: &mut Steps<L>,
+    io: &mut Io<'_, '_, K, F>,
+    meters: &mut Meters<'_, '_, '_, P, T, L>,
 ) -> Result<Progress, End>
-    requires least { 1 ≤ workers }
-    requires most { workers ≤ 64 }
     requires few { 128 ≤ states }
     requires many { states ≤ 1024 }
+    ensures same_io { IsSameIo io.old io.new }
+    ensures same_meters { IsSameMeters meters.old meters.new }
     ensures model { IfOk result (λ progress. IsSessionModel progress.session) }
     ensures few { IfOk result (λ progress. progress.number < 2 ^ 63) }
-    ensures later { K.faults out.old ≤ K.faults out.new }
-    ensures wants_later { K.wants out.old ≤ K.wants out.new }
-    ensures shelf_later { F.faults shelf.old ≤ F.faults shelf.new }
+    ensures later { K.faults io.old.out.now ≤ K.faults io.new.out.now }
+    ensures wants_later { K.wants io.old.out.now ≤ K.wants io.new.out.now }
+    ensures shelf_later { F.faults io.old.shelf.now ≤ F.faults io.new.shelf.now }
     ensures at_end { OnOk result (IsAtEnd (C.left client.new)) }
     ensures all { IfOk result (λ progress. OfSent (C.left client.old)
-        (λ sent. IsTalking sent states (outside (K.written out.old)
-        (F.files shelf.old) looks.old pairs.old places.old) progress.kept.items
-        (stands progress (outside (K.written out.new) (F.files shelf.new) looks.new pairs.new places.new)))) }
+        (λ sent. IsTalking sent states (outside (K.written io.old.out.now)
+        (F.files io.old.shelf.now) meters.old.looks.now meters.old.pairs.now meters.old.places.now) progress.kept.items
+        (stands progress (outside (K.written io.new.out.now) (F.files io.new.shelf.now) meters.new.looks.now meters.new.pairs.now meters.new.places.now)))) }
     ensures fault { IfErr result (λ why. why ≡ End.Fault → Rose (C.faults client.old) (C.faults client.new)
         × OfHeard (C.left client.old) (C.left client.new)
-        (λ heard. HaveRun (whole_lines heard) states (outside (K.written out.old) (F.files shelf.old) looks.old pairs.old places.old)
-        (outside (K.written out.new) (F.files shelf.new) looks.new pairs.new places.new))) }
+        (λ heard. HaveRun (whole_lines heard) states (outside (K.written io.old.out.now) (F.files io.old.shelf.now) meters.old.looks.now meters.old.pairs.now meters.old.places.now)
+        (outside (K.written io.new.out.now) (F.files io.new.shelf.now) meters.new.looks.now meters.new.pairs.now meters.new.places.now))) }
     ensures too_long { IfErr result (λ why. why ≡ End.TooLong → OfHeard (C.left client.old) (C.left client.new)
         (λ heard. (2 ^ 62 ≤ length heard) × HaveRun (whole_lines heard) states
-        (outside (K.written out.old) (F.files shelf.old) looks.old pairs.old places.old)
-        (outside (K.written out.new) (F.files shelf.new) looks.new pairs.new places.new))) }
-    ensures out_fault { IfErr result (λ why. why ≡ End.Stopped Stop.OutFault → Rose (K.faults out.old) (K.faults out.new)
+        (outside (K.written io.old.out.now) (F.files io.old.shelf.now) meters.old.looks.now meters.old.pairs.now meters.old.places.now)
+        (outside (K.written io.new.out.now) (F.files io.new.shelf.now) meters.new.looks.now meters.new.pairs.now meters.new.places.now))) }
+    ensures out_fault { IfErr result (λ why. why ≡ End.Stopped Stop.OutFault → Rose (K.faults io.old.out.now) (K.faults io.new.out.now)
         × OfSent (C.left client.old) (λ sent. RunsFront Anywhere (lines_of sent) states
-        (outside (K.written out.old) (F.files shelf.old) looks.old pairs.old places.old)
-        (outside (K.written out.new) (F.files shelf.new) looks.new pairs.new places.new))) }
-    ensures shelf_fault { IfErr result (λ why. why ≡ End.Stopped Stop.ShelfFault → Rose (F.faults shelf.old) (F.faults shelf.new)
+        (outside (K.written io.old.out.now) (F.files io.old.shelf.now) meters.old.looks.now meters.old.pairs.now meters.old.places.now)
+        (outside (K.written io.new.out.now) (F.files io.new.shelf.now) meters.new.looks.now meters.new.pairs.now meters.new.places.now))) }
+    ensures shelf_fault { IfErr result (λ why. why ≡ End.Stopped Stop.ShelfFault → Rose (F.faults io.old.shelf.now) (F.faults io.new.shelf.now)
         × OfSent (C.left client.old) (λ sent. RunsFront InFileLine (lines_of sent) states
-        (outside (K.written out.old) (F.files shelf.old) looks.old pairs.old places.old)
-        (outside (K.written out.new) (F.files shelf.new) looks.new pairs.new places.new))) }
+        (outside (K.written io.old.out.now) (F.files io.old.shelf.now) meters.old.looks.now meters.old.pairs.now meters.old.places.now)
+        (outside (K.written io.new.out.now) (F.files io.new.shelf.now) meters.new.looks.now meters.new.pairs.now meters.new.places.now))) }
     ensures want { IfErr result (λ why. why ≡ End.Stopped Stop.NoMemory → OfSent (C.left client.old)
-        (λ sent. RunsFront (UnlessList (K.wants out.old) (K.wants out.new)) (lines_of sent) states
-        (outside (K.written out.old) (F.files shelf.old) looks.old pairs.old places.old)
-        (outside (K.written out.new) (F.files shelf.new) looks.new pairs.new places.new))) }
+        (λ sent. RunsFront (UnlessList (K.wants io.old.out.now) (K.wants io.new.out.now)) (lines_of sent) states
+        (outside (K.written io.old.out.now) (F.files io.old.shelf.now) meters.old.looks.now meters.old.pairs.now meters.old.places.now)
+        (outside (K.written io.new.out.now) (F.files io.new.shelf.now) meters.new.looks.now meters.new.pairs.now meters.new.places.now))) }
     ensures served { AreServed (C.left client.old) states
-        (outside (K.written out.old) (F.files shelf.old) looks.old pairs.old places.old) (C.moments client.old)
+        (outside (K.written io.old.out.now) (F.files io.old.shelf.now) meters.old.looks.now meters.old.pairs.now meters.old.places.now) (C.moments client.old)
         (C.moments client.new) }
-    ensures sound { OnOk result ((C.faults client.new ≡ C.faults client.old) × (K.faults out.new ≡ K.faults out.old) × (K.wants out.new ≡ K.wants out.old)
-        × (F.faults shelf.new ≡ F.faults shelf.old)) }
-    ensures gone { K.kept out.old ≡ 0 → MatchResult result (λ _. K.kept out.new ≡ 0) (λ why. (K.kept out.new ≡ 0) ⊎ (why ≡ End.Stopped Stop.OutFault) ⊎ (why ≡ End.Stopped Stop.NoMemory)) }
+    ensures sound { OnOk result ((C.faults client.new ≡ C.faults client.old) × (K.faults io.new.out.now ≡ K.faults io.old.out.now) × (K.wants io.new.out.now ≡ K.wants io.old.out.now)
+        × (F.faults io.new.shelf.now ≡ F.faults io.old.shelf.now)) }
+    ensures gone { K.kept io.old.out.now ≡ 0 → MatchResult result (λ _. K.kept io.new.out.now ≡ 0) (λ why. (K.kept io.new.out.now ≡ 0) ⊎ (why ≡ End.Stopped Stop.OutFault) ⊎ (why ≡ End.Stopped Stop.NoMemory)) }
 {
     let session = Session::with_states(alloc, states);
     let kept = Vec::new(alloc);
@@ -221,7 +206,7 @@ fn hear_all<
     let mut chunk = [0u8; 4096];
     let mut heard = 0u64;
     'pieces: while heard < MAX_SCRIPT {
-        let count = match client.hear(progress.number, out, &mut chunk) {
+        let count = match client.hear(progress.number, io.out, &mut chunk) {
             Ok(count) => count,
             Err(_) => return Err(End::Fault),
         };
@@ -229,18 +214,7 @@ fn hear_all<
             return Ok(progress);
         }
         let piece = &chunk[..count];
-        match hear_piece(
-            rt,
-            &mut progress,
-            piece,
-            workers,
-            out,
-            shelf,
-            gate,
-            pairs,
-            places,
-            looks,
-        ) {
+        match hear_piece(lent, &mut progress, piece, io, meters) {
             Ok(()) => heard += count as u64,
             Err(stop) => return Err(End::Stopped(stop)),
         }
@@ -250,37 +224,30 @@ fn hear_all<
 
 /// Executes a last line without a newline, if there is one. Returns whether any line was rejected.
 fn finish<R: Threads + Sync, K: Sink, F: Shelf, G: Gate, P: Ledger, T: Ledger, L: Ledger>(
-    rt: &R,
+    lent: Lent<'_, R, G>,
     progress: &mut Progress,
-    workers: u8,
-    out: &mut K,
-    shelf: &mut F,
-    gate: &G,
-    pairs: &mut Steps<P>,
-    places: &mut Steps<T>,
-    looks: &mut Steps<L>,
+    io: &mut Io<'_, '_, K, F>,
+    meters: &mut Meters<'_, '_, '_, P, T, L>,
 ) -> Result<bool, Stop>
-    requires least { 1 ≤ workers }
-    requires most { workers ≤ 64 }
     requires model { IsSessionModel progress.old.session }
     requires few { progress.old.number < 2 ^ 63 }
+    ensures same_io { IsSameIo io.old io.new }
+    ensures same_meters { IsSameMeters meters.old meters.new }
     ensures done { IfOk result (λ refused. Finishes refused progress.old.kept.items
-        (stands progress.old (outside (K.written out.old) (F.files shelf.old) looks.old pairs.old places.old))
-        (outside (K.written out.new) (F.files shelf.new) looks.new pairs.new places.new)) }
+        (stands progress.old (outside (K.written io.old.out.now) (F.files io.old.shelf.now) meters.old.looks.now meters.old.pairs.now meters.old.places.now))
+        (outside (K.written io.new.out.now) (F.files io.new.shelf.now) meters.new.looks.now meters.new.pairs.now meters.new.places.now)) }
     ensures stopped { IfErr result (IsHalted (λ Ends. StopsAtEnd Ends progress.old.kept.items
-        (stands progress.old (outside (K.written out.old) (F.files shelf.old) looks.old pairs.old places.old))
-        (outside (K.written out.new) (F.files shelf.new) looks.new pairs.new places.new))
-        (outlet (K.written out.old) (K.faults out.old) (K.wants out.old)) (F.faults shelf.old)
-        (outlet (K.written out.new) (K.faults out.new) (K.wants out.new)) (F.faults shelf.new)) }
-    ensures sound { OnOk result ((K.faults out.new ≡ K.faults out.old) × (K.wants out.new ≡ K.wants out.old) × (F.faults shelf.new ≡ F.faults shelf.old)) }
-    ensures gone { K.kept out.old ≡ 0 → MatchResult result (λ _. K.kept out.new ≡ 0) (λ why. why ≡ Stop.ShelfFault → K.kept out.new ≡ 0) }
+        (stands progress.old (outside (K.written io.old.out.now) (F.files io.old.shelf.now) meters.old.looks.now meters.old.pairs.now meters.old.places.now))
+        (outside (K.written io.new.out.now) (F.files io.new.shelf.now) meters.new.looks.now meters.new.pairs.now meters.new.places.now))
+        (outlet (K.written io.old.out.now) (K.faults io.old.out.now) (K.wants io.old.out.now)) (F.faults io.old.shelf.now)
+        (outlet (K.written io.new.out.now) (K.faults io.new.out.now) (K.wants io.new.out.now)) (F.faults io.new.shelf.now)) }
+    ensures sound { OnOk result ((K.faults io.new.out.now ≡ K.faults io.old.out.now) × (K.wants io.new.out.now ≡ K.wants io.old.out.now) × (F.faults io.new.shelf.now ≡ F.faults io.old.shelf.now)) }
+    ensures gone { K.kept io.old.out.now ≡ 0 → MatchResult result (λ _. K.kept io.new.out.now ≡ 0) (λ why. why ≡ Stop.ShelfFault → K.kept io.new.out.now ≡ 0) }
 {
     if progress.kept.is_empty() {
         return Ok(progress.refused);
     }
-    end_line(
-        rt, progress, workers, out, shelf, gate, pairs, places, looks,
-    )?;
+    end_line(lent, progress, io, meters)?;
     Ok(progress.refused)
 }
 
@@ -295,67 +262,50 @@ pub fn hear_script<
     T: Ledger,
     L: Ledger,
 >(
-    rt: &R,
+    lent: Lent<'_, R, G>,
     alloc: Global,
     client: &mut C,
-    workers: u8,
     states: u16,
-    out: &mut K,
-    shelf: &mut F,
-    gate: &G,
-    pairs: &mut Steps<P>,
-    places: &mut Steps<T>,
-    looks: &mut Steps<L>,
+    io: &mut Io<'_, '_, K, F>,
+    meters: &mut Meters<'_, '_, '_, P, T, L>,
 ) -> Result<bool, End>
-    requires least { 1 ≤ workers }
-    requires most { workers ≤ 64 }
     requires few { 128 ≤ states }
     requires many { states ≤ 1024 }
+    ensures same_io { IsSameIo io.old io.new }
+    ensures same_meters { IsSameMeters meters.old meters.new }
     ensures at_end { OnOk result (IsAtEnd (C.left client.new)) }
     ensures done { IfOk result (λ refused. OfSent (C.left client.old)
-        (λ sent. RunsAll (lines_of sent) refused states (outside (K.written out.old) (F.files shelf.old) looks.old pairs.old places.old)
-        (outside (K.written out.new) (F.files shelf.new) looks.new pairs.new places.new))) }
+        (λ sent. RunsAll (lines_of sent) refused states (outside (K.written io.old.out.now) (F.files io.old.shelf.now) meters.old.looks.now meters.old.pairs.now meters.old.places.now)
+        (outside (K.written io.new.out.now) (F.files io.new.shelf.now) meters.new.looks.now meters.new.pairs.now meters.new.places.now))) }
     ensures fault { IfErr result (λ why. why ≡ End.Fault → Rose (C.faults client.old) (C.faults client.new)
         × OfHeard (C.left client.old) (C.left client.new)
-        (λ heard. HaveRun (whole_lines heard) states (outside (K.written out.old) (F.files shelf.old) looks.old pairs.old places.old)
-        (outside (K.written out.new) (F.files shelf.new) looks.new pairs.new places.new))) }
+        (λ heard. HaveRun (whole_lines heard) states (outside (K.written io.old.out.now) (F.files io.old.shelf.now) meters.old.looks.now meters.old.pairs.now meters.old.places.now)
+        (outside (K.written io.new.out.now) (F.files io.new.shelf.now) meters.new.looks.now meters.new.pairs.now meters.new.places.now))) }
     ensures too_long { IfErr result (λ why. why ≡ End.TooLong → OfHeard (C.left client.old) (C.left client.new)
         (λ heard. (2 ^ 62 ≤ length heard) × HaveRun (whole_lines heard) states
-        (outside (K.written out.old) (F.files shelf.old) looks.old pairs.old places.old)
-        (outside (K.written out.new) (F.files shelf.new) looks.new pairs.new places.new))) }
-    ensures out_fault { IfErr result (λ why. why ≡ End.Stopped Stop.OutFault → Rose (K.faults out.old) (K.faults out.new)
+        (outside (K.written io.old.out.now) (F.files io.old.shelf.now) meters.old.looks.now meters.old.pairs.now meters.old.places.now)
+        (outside (K.written io.new.out.now) (F.files io.new.shelf.now) meters.new.looks.now meters.new.pairs.now meters.new.places.now))) }
+    ensures out_fault { IfErr result (λ why. why ≡ End.Stopped Stop.OutFault → Rose (K.faults io.old.out.now) (K.faults io.new.out.now)
         × OfSent (C.left client.old) (λ sent. RunsFront Anywhere (lines_of sent) states
-        (outside (K.written out.old) (F.files shelf.old) looks.old pairs.old places.old)
-        (outside (K.written out.new) (F.files shelf.new) looks.new pairs.new places.new))) }
-    ensures shelf_fault { IfErr result (λ why. why ≡ End.Stopped Stop.ShelfFault → Rose (F.faults shelf.old) (F.faults shelf.new)
+        (outside (K.written io.old.out.now) (F.files io.old.shelf.now) meters.old.looks.now meters.old.pairs.now meters.old.places.now)
+        (outside (K.written io.new.out.now) (F.files io.new.shelf.now) meters.new.looks.now meters.new.pairs.now meters.new.places.now))) }
+    ensures shelf_fault { IfErr result (λ why. why ≡ End.Stopped Stop.ShelfFault → Rose (F.faults io.old.shelf.now) (F.faults io.new.shelf.now)
         × OfSent (C.left client.old) (λ sent. RunsFront InFileLine (lines_of sent) states
-        (outside (K.written out.old) (F.files shelf.old) looks.old pairs.old places.old)
-        (outside (K.written out.new) (F.files shelf.new) looks.new pairs.new places.new))) }
+        (outside (K.written io.old.out.now) (F.files io.old.shelf.now) meters.old.looks.now meters.old.pairs.now meters.old.places.now)
+        (outside (K.written io.new.out.now) (F.files io.new.shelf.now) meters.new.looks.now meters.new.pairs.now meters.new.places.now))) }
     ensures want { IfErr result (λ why. why ≡ End.Stopped Stop.NoMemory → OfSent (C.left client.old)
-        (λ sent. RunsFront (UnlessList (K.wants out.old) (K.wants out.new)) (lines_of sent) states
-        (outside (K.written out.old) (F.files shelf.old) looks.old pairs.old places.old)
-        (outside (K.written out.new) (F.files shelf.new) looks.new pairs.new places.new))) }
+        (λ sent. RunsFront (UnlessList (K.wants io.old.out.now) (K.wants io.new.out.now)) (lines_of sent) states
+        (outside (K.written io.old.out.now) (F.files io.old.shelf.now) meters.old.looks.now meters.old.pairs.now meters.old.places.now)
+        (outside (K.written io.new.out.now) (F.files io.new.shelf.now) meters.new.looks.now meters.new.pairs.now meters.new.places.now))) }
     ensures served { AreServed (C.left client.old) states
-        (outside (K.written out.old) (F.files shelf.old) looks.old pairs.old places.old) (C.moments client.old)
+        (outside (K.written io.old.out.now) (F.files io.old.shelf.now) meters.old.looks.now meters.old.pairs.now meters.old.places.now) (C.moments client.old)
         (C.moments client.new) }
-    ensures sound { OnOk result ((C.faults client.new ≡ C.faults client.old) × (K.faults out.new ≡ K.faults out.old) × (K.wants out.new ≡ K.wants out.old)
-        × (F.faults shelf.new ≡ F.faults shelf.old)) }
-    ensures gone { K.kept out.old ≡ 0 → MatchResult result (λ _. K.kept out.new ≡ 0) (λ why. (K.kept out.new ≡ 0) ⊎ (why ≡ End.Stopped Stop.OutFault) ⊎ (why ≡ End.Stopped Stop.NoMemory)) }
+    ensures sound { OnOk result ((C.faults client.new ≡ C.faults client.old) × (K.faults io.new.out.now ≡ K.faults io.old.out.now) × (K.wants io.new.out.now ≡ K.wants io.old.out.now)
+        × (F.faults io.new.shelf.now ≡ F.faults io.old.shelf.now)) }
+    ensures gone { K.kept io.old.out.now ≡ 0 → MatchResult result (λ _. K.kept io.new.out.now ≡ 0) (λ why. (K.kept io.new.out.now ≡ 0) ⊎ (why ≡ End.Stopped Stop.OutFault) ⊎ (why ≡ End.Stopped Stop.NoMemory)) }
 {
-    let mut progress = hear_all(
-        rt, alloc, client, workers, states, out, shelf, gate, pairs, places, looks,
-    )?;
-    match finish(
-        rt,
-        &mut progress,
-        workers,
-        out,
-        shelf,
-        gate,
-        pairs,
-        places,
-        looks,
-    ) {
+    let mut progress = hear_all(lent, alloc, client, states, io, meters)?;
+    match finish(lent, &mut progress, io, meters) {
         Ok(refused) => Ok(refused),
         Err(stop) => Err(End::Stopped(stop)),
     }

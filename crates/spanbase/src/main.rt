@@ -63,6 +63,13 @@ fn name_of(status: Status) -> (&'static str, u8)
     }
 }
 
+/// A new ledger for each of the three counters: of node constructions, of computed tables and of table lookups.
+struct Blanks {
+    pairs: Blank,
+    places: Blank,
+    looks: Blank,
+}
+
 /// Runs a script over the files of the current folder, with a counter on each of three ledgers.
 fn run_script<
     R: Threads + Sync + Files + AllocGlobal,
@@ -71,19 +78,10 @@ fn run_script<
     P: Ledger,
     T: Ledger,
     L: Ledger,
->(
-    rt: &R,
-    alloc: Global,
-    words: &[String],
-    script: &mut S,
-    out: &mut K,
-    pairs: Blank,
-    places: Blank,
-    looks: Blank,
-) -> Status
-    requires pairs { (pairs.name ≡ P.name) × (pairs.parts ≡ P.parts) × (0 < P.parts) }
-    requires places { (places.name ≡ T.name) × (places.parts ≡ T.parts) × (0 < T.parts) }
-    requires looks { (looks.name ≡ L.name) × (looks.parts ≡ L.parts) × (0 < L.parts) }
+>(rt: &R, alloc: Global, words: &[String], script: &mut S, out: &mut K, blanks: Blanks) -> Status
+    requires pairs { (blanks.pairs.name ≡ P.name) × (blanks.pairs.parts ≡ P.parts) × (0 < P.parts) }
+    requires places { (blanks.places.name ≡ T.name) × (blanks.places.parts ≡ T.parts) × (0 < T.parts) }
+    requires looks { (blanks.looks.name ≡ L.name) × (blanks.looks.parts ≡ L.parts) × (0 < L.parts) }
     ensures usage { result ≡ Status.Usage → Refused (map string_bytes words.now) }
     ensures refused { Refused (map string_bytes words.now) → (result ≡ Status.Usage) ⊎ (result ≡ Status.NoMemory) }
     ensures script_fault { result ≡ Status.ScriptFault → AsksForNoDemo (map string_bytes words.now) × Rose (S.faults script.old) (S.faults script.new) }
@@ -91,6 +89,11 @@ fn run_script<
     ensures too_long { result ≡ Status.ScriptTooLong → AsksForNoDemo (map string_bytes words.now) × IfSome (S.left script.old) (λ bytes. 2 ^ 24 < length bytes) }
     ensures nothing { (result ≡ Status.Usage) ⊎ (result ≡ Status.ScriptFault) ⊎ (result ≡ Status.ScriptTooLong) ⊎ Refused (map string_bytes words.now) → K.written out.new ≡ K.written out.old }
 {
+    let Blanks {
+        pairs,
+        places,
+        looks,
+    } = blanks;
     let mut shelf = DirShelf::new(rt);
     let mut pairs = Steps::<P>::new(pairs);
     let mut places = Steps::<T>::new(places);
@@ -140,15 +143,18 @@ fn run_over<R: Threads + Sync + Files + AllocGlobal + Print, S: Source>(
     let Ok(mut replies) = BufferedSink::new(rt.alloc(), StdSink::new(io::writer(rt))) else {
         return Status::NoMemory;
     };
+    let blanks = Blanks {
+        pairs: Blank::new(1),
+        places: Blank::new(1),
+        looks: Blank::new(1),
+    };
     let status = run_script::<_, _, _, Brand, Brand, Brand>(
         rt,
         rt.alloc(),
         words,
         script,
         &mut replies,
-        Blank::new(1),
-        Blank::new(1),
-        Blank::new(1),
+        blanks,
     );
     if status == Status::OutFault {
         return status;

@@ -77,6 +77,13 @@ fn name_of(status: Status) -> (&'static str, u8)
     }
 }
 
+/// A new ledger for each of the three counters: of node constructions, of computed tables and of table lookups.
+struct Blanks {
+    pairs: Blank,
+    places: Blank,
+    looks: Blank,
+}
+
 /// Runs a conversation with a client over the files of the current folder, with a counter on each of three ledgers.
 fn talk_with<
     R: Threads + Sync + Files + AllocGlobal,
@@ -85,25 +92,22 @@ fn talk_with<
     P: Ledger,
     T: Ledger,
     L: Ledger,
->(
-    rt: &R,
-    client: &mut C,
-    options: Options,
-    out: &mut K,
-    pairs: Blank,
-    places: Blank,
-    looks: Blank,
-) -> Status
+>(rt: &R, client: &mut C, options: Options, out: &mut K, blanks: Blanks) -> Status
     requires least { 1 ≤ options.workers }
     requires most { options.workers ≤ 64 }
     requires few { 128 ≤ options.states }
     requires many { options.states ≤ 1024 }
-    requires pairs { (pairs.name ≡ P.name) × (pairs.parts ≡ P.parts) × (0 < P.parts) }
-    requires places { (places.name ≡ T.name) × (places.parts ≡ T.parts) × (0 < T.parts) }
-    requires looks { (looks.name ≡ L.name) × (looks.parts ≡ L.parts) × (0 < L.parts) }
+    requires pairs { (blanks.pairs.name ≡ P.name) × (blanks.pairs.parts ≡ P.parts) × (0 < P.parts) }
+    requires places { (blanks.places.name ≡ T.name) × (blanks.places.parts ≡ T.parts) × (0 < T.parts) }
+    requires looks { (blanks.looks.name ≡ L.name) × (blanks.looks.parts ≡ L.parts) × (0 < L.parts) }
     ensures script_fault { result ≡ Status.ScriptFault → Rose (C.faults client.old) (C.faults client.new) }
     ensures out_fault { result ≡ Status.OutFault → Rose (K.faults out.old) (K.faults out.new) }
 {
+    let Blanks {
+        pairs,
+        places,
+        looks,
+    } = blanks;
     let mut shelf = DirShelf::new(rt);
     let mut pairs = Steps::<P>::new(pairs);
     let mut places = Steps::<T>::new(places);
@@ -138,15 +142,12 @@ fn talk_over<R: Threads + Sync + Files + AllocGlobal + Print, S: Source + Drop>(
 {
     let mut client = Listener::new(source, prompts);
     let mut out = StdSink::new(io::writer(rt));
-    talk_with::<_, _, _, Brand, Brand, Brand>(
-        rt,
-        &mut client,
-        options,
-        &mut out,
-        Blank::new(1),
-        Blank::new(1),
-        Blank::new(1),
-    )
+    let blanks = Blanks {
+        pairs: Blank::new(1),
+        places: Blank::new(1),
+        looks: Blank::new(1),
+    };
+    talk_with::<_, _, _, Brand, Brand, Brand>(rt, &mut client, options, &mut out, blanks)
 }
 
 /// The writer for prompts: standard error, if it and standard input are a terminal, and otherwise none.

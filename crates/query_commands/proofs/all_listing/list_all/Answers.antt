@@ -1,8 +1,12 @@
-use Rattle.query_commands.proofs.Names.{false}
+use Rattle.query_commands.proofs.Names.{false, List, subst, sym, ℕ}
+use Rattle.query_book.specs.Serving.{CoversQuery}
 use Rattle.script_syntax.specs.declared.form.Command.TheVariants as form
 use Rattle.query_commands.proofs.Facts.{every_ends, every_missing_ends, passed, unplaced_stops}
 use Rattle.session_state.proofs.PlacesLemmas.{not_asked}
 use Rattle.query_commands.proofs.all_listing.list_all.Goals as goal
+
+pub ready-requires : goal.ready-requires
+ready-requires g c = subst (λ (n : List ℕ). CoversQuery c.args.session.now.store c.grow.new.book n) (sym c.bytes.ensures.value) c.in_ok-grow.ensures.all
 
 pub returns-in_err-grow-clause-ends : goal.returns-in_err-grow-clause-ends
 returns-in_err-grow-clause-ends g c = λ files faults looks pairs.

@@ -1,4 +1,5 @@
-use Rattle.query_commands.proofs.Names.{ChoosesFrom, Err, false, inl, List, Ok, queries_of, refl, Refusal, Result, Span, subst, text_of, ◌≡◌}
+use Rattle.query_commands.proofs.Names.{Answers, at, ChoosesFrom, Err, false, inl, List, Ok, queries_of, refl, Refusal, Result, SessionState, Span, Stays, subst, sym, text_of, ◌≡◌}
+use Rattle.span_language.specs.declared.told.Stop.TheVariants as stop
 use Rattle.script_syntax.specs.declared.form.Command.TheVariants as form
 use Rattle.query_commands.proofs.Facts.{choose_stops, live_root, no_sources, passed_on, replaced_answers, replaced_stops, unchosen_answers, unplaced}
 use Rattle.session_state.proofs.PlacesLemmas.{not_asked}
@@ -26,8 +27,12 @@ returns-in_ok-answer-in-Ok-Ok-clause-done g c = λ files faults.
     let choice = subst (λ (r : Result (List Span) Refusal). ChoosesFrom asked.longest (queries_of c.grow.new.book) asked.query (text_of c.args.session.now.store c.in-Ok.sources.root) (Ok r) c.args.looks.now c.choose.new.looks) is c.in-Ok-Ok.ensures.choice in
     let put = c.put_in_place in
     let a = c.in_ok-answer-in-Ok-Ok in
-    replaced_answers asked.longest c.args.session.now c.grow.new.book c.args.context.number files faults c.args.looks.now c.choose.new.looks c.args.pairs.now c.args.places.now c.grow.new.places asked.name asked.query asked.source asked.by c.in-Ok.sources
-    c.requires c.grow.ensures.grown c.in-Ok.ensures.ok c.in-Ok-Ok.spans put.new.store put.new.docs put.new.pairs choice put.ensures.grows put.ensures.live put.ensures.cost a.answer a.ensures.ok
+    let number = c.args.context.number in
+    let command = form.ReplaceDoc asked.name asked.query asked.source asked.by asked.longest in
+    let old = at c.args.session.now files faults c.args.looks.now c.args.pairs.now c.args.places.now in
+    subst (λ (n : SessionState). Answers old number command (at n files faults c.choose.new.looks put.new.pairs c.grow.new.places) a.answer) (sym put.ensures.others)
+    (replaced_answers asked.longest c.args.session.now c.grow.new.book c.args.context.number files faults c.args.looks.now c.choose.new.looks c.args.pairs.now c.args.places.now c.grow.new.places asked.name asked.query asked.source asked.by c.in-Ok.sources
+    c.requires c.grow.ensures.grown c.in-Ok.ensures.ok c.in-Ok-Ok.spans put.new.session.store put.new.session.docs put.new.pairs choice put.ensures.grows put.ensures.live put.ensures.cost a.answer a.ensures.ok)
 
 pub returns-in_err-answer-in-Ok-Ok-clause-stopped : goal.returns-in_err-answer-in-Ok-Ok-clause-stopped
 returns-in_err-answer-in-Ok-Ok-clause-stopped g c = λ files faults.
@@ -36,9 +41,13 @@ returns-in_err-answer-in-Ok-Ok-clause-stopped g c = λ files faults.
     let choice = subst (λ (r : Result (List Span) Refusal). ChoosesFrom asked.longest (queries_of c.grow.new.book) asked.query (text_of c.args.session.now.store c.in-Ok.sources.root) (Ok r) c.args.looks.now c.choose.new.looks) is c.in-Ok-Ok.ensures.choice in
     let put = c.put_in_place in
     let r = c.from_residual-in_err-answer-in-Ok-Ok in
+    let number = c.args.context.number in
+    let command = form.ReplaceDoc asked.name asked.query asked.source asked.by asked.longest in
+    let old = at c.args.session.now files faults c.args.looks.now c.args.pairs.now c.args.places.now in
     passed_on r.result _ r.ensures.1
+    (subst (λ (n : SessionState). Stays old number command (at n files faults c.choose.new.looks put.new.pairs c.grow.new.places) stop.NoMemory) (sym put.ensures.others)
     (replaced_stops asked.longest c.args.session.now c.grow.new.book c.args.context.number files faults c.args.looks.now c.choose.new.looks c.args.pairs.now c.args.places.now c.grow.new.places asked.name asked.query asked.source asked.by c.in-Ok.sources
-    c.requires c.grow.ensures.grown c.in-Ok.ensures.ok c.in-Ok-Ok.spans put.new.store put.new.docs put.new.pairs choice put.ensures.grows put.ensures.live put.ensures.cost c.in_err-answer-in-Ok-Ok.ensures.err)
+    c.requires c.grow.ensures.grown c.in-Ok.ensures.ok c.in-Ok-Ok.spans put.new.session.store put.new.session.docs put.new.pairs choice put.ensures.grows put.ensures.live put.ensures.cost c.in_err-answer-in-Ok-Ok.ensures.err))
 
 pub returns-in_ok-answer-in-Ok-Err-clause-done : goal.returns-in_ok-answer-in-Ok-Err-clause-done
 returns-in_ok-answer-in-Ok-Err-clause-done g c = λ files faults.

@@ -1,4 +1,5 @@
-use Rattle.span_run.proofs.Names.{Anywhere, InFileLine, length, lines_of, map, outside, refl, RunsFront, script_of, string_bytes, UnlessList, ◌^◌, ◌≤◌}
+use Rattle.std.proofs.Common.{rules}
+use Rattle.span_run.proofs.Names.{length, lines_of, map, outside, refl, script_of, string_bytes, UnlessList, ◌^◌, ◌≤◌}
 use Rattle.span_run.proofs.Facts.{each_some, none_ran, none_written, of_demo, of_script}
 use Rattle.span_run.proofs.run_script.run.Goals as goal
 
@@ -24,10 +25,10 @@ pub returns-in-Err-ShelfFault-clause-short : goal.returns-in-Err-ShelfFault-clau
 returns-in-Err-ShelfFault-clause-short g c = λ _. of_script (map string_bytes c.args.words.now) c.in-Ok.options.workers c.in-Ok.options.states c.in-Ok.options.demo c.in-Ok.ensures.taken (g.S.Source.left c.args.script.now) c.in-Ok-asked_script.bytes.items c.in-Ok-asked_script.bytes.items (λ _ bytes. length bytes ≤ 2 ^ 24) c.in-Ok-asked_script.ensures.all refl c.in-Ok-asked_script.ensures.short
 
 pub returns-in-Err-OutFault-clause-front : goal.returns-in-Err-OutFault-clause-front
-returns-in-Err-OutFault-clause-front g c = λ _. of_script (map string_bytes c.args.words.now) c.in-Ok.options.workers c.in-Ok.options.states c.in-Ok.options.demo c.in-Ok.ensures.taken (g.S.Source.left c.args.script.now) c.in-Ok-asked_script.bytes.items c.deref.result.now (λ states bytes. RunsFront Anywhere (lines_of bytes) states (outside (g.K.Sink.written c.args.out.now) (g.F.Shelf.files c.args.shelf.now) c.args.looks.now c.args.pairs.now c.args.places.now) (outside (g.K.Sink.written c.run_lines.new.out) (g.F.Shelf.files c.run_lines.new.shelf) c.run_lines.new.looks c.run_lines.new.pairs c.run_lines.new.places)) c.in-Ok-asked_script.ensures.all c.deref.ensures.value (c.in-Err-OutFault.ensures.out_fault c.in-Err-OutFault.field-0-is).1
+returns-in-Err-OutFault-clause-front g c = let front = (c.in-Err-OutFault.ensures.out_fault c.in-Err-OutFault.field-0-is).1 in λ _. of_script (map string_bytes c.args.words.now) c.in-Ok.options.workers c.in-Ok.options.states c.in-Ok.options.demo c.in-Ok.ensures.taken (g.S.Source.left c.args.script.now) c.in-Ok-asked_script.bytes.items c.deref.result.now _ c.in-Ok-asked_script.ensures.all c.deref.ensures.value (search rules)
 
 pub returns-in-Err-ShelfFault-clause-shelf_front : goal.returns-in-Err-ShelfFault-clause-shelf_front
-returns-in-Err-ShelfFault-clause-shelf_front g c = λ _. of_script (map string_bytes c.args.words.now) c.in-Ok.options.workers c.in-Ok.options.states c.in-Ok.options.demo c.in-Ok.ensures.taken (g.S.Source.left c.args.script.now) c.in-Ok-asked_script.bytes.items c.deref.result.now (λ states bytes. RunsFront InFileLine (lines_of bytes) states (outside (g.K.Sink.written c.args.out.now) (g.F.Shelf.files c.args.shelf.now) c.args.looks.now c.args.pairs.now c.args.places.now) (outside (g.K.Sink.written c.run_lines.new.out) (g.F.Shelf.files c.run_lines.new.shelf) c.run_lines.new.looks c.run_lines.new.pairs c.run_lines.new.places)) c.in-Ok-asked_script.ensures.all c.deref.ensures.value (c.in-Err-ShelfFault.ensures.shelf_fault c.in-Err-ShelfFault.field-0-is).1
+returns-in-Err-ShelfFault-clause-shelf_front g c = let front = (c.in-Err-ShelfFault.ensures.shelf_fault c.in-Err-ShelfFault.field-0-is).1 in λ _. of_script (map string_bytes c.args.words.now) c.in-Ok.options.workers c.in-Ok.options.states c.in-Ok.options.demo c.in-Ok.ensures.taken (g.S.Source.left c.args.script.now) c.in-Ok-asked_script.bytes.items c.deref.result.now _ c.in-Ok-asked_script.ensures.all c.deref.ensures.value (search rules)
 
 pub returns-clause-want_front : goal.returns-clause-want_front
-returns-clause-want_front g c = λ _. of_script (map string_bytes c.args.words.now) c.in-Ok.options.workers c.in-Ok.options.states c.in-Ok.options.demo c.in-Ok.ensures.taken (g.S.Source.left c.args.script.now) c.in-Ok-asked_script.bytes.items c.deref.result.now (λ states bytes. RunsFront (UnlessList (g.K.Sink.wants c.args.out.now) (g.K.Sink.wants c.run_lines.new.out)) (lines_of bytes) states (outside (g.K.Sink.written c.args.out.now) (g.F.Shelf.files c.args.shelf.now) c.args.looks.now c.args.pairs.now c.args.places.now) (outside (g.K.Sink.written c.run_lines.new.out) (g.F.Shelf.files c.run_lines.new.shelf) c.run_lines.new.looks c.run_lines.new.pairs c.run_lines.new.places)) c.in-Ok-asked_script.ensures.all c.deref.ensures.value (c.in-Err-NoMemory-run_lines.ensures.want c.in-Err-NoMemory-run_lines.field-0-is)
+returns-clause-want_front g c = let front = c.in-Err-NoMemory-run_lines.ensures.want c.in-Err-NoMemory-run_lines.field-0-is in λ _. of_script (map string_bytes c.args.words.now) c.in-Ok.options.workers c.in-Ok.options.states c.in-Ok.options.demo c.in-Ok.ensures.taken (g.S.Source.left c.args.script.now) c.in-Ok-asked_script.bytes.items c.deref.result.now _ c.in-Ok-asked_script.ensures.all c.deref.ensures.value (search rules)

@@ -10,20 +10,20 @@ returns-in-SaveFile-clause-done g c =
     let f = g.F.Shelf in
     let a = c.args in
     let n = c.save_file.new in
-    let old = λ (h : SessionState). at h (f.files a.shelf.now) (f.faults a.shelf.now) a.looks.now a.pairs.now a.places.now in
-    let new = at n.session (f.files n.shelf) (f.faults n.shelf) a.looks.now a.pairs.now a.places.now in
+    let old = λ (h : SessionState). at h (f.files a.shelf.now) (f.faults a.shelf.now) a.meters.now.looks.now a.meters.now.pairs.now a.meters.now.places.now in
+    let new = at n.session (f.files n.shelf) (f.faults n.shelf) a.meters.now.looks.now a.meters.now.pairs.now a.meters.now.places.now in
     subst (λ (m : Command). IfOk c.save_file.result (Answers (old a.session.now) a.context.number m new)) (sym c.in-SaveFile.is)
-    (subst (λ (h : SessionState). IfOk c.save_file.result (Answers (old h) a.context.number (form.SaveFile c.in-SaveFile.file) new)) c.settle.ensures (c.save_file.ensures.done a.looks.now a.pairs.now a.places.now))
+    (subst (λ (h : SessionState). IfOk c.save_file.result (Answers (old h) a.context.number (form.SaveFile c.in-SaveFile.file) new)) c.settle.ensures (c.save_file.ensures.done a.meters.now.looks.now a.meters.now.pairs.now a.meters.now.places.now))
 
 pub returns-in-SaveFile-clause-stopped : goal.returns-in-SaveFile-clause-stopped
 returns-in-SaveFile-clause-stopped g c =
     let f = g.F.Shelf in
     let a = c.args in
     let n = c.save_file.new in
-    let old = λ (h : SessionState). at h (f.files a.shelf.now) (f.faults a.shelf.now) a.looks.now a.pairs.now a.places.now in
-    let new = at n.session (f.files n.shelf) (f.faults n.shelf) a.looks.now a.pairs.now a.places.now in
+    let old = λ (h : SessionState). at h (f.files a.shelf.now) (f.faults a.shelf.now) a.meters.now.looks.now a.meters.now.pairs.now a.meters.now.places.now in
+    let new = at n.session (f.files n.shelf) (f.faults n.shelf) a.meters.now.looks.now a.meters.now.pairs.now a.meters.now.places.now in
     subst (λ (m : Command). IfErr c.save_file.result (Stays (old a.session.now) a.context.number m new)) (sym c.in-SaveFile.is)
-    (subst (λ (h : SessionState). IfErr c.save_file.result (Stays (old h) a.context.number (form.SaveFile c.in-SaveFile.file) new)) c.settle.ensures (c.save_file.ensures.stopped a.looks.now a.pairs.now a.places.now))
+    (subst (λ (h : SessionState). IfErr c.save_file.result (Stays (old h) a.context.number (form.SaveFile c.in-SaveFile.file) new)) c.settle.ensures (c.save_file.ensures.stopped a.meters.now.looks.now a.meters.now.pairs.now a.meters.now.places.now))
 
 pub compact-requires : goal.compact-requires
 compact-requires g c = subst IsConsistent (sym c.settle-in-Compact.ensures) c.requires.session
@@ -32,18 +32,18 @@ pub returns-in-Compact-clause-done : goal.returns-in-Compact-clause-done
 returns-in-Compact-clause-done g c =
     let f = g.F.Shelf in
     let a = c.args in
-    let here = λ (h : SessionState). at h (f.files a.shelf.now) (f.faults a.shelf.now) a.looks.now a.pairs.now a.places.now in
+    let here = λ (h : SessionState). at h (f.files a.shelf.now) (f.faults a.shelf.now) a.meters.now.looks.now a.meters.now.pairs.now a.meters.now.places.now in
     let new = here c.compact.new.session in
     subst (λ (m : Command). IfOk c.compact.result (Answers (here a.session.now) a.context.number m new)) (sym c.in-Compact.is)
     (subst (λ (h : SessionState). IfOk c.compact.result (Answers (here h) a.context.number form.Compact new)) c.settle-in-Compact.ensures
-    (c.compact.ensures.done (f.files a.shelf.now) (f.faults a.shelf.now) a.looks.now a.pairs.now a.places.now))
+    (c.compact.ensures.done (f.files a.shelf.now) (f.faults a.shelf.now) a.meters.now.looks.now a.meters.now.pairs.now a.meters.now.places.now))
 
 pub returns-in-Compact-clause-stopped : goal.returns-in-Compact-clause-stopped
 returns-in-Compact-clause-stopped g c =
     let f = g.F.Shelf in
     let a = c.args in
-    let here = λ (h : SessionState). at h (f.files a.shelf.now) (f.faults a.shelf.now) a.looks.now a.pairs.now a.places.now in
+    let here = λ (h : SessionState). at h (f.files a.shelf.now) (f.faults a.shelf.now) a.meters.now.looks.now a.meters.now.pairs.now a.meters.now.places.now in
     let new = here c.compact.new.session in
     subst (λ (m : Command). IfErr c.compact.result (Stays (here a.session.now) a.context.number m new)) (sym c.in-Compact.is)
     (subst (λ (h : SessionState). IfErr c.compact.result (Stays (here h) a.context.number form.Compact new)) c.settle-in-Compact.ensures
-    (c.compact.ensures.stopped (f.files a.shelf.now) (f.faults a.shelf.now) a.looks.now a.pairs.now a.places.now))
+    (c.compact.ensures.stopped (f.files a.shelf.now) (f.faults a.shelf.now) a.meters.now.looks.now a.meters.now.pairs.now a.meters.now.places.now))

@@ -7,10 +7,10 @@ pub returns-in-Nothing-clause-ends : goal.returns-in-Nothing-clause-ends
 returns-in-Nothing-clause-ends g c =
     let f = g.F.Shelf in
     let k = g.K.Sink in
-    let here = seen (model_of c.args.session.now) (f.files c.args.shelf.now) (f.faults c.args.shelf.now) c.args.looks.now c.args.pairs.now c.args.places.now in
-    let sink = outlet (k.written c.args.out.now) (k.faults c.args.out.now) (k.wants c.args.out.now) in
+    let here = seen (model_of c.args.session.now) (f.files c.args.io.now.shelf.now) (f.faults c.args.io.now.shelf.now) c.args.meters.now.looks.now c.args.meters.now.pairs.now c.args.meters.now.places.now in
+    let sink = outlet (k.written c.args.io.now.out.now) (k.faults c.args.io.now.out.now) (k.wants c.args.io.now.out.now) in
     subst (λ (m : Command). Done c.args.context.number (Some m) here sink here sink Quiet) (sym c.in-Nothing.is)
-    (quiet_done c.args.context.number c.args.session.now (f.files c.args.shelf.now) (f.faults c.args.shelf.now) c.args.looks.now c.args.pairs.now c.args.places.now sink c.requires.session)
+    (quiet_done c.args.context.number c.args.session.now (f.files c.args.io.now.shelf.now) (f.faults c.args.io.now.shelf.now) c.args.meters.now.looks.now c.args.meters.now.pairs.now c.args.meters.now.places.now sink c.requires.session)
 
 pub reply-requires-clause-answering : goal.reply-requires-clause-answering
 reply-requires-clause-answering g c = let answering = is_answering c.args.command c.in_default.not-Nothing c.in_default.not-Names c.in_default.not-List c.in_default.not-ListAll in search rules
@@ -57,14 +57,14 @@ returns-in-Names-clause-ends g c =
     let k = g.K.Sink in
     let a = c.args in
     let n = c.names.new in
-    let files = f.files a.shelf.now in
-    let faults = f.faults a.shelf.now in
-    let sink = outlet (k.written a.out.now) (k.faults a.out.now) (k.wants a.out.now) in
+    let files = f.files a.io.now.shelf.now in
+    let faults = f.faults a.io.now.shelf.now in
+    let sink = outlet (k.written a.io.now.out.now) (k.faults a.io.now.out.now) (k.wants a.io.now.out.now) in
     let after = outlet (k.written n.out) (k.faults n.out) (k.wants n.out) in
-    let new = seen (model_of n.session) files faults a.looks.now a.pairs.now a.places.now in
-    subst (λ (m : Command). Ends a.context.number (Some m) (seen (model_of a.session.now) files faults a.looks.now a.pairs.now a.places.now) sink new after c.names.result) (sym c.in-Names.is)
-    (subst (λ (h : SessionState). Ends a.context.number (Some form.Names) (seen (model_of h) files faults a.looks.now a.pairs.now a.places.now) sink new after c.names.result) c.settle.ensures
-    (c.names.ensures.ends a.context.number files faults a.looks.now a.pairs.now a.places.now))
+    let new = seen (model_of n.session) files faults a.meters.now.looks.now a.meters.now.pairs.now a.meters.now.places.now in
+    subst (λ (m : Command). Ends a.context.number (Some m) (seen (model_of a.session.now) files faults a.meters.now.looks.now a.meters.now.pairs.now a.meters.now.places.now) sink new after c.names.result) (sym c.in-Names.is)
+    (subst (λ (h : SessionState). Ends a.context.number (Some form.Names) (seen (model_of h) files faults a.meters.now.looks.now a.meters.now.pairs.now a.meters.now.places.now) sink new after c.names.result) c.settle.ensures
+    (c.names.ensures.ends a.context.number files faults a.meters.now.looks.now a.meters.now.pairs.now a.meters.now.places.now))
 
 pub list_all-requires-clause-session : goal.list_all-requires-clause-session
 list_all-requires-clause-session g c = let session = subst IsConsistent (sym c.settle-in-ListAll.ensures) c.requires.session in search rules
@@ -75,12 +75,12 @@ returns-in-ListAll-clause-ends g c =
     let k = g.K.Sink in
     let a = c.args in
     let n = c.list_all.new in
-    let files = f.files a.shelf.now in
-    let faults = f.faults a.shelf.now in
-    let sink = outlet (k.written a.out.now) (k.faults a.out.now) (k.wants a.out.now) in
+    let files = f.files a.io.now.shelf.now in
+    let faults = f.faults a.io.now.shelf.now in
+    let sink = outlet (k.written a.io.now.out.now) (k.faults a.io.now.out.now) (k.wants a.io.now.out.now) in
     let after = outlet (k.written n.out) (k.faults n.out) (k.wants n.out) in
-    let new = seen (model_of n.session) files faults a.looks.now a.pairs.now n.places in
+    let new = seen (model_of n.session) files faults a.meters.now.looks.now a.meters.now.pairs.now n.places in
     let command = form.ListAll c.in-ListAll.query c.in-ListAll.limit in
-    subst (λ (m : Command). Ends a.context.number (Some m) (seen (model_of a.session.now) files faults a.looks.now a.pairs.now a.places.now) sink new after c.list_all.result) (sym c.in-ListAll.is)
-    (subst (λ (h : SessionState). Ends a.context.number (Some command) (seen (model_of h) files faults a.looks.now a.pairs.now a.places.now) sink new after c.list_all.result) c.settle-in-ListAll.ensures
-    (c.list_all.ensures.ends files faults a.looks.now a.pairs.now))
+    subst (λ (m : Command). Ends a.context.number (Some m) (seen (model_of a.session.now) files faults a.meters.now.looks.now a.meters.now.pairs.now a.meters.now.places.now) sink new after c.list_all.result) (sym c.in-ListAll.is)
+    (subst (λ (h : SessionState). Ends a.context.number (Some command) (seen (model_of h) files faults a.meters.now.looks.now a.meters.now.pairs.now a.meters.now.places.now) sink new after c.list_all.result) c.settle-in-ListAll.ensures
+    (c.list_all.ensures.ends files faults a.meters.now.looks.now a.meters.now.pairs.now))

@@ -11,17 +11,19 @@ carry-requires-clause-well_formed g c = let given = well_formed c.args.line.now 
 pub returns-in-Ok : goal.returns-in-Ok
 returns-in-Ok g c =
     let ended = line_ends c.carry.result _ _ (λ told d. (Some c.in-Ok.command, c.in-Ok.ensures.ok, d)) (λ why s. inr (Some c.in-Ok.command, c.in-Ok.ensures.ok, s)) c.carry.ensures.ends in
-    record { session = c.carry.ensures.session; quiet = c.carry.ensures.quiet; unsent = c.carry.ensures.unsent; done = ended.0; stopped = ended.1 }
+    record { session = c.carry.ensures.session; same_io = c.carry.ensures.same_io; same_meters = c.carry.ensures.same_meters; quiet = c.carry.ensures.quiet; unsent = c.carry.ensures.unsent; done = ended.0; stopped = ended.1 }
 
 pub returns-in-Err-Syntax : goal.returns-in-Err-Syntax
 returns-in-Err-Syntax g c =
     let f = g.F.Shelf in
     let none = c.in-Err-Syntax.ensures.syntax (search (rules, c.in-Err-Syntax.field-0-is)) in
     let ended = line_ends c.send_rejection.result _ _ (λ told d. (None, none, d)) (λ why s. inr (None, none, s))
-    (still_ends c.args.context.number None c.args.session.now (f.files c.args.shelf.now) (f.faults c.args.shelf.now) c.args.looks.now c.args.pairs.now c.args.places.now _ _ Refused _ c.send_rejection.result c.requires
+    (still_ends c.args.context.number None c.args.session.now (f.files c.args.io.now.shelf.now) (f.faults c.args.io.now.shelf.now) c.args.meters.now.looks.now c.args.meters.now.pairs.now c.args.meters.now.places.now _ _ Refused _ c.send_rejection.result c.requires
     (λ nothing. let bad : ⊥ = cc nothing in bad) (refl, refl, refl) refl refl refl (inl (λ list. list)) c.send_rejection.ensures.told c.send_rejection.ensures.wrote) in
     record {
       session = c.requires;
+      same_io = record { out = refl; shelf = refl };
+      same_meters = record { pairs = refl; places = refl; looks = refl };
       quiet = refused_loud _ c.send_rejection.result c.send_rejection.ensures.told;
       unsent = no_shelf_wrote _ c.send_rejection.result _ _ _ c.send_rejection.ensures.wrote;
       done = ended.0;

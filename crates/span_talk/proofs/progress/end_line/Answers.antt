@@ -13,8 +13,8 @@ returns-in_err-told-clause-stopped g c =
     let a = c.args in
     let n = c.line.new in
     let number = a.progress.now.number in
-    let old = seen a.progress.now.session (f.files a.shelf.now) (f.faults a.shelf.now) a.looks.now a.pairs.now a.places.now in
-    let sink = outlet (k.written a.out.now) (k.faults a.out.now) (k.wants a.out.now) in
+    let old = seen a.progress.now.session (f.files a.io.now.shelf.now) (f.faults a.io.now.shelf.now) a.meters.now.looks.now a.meters.now.pairs.now a.meters.now.places.now in
+    let sink = outlet (k.written a.io.now.out.now) (k.faults a.io.now.out.now) (k.wants a.io.now.out.now) in
     let new = seen n.self (f.files n.shelf) (f.faults n.shelf) n.looks n.pairs n.places in
     let after = outlet (k.written n.out) (k.faults n.out) (k.wants n.out) in
     let p = err_from_is_err_and c.from_residual.result c.from_residual.ensures.1 in
@@ -29,8 +29,8 @@ returns-clause-done g c =
     let n = c.line.new in
     let number = a.progress.now.number in
     let refused = a.progress.now.refused in
-    let old = seen a.progress.now.session (f.files a.shelf.now) (f.faults a.shelf.now) a.looks.now a.pairs.now a.places.now in
-    let sink = outlet (k.written a.out.now) (k.faults a.out.now) (k.wants a.out.now) in
+    let old = seen a.progress.now.session (f.files a.io.now.shelf.now) (f.faults a.io.now.shelf.now) a.meters.now.looks.now a.meters.now.pairs.now a.meters.now.places.now in
+    let sink = outlet (k.written a.io.now.out.now) (k.faults a.io.now.out.now) (k.wants a.io.now.out.now) in
     let new = seen n.self (f.files n.shelf) (f.faults n.shelf) n.looks n.pairs n.places in
     let after = outlet (k.written n.out) (k.faults n.out) (k.wants n.out) in
     let done = subst (λ (l : List ℕ). IsDone l number old sink new after c.in_ok-told.told) c.deref.ensures.value c.in_ok-told.ensures.done in
@@ -42,9 +42,9 @@ pub returns-clause-sound : goal.returns-clause-sound
 returns-clause-sound g c = let d = c.in_ok-told.ensures.done.2 in (d.sink_sound.0, d.sink_sound.1, d.shelf_sound)
 
 pub returns-clause-gone : goal.returns-clause-gone
-returns-clause-gone g c = λ none. gone_on g.K.Sink.kept c.line.new.out c.args.out.now c.in_ok-told.ensures.gone none
+returns-clause-gone g c = λ none. gone_on g.K.Sink.kept c.line.new.out c.args.io.now.out.now c.in_ok-told.ensures.gone none
 
 pub returns-in_err-told-clause-gone : goal.returns-in_err-told-clause-gone
 returns-in_err-told-clause-gone g c =
     let p = err_from_is_err_and c.from_residual.result c.from_residual.ensures.1 in
-    rw (p.1, p.2) (λ none is. gone_still g.K.Sink.kept c.line.new.out c.args.out.now (c.in_err-told.ensures.unsent is) none)
+    rw (p.1, p.2) (λ none is. gone_still g.K.Sink.kept c.line.new.out c.args.io.now.out.now (c.in_err-told.ensures.unsent is) none)

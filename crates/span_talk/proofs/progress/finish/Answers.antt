@@ -19,7 +19,7 @@ returns-in_err-end_line-clause-stopped g c =
     let a = c.args in
     let n = c.end_line.new in
     let kept = a.progress.now.kept in
-    let sink = outlet (k.written a.out.now) (k.faults a.out.now) (k.wants a.out.now) in
+    let sink = outlet (k.written a.io.now.out.now) (k.faults a.io.now.out.now) (k.wants a.io.now.out.now) in
     let some = some_by kept.items kept.len (omega (arith, kept.ok.0)) c.if-is_empty.ensures in
     let p = err_from_is_err_and c.from_residual.result c.from_residual.ensures.1 in
     rw (p.1, p.2) (halted_later _ _ sink sink _ _ _ _ _ (omega arith) (omega arith) (omega arith) c.in_err-end_line.ensures.stopped
@@ -30,7 +30,7 @@ returns-clause-done g c =
     let n = c.end_line.new in
     let kept = c.args.progress.now.kept in
     let some = some_by kept.items kept.len (omega (arith, kept.ok.0)) c.if-is_empty.ensures in
-    let new = place n.progress.number n.progress.refused n.progress.session (outside (g.K.Sink.written n.out) (g.F.Shelf.files n.shelf) n.looks n.pairs n.places) in
+    let new = place n.progress.number n.progress.refused n.progress.session (outside (g.K.Sink.written n.io.out.now) (g.F.Shelf.files n.io.shelf.now) n.meters.looks.now n.meters.pairs.now n.meters.places.now) in
     λ sent most before t. ends_with_last sent most before kept.items _ t new c.end_line.ensures.model some c.in_ok-end_line.ensures.done
 
 pub returns-in_err-end_line-clause-gone : goal.returns-in_err-end_line-clause-gone

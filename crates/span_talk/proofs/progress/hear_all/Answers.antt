@@ -17,9 +17,11 @@ pub pieces-init : goal.pieces-init
 pieces-init g c =
     let t = g.C.Client in
     let a = c.args in
-    let before = outside (g.K.Sink.written a.out.now) (g.F.Shelf.files a.shelf.now) a.looks.now a.pairs.now a.places.now in
+    let before = outside (g.K.Sink.written a.io.now.out.now) (g.F.Shelf.files a.io.now.shelf.now) a.meters.now.looks.now a.meters.now.pairs.now a.meters.now.places.now in
     let s = c.with_states-session in
     record {
+      same_io = record { out = refl; shelf = refl };
+      same_meters = record { pairs = refl; places = refl; looks = refl };
       so_far = ([], Consumes-nil (t.left a.client.now), refl, begins a.states before s.result c.new-kept.result.items c.new-kept.ensures.items s.ensures.state s.ensures.covered s.ensures.counted s.ensures.store);
       model = s.ensures.model;
       next = omega arith;
@@ -43,12 +45,12 @@ returns-in-Err-clause-fault g c =
 
 -- the replies to all complete lines had been written when the client was called
 served : (g : Over) (c : After-hear g)
-    → AreServed (g.C.Client.left c.args.client.now) c.args.states (outside (g.K.Sink.written c.args.out.now) (g.F.Shelf.files c.args.shelf.now) c.args.looks.now c.args.pairs.now c.args.places.now) (g.C.Client.moments c.args.client.now) (g.C.Client.moments c.hear.new.self)
+    → AreServed (g.C.Client.left c.args.client.now) c.args.states (outside (g.K.Sink.written c.args.io.now.out.now) (g.F.Shelf.files c.args.io.now.shelf.now) c.args.meters.now.looks.now c.args.meters.now.pairs.now c.args.meters.now.places.now) (g.C.Client.moments c.args.client.now) (g.C.Client.moments c.hear.new.self)
 served g c =
     let t = g.C.Client in
     let l = c.pieces in
     let i = l.invariant in
-    more_served (t.left c.args.client.now) _ _ (t.moments c.args.client.now) (t.moments l.client) (t.moments c.hear.new.self) (moment (t.left l.client) (g.K.Sink.written l.out) l.progress.number)
+    more_served (t.left c.args.client.now) _ _ (t.moments c.args.client.now) (t.moments l.client) (t.moments c.hear.new.self) (moment (t.left l.client) (g.K.Sink.written l.io.out.now) l.progress.number)
     i.served c.hear.ensures.moment (i.so_far.0, i.so_far.1, replied i.so_far.0 _ _ _ _ i.so_far.3)
 
 pub returns-in-Err-clause-served : goal.returns-in-Err-clause-served
@@ -63,16 +65,16 @@ returns-in-Err-hear_piece-clause-served g c = served g (goal.at.returns-in-Err-h
 -- a run that was stopped in a piece
 halted : (g : Over) (c : In-Err-hear_piece g) → IsHalted
     (λ Ends. OfSent (g.C.Client.left c.args.client.now) (λ sent. RunsFront Ends (lines_of sent) c.args.states
-    (outside (g.K.Sink.written c.args.out.now) (g.F.Shelf.files c.args.shelf.now) c.args.looks.now c.args.pairs.now c.args.places.now)
-    (outside (g.K.Sink.written c.hear_piece.new.out) (g.F.Shelf.files c.hear_piece.new.shelf) c.hear_piece.new.looks c.hear_piece.new.pairs c.hear_piece.new.places)))
-    (outlet (g.K.Sink.written c.args.out.now) (g.K.Sink.faults c.args.out.now) (g.K.Sink.wants c.args.out.now)) (g.F.Shelf.faults c.args.shelf.now)
-    (outlet (g.K.Sink.written c.hear_piece.new.out) (g.K.Sink.faults c.hear_piece.new.out) (g.K.Sink.wants c.hear_piece.new.out)) (g.F.Shelf.faults c.hear_piece.new.shelf) c.in-Err-hear_piece.stop
+    (outside (g.K.Sink.written c.args.io.now.out.now) (g.F.Shelf.files c.args.io.now.shelf.now) c.args.meters.now.looks.now c.args.meters.now.pairs.now c.args.meters.now.places.now)
+    (outside (g.K.Sink.written c.hear_piece.new.io.out.now) (g.F.Shelf.files c.hear_piece.new.io.shelf.now) c.hear_piece.new.meters.looks.now c.hear_piece.new.meters.pairs.now c.hear_piece.new.meters.places.now)))
+    (outlet (g.K.Sink.written c.args.io.now.out.now) (g.K.Sink.faults c.args.io.now.out.now) (g.K.Sink.wants c.args.io.now.out.now)) (g.F.Shelf.faults c.args.io.now.shelf.now)
+    (outlet (g.K.Sink.written c.hear_piece.new.io.out.now) (g.K.Sink.faults c.hear_piece.new.io.out.now) (g.K.Sink.wants c.hear_piece.new.io.out.now)) (g.F.Shelf.faults c.hear_piece.new.io.shelf.now) c.in-Err-hear_piece.stop
 halted g c =
     let t = g.C.Client in
     let k = g.K.Sink in
     let l = c.pieces in
     let i = l.invariant in
-    halted_later _ _ _ (outlet (k.written l.out) (k.faults l.out) (k.wants l.out)) _ _ (g.F.Shelf.faults l.shelf) _ _ (omega (arith, i.faults)) (omega (arith, i.wants)) (omega (arith, i.shelf_faults)) c.in-Err-hear_piece.ensures.stopped
+    halted_later _ _ _ (outlet (k.written l.io.out.now) (k.faults l.io.out.now) (k.wants l.io.out.now)) _ _ (g.F.Shelf.faults l.io.shelf.now) _ _ (omega (arith, i.faults)) (omega (arith, i.wants)) (omega (arith, i.shelf_faults)) c.in-Err-hear_piece.ensures.stopped
     (λ Ends stops. stops_sent (t.left c.args.client.now) (t.left l.client) (t.left c.hear.new.self) i.so_far.0 _ _ _ _ _ Ends _ i.so_far.1 c.in-Ok.ensures.bytes.0 i.so_far.3 stops)
 
 pub returns-in-Err-hear_piece-clause-out_fault : goal.returns-in-Err-hear_piece-clause-out_fault
@@ -83,7 +85,7 @@ returns-in-Err-hear_piece-clause-shelf_fault g c = λ is. (halted g (goal.at.ret
 
 pub returns-in-Err-hear_piece-clause-want : goal.returns-in-Err-hear_piece-clause-want
 returns-in-Err-hear_piece-clause-want g c =
-    λ is. (halted g (goal.at.returns-in-Err-hear_piece-clause-want g c).In-Err-hear_piece).want (same_stop _ _ is) (g.K.Sink.wants c.args.out.now) (omega arith)
+    λ is. (halted g (goal.at.returns-in-Err-hear_piece-clause-want g c).In-Err-hear_piece).want (same_stop _ _ is) (g.K.Sink.wants c.args.io.now.out.now) (omega arith)
 
 pub pieces-preserved : goal.pieces-preserved
 pieces-preserved g c =
@@ -94,6 +96,8 @@ pieces-preserved g c =
     let count = c.in-Ok.ensures.bound.1 in
     let piece = take c.in-Ok.count c.hear.new.into in
     record {
+      same_io = record { out = c.hear_piece.ensures.same_io.out ∙ i.same_io.out; shelf = c.hear_piece.ensures.same_io.shelf ∙ i.same_io.shelf };
+      same_meters = record { pairs = c.hear_piece.ensures.same_meters.pairs ∙ i.same_meters.pairs; places = c.hear_piece.ensures.same_meters.places ∙ i.same_meters.places; looks = c.hear_piece.ensures.same_meters.looks ∙ i.same_meters.looks };
       so_far = (
         bytes ++ piece,
         Consumes-trans (t.left c.args.client.now) (t.left c.pieces.client) (t.left c.hear.new.self) bytes piece i.so_far.1 c.in-Ok.ensures.bytes.0,

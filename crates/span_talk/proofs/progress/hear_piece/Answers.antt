@@ -1,8 +1,9 @@
-use Rattle.std.proofs.Common.{◌∙◌, ◌≢◌, All, arith, rules, ap, length, length-append, ◌∷◌}
+use Rattle.std.proofs.Common.{◌∙◌, ◌≢◌, All, arith, rules, ap, length, length-append, List, refl, subst, sym, ℕ, [], ◌∷◌}
+use Rattle.std.proofs.lemmas.List.{append-nil}
 use Rattle.std.proofs.lemmas.Result.{err_from_is_err_and}
 use Rattle.span_language.specs.Runs.{outside}
 use Rattle.session_state.specs.Carried.{outlet}
-use Rattle.span_talk.specs.Progress.{place}
+use Rattle.span_talk.specs.Progress.{IsTalking, place}
 use Rattle.span_talk.proofs.Ends.{halted_later, halted_wanting, kept_on}
 use Rattle.span_talk.proofs.Talking.{hears_line, hears_rest, stops_between, stops_line}
 use Rattle.span_talk.proofs.progress.hear_piece.Goals as goal
@@ -23,16 +24,36 @@ returns-in_err-end_line-clause-stopped g c =
     let l = c.lines in
     let i = l.invariant in
     let p = err_from_is_err_and c.from_residual-in_err-end_line.result c.from_residual-in_err-end_line.ensures.1 in
-    rw (p.1, p.2) (halted_later _ _ _ (outlet (k.written l.out) (k.faults l.out) (k.wants l.out)) _ _ (g.F.Shelf.faults l.shelf) _ _ (omega (arith, i.faults)) (omega (arith, i.wants)) (omega (arith, i.shelf_faults)) c.in_err-end_line.ensures.stopped
+    rw (p.1, p.2) (halted_later _ _ _ (outlet (k.written l.io.out.now) (k.faults l.io.out.now) (k.wants l.io.out.now)) _ _ (g.F.Shelf.faults l.io.shelf.now) _ _ (omega (arith, i.faults)) (omega (arith, i.wants)) (omega (arith, i.shelf_faults)) c.in_err-end_line.ensures.stopped
     (λ Ends stops. stops_line _ _ _ _ _ _ _ i.so_far.1 i.so_far.2 _ _ _ c.in-Some.ensures.0 c.in-Some.ensures.1 c.in_ok-keep.ensures.kept Ends _ stops))
+
+pub lines-init : goal.lines-init
+lines-init g c =
+    let a = c.args in
+    let p = a.progress.now in
+    let now = place p.number p.refused p.session (outside (g.K.Sink.written a.io.now.out.now) (g.F.Shelf.files a.io.now.shelf.now) a.meters.now.looks.now a.meters.now.pairs.now a.meters.now.places.now) in
+    record {
+      same_io = record { out = refl; shelf = refl };
+      same_meters = record { pairs = refl; places = refl; looks = refl };
+      so_far = ([], refl, λ bytes most before talks. subst (λ (l : List ℕ). IsTalking l most before p.kept.items now) (sym (append-nil bytes)) talks);
+      model = c.requires.model;
+      next = omega arith;
+      kept = c.requires.kept;
+      faults = refl;
+      wants = refl;
+      shelf_faults = refl;
+      gone = λ none. none;
+    }
 
 pub lines-preserved : goal.lines-preserved
 lines-preserved g c =
     let n = c.end_line.new in
     let i = c.lines.invariant in
     let e = c.in_ok-end_line.ensures in
-    let new = place n.progress.number n.progress.refused n.progress.session (outside (g.K.Sink.written n.out) (g.F.Shelf.files n.shelf) n.looks n.pairs n.places) in
+    let new = place n.progress.number n.progress.refused n.progress.session (outside (g.K.Sink.written n.io.out.now) (g.F.Shelf.files n.io.shelf.now) n.meters.looks.now n.meters.pairs.now n.meters.places.now) in
     record {
+      same_io = record { out = c.end_line.ensures.same_io.out ∙ i.same_io.out; shelf = c.end_line.ensures.same_io.shelf ∙ i.same_io.shelf };
+      same_meters = record { pairs = c.end_line.ensures.same_meters.pairs ∙ i.same_meters.pairs; places = c.end_line.ensures.same_meters.places ∙ i.same_meters.places; looks = c.end_line.ensures.same_meters.looks ∙ i.same_meters.looks };
       so_far = hears_line _ _ _ _ _ _ _ i.so_far.1 i.so_far.2 _ _ _ c.in-Some.ensures.0 c.in-Some.ensures.1 c.in_ok-keep.ensures.kept new n.progress.kept.items e.empty e.done;
       model = c.end_line.ensures.model;
       next = omega (arith, i.next, e.next, ap length c.in-Some.ensures.0, length-append c.in-Some.parts.0.now (10 ∷ c.in-Some.parts.1.now));

@@ -1,21 +1,24 @@
 use Rattle.std.proofs.Common.{◌≡◌, ℕ, ◌+◌, ◌≤◌, List, ◌++◌, length}
 use Rattle.span_language.specs.Runs.{outside}
 use Rattle.session_state.specs.SessionState.{IsSessionModel}
+use Rattle.span_session.specs.Lending.{IsSameIo, IsSameMeters}
 use Rattle.span_talk.specs.Progress.{Hears, place}
 use Rattle.span_talk.proofs.progress.hear_piece.Given as goal
 
 abbrev pub invariant-lines : goal.invariant-lines
 invariant-lines g l = record {
+  same_io : IsSameIo l.fn.io l.io;
+  same_meters : IsSameMeters l.fn.meters l.meters;
   so_far : (read : List ℕ) × (l.piece ≡ read ++ l.rest)
-      × Hears read l.fn.progress.kept.items (place l.fn.progress.number l.fn.progress.refused l.fn.progress.session (outside (g.K.Sink.written l.fn.out) (g.F.Shelf.files l.fn.shelf) l.fn.looks l.fn.pairs l.fn.places))
-      l.progress.kept.items (place l.progress.number l.progress.refused l.progress.session (outside (g.K.Sink.written l.out) (g.F.Shelf.files l.shelf) l.looks l.pairs l.places));
+      × Hears read l.fn.progress.kept.items (place l.fn.progress.number l.fn.progress.refused l.fn.progress.session (outside (g.K.Sink.written l.fn.io.out.now) (g.F.Shelf.files l.fn.io.shelf.now) l.fn.meters.looks.now l.fn.meters.pairs.now l.fn.meters.places.now))
+      l.progress.kept.items (place l.progress.number l.progress.refused l.progress.session (outside (g.K.Sink.written l.io.out.now) (g.F.Shelf.files l.io.shelf.now) l.meters.looks.now l.meters.pairs.now l.meters.places.now));
   model : IsSessionModel l.progress.session;
   next : l.progress.number + length l.rest ≤ l.fn.progress.number + length l.piece;
   kept : length l.progress.kept.items ≤ 65537;
-  faults : g.K.Sink.faults l.out ≡ g.K.Sink.faults l.fn.out;
-  wants : g.K.Sink.wants l.out ≡ g.K.Sink.wants l.fn.out;
-  shelf_faults : g.F.Shelf.faults l.shelf ≡ g.F.Shelf.faults l.fn.shelf;
-  gone : g.K.Sink.kept l.fn.out ≡ 0 → g.K.Sink.kept l.out ≡ 0;
+  faults : g.K.Sink.faults l.io.out.now ≡ g.K.Sink.faults l.fn.io.out.now;
+  wants : g.K.Sink.wants l.io.out.now ≡ g.K.Sink.wants l.fn.io.out.now;
+  shelf_faults : g.F.Shelf.faults l.io.shelf.now ≡ g.F.Shelf.faults l.fn.io.shelf.now;
+  gone : g.K.Sink.kept l.fn.io.out.now ≡ 0 → g.K.Sink.kept l.io.out.now ≡ 0;
 }
 
 abbrev pub decreases-lines : goal.decreases-lines

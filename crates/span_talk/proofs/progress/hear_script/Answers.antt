@@ -16,22 +16,22 @@ returns-in-Ok-clause-done g c =
     let f = g.F.Shelf in
     let a = c.args in
     let n = c.finish.new in
-    let before = outside (k.written a.out.now) (f.files a.shelf.now) a.looks.now a.pairs.now a.places.now in
-    let after = outside (k.written n.out) (f.files n.shelf) n.looks n.pairs n.places in
+    let before = outside (k.written a.io.now.out.now) (f.files a.io.now.shelf.now) a.meters.now.looks.now a.meters.now.pairs.now a.meters.now.places.now in
+    let after = outside (k.written n.io.out.now) (f.files n.io.shelf.now) n.meters.looks.now n.meters.pairs.now n.meters.places.now in
     each_sent (g.C.Client.left a.client.now) _ (λ sent. RunsAll (lines_of sent) c.in-Ok.refused a.states before after) (λ sent talks. c.in-Ok.ensures.done sent a.states before talks) c.in_ok-progress.ensures.all
 
 -- stopped in the last line
 halted : (g : Over) (c : In-Err g) → IsHalted
     (λ Ends. OfSent (g.C.Client.left c.args.client.now) (λ sent. RunsFront Ends (lines_of sent) c.args.states
-    (outside (g.K.Sink.written c.args.out.now) (g.F.Shelf.files c.args.shelf.now) c.args.looks.now c.args.pairs.now c.args.places.now)
-    (outside (g.K.Sink.written c.finish.new.out) (g.F.Shelf.files c.finish.new.shelf) c.finish.new.looks c.finish.new.pairs c.finish.new.places)))
-    (outlet (g.K.Sink.written c.args.out.now) (g.K.Sink.faults c.args.out.now) (g.K.Sink.wants c.args.out.now)) (g.F.Shelf.faults c.args.shelf.now)
-    (outlet (g.K.Sink.written c.finish.new.out) (g.K.Sink.faults c.finish.new.out) (g.K.Sink.wants c.finish.new.out)) (g.F.Shelf.faults c.finish.new.shelf) c.in-Err.stop
+    (outside (g.K.Sink.written c.args.io.now.out.now) (g.F.Shelf.files c.args.io.now.shelf.now) c.args.meters.now.looks.now c.args.meters.now.pairs.now c.args.meters.now.places.now)
+    (outside (g.K.Sink.written c.finish.new.io.out.now) (g.F.Shelf.files c.finish.new.io.shelf.now) c.finish.new.meters.looks.now c.finish.new.meters.pairs.now c.finish.new.meters.places.now)))
+    (outlet (g.K.Sink.written c.args.io.now.out.now) (g.K.Sink.faults c.args.io.now.out.now) (g.K.Sink.wants c.args.io.now.out.now)) (g.F.Shelf.faults c.args.io.now.shelf.now)
+    (outlet (g.K.Sink.written c.finish.new.io.out.now) (g.K.Sink.faults c.finish.new.io.out.now) (g.K.Sink.wants c.finish.new.io.out.now)) (g.F.Shelf.faults c.finish.new.io.shelf.now) c.in-Err.stop
 halted g c =
     let k = g.K.Sink in
     let m = c.hear_all.new in
     let e = c.hear_all.ensures in
-    halted_later _ _ _ (outlet (k.written m.out) (k.faults m.out) (k.wants m.out)) _ _ (g.F.Shelf.faults m.shelf) _ _ e.later e.wants_later e.shelf_later c.in-Err.ensures.stopped
+    halted_later _ _ _ (outlet (k.written m.io.out.now) (k.faults m.io.out.now) (k.wants m.io.out.now)) _ _ (g.F.Shelf.faults m.io.shelf.now) _ _ e.later e.wants_later e.shelf_later c.in-Err.ensures.stopped
     (λ Ends stops. each_sent (g.C.Client.left c.args.client.now) _ _ (λ sent talks. stops sent _ _ talks) c.in_ok-progress.ensures.all)
 
 pub returns-clause-out_fault : goal.returns-clause-out_fault
@@ -41,7 +41,7 @@ pub returns-clause-shelf_fault : goal.returns-clause-shelf_fault
 returns-clause-shelf_fault g c = λ is. (halted g (goal.at.returns-clause-shelf_fault g c).In-Err).shelf_fault (same_stop _ _ is)
 
 pub returns-clause-want : goal.returns-clause-want
-returns-clause-want g c = λ is. (halted g (goal.at.returns-clause-want g c).In-Err).want (same_stop _ _ is) (g.K.Sink.wants c.args.out.now) (omega arith)
+returns-clause-want g c = λ is. (halted g (goal.at.returns-clause-want g c).In-Err).want (same_stop _ _ is) (g.K.Sink.wants c.args.io.now.out.now) (omega arith)
 
 pub returns-in-Ok-clause-sound : goal.returns-in-Ok-clause-sound
 returns-in-Ok-clause-sound g c =
