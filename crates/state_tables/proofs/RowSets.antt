@@ -1,5 +1,5 @@
 -- Rows and their numbers.
-use Rattle.std.proofs.Common.{suc, ◌≡◌, ℕ, ◌<◌, ◌*◌, ◌+◌, ◌/◌, ◌%◌, ◌^◌, ◌⊎◌, inl, inr, refl, ap, sym, ◌∙◌, arith, List, [], ◌∷◌, ◌++◌, length, length-set, get_or, set, get_or-set_same, get_or-set_other}
+use Rattle.std.proofs.Common.{◌≡◌, ℕ, ◌<◌, ◌+◌, ◌⊎◌, inl, inr, ap, sym, ◌∙◌, arith, List, [], ◌∷◌, ◌++◌, length, length-set, get_or, set, get_or-set_same, get_or-set_other}
 use Rattle.std.proofs.lemmas.Bool.{cases_eq, cases_lt}
 use Rattle.std.proofs.lemmas.List.{get_or_append_left, get_or_push, length_push, set_past}
 use Rattle.state_tables.specs.StateSet.{AreWords, number_of_words, words_of}
@@ -10,6 +10,7 @@ use Rattle.state_tables.specs.Weights.{weighted}
 use Rattle.state_tables.specs.RowSet.{IsRowSet}
 use Rattle.state_tables.proofs.CodedRows.{code_of-step_of}
 use Rattle.state_tables.proofs.Weights.{weighted-map, weighted-same}
+use Rattle.state_tables.proofs.Words.{words-back}
 
 -- the sum of the numbers of the states' rows
 pub numbers-of-states : (list : RowList) (ns cs : List ℕ) → ((k : ℕ) → k < length list.rows → get_or ns k 0 ≡ row_number list.width (row_at list.rows k))
@@ -18,23 +19,6 @@ pub numbers-of-states : (list : RowList) (ns cs : List ℕ) → ((k : ℕ) → k
 numbers-of-states list ns cs are within =
     weighted-same (λ k. get_or ns k 0) (λ k. row_number list.width (row_at list.rows k)) 0 cs (λ p lt. are (get_or cs p 0) (within p lt))
     ∙ sym (weighted-map (row_number list.width) (row_at list.rows) 0 cs)
-
--- the words come back from the number
-low-part : (n w : ℕ) → w < 2 ^ 64 → (n * 2 ^ 64 + w) % 2 ^ 64 ≡ w
-low-part n w lt = omega (arith, lt)
-
-high-part : (n w : ℕ) → w < 2 ^ 64 → (n * 2 ^ 64 + w) / 2 ^ 64 ≡ n
-high-part n w lt = omega (arith, lt)
-
-pub words-back : (ws : List ℕ) → AreWords ws → words_of (length ws) (number_of_words ws) ≡ ws
-words-back [] are = refl
-words-back (w ∷ ws) are =
-    ap (λ x. x ∷ words_of (length ws) ((number_of_words ws * 2 ^ 64 + w) / 2 ^ 64)) (low-part (number_of_words ws) w (are 0))
-    ∙ ap (λ n. w ∷ words_of (length ws) n) (high-part (number_of_words ws) w (are 0))
-    ∙ ap (λ x. w ∷ x) (words-back ws (λ i. are (suc i)))
-
-pub words-told : (ws vs : List ℕ) → AreWords ws → AreWords vs → length ws ≡ length vs → number_of_words ws ≡ number_of_words vs → ws ≡ vs
-words-told ws vs w v long e = sym (words-back ws w) ∙ ap (λ n. words_of n (number_of_words ws)) long ∙ ap (words_of (length vs)) e ∙ words-back vs v
 
 -- the number of a row, as it is computed
 pub number-of-row : (width code : ℕ) (ws : List ℕ) → length ws ≡ width → AreWords ws → low_of (digest_with (set_digest ws) code) ≡ row_number width (row_of code ws)
