@@ -7,7 +7,7 @@ use Rattle.span_types.specs.Words.{Marked}
 use Rattle.marker_dfa.specs.Deterministic.{DeterministicAutomaton, and_then, states_of, next_of, marks_of}
 use Rattle.path_counts.specs.Paths.{most}
 use Rattle.path_counts.specs.Runs.{at_state, runs}
-use Rattle.count_tables.specs.Place.{AreWays, IsPlace}
+use Rattle.count_tables.specs.TextIndex.{AreWays, IsTextAt}
 use Rattle.count_tables.proofs.Places.{any_texts, any-ways, back-get, front-get, map-get}
 
 -- the texts over the byte by one mark, from the state behind it
@@ -65,7 +65,7 @@ module _ (a : DeterministicAutomaton) (p b : ℕ) (after : List ℕ) where
         exact : (k : ℕ → List Marked) → AreWays (states_of a) k after → get_or after q 0 ≡ length (k q)
         exact k are = omega (arith, are q lt, past, left.low)
 
-    pub left-found : (q : ℕ) → next_of a p m b ≡ Some q → i < get_or after q 0 → IsPlace a (b ∷ []) p after first ((m, b) ∷ []) q i
+    pub left-found : (q : ℕ) → next_of a p m b ≡ Some q → i < get_or after q 0 → IsTextAt a (b ∷ []) p after first ((m, b) ∷ []) q i
     left-found q step among = record {
       bytes = refl;
       ends = ends (next_of a p m b) step;

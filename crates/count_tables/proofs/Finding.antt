@@ -21,7 +21,7 @@ use Rattle.path_counts.specs.Paths.{most, stopped}
 use Rattle.path_counts.specs.Counting.{CountRow, IsCountTable}
 use Rattle.path_counts.specs.Runs.{runs}
 use Rattle.count_tables.specs.Number.{endings}
-use Rattle.count_tables.specs.Place.{AreWays, IsNth, IsPlace, number_over}
+use Rattle.count_tables.specs.TextIndex.{AreWays, IsNth, IsTextAt, number_over}
 use Rattle.count_tables.proofs.Numbers.{answers-words, endings_at, is-tuple}
 use Rattle.count_tables.proofs.Places.{get-map, get-member, map-get, over-runs}
 use Rattle.std.proofs.Common.{All}
@@ -103,7 +103,7 @@ module _ (a : DeterministicAutomaton) (auto : IsDeterministic a) (s : List ℕ) 
               ∙ ap (λ v. write_word 1 v (blanks a.variables)) (sym found.1.1)
               ∙ ap (λ n. write_word 1 (marked s t) (blanks n)) (sym member.size)
               ∙ reads s t (is-tuple a auto s short t member) member.lies;
-          nth = record { answers = ts.0; all = ts.1; at_place = sym (ap (λ n. slice_get ts.0 n) back ∙ found.1.0) };
+          nth = record { answers = ts.0; all = ts.1; at_position = sym (ap (λ n. slice_get ts.0 n) back ∙ found.1.0) };
         }
 
   -- one table lookup at the root, and those that find its marks
@@ -118,7 +118,7 @@ module _ (a : DeterministicAutomaton) (auto : IsDeterministic a) (s : List ℕ) 
   pub end-ways : (after : List ℕ) → ((q : ℕ) → q < states_of a → get_or after q 0 ≡ stopped (endings a q)) → AreWays (states_of a) (endings_at a) after
   end-ways after are q lt = are q lt ∙ ap stopped (sym (length-map (ends_of a q) (λ m. (m, 256) ∷ [])))
 
-  pub ended-place : (after : List ℕ) (i q j : ℕ) (w : Marked) → ((q : ℕ) → q < states_of a → get_or after q 0 ≡ stopped (endings a q)) → j < endings a q → IsPlace a s 0 after i w q j
+  pub ended-place : (after : List ℕ) (i q j : ℕ) (w : Marked) → ((q : ℕ) → q < states_of a → get_or after q 0 ≡ stopped (endings a q)) → j < endings a q → IsTextAt a s 0 after i w q j
       → slice_get (runs (next_of a) (marks_of a) false (endings_at a) s 0) i ≡ Some (w ++ (get_or (ends_of a q) j 0, 256) ∷ [])
   ended-place after i q j w are lt place =
       place.at_index (endings_at a) (end-ways after are) ((get_or (ends_of a q) j 0, 256) ∷ []) (map-get (λ m. (m, 256) ∷ []) (ends_of a q) j (get_or (ends_of a q) j 0) (slice_get-get_or (ends_of a q) j 0 lt))
@@ -129,7 +129,7 @@ module _ (a : DeterministicAutomaton) (auto : IsDeterministic a) (s : List ℕ) 
       let ts = answers-exist a auto s bytes short in
       let long : length ts.0 ≡ length (runs (next_of a) (marks_of a) false (endings_at a) s 0) = sym (length-map ts.0 (marked s)) ∙ ap length (answers-words a auto s short ts.0 ts.1) in
       let back : i + 1 - 1 ≡ i = omega arith in
-      record { answers = ts.0; all = ts.1; at_place = sym (ap (λ n. slice_get ts.0 n) back ∙ slice_get_past ts.0 i (omega (arith, long, e, past, low))) }
+      record { answers = ts.0; all = ts.1; at_position = sym (ap (λ n. slice_get ts.0 n) back ∙ slice_get_past ts.0 i (omega (arith, long, e, past, low))) }
 
   pub none-over : (t : List CountRow) → IsCountTable a s t → (after : List ℕ) (i : ℕ) → ((q : ℕ) → q < states_of a → get_or after q 0 ≡ stopped (endings a q)) → number_over t 0 after ≤ i → i < most → IsNth a s (i + 1) None
   none-over t is after i are past low = none-at (number_over t 0 after) i (over-runs a auto s t is (endings_at a) after (end-ways after are) 0 auto.has_start) past low

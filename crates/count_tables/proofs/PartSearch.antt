@@ -11,7 +11,7 @@ use Rattle.state_tables.proofs.Paths.{length-bytes}
 use Rattle.span_enum.specs.Tuples.{write_word}
 use Rattle.path_counts.specs.Paths.{most, stopped}
 use Rattle.path_counts.specs.Counting.{CountRow, IsCountTable, counts_at, number_onward, onward_from, unmarked_at}
-use Rattle.count_tables.specs.Place.{AreWays, Finds, IsCountInput, IsPart, IsPassed, IsPlace, number_marked, number_over, tree_of}
+use Rattle.count_tables.specs.TextIndex.{AreWays, Finds, IsCountInput, IsPart, IsPassed, IsTextAt, number_marked, number_over, tree_of}
 use Rattle.count_tables.specs.declared.part.CountInput.{CountInput}
 use Rattle.count_tables.specs.declared.part.Part.{Part}
 use Rattle.count_tables.specs.declared.nth.Way.{Way}
@@ -39,11 +39,11 @@ module _ (g : CountInput) (input : IsCountInput g) (here : Part) (part : IsPart 
       }
 
   -- ---- a byte
-  pub finds-byte : (before b m : ℕ) → IsNodeAt g.store.now here.id.index (Byte b) → IsPlace g.dfa.now (b ∷ []) from.state after from.index ((m, b) ∷ []) to.state to.index → to.tuple ≡ write_mark m here.at from.tuple
+  pub finds-byte : (before b m : ℕ) → IsNodeAt g.store.now here.id.index (Byte b) → IsTextAt g.dfa.now (b ∷ []) from.state after from.index ((m, b) ∷ []) to.state to.index → to.tuple ≡ write_mark m here.at from.tuple
       → Finds g here after from to before before
   finds-byte before b m node place written = record {
     word = (m, b) ∷ [];
-    place = subst (λ x. IsPlace g.dfa.now x from.state after from.index ((m, b) ∷ []) to.state to.index) (sym (ap text node)) place;
+    place = subst (λ x. IsTextAt g.dfa.now x from.state after from.index ((m, b) ∷ []) to.state to.index) (sym (ap text node)) place;
     written = written;
     cost = omega arith;
   }
@@ -65,13 +65,13 @@ module _ (g : CountInput) (input : IsCountInput g) (here : Part) (part : IsPart 
         let u = text (tree_of g right) in
         let w = first.word in
         let v = second.word in
-        let place : IsPlace g.dfa.now (s ++ u) from.state after from.index (w ++ v) to.state to.index =
+        let place : IsTextAt g.dfa.now (s ++ u) from.state after from.index (w ++ v) to.state to.index =
         joined-place g.dfa.now input.automaton s u right.table.now is_right.table_is after ways filled from.state middle.state to.state from.index middle.index to.index w v first.place second.place in
         let some = place-marked g.dfa.now input.automaton (s ++ u) here.table.now joined from.state to.state from.index to.index after (w ++ v) state low place among in
         let there : left.at + length w ≡ right.at = omega (arith, left_at, right_at, is_left.len_is, length-bytes w, ap length first.place.bytes) in
         record {
           word = w ++ v;
-          place = subst (λ x. IsPlace g.dfa.now (text x) from.state after from.index (w ++ v) to.state to.index) (sym whole) place;
+          place = subst (λ x. IsTextAt g.dfa.now (text x) from.state after from.index (w ++ v) to.state to.index) (sym whole) place;
           written =
               second.written
               ∙ ap (λ t. write_word right.at v t) first.written

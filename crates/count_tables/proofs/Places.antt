@@ -20,7 +20,7 @@ use Rattle.path_counts.proofs.Order.{runs-append, runs-parted}
 use Rattle.path_counts.proofs.Runs.{runs-forth}
 use Rattle.path_counts.proofs.Ways.{value_at, ways-length}
 use Rattle.count_tables.specs.Number.{weighted}
-use Rattle.count_tables.specs.Place.{AreWays, IsPlace, number_marked, number_over}
+use Rattle.count_tables.specs.TextIndex.{AreWays, IsTextAt, number_marked, number_over}
 use Rattle.count_tables.proofs.Weights.{all-ways, weighted-ways}
 
 -- ---- positions in lists
@@ -99,7 +99,7 @@ module _ (a : DeterministicAutomaton) (auto : IsDeterministic a) where
 
   -- ---- a text without marks
   pub passed-place : (s : List ℕ) (t : List CountRow) → IsCountTable a s t → (p q i j : ℕ) (after : List ℕ) → p < states_of a → unmarked_at t p ≡ Some q → i ≡ number_marked t p after + j → j < get_or after q 0 → i < most
-      → IsPlace a s p after i (plain s) q j
+      → IsTextAt a s p after i (plain s) q j
   passed-place s t is p q i j after lt step index behind low =
       let ends : path (next_of a) (plain s) p ≡ Some q = sym (is.unmarked p lt) ∙ step in
       record {
@@ -119,7 +119,7 @@ module _ (a : DeterministicAutomaton) (auto : IsDeterministic a) where
     pub right-ways : (k : ℕ → List Marked) → AreWays (states_of a) k after → AreWays (states_of a) (runs (next_of a) (marks_of a) false k u) ways
     right-ways k are q lt = filled q lt ∙ over-runs u tr ir k after are q lt
 
-    pub joined-place : (p q r i j l : ℕ) (w v : Marked) → IsPlace a s p ways i w q j → IsPlace a u q after j v r l → IsPlace a (s ++ u) p after i (w ++ v) r l
+    pub joined-place : (p q r i j l : ℕ) (w v : Marked) → IsTextAt a s p ways i w q j → IsTextAt a u q after j v r l → IsTextAt a (s ++ u) p after i (w ++ v) r l
     joined-place p q r i j l w v first second = record {
       bytes = bytes-append w v ∙ ap (λ x. x ++ bytes_of v) first.bytes ∙ ap (λ x. s ++ x) second.bytes;
       ends = path-on (next_of a) p q w v first.ends ∙ second.ends;
@@ -139,7 +139,7 @@ module _ (a : DeterministicAutomaton) (auto : IsDeterministic a) where
         ∙ sym (over-runs s tl il (runs (next_of a) (marks_of a) false k u) ways (right-ways k are) p lt)
 
   -- ---- a text whose index is among those with some mark has one
-  pub place-marked : (s : List ℕ) (t : List CountRow) → IsCountTable a s t → (p q i j : ℕ) (after : List ℕ) (w : Marked) → p < states_of a → ((r : ℕ) → get_or after r 0 ≤ most) → IsPlace a s p after i w q j
+  pub place-marked : (s : List ℕ) (t : List CountRow) → IsCountTable a s t → (p q i j : ℕ) (after : List ℕ) (w : Marked) → p < states_of a → ((r : ℕ) → get_or after r 0 ≤ most) → IsTextAt a s p after i w q j
       → i < number_marked t p after → 0 < mark_count w
   place-marked s t is p q i j after w lt low place among =
       let k = any_texts after in

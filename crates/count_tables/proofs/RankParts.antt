@@ -19,7 +19,7 @@ use Rattle.path_counts.specs.Runs.{at_state, runs}
 use Rattle.path_counts.proofs.Caps.{stop-twice}
 use Rattle.path_counts.proofs.Numbers.{are_marks}
 use Rattle.path_counts.proofs.Order.{runs-append, runs-parted}
-use Rattle.count_tables.specs.Place.{AreWays, IsCountInput, IsPart, number_marked, number_over, tree_of}
+use Rattle.count_tables.specs.TextIndex.{AreWays, IsCountInput, IsPart, number_marked, number_over, tree_of}
 use Rattle.count_tables.specs.Earlier.{IsEarlier, IsNumberBefore, number_before, word_in}
 use Rattle.count_tables.specs.declared.part.Part.{Part}
 use Rattle.count_tables.specs.declared.rank.RankInput.{RankInput}

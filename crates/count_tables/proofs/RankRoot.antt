@@ -19,7 +19,7 @@ use Rattle.path_counts.specs.Paths.{most, stopped}
 use Rattle.path_counts.specs.Runs.{at_state, runs}
 use Rattle.count_tables.specs.Earlier.{IsEarlier, IsNumberBefore, greater_endings, number_before, number_to_end, word_in}
 use Rattle.count_tables.specs.Number.{endings}
-use Rattle.count_tables.specs.Place.{IsCountInput, IsPart, tree_of}
+use Rattle.count_tables.specs.TextIndex.{IsCountInput, IsPart, tree_of}
 use Rattle.count_tables.specs.Rank.{CountsBefore, IsRank}
 use Rattle.count_tables.specs.declared.part.Part.{Part}
 use Rattle.count_tables.specs.declared.rank.RankInput.{RankInput}

@@ -9,7 +9,7 @@ use Rattle.span_enum.specs.Members.{Tuple}
 use Rattle.span_enum.specs.Tuples.{write_word}
 use Rattle.path_counts.specs.Paths.{most, stopped}
 use Rattle.count_tables.specs.Number.{endings}
-use Rattle.count_tables.specs.Place.{Finds, IsCountInput, IsNth, IsPart, IsPlace, number_over, tree_of}
+use Rattle.count_tables.specs.TextIndex.{Finds, IsCountInput, IsNth, IsPart, IsTextAt, number_over, tree_of}
 use Rattle.count_tables.specs.declared.part.CountInput.{CountInput}
 use Rattle.count_tables.specs.declared.part.Part.{Part}
 use Rattle.count_tables.specs.declared.nth.Way.{Way}
@@ -25,8 +25,8 @@ module _ (g : CountInput) (input : IsCountInput g) (here : Part) (part : IsPart 
       none-over g.dfa.now input.automaton (text (tree_of g here)) short part.table_is.bytes here.table.now part.table_is after first.index are (subst (λ p. number_over here.table.now p after ≤ first.index) state past) low
 
   module _ (to : Way) (before later : ℕ) (found : Finds g here after first to before later) where
-    place : IsPlace g.dfa.now (text (tree_of g here)) 0 after first.index found.word to.state to.index
-    place = subst (λ p. IsPlace g.dfa.now (text (tree_of g here)) p after first.index found.word to.state to.index) state found.place
+    place : IsTextAt g.dfa.now (text (tree_of g here)) 0 after first.index found.word to.state to.index
+    place = subst (λ p. IsTextAt g.dfa.now (text (tree_of g here)) p after first.index found.word to.state to.index) state found.place
 
     pub root-state : to.state < states_of g.dfa.now
     root-state = path-within g.dfa.now input.automaton 0 to.state found.word input.automaton.has_start place.ends

@@ -2,7 +2,7 @@
 use Rattle.std.proofs.Common.{◌≡◌, ℕ, zero, suc, ◌+◌, ◌<◌, ◌≤◌, ◌⊎◌, List, [], ◌∷◌, length, Option, Some, None, ap, sym, subst, ◌∙◌, refl, arith, inl, inr}
 use Rattle.std.proofs.lemmas.Bool.{cases_eq, eq-eqb}
 use Rattle.span_types.specs.declared.tuple.Span.{Span}
-use Rattle.span_types.specs.Marks.{Spans, at_place, closing, mark, mark_of, opening, part_of, spans_of}
+use Rattle.span_types.specs.Marks.{Spans, at_position, closing, mark, mark_of, opening, part_of, spans_of}
 use Rattle.span_types.specs.Words.{mark_count, word_from}
 use Rattle.span_types.proofs.MarkSteps.{four_le}
 use Rattle.span_types.proofs.PieceLaws.{word-plain}
@@ -12,7 +12,7 @@ use Rattle.state_tables.proofs.Paths.{count-more}
 use Rattle.span_enum.specs.Members.{Tuple}
 use Rattle.span_enum.specs.Tuples.{IsBound, IsUnmarked, word_over}
 
-at-own : (i x p : ℕ) → i ≡ p → at_place i x p ≡ x
+at-own : (i x p : ℕ) → i ≡ p → at_position i x p ≡ x
 at-own i x p e = rw (eq-eqb p i (sym e)) refl
 
 part-some : (v : ℕ) (o : Option Span) (p : ℕ) → IsBound o p → 0 < part_of v o p

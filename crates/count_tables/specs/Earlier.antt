@@ -6,7 +6,7 @@ use Rattle.marker_dfa.specs.Deterministic.{DeterministicAutomaton, states_of, ne
 use Rattle.span_enum.specs.Tuples.{word_over}
 use Rattle.path_counts.specs.Paths.{stopped}
 use Rattle.path_counts.specs.Runs.{at_state, runs}
-use Rattle.count_tables.specs.Place.{AreWays, tree_of}
+use Rattle.count_tables.specs.TextIndex.{AreWays, tree_of}
 use Rattle.count_tables.specs.declared.part.Part.{Part}
 use Rattle.count_tables.specs.declared.rank.RankInput.{RankInput}
 use Rattle.count_tables.specs.declared.rank.Earlier.{Earlier}

@@ -168,7 +168,7 @@ fn look_up<R, G: Gate>(
 }
 
 // The maximum number of pairs of tables that are kept apart while compositions are collected.
-const MOST_DUE: usize = 1 << 16;
+const MAX_PENDING: usize = 1 << 16;
 
 // Finds the tables of the pairs whose compositions are cached, and collects the others for which the children's tables are known.
 fn collect_due<R, G: Gate>(
@@ -184,7 +184,7 @@ fn collect_due<R, G: Gate>(
     ensures jobs { IfOk result (λ jobs. All (IsJob growth.now.dfa.now growth.now.store.now kept.now (length numbers.now) (length found.old)) jobs.items) }
     ensures same { memo.new ≡ memo.old }
 {
-    let mut due = PairMemo::new(growth.alloc, MOST_DUE)?;
+    let mut due = PairMemo::new(growth.alloc, MAX_PENDING)?;
     let mut jobs = Vec::new(growth.alloc);
     for index in 0..found.len() {
         if let Some(job) = look_up(growth, kept, memo, numbers, found, index) {
@@ -242,7 +242,7 @@ fn keep_all<R, G>(
 }
 
 /// The number of rows that are composed in the time that it takes to start a thread, some 50 microseconds, and more.
-pub(crate) const ROWS_WORTH_A_THREAD: usize = 1 << 9;
+pub(crate) const MIN_ROWS_PER_THREAD: usize = 1 << 9;
 
 /// At most this many new nodes are always cut in two, so that a gate sees two threads on the shortest texts.
 pub(crate) const NODES_ALWAYS_CUT: usize = 8;
@@ -252,7 +252,7 @@ fn pieces_of(workers: u8, states: u16, jobs: usize, nodes: usize) -> u8 {
     if nodes <= NODES_ALWAYS_CUT {
         return workers.min(2);
     }
-    workers.min((jobs.saturating_mul(states as usize) / ROWS_WORTH_A_THREAD).min(64) as u8)
+    workers.min((jobs.saturating_mul(states as usize) / MIN_ROWS_PER_THREAD).min(64) as u8)
 }
 
 // One more than the greatest height of a node.

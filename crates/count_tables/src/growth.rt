@@ -8,7 +8,7 @@ ghost use Rattle.count_tables.specs.Ahead.{AreFound, HasTable};
 ghost use Rattle.count_tables.specs.Dictionary.{AreKept, AreNodeTables};
 ghost use Rattle.count_tables.specs.Remembered.{AreTrueEntries, Extends};
 
-use crate::ahead::{NODES_ALWAYS_CUT, ROWS_WORTH_A_THREAD, find_ahead};
+use crate::ahead::{MIN_ROWS_PER_THREAD, NODES_ALWAYS_CUT, find_ahead};
 use crate::tables::TableSet;
 use marker_dfa::Dfa;
 use node_store::{Node, NodeId, Store};
@@ -288,7 +288,7 @@ fn place_part<R: Threads + Sync, G: Gate>(
 
 // Whether this many nodes are taken in pieces while the cache is empty, so that each of them may need a composition.
 fn starts_ahead(dfa: &Dfa, nodes: usize) -> bool {
-    nodes <= NODES_ALWAYS_CUT || nodes.saturating_mul(dfa.states() as usize) >= ROWS_WORTH_A_THREAD
+    nodes <= NODES_ALWAYS_CUT || nodes.saturating_mul(dfa.states() as usize) >= MIN_ROWS_PER_THREAD
 }
 
 /// The number of composed rows per node from which pieces pay. What a node costs in pieces, besides its rows, is half as much.

@@ -11,7 +11,7 @@ ghost use Rattle.path_counts.specs.Paths.{most, stopped};
 ghost use Rattle.path_counts.specs.Runs.{runs};
 ghost use Rattle.count_tables.specs.Dictionary.{count_of};
 ghost use Rattle.count_tables.specs.Number.{IsCounted, endings};
-ghost use Rattle.count_tables.specs.Place.{AreWays, Finds, IsCountInput, IsNth, IsPart, IsPassed, IsPlace, number_marked, number_over, tree_of};
+ghost use Rattle.count_tables.specs.TextIndex.{AreWays, Finds, IsCountInput, IsNth, IsPart, IsPassed, IsTextAt, number_marked, number_over, tree_of};
 
 use crate::part::{CountInput, Part, fill_ways, look};
 use crate::tables::CountTables;
@@ -60,7 +60,7 @@ fn over_byte(dfa: &Dfa, byte: u8, at: u64, from: &Way, after: &[u64]) -> Way
     requires below { from.now.index < most }
     requires positive { 1 ≤ at }
     requires low { at ≤ 281474976710657 }
-    ensures { (m : ℕ) × IsPlace dfa.now (byte ∷ []) from.now.state after.now from.now.index ((m, byte) ∷ []) result.state result.index × (result.tuple ≡ write_mark m at from.now.tuple) }
+    ensures { (m : ℕ) × IsTextAt dfa.now (byte ∷ []) from.now.state after.now from.now.index ((m, byte) ∷ []) result.state result.index × (result.tuple ≡ write_mark m at from.now.tuple) }
 {
     let _ = dfa.states();
     let mut index = from.index;

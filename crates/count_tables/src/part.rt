@@ -4,7 +4,7 @@ ghost use Rattle.std.specs.Prelude.{◌≡◌, ℕ, ◌+◌, ◌<◌, ◌≤◌,
 ghost use Rattle.slp_model.specs.Tree.{text};
 ghost use Rattle.slp_model.specs.Nodes.{tree};
 ghost use Rattle.count_tables.specs.Dictionary.{count_of};
-ghost use Rattle.count_tables.specs.Place.{IsCountInput, IsPart, number_over};
+ghost use Rattle.count_tables.specs.TextIndex.{IsCountInput, IsPart, number_over};
 
 use crate::tables::CountTables;
 use marker_dfa::Dfa;

@@ -12,7 +12,7 @@ ghost use Rattle.path_counts.specs.Paths.{stopped};
 ghost use Rattle.count_tables.specs.Dictionary.{count_of};
 ghost use Rattle.count_tables.specs.Earlier.{IsEarlier, IsNumberBefore, greater_endings, number_to_end};
 ghost use Rattle.count_tables.specs.Number.{IsCounted};
-ghost use Rattle.count_tables.specs.Place.{IsCountInput, IsPart, tree_of};
+ghost use Rattle.count_tables.specs.TextIndex.{IsCountInput, IsPart, tree_of};
 ghost use Rattle.count_tables.specs.Rank.{IsRank};
 
 use crate::nth::{room_for, ways_to_end};

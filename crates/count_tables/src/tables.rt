@@ -3,7 +3,7 @@
 ghost use Rattle.std.specs.Prelude.{◌≡◌, ℕ, ◌+◌, ◌-◌, ◌<◌, ◌≤◌, List, [], length, map, IfOk, OnOk, OnErr};
 ghost use Rattle.slp_model.specs.declared.Node.{Node};
 ghost use Rattle.slp_model.specs.Kept.{Keeps};
-ghost use Rattle.slp_model.specs.Thin.{IsThinOf, rank};
+ghost use Rattle.slp_model.specs.Thin.{IsCompactionOf, rank};
 ghost use Rattle.marker_dfa.specs.Deterministic.{DeterministicAutomaton, states_of};
 ghost use Rattle.distinct_items.specs.Renumbering.{kept_items};
 ghost use Rattle.count_tables.specs.Dictionary.{AreCountTables, IsCountDictionary, count_of, distinct_of, kept_of, table_of, used_by};
@@ -152,7 +152,7 @@ impl CountTables {
         ensures count { count_of self.new ≡ rank moves.now (count_of self.old) }
         ensures each { (i : ℕ) → i < count_of self.old → Keeps moves.now i → table_of self.new (rank moves.now i) ≡ table_of self.old i }
         ensures states { self.new.states ≡ self.old.states }
-        ensures tables { (a : DeterministicAutomaton) (ns ms : List Node) → IsThinOf ns moves.now ms → AreCountTables a ns self.old → AreCountTables a ms self.new }
+        ensures tables { (a : DeterministicAutomaton) (ns ms : List Node) → IsCompactionOf ns moves.now ms → AreCountTables a ns self.old → AreCountTables a ms self.new }
     {
         renumber(&mut self.numbers, moves);
         self.kept.keep_used(&mut self.numbers);

@@ -6,7 +6,7 @@ use Rattle.slp_model.specs.declared.Node.{Node}
 use Rattle.slp_model.specs.Tree.{text}
 use Rattle.slp_model.specs.Nodes.{IsLive, text_of}
 use Rattle.slp_model.specs.Kept.{Here, IsPlanOf, Keeps, RootReaches, IsKeptRoot}
-use Rattle.slp_model.specs.Thin.{AnyReaches, IsThinOf, moved, thin}
+use Rattle.slp_model.specs.Thin.{AnyReaches, IsCompactionOf, moved, thin}
 use Rattle.doc_book.specs.declared.Doc.{Doc}
 use Rattle.doc_book.specs.Texts.{AreLive, plain}
 use Rattle.name_map.specs.Named.{Named}
@@ -31,7 +31,7 @@ versions-kept ns keep (v ∷ vs) h = (
   versions-kept ns keep vs (λ i r. h i ((any-append ns (roots_of v.1) (version_roots vs) i).1 (inr r))),
 )
 
-module _ (ns : List Node) (keep : List Bool) (ms : List Node) (is : IsThinOf ns keep ms) where
+module _ (ns : List Node) (keep : List Bool) (ms : List Node) (is : IsCompactionOf ns keep ms) where
   live-root : (root : Option NodeId) → IsKeptRoot keep root → IsLive ms (moved keep root)
   live-root None h = tt
   live-root (Some id) h = is.live id.index h

@@ -2,7 +2,7 @@
 use Rattle.std.specs.Prelude.{◌≡◌, ◌<◌, ℕ, Bool, List, [], ◌∷◌, ◌++◌, length, map}
 use Rattle.slp_model.specs.declared.Node.{Node}
 use Rattle.slp_model.specs.Kept.{IsKeptRoot, IsPlanOf}
-use Rattle.slp_model.specs.Thin.{AnyReaches, IsThinOf, moved, thin}
+use Rattle.slp_model.specs.Thin.{AnyReaches, IsCompactionOf, moved, thin}
 use Rattle.doc_book.specs.declared.Doc.{Doc}
 use Rattle.doc_book.specs.Texts.{AreLive, plain}
 use Rattle.name_map.specs.Named.{Named}
@@ -30,7 +30,7 @@ moved_versions keep vs = map (λ v. (v.0, moved_docs keep v.1)) vs
 pub record IsCompacted (ns : List Node) (ds : List Doc) (vs : Named (List Doc)) (keep : List Bool) (ms : List Node) (es : List Doc) (ws : Named (List Doc)) : Type 0 where
   pub plan : IsPlanOf ns keep
   pub thin_is : ms ≡ thin ns keep
-  pub trees : IsThinOf ns keep ms
+  pub trees : IsCompactionOf ns keep ms
   pub live : AreLive ms es
   pub kept : AreKept ms ws
   pub docs_moved : es ≡ moved_docs keep ds

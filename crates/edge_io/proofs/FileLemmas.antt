@@ -6,7 +6,7 @@ use Rattle.std.specs.Str.{bytes_eq}
 use Rattle.std.specs.Cmp.Lexicographic.{same_text, bytes_decides}
 use Rattle.std.proofs.lemmas.Bool.{ltb-false}
 use Rattle.edge_io.specs.Files.{Entries, entry_of, is_among, put_entry}
-use Rattle.edge_io.specs.Told.{told, told_names}
+use Rattle.edge_io.specs.Exposed.{entries_of, exposed_names}
 
 flipped : (n m : List ℕ) → bytes_eq n m ≡ false → bytes_eq m n ≡ false
 flipped n m e = by (bytes_eq m n) refl
@@ -55,49 +55,49 @@ past_all p xs is = by (ltb (position_or_len p xs) (length xs)) refl is
 module _ {Y Z : Type 0} where
   -- the name is at no index of the list
   absent_all : (files : List (Vec ℕ Y × Vec ℕ Z)) (name : List ℕ) → length files ≤ position_or_len (λ file. bytes_eq file.0.items name) files
-      → (entry_of (told files) name ≡ None) × ((bytes : List ℕ) → put_entry (told files) name bytes ≡ told files ++ (name, bytes) ∷ [])
+      → (entry_of (entries_of files) name ≡ None) × ((bytes : List ℕ) → put_entry (entries_of files) name bytes ≡ entries_of files ++ (name, bytes) ∷ [])
   absent_all [] name past = (refl, λ bytes. refl)
   absent_all (file ∷ files) name past = by (bytes_eq file.0.items name) refl past (λ p. absent_all files name p)
     where
       by : (b : Bool) → bytes_eq file.0.items name ≡ b → suc (length files) ≤ cond (not b) (1 + position_or_len (λ f. bytes_eq f.0.items name) files) 0
-          → (length files ≤ position_or_len (λ f. bytes_eq f.0.items name) files → (entry_of (told files) name ≡ None) × ((bytes : List ℕ) → put_entry (told files) name bytes ≡ told files ++ (name, bytes) ∷ []))
-          → (entry_of (told (file ∷ files)) name ≡ None) × ((bytes : List ℕ) → put_entry (told (file ∷ files)) name bytes ≡ told (file ∷ files) ++ (name, bytes) ∷ [])
+          → (length files ≤ position_or_len (λ f. bytes_eq f.0.items name) files → (entry_of (entries_of files) name ≡ None) × ((bytes : List ℕ) → put_entry (entries_of files) name bytes ≡ entries_of files ++ (name, bytes) ∷ []))
+          → (entry_of (entries_of (file ∷ files)) name ≡ None) × ((bytes : List ℕ) → put_entry (entries_of (file ∷ files)) name bytes ≡ entries_of (file ∷ files) ++ (name, bytes) ∷ [])
       by true is past rest = absurd (omega arith)
       by false is past rest =
           let h = rest (omega arith) in (
-            first_file (file.0.items, file.1.items) (told files) name ∙ ap (λ v. cond v (Some file.1.items) (entry_of (told files) name)) is ∙ h.0,
-            λ bytes. ap (λ v. cond v ((file.0.items, bytes) ∷ told files) ((file.0.items, file.1.items) ∷ put_entry (told files) name bytes)) is ∙ ap (λ l. (file.0.items, file.1.items) ∷ l) (h.1 bytes),
+            first_file (file.0.items, file.1.items) (entries_of files) name ∙ ap (λ v. cond v (Some file.1.items) (entry_of (entries_of files) name)) is ∙ h.0,
+            λ bytes. ap (λ v. cond v ((file.0.items, bytes) ∷ entries_of files) ((file.0.items, file.1.items) ∷ put_entry (entries_of files) name bytes)) is ∙ ap (λ l. (file.0.items, file.1.items) ∷ l) (h.1 bytes),
           )
 
   pub absent : (files : List (Vec ℕ Y × Vec ℕ Z)) (name : List ℕ) → position (λ file. bytes_eq file.0.items name) files ≡ None
-      → (entry_of (told files) name ≡ None) × ((bytes : List ℕ) → put_entry (told files) name bytes ≡ told files ++ (name, bytes) ∷ [])
+      → (entry_of (entries_of files) name ≡ None) × ((bytes : List ℕ) → put_entry (entries_of files) name bytes ≡ entries_of files ++ (name, bytes) ∷ [])
   absent files name is = absent_all files name (past_all (λ file. bytes_eq file.0.items name) files is)
 
   -- the name is first at this index of the list
   pub present : (files : List (Vec ℕ Y × Vec ℕ Z)) (name : List ℕ) (i : ℕ) (d : Vec ℕ Y × Vec ℕ Z) → i < length files
       → bytes_eq (get_or files i d).0.items name ≡ true → ((k : ℕ) → k < i → bytes_eq (get_or files k d).0.items name ≡ false)
-      → (entry_of (told files) name ≡ Some (get_or files i d).1.items)
-      × ((bytes : Vec ℕ Z) → put_entry (told files) name bytes.items ≡ told (slice_set files i ((get_or files i d).0, bytes)))
+      → (entry_of (entries_of files) name ≡ Some (get_or files i d).1.items)
+      × ((bytes : Vec ℕ Z) → put_entry (entries_of files) name bytes.items ≡ entries_of (slice_set files i ((get_or files i d).0, bytes)))
   present [] name i d within at before = absurd (omega arith)
   present (file ∷ files) name zero d within at before = (
-    first_file (file.0.items, file.1.items) (told files) name ∙ ap (λ v. cond v (Some file.1.items) (entry_of (told files) name)) at,
-    λ bytes. ap (λ v. cond v ((file.0.items, bytes.items) ∷ told files) ((file.0.items, file.1.items) ∷ put_entry (told files) name bytes.items)) at,
+    first_file (file.0.items, file.1.items) (entries_of files) name ∙ ap (λ v. cond v (Some file.1.items) (entry_of (entries_of files) name)) at,
+    λ bytes. ap (λ v. cond v ((file.0.items, bytes.items) ∷ entries_of files) ((file.0.items, file.1.items) ∷ put_entry (entries_of files) name bytes.items)) at,
   )
   present (file ∷ files) name (suc i) d within at before =
       let skipped : bytes_eq file.0.items name ≡ false = before 0 (omega arith) in
       let h = present files name i d (omega arith) at (λ k below. before (suc k) (omega arith)) in (
-        first_file (file.0.items, file.1.items) (told files) name ∙ ap (λ v. cond v (Some file.1.items) (entry_of (told files) name)) skipped ∙ h.0,
-        λ bytes. ap (λ v. cond v ((file.0.items, bytes.items) ∷ told files) ((file.0.items, file.1.items) ∷ put_entry (told files) name bytes.items)) skipped ∙ ap (λ l. (file.0.items, file.1.items) ∷ l) (h.1 bytes),
+        first_file (file.0.items, file.1.items) (entries_of files) name ∙ ap (λ v. cond v (Some file.1.items) (entry_of (entries_of files) name)) skipped ∙ h.0,
+        λ bytes. ap (λ v. cond v ((file.0.items, bytes.items) ∷ entries_of files) ((file.0.items, file.1.items) ∷ put_entry (entries_of files) name bytes.items)) skipped ∙ ap (λ l. (file.0.items, file.1.items) ∷ l) (h.1 bytes),
       )
 
 module _ {Y : Type 0} where
-  among_told : (names : List (Vec ℕ Y)) (name : List ℕ) → is_among (told_names names) name ≡ list_any (λ other. bytes_eq other.items name) names
+  among_told : (names : List (Vec ℕ Y)) (name : List ℕ) → is_among (exposed_names names) name ≡ list_any (λ other. bytes_eq other.items name) names
   among_told [] name = refl
   among_told (other ∷ names) name = ap (λ b. bytes_eq other.items name || b) (among_told names name)
 
   -- what a search of the names says of them
   pub listed : (names seen : List (Vec ℕ Y)) (closed : List (List ℕ)) (name : List ℕ) (found b : Bool)
-      → told_names names ≡ closed → seen ≡ names → found ≡ list_any (λ other. bytes_eq other.items name) seen → found ≡ b → is_among closed name ≡ b
+      → exposed_names names ≡ closed → seen ≡ names → found ≡ list_any (λ other. bytes_eq other.items name) seen → found ≡ b → is_among closed name ≡ b
   listed names seen closed name found b are same is answer =
       ap (λ l. is_among l name) (sym are) ∙ among_told names name ∙ ap (λ l. list_any (λ other. bytes_eq other.items name) l) (sym same) ∙ sym is ∙ answer
 

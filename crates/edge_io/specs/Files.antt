@@ -100,7 +100,7 @@ KeepsOthers (Some old) (Some new) name =
 -- a put was begun, and if it is exposed it has this name and these bytes
 abbrev pub IsBegun : Option (Option (List ℕ × List ℕ)) → List ℕ → List ℕ → Type 0
 IsBegun None name bytes = ⊥
-IsBegun (Some told) name bytes = IfSome told (λ put. (put.0 ≡ name) × (put.1 ≡ bytes))
+IsBegun (Some entries_of) name bytes = IfSome entries_of (λ put. (put.0 ≡ name) × (put.1 ≡ bytes))
 
 -- a put of these bytes to this name did what it returned, or was rejected if exposed files have the name closed
 pub record IsPutTo (old new : Option Files) (name bytes : List ℕ) (result : Result (Unit {0}) PutRefusal) : Type 0 where

@@ -4,4 +4,4 @@ pub mod Files
 pub mod Injection
 pub mod Memory
 pub mod Outside
-pub mod Told
+pub mod Exposed

@@ -23,5 +23,5 @@ abbrev pub untold : Option Files
 untold = None
 
 -- a put that was begun in a folder, of which no contract knows more
-abbrev pub untold_put : Bool → Option (Option (List ℕ × List ℕ))
-untold_put begun = if begun then Some None else None
+abbrev pub unexposed_put : Bool → Option (Option (List ℕ × List ℕ))
+unexposed_put begun = if begun then Some None else None

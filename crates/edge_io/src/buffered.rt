@@ -9,7 +9,7 @@ use std::alloc::{AllocError, Global};
 use std::marker::Model;
 
 /// The size of the buffer, in bytes.
-const MOST_KEPT: usize = 16_384;
+const BUFFER_SIZE: usize = 16_384;
 
 /// A sink that buffers at most 16,384 bytes for another sink. Its bytes are those of the inner sink, followed by the
 /// buffered ones.
@@ -72,7 +72,7 @@ impl<K: Sink> BufferedSink<K> {
         K: Drop,
         ensures { IfOk result (λ sink. sink ≡ record { inner = inner; kept = [] }) }
     {
-        let kept = Vec::with_capacity(alloc, MOST_KEPT)?;
+        let kept = Vec::with_capacity(alloc, BUFFER_SIZE)?;
         Ok(BufferedSink { inner, kept })
     }
 
@@ -106,10 +106,10 @@ impl<K: Sink> Sink for BufferedSink<K> {
         ensures full { most_kept < length self.old.kept + length piece.now → length piece.now ≤ most_kept → IfOk result (λ n. (n ≡ length piece.now) × (self.new.kept ≡ piece.now)) }
         ensures large { most_kept < length piece.now → OnOk result (self.new.kept ≡ []) }
     {
-        if piece.len() > MOST_KEPT - self.kept.len() {
+        if piece.len() > BUFFER_SIZE - self.kept.len() {
             send(&mut self.inner, &mut self.kept)?;
         }
-        if piece.len() > MOST_KEPT {
+        if piece.len() > BUFFER_SIZE {
             return self.inner.write(piece);
         }
         self.kept.extend_from_slice(piece).unwrap();

@@ -3,7 +3,7 @@ ghost use Rattle.std.specs.Prelude.{◌≡◌, ◌≢◌, ◌<◌, ◌++◌, [],
 ghost use Rattle.std.specs.Io.{ReadsAtMost};
 ghost use Rattle.edge_io.specs.Causes.{HasPutCause, HasShelfCause, one_more};
 ghost use Rattle.edge_io.specs.Files.{AllowsReads, AllowsWrites, HasPiece, Holds, IsBegun, IsPutTo};
-ghost use Rattle.edge_io.specs.Outside.{untold, untold_put};
+ghost use Rattle.edge_io.specs.Outside.{untold, unexposed_put};
 
 use crate::opened::{Opened, read_file};
 use crate::replacement::{Replacement, begin};
@@ -140,7 +140,7 @@ fn put_whole<R: Files + AllocGlobal>(rt: &R, name: &[u8], bytes: &[u8]) -> Resul
 impl<'a, R: Files + AllocGlobal> Shelf for DirShelf<'a, R> {
     ghost files = { λ _. untold };
 
-    ghost begun = { λ s. untold_put s.begun };
+    ghost begun = { λ s. unexposed_put s.begun };
 
     ghost faults = { λ s. s.faults };
 

@@ -1,6 +1,6 @@
 // Faults by call number, for the objects in memory.
 ghost use Rattle.std.specs.Prelude.{◌≡◌, ◌≤◌, MatchBool};
-ghost use Rattle.edge_io.specs.Causes.{Rose};
+ghost use Rattle.edge_io.specs.Causes.{HasIncreased};
 ghost use Rattle.edge_io.specs.Injection.{fresh, fails_next, after_call};
 
 use std::marker::Model;
@@ -38,7 +38,7 @@ impl FaultPlan {
         ensures fails { result ≡ fails_next self.old }
         ensures counted { self.new ≡ after_call self.old }
         ensures later { self.old.faults ≤ self.new.faults }
-        ensures faults { MatchBool result (Rose self.old.faults self.new.faults) (self.new.faults ≡ self.old.faults) }
+        ensures faults { MatchBool result (HasIncreased self.old.faults self.new.faults) (self.new.faults ≡ self.old.faults) }
     {
         self.calls = self.calls.saturating_add(1);
         let fails = self.failing.contains(&self.calls);

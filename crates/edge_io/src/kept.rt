@@ -3,9 +3,9 @@ ghost use Rattle.std.specs.Prelude.{◌≡◌, ◌≢◌, ◌≤◌, ◌<◌, �
 ghost use Rattle.std.specs.List.{list_any};
 ghost use Rattle.std.specs.Str.{bytes_eq};
 ghost use Rattle.edge_io.specs.Files.{AllowsReads, AllowsWrites, DeniesReads, DeniesWrites, HasPiece, KeepsOthers, LacksFile, close_file, file_of, open_files, put_entry, put_file, writes_closed};
-ghost use Rattle.edge_io.specs.Told.{told, told_names};
+ghost use Rattle.edge_io.specs.Exposed.{entries_of, exposed_names};
 
-use crate::front::copy_front;
+use crate::prefix::copy_prefix;
 use crate::{PutRefusal, ShelfRefusal};
 use std::alloc::{AllocError, Global};
 use std::marker::Model;
@@ -20,11 +20,11 @@ pub struct KeptFiles {
 
 impl Model for KeptFiles {
     ghost use Rattle.edge_io.specs.Files.{Files};
-    ghost use Rattle.edge_io.specs.Told.{told, told_names};
+    ghost use Rattle.edge_io.specs.Exposed.{entries_of, exposed_names};
 
     ghost Value = { Files };
 
-    ghost view = { λ k. record { entries = told k.files.items; no_reads = told_names k.no_reads.items; no_writes = told_names k.no_writes.items } };
+    ghost view = { λ k. record { entries = entries_of k.files.items; no_reads = exposed_names k.no_reads.items; no_writes = exposed_names k.no_writes.items } };
 }
 
 fn bytes_from(bytes: &[u8], from: u64) -> &[u8]
@@ -38,7 +38,7 @@ fn bytes_from(bytes: &[u8], from: u64) -> &[u8]
     }
 }
 
-fn place_of(files: &[(Vec<u8>, Vec<u8>)], name: &[u8]) -> Option<usize>
+fn index_of(files: &[(Vec<u8>, Vec<u8>)], name: &[u8]) -> Option<usize>
     ensures { result ≡ position (λ file. bytes_eq file.0.items name.now) files.now }
 {
     files.iter().position(|file| file.0.as_slice() == name)
@@ -56,10 +56,10 @@ fn put_bytes(
     name: &[u8],
     bytes: &[u8],
 ) -> Result<(), AllocError>
-    ensures whole { OnOk result (told files.new.items ≡ put_entry (told files.old.items) name.now bytes.now) }
-    ensures refused { OnErr result (told files.new.items ≡ told files.old.items) }
+    ensures whole { OnOk result (entries_of files.new.items ≡ put_entry (entries_of files.old.items) name.now bytes.now) }
+    ensures refused { OnErr result (entries_of files.new.items ≡ entries_of files.old.items) }
 {
-    let place = place_of(files, name);
+    let place = index_of(files, name);
     let alloc = *files.allocator();
     let bytes = Vec::from_slice(alloc, bytes)?;
     match place {
@@ -75,7 +75,7 @@ fn put_bytes(
 impl KeptFiles {
     /// Files with these names and bytes, none of them closed.
     pub fn new(files: Vec<(Vec<u8>, Vec<u8>)>) -> KeptFiles
-        ensures { result ≡ open_files (told files.items) }
+        ensures { result ≡ open_files (entries_of files.items) }
     {
         let alloc = *files.allocator();
         KeptFiles {
@@ -101,7 +101,7 @@ impl KeptFiles {
     pub fn file(&self, name: &[u8]) -> Option<&[u8]>
         ensures { option_map (λ bytes. bytes.now) result ≡ file_of self.now name.now }
     {
-        match place_of(&self.files, name) {
+        match index_of(&self.files, name) {
             Some(place) => Some(&self.files[place].1),
             None => None,
         }
@@ -132,7 +132,7 @@ impl KeptFiles {
             return Err(ShelfRefusal::Denied);
         }
         let rest = bytes_from(bytes, from);
-        Ok(copy_front(&rest[..rest.len().min(most)], into))
+        Ok(copy_prefix(&rest[..rest.len().min(most)], into))
     }
 
     /// Sets the bytes of a file. A new name goes last.

@@ -36,13 +36,13 @@
 mod begun;
 mod buffered;
 mod folder;
-mod front;
 mod injection;
 mod kept;
 mod memory;
 mod opened;
 mod outside;
 mod paths;
+mod prefix;
 mod repeat;
 mod replacement;
 mod sure;

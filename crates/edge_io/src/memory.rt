@@ -6,12 +6,12 @@ ghost use Rattle.std.specs.Io.KnownBytes.{Keeps, ReadConsumes, WriteAppends};
 ghost use Rattle.edge_io.specs.Causes.{HasCause, HasPutCause, HasShelfCause, HasWriteCause, one_more};
 ghost use Rattle.edge_io.specs.Files.{AllowsReads, AllowsWrites, DeniesReads, DeniesWrites, HasPiece, IsPutTo, KeepsOthers, LacksFile, close_file, file_of, open_files, put_file};
 ghost use Rattle.edge_io.specs.Injection.{fresh, fails_next, after_call};
-ghost use Rattle.edge_io.specs.Told.{told};
+ghost use Rattle.edge_io.specs.Exposed.{entries_of};
 
 use crate::begun::Begun;
-use crate::front::copy_front;
 use crate::injection::FaultPlan;
 use crate::kept::KeptFiles;
+use crate::prefix::copy_prefix;
 use crate::{Failed, PutRefusal, Shelf, ShelfRefusal, Sink, Source, WriteRefusal};
 use std::alloc::{AllocError, Global};
 use std::marker::Model;
@@ -70,7 +70,7 @@ impl Source for MemSource {
             return Err(Failed);
         }
         let rest = &self.bytes[self.place..];
-        let count = copy_front(&rest[..rest.len().min(self.piece)], into);
+        let count = copy_prefix(&rest[..rest.len().min(self.piece)], into);
         self.place += count;
         Ok(count)
     }
@@ -189,7 +189,7 @@ impl MemShelf {
     /// over the calls of all its methods that read or write.
     pub fn new(files: Vec<(Vec<u8>, Vec<u8>)>, piece: usize, failing: Vec<u64>) -> MemShelf
         requires { 0 < piece }
-        ensures { result ≡ record { files = open_files (told files.items); begun = None; piece = piece; injection = fresh failing.items; wants = 0 } }
+        ensures { result ≡ record { files = open_files (entries_of files.items); begun = None; piece = piece; injection = fresh failing.items; wants = 0 } }
     {
         MemShelf {
             files: KeptFiles::new(files),

@@ -46,7 +46,7 @@ fn is_below_devices(path: Path<'_>) -> bool {
 }
 
 /// Whether the path lies below /dev or /proc. Links in the path of its folder are followed.
-fn lies_with_devices<R: Files + AllocGlobal>(rt: &R, path: Path<'_>) -> io::Result<bool> {
+fn is_device_path<R: Files + AllocGlobal>(rt: &R, path: Path<'_>) -> io::Result<bool> {
     match repeated(|| fs::canonicalize(rt, folder_of(path))) {
         Ok(folder) => Ok(is_below_devices(folder.as_path())),
         Err(error) if error.kind() == ErrorKind::OutOfMemory => Err(error),
@@ -70,7 +70,7 @@ fn now_at(found: Metadata) -> io::Result<Now> {
 pub fn find_target<R: Files + AllocGlobal>(rt: &R, name: &str) -> io::Result<Target> {
     let mut path = PathBuf::from_str(rt.alloc(), name)?;
     for _ in 0..=MAX_LINKS {
-        if lies_with_devices(rt, path.as_path())? {
+        if is_device_path(rt, path.as_path())? {
             return Ok(Target {
                 path,
                 now: Now::Device,

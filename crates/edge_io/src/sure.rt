@@ -4,11 +4,11 @@ ghost use Rattle.std.specs.Io.{ReadsAtMost};
 ghost use Rattle.std.specs.Io.KnownBytes.{Keeps, ReadConsumes, WriteAppends};
 ghost use Rattle.edge_io.specs.Causes.{HasCause, HasPutCause, HasShelfCause, HasWriteCause, one_more};
 ghost use Rattle.edge_io.specs.Files.{AllowsReads, AllowsWrites, DeniesReads, DeniesWrites, HasPiece, IsPutTo, KeepsOthers, LacksFile, file_of, open_files, put_file};
-ghost use Rattle.edge_io.specs.Told.{told};
+ghost use Rattle.edge_io.specs.Exposed.{entries_of};
 
 use crate::begun::Begun;
-use crate::front::copy_front;
 use crate::kept::KeptFiles;
+use crate::prefix::copy_prefix;
 use crate::{Failed, PutRefusal, Shelf, ShelfRefusal, Sink, Source, WriteRefusal};
 use std::alloc::Global;
 use std::marker::Model;
@@ -51,7 +51,7 @@ impl Source for SureSource {
         ensures cause { HasCause 0 0 result }
         ensures sure { IsOk result }
     {
-        let count = copy_front(&self.bytes[self.place..], into);
+        let count = copy_prefix(&self.bytes[self.place..], into);
         self.place += count;
         Ok(count)
     }
@@ -148,7 +148,7 @@ impl Model for SureShelf {
 impl SureShelf {
     /// A file store with these names and bytes.
     pub fn new(files: Vec<(Vec<u8>, Vec<u8>)>) -> SureShelf
-        ensures { result ≡ record { files = open_files (told files.items); begun = None; wants = 0 } }
+        ensures { result ≡ record { files = open_files (entries_of files.items); begun = None; wants = 0 } }
     {
         SureShelf {
             files: KeptFiles::new(files),

@@ -42,11 +42,11 @@ pub named_is : (word : List ℕ) (k : Operation) → operation_named word ≡ So
 named_is word k e = sym ((bytes_eq-Decides (word_of k) word).0 (found word (op.Concat ∷ op.Extract ∷ op.Delete ∷ op.Insert ∷ op.Copy ∷ []) k e))
 
 -- a document, or an operation with its operands
-pub data Front (depth : ℕ) (others : List (List ℕ)) (text : List ℕ) : Type 0 where
-  document : (name rest : List ℕ) → is_name name ≡ true → trimmed text ≡ name ++ rest → AreTokens others rest → Front depth others text
-  operation : (k : Operation) (a b : List ℕ) → trimmed text ≡ word_of k ++ a → trimmed a ≡ 40 ∷ b → 1 ≤ depth → IsInside k (depth - 1) (codes ")" ∷ others) b → Front depth others text
+pub data ParsedPrefix (depth : ℕ) (others : List (List ℕ)) (text : List ℕ) : Type 0 where
+  document : (name rest : List ℕ) → is_name name ≡ true → trimmed text ≡ name ++ rest → AreTokens others rest → ParsedPrefix depth others text
+  operation : (k : Operation) (a b : List ℕ) → trimmed text ≡ word_of k ++ a → trimmed a ≡ 40 ∷ b → 1 ≤ depth → IsInside k (depth - 1) (codes ")" ∷ others) b → ParsedPrefix depth others text
 
-front_of : (e : Expr) (depth : ℕ) (others : List (List ℕ)) (text : List ℕ) → Fits depth e → AreTokens (tokens e others) text → Front depth others text
+front_of : (e : Expr) (depth : ℕ) (others : List (List ℕ)) (text : List ℕ) → Fits depth e → AreTokens (tokens e others) text → ParsedPrefix depth others text
 front_of (Doc name) depth others text fits (a, word, t) = document name a fits.0 word t
 front_of (Concat' p l q r) depth others text fits (a, word, (b, sign, t)) =
     operation op.Concat a b word sign (omega (arith, fits.1)) (l, r, (fits.0.0, omega (arith, fits.1)), (fits.0.1, omega (arith, fits.1)), t)
@@ -72,7 +72,7 @@ module _ (e : Expr) (depth : ℕ) (others : List (List ℕ)) (text word rest : L
   pub document_there : ((r : List ℕ) → trimmed rest ≡ 40 ∷ r → ⊥) → (is_name word ≡ true) × AreTokens others rest
   document_there shut = by (front_of e depth others text fits written)
     where
-      by : Front depth others text → (is_name word ≡ true) × AreTokens others rest
+      by : ParsedPrefix depth others text → (is_name word ≡ true) × AreTokens others rest
       by (document name a h is t) = let same = same_name name a h is t in (ap is_name same.0 ∙ h, subst (AreTokens others) (sym same.1) t)
       by (operation k a b is sign some inside) = absurd (shut b (ap trimmed (same_call k a b is sign).1 ∙ sign))
 
@@ -80,7 +80,7 @@ module _ (e : Expr) (depth : ℕ) (others : List (List ℕ)) (text word rest : L
   pub operation_there : (behind : List ℕ) → trimmed rest ≡ 40 ∷ behind → (k : Operation) × (operation_named word ≡ Some k) × (1 ≤ depth) × IsInside k (depth - 1) (codes ")" ∷ others) behind
   operation_there behind opened = by (front_of e depth others text fits written)
     where
-      by : Front depth others text → (k : Operation) × (operation_named word ≡ Some k) × (1 ≤ depth) × IsInside k (depth - 1) (codes ")" ∷ others) behind
+      by : ParsedPrefix depth others text → (k : Operation) × (operation_named word ≡ Some k) × (1 ≤ depth) × IsInside k (depth - 1) (codes ")" ∷ others) behind
       by (document name a h is t) = absurd (closing_shut others a behind closing t (ap trimmed (sym (same_name name a h is t).1) ∙ opened))
       by (operation k a b is sign some inside) =
           let same = same_call k a b is sign in

@@ -29,7 +29,7 @@ pub enum ExprRefusal {
 
 // A parsed prefix of a text, and the rest of the text.
 #[derive(Drop)]
-struct Front<'a> {
+struct ParsedPrefix<'a> {
     expr: Expr,
     rest: &'a [u8],
 }
@@ -60,7 +60,7 @@ pub fn read(alloc: Global, text: &[u8]) -> Result<Expr, ExprRefusal>
 
 // Parses an expression nested at most `depth` deep.
 #[cycle(exprs)]
-fn expression(alloc: Global, text: &[u8], depth: u8) -> Result<Front<'_>, ExprRefusal>
+fn expression(alloc: Global, text: &[u8], depth: u8) -> Result<ParsedPrefix<'_>, ExprRefusal>
     ensures ok { IfOk result (λ front. Fits depth front.expr × Begins (tokens front.expr) text.now front.rest.now) }
     ensures exact { (e : Expr) (others : List (List ℕ)) → Fits depth e → IsClosing others → AreTokens (tokens e others) text.now
         → MatchResult result (λ front. AreTokens others front.rest.now) (λ why. why ≡ ExprRefusal.NoMemory) }
@@ -68,7 +68,7 @@ fn expression(alloc: Global, text: &[u8], depth: u8) -> Result<Front<'_>, ExprRe
     let (word, rest) = word_at(text);
     let Some(inside) = sign_at(rest, b'(') else {
         let expr = document(alloc, word)?;
-        return Ok(Front { expr, rest });
+        return Ok(ParsedPrefix { expr, rest });
     };
     let Some(operation) = operation_of(word) else {
         return Err(ExprRefusal::Syntax);
@@ -80,7 +80,7 @@ fn expression(alloc: Global, text: &[u8], depth: u8) -> Result<Front<'_>, ExprRe
     let Some(rest) = sign_at(front.rest, b')') else {
         return Err(ExprRefusal::Syntax);
     };
-    Ok(Front {
+    Ok(ParsedPrefix {
         expr: front.expr,
         rest,
     })
@@ -105,7 +105,7 @@ fn arguments(
     operation: Operation,
     text: &[u8],
     depth: u8,
-) -> Result<Front<'_>, ExprRefusal>
+) -> Result<ParsedPrefix<'_>, ExprRefusal>
     ensures ok { IfOk result (λ front. Fits (depth + 1) front.expr
         × ((whole : List ℕ) → Opens operation whole text.now
         → (others : List (List ℕ)) → AreTokens (codes ")" ∷ others) front.rest.now → AreTokens (tokens front.expr others) whole)) }
@@ -116,7 +116,7 @@ fn arguments(
         Operation::Concat => {
             let (left, right, rest) = two(alloc, text, depth)?;
             let expr = Expr::Concat(left, right);
-            Ok(Front { expr, rest })
+            Ok(ParsedPrefix { expr, rest })
         }
         Operation::Insert => {
             let (into, what, rest) = two(alloc, text, depth)?;
@@ -124,17 +124,17 @@ fn arguments(
                 return Err(ExprRefusal::Syntax);
             };
             let expr = Expr::Insert(into, what, k);
-            Ok(Front { expr, rest })
+            Ok(ParsedPrefix { expr, rest })
         }
         Operation::Extract => {
             let (from, i, j, rest) = range(alloc, text, depth)?;
             let expr = Expr::Extract(from, i, j);
-            Ok(Front { expr, rest })
+            Ok(ParsedPrefix { expr, rest })
         }
         Operation::Delete => {
             let (from, i, j, rest) = range(alloc, text, depth)?;
             let expr = Expr::Delete(from, i, j);
-            Ok(Front { expr, rest })
+            Ok(ParsedPrefix { expr, rest })
         }
         Operation::Copy => {
             let (from, i, j, rest) = range(alloc, text, depth)?;
@@ -142,7 +142,7 @@ fn arguments(
                 return Err(ExprRefusal::Syntax);
             };
             let expr = Expr::Copy(from, i, j, k);
-            Ok(Front { expr, rest })
+            Ok(ParsedPrefix { expr, rest })
         }
     }
 }

@@ -112,7 +112,7 @@ fn star(alloc: Global, part: &[u8], times: u32, end: &[u8]) -> Result<Vec<u8>, A
     Ok(text)
 }
 
-fn tell(rt: &HostRuntime, name: &str, states: Option<u16>, took: Duration) -> io::Result<()> {
+fn report(rt: &HostRuntime, name: &str, states: Option<u16>, took: Duration) -> io::Result<()> {
     let took = took.as_micros();
     match states {
         Some(states) => eprintln!(rt; "  {name}: {states} states in {took} us"),
@@ -137,8 +137,8 @@ fn measure_union(rt: &HostRuntime, left: &Query, right: &Query, most: u16) -> io
     );
     let took = start.elapsed(rt)?;
     match made {
-        Ok((dfa, _)) => tell(rt, "union", Some(dfa.states()), took),
-        Err(_) => tell(rt, "union", None, took),
+        Ok((dfa, _)) => report(rt, "union", Some(dfa.states()), took),
+        Err(_) => report(rt, "union", None, took),
     }
 }
 
@@ -159,8 +159,8 @@ fn measure_join(rt: &HostRuntime, left: &Query, right: &Query, most: u16) -> io:
     );
     let took = start.elapsed(rt)?;
     match made {
-        Ok((dfa, _)) => tell(rt, "join", Some(dfa.states()), took),
-        Err(_) => tell(rt, "join", None, took),
+        Ok((dfa, _)) => report(rt, "join", Some(dfa.states()), took),
+        Err(_) => report(rt, "join", None, took),
     }
 }
 
@@ -174,8 +174,8 @@ fn measure_project(rt: &HostRuntime, source: &Query, keep: &Query, most: u16) ->
     let made = project_within(rt.alloc(), &source.dfa, &source.names, &keep.names, most);
     let took = start.elapsed(rt)?;
     match made {
-        Ok(dfa) => tell(rt, "project", Some(dfa.states()), took),
-        Err(_) => tell(rt, "project", None, took),
+        Ok(dfa) => report(rt, "project", Some(dfa.states()), took),
+        Err(_) => report(rt, "project", None, took),
     }
 }
 

@@ -1,7 +1,7 @@
 -- What a formula's words say is read by a walk over its positions.
 use Rattle.std.proofs.Common.{◌≡◌, ℕ, ◌+◌, ◌<◌, ◌≤◌, Bool, inl, inr, refl, sym, ap, subst, ◌∙◌, arith, List}
 use Rattle.span_types.specs.FormulaTree.{FormulaTree, Set, Empty, Cat, Alt, Star, Plus, Opt, Capture, sets}
-use Rattle.span_types.specs.Marks.{at_place, opening, closing}
+use Rattle.span_types.specs.Marks.{at_position, opening, closing}
 use Rattle.span_types.specs.Fits.{Turns, done, more}
 use Rattle.formula_law.specs.Positions.{HasSet, IsNull, IsFirst, IsLast, IsFollow}
 use Rattle.formula_law.proofs.Sums.{IsZero, IsSum, IsInside, zeros, zeros_path, at_same, at_other}
@@ -29,7 +29,7 @@ module _ (A : ℕ → List Bool → Type 0) where
   words_le (Opt a) i j u (inr h) = words_le a i j u h
   words_le (Capture x a) i j u h = words_le a i j h.inner h.within
 
-  around_inside : (x i j : ℕ) (u v : ℕ → ℕ) → i ≤ j → ((p : ℕ) → u p ≡ at_place i (opening x) p + at_place j (closing x) p + v p) → IsInside i j v → IsInside i j u
+  around_inside : (x i j : ℕ) (u v : ℕ → ℕ) → i ≤ j → ((p : ℕ) → u p ≡ at_position i (opening x) p + at_position j (closing x) p + v p) → IsInside i j v → IsInside i j u
   around_inside x i j u v le s d = record {
     below = λ p h.
         let n : p ≡ i → ⊥ = omega arith in
@@ -181,10 +181,10 @@ module _ (A : ℕ → List Bool → Type 0) where
       inr (path_null a b n i j u v w s (subst D q.same e) (subst N q.same q.null) (subst P q.same p))
   then_runs a b n i m j u v w s d e (inr p) (inr q) = inr (path_path a b n i m j u v w s d e p q)
 
-  named_runs : (x : ℕ) (a : FormulaTree) (n i j : ℕ) (u v : ℕ → ℕ) → ((p : ℕ) → u p ≡ at_place i (opening x) p + at_place j (closing x) p + v p) → Runs A a n i j v → Runs A (Capture x a) n i j u
+  named_runs : (x : ℕ) (a : FormulaTree) (n i j : ℕ) (u v : ℕ → ℕ) → ((p : ℕ) → u p ≡ at_position i (opening x) p + at_position j (closing x) p + v p) → Runs A a n i j v → Runs A (Capture x a) n i j u
   named_runs x a n i j u v s (inl p) =
       let here = at_same i (opening x) in
-      let there : at_place j (closing x) i ≡ closing x = ap (at_place j (closing x)) p.same ∙ at_same j (closing x) in
+      let there : at_position j (closing x) i ≡ closing x = ap (at_position j (closing x)) p.same ∙ at_same j (closing x) in
       inl (record { same = p.same; null = (v i, p.null, omega (arith, s i, here, there)) })
   named_runs x a n i j u v s (inr p) =
       let lt = path_less a n i j v p in

@@ -2,7 +2,7 @@
 use Rattle.std.proofs.Common.{◌≡◌, ℕ, suc, ◌+◌, ◌<◌, ◌≤◌, Bool, ◌==◌, ◌⊎◌, inl, inr, refl, sym, ap, subst, ◌∙◌, arith, List, if◌then◌else◌}
 use Rattle.std.proofs.lemmas.Bool.Decides.{nat_tests}
 use Rattle.span_types.specs.FormulaTree.{FormulaTree, Set, Empty, Cat, Alt, Star, Plus, Opt, Capture, sets}
-use Rattle.span_types.specs.Marks.{at_place, opening, closing}
+use Rattle.span_types.specs.Marks.{at_position, opening, closing}
 use Rattle.span_types.specs.Fits.{Turns, done, more}
 use Rattle.formula_law.specs.Positions.{HasSet, IsNull, IsFirst, IsLast, Joins, IsFollow}
 use Rattle.formula_law.proofs.Ranges.{InRange, apart, set_range, first_range, last_range, follow_range, NoVars, null_zero, first_zero, last_zero, follow_zero}
@@ -49,15 +49,15 @@ bordered_else : (u : ℕ → ℕ) (i y j z p : ℕ) → (p ≡ i → ⊥) → (p
 bordered_else u i y j z p n m = grind (arith, nat_tests)
 
 -- the sum around two borders, by where the position lies
-bordered_sum : (u : ℕ → ℕ) (i y j z x c : ℕ) → i < j → u i ≡ x + y → u j ≡ z + c → (p : ℕ) → u p ≡ at_place i x p + at_place j c p + bordered u i y j z p
+bordered_sum : (u : ℕ → ℕ) (i y j z x c : ℕ) → i < j → u i ≡ x + y → u j ≡ z + c → (p : ℕ) → u p ≡ at_position i x p + at_position j c p + bordered u i y j z p
 bordered_sum u i y j z x c lt e g p = grind (arith, nat_tests)
 
-single_sum : (u : ℕ → ℕ) (i y x c : ℕ) → IsInside i i u → u i ≡ x + c + y → (p : ℕ) → u p ≡ at_place i x p + at_place i c p + at_place i y p
+single_sum : (u : ℕ → ℕ) (i y x c : ℕ) → IsInside i i u → u i ≡ x + c + y → (p : ℕ) → u p ≡ at_position i x p + at_position i c p + at_position i y p
 single_sum u i y x c d e p = go (three p i)
   where
-    go : (p < i) ⊎ ((p ≡ i) ⊎ (i < p)) → u p ≡ at_place i x p + at_place i c p + at_place i y p
+    go : (p < i) ⊎ ((p ≡ i) ⊎ (i < p)) → u p ≡ at_position i x p + at_position i c p + at_position i y p
     go (inl h) = let n : p ≡ i → ⊥ = omega arith in omega (arith, d.below p h, at_other i x p n, at_other i c p n, at_other i y p n)
-    go (inr (inl h)) = ap u h ∙ omega (arith, e, at_same i x, at_same i c, at_same i y) ∙ sym (ap (λ q. at_place i x q + at_place i c q + at_place i y q) h)
+    go (inr (inl h)) = ap u h ∙ omega (arith, e, at_same i x, at_same i c, at_same i y) ∙ sym (ap (λ q. at_position i x q + at_position i c q + at_position i y q) h)
     go (inr (inr h)) = let n : p ≡ i → ⊥ = omega arith in omega (arith, d.above p h, at_other i x p n, at_other i c p n, at_other i y p n)
 
 module _ (A : ℕ → List Bool → Type 0) where
@@ -486,7 +486,7 @@ module _ (A : ℕ → List Bool → Type 0) where
   record Inner (x : ℕ) (a : FormulaTree) (n i j : ℕ) (u : ℕ → ℕ) : Type 0 where
     marks : ℕ → ℕ
     inside : IsInside i j marks
-    sum : (p : ℕ) → u p ≡ at_place i (opening x) p + at_place j (closing x) p + marks p
+    sum : (p : ℕ) → u p ≡ at_position i (opening x) p + at_position j (closing x) p + marks p
     runs : Runs A a n i j marks
 
   named_inner : (x : ℕ) (a : FormulaTree) (n i j : ℕ) (u : ℕ → ℕ) → IsInside i j u → Runs A (Capture x a) n i j u → Inner x a n i j u
@@ -494,9 +494,9 @@ module _ (A : ℕ → List Bool → Type 0) where
       let y = h.null.0 in
       let N : ℕ → Type 0 = λ m. IsNull a m in
       let D : ℕ → Type 0 = λ m. IsInside i m u in
-      let S : ℕ → Type 0 = λ m. (p : ℕ) → u p ≡ at_place i (opening x) p + at_place m (closing x) p + at_place i y p in
+      let S : ℕ → Type 0 = λ m. (p : ℕ) → u p ≡ at_position i (opening x) p + at_position m (closing x) p + at_position i y p in
       record {
-        marks = at_place i y;
+        marks = at_position i y;
         inside = record {
           below = λ p k. at_other i y p (λ e. absurd (omega arith));
           above = λ p k. at_other i y p (λ e. absurd (omega (arith, h.same)));

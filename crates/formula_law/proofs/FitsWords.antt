@@ -3,7 +3,7 @@ use Rattle.std.proofs.Common.{◌≡◌, ℕ, zero, suc, ◌+◌, ◌<◌, ◌�
 use Rattle.std.proofs.lemmas.Bool.Decides.{eqb_tells}
 use Rattle.span_types.specs.declared.tuple.Span.{Span}
 use Rattle.span_types.specs.FormulaTree.{FormulaTree, Set, Empty, Cat, Alt, Star, Plus, Opt, Capture, has_var}
-use Rattle.span_types.specs.Marks.{Spans, at_place, opening, closing, part_of, mark, LiesIn}
+use Rattle.span_types.specs.Marks.{Spans, at_position, opening, closing, part_of, mark, LiesIn}
 use Rattle.span_types.specs.Fits.{ByteIn, Turns, done, more, NoSpans, IsWithin, on_vars, without, FitsIn}
 use Rattle.formula_law.specs.Law.{VarsBelow}
 use Rattle.formula_law.proofs.Ranges.{NoVars, or_left, or_right}
@@ -41,10 +41,10 @@ mark_keep x t (suc k) p le =
     let g : part_of k (without x t k) p ≡ part_of k (t k) p = ap (λ b. part_of k (if b then None else t k) p) d in
     omega (arith, e, g)
 
-mark_without_step : (x i j : ℕ) (t : Spans) → t x ≡ Some (record { start = i; end = j }) → (k p : ℕ) → x < suc k → (x < k → mark k t p ≡ at_place i (opening x) p + at_place j (closing x) p + mark k (without x t) p) → ((x == k ≡ true) × (x ≡ k)) ⊎ ((x == k ≡ false) × (x ≡ k → ⊥)) → mark (suc k) t p ≡ at_place i (opening x) p + at_place j (closing x) p + mark (suc k) (without x t) p
+mark_without_step : (x i j : ℕ) (t : Spans) → t x ≡ Some (record { start = i; end = j }) → (k p : ℕ) → x < suc k → (x < k → mark k t p ≡ at_position i (opening x) p + at_position j (closing x) p + mark k (without x t) p) → ((x == k ≡ true) × (x ≡ k)) ⊎ ((x == k ≡ false) × (x ≡ k → ⊥)) → mark (suc k) t p ≡ at_position i (opening x) p + at_position j (closing x) p + mark (suc k) (without x t) p
 mark_without_step x i j t h k p lt rec (inl e) =
     let kept = mark_keep x t k p (omega (arith, e.1)) in
-    let here : part_of k (t k) p ≡ at_place i (opening x) p + at_place j (closing x) p = ap (λ n. part_of n (t n) p) (sym e.1) ∙ ap (λ o. part_of x o p) h in
+    let here : part_of k (t k) p ≡ at_position i (opening x) p + at_position j (closing x) p = ap (λ n. part_of n (t n) p) (sym e.1) ∙ ap (λ o. part_of x o p) h in
     let gone : part_of k (without x t k) p ≡ 0 = ap (λ b. part_of k (if b then None else t k) p) e.0 in
     omega (arith, kept, here, gone)
 mark_without_step x i j t h k p lt rec (inr e) =
@@ -56,7 +56,7 @@ mark_without_step x i j t h k p lt rec (inr e) =
     lower : (x ≡ k → ⊥) → x < k
     lower ne = grind arith
 
-mark_without : (x i j : ℕ) (t : Spans) → t x ≡ Some (record { start = i; end = j }) → (k p : ℕ) → x < k → mark k t p ≡ at_place i (opening x) p + at_place j (closing x) p + mark k (without x t) p
+mark_without : (x i j : ℕ) (t : Spans) → t x ≡ Some (record { start = i; end = j }) → (k p : ℕ) → x < k → mark k t p ≡ at_position i (opening x) p + at_position j (closing x) p + mark k (without x t) p
 mark_without x i j t h zero p lt = absurd (omega arith)
 mark_without x i j t h (suc k) p lt = mark_without_step x i j t h k p lt (λ l. mark_without x i j t h k p l) (eqb_tells x k)
 
@@ -261,7 +261,7 @@ module _ (s : List ℕ) (k : ℕ) where
       go true e = here (record { start = i; end = j }) (some_is _ q e) (omega arith, le, omega arith)
       go false e = l v q e
 
-  named_found : (x : ℕ) (a : FormulaTree) (i j : ℕ) (u v : ℕ → ℕ) → x < k → has_var a x ≡ false → i ≤ j → ((p : ℕ) → u p ≡ at_place i (opening x) p + at_place j (closing x) p + v p) → Found a i j v → Found (Capture x a) i j u
+  named_found : (x : ℕ) (a : FormulaTree) (i j : ℕ) (u v : ℕ → ℕ) → x < k → has_var a x ≡ false → i ≤ j → ((p : ℕ) → u p ≡ at_position i (opening x) p + at_position j (closing x) p + v p) → Found a i j v → Found (Capture x a) i j u
   named_found x a i j u v lt absent le sum h =
       let t = with_span x i j h.spans in
       let here = with_here x i j h.spans in

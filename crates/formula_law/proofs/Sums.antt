@@ -1,7 +1,7 @@
 -- Functions from positions to marks, and their sums.
 use Rattle.std.proofs.Common.{◌≡◌, ℕ, ◌+◌, ◌<◌, nat_lt, ◌⊎◌, inl, inr, sym, ap, ◌∙◌, arith, if◌then◌else◌}
 use Rattle.std.proofs.lemmas.Bool.Decides.{nat_tests}
-use Rattle.span_types.specs.Marks.{at_place}
+use Rattle.span_types.specs.Marks.{at_position}
 
 pub record IsZero (u : ℕ → ℕ) : Type 0 where
   pub at : (p : ℕ) → u p ≡ 0
@@ -20,19 +20,19 @@ zeros p = 0
 pub zeros_path : (u : ℕ → ℕ) → IsZero u → u ≡ zeros
 zeros_path u z = λ i p. z.at p i
 
-pub at_same : (i x : ℕ) → at_place i x i ≡ x
+pub at_same : (i x : ℕ) → at_position i x i ≡ x
 at_same i x = grind (arith, nat_tests)
 
-pub at_other : (i x p : ℕ) → (p ≡ i → ⊥) → at_place i x p ≡ 0
+pub at_other : (i x p : ℕ) → (p ≡ i → ⊥) → at_position i x p ≡ 0
 at_other i x p n = grind (arith, nat_tests)
 
 -- the marks before a position, and one at it
 abbrev pub front : (ℕ → ℕ) → ℕ → ℕ → ℕ → ℕ
-front u m x p = if nat_lt p m then u p else at_place m x p
+front u m x p = if nat_lt p m then u p else at_position m x p
 
 -- the marks after a position, and one at it
 abbrev pub back : (ℕ → ℕ) → ℕ → ℕ → ℕ → ℕ
-back u m x p = if nat_lt m p then u p else at_place m x p
+back u m x p = if nat_lt m p then u p else at_position m x p
 
 pub front_before : (u : ℕ → ℕ) (m x p : ℕ) → p < m → front u m x p ≡ u p
 front_before u m x p h = grind (arith, nat_tests)

@@ -4,11 +4,11 @@ use Rattle.std.proofs.lemmas.Bool.{cases_lt}
 use Rattle.span_types.specs.declared.tuple.Span.{Span}
 use Rattle.span_types.specs.FormulaTree.{FormulaTree}
 use Rattle.span_types.specs.Places.{AreSpans}
-use Rattle.span_types.specs.Marks.{Spans, spans_of, part_of, mark, LiesIn, Lies, at_place, opening, closing}
+use Rattle.span_types.specs.Marks.{Spans, spans_of, part_of, mark, LiesIn, Lies, at_position, opening, closing}
 use Rattle.span_types.specs.Marks as marks
 use Rattle.span_types.specs.Fits.{IsWithin, Fits}
 use Rattle.span_types.specs.Words.{word_from}
-use Rattle.span_types.specs.Laws.{MarksTell, Pieces}
+use Rattle.span_types.specs.Laws.{MarksDetermine, Pieces}
 use Rattle.formula_law.specs.Accepts.{MarkedText, Accepts, marked_by, marked_text}
 use Rattle.formula_law.specs.Law.{VarsBelow, IsAnswerText, IsTupleText, AcceptsTuples, FitsAccepted, MarkedWord}
 use Rattle.formula_law.proofs.Sums.{IsInside, at_other}
@@ -98,8 +98,8 @@ part-outside : (i j v p : ℕ) (o : Option Span) → ((q : Span) → o ≡ Some 
 part-outside i j v p None l out = refl
 part-outside i j v p (Some q) l out =
     let h = l q refl in
-    let a : at_place q.start (opening v) p ≡ 0 = at_other q.start (opening v) p (λ e. apart out h (omega (arith, h, e))) in
-    let b : at_place q.end (closing v) p ≡ 0 = at_other q.end (closing v) p (λ e. apart out h (omega (arith, h, e))) in
+    let a : at_position q.start (opening v) p ≡ 0 = at_other q.start (opening v) p (λ e. apart out h (omega (arith, h, e))) in
+    let b : at_position q.end (closing v) p ≡ 0 = at_other q.end (closing v) p (λ e. apart out h (omega (arith, h, e))) in
     omega (arith, a, b)
   where
     apart : (p < i) ⊎ (j < p) → (i ≤ q.start) × (q.start ≤ q.end) × (q.end ≤ j) → (i ≤ p) × (p ≤ j) → ⊥
@@ -132,11 +132,11 @@ marks-own u s h (suc p) = at (cases_lt (length s) p)
         ap (λ n. mark_of (word_from u 1 s) (u n) p) e ∙ marks-back u 1 s p le ∙ ap u g
 
 -- spans with the same marks
-same-by-marks : MarksTell → (f : FormulaTree) (s : List ℕ) (t : List (Option Span)) (u : Spans) → VarsBelow (length t) f → IsWithin f u → ((p : ℕ) → mark (length t) (spans_of t) p ≡ mark (length t) u p) → spans_of t ≡ u
+same-by-marks : MarksDetermine → (f : FormulaTree) (s : List ℕ) (t : List (Option Span)) (u : Spans) → VarsBelow (length t) f → IsWithin f u → ((p : ℕ) → mark (length t) (spans_of t) p ≡ mark (length t) u p) → spans_of t ≡ u
 same-by-marks tells f s t u below w h =
     same-spans (length t) (spans_of t) u (λ v lt. tells.tell (length t) (spans_of t) u h v lt) (spans-past t) (within-none f (length t) u w below)
 
-pub fits-accepted : MarksTell → FitsAccepted
+pub fits-accepted : MarksDetermine → FitsAccepted
 fits-accepted tells f s t fun below = (to, from)
   where
     to : Fits f s 1 (length s + 1) (spans_of t) → Lies (length s) t × Accepts f (marked_text s t)

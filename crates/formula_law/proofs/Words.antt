@@ -1,7 +1,7 @@
 -- The marks that a formula reads between two positions, by recursion on the formula.
 use Rattle.std.proofs.Common.{◌≡◌, ℕ, suc, ◌+◌, ◌≤◌, Bool, ◌⊎◌, List}
 use Rattle.span_types.specs.FormulaTree.{FormulaTree, Set, Empty, Cat, Alt, Star, Plus, Opt, Capture}
-use Rattle.span_types.specs.Marks.{at_place, opening, closing}
+use Rattle.span_types.specs.Marks.{at_position, opening, closing}
 use Rattle.span_types.specs.Fits.{Turns}
 use Rattle.formula_law.proofs.Sums.{IsZero, IsSum, zeros}
 
@@ -19,7 +19,7 @@ pub record Split (P Q : ℕ → ℕ → (ℕ → ℕ) → Type 0) (i j : ℕ) (u
 pub record Around (x : ℕ) (P : ℕ → ℕ → (ℕ → ℕ) → Type 0) (i j : ℕ) (u : ℕ → ℕ) : Type 0 where
   pub inner : ℕ → ℕ
   pub within : P i j inner
-  pub sum : (p : ℕ) → u p ≡ at_place i (opening x) p + at_place j (closing x) p + inner p
+  pub sum : (p : ℕ) → u p ≡ at_position i (opening x) p + at_position j (closing x) p + inner p
 
 module _ (A : ℕ → List Bool → Type 0) where
   abbrev pub Words : FormulaTree → ℕ → ℕ → (ℕ → ℕ) → Type 0

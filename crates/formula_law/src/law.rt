@@ -1,7 +1,7 @@
 //! The law, for spans and for tuples.
 ghost use Rattle.formula_law.specs.Law.{AcceptsAnswers, AcceptsTuples, FitsAccepted, MarkedWord};
 
-use span_types::law::{marks_tell, pieces};
+use span_types::law::{marks_determine, pieces};
 
 /// A formula's position automaton accepts exactly the texts with the marks of spans that fit.
 pub fn accepts_answers()
@@ -17,7 +17,7 @@ pub fn accepts_tuples()
 pub fn fits_accepted()
     ensures { FitsAccepted }
 {
-    marks_tell();
+    marks_determine();
 }
 
 /// The word of a tuple over a text and its end is its marked text.

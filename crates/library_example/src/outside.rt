@@ -92,11 +92,11 @@ impl Shipped {
 }
 
 impl Shelf for Shipped {
-    ghost use Rattle.edge_io.specs.Outside.{untold_put};
+    ghost use Rattle.edge_io.specs.Outside.{unexposed_put};
 
     ghost files = { λ _. None };
 
-    ghost begun = { λ s. untold_put s.begun };
+    ghost begun = { λ s. unexposed_put s.begun };
 
     ghost faults = { λ _. 0 };
 

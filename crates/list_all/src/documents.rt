@@ -9,7 +9,7 @@ ghost use Rattle.list_all.specs.Places.{HaveEach};
 
 use crate::finder::{FindPage, Finder};
 use crate::found::{OnePage, Pages};
-use crate::shared::{Shared, joined, place_of};
+use crate::shared::{Shared, joined, page_index};
 use doc_book::Docs;
 use indexmap::IndexSet;
 use marker_dfa::Dfa;
@@ -62,7 +62,7 @@ fn one_piece<F: FindPage, G: Gate>(
     let mut places = Vec::with_capacity(alloc, documents.roots.len())?;
     for (index, root) in documents.roots.iter().enumerate() {
         gate.pass(documents.first + index);
-        let place = place_of(alloc, finder, &mut seen, &mut found, *root)?;
+        let place = page_index(alloc, finder, &mut seen, &mut found, *root)?;
         places.push(place)?;
     }
     Ok(Shared { found, places })
@@ -157,7 +157,7 @@ fn first_piece<F: FindPage, G: Gate>(
         }
         gate.pass(documents.first + index);
         let before = found.len();
-        let place = place_of(alloc, finder, &mut seen, &mut found, *root)?;
+        let place = page_index(alloc, finder, &mut seen, &mut found, *root)?;
         places.push(place)?;
         if found.len() > before {
             cost = cost.saturating_add(last_cost(&found));

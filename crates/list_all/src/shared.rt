@@ -20,7 +20,7 @@ pub(crate) struct Shared {
 }
 
 /// The index of the root's page in `found`. If the root isn't in `seen`, its page is found now and put last.
-pub(crate) fn place_of<F: FindPage>(
+pub(crate) fn page_index<F: FindPage>(
     alloc: Global,
     finder: &F,
     seen: &mut IndexSet<Option<NodeId>>,

@@ -9,7 +9,7 @@ use Rattle.marker_dfa.specs.declared.classes.ByteClasses.{ByteClasses}
 use Rattle.marker_dfa.specs.declared.dfa.Cell.{Cell}
 use Rattle.marker_dfa.specs.declared.dfa.Row.{Row}
 use Rattle.marker_dfa.specs.Reached.{Subset, IsIn, IsMove, IsReached, start, next}
-use Rattle.marker_dfa.specs.Deterministic.{DeterministicAutomaton, AcceptsSame, AreTooMany, IsDeterministic, IsWide, StandsFor, and_then, cell_of, ends_in, ends_of, find_target, marks_in, marks_of, next_of}
+use Rattle.marker_dfa.specs.Deterministic.{DeterministicAutomaton, AcceptsSame, AreTooMany, IsDeterministic, IsWide, IsDeterminized, and_then, cell_of, ends_in, ends_of, find_target, marks_in, marks_of, next_of}
 use Rattle.marker_dfa.specs.Making.{AreAllRows, AreClasses, IsCell, IsFalling, IsFit, IsRow, IsTarget}
 use Rattle.marker_dfa.proofs.Lists.{contains_at, at_contains, get_within, one_value}
 use Rattle.marker_dfa.proofs.Tracks.{same_move, states_above, to_machine, to_path}
@@ -229,7 +229,7 @@ module _ (most : ℕ) (a : Automaton) (classes : ByteClasses) (rows : List Row) 
           (λ none. (let w = (mv.members p).0 i in absurd (stays k.0 m b x k.1 none w.0 p w.1 w.2)))
           (λ q g. (let t = goes k.0 m b q x k.1 g in (q, t.there ∙ ap Some (same_move a.states (Moves a) x t.members y m b t.move mv))))
 
-  pub stands_for : StandsFor a dfa
+  pub stands_for : IsDeterminized a dfa
   stands_for = record {
     subsets = h.subsets;
     states = sym h.all;

@@ -4,7 +4,7 @@ use Rattle.std.proofs.lemmas.Option.{slice_get-get_or}
 use Rattle.marker_nfa.specs.Automaton.{Automaton, Moves}
 use Rattle.marker_dfa.specs.Reached.{AreReached, Subset, IsIn, IsMove, IsReached, start, next, start_set}
 use Rattle.marker_dfa.specs.Deterministic.{AreTooMany}
-use Rattle.marker_dfa.specs.Making.{AreFound, Extends, HasNoRoom, IsPlaced, IsCell, IsFalling, IsTarget}
+use Rattle.marker_dfa.specs.Making.{AreFound, Extends, HasNoRoom, HasIndex, IsCell, IsFalling, IsTarget}
 use Rattle.marker_dfa.proofs.Lists.{get_push, push_get, push_last, get_within, at_contains}
 use Rattle.marker_dfa.proofs.Tracks.{single_size}
 
@@ -64,7 +64,7 @@ pub too_many : (most : ℕ) (a : Automaton) (old : List Subset) (x : Subset) →
 too_many most a old x f n r = record { subsets = old ++ x ∷ []; many = omega (arith, length-append old (x ∷ []), n.full); sets = push_reached a old x f.sets n.fresh r }
 
 -- the sets with one more at its index
-pub placed_found : (most : ℕ) (a : Automaton) (old new : List Subset) (x : Subset) (q : ℕ) → AreFound most a old → IsPlaced old new x q → IsReached a.states (Moves a) x → length x ≡ a.states → length new ≤ most → AreFound most a new
+pub placed_found : (most : ℕ) (a : Automaton) (old new : List Subset) (x : Subset) (q : ℕ) → AreFound most a old → HasIndex old new x q → IsReached a.states (Moves a) x → length x ≡ a.states → length new ≤ most → AreFound most a new
 placed_found most a old new x q f p r size few = go p.list
   where
     sizes' : (g : ℕ) (y : Subset) → (slice_get old g ≡ Some y) ⊎ ((g ≡ length old) × (x ≡ y)) → length y ≡ a.states
@@ -82,7 +82,7 @@ placed_found most a old new x q f p r size few = go p.list
         } in
         subst (AreFound most a) (sym e.0) pushed
 
-pub placed_extends : (old new : List Subset) (x : Subset) (q : ℕ) → IsPlaced old new x q → Extends old new
+pub placed_extends : (old new : List Subset) (x : Subset) (q : ℕ) → HasIndex old new x q → Extends old new
 placed_extends old new x q p = record { stays = λ s y h. go s y h p.list }
   where
     go : (s : ℕ) (y : Subset) → slice_get old s ≡ Some y → (new ≡ old) ⊎ ((new ≡ old ++ x ∷ []) × (q ≡ length old)) → slice_get new s ≡ Some y
@@ -149,7 +149,7 @@ module _ (most : ℕ) (a : Automaton) (alphabet : List ℕ) (b k : ℕ) (old mid
   pub step_refused : Cells most a alphabet x b k old mid ms ts → IsReached a.states (Moves a) x → IsMove a.states (Moves a) x (get_or alphabet k 0) b y → ((p : ℕ) × IsIn y p) → HasNoRoom most mid y → AreTooMany most a
   step_refused c r mv w full = too_many most a mid y c.found full (reached_move r mv w)
 
-  pub step_more : (new : List Subset) (q : ℕ) → Cells most a alphabet x b k old mid ms ts → IsFalling alphabet → k < length alphabet → IsReached a.states (Moves a) x → IsMove a.states (Moves a) x (get_or alphabet k 0) b y → ((p : ℕ) × IsIn y p) → IsPlaced mid new y q → length new ≤ most → Cells most a alphabet x b (k + 1) old new (ms ++ get_or alphabet k 0 ∷ []) (ts ++ q ∷ [])
+  pub step_more : (new : List Subset) (q : ℕ) → Cells most a alphabet x b k old mid ms ts → IsFalling alphabet → k < length alphabet → IsReached a.states (Moves a) x → IsMove a.states (Moves a) x (get_or alphabet k 0) b y → ((p : ℕ) × IsIn y p) → HasIndex mid new y q → length new ≤ most → Cells most a alphabet x b (k + 1) old new (ms ++ get_or alphabet k 0 ∷ []) (ts ++ q ∷ [])
   step_more new q c falls up r mv w placed few =
       let ext = placed_extends mid new y q placed in
       let target : IsTarget a new x (get_or alphabet k 0) b q = record { members = y; state = w.0; there = placed.there; move = mv; is_in = w.1 } in

@@ -2,7 +2,7 @@
 use Rattle.std.proofs.Common.{◌≡◌, ℕ, ◌+◌, ◌<◌, ◌≤◌, ◌⊎◌, inl, inr, refl, sym, ap, subst, ◌∙◌, arith, Bool, false, List, [], ◌∷◌, ◌++◌, length, length-append, Some, Contains, slice_get, slice_index_or}
 use Rattle.std.proofs.lemmas.Option.{slice_get-get_or, get_or_from_slice_get}
 use Rattle.marker_dfa.specs.declared.classes.ByteClasses.{ByteClasses}
-use Rattle.marker_dfa.specs.Making.{AreClasses, GoesWith, IsFiner, IsFit, IsSplitUpTo}
+use Rattle.marker_dfa.specs.Making.{AreClasses, Agrees, IsFiner, IsFit, IsSplitUpTo}
 use Rattle.marker_dfa.proofs.Lists.{get_push, get_within}
 
 -- the first n bytes fit
@@ -37,7 +37,7 @@ split_start classes s letters e g = record {
     none : (q x : ℕ) → slice_get [] q ≡ Some x → ⊥
     none q x h = cc
 
-itself : (classes : ByteClasses) (letters : List Bool) (b : ℕ) → GoesWith classes letters b b
+itself : (classes : ByteClasses) (letters : List Bool) (b : ℕ) → Agrees classes letters b b
 itself classes letters b = record { class = refl; letter = refl }
 
 -- one more byte, which begins a class
@@ -64,14 +64,14 @@ split_new classes s t letters n p h e o g = record {
     firsts' c f (inl k) = omega (arith, h.firsts c f k)
     firsts' c f (inr k) = omega (arith, k.1)
 
-    goes' : (b c f : ℕ) → (slice_get s.of.items b ≡ Some c) ⊎ ((b ≡ length s.of.items) × (p ≡ c)) → (slice_get s.firsts.items c ≡ Some f) ⊎ ((c ≡ length s.firsts.items) × (n ≡ f)) → GoesWith classes letters b f
+    goes' : (b c f : ℕ) → (slice_get s.of.items b ≡ Some c) ⊎ ((b ≡ length s.of.items) × (p ≡ c)) → (slice_get s.firsts.items c ≡ Some f) ⊎ ((c ≡ length s.firsts.items) × (n ≡ f)) → Agrees classes letters b f
     goes' b c f (inl k) (inl l) = h.goes b c f k l
     goes' b c f (inl k) (inr l) = absurd (omega (arith, h.within b c k, l.0))
     goes' b c f (inr k) (inl l) = absurd (omega (arith, get_within s.firsts.items c f l, k.1, e))
-    goes' b c f (inr k) (inr l) = let same : b ≡ f = k.0 ∙ h.bytes ∙ l.1 in subst (λ (j : ℕ). GoesWith classes letters b j) same (itself classes letters b)
+    goes' b c f (inr k) (inr l) = let same : b ≡ f = k.0 ∙ h.bytes ∙ l.1 in subst (λ (j : ℕ). Agrees classes letters b j) same (itself classes letters b)
 
 -- one more byte, which goes with the first one of a class
-pub split_old : (classes s t : ByteClasses) (letters : List Bool) (n p : ℕ) → IsSplitUpTo classes letters n s → p < length s.firsts.items → ((f : ℕ) → slice_get s.firsts.items p ≡ Some f → GoesWith classes letters n f) → t.of.items ≡ s.of.items ++ p ∷ [] → t.firsts.items ≡ s.firsts.items → IsSplitUpTo classes letters (n + 1) t
+pub split_old : (classes s t : ByteClasses) (letters : List Bool) (n p : ℕ) → IsSplitUpTo classes letters n s → p < length s.firsts.items → ((f : ℕ) → slice_get s.firsts.items p ≡ Some f → Agrees classes letters n f) → t.of.items ≡ s.of.items ++ p ∷ [] → t.firsts.items ≡ s.firsts.items → IsSplitUpTo classes letters (n + 1) t
 split_old classes s t letters n p h lt with_p o g = record {
   bytes = omega (arith, ap length o, length-append s.of.items (p ∷ []), h.bytes);
   few = omega (arith, ap length g, h.few);
@@ -87,11 +87,11 @@ split_old classes s t letters n p h lt with_p o g = record {
     within' b c (inl k) = omega (arith, h.within b c k, ap length g)
     within' b c (inr k) = omega (arith, k.1, lt, ap length g)
 
-    goes' : (b c f : ℕ) → (slice_get s.of.items b ≡ Some c) ⊎ ((b ≡ length s.of.items) × (p ≡ c)) → slice_get s.firsts.items c ≡ Some f → GoesWith classes letters b f
+    goes' : (b c f : ℕ) → (slice_get s.of.items b ≡ Some c) ⊎ ((b ≡ length s.of.items) × (p ≡ c)) → slice_get s.firsts.items c ≡ Some f → Agrees classes letters b f
     goes' b c f (inl k) l = h.goes b c f k l
     goes' b c f (inr k) l =
         let same : n ≡ b = sym h.bytes ∙ sym k.0 in
-        subst (λ (j : ℕ). GoesWith classes letters j f) same (with_p f (ap (slice_get s.firsts.items) k.1 ∙ l))
+        subst (λ (j : ℕ). Agrees classes letters j f) same (with_p f (ap (slice_get s.firsts.items) k.1 ∙ l))
 
 pub split_classes : (classes s : ByteClasses) (letters : List Bool) → IsSplitUpTo classes letters 256 s → AreClasses s
 split_classes classes s letters h = record { bytes = h.bytes; few = h.few; within = h.within; firsts = h.firsts }

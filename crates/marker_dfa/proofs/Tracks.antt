@@ -7,7 +7,7 @@ use Rattle.std.proofs.lemmas.Option.{slice_get-get_or}
 use Rattle.formula_law.specs.Accepts.{MarkedText, Reaches}
 use Rattle.marker_nfa.specs.Automaton.{Automaton, Moves, AcceptsText}
 use Rattle.marker_dfa.specs.Reached.{CountIsAbove, Subset, IsIn, start_set, IsMove, single}
-use Rattle.marker_dfa.specs.Deterministic.{DeterministicAutomaton, IsAutomatonOf, PathAccepts, StandsFor, and_then, next_of, path, states_of}
+use Rattle.marker_dfa.specs.Deterministic.{DeterministicAutomaton, IsAutomatonOf, PathAccepts, IsDeterminized, and_then, next_of, path, states_of}
 use Rattle.marker_dfa.proofs.Lists.{get_within, one_value}
 use Rattle.marker_dfa.proofs.Pigeons.{fits}
 
@@ -74,7 +74,7 @@ module _ (n : ℕ) (Step : ℕ → ℕ → ℕ → ℕ → Type 0) (End : ℕ �
       same : (i j q : ℕ) → Placed c.subsets h.subsets i q → Placed c.subsets h.subsets j q → i ≡ j
       same i j q x y = c.sets.apart i j x.0 x.1 (subst (λ (z : Subset). slice_get c.subsets j ≡ Some z) (one_value h.subsets q y.0 x.0 y.2 x.2) y.1)
 
-module _ (a : Automaton) (d : DeterministicAutomaton) (h : StandsFor a d) where
+module _ (a : Automaton) (d : DeterministicAutomaton) (h : IsDeterminized a d) where
   -- what may be reached from a set
   abbrev From : Subset → List (ℕ × ℕ) → ℕ → Type 0
   From x w p = (o : ℕ) × IsIn x o × Reaches (Moves a) o w p

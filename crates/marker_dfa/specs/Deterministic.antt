@@ -98,8 +98,8 @@ pub record IsAutomatonOf (n : ℕ) (Step : ℕ → ℕ → ℕ → ℕ → Type 
   pub ends_are : (q m : ℕ) (x : Subset) → slice_get subsets q ≡ Some x → Contains (ends_of d q) m ↔ (o : ℕ) × IsIn x o × End o m
 
 -- the states are the sets that an automaton reaches
-abbrev pub StandsFor : Automaton → DeterministicAutomaton → Type 0
-StandsFor a d = IsAutomatonOf a.states (Moves a) (MayEnd a) d
+abbrev pub IsDeterminized : Automaton → DeterministicAutomaton → Type 0
+IsDeterminized a d = IsAutomatonOf a.states (Moves a) (MayEnd a) d
 
 -- an automaton reaches more sets than `most`
 abbrev pub AreTooMany : ℕ → Automaton → Type 0

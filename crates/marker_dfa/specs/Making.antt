@@ -142,7 +142,7 @@ abbrev pub IsFiner : ByteClasses → ByteClasses → Type 0
 IsFiner classes finer = (letters : List Bool) → IsFit classes letters → IsFit finer letters
 
 -- two bytes have one class, and the byte set has both or none
-pub record GoesWith (classes : ByteClasses) (letters : List Bool) (b f : ℕ) : Type 0 where
+pub record Agrees (classes : ByteClasses) (letters : List Bool) (b f : ℕ) : Type 0 where
   pub class : slice_get classes.of.items b ≡ slice_get classes.of.items f
   pub letter : slice_index_or letters b false ≡ slice_index_or letters f false
 
@@ -152,7 +152,7 @@ pub record IsSplitUpTo (classes : ByteClasses) (letters : List Bool) (n : ℕ) (
   pub few : length split.firsts.items ≤ n
   pub within : (b c : ℕ) → slice_get split.of.items b ≡ Some c → c < length split.firsts.items
   pub firsts : (c f : ℕ) → slice_get split.firsts.items c ≡ Some f → f < n
-  pub goes : (b c f : ℕ) → slice_get split.of.items b ≡ Some c → slice_get split.firsts.items c ≡ Some f → GoesWith classes letters b f
+  pub goes : (b c f : ℕ) → slice_get split.of.items b ≡ Some c → slice_get split.firsts.items c ≡ Some f → Agrees classes letters b f
 
 -- the sets found so far: the start first, all reached, none twice, and no more than `most`
 pub record AreFound (most : ℕ) (a : Automaton) (subsets : List Subset) : Type 0 where
@@ -166,7 +166,7 @@ pub record Extends (old new : List Subset) : Type 0 where
   pub stays : (q : ℕ) (x : Subset) → slice_get old q ≡ Some x → slice_get new q ≡ Some x
 
 -- a set has an index, an old one or a new one
-pub record IsPlaced (old new : List Subset) (x : Subset) (q : ℕ) : Type 0 where
+pub record HasIndex (old new : List Subset) (x : Subset) (q : ℕ) : Type 0 where
   pub there : slice_get new q ≡ Some x
   pub list : (new ≡ old) ⊎ ((new ≡ old ++ x ∷ []) × (q ≡ length old))
   pub fresh : length old ≤ q → (r : ℕ) → slice_get old r ≡ Some x → ⊥

@@ -2,7 +2,7 @@
 
 ghost use Rattle.std.specs.Prelude.{◌≡◌, ◌+◌, ◌≤◌, ℕ, Bool, List, Contains, Some, length, slice_get, IfOk, OnOk};
 ghost use Rattle.std.specs.Bool.{OnTrue};
-ghost use Rattle.marker_dfa.specs.Making.{AreClasses, GoesWith, IsFiner, IsFit, IsSplitUpTo};
+ghost use Rattle.marker_dfa.specs.Making.{AreClasses, Agrees, IsFiner, IsFit, IsSplitUpTo};
 
 use span_types::{ByteSet, NoMemory};
 use std::alloc::Global;
@@ -40,22 +40,22 @@ fn fits(classes: &ByteClasses, letters: &ByteSet) -> bool
 }
 
 /// Whether two bytes have one class, and the byte set contains both or neither.
-fn goes_with(classes: &ByteClasses, letters: &ByteSet, byte: u8, first: u8) -> bool
+fn agrees_with(classes: &ByteClasses, letters: &ByteSet, byte: u8, first: u8) -> bool
     requires { AreClasses classes.now }
-    ensures { OnTrue result (GoesWith classes.now letters.now byte first) }
+    ensures { OnTrue result (Agrees classes.now letters.now byte first) }
 {
     classes.of[byte as usize] == classes.of[first as usize]
         && letters.contains(byte) == letters.contains(first)
 }
 
 /// The index of the first byte that goes with a byte, or the number of first bytes if there is none.
-fn place_among(classes: &ByteClasses, letters: &ByteSet, firsts: &[u8], byte: u8) -> usize
+fn index_among(classes: &ByteClasses, letters: &ByteSet, firsts: &[u8], byte: u8) -> usize
     requires { AreClasses classes.now }
     ensures within { result ≤ length firsts.now }
-    ensures goes { (f : ℕ) → slice_get firsts.now result ≡ Some f → GoesWith classes.now letters.now byte f }
+    ensures goes { (f : ℕ) → slice_get firsts.now result ≡ Some f → Agrees classes.now letters.now byte f }
 {
     for (place, first) in firsts.iter().enumerate() {
-        if goes_with(classes, letters, byte, *first) {
+        if agrees_with(classes, letters, byte, *first) {
             return place;
         }
     }
@@ -73,7 +73,7 @@ fn put_byte(
     requires so_far { IsSplitUpTo classes.now letters.now byte split.old }
     ensures { OnOk result (IsSplitUpTo classes.now letters.now (byte + 1) split.new) }
 {
-    let place = place_among(classes, letters, &split.firsts, byte);
+    let place = index_among(classes, letters, &split.firsts, byte);
     split.of.push(place as u8)?;
     if place < split.firsts.len() {
         return Ok(());

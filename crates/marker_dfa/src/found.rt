@@ -3,7 +3,7 @@
 ghost use Rattle.std.specs.Prelude.{◌≡◌, ◌≤◌, ◌∷◌, [], Some, slice_get, vec_len, IfOk, IsTrue};
 ghost use Rattle.marker_nfa.specs.Automaton.{IsAutomaton};
 ghost use Rattle.marker_dfa.specs.Reached.{start_set};
-ghost use Rattle.marker_dfa.specs.Making.{HasNoRoom, IsPlaced};
+ghost use Rattle.marker_dfa.specs.Making.{HasNoRoom, HasIndex};
 ghost use Rattle.marker_dfa.specs.Refusals.{IfTooMany};
 
 use crate::refusal::DfaRefusal;
@@ -70,7 +70,7 @@ pub fn found_start(alloc: Global, nfa: &Nfa, most: u16) -> Result<Found, NoMemor
 }
 
 /// Whether a set is at an index.
-fn stands_at(sets: &[StateSet], set: &StateSet, place: u16) -> bool
+fn is_at(sets: &[StateSet], set: &StateSet, place: u16) -> bool
     ensures { IsTrue result → slice_get sets.now place ≡ Some set.now }
 {
     match sets.get(place as usize) {
@@ -80,14 +80,14 @@ fn stands_at(sets: &[StateSet], set: &StateSet, place: u16) -> bool
 }
 
 /// The index of a set, which is appended if it is new. Each set is compared.
-fn place_among(
+fn index_among(
     alloc: Global,
     sets: &mut Vec<StateSet>,
     set: &StateSet,
     most: u16,
 ) -> Result<u16, DfaRefusal>
     requires few { vec_len sets.old ≤ most }
-    ensures placed { IfOk result (λ q. IsPlaced sets.old.items sets.new.items set.now q) }
+    ensures placed { IfOk result (λ q. HasIndex sets.old.items sets.new.items set.now q) }
     ensures few { vec_len sets.new ≤ most }
     ensures refused { IfTooMany result (HasNoRoom most sets.old.items set.now) }
 {
@@ -110,23 +110,23 @@ fn place_among(
 /// # Errors
 ///
 /// `TooManyStates` exactly if the set is new and there are `most`, and `NoMemory` if allocation fails.
-pub fn place_of(
+pub fn index_of(
     alloc: Global,
     found: &mut Found,
     set: &StateSet,
     most: u16,
 ) -> Result<u16, DfaRefusal>
     requires few { vec_len found.old.sets ≤ most }
-    ensures placed { IfOk result (λ q. IsPlaced found.old.sets.items found.new.sets.items set.now q) }
+    ensures placed { IfOk result (λ q. HasIndex found.old.sets.items found.new.sets.items set.now q) }
     ensures few { vec_len found.new.sets ≤ most }
     ensures refused { IfTooMany result (HasNoRoom most found.old.sets.items set.now) }
 {
     let slot = found.hints.slot(set);
     let hint = found.hints.get(slot);
-    if stands_at(&found.sets, set, hint) {
+    if is_at(&found.sets, set, hint) {
         return Ok(hint);
     }
-    let place = place_among(alloc, &mut found.sets, set, most)?;
+    let place = index_among(alloc, &mut found.sets, set, most)?;
     found.hints.set(slot, place);
     Ok(place)
 }

@@ -26,7 +26,7 @@
 
 ghost use Rattle.std.specs.Prelude.{◌≤◌, IfOk};
 ghost use Rattle.marker_nfa.specs.Automaton.{AreLettersOf};
-ghost use Rattle.marker_dfa.specs.Deterministic.{AcceptsSame, AreTooMany, StandsFor};
+ghost use Rattle.marker_dfa.specs.Deterministic.{AcceptsSame, AreTooMany, IsDeterminized};
 ghost use Rattle.marker_dfa.specs.Refusals.{IfTooMany};
 
 pub mod bundles;
@@ -47,7 +47,7 @@ use std::alloc::Global;
 use subsets::rows_of;
 
 /// The greatest number of states where the caller sets none.
-const USUAL_MOST: u16 = 128;
+const DEFAULT_MAX_STATES: u16 = 128;
 
 /// The deterministic automaton of an automaton, of at most 128 states, as `determinise_within` makes it.
 ///
@@ -55,12 +55,12 @@ const USUAL_MOST: u16 = 128;
 ///
 /// `TooManyStates` exactly if more than 128 nonempty sets of states are reached, and `NoMemory` if allocation fails.
 pub fn determinise(alloc: Global, nfa: &Nfa) -> Result<Dfa, DfaRefusal>
-    ensures states { IfOk result (StandsFor nfa.now) }
+    ensures states { IfOk result (IsDeterminized nfa.now) }
     ensures accepts { IfOk result (AcceptsSame nfa.now) }
     ensures few { IfOk result (λ _. AreTooMany 128 nfa.now → ⊥) }
     ensures too_many { IfTooMany result (AreTooMany 128 nfa.now) }
 {
-    determinise_within(alloc, nfa, USUAL_MOST)
+    determinise_within(alloc, nfa, DEFAULT_MAX_STATES)
 }
 
 /// The deterministic automaton of an automaton, by the subset construction (Rabin and Scott 1959). It has exactly one
@@ -76,7 +76,7 @@ pub fn determinise(alloc: Global, nfa: &Nfa) -> Result<Dfa, DfaRefusal>
 pub fn determinise_within(alloc: Global, nfa: &Nfa, most: u16) -> Result<Dfa, DfaRefusal>
     requires few { 128 ≤ most }
     requires many { most ≤ 1024 }
-    ensures states { IfOk result (StandsFor nfa.now) }
+    ensures states { IfOk result (IsDeterminized nfa.now) }
     ensures accepts { IfOk result (AcceptsSame nfa.now) }
     ensures few { IfOk result (λ _. AreTooMany most nfa.now → ⊥) }
     ensures too_many { IfTooMany result (AreTooMany most nfa.now) }
@@ -99,7 +99,7 @@ pub fn determinise_over(
     requires letters { AreLettersOf nfa.now.edges letters.now }
     requires few { 128 ≤ most }
     requires many { most ≤ 1024 }
-    ensures states { IfOk result (StandsFor nfa.now) }
+    ensures states { IfOk result (IsDeterminized nfa.now) }
     ensures accepts { IfOk result (AcceptsSame nfa.now) }
     ensures few { IfOk result (λ _. AreTooMany most nfa.now → ⊥) }
     ensures too_many { IfTooMany result (AreTooMany most nfa.now) }

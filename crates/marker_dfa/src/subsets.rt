@@ -10,7 +10,7 @@ ghost use Rattle.marker_dfa.specs.Refusals.{IfTooMany};
 use crate::bundles::{Bundle, Readers, bundles_of, readers_by_byte};
 use crate::dfa::{Cell, Row};
 use crate::exits::{Exits, ends_of_set, exits_of, steps_of};
-use crate::found::{Found, found_start, place_of};
+use crate::found::{Found, found_start, index_of};
 use crate::refusal::DfaRefusal;
 use marker_nfa::Nfa;
 use span_types::NoMemory;
@@ -62,7 +62,7 @@ fn cell_of(
     };
     let steps = steps_of(alloc, nfa, &plan.bundles, exits, readers)?;
     for step in &steps {
-        let target = place_of(alloc, found, &step.to, plan.most)?;
+        let target = index_of(alloc, found, &step.to, plan.most)?;
         cell.push(step.mark, target)?;
     }
     Ok(cell)

@@ -10,7 +10,7 @@ use Rattle.slp_model.specs.Nodes.{tree, trees, node_tree, IsSound}
 use Rattle.slp_model.specs.Distinct.{AreDistinct, AreOfBytes}
 use Rattle.slp_model.specs.Kept.{Keeps, IsPlanOf}
 use Rattle.slp_model.specs.Thin.{rank, renumbered}
-use Rattle.slp_model.proofs.ThinLemmas.{thin_to, thin-on, thin-skip, next-below, next-tree, next-new, byte-renumbered}
+use Rattle.slp_model.proofs.CompactionLemmas.{thin_to, thin-on, thin-skip, next-below, next-tree, next-new, byte-renumbered}
 use Rattle.node_store.specs.declared.Facts.{Facts}
 use Rattle.node_store.specs.Stored.{IsNext, IsKept}
 use Rattle.node_store.specs.Moved.{AreRanks, KeepChildren}

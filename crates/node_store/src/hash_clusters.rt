@@ -32,11 +32,11 @@ const GROUPS_OF_STRETCH: usize = 32;
 const KINDS: usize = 16;
 
 // A stretch has 384 entries. Nodes past this number in it count as too many.
-const MOST_OF_STRETCH: u16 = 352;
+const MAX_OF_STRETCH: u16 = 352;
 
-const MOST_OF_KIND: u8 = 48;
+const MAX_OF_KIND: u8 = 48;
 
-const MOST_BEYOND: usize = 64;
+const MAX_BEYOND: usize = 64;
 
 const HASHER_SEED: u64 = 0x243F_6A88_85A3_08D3;
 
@@ -58,7 +58,7 @@ impl HashClusters {
     /// Whether a lookup may pass many nodes. It isn't so as long as at most 64 nodes, plus one for each 256 stretches,
     /// were added to a stretch that has more than 352 nodes or more than 48 of their kind.
     pub(crate) fn is_slow(&self) -> bool {
-        self.beyond > MOST_BEYOND + self.stretches.len() / 256
+        self.beyond > MAX_BEYOND + self.stretches.len() / 256
     }
 
     /// Records that a node was added to the index, with this number.
@@ -105,7 +105,7 @@ impl HashClusters {
             .wrapping_add((hash >> 28) as usize);
         let in_stretch = raise(&mut self.stretches, stretch);
         let of_kind = raise_kind(&mut self.alike, kind);
-        if in_stretch > MOST_OF_STRETCH || of_kind > MOST_OF_KIND {
+        if in_stretch > MAX_OF_STRETCH || of_kind > MAX_OF_KIND {
             self.beyond = self.beyond.saturating_add(1);
         }
     }

@@ -36,7 +36,7 @@ ghost use Rattle.slp_model.specs.Nodes.{tree, trees, node_tree, pair_count, Grow
 ghost use Rattle.slp_model.specs.Distinct.{AreDistinct, AreOfBytes};
 ghost use Rattle.slp_model.specs.Kept.{IsPlanOf};
 ghost use Rattle.slp_model.specs.Thin as thinning;
-ghost use Rattle.slp_model.specs.Thin.{IsThinOf};
+ghost use Rattle.slp_model.specs.Thin.{IsCompactionOf};
 ghost use Rattle.node_store.specs.Stored.{IsNext, IsKept};
 ghost use Rattle.node_store.specs.Blocks.{IsBlockOf};
 
@@ -55,7 +55,7 @@ use span_types::{NoMemory, Steps};
 use std::alloc::Global;
 use std::marker::Model;
 use std::sync::ledger::Ledger;
-use thin::thinned;
+use thin::compacted_nodes;
 
 /// What is known of a node without reading the nodes below it.
 #[derive(Clone, Copy, Debug)]
@@ -311,10 +311,10 @@ impl Store {
         requires plan { IsPlanOf self.now keep.now }
         ensures store { IfOk result (λ made. made.0 ≡ thinning.thin self.now keep.now) }
         ensures moves { IfOk result (λ made. made.1 ≡ keep.now) }
-        ensures thin { IfOk result (λ made. IsThinOf self.now keep.now made.0) }
+        ensures thin { IfOk result (λ made. IsCompactionOf self.now keep.now made.0) }
     {
         let (moves, count) = Moves::new(alloc, keep)?;
-        let store = thinned(alloc, self, &moves, count)?;
+        let store = compacted_nodes(alloc, self, &moves, count)?;
         Ok((store, moves))
     }
 

@@ -8,7 +8,7 @@ use std::alloc::Global;
 use std::marker::Model;
 
 // A link has 32 bits.
-const MOST_NODES: usize = 0xFFFF_FFFF;
+const MAX_NODES: usize = 0xFFFF_FFFF;
 
 /// Nodes in the order in which they were added, each once.
 ///
@@ -142,7 +142,7 @@ fn link_to(index: usize) -> Result<u32, NoMemory>
     ensures link { IfOk result (λ link. link ≡ index + 1) }
     ensures low { OnOk result (index < 2 ^ 32) }
 {
-    if index >= MOST_NODES {
+    if index >= MAX_NODES {
         return Err(NoMemory);
     }
     Ok(index as u32 + 1)

@@ -3,14 +3,14 @@ ghost use Rattle.std.specs.Prelude.{◌≡◌, length, IfOk};
 ghost use Rattle.slp_model.specs.Nodes.{IsBelow};
 ghost use Rattle.slp_model.specs.Kept.{IsPlanOf};
 ghost use Rattle.slp_model.specs.Thin as thinning;
-ghost use Rattle.slp_model.specs.Thin.{IsThinOf};
+ghost use Rattle.slp_model.specs.Thin.{IsCompactionOf};
 
 use crate::{Facts, Moves, NodeId, Store};
 use span_types::NoMemory;
 use std::alloc::Global;
 
 /// The kept nodes in their order, under their new numbers. `count` is their number.
-pub(crate) fn thinned(
+pub(crate) fn compacted_nodes(
     alloc: Global,
     store: &Store,
     moves: &Moves,
@@ -18,7 +18,7 @@ pub(crate) fn thinned(
 ) -> Result<Store, NoMemory>
     requires { IsPlanOf store.now moves.now }
     ensures store { IfOk result (λ made. made ≡ thinning.thin store.now moves.now) }
-    ensures thin { IfOk result (IsThinOf store.now moves.now) }
+    ensures thin { IfOk result (IsCompactionOf store.now moves.now) }
 {
     let mut thin = Store::with_room(alloc, count)?;
     for index in 0..store.count() {

@@ -18,7 +18,7 @@ use span_types::{NoMemory, Steps};
 use std::sync::ledger::Ledger;
 
 // Blocks of at most this height are made without reading any height.
-const MOST_HEIGHT: u8 = 9;
+const MAX_HEIGHT: u8 = 9;
 
 // The number of bytes of a block of this height.
 fn size(height: u8) -> usize
@@ -93,8 +93,8 @@ fn next_height(blocks: &Vec<NodeId>, store: &Store, len: usize) -> u8
     ensures low { result ≤ 9 }
 {
     let mut height = match blocks.last() {
-        Some(top) => store.height(*top).min(MOST_HEIGHT),
-        None => MOST_HEIGHT,
+        Some(top) => store.height(*top).min(MAX_HEIGHT),
+        None => MAX_HEIGHT,
     };
     while size(height) > len {
         height -= 1;

@@ -11,7 +11,7 @@ use span_types::{NoMemory, Steps};
 use std::sync::ledger::Ledger;
 
 // The number of words of eight bytes in a block of height 9.
-const MOST_WORDS: usize = 64;
+const MAX_WORDS: usize = 64;
 
 /// The block of 2^height bytes: first the blocks of its words, and then level by level their pairs. The requests of one
 /// level to the store don't depend on each other, so a processor can overlap them. The two halves of a block and their
@@ -32,7 +32,7 @@ pub(crate) fn block_by_levels<L: Ledger>(
     ensures block { IfOk result (λ id. IsBlockAt store.new height piece.now id.index) }
     ensures cost { pairs.new + 1 ≤ pairs.old + length piece.now }
 {
-    let mut ids = [NodeId { index: 0 }; MOST_WORDS];
+    let mut ids = [NodeId { index: 0 }; MAX_WORDS];
     put_words(words, store, piece, &mut ids, pairs)?;
     for level in WORD_HEIGHT..height {
         pair_neighbours(store, piece, level, &mut ids, pairs)?;

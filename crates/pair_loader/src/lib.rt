@@ -73,7 +73,7 @@ impl Loader {
     pub fn new(alloc: Global) -> Result<Loader, NoMemory>
         ensures { IfOk result (λ loader. loader ≡ Some unfed) }
     {
-        let blocks = Vec::with_capacity(alloc, MOST_BLOCKS).map_err(|_| NoMemory)?;
+        let blocks = Vec::with_capacity(alloc, MAX_BLOCKS).map_err(|_| NoMemory)?;
         Ok(Loader {
             pending: Some(blocks),
             words: Words::new(alloc),
@@ -139,7 +139,7 @@ impl Loader {
 }
 
 // A text of at most 2^48 bytes has blocks of the heights 0 to 48.
-const MOST_BLOCKS: usize = 49;
+const MAX_BLOCKS: usize = 49;
 
 /// A root of the bytes, with the tree `shape`: a loader that is fed once.
 ///

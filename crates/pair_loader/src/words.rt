@@ -23,7 +23,7 @@ const LONG_TEXT: usize = 1 << 18;
 // The number of entries for the words of each length in a short text, and for those of two, four and eight bytes in a
 // long one. Of the words of four bytes looked up while real texts were loaded, some six in seven were found here. A
 // word that is found here needs no lookup in the store's index.
-const FEW: usize = 1 << 12;
+const SHORT_TEXT_ENTRIES: usize = 1 << 12;
 
 const TWOS: usize = 1 << 16;
 
@@ -68,19 +68,19 @@ impl Words {
     {
         self.fed = self.fed.saturating_add(len);
         if self.fed >= LONG_TEXT {
-            self.make_places(TWOS, FOURS, EIGHTS);
+            self.make_entries(TWOS, FOURS, EIGHTS);
         } else if self.fed >= SHORT_TEXT {
-            self.make_places(FEW, FEW, FEW);
+            self.make_entries(SHORT_TEXT_ENTRIES, SHORT_TEXT_ENTRIES, SHORT_TEXT_ENTRIES);
         }
     }
 
     // At least this many entries for words of two, four and eight bytes, if memory allows.
-    fn make_places(&mut self, twos: usize, fours: usize, eights: usize)
+    fn make_entries(&mut self, twos: usize, fours: usize, eights: usize)
         ensures { (nodes : List Node) → AreKnown nodes (known_of self.old) → AreKnown nodes (known_of self.new) }
     {
-        make_places(&mut self.twos, twos);
-        make_places(&mut self.fours, fours);
-        make_places(&mut self.eights, eights);
+        make_entries(&mut self.twos, twos);
+        make_entries(&mut self.fours, fours);
+        make_entries(&mut self.eights, eights);
     }
 
     /// The block of two bytes.
@@ -184,13 +184,13 @@ fn number_of_eight(word: &[u8]) -> u64
 
 // The entry of a word: the highest bits of a multiplicative hash, which are the best (D. E. Knuth, The Art of Computer
 // Programming, volume 3, section 6.4), scaled to the number of entries.
-fn place_of(words: &[Word], bytes: u64) -> usize {
+fn entry_of(words: &[Word], bytes: u64) -> usize {
     let hash = bytes.wrapping_mul(0x9E37_79B9_7F4A_7C15) >> 32;
     (hash.wrapping_mul(words.len() as u64) >> 32) as usize
 }
 
 // This many empty entries, if there are fewer and memory allows.
-fn make_places(words: &mut Vec<Word>, count: usize)
+fn make_entries(words: &mut Vec<Word>, count: usize)
     ensures { (nodes : List Node) (h : ℕ) (w : Width) → AreWords nodes h w words.old.items → AreWords nodes h w words.new.items }
 {
     let none = Word {
@@ -207,7 +207,7 @@ fn make_places(words: &mut Vec<Word>, count: usize)
 fn found(words: &Vec<Word>, bytes: u64) -> Option<NodeId>
     ensures { IfSome result (λ id. (nodes : List Node) (h : ℕ) (w : Width) → AreWords nodes h w words.now.items → IsBlockAt nodes h (to_le_bytes w bytes) id.index) }
 {
-    let word = words.get(place_of(words, bytes))?;
+    let word = words.get(entry_of(words, bytes))?;
     if word.bytes != bytes {
         return None;
     }
@@ -219,7 +219,7 @@ fn found(words: &Vec<Word>, bytes: u64) -> Option<NodeId>
 fn note(words: &mut Vec<Word>, bytes: u64, block: NodeId)
     ensures { (nodes : List Node) (h : ℕ) (w : Width) → IsBlockAt nodes h (to_le_bytes w bytes) block.index → AreWords nodes h w words.old.items → AreWords nodes h w words.new.items }
 {
-    let place = place_of(words, bytes);
+    let place = entry_of(words, bytes);
     if let (Some(word), Ok(index)) = (words.get_mut(place), u32::try_from(block.index)) {
         *word = Word {
             bytes,

@@ -86,10 +86,10 @@ leaf-defines f names a d within count vars is same = record {
 
     to : (s : List ℕ) (t : List (Option Span)) → (length t ≡ length names) × Fits f s 1 (length s + 1) (spans_of t) → IsMember d s t
     to s t h =
-        let g = (fits-accepted digits.marks_tell f s t within.functional (below t h.0)).0 h.1 in
+        let g = (fits-accepted digits.marks_determine f s t within.functional (below t h.0)).0 h.1 in
         record { size = h.0 ∙ sym variables; lies = g.0; accepted = (same.texts (marked_text s t)).1 ((same_texts f a is (marked_text s t)).1 g.1) }
 
     from : (s : List ℕ) (t : List (Option Span)) → IsMember d s t → (length t ≡ length names) × Fits f s 1 (length s + 1) (spans_of t)
     from s t h =
         let size : length t ≡ length names = h.size ∙ variables in
-        (size, (fits-accepted digits.marks_tell f s t within.functional (below t size)).1 (h.lies, (same_texts f a is (marked_text s t)).0 ((same.texts (marked_text s t)).0 h.accepted)))
+        (size, (fits-accepted digits.marks_determine f s t within.functional (below t size)).1 (h.lies, (same_texts f a is (marked_text s t)).0 ((same.texts (marked_text s t)).0 h.accepted)))

@@ -16,7 +16,7 @@ use Rattle.span_enum.specs.Listing.{Listing}
 use Rattle.span_enum.proofs.Pages.{after-none}
 use Rattle.count_tables.specs.Dictionary.{CountDictionary, count_of}
 use Rattle.count_tables.specs.Number.{IsCounted, IsNumber}
-use Rattle.count_tables.specs.Place.{IsNth}
+use Rattle.count_tables.specs.TextIndex.{IsNth}
 use Rattle.count_tables.specs.Rank.{IsRank}
 use Rattle.query_book.specs.declared.entry.TabledQuery.{TabledQuery}
 use Rattle.query_book.specs.Answers.{Defines, HasList, IsListingOf}
@@ -96,13 +96,13 @@ module _ (ns : List Node) (t : TabledQuery) (root : Option NodeId) (h : HasAllCo
 
   pub cursor-answer : (m : ℕ) (u : Tuple) → 1 ≤ m - 1 → IsNth t.query.dfa (text_of ns root) (m - 1) (Some u) → IsCursorAt (text_of ns root) m (query_of t.query.tree) (Some u)
   cursor-answer m u first k =
-      let member = (k.all.members u).0 (contains-at k.answers (m - 1 - 1) u (sym k.at_place)) in
+      let member = (k.all.members u).0 (contains-at k.answers (m - 1 - 1) u (sym k.at_position)) in
       let next : suc (m - 1 - 1) ≡ m - 1 = omega (arith, first) in
       record {
         variables = member.size ∙ defines.variables;
         all = k.answers;
         answers = own k.answers k.all;
-        after = subst (λ n. IsAfter k.answers (Some u) (drop n k.answers)) next (after-at k.answers (m - 1 - 1) u k.all.rising (λ v c. ((k.all.members v).0 c).size ∙ sym member.size) (sym k.at_place));
+        after = subst (λ n. IsAfter k.answers (Some u) (drop n k.answers)) next (after-at k.answers (m - 1 - 1) u k.all.rising (λ v c. ((k.all.members v).0 c).size ∙ sym member.size) (sym k.at_position));
       }
 
   pub cursor-last : (m : ℕ) → 1 ≤ m - 1 → IsNth t.query.dfa (text_of ns root) (m - 1) None → IsCursorAt (text_of ns root) m (query_of t.query.tree) (Some (blanks t.query.dfa.variables))
@@ -112,7 +112,7 @@ module _ (ns : List Node) (t : TabledQuery) (root : Option NodeId) (h : HasAllCo
         variables = length-blanks t.query.dfa.variables ∙ defines.variables;
         all = k.answers;
         answers = own k.answers k.all;
-        after = subst (λ n. IsAfter k.answers (Some (blanks t.query.dfa.variables)) (drop n k.answers)) next (after-last k.answers (m - 1 - 1) t.query.dfa.variables (sym k.at_place));
+        after = subst (λ n. IsAfter k.answers (Some (blanks t.query.dfa.variables)) (drop n k.answers)) next (after-last k.answers (m - 1 - 1) t.query.dfa.variables (sym k.at_position));
       }
 
 -- an iterator at such a cursor

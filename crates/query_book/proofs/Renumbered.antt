@@ -4,7 +4,7 @@ use Rattle.std.specs.Prelude.{unwrap_or}
 use Rattle.std.specs.Option.{option_map}
 use Rattle.span_types.specs.Query.{query_of}
 use Rattle.slp_model.specs.declared.Node.{Node}
-use Rattle.slp_model.specs.Thin.{rank, IsThinOf}
+use Rattle.slp_model.specs.Thin.{rank, IsCompactionOf}
 use Rattle.slp_model.proofs.RankLemmas.{rank-most}
 use Rattle.marker_dfa.specs.Deterministic.{DeterministicAutomaton, states_of}
 use Rattle.count_tables.specs.Dictionary.{CountDictionary}
@@ -35,7 +35,7 @@ counts-sound keep n None (Some e) r h = absurd r
 counts-sound keep n (Some d) None r h = absurd r
 counts-sound keep n (Some d) (Some e) r h = r.states ∙ h
 
-counts-served : (keep : List Bool) (a : DeterministicAutomaton) (ns ms : List Node) (o p : Option CountDictionary) → IsThinOf ns keep ms → RenumbersCounts keep o p → IfSome o (AreFirstCounts a ns) → IfSome p (AreFirstCounts a ms)
+counts-served : (keep : List Bool) (a : DeterministicAutomaton) (ns ms : List Node) (o p : Option CountDictionary) → IsCompactionOf ns keep ms → RenumbersCounts keep o p → IfSome o (AreFirstCounts a ns) → IfSome p (AreFirstCounts a ms)
 counts-served keep a ns ms None None thin r h = tt
 counts-served keep a ns ms None (Some e) thin r h = absurd r
 counts-served keep a ns ms (Some d) None thin r h = absurd r
@@ -75,7 +75,7 @@ sound-forgotten keep old new query memory states counts s = record {
   counts = subst (λ q. IfSome new.counts (λ d. d.states ≡ states_of q.dfa)) (sym query) (counts-sound keep (states_of old.query.dfa) old.counts new.counts counts s.counts);
 }
 
-pub served-thin : (ns ms : List Node) (keep : List Bool) (old new : TabledQuery) → IsThinOf ns keep ms → new.query ≡ old.query → count_of new.tables ≡ rank keep (count_of old.tables)
+pub served-thin : (ns ms : List Node) (keep : List Bool) (old new : TabledQuery) → IsCompactionOf ns keep ms → new.query ≡ old.query → count_of new.tables ≡ rank keep (count_of old.tables)
     → (AreTables old.query.dfa ns old.tables → AreTables old.query.dfa ms new.tables) → RenumbersCounts keep old.counts new.counts → IsServed ns old → IsServed ms new
 served-thin ns ms keep old new thin query count tables counts s = record {
   covered = omega (arith, count, rank-up keep (count_of old.tables) (length ns) s.covered, thin.long);
@@ -116,7 +116,7 @@ module _ (keep : List Bool) where
   sound-after (suc n) (p ∷ ps) (q ∷ qs) k h = (h.1.sound, sound-after n ps qs k.1 h.2)
 
   -- all were
-  pub serves-after : (ns ms : List Node) → IsThinOf ns keep ms → (ps qs : Named TabledQuery) → ChangesFirst (Renumbers keep) (length ps) ps qs → AreServed ns (entries_of ps) → AreServed ms (entries_of qs)
+  pub serves-after : (ns ms : List Node) → IsCompactionOf ns keep ms → (ps qs : Named TabledQuery) → ChangesFirst (Renumbers keep) (length ps) ps qs → AreServed ns (entries_of ps) → AreServed ms (entries_of qs)
   serves-after ns ms thin [] qs h s = subst (λ xs. AreServed ms (entries_of xs)) (sym h) tt
   serves-after ns ms thin (p ∷ ps) [] h s = absurd h
   serves-after ns ms thin (p ∷ ps) (q ∷ qs) h s = (h.1.served ns ms thin s.0, serves-after ns ms thin ps qs h.2 s.1)

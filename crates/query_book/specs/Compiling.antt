@@ -5,7 +5,7 @@ use Rattle.span_types.specs.Query.{query_of}
 use Rattle.span_types.specs.Rel.{names_of}
 use Rattle.marker_nfa.specs.Automaton.{Automaton}
 use Rattle.marker_nfa.specs.Occurrences.{IsPositionAutomaton, IsWithinLimits}
-use Rattle.marker_dfa.specs.Deterministic.{DeterministicAutomaton, AcceptsSame, StandsFor, next_of}
+use Rattle.marker_dfa.specs.Deterministic.{DeterministicAutomaton, AcceptsSame, IsDeterminized, next_of}
 use Rattle.query_book.specs.Answers.{Defines}
 use Rattle.query_book.specs.Combining.{parts_of}
 use Rattle.query_book.specs.Occurrences.{CountIsAbove}
@@ -41,7 +41,7 @@ pub record IsFormulaAutomaton (f : FormulaTree) (d : DeterministicAutomaton) : T
   pub automaton : Automaton
   pub positions : IsPositionAutomaton f automaton
   pub same : AcceptsSame automaton d
-  pub states : StandsFor automaton d
+  pub states : IsDeterminized automaton d
 
 -- the query, the number of its parts, the names of its variables, and its automaton
 pub record IsCompiled (c : Compiled) : Type 0 where

@@ -3,7 +3,7 @@ use Rattle.std.specs.Prelude.{◌≡◌, ℕ, ◌<◌, ◌≤◌, Bool, List, le
 use Rattle.std.specs.List.{AllByRecursion}
 use Rattle.slp_model.specs.declared.Node.{Node}
 use Rattle.slp_model.specs.Kept.{IsPlanOf}
-use Rattle.slp_model.specs.Thin.{rank, IsThinOf}
+use Rattle.slp_model.specs.Thin.{rank, IsCompactionOf}
 use Rattle.state_tables.specs.Dictionary.{Dictionary, count_of, distinct_of}
 use Rattle.query_book.specs.declared.entry.Entry.{Entry}
 use Rattle.query_book.specs.declared.entry.TabledQuery.{TabledQuery}
@@ -39,7 +39,7 @@ pub record RenumbersTables (keep : List Bool) (old new : CountDictionary) : Type
   pub states : new.states ≡ old.states
   pub count : counts.count_of new ≡ rank keep (counts.count_of old)
   pub used : UsesEachCount new
-  pub tables : (a : DeterministicAutomaton) (ns ms : List Node) → IsThinOf ns keep ms → counts.AreCountTables a ns old → counts.AreCountTables a ms new
+  pub tables : (a : DeterministicAutomaton) (ns ms : List Node) → IsCompactionOf ns keep ms → counts.AreCountTables a ns old → counts.AreCountTables a ms new
 
 -- if there are some
 abbrev pub RenumbersCounts : List Bool → Option CountDictionary → Option CountDictionary → Type 0
@@ -57,7 +57,7 @@ pub record Renumbers (keep : List Bool) (old new : TabledQuery) : Type 0 where
   pub counts : counted new ≡ rank keep (counted old)
   pub used : UsesEachTable new.tables
   pub counts_used : UsesItsCounts new
-  pub served : (ns ms : List Node) → IsThinOf ns keep ms → IsServed ns old → IsServed ms new
+  pub served : (ns ms : List Node) → IsCompactionOf ns keep ms → IsServed ns old → IsServed ms new
 
 -- the plan covers all nodes with tables
 pub record IsWithin (keep : List Bool) (t : TabledQuery) : Type 0 where

@@ -4,7 +4,7 @@ ghost use Rattle.std.specs.Option.{option_map};
 ghost use Rattle.span_types.specs.Query.{Query, query_of};
 ghost use Rattle.span_types.specs.Rel.{names_of};
 ghost use Rattle.slp_model.specs.declared.Node.{Node};
-ghost use Rattle.slp_model.specs.Thin.{IsThinOf};
+ghost use Rattle.slp_model.specs.Thin.{IsCompactionOf};
 ghost use Rattle.query_book.specs.Named.{AreDistinctNames, put, taken_out, value_of};
 ghost use Rattle.query_book.specs.Compiling.{IsCompiled};
 ghost use Rattle.query_book.specs.Registering.{IsQueryOf, IsRefused};
@@ -302,7 +302,7 @@ impl QueryBook {
         ensures covered { covered_of self.new ≡ ranked moves.now (covered_of self.old) }
         ensures counted { counted_of self.new ≡ ranked moves.now (counted_of self.old) }
         ensures used { UseEachTable self.new }
-        ensures serves { (ns ms : List Node) → IsThinOf ns moves.now ms → Serves ns self.old → Serves ms self.new }
+        ensures serves { (ns ms : List Node) → IsCompactionOf ns moves.now ms → Serves ns self.old → Serves ms self.new }
         ensures states { self.new.states ≡ self.old.states }
     {
         self.by_name.settle();

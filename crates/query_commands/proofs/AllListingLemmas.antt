@@ -1,6 +1,6 @@
 -- A listing of the answers on every document in progress.
 use Rattle.query_commands.proofs.Names.{[], after-none, ap, append_assoc, AreAnswered, AreAnswersOf, AreListed, AreLive, arith, at_drop_more, Bool, Command}
-use Rattle.query_commands.proofs.Names.{Contains, DeterministicAutomaton, Doc, doc_line, done_line, drop, drop_all, every_text, first_page_text, flat_map}
+use Rattle.query_commands.proofs.Names.{Contains, DeterministicAutomaton, Doc, doc_line, done_line, drop, drop_all, documents_text, first_page_text, flat_map}
 use Rattle.query_commands.proofs.Names.{get_or, get_or_from_slice_get, HasAnswersIn, IsPage, IsPageOf, IsSent, IsUpTo, IsWellFormed, length, List, map}
 use Rattle.query_commands.proofs.Names.{names_of, nat_lt, Node, None, Outlet, Page, page_text, plain, Query, refl, rest_text, slice_get, slice_get-get_or}
 use Rattle.query_commands.proofs.Names.{slice_get_within, Some, subst, suc, sym, take, text_of, Tuple, tuple_line, zero, ℕ, ◌++◌, ◌+◌, ◌<◌, ◌∙◌, ◌∷◌, ◌≡◌, ◌≤◌}
@@ -42,26 +42,26 @@ module _ (a : DeterministicAutomaton) (ns : List Node) (names : List (List ℕ))
       let more : nat_lt n (length l) ≡ p.more = ap (λ (r : List Tuple). nat_lt n (length r)) all ∙ sym page.more_left in
       let text : first_page_text names n l ≡ page_text names p.tuples p.more =
       ap (λ (ts : List Tuple). page_text names ts (nat_lt n (length l))) tuples ∙ ap (λ (b : Bool). page_text names p.tuples b) more in
-      ap (λ (y : Doc). doc_line y.name ++ (first_page_text names n l ++ every_text names n ds ls)) same
-      ∙ ap (λ (t : List ℕ). doc_line d.name ++ (t ++ every_text names n ds ls)) text
-      ∙ sym (append_assoc (doc_line d.name) (page_text names p.tuples p.more) (every_text names n ds ls))
+      ap (λ (y : Doc). doc_line y.name ++ (first_page_text names n l ++ documents_text names n ds ls)) same
+      ∙ ap (λ (t : List ℕ). doc_line d.name ++ (t ++ documents_text names n ds ls)) text
+      ∙ sym (append_assoc (doc_line d.name) (page_text names p.tuples p.more) (documents_text names n ds ls))
 
   -- ---- the reply
-  pub listed : (q : Query) → HasAnswersIn ns a q → names ≡ names_of q → (ds : List Doc) (ls : List (List Tuple)) → AreLive ns ds → AreAnswered a ns ds ls → AreListed q n (plain ns ds) (every_text names n ds ls)
+  pub listed : (q : Query) → HasAnswersIn ns a q → names ≡ names_of q → (ds : List Doc) (ls : List (List Tuple)) → AreLive ns ds → AreAnswered a ns ds ls → AreListed q n (plain ns ds) (documents_text names n ds ls)
   listed q has is [] [] live are = refl
   listed q has is [] (l ∷ ls) live are = absurd are
   listed q has is (d ∷ ds) [] live are = absurd are
   listed q has is (d ∷ ds) (l ∷ ls) live are = (
     take n l,
     nat_lt n (length l),
-    every_text names n ds ls,
+    documents_text names n ds ls,
     record {
       all = l;
       answers = (has.same d.root l live.0).0 are.0;
       is = record { rest = l; after = after-none l; first = refl; more_left = refl };
     },
     listed q has is ds ls live.1 are.1,
-    ap (λ (ms : List (List ℕ)). doc_line d.name ++ (first_page_text ms n l ++ every_text names n ds ls)) is,
+    ap (λ (ms : List (List ℕ)). doc_line d.name ++ (first_page_text ms n l ++ documents_text names n ds ls)) is,
   )
 
 -- the lists of the automaton's answers
@@ -73,7 +73,7 @@ lists_exist a ns q has (d ∷ ds) live =
     (l.0 ∷ ls.0, ((has.same d.root l.0 live.0).1 l.1, ls.1))
 
 pub rest_end : {x y : Outlet} {whole : List ℕ} (names : List (List ℕ)) (n : ℕ) (ds : List Doc) (ls : List (List Tuple)) (place : ℕ) → length ds ≤ place → IsUpTo x y (rest_text names n ds ls place) whole → IsUpTo x y done_line whole
-rest_end {x} {y} {whole} names n ds ls place past h = subst (λ (es : List Doc). IsUpTo x y (every_text names n es (drop place ls)) whole) (drop_all place ds past) h
+rest_end {x} {y} {whole} names n ds ls place past h = subst (λ (es : List Doc). IsUpTo x y (documents_text names n es (drop place ls)) whole) (drop_all place ds past) h
 
 -- ---- the answers of a page, and all answers
 take_at : (n : ℕ) (xs : List Tuple) (k : ℕ) (t : Tuple) → slice_get (take n xs) k ≡ Some t → slice_get xs k ≡ Some t

@@ -1,6 +1,6 @@
 -- The output of the parts of a listing on every document.
-use Rattle.query_commands.proofs.Names.{ap, AreAnswered, AreLive, arith, at, Bool, DeterministicAutomaton, Doc, doc_line, every_text, HasAnswersIn, IsPageOf}
-use Rattle.query_commands.proofs.Names.{IsUpTo, length, List, ListsEvery, map, names_of, Node, Outlet, Page, page_text, plain, Query, rest_text, slice_get}
+use Rattle.query_commands.proofs.Names.{ap, AreAnswered, AreLive, arith, at, Bool, DeterministicAutomaton, Doc, doc_line, documents_text, HasAnswersIn, IsPageOf}
+use Rattle.query_commands.proofs.Names.{IsUpTo, length, List, ListsAll, map, names_of, Node, Outlet, Page, page_text, plain, Query, rest_text, slice_get}
 use Rattle.query_commands.proofs.Names.{Some, subst, suc, sym, text_of, Tuple, ℕ, ◌++◌, ◌+◌, ◌∙◌, ◌≡◌}
 use Rattle.list_all.specs.Pages.{ArePages}
 use Rattle.query_commands.proofs.AllListingLemmas.{listed, lists_exist, page_at, page_sizes, rest_next}
@@ -26,11 +26,11 @@ module _ (a : DeterministicAutomaton) (ns : List Node) (ds : List Doc) (first co
 
 -- ---- a listing of a query's answers on every document
 pub lists_every : (a : DeterministicAutomaton) (ns : List Node) (q : Query) (ds : List Doc) (names : List (List ℕ)) (n : ℕ) (Writes : List ℕ → Type 0) → HasAnswersIn ns a q → names ≡ names_of q → AreLive ns ds
-    → ((lists : List (List Tuple)) → AreAnswered a ns ds lists → Writes (every_text names n ds lists)) → ListsEvery Writes q (plain ns ds) n
+    → ((lists : List (List Tuple)) → AreAnswered a ns ds lists → Writes (documents_text names n ds lists)) → ListsAll Writes q (plain ns ds) n
 lists_every a ns q ds names n Writes has is live writes =
     let ls = lists_exist a ns q has ds live in
     record {
-      reply = every_text names n ds ls.0;
+      reply = documents_text names n ds ls.0;
       listed = listed a ns names n q has is ds ls.0 live ls.1;
       writes = writes ls.0 ls.1;
     }

@@ -1,7 +1,7 @@
 -- The effect of counting answers.
 use Rattle.query_commands.proofs.Names.{[], Accepted, Answer, answer_limit, Answers, answers_steps, ap, arith, AsksForCounts, at, Bool, Carries, counters}
-use Rattle.query_commands.proofs.Names.{Book, Entry, false, Files, GrowsCounts, GrowsTables, inl, inr, IsAsked, IsConsistent, IsNamed, IsNumberOf, IsNumberTold}
-use Rattle.query_commands.proofs.Names.{IsRankOf, IsRefused, IsRejectedFreely, IsSaturated, IsToldOf, IsUnaskedOf, List, most_answers, Named, names_of}
+use Rattle.query_commands.proofs.Names.{Book, Entry, false, Files, GrowsCounts, GrowsTables, inl, inr, IsAsked, IsConsistent, IsNamed, IsNumberOf, IsNumberResult}
+use Rattle.query_commands.proofs.Names.{IsRankOf, IsRefused, IsRejectedFreely, IsSaturated, IsReplyOf, IsUnaskedOf, List, most_answers, Named, names_of}
 use Rattle.query_commands.proofs.Names.{no_steps, None, NoSuchQuery, number_text, Option, option_map, PaysFor, plain, queries_of, Query, Quiet, refl, Refusal}
 use Rattle.query_commands.proofs.Names.{refusal_text, Refused, same_Some, SessionState, Some, state_of, Stays, subst, sym, Told, TooManyAnswers, true, Tuple}
 use Rattle.query_commands.proofs.Names.{TupleText, value_of, world, World, ℕ, ◌+◌, ◌<◌, ◌∙◌, ◌∷◌, ◌≡◌, ◌≤◌}
@@ -16,12 +16,12 @@ use Rattle.slp_model.specs.declared.Node.{Node}
 use Rattle.query_book.specs.Serving.{CoversQuery, HasCounts, Serves}
 use Rattle.span_types.specs.Query.{query_of}
 use Rattle.session_state.proofs.BookLemmas.{counts_grown, query_of as named_query}
-use Rattle.session_state.proofs.Goes.{placed_answers, placed_stops}
+use Rattle.session_state.proofs.KeepsInvariant.{placed_answers, placed_stops}
 use Rattle.session_state.proofs.PaidLemmas.{none_paid, not_begun, part_of_paid}
 use Rattle.session_state.proofs.PlacesLemmas.{not_asked}
 
 -- a number as it is kept, in a reply
-pub told_of : (P : ℕ → Type 0) (number kept : ℕ) (told : Told) (reply : List ℕ) → IsSaturated P kept → IsNumberTold number kept told reply → IsToldOf P number told reply
+pub told_of : (P : ℕ → Type 0) (number kept : ℕ) (told : Told) (reply : List ℕ) → IsSaturated P kept → IsNumberResult number kept told reply → IsReplyOf P number told reply
 told_of P number kept Quiet reply h t = absurd t
 told_of P number kept Accepted reply h (few, is) =
     let same : kept ≡ h.number = omega (arith, few, h.value) in
@@ -34,12 +34,12 @@ module _ (w : World) (number : ℕ) (query name text : List ℕ) (document : val
   asked : IsAsked w query name q text
   asked = record { document = document; registered = registered }
 
-  pub count_carries : (told : Told) (reply : List ℕ) → IsToldOf (IsNumberOf q text) number told reply → Carries w number (form.Count query name) told reply w
+  pub count_carries : (told : Told) (reply : List ℕ) → IsReplyOf (IsNumberOf q text) number told reply → Carries w number (form.Count query name) told reply w
   count_carries Quiet reply h = absurd h
   count_carries Accepted reply (n, is, replied) = (q, text, n, asked, is, replied, refl)
   count_carries Refused reply (n, why, is, many, written) = (why, inr (q, text, n, asked, is, many), written, refl)
 
-  pub rank_carries : (word : List ℕ) (tuple : Tuple) (told : Told) (reply : List ℕ) → TupleText word (names_of q) tuple → IsToldOf (IsRankOf q text tuple) number told reply → Carries w number (form.Rank query name word) told reply w
+  pub rank_carries : (word : List ℕ) (tuple : Tuple) (told : Told) (reply : List ℕ) → TupleText word (names_of q) tuple → IsReplyOf (IsRankOf q text tuple) number told reply → Carries w number (form.Rank query name word) told reply w
   rank_carries word tuple Quiet reply written h = absurd h
   rank_carries word tuple Accepted reply written (n, is, replied) = (q, text, tuple, n, asked, written, is, replied, refl)
   rank_carries word tuple Refused reply written (n, why, is, many, line) = (why, inr (q, text, tuple, n, asked, written, is, many), line, refl)
@@ -56,7 +56,7 @@ module _ (h : SessionState) (book : Book) (number : ℕ) (query name text : List
   free : PaysFor (world (state_of h) files) (form.Count query name) (counters looks pairs) (counters looks pairs)
   free = (no_steps, refl, none_paid looks pairs pairs refl)
 
-  pub count_answers : (found : Query) (answer : Answer) → value_of (queries_of h.book) query ≡ Some found → IsToldOf (IsNumberOf found text) number answer.told answer.line.items
+  pub count_answers : (found : Query) (answer : Answer) → value_of (queries_of h.book) query ≡ Some found → IsReplyOf (IsNumberOf found text) number answer.told answer.line.items
       → Answers (at h files faults looks pairs p) number (form.Count query name) (at (record h { book = book }) files faults looks pairs q) answer
   count_answers found answer registered told =
       placed_answers true h book number (form.Count query name) answer files faults looks looks pairs p q is (counts_grown true h.store h.book book p q grown (λ no. let bad : ⊥ = cc no in absurd bad)) (asks found registered) (λ no. no) (λ no. no)
@@ -98,7 +98,7 @@ module _ (h : SessionState) (book : Book) (number : ℕ) (query name word text :
       let there : value_of (queries_of book) query ≡ Some found = ap (λ (qs : Named Query). value_of qs query) grown.queries ∙ registered in
       subst (λ (o : Option Query). more ≤ looks + most_looks o text) there paid
 
-  pub rank_answers : (answer : Answer) → IsNamed (queries_of book) query (λ q. IsToldOf (IsRankOf q text tuple) number answer.told answer.line.items) → more ≤ looks + most_looks (value_of (queries_of book) query) text
+  pub rank_answers : (answer : Answer) → IsNamed (queries_of book) query (λ q. IsReplyOf (IsRankOf q text tuple) number answer.told answer.line.items) → more ≤ looks + most_looks (value_of (queries_of book) query) text
       → Answers (at h files faults looks pairs p) number (form.Rank query name word) (at (record h { book = book }) files faults more pairs q) answer
   rank_answers answer named paid =
       let w = world (state_of h) files in
@@ -129,8 +129,8 @@ pub found_before : (old new : Book) (bytes query : List ℕ) (found : Option Que
 found_before old new bytes query found same name is = ap (λ (qs : Named Query). value_of qs query) (sym same) ∙ (ap (value_of (queries_of new)) (sym name) ∙ is)
 
 -- the rank of a tuple in a reply
-pub rank_told : (queries : Named Query) (bytes query text : List ℕ) (tuple : Tuple) (number kept : ℕ) (told : Told) (reply : List ℕ) → bytes ≡ query → IsNamed queries bytes (λ q. IsSaturated (IsRankOf q text tuple) kept) → IsNumberTold number kept told reply
-    → IsNamed queries query (λ q. IsToldOf (IsRankOf q text tuple) number told reply)
+pub rank_told : (queries : Named Query) (bytes query text : List ℕ) (tuple : Tuple) (number kept : ℕ) (told : Told) (reply : List ℕ) → bytes ≡ query → IsNamed queries bytes (λ q. IsSaturated (IsRankOf q text tuple) kept) → IsNumberResult number kept told reply
+    → IsNamed queries query (λ q. IsReplyOf (IsRankOf q text tuple) number told reply)
 rank_told queries bytes query text tuple number kept told reply same named replied = record {
   query = named.query;
   there = ap (value_of queries) (sym same) ∙ named.there;

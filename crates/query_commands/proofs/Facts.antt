@@ -12,7 +12,7 @@ pub use Rattle.query_commands.proofs.QueryLemmas.{unquery_carries}
 pub use Rattle.query_commands.proofs.Registered.{made_there, outcome, registered_answers, registered_stops}
 pub use Rattle.query_commands.proofs.ReplaceLemmas.{choose_stops, no_sources, replaced_answers, replaced_stops, unchosen_answers}
 pub use Rattle.session_state.proofs.BookLemmas.{all_grown, both_grown, counts_grown, query_of, tables-within, take_placed}
-pub use Rattle.session_state.proofs.Goes.{booked_answers, moved_answers, moved_stops, never, passed_on, placed_answers, placed_stops, stays, unplaced}
+pub use Rattle.session_state.proofs.KeepsInvariant.{booked_answers, moved_answers, moved_stops, never, passed_on, placed_answers, placed_stops, stays, unplaced}
 pub use Rattle.session_state.proofs.StateLemmas.{document_is, document_lacks, live_root}
 pub use Rattle.session_state.proofs.PaidLemmas.{none_of_err, part_of_paid, some_of_ok}
 pub use Rattle.session_state.proofs.EndsLemmas.{unplaced_stops}

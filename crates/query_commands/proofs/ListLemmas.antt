@@ -43,14 +43,14 @@ pub kept_size : (a b : Listing) (cursor : Option Tuple) (t : Tuple) → Keeps a 
 kept_size a b cursor t k h = h.member.size ∙ ap (λ x. x.variables) k.automaton
 
 -- the rest of a page when `left` more tuples may come, and its table lookups
-pub record Goes (a b : Outlet) (names : List (List ℕ)) (limit : ℕ) (first all : List Tuple) (cursor : Option Tuple) (left before looks each : ℕ) : Type 0 where
+pub record KeepsInvariant (a b : Outlet) (names : List (List ℕ)) (limit : ℕ) (first all : List Tuple) (cursor : Option Tuple) (left before looks each : ℕ) : Type 0 where
   pub rest : List Tuple
   pub after : IsAfter all cursor rest
   pub so_far : IsUpTo a b (first_page_text names left rest) (first_page_text names limit first)
   pub paid : looks + length (take left rest) * each ≤ before + length (take limit first) * each
 
 pub goes_starts : (a : Outlet) (names : List (List ℕ)) (limit : ℕ) (first all : List Tuple) (cursor : Option Tuple) (looks each : ℕ)
-    → IsAfter all cursor first → Goes a a names limit first all cursor limit looks looks each
+    → IsAfter all cursor first → KeepsInvariant a a names limit first all cursor limit looks looks each
 goes_starts a names limit first all cursor looks each h = record {
   rest = first;
   after = h;
@@ -60,7 +60,7 @@ goes_starts a names limit first all cursor looks each h = record {
 
 -- the answers of an iterator after a step, which keeps its automaton and text
 module _ {a b : Outlet} {names : List (List ℕ)} {limit : ℕ} {first all : List Tuple} {cursor : Option Tuple} {left before looks each : ℕ} (old listing : Listing) (kept : Keeps old listing)
-    (are : AreAnswersOf old.automaton old.text all) (h : Goes a b names limit first all cursor left before looks each) where
+    (are : AreAnswersOf old.automaton old.text all) (h : KeepsInvariant a b names limit first all cursor left before looks each) where
   here : AreAnswersOf listing.automaton listing.text all
   here = kept_answers old listing all kept are
 
@@ -78,7 +78,7 @@ module _ {a b : Outlet} {names : List (List ℕ)} {limit : ℕ} {first all : Lis
       )
 
   pub page_goes_on : {c : Outlet} (next more : ℕ) (u : Tuple) (to : Option Tuple) → left ≡ suc next → to ≡ Some u → IsFirstMember listing.automaton listing.text cursor u
-      → more ≤ looks + each → IsSent b (tuple_line names u) c → Goes a c names limit first all to next before more each
+      → more ≤ looks + each → IsSent b (tuple_line names u) c → KeepsInvariant a c names limit first all to next before more each
   page_goes_on next more u to is to_is f le wrote =
       let k = found next u is f in
       record {

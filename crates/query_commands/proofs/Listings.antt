@@ -1,15 +1,15 @@
 -- Listings of answers, as lines.
 use Rattle.query_commands.proofs.Names.{Accepted, ap, AsksForCounts, at, Bool, Carries, Command, Compacts, counters, Ends, Book, false, Files, GrowsFor}
-use Rattle.query_commands.proofs.Names.{GrowsTables, IfOk, inl, inr, IsConsistent, IsList, IsRefused, line_state, List, ListsEvery, ListStart, model_of}
+use Rattle.query_commands.proofs.Names.{GrowsTables, IfOk, inl, inr, IsConsistent, IsList, IsRefused, line_state, List, ListsAll, ListStart, model_of}
 use Rattle.query_commands.proofs.Names.{no_steps, Node, None, NoSuchQuery, Option, Outlet, PaysFor, plain, queries_of, Query, refl, refusal_text, Refused}
-use Rattle.query_commands.proofs.Names.{Registers, Replies, Result, seen, SessionState, Some, State, state_of, Stop, subst, sym, Tells, Told, true, value_of}
+use Rattle.query_commands.proofs.Names.{Registers, Replies, Result, seen, SessionState, Some, State, state_of, Stop, subst, sym, IsPageReply, Told, true, value_of}
 use Rattle.query_commands.proofs.Names.{WantsFor, world, Wrote, ℕ, ◌≡◌, ◌⊎◌}
 use Rattle.script_syntax.specs.declared.form.Command.TheVariants as form
 use Rattle.query_commands.proofs.PageLemmas.{list_asks, list_carries, list_missing}
 use Rattle.query_commands.proofs.QueryLemmas.{registered_before}
 use Rattle.session_state.proofs.PlacesLemmas.{not_asked}
 use Rattle.session_state.proofs.PaidLemmas.{none_paid, part_of_paid}
-use Rattle.session_state.proofs.Goes.{placed_goes, placed_tallied, same_queries}
+use Rattle.session_state.proofs.KeepsInvariant.{placed_goes, placed_tallied, same_queries}
 use Rattle.session_state.proofs.EndsLemmas.{passes_of, unplaced_stops, written_ends}
 use Rattle.session_state.specs.Carried.{Stopped}
 use Rattle.span_language.specs.declared.told.Stop.TheVariants as stop
@@ -47,7 +47,7 @@ module _ (h : SessionState) (book : Book) (number : ℕ) (query name text : List
   grown_stops = unplaced_stops growth.asked h book number (form.List query name start n) files faults looks pairs p q before is growth.grown asks
 
   -- `list` of a query
-  pub listed_ends : (after : Outlet) (r : Result Told Stop) (tree : Query) (bytes : List ℕ) (more : ℕ) (told : Told) → bytes ≡ query → value_of (queries_of book) bytes ≡ Some tree → IfOk r (λ t. t ≡ told) → Tells (λ reply. Wrote r before reply after) number tree start text n told looks more → WantsFor r before after
+  pub listed_ends : (after : Outlet) (r : Result Told Stop) (tree : Query) (bytes : List ℕ) (more : ℕ) (told : Told) → bytes ≡ query → value_of (queries_of book) bytes ≡ Some tree → IfOk r (λ t. t ≡ told) → IsPageReply (λ reply. Wrote r before reply after) number tree start text n told looks more → WantsFor r before after
       → Ends number (Some (form.List query name start n)) (seen (model_of h) files faults looks pairs p) before (seen (model_of (record h { book = book })) files faults more pairs q) after r
   listed_ends after r tree bytes more told same registered is_told tells want =
       let here = registered_before growth.asked h book p q bytes query (Some tree) growth.grown same registered in
@@ -66,10 +66,10 @@ module _ (h : SessionState) (book : Book) (number : ℕ) (query name text : List
 module _ (h : SessionState) (book : Book) (number : ℕ) (query : List ℕ) (n : ℕ) (files : Option Files) (faults looks pairs p q : ℕ) (before after : Outlet) (r : Result Told Stop)
     (is : IsConsistent h) (grown : GrowsTables false h.store h.book book p q) where
   -- `listall` of a query
-  pub every_ends : (tree : Query) (bytes : List ℕ) (ns : List Node) → bytes ≡ query → value_of (queries_of book) bytes ≡ Some tree → ns ≡ h.store → IfOk r (λ t. t ≡ Accepted) → ListsEvery (λ reply. Wrote r before reply after) tree (plain ns h.docs) n
+  pub every_ends : (tree : Query) (bytes : List ℕ) (ns : List Node) → bytes ≡ query → value_of (queries_of book) bytes ≡ Some tree → ns ≡ h.store → IfOk r (λ t. t ≡ Accepted) → ListsAll (λ reply. Wrote r before reply after) tree (plain ns h.docs) n
       → Ends number (Some (form.ListAll query n)) (seen (model_of h) files faults looks pairs p) before (seen (model_of (record h { book = book })) files faults looks pairs q) after r
   every_ends tree bytes ns same registered nodes is_told lists =
-      let l = subst (λ (ms : List Node). ListsEvery (λ reply. Wrote r before reply after) tree (plain ms h.docs) n) nodes lists in
+      let l = subst (λ (ms : List Node). ListsAll (λ reply. Wrote r before reply after) tree (plain ms h.docs) n) nodes lists in
       let here = registered_before false h book p q bytes query (Some tree) grown same registered in
       replied_ends false h book number (form.ListAll query n) files faults looks looks pairs p q before after r is grown not_asked Accepted l.reply (λ nothing. let bad : ⊥ = cc nothing in bad) (λ no. no) (λ no. no) (tree, here, l.listed, refl)
       (no_steps, refl, none_paid looks pairs pairs refl) (inl (λ no. no)) is_told l.writes

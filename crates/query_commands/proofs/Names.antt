@@ -14,10 +14,10 @@ pub use Rattle.query_book.specs.InHand.{HasAnswersIn}
 pub use Rattle.query_book.specs.Serving.{Serves, counted_of, covered_of}
 pub use Rattle.query_book.specs.Book.{Book}
 pub use Rattle.query_book.specs.declared.entry.Entry.{Entry}
-pub use Rattle.query_commands.specs.AllListing.{AreAnswered, ListsEvery, every_text, rest_text}
-pub use Rattle.query_commands.specs.Counting.{IsNumberTold, IsToldOf}
+pub use Rattle.query_commands.specs.AllListing.{AreAnswered, ListsAll, documents_text, rest_text}
+pub use Rattle.query_commands.specs.Counting.{IsNumberResult, IsReplyOf}
 pub use Rattle.query_commands.specs.Judged.{IsReplied, IsReplyPaid, question_of}
-pub use Rattle.query_commands.specs.Listing.{Begins, IsOver, IsRestFrom, Lists, Starts, Tells}
+pub use Rattle.query_commands.specs.Listing.{Begins, IsOver, IsRestFrom, Lists, Starts, IsPageReply}
 pub use Rattle.query_commands.specs.Refused.{IsTextRefusal}
 pub use Rattle.query_commands.specs.Registering.{IsMade, IsMadeIn, IsOutcome, IsUnmade, command_of}
 pub use Rattle.query_commands.specs.Replacing.{AreFew, AreSources, Chooses, ChoosesFrom, ChoosesOf, IsSourceMissing, Replaces}

@@ -5,7 +5,7 @@ use Rattle.query_commands.proofs.Names.{IsAfter, IsAllowed, IsAnswersOf, IsAsked
 use Rattle.query_commands.proofs.Names.{IsSome, IsStartRefused, IsTupleRefused, length, List, Listing, Lists, ListStart, looks_limit, MatchResult}
 use Rattle.query_commands.proofs.Names.{more_answers, Named, names_of, nat_lt, no_steps, Node, NoMemory, None, NoSuchDocument, NoSuchQuery, Ok, Option}
 use Rattle.query_commands.proofs.Names.{page_text, PaysFor, queries_of, Query, Quiet, refl, Refusal, refusal_text, Refused, Result, rules, Some, Starts, Stop}
-use Rattle.query_commands.proofs.Names.{subst, sym, take, Tells, Told, true, Tuple, TupleText, value_of, World, ℕ, ◌*◌, ◌+◌, ◌-◌, ◌∙◌, ◌≡◌, ◌≤◌}
+use Rattle.query_commands.proofs.Names.{subst, sym, take, IsPageReply, Told, true, Tuple, TupleText, value_of, World, ℕ, ◌*◌, ◌+◌, ◌-◌, ◌∙◌, ◌≡◌, ◌≤◌}
 use Rattle.script_syntax.specs.declared.form.Command.TheVariants as form
 use Rattle.session_state.proofs.BookLemmas.{both_grown, some_value}
 use Rattle.session_state.proofs.PlacesLemmas.{not_asked}
@@ -78,7 +78,7 @@ page_from q text (At m) n all rest answers is = record { all = all; answers = an
 
 module _ (Writes : List ℕ → Type 0) (number : ℕ) (q : Query) (text : List ℕ) (start : ListStart) (n before mid after : ℕ) (r : Result Told Stop) where
   lists : (result : Result (Result Listing Refusal) NoMemory) → (s : Starts q text start result before mid) → Writes (first_page_text (names_of q) n s.rest) → after ≤ before + (length (take n s.rest) + more_answers start) * answer_limit q text
-      → IfOk r (λ t. t ≡ Accepted) → (told : Told) × IfOk r (λ t. t ≡ told) × Tells Writes number q start text n told before after
+      → IfOk r (λ t. t ≡ Accepted) → (told : Told) × IfOk r (λ t. t ≡ told) × IsPageReply Writes number q start text n told before after
   lists result s writes paid accepted =
       let l : Lists Writes q text start n before after = record { page = take n s.rest; more = nat_lt n (length s.rest); page_is = page_from q text start n s.all s.rest s.answers s.from; writes = writes; paid = paid } in
       (Accepted, accepted, l)
@@ -87,7 +87,7 @@ module _ (Writes : List ℕ → Type 0) (number : ℕ) (q : Query) (text : List 
   pub tells_page : (listing : Listing) (names : List (List ℕ)) → Begins q text start (Ok (Ok listing)) before mid → names ≡ names_of q
       → ((all rest : List Tuple) → AreAnswersOf listing.automaton listing.text all → IsAfter all listing.after rest
       → Writes (first_page_text names n rest) × (after ≤ mid + (length (take n rest) + 1) * looks_limit listing.automaton.variables (length listing.text)))
-      → IfOk r (λ t. t ≡ Accepted) → (told : Told) × IfOk r (λ t. t ≡ told) × Tells Writes number q start text n told before after
+      → IfOk r (λ t. t ≡ Accepted) → (told : Told) × IfOk r (λ t. t ≡ told) × IsPageReply Writes number q start text n told before after
   tells_page listing names (inr (why, refused, is, same)) names_are written accepted = let bad : ⊥ = cc is in absurd bad
   tells_page listing names (inl s) names_are written accepted =
       let over = s.found in
@@ -104,12 +104,12 @@ module _ (Writes : List ℕ → Type 0) (number : ℕ) (q : Query) (text : List 
       lists (Ok (Ok listing)) s wrote (omega (arith, s.cost, paid)) accepted
 
   -- nothing of the page was written
-  pub tells_none : (e : NoMemory) → mid ≡ after → Begins q text start (Err e) before mid → ((reply : List ℕ) → Writes reply) → IfOk r (λ t. t ≡ Accepted) → (told : Told) × IfOk r (λ t. t ≡ told) × Tells Writes number q start text n told before after
+  pub tells_none : (e : NoMemory) → mid ≡ after → Begins q text start (Err e) before mid → ((reply : List ℕ) → Writes reply) → IfOk r (λ t. t ≡ Accepted) → (told : Told) × IfOk r (λ t. t ≡ told) × IsPageReply Writes number q start text n told before after
   tells_none e same (inr (why, refused, is, kept)) writes accepted = let bad : ⊥ = cc is in absurd bad
   tells_none e same (inl s) writes accepted = lists (Err e) s (writes (first_page_text (names_of q) n s.rest)) (omega (arith, s.cost, same)) accepted
 
   -- the start was rejected
-  pub tells_refused : (why : Refusal) → mid ≡ after → Begins q text start (Ok (Err why)) before mid → Writes (refusal_text number why) → IfOk r (λ t. t ≡ Refused) → (told : Told) × IfOk r (λ t. t ≡ told) × Tells Writes number q start text n told before after
+  pub tells_refused : (why : Refusal) → mid ≡ after → Begins q text start (Ok (Err why)) before mid → Writes (refusal_text number why) → IfOk r (λ t. t ≡ Refused) → (told : Told) × IfOk r (λ t. t ≡ told) × IsPageReply Writes number q start text n told before after
   tells_refused why same (inl s) writes refused = absurd s.found
   tells_refused why same (inr (other, not_read, is, kept)) writes refused =
       let told : why ≡ other = cc is in
@@ -122,7 +122,7 @@ over_count q text start before mid listing names (inr (why, refused, is, kept)) 
 -- ---- what the line does
 module _ (w : World) (number : ℕ) (query name text : List ℕ) (start : ListStart) (n : ℕ) (there : value_of w.state.documents name ≡ Some text) where
   -- the returned reply is one of the line's, and was written, at its cost
-  pub list_carries : (q : Query) → value_of w.state.queries query ≡ Some q → (Writes : List ℕ → Type 0) (told : Told) (before after pairs : ℕ) → Tells Writes number q start text n told before after
+  pub list_carries : (q : Query) → value_of w.state.queries query ≡ Some q → (Writes : List ℕ → Type 0) (told : Told) (before after pairs : ℕ) → IsPageReply Writes number q start text n told before after
       → (reply : List ℕ) × Carries w number (form.List query name start n) told reply w × PaysFor w (form.List query name start n) (counters before pairs) (counters after pairs) × Writes reply
   list_carries q registered Writes Quiet before after pairs h = absurd h
   list_carries q registered Writes Accepted before after pairs l =

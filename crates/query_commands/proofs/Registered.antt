@@ -11,7 +11,7 @@ use Rattle.query_commands.specs.declared.registering.Recipe.TheVariants as recip
 use Rattle.session_state.proofs.BookLemmas.{put_placed, tables-within}
 use Rattle.session_state.specs.SessionState.{tables_of}
 use Rattle.query_commands.proofs.QueryLemmas.{only_queries}
-use Rattle.session_state.proofs.Goes.{booked_answers, booked_stops, never, once_accepted}
+use Rattle.session_state.proofs.KeepsInvariant.{booked_answers, booked_stops, never, once_accepted}
 
 -- the result of a call to the registry, as an outcome
 pub outcome : {T E Z : Type 0} (made : Result T E) (out : Result (Option Refusal) Z) (M C D S N : Type 0) (R : E → Type 0) (Says : E → Refusal → Type 0) (U : Refusal → Type 0)

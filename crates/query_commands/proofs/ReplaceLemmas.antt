@@ -13,7 +13,7 @@ use Rattle.session_state.proofs.StateLemmas.{document_is, document_lacks}
 use Rattle.session_state.proofs.DocumentLemmas.{only_documents}
 use Rattle.session_state.proofs.PlacesLemmas.{not_asked}
 use Rattle.session_state.proofs.PaidLemmas.{part_of_paid}
-use Rattle.session_state.proofs.Goes.{moved_answers, moved_stops, placed_answers, placed_stops}
+use Rattle.session_state.proofs.KeepsInvariant.{moved_answers, moved_stops, placed_answers, placed_stops}
 
 -- a document that doesn't exist
 pub no_sources : (h : SessionState) (files : Option Files) (query source by : List ℕ) (why : Refusal) → IsSourceMissing h.docs source by why → IsUnreplaced (world (state_of h) files) query source by why

@@ -29,17 +29,17 @@ pub record IsAllListing (a : DeterministicAutomaton) (ns : List Node) (d : Dicti
   pub answered : (lists : List (List Tuple)) × AreAnswered a ns ds lists
 
 -- for each document its line and the first n of its answers, and finally `done`
-abbrev pub every_text : List (List ℕ) → ℕ → List Doc → List (List Tuple) → List ℕ
-every_text names n [] ls = done_line
-every_text names n (d ∷ ds) [] = done_line
-every_text names n (d ∷ ds) (l ∷ ls) = doc_line d.name ++ (first_page_text names n l ++ every_text names n ds ls)
+abbrev pub documents_text : List (List ℕ) → ℕ → List Doc → List (List Tuple) → List ℕ
+documents_text names n [] ls = done_line
+documents_text names n (d ∷ ds) [] = done_line
+documents_text names n (d ∷ ds) (l ∷ ls) = doc_line d.name ++ (first_page_text names n l ++ documents_text names n ds ls)
 
 -- the same for the documents from an index on
 abbrev pub rest_text : List (List ℕ) → ℕ → List Doc → List (List Tuple) → ℕ → List ℕ
-rest_text names n ds ls place = every_text names n (drop place ds) (drop place ls)
+rest_text names n ds ls place = documents_text names n (drop place ds) (drop place ls)
 
 -- the reply with the answers of the query on each document is written
-pub record ListsEvery (Writes : List ℕ → Type 0) (q : Query) (documents : Documents) (n : ℕ) : Type 0 where
+pub record ListsAll (Writes : List ℕ → Type 0) (q : Query) (documents : Documents) (n : ℕ) : Type 0 where
   pub reply : List ℕ
   pub listed : AreListed q n documents reply
   pub writes : Writes reply

@@ -8,13 +8,13 @@ use Rattle.span_language.specs.declared.told.Told.{Told}
 use Rattle.span_language.specs.declared.told.Told.TheVariants.{Quiet, Accepted, Refused}
 
 -- the reply is the number, or that it is too great
-abbrev pub IsNumberTold : ℕ → ℕ → Told → List ℕ → Type 0
-IsNumberTold number n Quiet reply = ⊥
-IsNumberTold number n Accepted reply = IsNumberReply n reply
-IsNumberTold number n Refused reply = (most_answers < n) × (reply ≡ refusal_text number TooManyAnswers)
+abbrev pub IsNumberResult : ℕ → ℕ → Told → List ℕ → Type 0
+IsNumberResult number n Quiet reply = ⊥
+IsNumberResult number n Accepted reply = IsNumberReply n reply
+IsNumberResult number n Refused reply = (most_answers < n) × (reply ≡ refusal_text number TooManyAnswers)
 
 -- the reply is the number with the property P, or that it is too great
-abbrev pub IsToldOf : (ℕ → Type 0) → ℕ → Told → List ℕ → Type 0
-IsToldOf P number Quiet reply = ⊥
-IsToldOf P number Accepted reply = (n : ℕ) × P n × IsNumberReply n reply
-IsToldOf P number Refused reply = (n : ℕ) × (why : Refusal) × P n × IsTooMany n why × (reply ≡ refusal_text number why)
+abbrev pub IsReplyOf : (ℕ → Type 0) → ℕ → Told → List ℕ → Type 0
+IsReplyOf P number Quiet reply = ⊥
+IsReplyOf P number Accepted reply = (n : ℕ) × P n × IsNumberReply n reply
+IsReplyOf P number Refused reply = (n : ℕ) × (why : Refusal) × P n × IsTooMany n why × (reply ≡ refusal_text number why)

@@ -54,7 +54,7 @@ pub record Lists (Writes : List ℕ → Type 0) (q : Query) (text : List ℕ) (s
   pub paid : after ≤ before + (length page + more_answers start) * answer_limit q text
 
 -- the page from the start on is written, or why the start is rejected
-abbrev pub Tells : (List ℕ → Type 0) → ℕ → Query → ListStart → List ℕ → ℕ → Told → ℕ → ℕ → Type 0
-Tells Writes number q start text n Quiet before after = ⊥
-Tells Writes number q start text n Accepted before after = Lists Writes q text start n before after
-Tells Writes number q start text n Refused before after = (why : Refusal) × IsStartRefused q start why × Writes (refusal_text number why) × (after ≡ before)
+abbrev pub IsPageReply : (List ℕ → Type 0) → ℕ → Query → ListStart → List ℕ → ℕ → Told → ℕ → ℕ → Type 0
+IsPageReply Writes number q start text n Quiet before after = ⊥
+IsPageReply Writes number q start text n Accepted before after = Lists Writes q text start n before after
+IsPageReply Writes number q start text n Refused before after = (why : Refusal) × IsStartRefused q start why × Writes (refusal_text number why) × (after ≡ before)

@@ -9,7 +9,7 @@ ghost use Rattle.span_enum.specs.Members.{Tuple as ATuple};
 ghost use Rattle.span_types.specs.Query.{query_of};
 ghost use Rattle.span_language.specs.Listed.{doc_line, last_line, page_text, tuple_line};
 ghost use Rattle.session_state.specs.Carried.{outlet};
-ghost use Rattle.query_commands.specs.AllListing.{AreAnswered, IsAllListing, ListsEvery, every_text, rest_text};
+ghost use Rattle.query_commands.specs.AllListing.{AreAnswered, IsAllListing, ListsAll, documents_text, rest_text};
 ghost use Rattle.session_state.specs.SessionState.{IsConsistent, model_of};
 ghost use Rattle.session_state.specs.LineState.{seen};
 ghost use Rattle.session_state.specs.Written.{Ends, IsCut, IsUpTo, Wrote};
@@ -151,7 +151,7 @@ fn list_documents<R: Threads + Sync, K: Sink, G: Gate>(
     ensures told { IfOk result (λ told. told ≡ Told.Accepted) }
     ensures wrote { (lists : List (List ATuple)) → AreAnswered all_listing.entry.dfa.now all_listing.entry.view.store.now all_listing.entry.docs.now lists
         → Wrote result (outlet (K.written out.old) (K.faults out.old) (K.wants out.old))
-        (every_text all_listing.entry.vars.now all_listing.entry.limit all_listing.entry.docs.now lists)
+        (documents_text all_listing.entry.vars.now all_listing.entry.limit all_listing.entry.docs.now lists)
         (outlet (K.written out.new) (K.faults out.new) (K.wants out.new)) }
 {
     let all = all_listing.docs.count();
@@ -177,7 +177,7 @@ fn list_query<R: Threads + Sync, K: Sink, G: Gate>(
     requires some { 1 ≤ limit }
     requires few { limit ≤ 10000 }
     ensures told { IfOk result (λ told. told ≡ Told.Accepted) }
-    ensures wrote { ListsEvery (λ reply. Wrote result (outlet (K.written out.old) (K.faults out.old) (K.wants out.old)) reply
+    ensures wrote { ListsAll (λ reply. Wrote result (outlet (K.written out.old) (K.faults out.old) (K.wants out.old)) reply
         (outlet (K.written out.new) (K.faults out.new) (K.wants out.new))) (query_of query.now.tree) (plain query.now.nodes docs.now) limit }
 {
     let all_listing = AllListing {

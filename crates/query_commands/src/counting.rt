@@ -12,7 +12,7 @@ ghost use Rattle.query_book.specs.Numbers.{IsRankOf};
 ghost use Rattle.query_book.specs.Serving.{HasCounts, Serves};
 ghost use Rattle.slp_model.specs.Nodes.{IsLive, text_of};
 ghost use Rattle.span_types.specs.Rel.{names_of};
-ghost use Rattle.query_commands.specs.Counting.{IsNumberTold, IsToldOf};
+ghost use Rattle.query_commands.specs.Counting.{IsNumberResult, IsReplyOf};
 
 use crate::tables::grow_counts;
 use crate::words::tuple_of;
@@ -30,7 +30,7 @@ use work_gate::Gate;
 
 /// The reply with a number of answers. `u64::MAX` stands for too many.
 fn number_reply(alloc: Global, number: u64, count: u64) -> Result<Answer, NoMemory>
-    ensures { IfOk result (λ answer. IsNumberTold number count answer.told answer.line.items) }
+    ensures { IfOk result (λ answer. IsNumberResult number count answer.told answer.line.items) }
 {
     if count == u64::MAX {
         return Answer::refused(alloc, number, &Refusal::TooManyAnswers);
@@ -98,7 +98,7 @@ fn rank_root<L: Ledger>(
     requires counts { HasCounts (length session.now.store) session.now.book query.now }
     requires live { IsLive session.now.store root }
     requires tuple { IsNamed (queries_of session.now.book) query.now (λ q. length tuple.now ≡ length (names_of q)) }
-    ensures ok { IfOk result (λ answer. IsNamed (queries_of session.now.book) query.now (λ q. IsToldOf
+    ensures ok { IfOk result (λ answer. IsNamed (queries_of session.now.book) query.now (λ q. IsReplyOf
         (IsRankOf q (text_of session.now.store root) tuple.now) number answer.told answer.line.items)) }
     ensures cost { looks.new ≤ looks.old + most_looks (value_of (queries_of session.now.book) query.now) (text_of session.now.store root) }
 {

@@ -1,6 +1,6 @@
 //! The command `list`: writes each answer's line before the next answer is found.
 ghost use Rattle.std.specs.Prelude.{◌≡◌, ◌≤◌, ◌+◌, ◌*◌, ℕ, List, Option, Some, length, take, IfOk, IfErr, OnOk};
-ghost use Rattle.edge_io.specs.Causes.{Rose};
+ghost use Rattle.edge_io.specs.Causes.{HasIncreased};
 ghost use Rattle.edge_io.specs.Files.{Files};
 ghost use Rattle.slp_model.specs.Nodes.{IsLive, text_of};
 ghost use Rattle.script_syntax.specs.declared.form.Command.TheVariants as form;
@@ -14,7 +14,7 @@ ghost use Rattle.span_language.specs.Counts.{IsNumbered};
 ghost use Rattle.span_language.specs.Listed.{tuple_line, first_page_text};
 ghost use Rattle.session_state.specs.Carried.{outlet};
 ghost use Rattle.session_state.specs.SessionState.{IsConsistent, model_of};
-ghost use Rattle.query_commands.specs.Listing.{Begins, Tells};
+ghost use Rattle.query_commands.specs.Listing.{Begins, IsPageReply};
 ghost use Rattle.query_commands.specs.Tables.{GrowsFor};
 ghost use Rattle.session_state.specs.LineState.{seen};
 ghost use Rattle.session_state.specs.Written.{Ends, WantsFor, Wrote};
@@ -53,7 +53,7 @@ pub fn write_tuple<K: Sink>(tuple: &Tuple, vars: &Vars, out: &mut K) -> Result<(
     requires { length vars.now ≡ length tuple.now }
     ensures wrote { Wrote result (outlet (K.written out.old) (K.faults out.old) (K.wants out.old)) (tuple_line vars.now tuple.now)
         (outlet (K.written out.new) (K.faults out.new) (K.wants out.new)) }
-    ensures want { IfErr result (λ why. why ≡ Stop.NoMemory → Rose (K.wants out.old) (K.wants out.new)) }
+    ensures want { IfErr result (λ why. why ≡ Stop.NoMemory → HasIncreased (K.wants out.old) (K.wants out.new)) }
 {
     let mut line = [0u8; 800];
     let len = print(tuple, vars, &mut line);
@@ -75,7 +75,7 @@ fn write_page<K: Sink, L: Ledger>(
         → Wrote result (outlet (K.written out.old) (K.faults out.old) (K.wants out.old)) (first_page_text vars.now limit rest)
         (outlet (K.written out.new) (K.faults out.new) (K.wants out.new))
         × (looks.new ≤ looks.old + (length (take limit rest) + 1) * looks_limit answers.old.automaton.variables (length answers.old.text)) }
-    ensures want { IfErr result (λ why. why ≡ Stop.NoMemory → Rose (K.wants out.old) (K.wants out.new)) }
+    ensures want { IfErr result (λ why. why ≡ Stop.NoMemory → HasIncreased (K.wants out.old) (K.wants out.new)) }
 {
     let mut left = limit;
     while let Some(tuple) = answers.next(looks) {
@@ -132,7 +132,7 @@ fn list_page<K: Sink, L: Ledger>(
     requires start { IsStart page.now.start }
     requires counts { IsNumbered page.now.start → subject.query.now.counted ≡ Some (length subject.query.now.nodes) }
     ensures tells { (told : Told) × IfOk result (λ t. t ≡ told)
-        × Tells (λ reply. Wrote result (outlet (K.written out.old) (K.faults out.old) (K.wants out.old)) reply
+        × IsPageReply (λ reply. Wrote result (outlet (K.written out.old) (K.faults out.old) (K.wants out.old)) reply
         (outlet (K.written out.new) (K.faults out.new) (K.wants out.new))) number (query_of subject.entry.query.now.tree)
         page.now.start (text_of subject.entry.query.now.nodes subject.entry.root) page.now.limit told looks.old looks.new }
     ensures want { WantsFor result (outlet (K.written out.old) (K.faults out.old) (K.wants out.old))

@@ -117,7 +117,7 @@ fn choose<L: Ledger>(
 }
 
 /// Sets the document with this name to the text with the spans replaced.
-fn put_in_place<P: Ledger>(
+fn put_replaced<P: Ledger>(
     session: &mut SessionState,
     number: u64,
     name: Name,
@@ -198,7 +198,7 @@ pub fn replace<R: Threads + Sync, G: Gate, P: Ledger, T: Ledger, L: Ledger>(
             )?;
             match choose(session, query, sources.root, long, looks) {
                 Ok(Ok(spans)) => {
-                    let answer = put_in_place(session, number, name, &sources, &spans, pairs)?;
+                    let answer = put_replaced(session, number, name, &sources, &spans, pairs)?;
                     Ok(answer)
                 }
                 Ok(Err(why)) => {

@@ -40,7 +40,7 @@ fn seeks<L: Ledger>(
 }
 
 /// Whether one tuple is an answer, and the other isn't.
-fn tells<L: Ledger>(letter: &OneLetter, x: Tuple, late: Tuple, steps: &mut Steps<L>) -> bool
+fn is_exact<L: Ledger>(letter: &OneLetter, x: Tuple, late: Tuple, steps: &mut Steps<L>) -> bool
     requires letter { IsOneLetter letter.now.dfa letter.now.store letter.now.tables }
     requires tuple { length x ≡ 1 }
     requires late { length late ≡ 1 }
@@ -62,7 +62,7 @@ fn answers<L: Ledger>(
     let (x, late) = (spanned(1, 2), spanned(3, 3));
     let lists = lists(alloc, letter, x, steps)?;
     let seeks = seeks(alloc, letter, late, steps)?;
-    Ok([lists, seeks, tells(letter, x, late, steps)])
+    Ok([lists, seeks, is_exact(letter, x, late, steps)])
 }
 
 fn asked<L: Ledger>(alloc: Global, blank: Blank) -> Result<[bool; 3], NoMemory>

@@ -187,7 +187,7 @@ fn listed<L: Ledger>(
 }
 
 /// Whether each answer of the list is at its position, and none behind them.
-fn are_placed<L: Ledger>(
+fn are_numbered<L: Ledger>(
     alloc: Global,
     counted: &CountedText,
     list: &[Tuple],
@@ -295,7 +295,7 @@ fn agreement<R: Threads + Sync, L: Ledger>(
     let mut steps = Steps::<L>::new(blank);
     let counted = counted_text(rt, alloc, formula, text, &mut steps)?;
     let list = listed(alloc, &counted, &mut steps)?;
-    let placed = are_placed(alloc, &counted, &list, &mut steps)?;
+    let placed = are_numbered(alloc, &counted, &list, &mut steps)?;
     let ranked = are_ranked(alloc, &counted, &list, &mut steps)?;
     Ok((list.len(), placed, ranked))
 }

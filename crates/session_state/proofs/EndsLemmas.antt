@@ -1,6 +1,6 @@
 -- How a line ends: its reply was written, or a prefix of it, or it was stopped before.
 use Rattle.session_state.proofs.Names.{[], Allowance, Answer, Answers, ap, Appends-nil, arith, AsksForCounts, at, Bool, Carried, Carries, Command}
-use Rattle.session_state.proofs.Names.{CommandState, Book, Compacts, counters_in, Done, Ends, Err, false, Files, Goes, GrowsTables, IfErr, IfOk, inl, inr}
+use Rattle.session_state.proofs.Names.{CommandState, Book, Compacts, counters_in, Done, Ends, Err, false, Files, KeepsInvariant, GrowsTables, IfErr, IfOk, inl, inr}
 use Rattle.session_state.proofs.Names.{IsAllowance, IsAnswering, IsConsistent, IsList, IsOnce, IsPaid, IsRefused, IsRejectedFreely, Keeps-refl, Leaves, length}
 use Rattle.session_state.proofs.Names.{line_state, LineState, List, MatchResult, model_of, no_steps, Of, Ok, Option, Outlet, Passes, Quiet, refl, Refusal}
 use Rattle.session_state.proofs.Names.{refusal_text, Refused, Registers, Replies, Result, seen, SessionState, Some, State, state_of, Stays, Stop, Stopped}
@@ -12,9 +12,9 @@ use Rattle.session_state.proofs.Written.{starts, waits}
 use Rattle.session_state.proofs.PlacesLemmas.{none_placed, none_placed_part, not_asked}
 use Rattle.session_state.proofs.BookLemmas.{tables-within}
 use Rattle.session_state.proofs.PaidLemmas.{none_paid}
-use Rattle.session_state.proofs.Goes.{no_shelf, no_sink, none_tallied, refused_answers, same_queries, unplaced}
+use Rattle.session_state.proofs.KeepsInvariant.{no_shelf, no_sink, none_tallied, refused_answers, same_queries, unplaced}
 
-pub passes_of : (old new : CommandState) (command : Command) (before after : Outlet) → Goes old command new → before.faults ≤ after.faults → before.wants ≤ after.wants → Passes (Some command) (line_state old) before (line_state new) after
+pub passes_of : (old new : CommandState) (command : Command) (before after : Outlet) → KeepsInvariant old command new → before.faults ≤ after.faults → before.wants ≤ after.wants → Passes (Some command) (line_state old) before (line_state new) after
 passes_of old new command before after goes later wants_later = record {
   more_nodes = goes.nodes;
   more_pairs = goes.pairs;
@@ -49,7 +49,7 @@ written_ends number meaning old new before after told reply (Err why) passes sou
   want = λ e. elim wants [
     | inl other ↦ inl other
     | inr (want, same) ↦ inr (elim (want e) [
-      | inl rose ↦ inl rose
+      | inl has_increased ↦ inl has_increased
       | inr kept ↦ inr (record { written = kept; world = same })
     ])
   ];

@@ -1,7 +1,7 @@
 pub mod DocumentLemmas
 pub mod BookLemmas
 pub mod Facts
-pub mod Goes
+pub mod KeepsInvariant
 pub mod StateLemmas
 pub mod Names
 pub mod PaidLemmas

@@ -2,7 +2,7 @@
 pub use Rattle.doc_book.proofs.TextLemmas.{AreLive-grows, plain-grows}
 pub use Rattle.doc_book.specs.Texts.{AreLive, plain}
 pub use Rattle.doc_book.specs.declared.Doc.{Doc}
-pub use Rattle.edge_io.specs.Causes.{Rose}
+pub use Rattle.edge_io.specs.Causes.{HasIncreased}
 pub use Rattle.edge_io.specs.Files.{AllowsWrites, Files}
 pub use Rattle.query_book.specs.Answers.{IsNamed}
 pub use Rattle.query_book.specs.Book.{Book, queries_of}
@@ -11,7 +11,7 @@ pub use Rattle.query_book.specs.declared.entry.Entry.{Entry}
 pub use Rattle.report_text.specs.Reply.{refusal_text, saved_text}
 pub use Rattle.report_text.specs.declared.refusal.Refusal.{Refusal}
 pub use Rattle.script_syntax.specs.declared.form.Command.{Command}
-pub use Rattle.session_state.specs.Answers.{Answers, Goes, IsAnswering, Stays}
+pub use Rattle.session_state.specs.Answers.{Answers, KeepsInvariant, IsAnswering, Stays}
 pub use Rattle.session_state.specs.Carried.{Done, Outlet, Passes, Stopped}
 pub use Rattle.session_state.specs.CommandState.{CommandState, at, world_at}
 pub use Rattle.session_state.specs.SessionState.{AreKept, IsConsistent, IsSessionModel, SessionModel, nodes_of, pairs_of, plain_versions, model_of, state_of, tables_in, tables_of}
@@ -30,7 +30,7 @@ pub use Rattle.span_language.specs.Allowance.{Allowance, Counters, IsAllowed, Is
 pub use Rattle.span_language.specs.Counts.{AsksForCounts, Compacts, IsOnce, Places, PlacesOfBoth, PlacesPart, PlacesPartOfBoth, Registers, Tabled}
 pub use Rattle.span_language.specs.Means.{Carried, IsAllowance, Of, Replies}
 pub use Rattle.span_language.specs.State.{Documents, Named, State, World, is_same, put, taken_out, value_of, with_documents, with_queries, world}
-pub use Rattle.span_language.specs.Step.{AppendsFront, Carries, IsList, IsOfFile, IsPut, IsRefused, IsSaved, Leaves, open_size}
+pub use Rattle.span_language.specs.Step.{AppendsPrefix, Carries, IsList, IsOfFile, IsPut, IsRefused, IsSaved, Leaves, open_size}
 pub use Rattle.span_language.specs.declared.told.Stop.{Stop}
 pub use Rattle.span_language.specs.declared.told.Told.{Told}
 pub use Rattle.span_language.specs.declared.told.Told.TheVariants.{Accepted, Quiet, Refused}

@@ -1,5 +1,5 @@
 -- The contents of a sink after several writes.
-use Rattle.session_state.proofs.Names.{[], ap, append-nil, append_assoc, Appends, Appends-nil, Appends-trans, AppendsFront, arith, drop, Err, IsCut, IsErrAnd}
+use Rattle.session_state.proofs.Names.{[], ap, append-nil, append_assoc, Appends, Appends-nil, Appends-trans, AppendsPrefix, arith, drop, Err, IsCut, IsErrAnd}
 use Rattle.session_state.proofs.Names.{IsSent, IsUpTo, length, List, MatchResult, min, Ok, Option, Outlet, refl, Result, Stop, subst, sym, take, take-add}
 use Rattle.session_state.proofs.Names.{take-append-add, take-append-le, take-append_seam, take_min, Wrote, ℕ, ◌++◌, ◌+◌, ◌∙◌, ◌≡◌, ◌≤◌}
 use Rattle.span_language.specs.declared.told.Stop.TheVariants as stop
@@ -15,7 +15,7 @@ more_of_piece a b c piece done n first second =
 
 -- a prefix of a piece, after the pieces before it, is a prefix of the whole
 front_of_whole : (a b c : Option (List ℕ)) (before piece after whole : List ℕ) → whole ≡ before ++ piece ++ after
-    → Appends a b before → AppendsFront b c piece → AppendsFront a c whole
+    → Appends a b before → AppendsPrefix b c piece → AppendsPrefix a c whole
 front_of_whole a b c before piece after whole is first (n, second) =
     let m = length before + min n (length piece) in
     let few : min n (length piece) ≤ length piece = omega arith in
@@ -45,10 +45,10 @@ sent_on {a} {b} {c} {whole} piece left line h is wrote = record {
 pub stops : {a b c : Outlet} {whole : List ℕ} {why : Stop} (piece left line : List ℕ) → IsUpTo a b (piece ++ left) whole → line ≡ piece → IsCut b line c why → IsCut a whole c why
 stops {a} {b} {c} {whole} {why} piece left line h is stopped = record {
   front = front_of_whole a.written b.written c.written h.done piece left whole (h.cut ∙ sym (append_assoc h.done piece left)) h.sent.appends
-      (subst (λ (l : List ℕ). AppendsFront b.written c.written l) is stopped.front);
+      (subst (λ (l : List ℕ). AppendsPrefix b.written c.written l) is stopped.front);
   later = omega (arith, h.sent.sound.0, stopped.later);
   wants_later = omega (arith, h.sent.sound.1, stopped.wants_later);
-  fault = λ e. let rose = stopped.fault e in omega (arith, h.sent.sound.0, rose);
+  fault = λ e. let has_increased = stopped.fault e in omega (arith, h.sent.sound.0, has_increased);
   no_shelf = stopped.no_shelf;
 }
 

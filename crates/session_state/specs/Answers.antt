@@ -1,6 +1,6 @@
 -- The effect and the cost of a command.
 use Rattle.std.specs.Prelude.{◌≡◌, ◌⊎◌, ℕ, ◌+◌, ◌≤◌, Bool, true, List, Option, Result, IfErr, IfOk, length}
-use Rattle.edge_io.specs.Causes.{Rose}
+use Rattle.edge_io.specs.Causes.{HasIncreased}
 use Rattle.edge_io.specs.Files.{Files}
 use Rattle.slp_model.specs.Nodes.{pair_count}
 use Rattle.line_parts.specs.NameList.{IsNameList}
@@ -20,7 +20,7 @@ use Rattle.session_state.specs.CommandState.{CommandState, at, world_at, counter
 use Rattle.session_state.specs.LineState.{Tallies, line_state}
 
 -- what holds however a command ends: the invariant, and the maximum cost
-pub record Goes (old : CommandState) (command : Command) (new : CommandState) : Type 0 where
+pub record KeepsInvariant (old : CommandState) (command : Command) (new : CommandState) : Type 0 where
   pub session : IsConsistent new.session
   pub nodes : (length old.session.store ≤ length new.session.store) ⊎ Compacts command
   pub pairs : pair_count new.session.store + old.pairs ≤ pair_count old.session.store + new.pairs
@@ -33,7 +33,7 @@ pub record Goes (old : CommandState) (command : Command) (new : CommandState) : 
 
 -- the command has this answer in the first state, and results in the second: the file store had no failure
 pub record Answers (old : CommandState) (number : ℕ) (command : Command) (new : CommandState) (answer : Answer) : Type 0 where
-  pub goes : Goes old command new
+  pub goes : KeepsInvariant old command new
   pub sound : new.faults ≡ old.faults
   pub carries : Carries (world_at old) number command answer.told answer.line.items (world_at new)
   pub paid : PaysFor (world_at old) command (counters_at old) (counters_at new)
@@ -42,10 +42,10 @@ pub record Answers (old : CommandState) (number : ℕ) (command : Command) (new 
 -- the command was stopped for this reason: the state and the files are unchanged, or, for a command without files, as
 -- an answer allows
 pub record Stays (old : CommandState) (number : ℕ) (command : Command) (new : CommandState) (why : Stop) : Type 0 where
-  pub goes : Goes old command new
+  pub goes : KeepsInvariant old command new
   pub world : (world_at new ≡ world_at old)
       ⊎ ((IsOfFile command → ⊥) × ((told : Told) × (reply : List ℕ) × Carries (world_at old) number command told reply (world_at new)))
-  pub shelf : why ≡ stop.ShelfFault → IsOfFile command × Rose old.faults new.faults
+  pub shelf : why ≡ stop.ShelfFault → IsOfFile command × HasIncreased old.faults new.faults
   pub sink : why ≡ stop.OutFault → ⊥
 
 -- the same for a command that uses neither files nor counters

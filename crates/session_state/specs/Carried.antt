@@ -1,6 +1,6 @@
 -- The effect of a line with a meaning on a session and on the environment.
 use Rattle.std.specs.Prelude.{◌≡◌, ◌⊎◌, ℕ, ◌+◌, ◌≤◌, Bool, true, List, Option}
-use Rattle.edge_io.specs.Causes.{Rose}
+use Rattle.edge_io.specs.Causes.{HasIncreased}
 use Rattle.script_syntax.specs.declared.form.Command.{Command}
 use Rattle.span_language.specs.Allowance.{Allowance, IsPaid, no_steps}
 use Rattle.span_language.specs.Counts.{AsksForCounts, Compacts, PlacesPartOfBoth, Registers}
@@ -52,9 +52,9 @@ pub record Done (number : ℕ) (meaning : Option Command) (old : LineState) (bef
 pub record Stopped (number : ℕ) (meaning : Option Command) (old : LineState) (before : Outlet) (new : LineState) (after : Outlet) (why : Stop) : Type 0 where
   pub passes : Passes meaning old before new after
   pub halts : Halts (Carried (world_in old) number meaning) (world_in old) before.written after.written (world_in new)
-  pub fault : why ≡ stop.OutFault → Replies meaning × Rose before.faults after.faults
-  pub shelf_fault : why ≡ stop.ShelfFault → Of IsOfFile meaning × Rose old.faults new.faults × Leaves (world_in old) before.written after.written (world_in new)
-  pub want : why ≡ stop.NoMemory → (Of IsList meaning → ⊥) ⊎ (Rose before.wants after.wants ⊎ Leaves (world_in old) before.written after.written (world_in new))
+  pub fault : why ≡ stop.OutFault → Replies meaning × HasIncreased before.faults after.faults
+  pub shelf_fault : why ≡ stop.ShelfFault → Of IsOfFile meaning × HasIncreased old.faults new.faults × Leaves (world_in old) before.written after.written (world_in new)
+  pub want : why ≡ stop.NoMemory → (Of IsList meaning → ⊥) ⊎ (HasIncreased before.wants after.wants ⊎ Leaves (world_in old) before.written after.written (world_in new))
 
 -- the line was executed, by its meaning, with this outcome
 abbrev pub IsDone : List ℕ → ℕ → LineState → Outlet → LineState → Outlet → Told → Type 0

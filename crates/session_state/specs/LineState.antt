@@ -1,7 +1,7 @@
 -- A state between commands, as callers of a session see it.
 use Rattle.std.specs.Prelude.{◌≡◌, ℕ, Bool, true, List, ◌+◌, ◌*◌, ◌≤◌, Option}
 use Rattle.edge_io.specs.Files.{Files}
-use Rattle.slp_model.specs.Thin.{IsThinOf}
+use Rattle.slp_model.specs.Thin.{IsCompactionOf}
 use Rattle.query_book.specs.Renumbering.{ranked}
 use Rattle.span_language.specs.State.{World, world}
 use Rattle.span_language.specs.Allowance.{Counters, counters}
@@ -36,7 +36,7 @@ counters_in s = counters s.looks s.pairs
 -- the store has the kept nodes, and each query has the tables and the counting tables that it had for these
 pub record KeepsTables (old new : SessionModel) : Type 0 where
   pub keep : List Bool
-  pub thin : IsThinOf old.store keep new.store
+  pub thin : IsCompactionOf old.store keep new.store
   pub covered : new.covered ≡ ranked keep old.covered
   pub counted : new.counted ≡ ranked keep old.counted
 

@@ -1,9 +1,9 @@
 -- The effect of writing calls on a sink, and how a line ends that was executed or stopped.
 use Rattle.std.specs.Prelude.{◌≡◌, ◌⊎◌, ℕ, ◌≤◌, List, ◌++◌, Option, Result, IfErr, MatchResult, OnOk}
 use Rattle.std.specs.Io.KnownBytes.{Appends, Keeps}
-use Rattle.edge_io.specs.Causes.{Rose}
+use Rattle.edge_io.specs.Causes.{HasIncreased}
 use Rattle.script_syntax.specs.declared.form.Command.{Command}
-use Rattle.span_language.specs.Step.{AppendsFront}
+use Rattle.span_language.specs.Step.{AppendsPrefix}
 use Rattle.span_language.specs.declared.told.Told.{Told}
 use Rattle.span_language.specs.declared.told.Stop.{Stop}
 use Rattle.span_language.specs.declared.told.Stop.TheVariants as stop
@@ -17,10 +17,10 @@ pub record IsSent (before : Outlet) (piece : List ℕ) (after : Outlet) : Type 0
 
 -- a prefix of it was written, and then the call was stopped for this reason
 pub record IsCut (before : Outlet) (piece : List ℕ) (after : Outlet) (why : Stop) : Type 0 where
-  pub front : AppendsFront before.written after.written piece
+  pub front : AppendsPrefix before.written after.written piece
   pub later : before.faults ≤ after.faults
   pub wants_later : before.wants ≤ after.wants
-  pub fault : why ≡ stop.OutFault → Rose before.faults after.faults
+  pub fault : why ≡ stop.OutFault → HasIncreased before.faults after.faults
   pub no_shelf : why ≡ stop.ShelfFault → ⊥
 
 -- a call wrote a piece: all of it, or a prefix if the call was stopped
@@ -29,7 +29,7 @@ Wrote result before piece after = MatchResult result (λ _. IsSent before piece 
 
 -- an allocation failed in a call only if it failed in the sink, or nothing was written
 abbrev pub WantsFor : {T : Type 0} → Result T Stop → Outlet → Outlet → Type 0
-WantsFor result before after = IfErr result (λ why. why ≡ stop.NoMemory → Rose before.wants after.wants ⊎ Keeps before.written after.written)
+WantsFor result before after = IfErr result (λ why. why ≡ stop.NoMemory → HasIncreased before.wants after.wants ⊎ Keeps before.written after.written)
 
 -- if the call succeeded everything written has been sent, unless there was no reply
 abbrev pub IsGone : {T : Type 0} → Result T Stop → Type 0 → ℕ → Type 0

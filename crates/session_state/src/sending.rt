@@ -1,7 +1,7 @@
 //! Writing to a sink until it has accepted all bytes.
 ghost use Rattle.std.specs.Prelude.{◌≡◌, ◌≤◌, IfOk, IfErr, Ok, OnOk};
 ghost use Rattle.std.specs.Io.KnownBytes.{Keeps};
-ghost use Rattle.edge_io.specs.Causes.{Rose};
+ghost use Rattle.edge_io.specs.Causes.{HasIncreased};
 ghost use Rattle.report_text.specs.Reply.{refusal_text};
 ghost use Rattle.session_state.specs.Carried.{HasNoFault, outlet};
 ghost use Rattle.session_state.specs.Written.{IsGone, WantsFor, Wrote};
@@ -16,7 +16,7 @@ use std::alloc::Global;
 pub fn offer<K: Sink>(out: &mut K, piece: &[u8]) -> Result<(), Stop>
     ensures wrote { Wrote result (outlet (K.written out.old) (K.faults out.old) (K.wants out.old)) piece.now
         (outlet (K.written out.new) (K.faults out.new) (K.wants out.new)) }
-    ensures want { IfErr result (λ why. why ≡ Stop.NoMemory → Rose (K.wants out.old) (K.wants out.new)) }
+    ensures want { IfErr result (λ why. why ≡ Stop.NoMemory → HasIncreased (K.wants out.old) (K.wants out.new)) }
 {
     let mut done = 0;
     while done < piece.len() {
@@ -34,7 +34,7 @@ pub fn close<K: Sink>(out: &mut K, piece: &[u8]) -> Result<Told, Stop>
     ensures told { IfOk result (λ told. told ≡ Told.Accepted) }
     ensures wrote { Wrote result (outlet (K.written out.old) (K.faults out.old) (K.wants out.old)) piece.now
         (outlet (K.written out.new) (K.faults out.new) (K.wants out.new)) }
-    ensures want { IfErr result (λ why. why ≡ Stop.NoMemory → Rose (K.wants out.old) (K.wants out.new)) }
+    ensures want { IfErr result (λ why. why ≡ Stop.NoMemory → HasIncreased (K.wants out.old) (K.wants out.new)) }
 {
     offer(out, piece)?;
     Ok(Told::Accepted)
@@ -45,7 +45,7 @@ pub fn send<K: Sink>(answer: Answer, out: &mut K) -> Result<Told, Stop>
     ensures told { IfOk result (λ told. told ≡ answer.told) }
     ensures wrote { Wrote result (outlet (K.written out.old) (K.faults out.old) (K.wants out.old)) answer.line.items
         (outlet (K.written out.new) (K.faults out.new) (K.wants out.new)) }
-    ensures want { IfErr result (λ why. why ≡ Stop.NoMemory → Rose (K.wants out.old) (K.wants out.new)) }
+    ensures want { IfErr result (λ why. why ≡ Stop.NoMemory → HasIncreased (K.wants out.old) (K.wants out.new)) }
 {
     offer(out, &answer.line)?;
     Ok(answer.told)
@@ -60,8 +60,8 @@ pub fn send_out<K: Sink>(told: Told, out: &mut K) -> Result<Told, Stop>
         (outlet (K.written out.new) (K.faults out.new) (K.wants out.new))) }
     ensures gone { IsGone result (told ≡ Told.Quiet) (K.kept out.new) }
     ensures later { (K.faults out.old ≤ K.faults out.new) × (K.wants out.old ≤ K.wants out.new) }
-    ensures fault { IfErr result (λ why. why ≡ Stop.OutFault → Rose (K.faults out.old) (K.faults out.new)) }
-    ensures want { IfErr result (λ why. why ≡ Stop.NoMemory → Rose (K.wants out.old) (K.wants out.new)) }
+    ensures fault { IfErr result (λ why. why ≡ Stop.OutFault → HasIncreased (K.faults out.old) (K.faults out.new)) }
+    ensures want { IfErr result (λ why. why ≡ Stop.NoMemory → HasIncreased (K.wants out.old) (K.wants out.new)) }
     ensures no_shelf { IfErr result (λ why. why ≡ Stop.ShelfFault → ⊥) }
 {
     if matches!(told, Told::Quiet) {

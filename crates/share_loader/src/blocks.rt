@@ -23,7 +23,7 @@ use std::sync::ledger::Ledger;
 const LEAST_WORDS: usize = 1 << 16;
 
 // The maximum number of words of a block.
-const MOST_WORDS: usize = 1 << 19;
+const MAX_WORDS: usize = 1 << 19;
 
 // A block ends where this number of bits of the window's hash are zero.
 const BLOCK_BITS: u32 = 17;
@@ -102,7 +102,7 @@ fn ends_block(blocks: &Blocks) -> bool
     ensures few { IsFalse result → vec_len blocks.now.symbols < 2 ^ 19 }
 {
     let count = blocks.symbols.len();
-    if count >= MOST_WORDS {
+    if count >= MAX_WORDS {
         return true;
     }
     count >= LEAST_WORDS && blocks.window >> (64 - BLOCK_BITS) == 0

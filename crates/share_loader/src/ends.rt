@@ -2,14 +2,14 @@
 ghost use Rattle.std.specs.Prelude.{◌≡◌, ◌+◌, ◌<◌, ◌≤◌, ◌⊎◌, length};
 
 /// The minimum length of a word in bytes, unless the text is shorter.
-pub(crate) const LEAST: usize = 3;
+pub(crate) const MIN_WORD_BYTES: usize = 3;
 
 /// The maximum length of a word in bytes.
-pub(crate) const MOST: usize = 8;
+pub(crate) const MAX_WORD_BYTES: usize = 8;
 
 /// From this number of bytes on the end of the first word is the same whatever follows, and the next word has at least three
 /// bytes.
-pub(crate) const ENOUGH: usize = LEAST + MOST;
+pub(crate) const ENOUGH: usize = MIN_WORD_BYTES + MAX_WORD_BYTES;
 
 // The kind of each byte: 0 is a space, 1 a sign, and 2 a letter, a digit, `_` or a byte from 128 on.
 #[rattlefmt::skip]
@@ -50,9 +50,9 @@ fn best_end(text: &[u8], last: usize) -> usize
     ensures least { 3 ≤ result }
     ensures most { result ≤ last }
 {
-    let mut len = LEAST;
-    let mut least = rank(text[LEAST - 1], text[LEAST]);
-    for end in LEAST + 1..last + 1 {
+    let mut len = MIN_WORD_BYTES;
+    let mut least = rank(text[MIN_WORD_BYTES - 1], text[MIN_WORD_BYTES]);
+    for end in MIN_WORD_BYTES + 1..last + 1 {
         let rank = rank(text[end - 1], text[end]);
         if rank <= least {
             (len, least) = (end, rank);
@@ -73,10 +73,10 @@ pub(crate) fn word_len(text: &[u8]) -> usize
     ensures left { (result ≡ length text.now) ⊎ (result + 3 ≤ length text.now) }
 {
     if text.len() >= ENOUGH {
-        return best_end(text, MOST);
+        return best_end(text, MAX_WORD_BYTES);
     }
-    if text.len() <= MOST {
+    if text.len() <= MAX_WORD_BYTES {
         return text.len();
     }
-    best_end(text, text.len() - LEAST)
+    best_end(text, text.len() - MIN_WORD_BYTES)
 }

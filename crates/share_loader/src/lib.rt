@@ -82,7 +82,7 @@ impl Sharer {
     pub fn new(alloc: Global) -> Result<Sharer, NoMemory>
         ensures { IfOk result (λ sharer. sharer ≡ Some unfed) }
     {
-        let rest = Vec::with_capacity(alloc, FIRST_ROOM).map_err(|_| NoMemory)?;
+        let rest = Vec::with_capacity(alloc, FIRST_CAPACITY).map_err(|_| NoMemory)?;
         let parts = Parts {
             blocks: Blocks::new(alloc),
             rest,
@@ -147,7 +147,7 @@ impl Sharer {
 }
 
 // Room for the first bytes.
-const FIRST_ROOM: usize = 16;
+const FIRST_CAPACITY: usize = 16;
 
 /// A root of the bytes: a sharer that is fed once.
 ///

@@ -8,7 +8,7 @@ ghost use Rattle.share_loader.specs.Sharer.{IsKept, kept_text, kept_count, kept_
 ghost use Rattle.share_loader.specs.PartsView.{kept_of};
 
 use super::blocks::{Blocks, end_block, take_words};
-use super::ends::{ENOUGH, LEAST};
+use super::ends::{ENOUGH, MIN_WORD_BYTES};
 use super::words::{Words, node_of};
 use node_store::{NodeId, Store};
 use span_types::{NoMemory, Steps};
@@ -25,7 +25,7 @@ pub(crate) struct Parts {
 }
 
 // Takes the first `count` bytes away.
-fn drop_front(text: &mut Vec<u8>, count: usize)
+fn remove_prefix(text: &mut Vec<u8>, count: usize)
     requires { count ≤ vec_len text.old }
     ensures items { text.new.items ≡ drop count text.old.items }
     ensures len { vec_len text.new + count ≡ vec_len text.old }
@@ -52,7 +52,7 @@ fn feed_chunk<L: Ledger>(
 {
     parts.rest.extend_from_slice(chunk).map_err(|_| NoMemory)?;
     let count = take_words(&mut parts.blocks, store, &parts.rest, ENOUGH, pairs)?;
-    drop_front(&mut parts.rest, count);
+    remove_prefix(&mut parts.rest, count);
     Ok(())
 }
 
@@ -114,7 +114,7 @@ pub(crate) fn finish_parts<L: Ledger>(
     ensures text { IfOk result (λ root. root_text (root_tree store.new root) ≡ kept_text store.old (kept_of parts)) }
     ensures cost { pairs.new + kept_cost store.old (kept_of parts) ≤ pairs.old + kept_count (kept_of parts) + all_cost (length (kept_text store.old (kept_of parts))) }
 {
-    if parts.rest.len() < LEAST {
+    if parts.rest.len() < MIN_WORD_BYTES {
         let root = short_root(&mut parts.blocks.words, store, &parts.rest, pairs)?;
         return Ok(root);
     }

@@ -5,7 +5,7 @@ ghost use Rattle.slp_model.specs.declared.Node.{Node};
 ghost use Rattle.slp_model.specs.Nodes.{Grows};
 ghost use Rattle.share_loader.specs.Known.{IsWordAt, AreKnown};
 
-use super::ends::MOST;
+use super::ends::MAX_WORD_BYTES;
 use super::hashes::word_hash;
 use node_store::{NodeId, Store};
 use span_types::{NoMemory, Steps};
@@ -19,9 +19,9 @@ const SHORT_TEXT: usize = 1 << 12;
 const LONG_TEXT: usize = 1 << 18;
 
 // The numbers of entries of the tables.
-const FEW: usize = 1 << 12;
+const SHORT_TEXT_ENTRIES: usize = 1 << 12;
 
-const MANY: usize = 1 << 18;
+const LONG_TEXT_ENTRIES: usize = 1 << 18;
 
 /// A word that was met, with the index of its node: its bytes as a number with the first byte lowest, and how many they are.
 /// An empty entry has length 0.
@@ -57,9 +57,9 @@ impl Words {
     {
         self.fed = self.fed.saturating_add(len);
         if self.fed >= LONG_TEXT {
-            make_entries(&mut self.entries, MANY);
+            make_entries(&mut self.entries, LONG_TEXT_ENTRIES);
         } else if self.fed >= SHORT_TEXT {
-            make_entries(&mut self.entries, FEW);
+            make_entries(&mut self.entries, SHORT_TEXT_ENTRIES);
         }
     }
 }
@@ -144,11 +144,11 @@ fn number_of(text: &[u8], len: usize) -> u64
     requires within { len ≤ length text.now }
     ensures { take len (to_le_bytes w64 result) ≡ take len text.now }
 {
-    if text.len() < MOST {
+    if text.len() < MAX_WORD_BYTES {
         return number_of_eight(&padded(&text[..len]));
     }
-    let number = number_of_eight(&text[..MOST]);
-    if len == MOST {
+    let number = number_of_eight(&text[..MAX_WORD_BYTES]);
+    if len == MAX_WORD_BYTES {
         return number;
     }
     number % (1 << (8 * len))
@@ -165,18 +165,18 @@ fn number_of_eight(bytes: &[u8]) -> u64
 }
 
 // The bytes of a word, and zeros behind them.
-fn padded(word: &[u8]) -> [u8; MOST]
+fn padded(word: &[u8]) -> [u8; MAX_WORD_BYTES]
     requires { length word.now ≤ 8 }
     ensures long { length result ≡ 8 }
     ensures front { take (length word.now) result ≡ word.now }
 {
-    let mut bytes = [0; MOST];
+    let mut bytes = [0; MAX_WORD_BYTES];
     bytes[..word.len()].copy_from_slice(word);
     bytes
 }
 
 // The index of a hash in the table: its highest bits, in proportion to the table's length.
-fn place_of(entries: &[Entry], hash: u64) -> usize {
+fn index_of(entries: &[Entry], hash: u64) -> usize {
     ((hash >> 32).wrapping_mul(entries.len() as u64) >> 32) as usize
 }
 
@@ -186,7 +186,7 @@ fn found(entries: &[Entry], key: Key) -> Option<NodeId>
     requires { 0 < key.len }
     ensures { IfSome result (λ id. (nodes : List Node) → AreKnown nodes entries.now → IsWordAt nodes (take key.len (to_le_bytes w64 key.bytes)) id.index) }
 {
-    let entry = entries.get(place_of(entries, key.hash))?;
+    let entry = entries.get(index_of(entries, key.hash))?;
     if entry.bytes == key.bytes && entry.len == key.len {
         let index = entry.index as usize;
         return Some(NodeId { index });
@@ -198,7 +198,7 @@ fn found(entries: &[Entry], key: Key) -> Option<NodeId>
 fn note(entries: &mut Vec<Entry>, key: Key, node: NodeId)
     ensures { (nodes : List Node) → IsWordAt nodes (take key.len (to_le_bytes w64 key.bytes)) node.index → AreKnown nodes entries.old.items → AreKnown nodes entries.new.items }
 {
-    let place = place_of(entries, key.hash);
+    let place = index_of(entries, key.hash);
     let Key { bytes, len, .. } = key;
     if let (Some(entry), Ok(index)) = (entries.get_mut(place), u32::try_from(node.index)) {
         *entry = Entry { bytes, len, index };

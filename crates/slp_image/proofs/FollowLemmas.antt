@@ -10,7 +10,7 @@ use Rattle.slp_model.specs.Join.{is_near}
 use Rattle.slp_model.specs.Kept.{Keeps}
 use Rattle.slp_model.specs.Thin.{rank, renumbered}
 use Rattle.slp_model.proofs.NodesLemmas.{tree-append, node-at}
-use Rattle.slp_model.proofs.ThinLemmas.{thin_to, thin-on}
+use Rattle.slp_model.proofs.CompactionLemmas.{thin_to, thin-on}
 use Rattle.node_store.proofs.MoveLemmas.{kept-same}
 use Rattle.slp_image.specs.Written.{node_bytes, records_bytes, MayFollow, AllFollow}
 

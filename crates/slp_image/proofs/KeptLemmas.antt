@@ -9,7 +9,7 @@ use Rattle.slp_model.specs.declared.Node.{Node}
 use Rattle.slp_model.specs.Nodes.{tree, root_tree, IsSound}
 use Rattle.slp_model.specs.Distinct.{AreDistinct}
 use Rattle.slp_model.specs.Kept.{AddsExactly, IsKeptRoot, Keeps, Reaches, RootReaches, Here}
-use Rattle.slp_model.specs.Thin.{rank, moved, AnyReaches, KeepsExactly, IsThinOf}
+use Rattle.slp_model.specs.Thin.{rank, moved, AnyReaches, KeepsExactly, IsCompactionOf}
 use Rattle.slp_model.proofs.KeptLemmas.{keeps-next}
 use Rattle.slp_model.proofs.RankLemmas.{rank-apart}
 use Rattle.doc_book.specs.declared.Doc.{Doc}
@@ -21,7 +21,7 @@ use Rattle.slp_image.specs.Documents.{rooted, filed, HaveTrees}
 use Rattle.slp_image.specs.Reads.{AreNodes}
 use Rattle.slp_image.specs.Save.{IsReached, SaveForm, root_indices, IsCount}
 use Rattle.slp_image.specs.Saved.{KeepsRoots, AreSaved, saved}
-use Rattle.slp_image.specs.Written.{AllNext, MayBeNext, IsPlace, records_bytes, documents_bytes}
+use Rattle.slp_image.specs.Written.{AllNext, MayBeNext, IsNextDocument, records_bytes, documents_bytes}
 use Rattle.slp_image.proofs.FollowLemmas.{all-follow}
 use Rattle.slp_image.proofs.SavedLemmas.{saved_doc, take-next}
 use Rattle.slp_image.proofs.ReadLemmas.{image-one, trees-one, nodes-meant}
@@ -81,7 +81,7 @@ new-numbers ks (d ∷ ds) = λ j. by d.root j ∷ new-numbers ks ds j
     by (Some id) = refl
 
 -- the kept nodes are the reached ones, and are counted by their ranks
-pub kept-count : (ns : List Node) (ks : List Bool) (ms : List Node) (ds : List Doc) → IsThinOf ns ks ms → KeepsExactly ns ks (roots_of ds) → IsCount (IsReached ns (root_indices ds)) (length ms)
+pub kept-count : (ns : List Node) (ks : List Bool) (ms : List Node) (ds : List Doc) → IsCompactionOf ns ks ms → KeepsExactly ns ks (roots_of ds) → IsCount (IsReached ns (root_indices ds)) (length ms)
 kept-count ns ks ms ds t exact = record {
   count = rank ks;
   within = λ i p. t.live i (to i p);
@@ -93,7 +93,7 @@ kept-count ns ks ms ds t exact = record {
     to i p = let q = subst (λ (rs : List (Option ℕ)). IsReached ns rs i) (sym (numbers ds)) p in (exact i).1 (reached-any ns (roots_of ds) q.place q.root i q.there q.below)
 
 -- the trees of the written documents
-trees-thin : (ns : List Node) (ks : List Bool) (ms : List Node) → IsThinOf ns ks ms → (ds : List Doc) → KeepsRoots ks ds → rooted ns ds ≡ map (λ d. (d.name, option_map (λ i. tree ms i) d.root)) (saved (rank ks) ds)
+trees-thin : (ns : List Node) (ks : List Bool) (ms : List Node) → IsCompactionOf ns ks ms → (ds : List Doc) → KeepsRoots ks ds → rooted ns ds ≡ map (λ d. (d.name, option_map (λ i. tree ms i) d.root)) (saved (rank ks) ds)
 trees-thin ns ks ms t [] kept = refl
 trees-thin ns ks ms t (d ∷ ds) kept = λ j. (d.name, by d.root (kept zero d refl) j) ∷ trees-thin ns ks ms t ds (λ place e at. kept (suc place) e at) j
   where
@@ -102,7 +102,7 @@ trees-thin ns ks ms t (d ∷ ds) kept = λ j. (d.name, by d.root (kept zero d re
     by (Some id) k = ap Some (sym (t.trees id.index k))
 
 -- the numbers of roots are below the count
-place-within : (ns : List Node) (ks : List Bool) (ms : List Node) → IsThinOf ns ks ms → (r : Option NodeId) → IsKeptRoot ks r → IsPlace (length ms) (option_map (λ id. rank ks id.index) r)
+place-within : (ns : List Node) (ks : List Bool) (ms : List Node) → IsCompactionOf ns ks ms → (r : Option NodeId) → IsKeptRoot ks r → IsNextDocument (length ms) (option_map (λ id. rank ks id.index) r)
 place-within ns ks ms t None kept = tt
 place-within ns ks ms t (Some id) kept = t.live id.index kept
 
@@ -138,7 +138,7 @@ doc-of : (ds : List Doc) (i : ℕ) → i < length ds → (d : Doc) × (slice_get
 doc-of [] i lt = absurd (omega (arith, lt))
 doc-of (d ∷ ds) i lt = (get_or (d ∷ ds) i d, slice_get-get_or (d ∷ ds) i d lt)
 
-pub all-next : (f : ℕ → ℕ) (count : ℕ) (ds : List Doc) → AreDistinctNames ds → ((i : ℕ) (d : Doc) → slice_get ds i ≡ Some d → is_name d.name ≡ true) → ((i : ℕ) (d : Doc) → slice_get ds i ≡ Some d → IsPlace count (option_map (λ id. f id.index) d.root)) → (k : ℕ) → k ≤ length ds → AllNext count [] (saved f (take k ds))
+pub all-next : (f : ℕ → ℕ) (count : ℕ) (ds : List Doc) → AreDistinctNames ds → ((i : ℕ) (d : Doc) → slice_get ds i ≡ Some d → is_name d.name ≡ true) → ((i : ℕ) (d : Doc) → slice_get ds i ≡ Some d → IsNextDocument count (option_map (λ id. f id.index) d.root)) → (k : ℕ) → k ≤ length ds → AllNext count [] (saved f (take k ds))
 all-next f count ds apart named placed zero le = tt
 all-next f count ds apart named placed (suc k) le =
     let w = doc-of ds k (omega (arith, le)) in
@@ -162,7 +162,7 @@ pub record IsWhole (ns : List Node) (ds : List Doc) (bytes : List ℕ) (nodes : 
 gather : (f n r c d : List ℕ) → ((([] ++ (f ++ n)) ++ r) ++ c) ++ d ≡ f ++ (n ++ (r ++ (c ++ d)))
 gather f n r c d = append_assoc ((f ++ n) ++ r) c d ∙ (append_assoc (f ++ n) r (c ++ d) ∙ append_assoc f n (r ++ (c ++ d)))
 
-pub whole-from : (ns : List Node) (ks : List Bool) (ms : List Node) (ds : List Doc) (nodes : ℕ) (a b c d : List ℕ) → AreLive ns ds → AreDistinctNames ds → KeepsExactly ns ks (roots_of ds) → IsThinOf ns ks ms → IsSound ms → AreDistinct ms → nodes ≡ length ms → nodes < 2 ^ 64 → length ds < 2 ^ 64
+pub whole-from : (ns : List Node) (ks : List Bool) (ms : List Node) (ds : List Doc) (nodes : ℕ) (a b c d : List ℕ) → AreLive ns ds → AreDistinctNames ds → KeepsExactly ns ks (roots_of ds) → IsCompactionOf ns ks ms → IsSound ms → AreDistinct ms → nodes ≡ length ms → nodes < 2 ^ 64 → length ds < 2 ^ 64
     → a ≡ [] ++ (front ++ big_bytes 8 nodes) → b ≡ a ++ records_bytes ms → c ≡ b ++ big_bytes 8 (length ds) → AreSaved (rank ks) ds (length ds) c d → IsWhole ns ds d nodes
 whole-from ns ks ms ds nodes a b c d live names exact t sound apart count short few ea eb ec s = record {
   records = ms;

@@ -10,7 +10,7 @@ use Rattle.slp_model.specs.declared.Node.TheVariants.{Byte, Pair}
 use Rattle.slp_model.specs.Nodes.{pair_weight}
 use Rattle.slp_image.specs.Fields.{◌>>=◌, Field, number_at, child_at, bytes_at}
 use Rattle.slp_image.specs.Image.{Added, Outcome, Document, Contents, near_pair, node_pair, node_at, byte_record, records_onto, is_among, names_of, name_at, root_at, document_at, documents_onto, documents_of, contents, version_at, version_of}
-use Rattle.slp_image.specs.Written.{node_bytes, records_bytes, MayFollow, AllFollow, root_number, document_bytes, documents_bytes, IsPlace, MayBeNext, AllNext}
+use Rattle.slp_image.specs.Written.{node_bytes, records_bytes, MayFollow, AllFollow, root_number, document_bytes, documents_bytes, IsNextDocument, MayBeNext, AllNext}
 use Rattle.slp_image.proofs.NodeLemmas.{pair-is, kind-zero, kind-one}
 use Rattle.slp_image.proofs.StepLemmas.{goes-on}
 use Rattle.slp_image.proofs.DocumentLemmas.{root-none, root-there, document-is, documents-is, ended-all}
@@ -66,7 +66,7 @@ pub name-again : (names : List (List ℕ)) (name rest : List ℕ) → is_name na
 unfolding name_at
 name-again names name rest well new = rw (bytes-again name rest, well, new) refl
 
-pub root-again : (count : ℕ) (root : Option ℕ) (rest : List ℕ) → count < 2 ^ 64 → IsPlace count root → root_at count (big_bytes 8 (root_number root) ++ rest) ≡ Ok (root, rest)
+pub root-again : (count : ℕ) (root : Option ℕ) (rest : List ℕ) → count < 2 ^ 64 → IsNextDocument count root → root_at count (big_bytes 8 (root_number root) ++ rest) ≡ Ok (root, rest)
 root-again count None rest k p = root-none count (2 ^ 64 - 1) (big_bytes 8 (root_number None) ++ rest) rest (number-again (2 ^ 64 - 1) rest (omega arith)) refl
 root-again count (Some i) rest k p = root-there count i (big_bytes 8 i ++ rest) rest (number-again i rest (omega (arith, k, p))) (omega (arith, k, p)) p
 

@@ -38,12 +38,12 @@ AllFollow ns [] = Unit {0}
 AllFollow ns (n ∷ more) = (length ns < 2 ^ 64) × MayFollow ns n × AllFollow (ns ++ n ∷ []) more
 
 -- d may be the next document after those with these names, if there are n records
-abbrev pub IsPlace : ℕ → Option ℕ → Type 0
-IsPlace count None = Unit {0}
-IsPlace count (Some i) = i < count
+abbrev pub IsNextDocument : ℕ → Option ℕ → Type 0
+IsNextDocument count None = Unit {0}
+IsNextDocument count (Some i) = i < count
 
 abbrev pub MayBeNext : ℕ → List Document → Document → Type 0
-MayBeNext count ds d = (is_name d.name ≡ true) × (is_among (names_of ds) d.name ≡ false) × IsPlace count d.root
+MayBeNext count ds d = (is_name d.name ≡ true) × (is_among (names_of ds) d.name ≡ false) × IsNextDocument count d.root
 
 abbrev pub AllNext : ℕ → List Document → List Document → Type 0
 AllNext count ds [] = Unit {0}

@@ -3,7 +3,7 @@ ghost use Rattle.std.specs.Prelude.{◌≡◌, ◌<◌, ◌^◌, true, [], ◌�
 ghost use Rattle.byteorder.specs.Endian.{big_bytes};
 ghost use Rattle.slp_model.specs.Distinct.{AreDistinct};
 ghost use Rattle.slp_model.specs.Kept.{IsPlanOf, IsKeptRoot};
-ghost use Rattle.slp_model.specs.Thin.{rank, thin, IsThinOf};
+ghost use Rattle.slp_model.specs.Thin.{rank, thin, IsCompactionOf};
 ghost use Rattle.slp_image.specs.Written.{node_bytes, records_bytes, document_bytes};
 ghost use Rattle.slp_image.specs.Saved.{AreSaved, KeepsRoots};
 ghost use Rattle.span_types.specs.Names.{is_name};
@@ -52,7 +52,7 @@ fn push_node(out: &mut Vec<u8>, node: Node) -> Result<(), NoMemory>
 pub(crate) fn push_nodes(out: &mut Vec<u8>, store: &Store, moves: &Moves) -> Result<(), NoMemory>
     requires plan { IsPlanOf store.now moves.now }
     ensures bytes { OnOk result (out.new.items ≡ out.old.items ++ records_bytes (thin store.now moves.now)) }
-    ensures thin { OnOk result (IsThinOf store.now moves.now (thin store.now moves.now)) }
+    ensures thin { OnOk result (IsCompactionOf store.now moves.now (thin store.now moves.now)) }
     ensures distinct { OnOk result (AreDistinct (thin store.now moves.now)) }
     ensures few { OnOk result (length (thin store.now moves.now) < 2 ^ 64) }
 {

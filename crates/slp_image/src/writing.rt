@@ -26,31 +26,31 @@ pub struct Image {
 }
 
 // The magic bytes and the version.
-const FRONT: [u8; 5] = *b"SLPI\x01";
+const HEADER: [u8; 5] = *b"SLPI\x01";
 
 // The length of a number, in bytes.
 const NUMBER: usize = 8;
 
 // The length of a pair's record, and that of a document whose name has the maximum of 64 bytes.
-const MOST_OF_NODE: usize = 1 + 2 * NUMBER;
+const MAX_NODE_BYTES: usize = 1 + 2 * NUMBER;
 
-const MOST_OF_DOCUMENT: usize = 1 + 64 + NUMBER;
+const MAX_DOCUMENT_BYTES: usize = 1 + 64 + NUMBER;
 
 // Appends the magic bytes, the version and the count of nodes.
-fn push_front(out: &mut Vec<u8>, nodes: u64) -> Result<(), NoMemory>
+fn push_header(out: &mut Vec<u8>, nodes: u64) -> Result<(), NoMemory>
     ensures { OnOk result (out.new.items ≡ out.old.items ++ ((83 ∷ (76 ∷ (80 ∷ (73 ∷ (1 ∷ []))))) ++ big_bytes 8 nodes)) }
 {
-    out.extend_from_slice(&FRONT).map_err(|_| NoMemory)?;
+    out.extend_from_slice(&HEADER).map_err(|_| NoMemory)?;
     push_number(out, nodes)
 }
 
 // The maximum length of an image of this many nodes and documents, in bytes.
 fn most_bytes(nodes: usize, docs: usize) -> usize {
-    let records = nodes.saturating_mul(MOST_OF_NODE);
-    let documents = docs.saturating_mul(MOST_OF_DOCUMENT);
+    let records = nodes.saturating_mul(MAX_NODE_BYTES);
+    let documents = docs.saturating_mul(MAX_DOCUMENT_BYTES);
     records
         .saturating_add(documents)
-        .saturating_add(FRONT.len() + 2 * NUMBER)
+        .saturating_add(HEADER.len() + 2 * NUMBER)
 }
 
 // The plan that keeps the roots of all documents, and the nodes below them.
@@ -84,7 +84,7 @@ pub fn write(alloc: Global, docs: &Docs, store: &Store) -> Result<Image, NoMemor
     let (moves, count) = plan.moves(alloc)?;
     let nodes = count as u64;
     let mut bytes = Vec::with_capacity(alloc, most_bytes(count, docs.count()))?;
-    push_front(&mut bytes, nodes)?;
+    push_header(&mut bytes, nodes)?;
     push_nodes(&mut bytes, store, &moves)?;
     push_number(&mut bytes, docs.count() as u64)?;
     push_documents(&mut bytes, docs, &moves)?;

@@ -4,4 +4,4 @@ pub mod JoinLemmas
 pub mod ShapeLemmas
 pub mod KeptLemmas
 pub mod RankLemmas
-pub mod ThinLemmas
+pub mod CompactionLemmas

@@ -43,7 +43,7 @@ KeepsExactly ns keep roots = (j : ℕ) → Keeps keep j ↔ AnyReaches ns roots 
 
 -- ms is a store of exactly the kept nodes, each with its tree, and if these are what the roots reach, so are those of
 -- ms
-pub record IsThinOf (ns : List Node) (keep : List Bool) (ms : List Node) : Type 0 where
+pub record IsCompactionOf (ns : List Node) (keep : List Bool) (ms : List Node) : Type 0 where
   pub sound : IsSound ms
   pub bytes : AreOfBytes ns → AreOfBytes ms
   pub distinct : AreDistinct ns → AreDistinct ms
@@ -55,5 +55,5 @@ pub record IsThinOf (ns : List Node) (keep : List Bool) (ms : List Node) : Type 
   pub reached : (roots : List (Option NodeId)) → KeepsExactly ns keep roots → (j : ℕ) → j < length ms → AnyReaches ms (map (moved keep) roots) j
 
 -- the kept nodes of a plan make a store
-abbrev pub ThinLaw : Type 0
-ThinLaw = (ns : List Node) (keep : List Bool) → IsSound ns → IsPlanOf ns keep → IsThinOf ns keep (thin ns keep)
+abbrev pub CompactionLaw : Type 0
+CompactionLaw = (ns : List Node) (keep : List Bool) → IsSound ns → IsPlanOf ns keep → IsCompactionOf ns keep (thin ns keep)

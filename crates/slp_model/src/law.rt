@@ -1,6 +1,6 @@
 //! Laws of the definitions.
 ghost use Rattle.slp_model.specs.Laws.{TreeLaw, JoinCases, JoinLaw, ShapeLaw, ShapeRows};
-ghost use Rattle.slp_model.specs.Thin.{ThinLaw};
+ghost use Rattle.slp_model.specs.Thin.{CompactionLaw};
 
 /// A tree of n bytes has n leaves, and a balanced one has height at most H(n).
 pub fn trees()
@@ -30,6 +30,6 @@ pub fn shape_rows()
 
 /// The kept nodes of a plan, in their order and under new numbers, are a store: each has its tree, and no two are
 /// equal. If exactly the nodes that some roots reach are kept, these roots reach each node of the new store.
-pub fn thin_store()
-    ensures { ThinLaw }
+pub fn compacted_store()
+    ensures { CompactionLaw }
 {}

@@ -8,12 +8,12 @@ use Rattle.marker_dfa.specs.Deterministic.{DeterministicAutomaton, IsDeterminist
 use Rattle.span_algebra.specs.declared.classes.Class.{Class}
 use Rattle.span_algebra.specs.Renaming.{both_names}
 use Rattle.span_algebra.specs.TreeAutomaton.{IsAt, CopiedStep, CopiedEnd, union_size, UnionStep, UnionEnd}
-use Rattle.span_algebra.specs.Making.{AreClasses, ArePlacesOf, mark_by, IsCopiedEdge, IsCopiedEnd, HasParts, IsUnionNfa}
+use Rattle.span_algebra.specs.Making.{AreClasses, AreIndicesOf, mark_by, IsCopiedEdge, IsCopiedEnd, HasParts, IsUnionNfa}
 use Rattle.span_algebra.proofs.MarkLaws.{mark-small}
 use Rattle.span_algebra.proofs.CopyLaws.{step-within, end-within}
 use Rattle.span_algebra.proofs.UnionLaws.{is-marked}
 
-module _ (to from : List (List ℕ)) (base : ℕ) (a : DeterministicAutomaton) (places : List (Option ℕ)) (classes : List Class) (is_places : ArePlacesOf to from places) (is_classes : AreClasses a classes) where
+module _ (to from : List (List ℕ)) (base : ℕ) (a : DeterministicAutomaton) (places : List (Option ℕ)) (classes : List Class) (is_places : AreIndicesOf to from places) (is_classes : AreClasses a classes) where
   pub step-of : (o m c p : ℕ) (e : Edge) → IsCopiedEdge a places base classes e → e.from ≡ o → e.mark ≡ m → slice_index_or e.letters c false ≡ true → e.to ≡ p → CopiedStep to from base a o m c p
   step-of o m c p e h from_is mark_is letter to_is =
       let w = h.edge in
@@ -100,7 +100,7 @@ two-parts {X} old mid new P Q e h g x = ((λ c. to ((g x).0 c)), from)
     from (inr q) = (g x).1 (inr q)
 
 module _ (a : DeterministicAutomaton) (va : List (List ℕ)) (b : DeterministicAutomaton) (vb : List (List ℕ)) (left right : List (Option ℕ)) (classes : List Class)
-    (pl : ArePlacesOf (both_names va vb) va left) (pr : ArePlacesOf (both_names va vb) vb right) (ca : AreClasses a classes) (cb : AreClasses b classes)
+    (pl : AreIndicesOf (both_names va vb) va left) (pr : AreIndicesOf (both_names va vb) vb right) (ca : AreClasses a classes) (cb : AreClasses b classes)
     (n : Automaton) (states : n.states ≡ union_size a b)
     (edges : (e : Edge) → Contains n.edges e ↔ IsCopiedEdge a left 1 classes e ⊎ IsCopiedEdge b right (suc (states_of a)) classes e)
     (ends : (e : End) → Contains n.ends e ↔ IsCopiedEnd a left 1 e ⊎ IsCopiedEnd b right (suc (states_of a)) e) where
@@ -162,7 +162,7 @@ module _ (a : DeterministicAutomaton) (va : List (List ℕ)) (b : DeterministicA
       end_mark e (inr h) = end-mark-within names vb (suc (states_of a)) b right classes pr cb e h
 
 pub union-made : (a : DeterministicAutomaton) (va : List (List ℕ)) (b : DeterministicAutomaton) (vb names : List (List ℕ)) (left right : List (Option ℕ)) (classes : List Class) (base states variables : ℕ) (e0 e1 e2 : List Edge) (f0 f1 f2 : List End)
-    → names ≡ both_names va vb → ArePlacesOf names va left → ArePlacesOf names vb right → AreClasses a classes → AreClasses b classes
+    → names ≡ both_names va vb → AreIndicesOf names va left → AreIndicesOf names vb right → AreClasses a classes → AreClasses b classes
     → IsDeterministic a → IsDeterministic b → length va ≡ a.variables → length vb ≡ b.variables → base ≡ suc (states_of a) → states ≡ base + states_of b → variables ≡ length names → length names ≤ 8
     → e0 ≡ [] → Adds e0 e1 (IsCopiedEdge a left 1 classes) → Adds e1 e2 (IsCopiedEdge b right base classes)
     → f0 ≡ [] → Adds f0 f1 (IsCopiedEnd a left 1) → Adds f1 f2 (IsCopiedEnd b right base)
@@ -170,11 +170,11 @@ pub union-made : (a : DeterministicAutomaton) (va : List (List ℕ)) (b : Determ
 union-made a va b vb ns left right classes base states variables e0 e1 e2 f0 f1 f2 ns_is pl pr ca cb da db size_a size_b base_is states_is variables_is few ez el er fz fl fr =
     (union-automaton a va b vb left right classes pl_is pr_is ca cb (record { states = states; variables = variables; edges = e2; ends = f2 }) count edges ends da db size_a size_b size few_is, record { variables = size; parts = union-parts a va b vb left right classes pl_is pr_is ca cb (record { states = states; variables = variables; edges = e2; ends = f2 }) count edges ends })
   where
-    pl_is : ArePlacesOf (both_names va vb) va left
-    pl_is = subst (λ (l : List (List ℕ)). ArePlacesOf l va left) ns_is pl
+    pl_is : AreIndicesOf (both_names va vb) va left
+    pl_is = subst (λ (l : List (List ℕ)). AreIndicesOf l va left) ns_is pl
 
-    pr_is : ArePlacesOf (both_names va vb) vb right
-    pr_is = subst (λ (l : List (List ℕ)). ArePlacesOf l vb right) ns_is pr
+    pr_is : AreIndicesOf (both_names va vb) vb right
+    pr_is = subst (λ (l : List (List ℕ)). AreIndicesOf l vb right) ns_is pr
 
     size : variables ≡ length (both_names va vb)
     size = variables_is ∙ ap length ns_is

@@ -7,7 +7,7 @@ use Rattle.std.proofs.lemmas.Option.{slice_get_within, get_or_from_slice_get}
 use Rattle.span_types.specs.VarList.{Adds, AreVars}
 use Rattle.span_types.specs.Rel.{same_name, has_name, lacking}
 use Rattle.span_algebra.specs.Renaming.{both_names, markers, mark_for}
-use Rattle.span_algebra.specs.Making.{digit_at, mark_by, ArePlaces, ArePlacesOf}
+use Rattle.span_algebra.specs.Making.{digit_at, mark_by, AreIndices, AreIndicesOf}
 use Rattle.span_algebra.specs.Refusals.{IsNew, IsRefused}
 use Rattle.span_algebra.specs.declared.refusal.AlgebraRefusal.{AlgebraRefusal}
 use Rattle.span_algebra.specs.declared.refusal.AlgebraRefusal.TheVariants.{TooManyVariables, TooManyStates, NoMemory}
@@ -187,28 +187,28 @@ mark_for-push (x ∷ ns) from n m =
         four : (x d : ℕ) → x * 4 * d ≡ 4 * (x * d)
         four x d = omega arith
 
-small-push : (ps : List (Option ℕ)) (p : Option ℕ) → ArePlaces ps → ArePlaces (p ∷ []) → ArePlaces (ps ++ p ∷ [])
+small-push : (ps : List (Option ℕ)) (p : Option ℕ) → AreIndices ps → AreIndices (p ∷ []) → AreIndices (ps ++ p ∷ [])
 small-push [] p h g = g
 small-push (None ∷ ps) p h g = small-push ps p h g
 small-push (Some v ∷ ps) p h g = (h.0, small-push ps p h.1 g)
 
-small-place : (from : List Name) (n : Name) (place : Option ℕ) → AreVars from → MatchOption place (Contains from n → ⊥) (λ v. slice_get from v ≡ Some n) → ArePlaces (place ∷ [])
+small-place : (from : List Name) (n : Name) (place : Option ℕ) → AreVars from → MatchOption place (Contains from n → ⊥) (λ v. slice_get from v ≡ Some n) → AreIndices (place ∷ [])
 small-place from n None vars h = tt
 small-place from n (Some v) vars h = (omega (arith, slice_get_within from v n h, vars.few), tt)
 
-pub no-places : (from : List Name) → ArePlacesOf [] from []
+pub no-places : (from : List Name) → AreIndicesOf [] from []
 no-places from = record { size = refl; small = tt; marks = λ m. refl }
 
 length-push : {X : Type 0} (xs : List X) (x : X) → length (xs ++ x ∷ []) ≡ suc (length xs)
 length-push [] x = refl
 length-push (y ∷ xs) x = ap suc (length-push xs x)
 
-pub places-next : (to from : List Name) (k : ℕ) (n : Name) (ps new : List (Option ℕ)) (p : Option ℕ) → AreVars from → slice_get to k ≡ Some n → new ≡ ps ++ p ∷ [] → MatchOption p (Contains from n → ⊥) (λ v. slice_get from v ≡ Some n) → ArePlacesOf (take k to) from ps → ArePlacesOf (take (k + 1) to) from new
+pub places-next : (to from : List Name) (k : ℕ) (n : Name) (ps new : List (Option ℕ)) (p : Option ℕ) → AreVars from → slice_get to k ≡ Some n → new ≡ ps ++ p ∷ [] → MatchOption p (Contains from n → ⊥) (λ v. slice_get from v ≡ Some n) → AreIndicesOf (take k to) from ps → AreIndicesOf (take (k + 1) to) from new
 places-next to from k n ps new p vars e made h is =
     let one : k + 1 ≡ suc k = omega arith in
     let more : take (k + 1) to ≡ take k to ++ n ∷ [] = ap (λ j. take j to) one ∙ take-push to k n e in
-    let R : List Name → List (Option ℕ) → Type 0 = λ l q. ArePlacesOf l from q in
-    let whole : ArePlacesOf (take k to ++ n ∷ []) from (ps ++ p ∷ []) = record {
+    let R : List Name → List (Option ℕ) → Type 0 = λ l q. AreIndicesOf l from q in
+    let whole : AreIndicesOf (take k to ++ n ∷ []) from (ps ++ p ∷ []) = record {
       size = length-push ps p ∙ ap suc is.size ∙ sym (length-push (take k to) n);
       small = small-push ps p is.small (small-place from n p vars h);
       marks = λ m. (

@@ -13,7 +13,7 @@ use Rattle.span_algebra.specs.declared.classes.Class.{Class}
 use Rattle.span_algebra.specs.Renaming.{tuple_for}
 use Rattle.span_algebra.specs.TreeAutomaton.{ProjectStep, ProjectEnd}
 use Rattle.span_algebra.specs.Answers.{AreBytes, IsText, AnswersBy, GivesProjection}
-use Rattle.span_algebra.specs.Making.{AreClasses, ArePlacesOf, IsCopiedEdge, IsCopiedEnd, HasParts, IsProjectNfa}
+use Rattle.span_algebra.specs.Making.{AreClasses, AreIndicesOf, IsCopiedEdge, IsCopiedEnd, HasParts, IsProjectNfa}
 use Rattle.span_algebra.proofs.NameLaws.{length-for, named-for, named-none}
 use Rattle.span_algebra.proofs.TextLaws.{bytes-word, lies-for}
 use Rattle.span_algebra.proofs.SetLaws.{reaches-by}
@@ -65,7 +65,7 @@ module _ (a : DeterministicAutomaton) (va keep : List (List ℕ)) (da : IsDeterm
           by m false e = h.no_other m e ∙ sym (named-none keep (tuple_for keep va h.in_whole.tuple) m e)
 
 pub project-made : (a : DeterministicAutomaton) (va keep : List (List ℕ)) (places : List (Option ℕ)) (classes : List Class) (states variables : ℕ) (e0 e1 : List Edge) (f0 f1 : List End)
-    → ArePlacesOf keep va places → AreClasses a classes → IsDeterministic a → length va ≡ a.variables → length keep ≤ 8 → states ≡ states_of a → variables ≡ length keep
+    → AreIndicesOf keep va places → AreClasses a classes → IsDeterministic a → length va ≡ a.variables → length keep ≤ 8 → states ≡ states_of a → variables ≡ length keep
     → e0 ≡ [] → Adds e0 e1 (IsCopiedEdge a places 0 classes) → f0 ≡ [] → Adds f0 f1 (IsCopiedEnd a places 0)
     → IsAutomaton (record { states = states; variables = variables; edges = e1; ends = f1 }) × IsProjectNfa a va keep (record { states = states; variables = variables; edges = e1; ends = f1 })
 project-made a va keep places classes states variables e0 e1 f0 f1 pl ca da size few states_is variables_is ez eh fz fh = (whole, record { variables = variables_is; parts = parts })

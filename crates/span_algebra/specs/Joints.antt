@@ -4,7 +4,7 @@ use Rattle.std.specs.List.Sorted.{IsNonDecreasingBy}
 use Rattle.span_algebra.specs.declared.joints.Half.{Half}
 use Rattle.span_algebra.specs.declared.joints.Joint.{Joint}
 use Rattle.span_algebra.specs.declared.joints.Meeting.{Meeting}
-use Rattle.span_algebra.specs.Making.{ArePlaces, ArePlacesOf, mark_by}
+use Rattle.span_algebra.specs.Making.{AreIndices, AreIndicesOf, mark_by}
 use Rattle.span_algebra.specs.Renaming.{both_names}
 
 -- the markers that a mark of the right has of the left's variables
@@ -54,9 +54,9 @@ pub record MayMeet (t : Meeting) : Type 0 where
   pub few_left : length t.left_in_right.items ≤ 8
   pub few_right : length t.right_in_left.items ≤ 8
   pub few_both : length t.right_in_both.items ≤ 8
-  pub places_left : ArePlaces t.left_in_right.items
-  pub places_right : ArePlaces t.right_in_left.items
-  pub places_both : ArePlaces t.right_in_both.items
+  pub places_left : AreIndices t.left_in_right.items
+  pub places_right : AreIndices t.right_in_left.items
+  pub places_both : AreIndices t.right_in_both.items
   pub above : (m : ℕ) → shared_by t m ≤ mark_by t.right_in_both.items m
 
 -- the sum of a mark of the left and what any mark of the right adds fits 16 bits
@@ -65,6 +65,6 @@ AreShortWith t lefts = (x y : ℕ) → Contains lefts x → x + right_part t y <
 
 -- the indices of the names of each side
 pub record IsMeeting (va vb : List (List ℕ)) (t : Meeting) : Type 0 where
-  pub left : ArePlacesOf vb va t.left_in_right.items
-  pub right : ArePlacesOf va vb t.right_in_left.items
-  pub both : ArePlacesOf (both_names va vb) vb t.right_in_both.items
+  pub left : AreIndicesOf vb va t.left_in_right.items
+  pub right : AreIndicesOf va vb t.right_in_left.items
+  pub both : AreIndicesOf (both_names va vb) vb t.right_in_both.items

@@ -66,15 +66,15 @@ pub record IsCopiedEnd (a : DeterministicAutomaton) (places : List (Option ℕ))
   pub end : IsEndOf a places from state e
 
 -- each index is that of one of at most eight variables
-abbrev pub ArePlaces : List (Option ℕ) → Type 0
-ArePlaces [] = Unit {0}
-ArePlaces (None ∷ places) = ArePlaces places
-ArePlaces (Some v ∷ places) = (v < 8) × ArePlaces places
+abbrev pub AreIndices : List (Option ℕ) → Type 0
+AreIndices [] = Unit {0}
+AreIndices (None ∷ places) = AreIndices places
+AreIndices (Some v ∷ places) = (v < 8) × AreIndices places
 
 -- the indices in `from` of the names `to`
-pub record ArePlacesOf (to from : List (List ℕ)) (places : List (Option ℕ)) : Type 0 where
+pub record AreIndicesOf (to from : List (List ℕ)) (places : List (Option ℕ)) : Type 0 where
   pub size : length places ≡ length to
-  pub small : ArePlaces places
+  pub small : AreIndices places
   pub marks : (m : ℕ) → mark_by places m ≡ mark_for to from m
 
 -- the class at an index, whose first byte is like this one in both automata

@@ -6,7 +6,7 @@ use Rattle.span_types.specs.Rel.{names_of}
 use Rattle.marker_nfa.specs.Automaton.{Automaton}
 use Rattle.marker_nfa.specs.Occurrences.{IsPositionAutomaton}
 use Rattle.marker_dfa.specs.Reached.{CountIsAbove}
-use Rattle.marker_dfa.specs.Deterministic.{AcceptsSame, AreTooMany, DeterministicAutomaton, StandsFor, ends_of, next_of, states_of}
+use Rattle.marker_dfa.specs.Deterministic.{AcceptsSame, AreTooMany, DeterministicAutomaton, IsDeterminized, ends_of, next_of, states_of}
 use Rattle.span_algebra.specs.TreeAutomaton.{JoinStep, ProjectStep, UnionStep, join_size, union_size}
 use Rattle.span_algebra.specs.Trees.{IsTreeAutomaton, TreeCountIsAbove}
 
@@ -43,7 +43,7 @@ CountIsStates = (n : ℕ) (q : Query) (d : DeterministicAutomaton) → IsTreeAut
 -- than a limit exactly if the count is above it
 pub record LeafAutomata : Type 0 where
   pub automaton : (f : FormulaTree) (names : List (List ℕ)) (a : Automaton) (d : DeterministicAutomaton) → var_bound f ≡ length names
-      → IsPositionAutomaton f a → StandsFor a d → AcceptsSame a d → IsTreeAutomaton (Leaf f names) d
+      → IsPositionAutomaton f a → IsDeterminized a d → AcceptsSame a d → IsTreeAutomaton (Leaf f names) d
   pub count : (most : ℕ) (f : FormulaTree) (names : List (List ℕ)) (a : Automaton) → IsPositionAutomaton f a → AreTooMany most a ↔ TreeCountIsAbove most (Leaf f names)
 
 -- the query of x{0}, which has a byte 0 and a variable of this name around it

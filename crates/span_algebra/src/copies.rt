@@ -3,7 +3,7 @@
 ghost use Rattle.std.specs.Prelude.{◌≡◌, ℕ, ◌+◌, ◌<◌, ◌≤◌, IfOk, length};
 ghost use Rattle.marker_nfa.specs.Parts.{Adds};
 ghost use Rattle.marker_dfa.specs.Deterministic.{states_of};
-ghost use Rattle.span_algebra.specs.Making.{ArePlaces, IsCopiedEdge, IsCopiedEnd, IsEdgeAmong, IsEdgeBy, IsEdgeOf, IsEndOf};
+ghost use Rattle.span_algebra.specs.Making.{AreIndices, IsCopiedEdge, IsCopiedEnd, IsEdgeAmong, IsEdgeBy, IsEdgeOf, IsEndOf};
 
 use crate::classes::Class;
 use crate::marks::mark_at;
@@ -30,7 +30,7 @@ fn push_edge(
     edges: &mut Vec<Edge>,
 ) -> Result<(), NoMemory>
     requires few { length copy.places.now ≤ 8 }
-    requires places { ArePlaces copy.places.now }
+    requires places { AreIndices copy.places.now }
     requires base { copy.base ≤ 1025 }
     requires state { state < states_of copy.dfa.now }
     ensures { IfOk result (λ _. Adds edges.old.items edges.new.items (IsEdgeBy copy.entry.dfa.now copy.entry.places.now from copy.entry.base state class.now mark)) }
@@ -56,7 +56,7 @@ fn push_class(
     edges: &mut Vec<Edge>,
 ) -> Result<(), NoMemory>
     requires few { length copy.places.now ≤ 8 }
-    requires places { ArePlaces copy.places.now }
+    requires places { AreIndices copy.places.now }
     requires base { copy.base ≤ 1025 }
     requires state { state < states_of copy.dfa.now }
     ensures { IfOk result (λ _. Adds edges.old.items edges.new.items (IsEdgeOf copy.entry.dfa.now copy.entry.places.now from copy.entry.base state class.now)) }
@@ -77,7 +77,7 @@ fn push_state(
     edges: &mut Vec<Edge>,
 ) -> Result<(), NoMemory>
     requires few { length copy.places.now ≤ 8 }
-    requires places { ArePlaces copy.places.now }
+    requires places { AreIndices copy.places.now }
     requires base { copy.base ≤ 1025 }
     requires state { state < states_of copy.dfa.now }
     ensures { IfOk result (λ _. Adds edges.old.items edges.new.items (IsEdgeAmong copy.entry.dfa.now copy.entry.places.now from copy.entry.base state classes.now)) }
@@ -96,7 +96,7 @@ pub fn push_edges(
     edges: &mut Vec<Edge>,
 ) -> Result<(), NoMemory>
     requires few { length copy.places.now ≤ 8 }
-    requires places { ArePlaces copy.places.now }
+    requires places { AreIndices copy.places.now }
     requires base { copy.base ≤ 1025 }
     ensures { IfOk result (λ _. Adds edges.old.items edges.new.items (IsCopiedEdge copy.entry.dfa.now copy.entry.places.now copy.entry.base classes.now)) }
 {
@@ -114,7 +114,7 @@ fn push_state_ends(
     ends: &mut Vec<End>,
 ) -> Result<(), NoMemory>
     requires few { length copy.places.now ≤ 8 }
-    requires places { ArePlaces copy.places.now }
+    requires places { AreIndices copy.places.now }
     requires state { state < states_of copy.dfa.now }
     ensures { IfOk result (λ _. Adds ends.old.items ends.new.items (IsEndOf copy.entry.dfa.now copy.entry.places.now from state)) }
 {
@@ -130,7 +130,7 @@ fn push_state_ends(
 /// Appends the ends of a copy to a list, in the same way.
 pub fn push_ends(copy: OperandCopy<'_>, ends: &mut Vec<End>) -> Result<(), NoMemory>
     requires few { length copy.places.now ≤ 8 }
-    requires places { ArePlaces copy.places.now }
+    requires places { AreIndices copy.places.now }
     requires base { copy.base ≤ 1025 }
     ensures { IfOk result (λ _. Adds ends.old.items ends.new.items (IsCopiedEnd copy.entry.dfa.now copy.entry.places.now copy.entry.base)) }
 {

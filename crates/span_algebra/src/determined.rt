@@ -2,7 +2,7 @@
 
 ghost use Rattle.std.specs.Prelude.{◌≡◌, ◌≤◌, IfErr, IfOk};
 ghost use Rattle.marker_nfa.specs.Automaton.{AreLettersOf};
-ghost use Rattle.marker_dfa.specs.Deterministic.{AcceptsSame, AreTooMany, StandsFor};
+ghost use Rattle.marker_dfa.specs.Deterministic.{AcceptsSame, AreTooMany, IsDeterminized};
 ghost use Rattle.span_algebra.specs.Making.{letters_of};
 ghost use Rattle.span_algebra.specs.Refusals.{IsRefused};
 
@@ -14,7 +14,7 @@ use span_types::{ByteSet, NoMemory};
 use std::alloc::Global;
 
 /// The greatest number of states where the caller sets none.
-pub const USUAL_MOST: u16 = 128;
+pub const DEFAULT_MAX_STATES: u16 = 128;
 
 /// The byte sets of classes.
 fn sets_of(alloc: Global, classes: &[Class]) -> Result<Vec<ByteSet>, NoMemory>
@@ -34,7 +34,7 @@ pub fn determined(
     requires letters { AreLettersOf nfa.now.edges (letters_of classes.now) }
     requires few { 128 ≤ most }
     requires many { most ≤ 1024 }
-    ensures states { IfOk result (StandsFor nfa.now) }
+    ensures states { IfOk result (IsDeterminized nfa.now) }
     ensures accepts { IfOk result (AcceptsSame nfa.now) }
     ensures few { IfOk result (λ _. AreTooMany most nfa.now → ⊥) }
     ensures refused { IfErr result (IsRefused 0 (AreTooMany most nfa.now)) }

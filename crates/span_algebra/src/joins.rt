@@ -12,7 +12,7 @@ ghost use Rattle.span_algebra.specs.Renaming.{both_names};
 ghost use Rattle.span_algebra.specs.TreeAutomaton.{JoinEnd, JoinStep, join_size};
 
 use crate::classes::{Class, classes_of};
-use crate::determined::{USUAL_MOST, determined};
+use crate::determined::{DEFAULT_MAX_STATES, determined};
 use crate::exploring::explore;
 use crate::joints::meeting_of;
 use crate::names::{Operand, names_of_both};
@@ -116,7 +116,14 @@ pub fn join(
     ensures few { IfOk result (λ _. CountIsAbove 128 (join_size left.now) (JoinStep left.now left_names.now right.now right_names.now) → ⊥) }
     ensures refused { IfErr result (IsRefused (length (both_names left_names.now right_names.now)) (CountIsAbove 128 (join_size left.now) (JoinStep left.now left_names.now right.now right_names.now))) }
 {
-    join_within(alloc, left, left_names, right, right_names, USUAL_MOST)
+    join_within(
+        alloc,
+        left,
+        left_names,
+        right,
+        right_names,
+        DEFAULT_MAX_STATES,
+    )
 }
 
 /// The same as `join`, with a limit of `most` states, 128 to 1,024, in place of 128.

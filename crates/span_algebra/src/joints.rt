@@ -8,7 +8,7 @@ ghost use Rattle.span_algebra.specs.Joints.{AreShortWith, IsJointAmong, IsJointW
 ghost use Rattle.span_algebra.specs.Renaming.{both_names};
 
 use crate::marks::mark_at;
-use crate::names::places_of;
+use crate::names::indices_of;
 use span_types::{NoMemory, Vars};
 use std::alloc::Global;
 
@@ -47,9 +47,9 @@ pub fn meeting_of(
     requires { names.now ≡ both_names left_names.now right_names.now }
     ensures { IfOk result (IsMeeting left_names.now right_names.now) }
 {
-    let left_in_right = places_of(alloc, right_names, left_names)?;
-    let right_in_left = places_of(alloc, left_names, right_names)?;
-    let right_in_both = places_of(alloc, names, right_names)?;
+    let left_in_right = indices_of(alloc, right_names, left_names)?;
+    let right_in_left = indices_of(alloc, left_names, right_names)?;
+    let right_in_both = indices_of(alloc, names, right_names)?;
     Ok(Meeting {
         left_in_right,
         right_in_left,

@@ -1,7 +1,7 @@
 //! Marks of some variables, as marks of others.
 
 ghost use Rattle.std.specs.Prelude.{◌≡◌, ℕ, ◌<◌, ◌≤◌, ◌^◌, length, Some};
-ghost use Rattle.span_algebra.specs.Making.{ArePlaces, digit_at, mark_by};
+ghost use Rattle.span_algebra.specs.Making.{AreIndices, digit_at, mark_by};
 
 /// The digit of a mark at an index.
 fn digit(place: Option<u8>, mark: u16) -> u16
@@ -18,7 +18,7 @@ fn digit(place: Option<u8>, mark: u16) -> u16
 /// The mark with the digits of another from these indices.
 pub fn mark_at(places: &[Option<u8>], mark: u16) -> u16
     requires few { length places.now ≤ 8 }
-    requires within { ArePlaces places.now }
+    requires within { AreIndices places.now }
     ensures value { result ≡ mark_by places.now mark }
     ensures small { result < 4 ^ length places.now }
 {

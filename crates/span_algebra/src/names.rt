@@ -2,7 +2,7 @@
 
 ghost use Rattle.std.specs.Prelude.{◌≡◌, ◌<◌, Contains, IfErr, IfOk, MatchOption, OnOk, Some, length, slice_get};
 ghost use Rattle.span_types.specs.VarList.{Adds, AreVars};
-ghost use Rattle.span_algebra.specs.Making.{ArePlacesOf};
+ghost use Rattle.span_algebra.specs.Making.{AreIndicesOf};
 ghost use Rattle.span_algebra.specs.Refusals.{IsNew, IsRefused};
 ghost use Rattle.span_algebra.specs.Renaming.{both_names};
 
@@ -43,7 +43,7 @@ pub fn names_of_both(alloc: Global, left: &Vars, right: &Vars) -> Result<Vars, A
 }
 
 /// The number of a name, if it is there.
-fn place_of(names: &Vars, name: &Name) -> Option<u8>
+fn position_of(names: &Vars, name: &Name) -> Option<u8>
     ensures place { MatchOption result (Contains names.now name.now → ⊥) (λ v. slice_get names.now v ≡ Some name.now) }
     ensures vars { AreVars names.now }
 {
@@ -56,12 +56,12 @@ fn place_of(names: &Vars, name: &Name) -> Option<u8>
 }
 
 /// The index of each of some names among others, or none.
-pub fn places_of(alloc: Global, to: &Vars, from: &Vars) -> Result<Vec<Option<u8>>, NoMemory>
-    ensures { IfOk result (λ places. ArePlacesOf to.now from.now places.items) }
+pub fn indices_of(alloc: Global, to: &Vars, from: &Vars) -> Result<Vec<Option<u8>>, NoMemory>
+    ensures { IfOk result (λ places. AreIndicesOf to.now from.now places.items) }
 {
     let mut places = Vec::new(alloc);
     for v in 0..to.count() {
-        places.push(place_of(from, to.name(v)))?;
+        places.push(position_of(from, to.name(v)))?;
     }
     Ok(places)
 }

@@ -30,7 +30,7 @@ pub struct PairStep {
 }
 
 /// Whether a pair is at an index.
-fn stands_at(pairs: &[Pair], pair: Pair, place: usize) -> bool
+fn is_at(pairs: &[Pair], pair: Pair, place: usize) -> bool
     ensures { IsTrue result → slice_get pairs.now place ≡ Some pair }
 {
     match pairs.get(place) {
@@ -40,10 +40,10 @@ fn stands_at(pairs: &[Pair], pair: Pair, place: usize) -> bool
 }
 
 /// The index of a pair, if it is there. The index in the hint is tested first.
-fn place_of(pairs: &[Pair], pair: Pair, hint: u16) -> Option<usize>
+fn position_of(pairs: &[Pair], pair: Pair, hint: u16) -> Option<usize>
     ensures { MatchOption result (Contains pairs.now pair → ⊥) (λ i. slice_get pairs.now i ≡ Some pair) }
 {
-    if stands_at(pairs, pair, hint as usize) {
+    if is_at(pairs, pair, hint as usize) {
         return Some(hint as usize);
     }
     for (place, other) in pairs.iter().enumerate() {
@@ -74,7 +74,7 @@ fn put_pair(
     ensures gains { IfOk result (λ _. Gains most (λ p. p ≡ pair) pairs.old.items pairs.new.items) }
     ensures refused { IfErr result (IsRefused 0 (NoRoom most (λ p. p ≡ pair) pairs.old.items)) }
 {
-    if place_of(pairs, pair, hints.get(pair)).is_some() {
+    if position_of(pairs, pair, hints.get(pair)).is_some() {
         return Ok(());
     }
     if pairs.len() == most as usize {
@@ -109,7 +109,7 @@ fn index_of(pairs: &[Pair], hints: &Hints, pair: Pair) -> u16
     requires there { Contains pairs.now pair }
     ensures { slice_get pairs.now result ≡ Some pair }
 {
-    match place_of(pairs, pair, hints.get(pair)) {
+    match position_of(pairs, pair, hints.get(pair)) {
         Some(place) => place as u16,
         None => unreachable!(),
     }

@@ -11,8 +11,8 @@ ghost use Rattle.span_algebra.specs.TreeAutomaton.{ProjectEnd, ProjectStep};
 
 use crate::classes::{Class, classes_of};
 use crate::copies::{OperandCopy, push_edges, push_ends};
-use crate::determined::{USUAL_MOST, determined};
-use crate::names::places_of;
+use crate::determined::{DEFAULT_MAX_STATES, determined};
+use crate::names::indices_of;
 use crate::refusal::AlgebraRefusal;
 use marker_dfa::Dfa;
 use marker_nfa::Nfa;
@@ -34,7 +34,7 @@ fn project_nfa(
 {
     let states = source.states();
     let variables = keep.count();
-    let places = places_of(alloc, keep, names)?;
+    let places = indices_of(alloc, keep, names)?;
     let copy = OperandCopy {
         dfa: source,
         places: &places,
@@ -69,7 +69,7 @@ pub fn project(
     ensures refused { IfErr result (IsRefused (length keep.now) (CountIsAbove 128 (states_of source.now) (ProjectStep source.now names.now keep.now))) }
     ensures variables { length keep.now ≤ 8 }
 {
-    project_within(alloc, source, names, keep, USUAL_MOST)
+    project_within(alloc, source, names, keep, DEFAULT_MAX_STATES)
 }
 
 /// The same as `project`, with a limit of `most` states, 128 to 1,024, in place of 128.

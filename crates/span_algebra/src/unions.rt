@@ -12,8 +12,8 @@ ghost use Rattle.span_algebra.specs.TreeAutomaton.{UnionEnd, UnionStep, union_si
 
 use crate::classes::{Class, classes_of};
 use crate::copies::{OperandCopy, push_edges, push_ends};
-use crate::determined::{USUAL_MOST, determined};
-use crate::names::{Operand, names_of_both, places_of};
+use crate::determined::{DEFAULT_MAX_STATES, determined};
+use crate::names::{Operand, indices_of, names_of_both};
 use crate::refusal::AlgebraRefusal;
 use marker_dfa::Dfa;
 use marker_nfa::Nfa;
@@ -39,8 +39,8 @@ fn union_nfa(
     let left_states = left.dfa.states();
     let right_states = right.dfa.states();
     let variables = names.count();
-    let left_places = places_of(alloc, names, left.names)?;
-    let right_places = places_of(alloc, names, right.names)?;
+    let left_places = indices_of(alloc, names, left.names)?;
+    let right_places = indices_of(alloc, names, right.names)?;
     let base = 1 + left_states;
     let left_copy = OperandCopy {
         dfa: left.dfa,
@@ -112,7 +112,14 @@ pub fn union(
     ensures few { IfOk result (λ _. CountIsAbove 128 (union_size left.now right.now) (UnionStep left.now left_names.now right.now right_names.now) → ⊥) }
     ensures refused { IfErr result (IsRefused (length (both_names left_names.now right_names.now)) (CountIsAbove 128 (union_size left.now right.now) (UnionStep left.now left_names.now right.now right_names.now))) }
 {
-    union_within(alloc, left, left_names, right, right_names, USUAL_MOST)
+    union_within(
+        alloc,
+        left,
+        left_names,
+        right,
+        right_names,
+        DEFAULT_MAX_STATES,
+    )
 }
 
 /// The same as `union`, with a limit of `most` states, 128 to 1,024, in place of 128.

@@ -1,6 +1,6 @@
 -- The next answer and what is kept of it, from the walk that completes it.
 use Rattle.span_enum.proofs.Base.{Ahead, Begins, DeterministicAutomaton, EndsIn, Finishes, Found, Gives, EnumerationInput, IfSome, IsDeterministic, IsFirst, IsFirstLeft, IsFirstMember, IsFoundAfter, IsGreatestMark, IsEnumerationInput, IsMember, IsNext}
-use Rattle.span_enum.proofs.Base.{IsStateAt, IsTrailOf, IsTupleOf, List, Mark, Marked, NoEndAfter, NoMemberLeft, None, NoneAfter, Option, Place, Some, Tuple, [], ap, append-nil, arith, blanks, bytes_of, cut, end_mark, ended, height_limit}
+use Rattle.span_enum.proofs.Base.{IsStateAt, IsTrailOf, IsTupleOf, List, Mark, Marked, NoEndAfter, NoMemberLeft, None, NoneAfter, Option, WalkPosition, Some, Tuple, [], ap, append-nil, arith, blanks, bytes_of, cut, end_mark, ended, height_limit}
 use Rattle.span_enum.proofs.Base.{length, length-bytes, looks_limit, mark_count, reached, step_of, subst, sym, text_ahead, whole_text, word_of, word_over, write_mark, write_word, ℕ, ◌++◌, ◌+◌, ◌∙◌, ◌∷◌, ◌≡◌, ◌≤◌}
 use Rattle.span_enum.proofs.Kept.{leads-on}
 use Rattle.span_enum.proofs.Runs.{IsFirst-byte, IsFirst-fork, fit-end, member-one, reach-end}
@@ -72,7 +72,7 @@ module _ {words : ℕ} (g : EnumerationInput words) (is : IsEnumerationInput g) 
       (k.0, k.1, ap (reached a 0) k.1 ∙ run)
 
   -- ---- the answer that the walk finds
-  pub answer-found : (cursor : Option Tuple) → IfSome cursor (IsTupleOf a.variables) → (place : Place) (base : ℕ) (word : Marked) (before after end : ℕ) (ms more : List (Mark words)) (hs new : List (Option (Ahead words))) (out : Tuple) (f : Found)
+  pub answer-found : (cursor : Option Tuple) → IfSome cursor (IsTupleOf a.variables) → (place : WalkPosition) (base : ℕ) (word : Marked) (before after end : ℕ) (ms more : List (Mark words)) (hs new : List (Option (Ahead words))) (out : Tuple) (f : Found)
       → (b : Begins g place base word ms hs) → out ≡ write_word 1 word (blanks a.variables) → end ≡ length s + 1
       → ((w : Marked) (r e : ℕ) → IsFirst a place.state (text_ahead g b.chain) g.finals w r → IsGreatestMark a r 256 1 65536 e 0 → IsFirstLeft a s cursor ((word ++ w) ++ (e, 256) ∷ []))
       → Finishes g place base ms more hs new before after out end f

@@ -36,7 +36,7 @@ pub use Rattle.span_types.proofs.WordLaws.{marks-few, reads, seeks}
 pub use Rattle.span_types.proofs.WriteLaws.{cut-start, write-next}
 pub use Rattle.span_types.specs.Answers.{IsPage, IsRising}
 pub use Rattle.span_types.specs.Fibonacci.{height_limit, looks_limit}
-pub use Rattle.span_types.specs.Marks.{Comes, Lies, Spans, at_place, closing, mark, mark_of, opening, part_of, spans_of}
+pub use Rattle.span_types.specs.Marks.{Comes, Lies, Spans, at_position, closing, mark, mark_of, opening, part_of, spans_of}
 pub use Rattle.span_types.specs.Places.{AreSpans, IsSpan, IsTuple}
 pub use Rattle.span_types.specs.Words.{IsPast, Marked, Precedes, ended, mark_count, marked, marks_in, word_from}
 pub use Rattle.span_types.specs.Writes.{blanks, cut, write_mark, write_marks}
@@ -62,16 +62,16 @@ pub use Rattle.span_enum.specs.OverLeft.{IsMarkedLeft, IsPlainLeft}
 pub use Rattle.span_enum.specs.Pages.{IsListed}
 pub use Rattle.span_enum.specs.Quiet.{AreQuiet, AreQuietFinals, EndsIn, EndsQuietly, LeadQuiet, LeadsQuiet, StayQuiet, StaysQuiet}
 pub use Rattle.span_enum.specs.Sets.{can_reach_of, is_final, is_goal}
-pub use Rattle.span_enum.specs.Trail.{AreAhead, AreGoals, AreKept, AtMost, Begins, Behind, CanEnd, CanFinish, CanFollow, CanGoDown, Completes, Descends, Dies, EndsBehind, Fails, Finds, Finishes, Fits, FitsAt, Followed, Follows, GoesFirst}
-pub use Rattle.span_enum.specs.Trail.{HasRoom, IsAhead, IsFresh, IsEnumerationInput, IsKept, IsLast, IsMark, IsOver, IsQuietPlace, IsStateAt, IsTrailOf, IsTurned, Join, Keeps, Laid, Lays, Leads, Meets, NoEndAfter, Passed, Passes, PassesPlain}
-pub use Rattle.span_enum.specs.Trail.{PassesTo, Stands, StandsBefore, Turns, Way, height_at, mark_over, text_ahead, text_at, whole_text}
+pub use Rattle.span_enum.specs.Trail.{AreAhead, AreGoals, AreKept, AtMost, Begins, Behind, CanEnd, CanFinish, CanFollow, CanDescend, Completes, Descends, Dies, EndsBehind, Fails, Finds, Finishes, Fits, FitsAt, Followed, Follows, GoesFirst}
+pub use Rattle.span_enum.specs.Trail.{HasRoom, IsAhead, IsFresh, IsEnumerationInput, IsKept, IsLast, IsMark, IsOver, IsQuietPosition, IsStateAt, IsTrailOf, IsLowered, Join, Keeps, Laid, Lays, Leads, Meets, NoEndAfter, Passed, Passes, PassesPlain}
+pub use Rattle.span_enum.specs.Trail.{PassesTo, IsWalkAt, IsWalkBefore, Turns, Way, height_at, mark_over, text_ahead, text_at, whole_text}
 pub use Rattle.span_enum.specs.Tuples.{EndsPast, IsBound, IsTupleOf, IsUnmarked, end_mark, reaches, word_of, word_over, write_word}
-pub use Rattle.span_enum.specs.WayDown.{GoesOnAt, child, sibling}
+pub use Rattle.span_enum.specs.WayDown.{ContinuesAt, child, sibling}
 pub use Rattle.span_enum.specs.Words.{CanRun, IsFirst, IsGreatestMark, IsNoMark}
 pub use Rattle.span_enum.specs.declared.enumeration.Found.{Found}
 pub use Rattle.span_enum.specs.declared.input.EnumerationInput.{EnumerationInput}
 pub use Rattle.span_enum.specs.declared.sets.Between.{Between}
 pub use Rattle.span_enum.specs.declared.trail.Ahead.{Ahead}
 pub use Rattle.span_enum.specs.declared.trail.Mark.{Mark}
-pub use Rattle.span_enum.specs.declared.trail.Place.{Place}
+pub use Rattle.span_enum.specs.declared.trail.WalkPosition.{WalkPosition}
 pub use Rattle.span_enum.specs.declared.walk.Lowered.{Lowered}

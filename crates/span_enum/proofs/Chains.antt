@@ -1,6 +1,6 @@
 -- The nodes ahead: in the list, in the text, and what is known of the states there.
-use Rattle.span_enum.proofs.Base.{Ahead, AreAhead, AreBetween, AreGoals, Between, CanGoDown, DeterministicAutomaton, Fits, FitsAt, EnumerationInput, IsAhead, IsDeterministic, IsEnumerationInput, IsLook, IsMark, IsNodeAt, IsQuietPlace, IsTable, Join, LeadQuiet}
-use Rattle.span_enum.proofs.Base.{List, Look, Mark, Marked, NodeId, None, Option, Pair, Place, Some, Stands, StandsBefore, [], ap, append_assoc, arith, bytes-append, bytes-plain, bytes_of, child, get_push, height_at, inl, inr, length}
+use Rattle.span_enum.proofs.Base.{Ahead, AreAhead, AreBetween, AreGoals, Between, CanDescend, DeterministicAutomaton, Fits, FitsAt, EnumerationInput, IsAhead, IsDeterministic, IsEnumerationInput, IsLook, IsMark, IsNodeAt, IsQuietPosition, IsTable, Join, LeadQuiet}
+use Rattle.span_enum.proofs.Base.{List, Look, Mark, Marked, NodeId, None, Option, Pair, WalkPosition, Some, IsWalkAt, IsWalkBefore, [], ap, append_assoc, arith, bytes-append, bytes-plain, bytes_of, child, get_push, height_at, inl, inr, length}
 use Rattle.span_enum.proofs.Base.{length-append, length-take, max, path-on, path-one, path-parts, plain, push_get, push_last, reached, refl, same_Some, sibling, slice_get, slice_get_cases, slice_get_within, states_of, step_of, subst, suc}
 use Rattle.span_enum.proofs.Base.{sym, take, text_ahead, text_at, zero, ℕ, ◌++◌, ◌+◌, ◌-◌, ◌<◌, ◌∙◌, ◌∷◌, ◌≡◌, ◌≤◌}
 use Rattle.span_enum.proofs.Runs.{run-behind, run-join, step-within}
@@ -72,7 +72,7 @@ between-compose a p s u rest goals mid between one two = record {
 }
 
 -- ---- where the walk is
-pub stands-before : {words : ℕ} (g : EnumerationInput words) (hs : List (Option (Ahead words))) (at : ℕ) (place : Place) (h : Ahead words) (c : List (Ahead words)) → Stands g hs at place (h ∷ c) → StandsBefore g hs h place.state c
+pub stands-before : {words : ℕ} (g : EnumerationInput words) (hs : List (Option (Ahead words))) (at : ℕ) (place : WalkPosition) (h : Ahead words) (c : List (Ahead words)) → IsWalkAt g hs at place (h ∷ c) → IsWalkBefore g hs h place.state c
 stands-before g hs at place h c s = record {
   ahead = s.ahead.1;
   join = (refl, subst (λ n. Join g (n + length (text_at g h.id.index)) c) (sym s.join.0) s.join.1);
@@ -80,8 +80,8 @@ stands-before g hs at place h c s = record {
   state = s.state;
 }
 
-pub stands-mark : {words : ℕ} (g : EnumerationInput words) (hs : List (Option (Ahead words))) (m : Mark words) (c : List (Ahead words)) (n : ℕ) (to : Place) → IsDeterministic g.dfa.now → IsMark g hs m c → step_of g.dfa.now m.state n m.byte ≡ Some to.state
-    → to.next ≡ m.next → IsQuietPlace g to c → Stands g hs (m.at + 1) to c
+pub stands-mark : {words : ℕ} (g : EnumerationInput words) (hs : List (Option (Ahead words))) (m : Mark words) (c : List (Ahead words)) (n : ℕ) (to : WalkPosition) → IsDeterministic g.dfa.now → IsMark g hs m c → step_of g.dfa.now m.state n m.byte ≡ Some to.state
+    → to.next ≡ m.next → IsQuietPosition g to c → IsWalkAt g hs (m.at + 1) to c
 stands-mark g hs m c n to auto is step next quiet = record {
   ahead = subst (λ i. AreAhead hs i c) (sym next) is.ahead;
   join = is.join;
@@ -159,7 +159,7 @@ module _ {words : ℕ} (g : EnumerationInput words) (h : Ahead words) (l r : Nod
   pub ahead-left : (between : Between words) (next : ℕ) → IsAhead g (child h l left between next)
   ahead-left between next = record { live = omega (arith, f.pair.1, f.is_ahead.live); look = f.left_look; positive = f.is_ahead.positive; low = omega (arith, f.is_ahead.low, fork-size, f.left_look.len_is) }
 
-  module _ (hs : List (Option (Ahead words))) (q : ℕ) (c : List (Ahead words)) (s : StandsBefore g hs h q c) where
+  module _ (hs : List (Option (Ahead words))) (q : ℕ) (c : List (Ahead words)) (s : IsWalkBefore g hs h q c) where
     behind : Join g (h.at + left.len + length (text_at g r.index)) c
     behind = let n : h.at + length (text_at g h.id.index) ≡ h.at + left.len + length (text_at g r.index) = omega (arith, fork-size) in subst (λ k. Join g k c) n s.join.1
 
@@ -170,7 +170,7 @@ module _ {words : ℕ} (g : EnumerationInput words) (h : Ahead words) (l r : Nod
     goals-there = subst (λ x. AreGoals g q x c) both s.goals.2
 
     -- the walk is before the right child, once the left one is passed without marks
-    pub before-right : (to : ℕ) → to < states_of g.dfa.now → reached g.dfa.now q (plain (text_at g l.index)) ≡ Some to → StandsBefore g hs (sibling h r left right) to c
+    pub before-right : (to : ℕ) → to < states_of g.dfa.now → reached g.dfa.now q (plain (text_at g l.index)) ≡ Some to → IsWalkBefore g hs (sibling h r left right) to c
     before-right to low t =
         let x = text_at g l.index in
         record {
@@ -188,7 +188,7 @@ module _ {words : ℕ} (g : EnumerationInput words) (h : Ahead words) (l r : Nod
     -- the walk is before the left child, once the right one is put ahead
     pub before-left : (between : Between words) → AreBetween g.dfa.now q (text_at g l.index) (text_at g r.index) h.goals between.goals
         → LeadQuiet g.dfa.now q (text_at g l.index) (text_at g r.index) h.goals h.quiet between.quiet
-        → StandsBefore g (hs ++ Some (sibling h r left right) ∷ []) (child h l left between (length hs + 1)) q (sibling h r left right ∷ c)
+        → IsWalkBefore g (hs ++ Some (sibling h r left right) ∷ []) (child h l left between (length hs + 1)) q (sibling h r left right ∷ c)
     before-left between are lead =
         let x = text_at g l.index in
         let u = text_at g r.index in
@@ -208,8 +208,8 @@ module _ {words : ℕ} (g : EnumerationInput words) (h : Ahead words) (l r : Nod
         }
 
   -- ---- the way down
-  module _ (q base : ℕ) (ms : List (Mark words)) (marks_room : ℕ) (hs : List (Option (Ahead words))) (ahead_room : ℕ) (d : CanGoDown g h q base ms marks_room hs ahead_room) where
-    pub down-right : (p : ℕ) → p < states_of g.dfa.now → CanGoDown g (sibling h r left right) p base ms marks_room hs ahead_room
+  module _ (q base : ℕ) (ms : List (Mark words)) (marks_room : ℕ) (hs : List (Option (Ahead words))) (ahead_room : ℕ) (d : CanDescend g h q base ms marks_room hs ahead_room) where
+    pub down-right : (p : ℕ) → p < states_of g.dfa.now → CanDescend g (sibling h r left right) p base ms marks_room hs ahead_room
     down-right p low = record {
       is_ahead = ahead-right;
       state = low;
@@ -221,7 +221,7 @@ module _ {words : ℕ} (g : EnumerationInput words) (h : Ahead words) (l r : Nod
       deep = omega (arith, fork-height, d.deep);
     }
 
-    pub down-left : (between : Between words) → CanGoDown g (child h l left between (length hs + 1)) q base ms marks_room (hs ++ Some (sibling h r left right) ∷ []) ahead_room
+    pub down-left : (between : Between words) → CanDescend g (child h l left between (length hs + 1)) q base ms marks_room (hs ++ Some (sibling h r left right) ∷ []) ahead_room
     down-left between =
         let longer : length (hs ++ Some (sibling h r left right) ∷ []) ≡ length hs + 1 = length-append hs (Some (sibling h r left right) ∷ []) in
         record {

@@ -1,6 +1,6 @@
 -- The marks that are kept of a word, and, after them, what comes after a tuple.
-use Rattle.span_enum.proofs.Base.{Ahead, AreKept, Behind, DeterministicAutomaton, Fits, EnumerationInput, IsDeterministic, IsGreatestMark, IsKept, IsLast, IsNext, IsNoMark, IsQuietPlace, IsTrailOf, IsTurned, IsUnmarked, Keeps, Leads, List, Lowered}
-use Rattle.span_enum.proofs.Base.{Mark, Marked, NoneAfter, Option, Passed, Place, Some, Tuple, Way, [], ap, append_assoc, append_cancel_left, arith, blanks, bytes-append, bytes-plain, bytes_of, count-more, count-plain, cut, false, length}
+use Rattle.span_enum.proofs.Base.{Ahead, AreKept, Behind, DeterministicAutomaton, Fits, EnumerationInput, IsDeterministic, IsGreatestMark, IsKept, IsLast, IsNext, IsNoMark, IsQuietPosition, IsTrailOf, IsLowered, IsUnmarked, Keeps, Leads, List, Lowered}
+use Rattle.span_enum.proofs.Base.{Mark, Marked, NoneAfter, Option, Passed, WalkPosition, Some, Tuple, Way, [], ap, append_assoc, append_cancel_left, arith, blanks, bytes-append, bytes-plain, bytes_of, count-more, count-plain, cut, false, length}
 use Rattle.span_enum.proofs.Base.{length-append, length-bytes, length-plain, length-take-le, mark, mark_count, mark_count-append, mark_of, path-on, path-one, plain, plain-append, reached, refl, same-state, step_of, subst, suc, sym, take}
 use Rattle.span_enum.proofs.Base.{take-append-le, take-length, text_ahead, whole_text, word_over, write_mark, write_word, zero, ℕ, ◌*◌, ◌++◌, ◌+◌, ◌-◌, ◌<◌, ◌∙◌, ◌∷◌, ◌≡◌, ◌≤◌}
 use Rattle.span_enum.proofs.Chains.{fits-none, fits-short, stands-mark}
@@ -63,7 +63,7 @@ pub kept-few : {words : ℕ} (g : EnumerationInput words) (t : Tuple) (k n : ℕ
 kept-few g t k n w v ms hs size word kept = omega (arith, few-marks k t (whole_text g) size, ap mark_count word, mark_count-append w v, kept-count g n w ms hs kept)
 
 -- ---- one mark more, after letters without marks
-module _ {words : ℕ} (g : EnumerationInput words) (at : ℕ) (place : Place) (base : ℕ) (word : Marked) (ms more : List (Mark words)) (hs old new : List (Option (Ahead words))) (c : List (Ahead words)) (b : Behind g at place base word ms hs c) (k : Keeps g base ms more old new)
+module _ {words : ℕ} (g : EnumerationInput words) (at : ℕ) (place : WalkPosition) (base : ℕ) (word : Marked) (ms more : List (Mark words)) (hs old new : List (Option (Ahead words))) (c : List (Ahead words)) (b : Behind g at place base word ms hs c) (k : Keeps g base ms more old new)
     (same : take base old ≡ take base hs) (low : base ≤ length old) (way : Way g new at place.state c k.mark) (some : 0 < k.mark.mark) where
   abbrev m : Mark words
   m = k.mark
@@ -93,7 +93,7 @@ module _ {words : ℕ} (g : EnumerationInput words) (at : ℕ) (place : Place) (
       )
 
   -- the walk is after its letter
-  pub behind-mark : (to : Place) → IsDeterministic g.dfa.now → step_of g.dfa.now m.state m.mark m.byte ≡ Some to.state → to.next ≡ m.next → IsQuietPlace g to way.back
+  pub behind-mark : (to : WalkPosition) → IsDeterministic g.dfa.now → step_of g.dfa.now m.state m.mark m.byte ≡ Some to.state → to.next ≡ m.next → IsQuietPosition g to way.back
       → Behind g (m.at + 1) to (length new) word-more more new way.back
   behind-mark to auto step next quiet = record {
     at_is = omega (arith, is-kept.at_is, length-append front ((m.mark, m.byte) ∷ []));
@@ -195,7 +195,7 @@ module _ {words : ℕ} (g : EnumerationInput words) (t : Tuple) (others : List (
     abbrev low-letter : Marked
     low-letter = (l.mark, m.byte) ∷ []
 
-    turned : (base : ℕ) (more : List (Mark words)) → Fits g base hs → base ≤ length hs → (n : ℕ) → AreKept g n (k.before ++ low-letter) more (take base hs) → IsTurned g t l (record { next = m.next; base = base }) more hs
+    turned : (base : ℕ) (more : List (Mark words)) → Fits g base hs → base ≤ length hs → (n : ℕ) → AreKept g n (k.before ++ low-letter) more (take base hs) → IsLowered g t l (record { next = m.next; base = base }) more hs
     turned base more fits low n kept = record {
       word = k.before ++ low-letter;
       positive = omega (arith, at, k.kept.at_is);
@@ -229,13 +229,13 @@ module _ {words : ℕ} (g : EnumerationInput words) (t : Tuple) (others : List (
     }
 
     -- the lower mark is none
-    pub turned-none : l.mark ≡ 0 → IsTurned g t l (record { next = m.next; base = m.base }) others hs
+    pub turned-none : l.mark ≡ 0 → IsLowered g t l (record { next = m.next; base = m.base }) others hs
     turned-none none =
         turned m.base others k.kept.fits k.kept.low k.count
         (subst (λ x. AreKept g k.count (k.before ++ (x, m.byte) ∷ []) others (take m.base hs)) (sym none) (kept-plain g k.count k.before others (take m.base hs) (m.byte ∷ []) k.rest))
 
     -- it is there
-    pub turned-some : 0 < l.mark → IsTurned g t l (record { next = m.next; base = length hs }) (others ++ lower m l.mark ∷ []) hs
+    pub turned-some : 0 < l.mark → IsLowered g t l (record { next = m.next; base = length hs }) (others ++ lower m l.mark ∷ []) hs
     turned-some some = turned (length hs) (others ++ lower m l.mark ∷ []) (fits-none g hs) (omega arith) (suc k.count) (subst (λ x. AreKept g (suc k.count) (k.before ++ low-letter) (others ++ lower m l.mark ∷ []) x) (sym (take-length hs)) (
       record {
         others = others;

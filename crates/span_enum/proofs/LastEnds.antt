@@ -1,5 +1,5 @@
 -- The last answer of one variable whose span starts at a position.
-use Rattle.span_enum.proofs.Base.{AreFinals, DeterministicAutomaton, IsDeterministic, IsMember, Lies, List, Marked, None, Some, Span, Tuple, [], ap, append_assoc, arith, at_place, bytes-append, bytes_of, cases_eq, cases_lt}
+use Rattle.span_enum.proofs.Base.{AreFinals, DeterministicAutomaton, IsDeterministic, IsMember, Lies, List, Marked, None, Some, Span, Tuple, [], ap, append_assoc, arith, at_position, bytes-append, bytes_of, cases_eq, cases_lt}
 use Rattle.span_enum.proofs.Base.{end_mark, ends_of, get_or, inl, inr, length, length-append, mark_of, member, path-append, path-on, reached, refl, step_of, subst, suc, sym, then-between, true, word_over, ℕ, ◌++◌, ◌+◌, ◌<◌, ◌∙◌, ◌∷◌, ◌≡◌, ◌≢◌, ◌≤◌, ◌⊎◌}
 use Rattle.span_types.proofs.Sums.{at_same, at_other}
 use Rattle.span_types.specs.Words.{word_from}
@@ -28,7 +28,7 @@ one q = Some q ∷ []
 abbrev pub open_at : ℕ → Tuple
 open_at start = one (record { start = start; end = 281474976710657 })
 
-mark-one : (q : Span) (p : ℕ) → mark_of (one q) p ≡ at_place q.start 1 p + at_place q.end 2 p
+mark-one : (q : Span) (p : ℕ) → mark_of (one q) p ≡ at_position q.start 1 p + at_position q.end 2 p
 mark-one q p = omega arith
 
 -- up to a position before its end a span has the marks of one that doesn't end
@@ -38,7 +38,7 @@ marks-open q start position i e before low le =
       arith,
       mark-one q i,
       mark-one (record { start = start; end = 281474976710657 }) i,
-      ap (λ n. at_place n 1 i) e,
+      ap (λ n. at_position n 1 i) e,
       at_other q.end 2 i (λ k. omega (arith, k, before, le)),
       at_other 281474976710657 2 i (λ k. omega (arith, k, low, le)),
     )
@@ -66,7 +66,7 @@ opened-marks start position n (Some q ∷ []) size lies short positive before lo
     whole : Span
     whole = record { start = start; end = 281474976710657 }
 
-    here : at_place q.start 1 start + at_place q.end 2 start ≡ 1
+    here : at_position q.start 1 start + at_position q.end 2 start ≡ 1
     here = omega (arith, same start positive before, mark-one q start, mark-one whole start, at_same start 1, at_other 281474976710657 2 start (λ k. omega (arith, k, before, low, short)))
 
     f : (1 ≤ q.start) × (q.start ≤ q.end) × (q.end ≤ suc n)
@@ -87,8 +87,8 @@ opened-marks start position n (Some q ∷ []) size lies short positive before lo
 
     by : (q.start ≡ start) ⊎ (q.start ≢ start) → (q.end ≡ start) ⊎ (q.end ≢ start) → IsOpened start position (Some q ∷ [])
     by (inl e) (inr ne) = ends e ne (cases_lt q.end position)
-    by (inl e) (inl k) = absurd (omega (arith, here, ap (λ m. at_place m 1 start) e, at_same start 1, ap (λ m. at_place m 2 start) k, at_same start 2))
-    by (inr ne) (inl k) = absurd (omega (arith, here, at_other q.start 1 start (λ z. ne (sym z)), ap (λ m. at_place m 2 start) k, at_same start 2))
+    by (inl e) (inl k) = absurd (omega (arith, here, ap (λ m. at_position m 1 start) e, at_same start 1, ap (λ m. at_position m 2 start) k, at_same start 2))
+    by (inr ne) (inl k) = absurd (omega (arith, here, at_other q.start 1 start (λ z. ne (sym z)), ap (λ m. at_position m 2 start) k, at_same start 2))
     by (inr ne) (inr nk) = absurd (omega (arith, here, at_other q.start 1 start (λ z. ne (sym z)), at_other q.end 2 start (λ z. nk (sym z))))
 
 -- ---- the members with a start

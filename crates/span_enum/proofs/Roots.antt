@@ -1,6 +1,6 @@
 -- The root of a text ahead of its first letter, and what it says of the text.
 use Rattle.span_enum.proofs.Base.{Ahead, AreAhead, AreQuiet, AreTables, Begins, Behind, CanRun, DeterministicAutomaton, Dictionary, EnumerationInput, IsAhead, IsFresh, IsEnumerationInput, IsLive, IsLook, List, Look, Mark, Node, NodeId, None, Option, Some}
-use Rattle.span_enum.proofs.Base.{Stands, [], ap, append-nil, arith, bytes-none, count_of, ends_of, false, length, length-take-le, refl, slice_get, subst, suc, sym, text_ahead, text_at, text_of, whole_text, ℕ, ◌++◌, ◌<◌, ◌∙◌, ◌∷◌}
+use Rattle.span_enum.proofs.Base.{IsWalkAt, [], ap, append-nil, arith, bytes-none, count_of, ends_of, false, length, length-take-le, refl, slice_get, subst, suc, sym, text_ahead, text_at, text_of, whole_text, ℕ, ◌++◌, ◌<◌, ◌∙◌, ◌∷◌}
 use Rattle.span_enum.proofs.Base.{◌≡◌, ◌≤◌}
 use Rattle.span_enum.proofs.Chains.{fits-none}
 use Rattle.span_enum.proofs.Runs.{AreBytes, Tells, end-facts, final-from, goal-from_nothing, run-nothing}
@@ -58,7 +58,7 @@ root-tells g input ms hs h is some found =
 pub text-short : {words : ℕ} (g : EnumerationInput words) (ms : List (Mark words)) (hs : List (Option (Ahead words))) → IsFresh g ms hs → length (whole_text g) ≤ 281474976710656
 text-short {words = words} g ms hs is = by is.chain is.stands is.text_is
   where
-    by : (c : List (Ahead words)) → Stands g hs 1 (record { state = 0; next = length hs; quiet = false }) c → text_ahead g c ≡ whole_text g → length (whole_text g) ≤ 281474976710656
+    by : (c : List (Ahead words)) → IsWalkAt g hs 1 (record { state = 0; next = length hs; quiet = false }) c → text_ahead g c ≡ whole_text g → length (whole_text g) ≤ 281474976710656
     by [] s e = omega (arith, ap length e)
     by (x ∷ c) s e = omega (arith, ap length (sym (root-alone g hs x c s.ahead is.one) ∙ e), s.goals.0.look.len_is, s.goals.0.look.short)
 

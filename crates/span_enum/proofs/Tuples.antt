@@ -1,7 +1,7 @@
 -- Where the spans of a tuple start and end, the order of words, and the members of the list of answers.
 use Rattle.span_enum.proofs.Base.{Accepted, AcceptsEnd, AcceptsWord, AreFinals, AreSpans, AreTables, Bool, CanRun, Comes, Contains, DeterministicAutomaton, Dictionary, EndsPast, Gives, HasMember, IfSome, IsAfter, IsBound, IsDeterministic}
 use Rattle.span_enum.proofs.Base.{IsFirstLeft, IsFirstMember, IsLook, IsMarked, IsMember, IsPast, IsSpan, IsTupleOf, IsWord, Lies, List, Marked, MarkedText, NoMemberLeft, Node, None, NoneLeft, OneLetter, Option, Parts, PathAccepts}
-use Rattle.span_enum.proofs.Base.{Precedes, Row, Some, Span, Spans, Tuple, Wellmarked, [], and-true, and_right, ap, arith, at_place, blanks, bool-cases, bytes-append, bytes_of, cases_eq, cases_lt, closing, count_of, ended, ends_of, eq-eqb}
+use Rattle.span_enum.proofs.Base.{Precedes, Row, Some, Span, Spans, Tuple, Wellmarked, [], and-true, and_right, ap, arith, at_position, blanks, bool-cases, bytes-append, bytes_of, cases_eq, cases_lt, closing, count_of, ended, ends_of, eq-eqb}
 use Rattle.span_enum.proofs.Base.{false, four_le, get_or, inl, inr, le-leb, leb-true, length, length-bytes, mark, mark-free, mark_count, mark_of, marked, marked_text, marks-few, member, nat_le, next_of, not, not-both, one-letter, onto}
 use Rattle.span_enum.proofs.Base.{opening, or-cases, or-left, or-right, part_of, path, path-append, path-dead, path-on, path-one, path-parts, precedes-append, precedes-prefix, precedes-split, reached, reaches, reads, refl, seeks, span-is}
 use Rattle.span_enum.proofs.Base.{spans-at, spans_of, step_of, subst, suc, sym, text, then-between, tree, true, word-end, word_of, word_over, write_word, zero, ℕ, ◌&&◌, ◌*◌, ◌++◌, ◌+◌, ◌<◌, ◌^◌, ◌↔◌, ◌∙◌, ◌∷◌, ◌≡◌, ◌≤◌, ◌⊎◌}
@@ -15,7 +15,7 @@ use Rattle.span_types.proofs.WordLaws.{tells}
 four-some : (v : ℕ) → 0 < 4 ^ v
 four-some v = omega (arith, four_le 0 v (omega arith))
 
-at-own : (i x p : ℕ) → i ≡ p → at_place i x p ≡ x
+at-own : (i x p : ℕ) → i ≡ p → at_position i x p ≡ x
 at-own i x p e = rw (eq-eqb p i (sym e)) refl
 
 part-some : (v : ℕ) (o : Option Span) (p : ℕ) → IsBound o p → 0 < part_of v o p

@@ -1,6 +1,6 @@
 -- The walk to the first marked text, and that along the marks of a given tuple.
-use Rattle.span_enum.proofs.Base.{Ahead, AreAhead, AreKept, AtMost, Begins, Behind, CanFinish, CanFollow, CanGoDown, Completes, Descends, Dies, EndsBehind, EndsIn, Fails, Finds, Fits, Followed, Follows, GoesFirst, EnumerationInput, HasRoom, IsAhead}
-use Rattle.span_enum.proofs.Base.{IsDeterministic, IsFirst, IsEnumerationInput, IsOver, IsUnmarked, Lays, Leads, List, Mark, Marked, Meets, None, NoneAfter, Option, Passed, PassesPlain, PassesTo, Place, Some, Stands, StandsBefore, Tuple, Turns, Way}
+use Rattle.span_enum.proofs.Base.{Ahead, AreAhead, AreKept, AtMost, Begins, Behind, CanFinish, CanFollow, CanDescend, Completes, Descends, Dies, EndsBehind, EndsIn, Fails, Finds, Fits, Followed, Follows, GoesFirst, EnumerationInput, HasRoom, IsAhead}
+use Rattle.span_enum.proofs.Base.{IsDeterministic, IsFirst, IsEnumerationInput, IsOver, IsUnmarked, Lays, Leads, List, Mark, Marked, Meets, None, NoneAfter, Option, Passed, PassesPlain, PassesTo, WalkPosition, Some, IsWalkAt, IsWalkBefore, Tuple, Turns, Way}
 use Rattle.span_enum.proofs.Base.{[], ap, append-nil, append_assoc, arith, bytes-append, bytes-none, bytes-plain, bytes_of, cases_lt, count-more, count-plain, cut, drop, false, height-most, height-within, height_at, height_limit}
 use Rattle.span_enum.proofs.Base.{height_limit-right, inl, inr, length, length-append, length-plain, length-take, length-take-le, length-text, mark_count, mark_count-append, mark_of, max, mul-suc, no-state, path-dead, path-on}
 use Rattle.span_enum.proofs.Base.{path-one, plain, reached, refl, same-state, slice_get, slice_get_within, step_of, subst, suc, sym, take, take-append-drop, take-append-le, take-length, take-take, text_ahead, text_at, tree, true}
@@ -22,13 +22,13 @@ height-lowest g h is = height-most (tree g.view.store.now h.id.index) is.look.ba
 
 -- ---- the node at which the walk turns
 -- the walk comes to the node, and the list is cut before it
-pub record Arrives {words : ℕ} (g : EnumerationInput words) (hs : List (Option (Ahead words))) (cut at : ℕ) (from place : Place) (c : List (Ahead words)) (h : Ahead words) : Type 0 where
+pub record Arrives {words : ℕ} (g : EnumerationInput words) (hs : List (Option (Ahead words))) (cut at : ℕ) (from place : WalkPosition) (c : List (Ahead words)) (h : Ahead words) : Type 0 where
   pub passes : PassesPlain g hs at from place c
   pub turns : Turns place.state passes.passes.back
   pub node : Next g hs at from place c passes.passes h
-  pub before : StandsBefore g (take cut hs) h place.state node.rest
+  pub before : IsWalkBefore g (take cut hs) h place.state node.rest
 
-pub arrives : {words : ℕ} (g : EnumerationInput words) → IsEnumerationInput g → (hs : List (Option (Ahead words))) (base cut at : ℕ) (from place : Place) (c : List (Ahead words)) (h : Ahead words) → (p : PassesPlain g hs at from place c) × Turns place.state p.passes.back → 0 < place.next
+pub arrives : {words : ℕ} (g : EnumerationInput words) → IsEnumerationInput g → (hs : List (Option (Ahead words))) (base cut at : ℕ) (from place : WalkPosition) (c : List (Ahead words)) (h : Ahead words) → (p : PassesPlain g hs at from place c) × Turns place.state p.passes.back → 0 < place.next
     → ((before : ℕ) → place.next ≡ suc before → slice_get hs before ≡ Some (Some h)) → cut ≡ max base (place.next - 1) → Arrives g hs cut at from place c h
 arrives g is hs base cut at from place c h pass some found e =
     let n = next-node g is hs at from place c pass.0.passes h some found in
@@ -36,7 +36,7 @@ arrives g is hs base cut at from place c h pass some found e =
     let low : h.next ≤ cut = omega (arith, e, n.stands.ahead.0.counted, n.stands.ahead.0.earlier) in
     record { passes = pass.0; turns = pass.1; node = n; before = record { ahead = ahead-move hs (take cut hs) cut h.next n.rest (λ i x lt there. slice-take cut i hs lt ∙ there) low k.ahead; join = k.join; goals = k.goals; state = k.state } }
 
-module _ {words : ℕ} (g : EnumerationInput words) (hs : List (Option (Ahead words))) (cut at : ℕ) (from place : Place) (c : List (Ahead words)) (h : Ahead words) (a : Arrives g hs cut at from place c h) where
+module _ {words : ℕ} (g : EnumerationInput words) (hs : List (Option (Ahead words))) (cut at : ℕ) (from place : WalkPosition) (c : List (Ahead words)) (h : Ahead words) (a : Arrives g hs cut at from place c h) where
   abbrev x : List ℕ
   x = a.passes.passes.front
 
@@ -51,7 +51,7 @@ module _ {words : ℕ} (g : EnumerationInput words) (hs : List (Option (Ahead wo
       height-short g h len a.node.stands.goals.0
       (omega (arith, le, ap length to-node.parts, length-append x (text_ahead g (h ∷ a.node.rest)), length-append (text_at g h.id.index) (text_ahead g a.node.rest)))
 
-  pub arrives-meets : (base before after : ℕ) (marks more : List (Mark words)) (new : List (Option (Ahead words))) (out out' : Tuple) (to : Place)
+  pub arrives-meets : (base before after : ℕ) (marks more : List (Mark words)) (new : List (Option (Ahead words))) (out out' : Tuple) (to : WalkPosition)
       → (d : Descends g h place.state base marks more (take cut hs) new before after out out' to) → Meets g new at from.state c d.keeps.mark to
   arrives-meets base before after marks more new out out' to d =
       meets-on g new at h.at from.state place.state x c (h ∷ a.node.rest) d.keeps.mark to to-node a.node.stands.join.0
@@ -71,7 +71,7 @@ cut-deep g hs at base h b ahead is low fits =
     ]
 
 -- ---- the rest of the first marked text
-module _ {words : ℕ} (g : EnumerationInput words) (from : Place) (base : ℕ) (word : Marked) (marks : List (Mark words)) (hs : List (Option (Ahead words))) (b : Begins g from base word marks hs) where
+module _ {words : ℕ} (g : EnumerationInput words) (from : WalkPosition) (base : ℕ) (word : Marked) (marks : List (Mark words)) (hs : List (Option (Ahead words))) (b : Begins g from base word marks hs) where
   abbrev c : List (Ahead words)
   c = b.chain
 
@@ -108,7 +108,7 @@ module _ {words : ℕ} (g : EnumerationInput words) (from : Place) (base : ℕ) 
       finds-plain None looks k.last out k.unmarked (record { bytes = bytes-plain back; ends = k.ends; goal = k.goal; least = λ v r bytes ends goal. inl (k.sole v r bytes ends goal) })
 
   -- all nodes are passed
-  pub finds-end : (place : Place) (looks : ℕ) (out : Tuple) → place.next ≡ 0 → PassesPlain g hs b.at from place c → Finds g from word back marks (take base hs) looks looks (Some place.state) out out
+  pub finds-end : (place : WalkPosition) (looks : ℕ) (out : Tuple) → place.next ≡ 0 → PassesPlain g hs b.at from place c → Finds g from word back marks (take base hs) looks looks (Some place.state) out out
   finds-end place looks out last p =
       let x = p.passes.front in
       let none : p.passes.back ≡ [] = back-none hs place.next p.passes.back p.passes.stands.ahead (omega (arith, last)) in
@@ -118,7 +118,7 @@ module _ {words : ℕ} (g : EnumerationInput words) (from : Place) (base : ℕ) 
       finds-plain (Some place.state) looks place.state out refl (subst (λ w. IsFirst g.dfa.now from.state back g.finals w place.state) (append-nil (plain x) ∙ ap plain (sym texts)) first)
 
   -- a mark is found at a node, and then the rest after it
-  module _ (place : Place) (h : Ahead words) (cut : ℕ) (n : Arrives g hs cut b.at from place c h) (fit : base ≤ cut) where
+  module _ (place : WalkPosition) (h : Ahead words) (cut : ℕ) (n : Arrives g hs cut b.at from place c h) (fit : base ≤ cut) where
     abbrev low : base ≤ length (take cut hs)
     low = omega (arith, length-take cut hs, fit, b.behind.low)
 
@@ -126,7 +126,7 @@ module _ {words : ℕ} (g : EnumerationInput words) (from : Place) (base : ℕ) 
     one-more is short = arrives-some g hs cut b.at from place c h n (2 * g.dfa.now.variables - length marks) (begins-few is short)
 
     pub turn-down : (marks_room ahead_room : ℕ) → IsEnumerationInput g → length (whole_text g) ≤ 281474976710656 → HasRoom g.dfa.now.variables marks_room ahead_room → cut ≡ max base (place.next - 1)
-        → CanGoDown g h place.state base marks marks_room (take cut hs) ahead_room
+        → CanDescend g h place.state base marks marks_room (take cut hs) ahead_room
     turn-down marks_room ahead_room is short room e =
         let one = one-more is short in
         record {
@@ -140,7 +140,7 @@ module _ {words : ℕ} (g : EnumerationInput words) (from : Place) (base : ℕ) 
           deep = rw e (cut-deep g hs place.next base h n.node.rest n.node.stands.ahead n.node.stands.goals.0 b.behind.low b.fits);
         }
 
-    module _ (auto : IsDeterministic g.dfa.now) (to : Place) (ms1 : List (Mark words)) (hs1 : List (Option (Ahead words))) (before mid : ℕ) (out out1 : Tuple) (d : Descends g h place.state base marks ms1 (take cut hs) hs1 before mid out out1 to) where
+    module _ (auto : IsDeterministic g.dfa.now) (to : WalkPosition) (ms1 : List (Mark words)) (hs1 : List (Option (Ahead words))) (before mid : ℕ) (out out1 : Tuple) (d : Descends g h place.state base marks ms1 (take cut hs) hs1 before mid out out1 to) where
       abbrev k : Meets g hs1 b.at from.state c d.keeps.mark to
       k = arrives-meets g hs cut b.at from place c h n base before mid marks ms1 hs1 out out1 to d
 
@@ -188,13 +188,13 @@ module _ {words : ℕ} (g : EnumerationInput words) (from : Place) (base : ℕ) 
 
 -- ---- along the marks of a tuple
 -- the walk is before the node over the position
-pub record StandsOver {words : ℕ} (g : EnumerationInput words) (t : Tuple) (hs : List (Option (Ahead words))) (position : ℕ) (to : Place) (ms : List (Mark words)) (h : Ahead words) : Type 0 where
+pub record StandsOver {words : ℕ} (g : EnumerationInput words) (t : Tuple) (hs : List (Option (Ahead words))) (position : ℕ) (to : WalkPosition) (ms : List (Mark words)) (h : Ahead words) : Type 0 where
   pub rest : List (Ahead words)
   pub follows : Follows g t hs h.at to ms (h ∷ rest)
   pub over : IsOver g h position
   pub quiet : IsUnmarked t h.at position
 
-module _ {words : ℕ} (g : EnumerationInput words) (t : Tuple) (hs : List (Option (Ahead words))) (at : ℕ) (place : Place) (ms : List (Mark words)) (c : List (Ahead words)) (f : Follows g t hs at place ms c) where
+module _ {words : ℕ} (g : EnumerationInput words) (t : Tuple) (hs : List (Option (Ahead words))) (at : ℕ) (place : WalkPosition) (ms : List (Mark words)) (c : List (Ahead words)) (f : Follows g t hs at place ms c) where
   abbrev ahead : List ℕ
   ahead = text_ahead g c
 
@@ -210,7 +210,7 @@ module _ {words : ℕ} (g : EnumerationInput words) (t : Tuple) (hs : List (Opti
       omega (arith, kept-few g t k f.behind.count f.word (word_over t at ahead) ms (take (length hs) hs) size f.word_is f.behind.kept, over-count t at ahead position from to some)
 
   -- nodes in front of a position are passed without marks
-  pub follows-pass : (position : ℕ) (to : Place) → IsUnmarked t at position → (p : PassesTo g hs at position place to c) → Follows g t hs (at + length p.passes.front) to ms p.passes.back
+  pub follows-pass : (position : ℕ) (to : WalkPosition) → IsUnmarked t at position → (p : PassesTo g hs at position place to c) → Follows g t hs (at + length p.passes.front) to ms p.passes.back
   follows-pass position to quiet p =
       let k = p.passes in
       let x = k.front in
@@ -267,18 +267,18 @@ module _ {words : ℕ} (g : EnumerationInput words) (t : Tuple) (hs : List (Opti
       (ap (reached a place.state) words ∙ path-dead (step_of a) place.state (plain near) rest dies) cost
 
 -- what holds of each place where the walk may stand holds of this one
-module _ {words : ℕ} (g : EnumerationInput words) (t : Tuple) (hs : List (Option (Ahead words))) (at : ℕ) (place : Place) (ms : List (Mark words)) (c : List (Ahead words)) (f : Follows g t hs at place ms c) (position : ℕ) (late : at ≤ position) (le : position ≤ length (whole_text g) + 1) (quiet : IsUnmarked t at position) where
+module _ {words : ℕ} (g : EnumerationInput words) (t : Tuple) (hs : List (Option (Ahead words))) (at : ℕ) (place : WalkPosition) (ms : List (Mark words)) (c : List (Ahead words)) (f : Follows g t hs at place ms c) (position : ℕ) (late : at ≤ position) (le : position ≤ length (whole_text g) + 1) (quiet : IsUnmarked t at position) where
   pub most : position ≤ at + length (text_ahead g c)
   most = omega (arith, le, follows-size g t hs at place ms c f)
 
-  abbrev Comes : Place → Type 0
-  Comes to = (x : ℕ) (d : List (Ahead words)) → Stands g hs x place d → x ≤ position → position ≤ x + length (text_ahead g d) → (p : PassesTo g hs x position place to d) × EndsBehind g position p.passes.back
+  abbrev Comes : WalkPosition → Type 0
+  Comes to = (x : ℕ) (d : List (Ahead words)) → IsWalkAt g hs x place d → x ≤ position → position ≤ x + length (text_ahead g d) → (p : PassesTo g hs x position place to d) × EndsBehind g position p.passes.back
 
-  pub comes-there : (to : Place) → Comes to → (p : PassesTo g hs at position place to c) × EndsBehind g position p.passes.back
+  pub comes-there : (to : WalkPosition) → Comes to → (p : PassesTo g hs at position place to c) × EndsBehind g position p.passes.back
   comes-there to all = all at c f.behind.stands late most
 
   -- all nodes are passed
-  pub followed-last : (to : Place) (looks : ℕ) → Comes to → to.next ≡ 0 → Followed g t ms ms hs looks looks (Some to.state)
+  pub followed-last : (to : WalkPosition) (looks : ℕ) → Comes to → to.next ≡ 0 → Followed g t ms ms hs looks looks (Some to.state)
   followed-last to looks all none =
       let p = (comes-there to all).0 in
       let d = p.passes.back in
@@ -287,7 +287,7 @@ module _ {words : ℕ} (g : EnumerationInput words) (t : Tuple) (hs : List (Opti
       followed-none g t hs (at + length p.passes.front) to ms [] on (Some to.state) looks looks (none-plain g.dfa.now to.state [] g.finals) refl (omega arith)
 
   -- the node over the position comes next
-  pub over-node : IsEnumerationInput g → (to : Place) (h : Ahead words) → Comes to → 0 < to.next → ((before : ℕ) → to.next ≡ suc before → slice_get hs before ≡ Some (Some h)) → StandsOver g t hs position to ms h
+  pub over-node : IsEnumerationInput g → (to : WalkPosition) (h : Ahead words) → Comes to → 0 < to.next → ((before : ℕ) → to.next ≡ suc before → slice_get hs before ≡ Some (Some h)) → StandsOver g t hs position to ms h
   over-node input to h all pos found =
       let there = comes-there to all in
       let p = there.0.passes in
@@ -301,7 +301,7 @@ module _ {words : ℕ} (g : EnumerationInput words) (t : Tuple) (hs : List (Opti
       }
 
 -- ---- at the node
-module _ {words : ℕ} (g : EnumerationInput words) (t : Tuple) (old : List (Option (Ahead words))) (position : ℕ) (to : Place) (ms : List (Mark words)) (h : Ahead words) (o : StandsOver g t old position to ms h) where
+module _ {words : ℕ} (g : EnumerationInput words) (t : Tuple) (old : List (Option (Ahead words))) (position : ℕ) (to : WalkPosition) (ms : List (Mark words)) (h : Ahead words) (o : StandsOver g t old position to ms h) where
   abbrev all : List ℕ
   all = text_ahead g (h ∷ o.rest)
 
@@ -321,7 +321,7 @@ module _ {words : ℕ} (g : EnumerationInput words) (t : Tuple) (old : List (Opt
   over-high = height-short g h (length (whole_text g)) over-ahead (omega (arith, over-size, follows-size g t old h.at to ms (h ∷ o.rest) o.follows, over-ahead.positive))
 
   -- what the way down needs
-  pub over-down : (k marks_room ahead_room : ℕ) → length t ≡ k → 0 < mark_of t position → HasRoom k marks_room ahead_room → CanGoDown g h to.state (length old) ms marks_room old ahead_room
+  pub over-down : (k marks_room ahead_room : ℕ) → length t ≡ k → 0 < mark_of t position → HasRoom k marks_room ahead_room → CanDescend g h to.state (length old) ms marks_room old ahead_room
   over-down k marks_room ahead_room tuple some room =
       let few = over-few k tuple some in
       record {
@@ -387,7 +387,7 @@ module _ {words : ℕ} (g : EnumerationInput words) (t : Tuple) (old : List (Opt
         → CanFollow g t mid (position + 1) (record { state = q; next = last.next; quiet = false }) more
     lays-goes auto q last same step =
         let here : step_of g.dfa.now laid-mark.state laid-mark.mark laid-mark.byte ≡ Some q = rw same at step in
-        let place : Place = record { state = q; next = laid-mark.next; quiet = false } in
+        let place : WalkPosition = record { state = q; next = laid-mark.next; quiet = false } in
         let on = behind-mark g h.at to (length old) word ms more old old mid (h ∷ o.rest) o.follows.behind k.keeps refl (omega arith) lays-way lays-some place auto here refl (λ e. cc) in
         let there = subst (λ (n : ℕ). Behind g (n + 1) place (length mid) ((word ++ plain bare) ++ letter) more mid lays-way.back) k.position_is on in
         rw same (lays-way.back, record { word = (word ++ plain bare) ++ letter; behind = there; word_is = lays-word })

@@ -1,6 +1,6 @@
 -- The way over letters without marks: over nodes ahead, and down to a mark.
 use Rattle.span_enum.proofs.Base.{Ahead, AreAhead, AreBetween, AreGoals, AtMost, Between, Bool, Byte, CanEnd, Descends, DeterministicAutomaton, Dies, Fails, Fits, GoesFirst, EnumerationInput, IsDeterministic, IsGreatestMark, IsEnumerationInput, IsMarkedLeft}
-use Rattle.span_enum.proofs.Base.{IsNodeAt, IsOver, IsPlainLeft, Join, Keeps, Laid, Lays, LeadQuiet, List, Look, Mark, Marked, Meets, NodeId, None, Option, Passed, Passes, PassesPlain, PassesTo, Place, Some, Stands, StandsBefore, Tuple}
+use Rattle.span_enum.proofs.Base.{IsNodeAt, IsOver, IsPlainLeft, Join, Keeps, Laid, Lays, LeadQuiet, List, Look, Mark, Marked, Meets, NodeId, None, Option, Passed, Passes, PassesPlain, PassesTo, WalkPosition, Some, IsWalkAt, IsWalkBefore, Tuple}
 use Rattle.span_enum.proofs.Base.{Turns, Way, [], ap, append-nil, append_assoc, arith, bit_and, bytes-append, bytes-plain, bytes_of, can_reach_of, child, false, has-count, here, length, length-append, mark_count-append, mark_of}
 use Rattle.span_enum.proofs.Base.{mark_over, marked, marked_of, member, path-on, path-parts, plain, plain-append, plain-dead, plain-on, reached, refl, sibling, slice_get, states_of, step_of, subst, suc, sym, take, take-append-add}
 use Rattle.span_enum.proofs.Base.{take-append-le, text_ahead, text_at, true, true≢false, unmarked_of, ℕ, ◌++◌, ◌+◌, ◌-◌, ◌<◌, ◌∙◌, ◌∷◌, ◌≡◌, ◌≤◌}
@@ -27,7 +27,7 @@ way-on g hs at here p q x c d m over e k = record {
   is_mark = k.is_mark;
 }
 
-pub meets-on : {words : ℕ} (g : EnumerationInput words) (hs : List (Option (Ahead words))) (at here p q : ℕ) (x : List ℕ) (c d : List (Ahead words)) (m : Mark words) (to : Place) → Passed g.dfa.now p (text_ahead g c) x q (text_ahead g d) → here ≡ at + length x
+pub meets-on : {words : ℕ} (g : EnumerationInput words) (hs : List (Option (Ahead words))) (at here p q : ℕ) (x : List ℕ) (c d : List (Ahead words)) (m : Mark words) (to : WalkPosition) → Passed g.dfa.now p (text_ahead g c) x q (text_ahead g d) → here ≡ at + length x
     → GoesFirst g p c (plain x) q d → Meets g hs here q d m to → Meets g hs at p c m to
 meets-on {words = words} g hs at here p q x c d m to over e first k =
     let last : Marked = (m.mark, m.byte) ∷ [] in
@@ -40,24 +40,24 @@ meets-on {words = words} g hs at here p q x c d m to over e first k =
     }
 
 -- ---- nodes ahead
-abbrev pub passes-none : {words : ℕ} (g : EnumerationInput words) (hs : List (Option (Ahead words))) (at : ℕ) (from : Place) (c : List (Ahead words)) → Stands g hs at from c → Passes g hs at from from c
-passes-none g hs at from c s = record { front = []; back = c; passed = record { parts = refl; step = refl }; stands = let same : at ≡ at + 0 = omega arith in subst (λ n. Stands g hs n from c) same s }
+abbrev pub passes-none : {words : ℕ} (g : EnumerationInput words) (hs : List (Option (Ahead words))) (at : ℕ) (from : WalkPosition) (c : List (Ahead words)) → IsWalkAt g hs at from c → Passes g hs at from from c
+passes-none g hs at from c s = record { front = []; back = c; passed = record { parts = refl; step = refl }; stands = let same : at ≡ at + 0 = omega arith in subst (λ n. IsWalkAt g hs n from c) same s }
 
-pub plain-none : {words : ℕ} (g : EnumerationInput words) (hs : List (Option (Ahead words))) (at : ℕ) (from : Place) (c : List (Ahead words)) → Stands g hs at from c → CanEnd g from.state c → PassesPlain g hs at from from c
+pub plain-none : {words : ℕ} (g : EnumerationInput words) (hs : List (Option (Ahead words))) (at : ℕ) (from : WalkPosition) (c : List (Ahead words)) → IsWalkAt g hs at from c → CanEnd g from.state c → PassesPlain g hs at from from c
 plain-none g hs at from c s can = record { passes = passes-none g hs at from c s; can = can; first = λ w r f. f }
 
 -- the node that comes next, after those that were passed
-pub record Next {words : ℕ} (g : EnumerationInput words) (hs : List (Option (Ahead words))) (at : ℕ) (from place : Place) (c : List (Ahead words)) (p : Passes g hs at from place c) (h : Ahead words) : Type 0 where
+pub record Next {words : ℕ} (g : EnumerationInput words) (hs : List (Option (Ahead words))) (at : ℕ) (from place : WalkPosition) (c : List (Ahead words)) (p : Passes g hs at from place c) (h : Ahead words) : Type 0 where
   pub rest : List (Ahead words)
   pub back : p.back ≡ h ∷ rest
-  pub stands : Stands g hs (at + length p.front) place (h ∷ rest)
+  pub stands : IsWalkAt g hs (at + length p.front) place (h ∷ rest)
   pub tells : Tells g.dfa.now (text_at g h.id.index) h.look.table.now
 
-pub next-node : {words : ℕ} (g : EnumerationInput words) → IsEnumerationInput g → (hs : List (Option (Ahead words))) (at : ℕ) (from place : Place) (c : List (Ahead words)) (p : Passes g hs at from place c) (h : Ahead words) → 0 < place.next
+pub next-node : {words : ℕ} (g : EnumerationInput words) → IsEnumerationInput g → (hs : List (Option (Ahead words))) (at : ℕ) (from place : WalkPosition) (c : List (Ahead words)) (p : Passes g hs at from place c) (h : Ahead words) → 0 < place.next
     → ((before : ℕ) → place.next ≡ suc before → slice_get hs before ≡ Some (Some h)) → Next g hs at from place c p h
 next-node g is hs at from place c p h some found =
     let head = next-is hs place.next p.back h p.stands.ahead some found in
-    let stands : Stands g hs (at + length p.front) place (h ∷ head.0) = rw head.1 at p.stands in
+    let stands : IsWalkAt g hs (at + length p.front) place (h ∷ head.0) = rw head.1 at p.stands in
     record {
       rest = head.0;
       back = head.1;
@@ -65,7 +65,7 @@ next-node g is hs at from place c p h some found =
       tells = look-table g.dfa.now g.view.store.now g.view.tables.now is.ready.tables g.view.counted h.id.index _ _ _ stands.goals.0.live stands.goals.0.look;
     }
 
-module _ {words : ℕ} (g : EnumerationInput words) (auto : IsDeterministic g.dfa.now) (hs : List (Option (Ahead words))) (at : ℕ) (from place : Place) (c : List (Ahead words)) (p : Passes g hs at from place c) (h : Ahead words) (n : Next g hs at from place c p h) where
+module _ {words : ℕ} (g : EnumerationInput words) (auto : IsDeterministic g.dfa.now) (hs : List (Option (Ahead words))) (at : ℕ) (from place : WalkPosition) (c : List (Ahead words)) (p : Passes g hs at from place c) (h : Ahead words) (n : Next g hs at from place c p h) where
   -- one node more is passed
   module _ (q : ℕ) (step : unmarked_of h.look.table.now place.state ≡ Some q) where
     abbrev pub node-text : List ℕ
@@ -91,7 +91,7 @@ module _ {words : ℕ} (g : EnumerationInput words) (auto : IsDeterministic g.df
     }
 
 -- no run without marks comes over the next node, which ends before the position
-pub passes-dies : {words : ℕ} (g : EnumerationInput words) (hs : List (Option (Ahead words))) (at position : ℕ) (from place : Place) (c : List (Ahead words)) (p : PassesTo g hs at position from place c) (h : Ahead words) → (n : Next g hs at from place c p.passes h)
+pub passes-dies : {words : ℕ} (g : EnumerationInput words) (hs : List (Option (Ahead words))) (at position : ℕ) (from place : WalkPosition) (c : List (Ahead words)) (p : PassesTo g hs at position from place c) (h : Ahead words) → (n : Next g hs at from place c p.passes h)
     → h.at + h.look.len ≤ position → unmarked_of h.look.table.now place.state ≡ None → Dies g from.state at (text_ahead g c) position
 passes-dies g hs at position from place c p h n le none =
     let front = p.passes.front in
@@ -104,7 +104,7 @@ passes-dies g hs at position from place c p h n le none =
     ap (λ y. reached g.dfa.now from.state (plain y)) letters ∙ plain-dead (step_of g.dfa.now) from.state (front ++ x) far dead
 
 -- where the walk can go on, a run over the next node leads into its goals
-pub can-head : {words : ℕ} (g : EnumerationInput words) (hs : List (Option (Ahead words))) (at : ℕ) (from place : Place) (c : List (Ahead words)) (p : PassesPlain g hs at from place c) (h : Ahead words) → Next g hs at from place c p.passes h
+pub can-head : {words : ℕ} (g : EnumerationInput words) (hs : List (Option (Ahead words))) (at : ℕ) (from place : WalkPosition) (c : List (Ahead words)) (p : PassesPlain g hs at from place c) (h : Ahead words) → Next g hs at from place c p.passes h
     → can_reach_of h.look.table.now place.state h.goals ≡ true
 can-head g hs at from place c p h n =
     let a = g.dfa.now in
@@ -119,7 +119,7 @@ can-head g hs at from place c p h n =
       goal = n.stands.goals.1.reach k.middle k.left k.left_bytes k.left_ends (run-behind a place.state x (text_ahead g n.rest) can.word can.state g.finals k can.goal);
     })
 
-pub node-on : {words : ℕ} (g : EnumerationInput words) (auto : IsDeterministic g.dfa.now) (hs : List (Option (Ahead words))) (at : ℕ) (from place : Place) (c : List (Ahead words)) (p : PassesPlain g hs at from place c) (h : Ahead words) (q : ℕ)
+pub node-on : {words : ℕ} (g : EnumerationInput words) (auto : IsDeterministic g.dfa.now) (hs : List (Option (Ahead words))) (at : ℕ) (from place : WalkPosition) (c : List (Ahead words)) (p : PassesPlain g hs at from place c) (h : Ahead words) (q : ℕ)
     → Next g hs at from place c p.passes h → bit_and (marked_of h.look.table.now place.state) h.goals ≡ 0
     → unmarked_of h.look.table.now place.state ≡ Some q → PassesPlain g hs at from (record { state = q; next = h.next; quiet = false }) c
 node-on g auto hs at from place c p h q n none step =
@@ -141,7 +141,7 @@ back-none hs place [] h zero' = refl
 back-none hs place (x ∷ c) h zero' = absurd (omega (arith, h.0.counted))
 
 -- where the walk turns, some accepted text has a mark
-pub some-mark : {words : ℕ} (g : EnumerationInput words) (hs : List (Option (Ahead words))) (at : ℕ) (from place : Place) (c : List (Ahead words)) (p : PassesPlain g hs at from place c) (h : Ahead words) (most : ℕ)
+pub some-mark : {words : ℕ} (g : EnumerationInput words) (hs : List (Option (Ahead words))) (at : ℕ) (from place : WalkPosition) (c : List (Ahead words)) (p : PassesPlain g hs at from place c) (h : Ahead words) (most : ℕ)
     → Next g hs at from place c p.passes h → Turns place.state p.passes.back → AtMost g from.state c most → 1 ≤ most
 some-mark g hs at from place c p h most n turns few =
     let a = g.dfa.now in
@@ -157,7 +157,7 @@ some-mark g hs at from place c p h most n turns few =
     omega (arith, few (plain x ++ w) on.state bytes ends on.goal, has-count run.2.word run.2.mark, mark_count-append (plain x) w, mark_count-append run.2.word on.word)
 
 -- ---- a letter
-abbrev pub way-byte : {words : ℕ} (g : EnumerationInput words) (hs : List (Option (Ahead words))) (h : Ahead words) (q : ℕ) (c : List (Ahead words)) (b m base : ℕ) → IsNodeAt g.view.store.now h.id.index (Byte b) → StandsBefore g hs h q c → Way g hs h.at q (h ∷ c) (mark_over h b q m base)
+abbrev pub way-byte : {words : ℕ} (g : EnumerationInput words) (hs : List (Option (Ahead words))) (h : Ahead words) (q : ℕ) (c : List (Ahead words)) (b m base : ℕ) → IsNodeAt g.view.store.now h.id.index (Byte b) → IsWalkBefore g hs h q c → Way g hs h.at q (h ∷ c) (mark_over h b q m base)
 way-byte g hs h q c b m base node s =
     let one : text_at g h.id.index ≡ b ∷ [] = byte-text g.view.store.now h.id.index b node in
     record {
@@ -175,7 +175,7 @@ way-byte g hs h q c b m base node s =
     }
 
 pub meets-byte : {words : ℕ} (g : EnumerationInput words) (auto : IsDeterministic g.dfa.now) (hs : List (Option (Ahead words))) (h : Ahead words) (q : ℕ) (c : List (Ahead words)) (b m r base : ℕ) → b < 256 → IsNodeAt g.view.store.now h.id.index (Byte b)
-    → 0 < m → IsGreatestMark g.dfa.now q b h.goals 65536 m r → StandsBefore g hs h q c
+    → 0 < m → IsGreatestMark g.dfa.now q b h.goals 65536 m r → IsWalkBefore g hs h q c
     → Meets g hs h.at q (h ∷ c) (mark_over h b q m base) (record { state = r; next = h.next; quiet = member h.quiet r })
 meets-byte g auto hs h q c b m r base byte node some best s =
     let way : Way g hs h.at q (h ∷ c) (mark_over h b q m base) = way-byte g hs h q c b m base node s in
@@ -206,7 +206,7 @@ module _ {words : ℕ} (g : EnumerationInput words) (h : Ahead words) (l r : Nod
   right-at = ap (λ n. h.at + n) f.left_look.len_is
 
   -- the first mark is in the left child
-  pub descends-left : (between : Between words) (before mid after : ℕ) (out out' : Tuple) (to : Place) → mid ≡ before + 2
+  pub descends-left : (between : Between words) (before mid after : ℕ) (out out' : Tuple) (to : WalkPosition) → mid ≡ before + 2
       → IsMarkedLeft g.dfa.now q left-text (text_at g r.index) h.goals h.quiet left.table.now between
       → Descends g (child h l left between (length hs + 1)) q base marks more (hs ++ Some (sibling h r left right) ∷ []) new mid after out out' to → Descends g h q base marks more hs new before after out out' to
   descends-left between before mid after out out' to em marked d = record {
@@ -220,7 +220,7 @@ module _ {words : ℕ} (g : EnumerationInput words) (h : Ahead words) (l r : Nod
   }
 
   -- the left child is passed without marks
-  pub descends-right : (to-state before mid after : ℕ) (out out' : Tuple) (to : Place) → mid ≡ before + 2 → q < states_of g.dfa.now → to-state < states_of g.dfa.now
+  pub descends-right : (to-state before mid after : ℕ) (out out' : Tuple) (to : WalkPosition) → mid ≡ before + 2 → q < states_of g.dfa.now → to-state < states_of g.dfa.now
       → IsPlainLeft g.dfa.now q left-text (text_at g r.index) h.goals left.table.now right.table.now to-state
       → Descends g (sibling h r left right) to-state base marks more hs new mid after out out' to → Descends g h q base marks more hs new before after out out' to
   descends-right p before mid after out out' to em low within plain-left d = record {

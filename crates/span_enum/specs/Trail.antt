@@ -25,8 +25,8 @@ use Rattle.span_enum.specs.Words.{CanRun, IsFirst, IsGreatestMark, IsNoMark}
 use Rattle.span_enum.specs.declared.input.EnumerationInput.{EnumerationInput}
 use Rattle.span_enum.specs.declared.trail.Ahead.{Ahead}
 use Rattle.span_enum.specs.declared.trail.Mark.{Mark}
-use Rattle.span_enum.specs.declared.trail.Place.{Place}
-use Rattle.span_enum.specs.declared.trail.Turn.{Turn}
+use Rattle.span_enum.specs.declared.trail.WalkPosition.{WalkPosition}
+use Rattle.span_enum.specs.declared.trail.Resumption.{Resumption}
 use Rattle.span_enum.specs.declared.walk.Lowered.{Lowered}
 use Rattle.span_enum.specs.declared.enumeration.Found.{Found}
 
@@ -88,16 +88,16 @@ AreGoals g p s (h ∷ c) = IsAhead g h × AreBetween g.dfa.now p (s ++ text_at g
     × AreQuiet g.dfa.now h.quiet (text_ahead g c) g.finals
 
 -- if the walk's position is marked as quiet, the rest has no marks
-abbrev pub IsQuietPlace : {words : ℕ} → EnumerationInput words → Place → List (Ahead words) → Type 0
-IsQuietPlace g place c = place.quiet ≡ true → IsQuiet g.dfa.now place.state (text_ahead g c) g.finals
+abbrev pub IsQuietPosition : {words : ℕ} → EnumerationInput words → WalkPosition → List (Ahead words) → Type 0
+IsQuietPosition g place c = place.quiet ≡ true → IsQuiet g.dfa.now place.state (text_ahead g c) g.finals
 
 -- at this position the walk is in a state, and these are the nodes ahead
-pub record Stands {words : ℕ} (g : EnumerationInput words) (hs : List (Option (Ahead words))) (at : ℕ) (place : Place) (c : List (Ahead words)) : Type 0 where
+pub record IsWalkAt {words : ℕ} (g : EnumerationInput words) (hs : List (Option (Ahead words))) (at : ℕ) (place : WalkPosition) (c : List (Ahead words)) : Type 0 where
   pub ahead : AreAhead hs place.next c
   pub join : Join g at c
   pub goals : AreGoals g place.state [] c
   pub state : place.state < states_of g.dfa.now
-  pub quiet : IsQuietPlace g place c
+  pub quiet : IsQuietPosition g place c
 
 -- from there the rest is accepted with some marks
 abbrev pub CanEnd : {words : ℕ} → EnumerationInput words → ℕ → List (Ahead words) → Type 0
@@ -108,10 +108,10 @@ abbrev pub AtMost : {words : ℕ} → EnumerationInput words → ℕ → List (A
 AtMost g p c most = (w : Marked) (r : ℕ) → bytes_of w ≡ text_ahead g c → reached g.dfa.now p w ≡ Some r → member g.finals r ≡ true → mark_count w ≤ most
 
 -- what the walk needs to continue
-pub record CanGo {words : ℕ} (g : EnumerationInput words) (hs : List (Option (Ahead words))) (place : Place) : Type 0 where
+pub record CanContinue {words : ℕ} (g : EnumerationInput words) (hs : List (Option (Ahead words))) (place : WalkPosition) : Type 0 where
   pub at : ℕ
   pub chain : List (Ahead words)
-  pub stands : Stands g hs at place chain
+  pub stands : IsWalkAt g hs at place chain
   pub can : CanEnd g place.state chain
 
 -- the next node, if there is one, has a run with marks into its goals
@@ -129,20 +129,20 @@ abbrev pub GoesFirst : {words : ℕ} → EnumerationInput words → ℕ → List
 GoesFirst g q c word to back = (w : Marked) (r : ℕ) → IsFirst g.dfa.now to (text_ahead g back) g.finals w r → IsFirst g.dfa.now q (text_ahead g c) g.finals (word ++ w) r
 
 -- nodes in front are passed without marks
-pub record Passes {words : ℕ} (g : EnumerationInput words) (hs : List (Option (Ahead words))) (at : ℕ) (from to : Place) (c : List (Ahead words)) : Type 0 where
+pub record Passes {words : ℕ} (g : EnumerationInput words) (hs : List (Option (Ahead words))) (at : ℕ) (from to : WalkPosition) (c : List (Ahead words)) : Type 0 where
   pub front : List ℕ
   pub back : List (Ahead words)
   pub passed : Passed g.dfa.now from.state (text_ahead g c) front to.state (text_ahead g back)
-  pub stands : Stands g hs (at + length front) to back
+  pub stands : IsWalkAt g hs (at + length front) to back
 
 -- and so does the first marked text
-pub record PassesPlain {words : ℕ} (g : EnumerationInput words) (hs : List (Option (Ahead words))) (at : ℕ) (from to : Place) (c : List (Ahead words)) : Type 0 where
+pub record PassesPlain {words : ℕ} (g : EnumerationInput words) (hs : List (Option (Ahead words))) (at : ℕ) (from to : WalkPosition) (c : List (Ahead words)) : Type 0 where
   pub passes : Passes g hs at from to c
   pub can : CanEnd g to.state passes.back
   pub first : GoesFirst g from.state c (plain passes.front) to.state passes.back
 
 -- the walk is in this state before a node, after which these come
-pub record StandsBefore {words : ℕ} (g : EnumerationInput words) (hs : List (Option (Ahead words))) (h : Ahead words) (q : ℕ) (c : List (Ahead words)) : Type 0 where
+pub record IsWalkBefore {words : ℕ} (g : EnumerationInput words) (hs : List (Option (Ahead words))) (h : Ahead words) (q : ℕ) (c : List (Ahead words)) : Type 0 where
   pub ahead : AreAhead hs h.next c
   pub join : Join g h.at (h ∷ c)
   pub goals : AreGoals g q [] (h ∷ c)
@@ -165,17 +165,17 @@ pub record Way {words : ℕ} (g : EnumerationInput words) (hs : List (Option (Ah
   pub is_mark : IsMark g hs m back
 
 -- after the mark the rest is accepted
-pub record GoesOn {words : ℕ} (g : EnumerationInput words) (m : Mark words) (to : Place) (back : List (Ahead words)) : Type 0 where
+pub record Continues {words : ℕ} (g : EnumerationInput words) (m : Mark words) (to : WalkPosition) (back : List (Ahead words)) : Type 0 where
   pub some : 0 < m.mark
   pub step : step_of g.dfa.now m.state m.mark m.byte ≡ Some to.state
   pub next : to.next ≡ m.next
   pub can : CanEnd g to.state back
-  pub quiet : IsQuietPlace g to back
+  pub quiet : IsQuietPosition g to back
 
 -- m is the first mark of the first marked text over the nodes, from the state before them
-pub record Meets {words : ℕ} (g : EnumerationInput words) (hs : List (Option (Ahead words))) (at q : ℕ) (c : List (Ahead words)) (m : Mark words) (to : Place) : Type 0 where
+pub record Meets {words : ℕ} (g : EnumerationInput words) (hs : List (Option (Ahead words))) (at q : ℕ) (c : List (Ahead words)) (m : Mark words) (to : WalkPosition) : Type 0 where
   pub way : Way g hs at q c m
-  pub on : GoesOn g m to way.back
+  pub on : Continues g m to way.back
   pub first : GoesFirst g q c (plain way.front ++ (m.mark, m.byte) ∷ []) to.state way.back
 
 -- a node this far after the base is as much lower than the tallest tree
@@ -188,7 +188,7 @@ abbrev pub Fits : {words : ℕ} → EnumerationInput words → ℕ → List (Opt
 Fits {words = words} g base hs = (k : ℕ) (o : Option (Ahead words)) → base ≤ k → slice_get hs k ≡ Some o → FitsAt g (k - base) o
 
 -- the walk may descend into the node: there is room for a mark and for the nodes beside the path to it
-pub record CanGoDown {words : ℕ} (g : EnumerationInput words) (h : Ahead words) (q base : ℕ) (marks : List (Mark words)) (marks_room : ℕ) (hs : List (Option (Ahead words))) (ahead_room : ℕ) : Type 0 where
+pub record CanDescend {words : ℕ} (g : EnumerationInput words) (h : Ahead words) (q base : ℕ) (marks : List (Mark words)) (marks_room : ℕ) (hs : List (Option (Ahead words))) (ahead_room : ℕ) : Type 0 where
   pub is_ahead : IsAhead g h
   pub state : q < states_of g.dfa.now
   pub next : h.next ≤ length hs
@@ -217,9 +217,9 @@ pub record Keeps {words : ℕ} (g : EnumerationInput words) (base : ℕ) (marks 
   pub fits : Fits g base new
 
 -- the path down to the first mark was added
-pub record Descends {words : ℕ} (g : EnumerationInput words) (h : Ahead words) (q base : ℕ) (marks more : List (Mark words)) (old new : List (Option (Ahead words))) (before after : ℕ) (out out' : Tuple) (to : Place) : Type 0 where
+pub record Descends {words : ℕ} (g : EnumerationInput words) (h : Ahead words) (q base : ℕ) (marks more : List (Mark words)) (old new : List (Option (Ahead words))) (before after : ℕ) (out out' : Tuple) (to : WalkPosition) : Type 0 where
   pub keeps : Keeps g base marks more old new
-  pub meets : (c : List (Ahead words)) → StandsBefore g old h q c → CanEnd g q (h ∷ c) → Meets g new h.at q (h ∷ c) keeps.mark to
+  pub meets : (c : List (Ahead words)) → IsWalkBefore g old h q c → CanEnd g q (h ∷ c) → Meets g new h.at q (h ∷ c) keeps.mark to
   pub written : out' ≡ write_mark keeps.mark.mark keeps.mark.at out
   pub cost : after ≤ before + 2 * height_at g h.id.index
 
@@ -254,16 +254,16 @@ AreKept g zero word ms hs = (s : List ℕ) × (word ≡ plain s) × (ms ≡ []) 
 AreKept g (suc n) word ms hs = (last : LastKept g word ms hs) × AreKept g n last.before last.others (take last.mark.base hs)
 
 -- the walk is after a word, and these are the nodes ahead. The marks of the word are kept in the list up to the base
-pub record Behind {words : ℕ} (g : EnumerationInput words) (at : ℕ) (place : Place) (base : ℕ) (word : Marked) (ms : List (Mark words)) (hs : List (Option (Ahead words))) (c : List (Ahead words)) : Type 0 where
+pub record Behind {words : ℕ} (g : EnumerationInput words) (at : ℕ) (place : WalkPosition) (base : ℕ) (word : Marked) (ms : List (Mark words)) (hs : List (Option (Ahead words))) (c : List (Ahead words)) : Type 0 where
   pub at_is : at ≡ length word + 1
-  pub stands : Stands g hs at place c
+  pub stands : IsWalkAt g hs at place c
   pub leads : Leads g word place.state (text_ahead g c)
   pub low : base ≤ length hs
   pub count : ℕ
   pub kept : AreKept g count word ms (take base hs)
 
 -- and the rest is accepted
-pub record Begins {words : ℕ} (g : EnumerationInput words) (place : Place) (base : ℕ) (word : Marked) (ms : List (Mark words)) (hs : List (Option (Ahead words))) : Type 0 where
+pub record Begins {words : ℕ} (g : EnumerationInput words) (place : WalkPosition) (base : ℕ) (word : Marked) (ms : List (Mark words)) (hs : List (Option (Ahead words))) : Type 0 where
   pub at : ℕ
   pub chain : List (Ahead words)
   pub behind : Behind g at place base word ms hs chain
@@ -271,7 +271,7 @@ pub record Begins {words : ℕ} (g : EnumerationInput words) (place : Place) (ba
   pub fits : Fits g base hs
 
 -- the first marked text after the word was found and written, and its marks are kept with those of the word
-pub record Finds {words : ℕ} (g : EnumerationInput words) (from : Place) (word : Marked) (back : List ℕ) (ms : List (Mark words)) (hs : List (Option (Ahead words))) (before after : ℕ) (r : Option ℕ) (old new : Tuple) : Type 0 where
+pub record Finds {words : ℕ} (g : EnumerationInput words) (from : WalkPosition) (word : Marked) (back : List ℕ) (ms : List (Mark words)) (hs : List (Option (Ahead words))) (before after : ℕ) (r : Option ℕ) (old new : Tuple) : Type 0 where
   pub rest : Marked
   pub state : ℕ
   pub ends : EndsIn g.dfa.now r state
@@ -282,11 +282,11 @@ pub record Finds {words : ℕ} (g : EnumerationInput words) (from : Place) (word
   pub kept : AreKept g count (word ++ rest) ms hs
 
 -- the walk can continue after some word
-abbrev pub CanFinish : {words : ℕ} → EnumerationInput words → Place → ℕ → List (Mark words) → List (Option (Ahead words)) → Type 0
+abbrev pub CanFinish : {words : ℕ} → EnumerationInput words → WalkPosition → ℕ → List (Mark words) → List (Option (Ahead words)) → Type 0
 CanFinish g from base marks hs = (word : Marked) × Begins g from base word marks hs
 
 -- the first marked text was found for each such word
-abbrev pub Completes : {words : ℕ} → EnumerationInput words → Place → ℕ → List (Mark words) → List (Mark words) → List (Option (Ahead words)) → List (Option (Ahead words)) → ℕ → ℕ → Option ℕ → Tuple → Tuple → Type 0
+abbrev pub Completes : {words : ℕ} → EnumerationInput words → WalkPosition → ℕ → List (Mark words) → List (Mark words) → List (Option (Ahead words)) → List (Option (Ahead words)) → ℕ → ℕ → Option ℕ → Tuple → Tuple → Type 0
 Completes g from base marks ms old new before after r out out' =
     (word : Marked) (b : Begins g from base word marks old) → Finds g from word (text_ahead g b.chain) ms new before after r out out'
 
@@ -294,7 +294,7 @@ Completes g from base marks ms old new before after r out out' =
 pub record IsFresh {words : ℕ} (g : EnumerationInput words) (ms : List (Mark words)) (hs : List (Option (Ahead words))) : Type 0 where
   pub no_marks : ms ≡ []
   pub chain : List (Ahead words)
-  pub stands : Stands g hs 1 (record { state = 0; next = length hs; quiet = false }) chain
+  pub stands : IsWalkAt g hs 1 (record { state = 0; next = length hs; quiet = false }) chain
   pub text_is : text_ahead g chain ≡ whole_text g
   pub one : length hs ≤ 1
 
@@ -330,13 +330,13 @@ pub record HasRoom (variables marks ahead : ℕ) : Type 0 where
 
 -- ---- the way along the marks of a given tuple
 -- the walk is at a position in the word of the tuple, whose marks up to there are kept
-pub record Follows {words : ℕ} (g : EnumerationInput words) (t : Tuple) (hs : List (Option (Ahead words))) (at : ℕ) (place : Place) (ms : List (Mark words)) (c : List (Ahead words)) : Type 0 where
+pub record Follows {words : ℕ} (g : EnumerationInput words) (t : Tuple) (hs : List (Option (Ahead words))) (at : ℕ) (place : WalkPosition) (ms : List (Mark words)) (c : List (Ahead words)) : Type 0 where
   pub word : Marked
   pub behind : Behind g at place (length hs) word ms hs c
   pub word_is : word_over t 1 (whole_text g) ≡ word ++ word_over t at (text_ahead g c)
 
 -- over some nodes ahead
-abbrev pub CanFollow : {words : ℕ} → EnumerationInput words → Tuple → List (Option (Ahead words)) → ℕ → Place → List (Mark words) → Type 0
+abbrev pub CanFollow : {words : ℕ} → EnumerationInput words → Tuple → List (Option (Ahead words)) → ℕ → WalkPosition → List (Mark words) → Type 0
 CanFollow {words = words} g t hs at place ms = (c : List (Ahead words)) × Follows g t hs at place ms c
 
 -- no run without marks over the text up to this position
@@ -344,7 +344,7 @@ abbrev pub Dies : {words : ℕ} → EnumerationInput words → ℕ → ℕ → L
 Dies g q at s position = reached g.dfa.now q (plain (take (position - at) s)) ≡ None
 
 -- the nodes in front of the position are passed without marks
-pub record PassesTo {words : ℕ} (g : EnumerationInput words) (hs : List (Option (Ahead words))) (at position : ℕ) (from to : Place) (c : List (Ahead words)) : Type 0 where
+pub record PassesTo {words : ℕ} (g : EnumerationInput words) (hs : List (Option (Ahead words))) (at position : ℕ) (from to : WalkPosition) (c : List (Ahead words)) : Type 0 where
   pub passes : Passes g hs at from to c
   pub before : at + length passes.front ≤ position
 
@@ -358,7 +358,7 @@ pub record Lays {words : ℕ} (g : EnumerationInput words) (t : Tuple) (h : Ahea
   pub keeps : Keeps g base marks more old new
   pub position_is : keeps.mark.at ≡ position
   pub mark_is : keeps.mark.mark ≡ mark_of t position
-  pub way : (c : List (Ahead words)) → StandsBefore g old h q c → Way g new h.at q (h ∷ c) keeps.mark
+  pub way : (c : List (Ahead words)) → IsWalkBefore g old h q c → Way g new h.at q (h ∷ c) keeps.mark
 
 -- no run reaches the position: no mark is kept, and the nodes up to the base are unchanged
 pub record Fails {words : ℕ} (g : EnumerationInput words) (h : Ahead words) (q position base : ℕ) (marks more : List (Mark words)) (old new : List (Option (Ahead words))) : Type 0 where
@@ -393,7 +393,7 @@ pub record LowersLast {words : ℕ} (g : EnumerationInput words) (ms : List (Mar
 
 -- the last mark is lowered: after a word that ends with the lower one the first text over the rest is that of the next
 -- answer
-pub record IsTurned {words : ℕ} (g : EnumerationInput words) (t : Tuple) (l : Lowered) (turn : Turn) (ms : List (Mark words)) (hs : List (Option (Ahead words))) : Type 0 where
+pub record IsLowered {words : ℕ} (g : EnumerationInput words) (t : Tuple) (l : Lowered) (turn : Resumption) (ms : List (Mark words)) (hs : List (Option (Ahead words))) : Type 0 where
   pub word : Marked
   pub positive : 1 ≤ l.at
   pub inside : l.at ≤ length (whole_text g)
@@ -404,7 +404,7 @@ pub record IsTurned {words : ℕ} (g : EnumerationInput words) (t : Tuple) (l : 
 
 -- ---- the next answer
 -- the rest was completed, and the greatest mark was written at the end
-pub record Finishes {words : ℕ} (g : EnumerationInput words) (from : Place) (base : ℕ) (marks ms : List (Mark words)) (old new : List (Option (Ahead words))) (before after : ℕ) (out : Tuple) (end : ℕ) (found : Found) : Type 0 where
+pub record Finishes {words : ℕ} (g : EnumerationInput words) (from : WalkPosition) (base : ℕ) (marks ms : List (Mark words)) (old new : List (Option (Ahead words))) (before after : ℕ) (out : Tuple) (end : ℕ) (found : Found) : Type 0 where
   pub written : Tuple
   pub mark : ℕ
   pub completes : Completes g from base marks ms old new before after found.state out written

@@ -8,12 +8,12 @@ use Rattle.span_enum.specs.declared.input.EnumerationInput.{EnumerationInput}
 use Rattle.span_enum.specs.declared.sets.Between.{Between}
 use Rattle.span_enum.specs.declared.trail.Ahead.{Ahead}
 use Rattle.span_enum.specs.declared.trail.Mark.{Mark}
-use Rattle.span_enum.specs.declared.trail.Place.{Place}
+use Rattle.span_enum.specs.declared.trail.WalkPosition.{WalkPosition}
 
 -- the path down from one node continues at another: a path down from there is, with what lies between, one from the
 -- first
-abbrev pub GoesOnAt : {words : ℕ} → EnumerationInput words → Ahead words → ℕ → Ahead words → ℕ → ℕ → List (Mark words) → List (Option (Ahead words)) → List (Option (Ahead words)) → ℕ → ℕ → Type 0
-GoesOnAt {words = words} g from p to q base marks old new before after = (more : List (Mark words)) (last : List (Option (Ahead words))) (end : ℕ) (out out' : Tuple) (place : Place)
+abbrev pub ContinuesAt : {words : ℕ} → EnumerationInput words → Ahead words → ℕ → Ahead words → ℕ → ℕ → List (Mark words) → List (Option (Ahead words)) → List (Option (Ahead words)) → ℕ → ℕ → Type 0
+ContinuesAt {words = words} g from p to q base marks old new before after = (more : List (Mark words)) (last : List (Option (Ahead words))) (end : ℕ) (out out' : Tuple) (place : WalkPosition)
     → Descends g to q base marks more new last after end out out' place → Descends g from p base marks more old last before end out out' place
 
 -- the left child of a node ahead: its goals and quiet states are those of `between`, and the node with this index in

@@ -18,7 +18,7 @@ use crate::follow::follow;
 use crate::input::EnumerationInput;
 use crate::onward::complete;
 use crate::trail::{
-    Ahead, Place, Position, Trail, ahead_at, clear, empty_trail, lower_last, lower_to,
+    Ahead, Position, Trail, WalkPosition, ahead_at, clear, empty_trail, lower_last, lower_to,
 };
 use crate::walk::can_reach;
 use marker_dfa::Dfa;
@@ -173,7 +173,7 @@ pub(crate) struct Found {
 /// An answer up to a position of the walk: its marks before the position, and how many nodes are kept for them.
 #[derive(Clone, Copy)]
 struct Prefix {
-    place: Place,
+    place: WalkPosition,
     base: usize,
     marks: Tuple,
 }
@@ -232,7 +232,7 @@ fn follow_whole<'a, L: Ledger, const N: usize>(
     ensures marks_room { trail.new.marks.capacity ≡ trail.old.marks.capacity }
     ensures ahead_room { trail.new.ahead.capacity ≡ trail.old.ahead.capacity }
 {
-    let first = Place {
+    let first = WalkPosition {
         state: 0,
         next: trail.ahead.len(),
         quiet: false,
@@ -346,7 +346,7 @@ fn first_answer<'a, L: Ledger, const N: usize>(
         return None;
     }
     let count = trail.ahead.len();
-    let first = Place {
+    let first = WalkPosition {
         state: 0,
         next: count,
         quiet: false,
@@ -388,7 +388,7 @@ fn answer_after<'a, L: Ledger, const N: usize>(
     }
     let lowered = lower_last(input, trail, t)?;
     let turn = lower_to(input, trail, t, &lowered);
-    let place = Place {
+    let place = WalkPosition {
         state: lowered.state,
         next: turn.next,
         quiet: false,

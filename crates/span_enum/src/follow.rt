@@ -1,12 +1,12 @@
 //! Following the marks of a given tuple.
 ghost use Rattle.std.specs.Prelude.{◌≡◌, ℕ, ◌<◌, ◌≤◌, ◌+◌, ◌*◌, ◌-◌, List, length, true, false, MatchOption};
-ghost use Rattle.span_enum.specs.Trail.{IsEnumerationInput, Stands, PassesTo, EndsBehind, Dies, text_ahead, whole_text, CanGoDown, IsOver, Laid, CanFollow, Followed, HasRoom, height_at};
+ghost use Rattle.span_enum.specs.Trail.{IsEnumerationInput, IsWalkAt, PassesTo, EndsBehind, Dies, text_ahead, whole_text, CanDescend, IsOver, Laid, CanFollow, Followed, HasRoom, height_at};
 ghost use Rattle.span_enum.specs.declared.trail.Ahead.{Ahead};
 
 use crate::input::EnumerationInput;
 use crate::onward::{go_left, go_right, keep_mark};
 use crate::sets::goals_between;
-use crate::trail::{Children, Descent, Place, Position, Trail, ahead_at, last_of};
+use crate::trail::{Children, Descent, Position, Trail, WalkPosition, ahead_at, last_of};
 use crate::walk::{first_mark, step};
 use node_store::Node;
 use span_types::{Steps, Tuple, mark_at};
@@ -16,13 +16,13 @@ use std::sync::ledger::Ledger;
 fn pass_to<'a, const N: usize>(
     input: &EnumerationInput<'a, N>,
     trail: &Trail<'a, N>,
-    from: Place,
+    from: WalkPosition,
     position: u64,
-) -> Option<Place>
+) -> Option<WalkPosition>
     requires input { IsEnumerationInput input.now }
-    requires stands { (at : ℕ) × ((c : List (Ahead N)) × Stands input.now trail.now.ahead.items at from c × (at ≤ position)
+    requires stands { (at : ℕ) × ((c : List (Ahead N)) × IsWalkAt input.now trail.now.ahead.items at from c × (at ≤ position)
         × (position ≤ at + length (text_ahead input.now c))) }
-    ensures { (at : ℕ) (c : List (Ahead N)) → Stands input.now trail.now.ahead.items at from c → at ≤ position → position ≤ at + length (text_ahead input.now c)
+    ensures { (at : ℕ) (c : List (Ahead N)) → IsWalkAt input.now trail.now.ahead.items at from c → at ≤ position → position ≤ at + length (text_ahead input.now c)
         → MatchOption result (Dies input.now from.state at (text_ahead input.now c) position)
         (λ to. (p : PassesTo input.now trail.now.ahead.items at position from to c) × EndsBehind input.now position p.passes.back) }
 {
@@ -33,7 +33,7 @@ fn pass_to<'a, const N: usize>(
             return Some(place);
         }
         let state = node.look.table.unmarked(place.state)?;
-        place = Place {
+        place = WalkPosition {
             state,
             next: node.next,
             quiet: false,
@@ -54,7 +54,7 @@ fn reach<'a, L: Ledger, const N: usize>(
     looks: &mut Steps<L>,
 ) -> bool
     requires input { IsEnumerationInput input.now }
-    requires down { CanGoDown input.now descent.old.here descent.old.state descent.old.base trail.old.marks.items trail.old.marks.capacity
+    requires down { CanDescend input.now descent.old.here descent.old.state descent.old.base trail.old.marks.items trail.old.marks.capacity
         trail.old.ahead.items trail.old.ahead.capacity }
     requires over { IsOver input.now descent.old.here to }
     ensures laid { Laid input.now t.now descent.old.here descent.old.state to descent.old.base trail.old.marks.items trail.new.marks.items
@@ -130,7 +130,7 @@ pub(crate) fn follow<'a, L: Ledger, const N: usize>(
     }
     let last = *last_of(&*trail);
     let state = step(input.dfa, last.state, last.mark, last.byte)?;
-    let behind = Place {
+    let behind = WalkPosition {
         state,
         next: last.next,
         quiet: false,

@@ -8,14 +8,14 @@ ghost use Rattle.state_tables.specs.Table.{marked_of, unmarked_of};
 ghost use Rattle.span_enum.specs.Sets.{can_reach_of};
 ghost use Rattle.span_enum.specs.Words.{IsFork};
 ghost use Rattle.span_enum.specs.OverLeft.{IsOverLeft};
-ghost use Rattle.span_enum.specs.Trail.{IsEnumerationInput, IsAhead, Stands, CanEnd, CanGo, CanFinish, PassesPlain, Turns, CanGoDown, mark_over, Descends, Completes, HasRoom, whole_text};
-ghost use Rattle.span_enum.specs.WayDown.{GoesOnAt, child, sibling};
+ghost use Rattle.span_enum.specs.Trail.{IsEnumerationInput, IsAhead, IsWalkAt, CanEnd, CanContinue, CanFinish, PassesPlain, Turns, CanDescend, mark_over, Descends, Completes, HasRoom, whole_text};
+ghost use Rattle.span_enum.specs.WayDown.{ContinuesAt, child, sibling};
 ghost use Rattle.span_enum.specs.declared.trail.Ahead.{Ahead};
 
 use crate::input::EnumerationInput;
 use crate::sets::{Between, goals_between};
 use crate::states::States;
-use crate::trail::{Ahead, Children, Descent, Mark, Place, Trail, ahead_at};
+use crate::trail::{Ahead, Children, Descent, Mark, Trail, WalkPosition, ahead_at};
 use crate::walk::greatest_mark;
 use node_store::{Node, NodeId};
 use span_types::{Steps, Tuple};
@@ -56,18 +56,18 @@ fn sole_state(table: &Table, p: u16) -> Option<u16>
 fn pass_plain<'a, const N: usize>(
     input: &EnumerationInput<'a, N>,
     trail: &Trail<'a, N>,
-    from: Place,
-) -> Place
+    from: WalkPosition,
+) -> WalkPosition
     requires input { IsEnumerationInput input.now }
-    requires go { CanGo input.now trail.now.ahead.items from }
-    ensures { (at : ℕ) (c : List (Ahead N)) → Stands input.now trail.now.ahead.items at from c → CanEnd input.now from.state c
+    requires go { CanContinue input.now trail.now.ahead.items from }
+    ensures { (at : ℕ) (c : List (Ahead N)) → IsWalkAt input.now trail.now.ahead.items at from c → CanEnd input.now from.state c
         → (p : PassesPlain input.now trail.now.ahead.items at from result c) × Turns result.state p.passes.back }
 {
     let mut place = from;
     while place.next > 0 {
         let node = ahead_at(trail, place.next);
         match plain_into(node.look.table, place.state, &node.goals) {
-            Some(state) => place = Place {
+            Some(state) => place = WalkPosition {
                 state,
                 next: node.next,
                 quiet: false,
@@ -188,9 +188,9 @@ fn place_mark<'a, const N: usize>(
     descent: &Descent<'a, N>,
     byte: u8,
     out: &mut Tuple,
-) -> Place
+) -> WalkPosition
     requires input { IsEnumerationInput input.now }
-    requires down { CanGoDown input.now descent.now.here descent.now.state descent.now.base trail.old.marks.items trail.old.marks.capacity
+    requires down { CanDescend input.now descent.now.here descent.now.state descent.now.base trail.old.marks.items trail.old.marks.capacity
         trail.old.ahead.items trail.old.ahead.capacity }
     requires byte { IsNodeAt input.now.view.store.now descent.now.here.id.index (Byte byte) }
     requires some { bit_and (marked_of descent.now.here.look.table.now descent.now.state) descent.now.here.goals ≡ 0 → ⊥ }
@@ -204,7 +204,7 @@ fn place_mark<'a, const N: usize>(
         Some(step) => {
             keep_mark(trail, descent, byte, step.mark);
             *out = out.with_mark(step.mark, here.at);
-            Place {
+            WalkPosition {
                 state: step.state,
                 next: here.next,
                 quiet: here.quiet.holds(step.state),
@@ -229,12 +229,12 @@ fn go_down<'a, L: Ledger, const N: usize>(
     requires state { descent.old.state < states_of input.now.dfa.now }
     requires room { length trail.old.ahead.items < trail.old.ahead.capacity }
     requires some { bit_and (marked_of descent.old.here.look.table.now descent.old.state) descent.old.here.goals ≡ 0 → ⊥ }
-    ensures down { CanGoDown input.now descent.old.here descent.old.state descent.old.base trail.old.marks.items trail.old.marks.capacity
+    ensures down { CanDescend input.now descent.old.here descent.old.state descent.old.base trail.old.marks.items trail.old.marks.capacity
         trail.old.ahead.items trail.old.ahead.capacity
-        → CanGoDown input.now descent.new.here descent.new.state descent.new.base trail.new.marks.items trail.new.marks.capacity
+        → CanDescend input.now descent.new.here descent.new.state descent.new.base trail.new.marks.items trail.new.marks.capacity
         trail.new.ahead.items trail.new.ahead.capacity }
     ensures some { bit_and (marked_of descent.new.here.look.table.now descent.new.state) descent.new.here.goals ≡ 0 → ⊥ }
-    ensures on { GoesOnAt input.now descent.old.here descent.old.state descent.new.here descent.new.state descent.old.base trail.old.marks.items
+    ensures on { ContinuesAt input.now descent.old.here descent.old.state descent.new.here descent.new.state descent.old.base trail.old.marks.items
         trail.old.ahead.items trail.new.ahead.items looks.old looks.new }
     ensures less { descent.new.here.id.index < descent.old.here.id.index }
     ensures base { descent.new.base ≡ descent.old.base }
@@ -261,9 +261,9 @@ fn descend<'a, L: Ledger, const N: usize>(
     descent: &mut Descent<'a, N>,
     out: &mut Tuple,
     looks: &mut Steps<L>,
-) -> Place
+) -> WalkPosition
     requires input { IsEnumerationInput input.now }
-    requires down { CanGoDown input.now descent.old.here descent.old.state descent.old.base trail.old.marks.items trail.old.marks.capacity
+    requires down { CanDescend input.now descent.old.here descent.old.state descent.old.base trail.old.marks.items trail.old.marks.capacity
         trail.old.ahead.items trail.old.ahead.capacity }
     requires some { bit_and (marked_of descent.old.here.look.table.now descent.old.state) descent.old.here.goals ≡ 0 → ⊥ }
     ensures descends { Descends input.now descent.old.here descent.old.state descent.old.base trail.old.marks.items trail.new.marks.items
@@ -284,7 +284,7 @@ fn descend<'a, L: Ledger, const N: usize>(
 pub(crate) fn complete<'a, L: Ledger, const N: usize>(
     input: &EnumerationInput<'a, N>,
     trail: &mut Trail<'a, N>,
-    from: Place,
+    from: WalkPosition,
     base: usize,
     out: &mut Tuple,
     looks: &mut Steps<L>,

@@ -4,7 +4,7 @@ ghost use Rattle.marker_dfa.specs.Deterministic.{states_of};
 ghost use Rattle.span_enum.specs.Next.{NoneAfter};
 ghost use Rattle.span_enum.specs.Words.{IsGreatestMark, IsNoMark};
 ghost use Rattle.span_enum.specs.Tuples.{word_over};
-ghost use Rattle.span_enum.specs.Trail.{IsEnumerationInput, HasRoom, IsLast, IsTrailOf, IsTurned, LowersLast, whole_text};
+ghost use Rattle.span_enum.specs.Trail.{IsEnumerationInput, HasRoom, IsLast, IsTrailOf, IsLowered, LowersLast, whole_text};
 ghost use Rattle.span_enum.specs.declared.trail.Ahead.{Ahead};
 ghost use Rattle.span_enum.specs.declared.trail.Mark.{Mark};
 
@@ -48,7 +48,7 @@ pub(crate) struct Mark<const N: usize> {
 /// The state of the walk between two letters: the automaton's state, the node that comes next, and whether the state is
 /// known to be quiet.
 #[derive(Clone, Copy)]
-pub(crate) struct Place {
+pub(crate) struct WalkPosition {
     pub(crate) state: u16,
     pub(crate) next: usize,
     pub(crate) quiet: bool,
@@ -57,7 +57,7 @@ pub(crate) struct Place {
 /// A position of the walk, and that of the letter after it in the text.
 #[derive(Clone, Copy)]
 pub(crate) struct Position {
-    pub(crate) place: Place,
+    pub(crate) place: WalkPosition,
     pub(crate) at: u64,
 }
 
@@ -81,7 +81,7 @@ pub(crate) struct Children<'a> {
 
 /// The node that comes next after a mark that was lowered, and how many nodes the marks before it need.
 #[derive(Clone, Copy)]
-pub(crate) struct Turn {
+pub(crate) struct Resumption {
     pub(crate) next: usize,
     pub(crate) base: usize,
 }
@@ -221,11 +221,11 @@ pub(crate) fn lower_to<const N: usize>(
     trail: &mut Trail<'_, N>,
     t: &Tuple,
     lowered: &Lowered,
-) -> Turn
+) -> Resumption
     requires input { IsEnumerationInput input.now }
     requires trail { IsTrailOf input.now t.now trail.old.marks.items trail.old.ahead.items }
     requires last { LowersLast input.now trail.old.marks.items lowered.now }
-    ensures turned { IsTurned input.now t.now lowered.now result trail.new.marks.items trail.new.ahead.items }
+    ensures turned { IsLowered input.now t.now lowered.now result trail.new.marks.items trail.new.ahead.items }
     ensures marks_room { trail.new.marks.capacity ≡ trail.old.marks.capacity }
     ensures ahead_room { trail.new.ahead.capacity ≡ trail.old.ahead.capacity }
 {
@@ -233,7 +233,7 @@ pub(crate) fn lower_to<const N: usize>(
     let count = trail.marks.len();
     trail.marks.truncate(count - 1);
     if lowered.mark == 0 {
-        return Turn {
+        return Resumption {
             next: last.next,
             base: last.base,
         };
@@ -242,7 +242,7 @@ pub(crate) fn lower_to<const N: usize>(
         mark: lowered.mark,
         ..last
     });
-    Turn {
+    Resumption {
         next: last.next,
         base: trail.ahead.len(),
     }

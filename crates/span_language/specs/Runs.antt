@@ -2,7 +2,7 @@
 use Rattle.std.specs.Prelude.{◌≡◌, ◌⊎◌, ℕ, ◌+◌, ◌-◌, ◌*◌, ◌≤◌, ◌||◌, if◌then◌else◌, Bool, true, false, List, [], ◌∷◌, ◌++◌, Option, None, length, take}
 use Rattle.std.specs.Io.KnownBytes.{Appends}
 use Rattle.edge_io.specs.Files.{Files}
-use Rattle.edge_io.specs.Causes.{Rose}
+use Rattle.edge_io.specs.Causes.{HasIncreased}
 use Rattle.script_syntax.specs.declared.form.Command.{Command}
 use Rattle.span_language.specs.State.{World, State, nothing, world}
 use Rattle.span_language.specs.Allowance.{Allowance, Counters, IsPaid, both_of, no_steps}
@@ -98,15 +98,15 @@ pub record RunsAll (lines : List (List ℕ)) (refused : Bool) (most : ℕ) (befo
 
 -- a line with this meaning was stopped: either nothing of its reply was written and the observable files are unchanged,
 -- or it was executed, with these files, and a prefix of its reply was written
-abbrev pub IsFront : World → ℕ → Option Command → List ℕ → Option Files → Type 0
-IsFront old number meaning part files = ((part ≡ []) × (files ≡ old.files))
+abbrev pub IsStoppedLine : World → ℕ → Option Command → List ℕ → Option Files → Type 0
+IsStoppedLine old number meaning part files = ((part ≡ []) × (files ≡ old.files))
     ⊎ ((told : Told) × (reply : List ℕ) × (new : World) × (n : ℕ) × Carried old number meaning told reply new × (part ≡ take n reply) × (files ≡ new.files))
 
 -- the next line, in which the run was stopped: the written part of its reply, its maximum cost, whether it asked for
 -- counting tables, and the observable files
 pub record IsNext (old : World) (number : ℕ) (line : List ℕ) (meaning : Option Command) (part : List ℕ) (cost : Allowance) (counted : Bool) (files : Option Files) : Type 0 where
   pub means : Means line meaning
-  pub front : IsFront old number meaning part files
+  pub front : IsStoppedLine old number meaning part files
   pub allowed : (cost ≡ no_steps) ⊎ IsAllowance old meaning cost
   pub counts : counted ≡ true → Of (AsksForCounts old) meaning
 
@@ -132,11 +132,11 @@ InFileLine meaning part before after = Of IsOfFile meaning × (part ≡ []) × (
 
 -- if it is in a line of the form `list`, a count increased, or nothing of its reply was written
 abbrev pub UnlessList : ℕ → ℕ → Ending
-UnlessList wants_before wants_after meaning part before after = Of IsList meaning → Rose wants_before wants_after ⊎ (part ≡ [])
+UnlessList wants_before wants_after meaning part before after = Of IsList meaning → HasIncreased wants_before wants_after ⊎ (part ≡ [])
 
 -- the run of a session whose automata may have at most `most` states ended early: the first lines ran and their output
 -- was written, and then possibly a prefix of the next line's reply
-pub record RunsFront (Ends : Ending) (lines : List (List ℕ)) (most : ℕ) (before after : Outside) : Type 0 where
+pub record RunsPrefix (Ends : Ending) (lines : List (List ℕ)) (most : ℕ) (before after : Outside) : Type 0 where
   pub done : List (List ℕ)
   pub left : List (List ℕ)
   pub cut : lines ≡ done ++ left

@@ -326,8 +326,8 @@ IsPutting (WriteFile name file) = Unit {0}
 IsPutting _ = ⊥
 
 -- the observable bytes are extended by a prefix of these
-abbrev pub AppendsFront : Option (List ℕ) → Option (List ℕ) → List ℕ → Type 0
-AppendsFront before after reply = (n : ℕ) × Appends before after (take n reply)
+abbrev pub AppendsPrefix : Option (List ℕ) → Option (List ℕ) → List ℕ → Type 0
+AppendsPrefix before after reply = (n : ℕ) × Appends before after (take n reply)
 
 -- an allowed reply was written completely
 abbrev pub Finishes : (Told → List ℕ → World → Type 0) → Told → Option (List ℕ) → Option (List ℕ) → World → Type 0
@@ -341,4 +341,4 @@ pub record Leaves (old : World) (before after : Option (List ℕ)) (new : World)
 -- nothing was written and everything is unchanged, or a prefix of an allowed reply was written
 abbrev pub Halts : (Told → List ℕ → World → Type 0) → World → Option (List ℕ) → Option (List ℕ) → World → Type 0
 Halts Allows old before after new = Leaves old before after new
-    ⊎ ((told : Told) × (reply : List ℕ) × Allows told reply new × AppendsFront before after reply)
+    ⊎ ((told : Told) × (reply : List ℕ) × Allows told reply new × AppendsPrefix before after reply)

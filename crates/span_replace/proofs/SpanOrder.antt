@@ -2,7 +2,7 @@
 use Rattle.std.proofs.Common.{◌≡◌, ℕ, ◌+◌, ◌<◌, ◌≤◌, ◌⊎◌, inl, inr, [], ◌∷◌, Some, refl, sym, ap, subst, ◌∙◌, arith}
 use Rattle.std.proofs.lemmas.Bool.{cases_order}
 use Rattle.span_types.specs.declared.tuple.Span.{Span}
-use Rattle.span_types.specs.Marks.{at_place, mark_of, Comes}
+use Rattle.span_types.specs.Marks.{at_position, mark_of, Comes}
 use Rattle.span_types.proofs.OrderLaws.{irreflexive, transitive}
 use Rattle.span_types.proofs.Sums.{at_same, at_other}
 use Rattle.span_enum.specs.Members.{Tuple}
@@ -15,7 +15,7 @@ IsBefore a b = (a.start < b.start) ⊎ ((a.start ≡ b.start) × (a.end < b.end)
 abbrev pub one : Span → Tuple
 one q = Some q ∷ []
 
-mark-one : (q : Span) (p : ℕ) → mark_of (one q) p ≡ at_place q.start 1 p + at_place q.end 2 p
+mark-one : (q : Span) (p : ℕ) → mark_of (one q) p ≡ at_position q.start 1 p + at_position q.end 2 p
 mark-one q p = omega arith
 
 mark-none : (q : Span) (p : ℕ) → p < q.start → q.start ≤ q.end → mark_of (one q) p ≡ 0
@@ -35,8 +35,8 @@ ends-before a b oa e h = record {
   greater = omega (arith, mark-one a a.end, mark-one b a.end, starts a.end, at_same a.end 2, at_other b.end 2 a.end (λ k. omega (arith, k, h)));
 }
   where
-    starts : (p : ℕ) → at_place a.start 1 p ≡ at_place b.start 1 p
-    starts p = ap (λ s. at_place s 1 p) e
+    starts : (p : ℕ) → at_position a.start 1 p ≡ at_position b.start 1 p
+    starts p = ap (λ s. at_position s 1 p) e
 
 pub before-comes : (a b : Span) → a.start ≤ a.end → b.start ≤ b.end → IsBefore a b → Comes (one a) (one b)
 before-comes a b oa ob (inl h) = starts-before a b oa ob h

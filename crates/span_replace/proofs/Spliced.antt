@@ -5,10 +5,10 @@ use Rattle.span_types.specs.declared.tuple.Span.{Span}
 use Rattle.span_replace.specs.Replaced.{AreApartFrom, replaced_from}
 
 -- the span at an index, as the code reads it
-abbrev pub at_place : List Span → ℕ → Span
-at_place qs i = slice_index_or qs i (record { start = 0; end = 0 })
+abbrev pub at_position : List Span → ℕ → Span
+at_position qs i = slice_index_or qs i (record { start = 0; end = 0 })
 
-pub rest-at : (qs : List Span) (i : ℕ) → i < length qs → drop i qs ≡ at_place qs i ∷ drop (i + 1) qs
+pub rest-at : (qs : List Span) (i : ℕ) → i < length qs → drop i qs ≡ at_position qs i ∷ drop (i + 1) qs
 rest-at qs i h = rw (add-one, drop-cons qs i (record { start = 0; end = 0 })) refl
 
 -- the next span lies past p, and the rest past its end
@@ -22,10 +22,10 @@ apart-end : (p n : ℕ) (qs : List Span) → AreApartFrom p n qs → p ≤ n + 1
 apart-end p n [] h = h
 apart-end p n (q ∷ qs) h = omega (arith, h.0, h.1, apart-end q.end n qs h.2)
 
-pub next-at : (p n : ℕ) (qs : List Span) (i : ℕ) → i < length qs → AreApartFrom p n (drop i qs) → IsNext p n (at_place qs i) (drop (i + 1) qs)
+pub next-at : (p n : ℕ) (qs : List Span) (i : ℕ) → i < length qs → AreApartFrom p n (drop i qs) → IsNext p n (at_position qs i) (drop (i + 1) qs)
 next-at p n qs i h apart =
-    let k : AreApartFrom p n (at_place qs i ∷ drop (i + 1) qs) = subst (AreApartFrom p n) (rest-at qs i h) apart in
-    record { start = k.0; order = k.1; end = apart-end (at_place qs i).end n (drop (i + 1) qs) k.2; rest = k.2 }
+    let k : AreApartFrom p n (at_position qs i ∷ drop (i + 1) qs) = subst (AreApartFrom p n) (rest-at qs i h) apart in
+    record { start = k.0; order = k.1; end = apart-end (at_position qs i).end n (drop (i + 1) qs) k.2; rest = k.2 }
 
 -- ---- lengths
 module _ (p : ℕ) (q : Span) (qs : List Span) (s w : List ℕ) (positive : 1 ≤ p) (next : IsNext p (length s) q qs) where

@@ -21,7 +21,7 @@ use std::alloc::Global;
 use std::sync::ledger::Ledger;
 
 /// The maximum number of spans that are chosen.
-pub(crate) const MOST: usize = 32768;
+pub(crate) const MAX_SPANS: usize = 32768;
 
 /// The greatest position in a text.
 const LAST: u64 = 281474976710657;
@@ -75,7 +75,7 @@ fn all_chosen<L: Ledger>(
     let mut spans = Vec::new(alloc);
     let mut next = next_span(answers, looks);
     while let Some(span) = next {
-        if spans.len() == MOST {
+        if spans.len() == MAX_SPANS {
             return Err(ReplaceRefusal::TooManyMatches);
         }
         spans.push(span)?;

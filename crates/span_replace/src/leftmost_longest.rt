@@ -10,7 +10,7 @@ ghost use Rattle.span_replace.specs.Cursor.{NoSpanLeft, IsLongestLeft, empty_end
 ghost use Rattle.span_replace.specs.Replaced.{AreApart};
 ghost use Rattle.span_replace.specs.Outcomes.{IsChoice};
 
-use crate::choice::{MOST, check_text, next_span};
+use crate::choice::{MAX_SPANS, check_text, next_span};
 use crate::refusal::ReplaceRefusal;
 use crate::spans::Chosen;
 use marker_dfa::Dfa;
@@ -71,7 +71,7 @@ fn all_longest<L: Ledger>(
     let mut spans = Vec::new(alloc);
     let mut next = longest_left(answers, looks);
     while let Some(span) = next {
-        if spans.len() == MOST {
+        if spans.len() == MAX_SPANS {
             return Err(ReplaceRefusal::TooManyMatches);
         }
         spans.push(span)?;

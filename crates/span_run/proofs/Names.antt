@@ -1,5 +1,5 @@
 -- Names from std and from the layers below that the proofs of this crate use, each re-exported from its declaration.
-pub use Rattle.edge_io.specs.Causes.{Rose}
+pub use Rattle.edge_io.specs.Causes.{HasIncreased}
 pub use Rattle.edge_io.specs.Files.{Files}
 pub use Rattle.query_book.specs.Serving.{sum_of}
 pub use Rattle.script_syntax.specs.declared.form.Command.{Command}
@@ -9,7 +9,7 @@ pub use Rattle.session_state.specs.LineState.{LineState, seen, world_in}
 pub use Rattle.span_language.specs.Allowance.{Allowance, Counters, IsPaid, both_of, no_steps}
 pub use Rattle.span_language.specs.Lines.{lines_of, onto_first}
 pub use Rattle.span_language.specs.Means.{Carried, Means, Of}
-pub use Rattle.span_language.specs.Runs.{Adds, Anywhere, Ending, InFileLine, IsFront, Outside, PlacesFew, Runs, RunsAll, RunsFront, Sum, UnlessList}
+pub use Rattle.span_language.specs.Runs.{Adds, Anywhere, Ending, InFileLine, IsStoppedLine, Outside, PlacesFew, Runs, RunsAll, RunsPrefix, Sum, UnlessList}
 pub use Rattle.span_language.specs.Runs.{both, is_refused, most_nodes, no_lines, outside, start}
 pub use Rattle.span_language.specs.Scripts.{AsksForNoDemo, OfScript, script_of}
 pub use Rattle.span_language.specs.State.{Named, State, World, nothing, world}

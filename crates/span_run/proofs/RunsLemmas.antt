@@ -1,9 +1,9 @@
 -- One step of a run: a line.
 use Rattle.span_run.proofs.Names.{[], Adds, Allowance, Anywhere, ap, append-nil, append_assoc, Appends, Appends-kept, Appends-nil, Appends-trans, arith, Bool}
 use Rattle.span_run.proofs.Names.{both, both_of, Carried, Command, Counters, Ending, false, Files, Halts, IfSome, if◌then◌else◌, InFileLine, inl, inr}
-use Rattle.span_run.proofs.Names.{is_refused, IsDone, IsFront, IsList, IsPaid, IsSessionModel, IsStopped, Leaves, length, length-append, LineState, List}
+use Rattle.span_run.proofs.Names.{is_refused, IsDone, IsStoppedLine, IsList, IsPaid, IsSessionModel, IsStopped, Leaves, length, length-append, LineState, List}
 use Rattle.span_run.proofs.Names.{Means, most_nodes, Named, no_lines, no_steps, nodes_of, None, nothing, Of, Option, Outlet, outside, Outside, pairs_of}
-use Rattle.span_run.proofs.Names.{PlacesFew, refl, Rose, Runs, RunsAll, RunsFront, SessionModel, Some, start, State, Stop, Stopped, subst, suc, Sum, sym, take}
+use Rattle.span_run.proofs.Names.{PlacesFew, refl, HasIncreased, Runs, RunsAll, RunsPrefix, SessionModel, Some, start, State, Stop, Stopped, subst, suc, Sum, sym, take}
 use Rattle.span_run.proofs.Names.{Told, true, UnlessList, world, World, world_in, ℕ, ◌*◌, ◌++◌, ◌+◌, ◌-◌, ◌||◌, ◌∙◌, ◌∷◌, ◌≡◌, ◌≤◌, ◌⊎◌}
 use Rattle.std.proofs.Math.Nat.{mul-le-mul_left}
 use Rattle.slp_model.specs.Nodes.{pair_count}
@@ -119,8 +119,8 @@ gone_on kept next now (inl same) none = gone_still kept next now same.1 none
 gone_on kept next now (inr gone) none = gone
 
 -- a count that increased in the last part of a run increased in the run
-pub rose_later : (a b c : ℕ) → a ≤ b → Rose b c → Rose a c
-rose_later a b c le rose = omega (arith, le, rose)
+pub increased_later : (a b c : ℕ) → a ≤ b → HasIncreased b c → HasIncreased a c
+increased_later a b c le has_increased = omega (arith, le, has_increased)
 
 -- the bound on the number of tables, by the number of nodes that ever existed
 few_of : (asked : Bool) (sum : Sum) (before after : Outside) (nodes : ℕ) → nodes ≤ most_nodes sum before after → after.places ≤ before.places + (if asked then 2 else 1) * (sum.queries * nodes) → PlacesFew asked sum before after
@@ -167,7 +167,7 @@ module _ (lines left rest : List (List ℕ)) (line : List ℕ) (number : ℕ) (r
   part_of meaning (inl kept) = []
   part_of meaning (inr (told, reply, carried, (n, wrote))) = take n reply
 
-  part_is_front : (meaning : Option Command) (h : HaltsAt meaning) → IsFront (world_in old) (1 + length at.done) meaning (part_of meaning h) new.files
+  part_is_front : (meaning : Option Command) (h : HaltsAt meaning) → IsStoppedLine (world_in old) (1 + length at.done) meaning (part_of meaning h) new.files
   part_is_front meaning (inl kept) = inl (refl, ap (λ (w : World). w.files) kept.world)
   part_is_front meaning (inr (told, reply, carried, (n, wrote))) = inr (told, reply, world_in new, n, subst (λ (k : ℕ). Carried (world_in old) k meaning told reply (world_in new)) at.counted carried, refl, refl)
 
@@ -177,7 +177,7 @@ module _ (lines left rest : List (List ℕ)) (line : List ℕ) (number : ℕ) (r
 
   -- a run that is stopped in this line
   stops : (Ends : Ending) (why : Stop) (meaning : Option Command) → IsSessionModel old.model → IsSessionModel new.model → Means line meaning → Stopped number meaning old sink new after why → (h : HaltsAt meaning) → Ends meaning (part_of meaning h) old.files new.files
-      → RunsFront Ends lines most before (told_of new after)
+      → RunsPrefix Ends lines most before (told_of new after)
   stops Ends why meaning session stands means s h ends =
       let n = 256 + pairs_of old.model + (new.pairs - old.pairs) in
       let few : nodes_of new.model ≤ n = omega (arith, stands.few, s.passes.more_pairs, s.passes.calls) in
@@ -200,24 +200,24 @@ module _ (lines left rest : List (List ℕ)) (line : List ℕ) (number : ℕ) (r
       }
 
   -- a failure of the sink may stop it anywhere
-  pub stops_anywhere : IsSessionModel old.model → IsSessionModel new.model → IsStopped line number old sink new after stop.OutFault → Rose sink.faults after.faults × RunsFront Anywhere lines most before (told_of new after)
+  pub stops_anywhere : IsSessionModel old.model → IsSessionModel new.model → IsStopped line number old sink new after stop.OutFault → HasIncreased sink.faults after.faults × RunsPrefix Anywhere lines most before (told_of new after)
   stops_anywhere session stands (inl (other, same, kept)) = let bad : ⊥ = cc other in absurd bad
   stops_anywhere session stands (inr (meaning, means, s)) = ((s.fault refl).1, stops Anywhere stop.OutFault meaning session stands means s s.halts tt)
 
   -- a failure of the file store stops a line that uses files, of which nothing was written
-  pub stops_in_file : IsSessionModel old.model → IsSessionModel new.model → IsStopped line number old sink new after stop.ShelfFault → Rose old.faults new.faults × RunsFront InFileLine lines most before (told_of new after)
+  pub stops_in_file : IsSessionModel old.model → IsSessionModel new.model → IsStopped line number old sink new after stop.ShelfFault → HasIncreased old.faults new.faults × RunsPrefix InFileLine lines most before (told_of new after)
   stops_in_file session stands (inl (other, same, kept)) = let bad : ⊥ = cc other in absurd bad
   stops_in_file session stands (inr (meaning, means, s)) =
       let file = s.shelf_fault refl in
       (file.1, stops InFileLine stop.ShelfFault meaning session stands means s (inl file.2) (file.0, refl, ap (λ (w : World). w.files) file.2.world))
 
   -- an allocation failure: a line of the form `list` was stopped before any of it was written, unless a count increased
-  pub stops_wanting : (wants : ℕ) → wants ≤ sink.wants → IsSessionModel old.model → IsSessionModel new.model → IsStopped line number old sink new after stop.NoMemory → RunsFront (UnlessList wants after.wants) lines most before (told_of new after)
+  pub stops_wanting : (wants : ℕ) → wants ≤ sink.wants → IsSessionModel old.model → IsSessionModel new.model → IsStopped line number old sink new after stop.NoMemory → RunsPrefix (UnlessList wants after.wants) lines most before (told_of new after)
   stops_wanting wants later session stands (inl (unread, same, kept)) =
-      subst (λ (s : LineState). RunsFront (UnlessList wants after.wants) lines most before (told_of s after)) (sym same)
-      (subst (λ (o : Outlet). RunsFront (UnlessList wants after.wants) lines most before (told_of old o)) (sym kept) unbegun)
+      subst (λ (s : LineState). RunsPrefix (UnlessList wants after.wants) lines most before (told_of s after)) (sym same)
+      (subst (λ (o : Outlet). RunsPrefix (UnlessList wants after.wants) lines most before (told_of old o)) (sym kept) unbegun)
     where
-      unbegun : RunsFront (UnlessList wants after.wants) lines most before (told_of old sink)
+      unbegun : RunsPrefix (UnlessList wants after.wants) lines most before (told_of old sink)
       unbegun = record {
         done = at.done;
         left = left;
@@ -236,9 +236,9 @@ module _ (lines left rest : List (List ℕ)) (line : List ℕ) (number : ℕ) (r
       }
   stops_wanting wants later session stands (inr (meaning, means, s)) = by (s.want refl)
     where
-      by : (Of IsList meaning → ⊥) ⊎ (Rose sink.wants after.wants ⊎ Leaves (world_in old) sink.written after.written (world_in new)) → RunsFront (UnlessList wants after.wants) lines most before (told_of new after)
+      by : (Of IsList meaning → ⊥) ⊎ (HasIncreased sink.wants after.wants ⊎ Leaves (world_in old) sink.written after.written (world_in new)) → RunsPrefix (UnlessList wants after.wants) lines most before (told_of new after)
       by (inl other) = stops (UnlessList wants after.wants) stop.NoMemory meaning session stands means s s.halts (λ list. absurd (other list))
-      by (inr (inl rose)) = stops (UnlessList wants after.wants) stop.NoMemory meaning session stands means s s.halts (λ list. inl (rose_later wants sink.wants after.wants later rose))
+      by (inr (inl has_increased)) = stops (UnlessList wants after.wants) stop.NoMemory meaning session stands means s s.halts (λ list. inl (increased_later wants sink.wants after.wants later has_increased))
       by (inr (inr left)) = stops (UnlessList wants after.wants) stop.NoMemory meaning session stands means s (inl left) (λ list. inr refl)
 
 pub ends : (lines left : List (List ℕ)) (number : ℕ) (refused : Bool) (st : SessionModel) (most : ℕ) (before now : Outside) → left ≡ [] → IsSessionModel st → IsAt lines left number refused st most before now → RunsAll lines refused most before now
@@ -255,7 +255,7 @@ ends lines left number refused st most before now none is at =
     }
 
 -- a run that ended before its first line
-pub none_ran : (Ends : Ending) (lines : List (List ℕ)) (most : ℕ) (before : Outside) → Ends None [] before.files before.files → RunsFront Ends lines most before before
+pub none_ran : (Ends : Ending) (lines : List (List ℕ)) (most : ℕ) (before : Outside) → Ends None [] before.files before.files → RunsPrefix Ends lines most before before
 none_ran Ends lines most before ends = record {
   done = [];
   left = lines;

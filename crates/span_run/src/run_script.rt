@@ -1,11 +1,11 @@
 //! The top call: runs the script that the command-line arguments select, and returns a status.
 ghost use Rattle.std.specs.Prelude.{◌≡◌, ◌⊎◌, ◌+◌, ◌^◌, ◌<◌, ◌≤◌, ◌||◌, true, false, None, Some, IfOk, IfErr, IfSome, MatchResult, OnOk, length, map, string_bytes};
-ghost use Rattle.edge_io.specs.Causes.{Rose};
+ghost use Rattle.edge_io.specs.Causes.{HasIncreased};
 ghost use Rattle.span_session.specs.Lending.{IsSameIo, IsSameMeters};
 ghost use Rattle.span_words.specs.Words.{Refused};
 ghost use Rattle.span_run.specs.Taken.{TakesAtMost};
 ghost use Rattle.span_language.specs.Lines.{lines_of};
-ghost use Rattle.span_language.specs.Runs.{is_refused, outside, Anywhere, InFileLine, UnlessList, RunsAll, RunsFront};
+ghost use Rattle.span_language.specs.Runs.{is_refused, outside, Anywhere, InFileLine, UnlessList, RunsAll, RunsPrefix};
 ghost use Rattle.span_language.specs.Scripts.{script_of, AsksForNoDemo, OfScript};
 
 use crate::lines::next_line;
@@ -62,7 +62,7 @@ fn read_script<S: Source>(alloc: Global, script: &mut S) -> Result<Vec<u8>, NoSc
     ensures too_long { IfErr result (λ why. why ≡ NoScript.TooLong → IfSome (S.left script.old) (λ left. 2 ^ 24 < length left)) }
     ensures taken { TakesAtMost (2 ^ 24 + 1) (S.left script.old) (S.left script.new) }
     ensures later { S.faults script.old ≤ S.faults script.new }
-    ensures fault { IfErr result (λ why. why ≡ NoScript.Fault → Rose (S.faults script.old) (S.faults script.new)) }
+    ensures fault { IfErr result (λ why. why ≡ NoScript.Fault → HasIncreased (S.faults script.old) (S.faults script.new)) }
     ensures sound { OnOk result (S.faults script.new ≡ S.faults script.old) }
 {
     let mut bytes = Vec::new(alloc);
@@ -93,7 +93,7 @@ fn asked_script<S: Source>(
     ensures short { IfOk result (λ bytes. length bytes.items ≤ 2 ^ 24) }
     ensures too_long { IfErr result (λ why. why ≡ NoScript.TooLong → (number ≡ None) × IfSome (S.left script.old) (λ left. 2 ^ 24 < length left)) }
     ensures taken { TakesAtMost (2 ^ 24 + 1) (S.left script.old) (S.left script.new) }
-    ensures fault { IfErr result (λ why. why ≡ NoScript.Fault → (number ≡ None) × Rose (S.faults script.old) (S.faults script.new)) }
+    ensures fault { IfErr result (λ why. why ≡ NoScript.Fault → (number ≡ None) × HasIncreased (S.faults script.old) (S.faults script.new)) }
     ensures sound { OnOk result (S.faults script.new ≡ S.faults script.old) }
     ensures unread { IfSome number (λ _. script.new ≡ script.old) }
 {
@@ -131,14 +131,14 @@ fn run_lines<R: Threads + Sync, K: Sink, F: Shelf, G: Gate, P: Ledger, T: Ledger
     ensures done { IfOk result (λ refused. RunsAll (lines_of script.now) refused states
         (outside (K.written io.old.out.now) (F.files io.old.shelf.now) meters.old.looks.now meters.old.pairs.now meters.old.places.now)
         (outside (K.written io.new.out.now) (F.files io.new.shelf.now) meters.new.looks.now meters.new.pairs.now meters.new.places.now)) }
-    ensures out_fault { IfErr result (λ why. why ≡ Stop.OutFault → Rose (K.faults io.old.out.now) (K.faults io.new.out.now) × RunsFront Anywhere
+    ensures out_fault { IfErr result (λ why. why ≡ Stop.OutFault → HasIncreased (K.faults io.old.out.now) (K.faults io.new.out.now) × RunsPrefix Anywhere
         (lines_of script.now) states (outside (K.written io.old.out.now) (F.files io.old.shelf.now) meters.old.looks.now meters.old.pairs.now meters.old.places.now)
         (outside (K.written io.new.out.now) (F.files io.new.shelf.now) meters.new.looks.now meters.new.pairs.now meters.new.places.now)) }
-    ensures shelf_fault { IfErr result (λ why. why ≡ Stop.ShelfFault → Rose (F.faults io.old.shelf.now) (F.faults io.new.shelf.now)
-        × RunsFront InFileLine (lines_of script.now) states
+    ensures shelf_fault { IfErr result (λ why. why ≡ Stop.ShelfFault → HasIncreased (F.faults io.old.shelf.now) (F.faults io.new.shelf.now)
+        × RunsPrefix InFileLine (lines_of script.now) states
         (outside (K.written io.old.out.now) (F.files io.old.shelf.now) meters.old.looks.now meters.old.pairs.now meters.old.places.now)
         (outside (K.written io.new.out.now) (F.files io.new.shelf.now) meters.new.looks.now meters.new.pairs.now meters.new.places.now)) }
-    ensures want { IfErr result (λ why. why ≡ Stop.NoMemory → RunsFront (UnlessList (K.wants io.old.out.now) (K.wants io.new.out.now))
+    ensures want { IfErr result (λ why. why ≡ Stop.NoMemory → RunsPrefix (UnlessList (K.wants io.old.out.now) (K.wants io.new.out.now))
         (lines_of script.now) states (outside (K.written io.old.out.now) (F.files io.old.shelf.now) meters.old.looks.now meters.old.pairs.now meters.old.places.now)
         (outside (K.written io.new.out.now) (F.files io.new.shelf.now) meters.new.looks.now meters.new.pairs.now meters.new.places.now)) }
     ensures sound { OnOk result ((K.faults io.new.out.now ≡ K.faults io.old.out.now) × (K.wants io.new.out.now ≡ K.wants io.old.out.now) × (F.faults io.new.shelf.now ≡ F.faults io.old.shelf.now)) }
@@ -211,9 +211,9 @@ pub fn run<
     ensures some_refused { result ≡ Status.SomeRefused → OfScript (map string_bytes words.now) (S.left script.old)
         (λ states bytes. RunsAll (lines_of bytes) true states (outside (K.written out.old) (F.files shelf.old) looks.old pairs.old places.old)
         (outside (K.written out.new) (F.files shelf.new) looks.new pairs.new places.new)) }
-    ensures script_fault { result ≡ Status.ScriptFault → AsksForNoDemo (map string_bytes words.now) × Rose (S.faults script.old) (S.faults script.new) }
-    ensures out_fault { result ≡ Status.OutFault → Rose (K.faults out.old) (K.faults out.new) }
-    ensures shelf_fault { result ≡ Status.ShelfFault → Rose (F.faults shelf.old) (F.faults shelf.new) }
+    ensures script_fault { result ≡ Status.ScriptFault → AsksForNoDemo (map string_bytes words.now) × HasIncreased (S.faults script.old) (S.faults script.new) }
+    ensures out_fault { result ≡ Status.OutFault → HasIncreased (K.faults out.old) (K.faults out.new) }
+    ensures shelf_fault { result ≡ Status.ShelfFault → HasIncreased (F.faults shelf.old) (F.faults shelf.new) }
     ensures too_long { result ≡ Status.ScriptTooLong → AsksForNoDemo (map string_bytes words.now) × IfSome (S.left script.old)
         (λ bytes. 2 ^ 24 < length bytes) }
     ensures short { (result ≡ Status.Done) ⊎ (result ≡ Status.SomeRefused) ⊎ (result ≡ Status.OutFault)
@@ -246,15 +246,15 @@ pub fn run<
     // `share`, `write`, `save` or `open` before any of its reply is written, and leaves the files unchanged. An
     // allocation failure stops a `list` before any of its reply is written, unless the sink's allocation failed.
     ensures front { result ≡ Status.OutFault → OfScript (map string_bytes words.now) (S.left script.old)
-        (λ states bytes. RunsFront Anywhere (lines_of bytes) states
+        (λ states bytes. RunsPrefix Anywhere (lines_of bytes) states
         (outside (K.written out.old) (F.files shelf.old) looks.old pairs.old places.old)
         (outside (K.written out.new) (F.files shelf.new) looks.new pairs.new places.new)) }
     ensures shelf_front { result ≡ Status.ShelfFault → OfScript (map string_bytes words.now) (S.left script.old)
-        (λ states bytes. RunsFront InFileLine (lines_of bytes) states
+        (λ states bytes. RunsPrefix InFileLine (lines_of bytes) states
         (outside (K.written out.old) (F.files shelf.old) looks.old pairs.old places.old)
         (outside (K.written out.new) (F.files shelf.new) looks.new pairs.new places.new)) }
     ensures want_front { result ≡ Status.NoMemory → OfScript (map string_bytes words.now) (S.left script.old)
-        (λ states bytes. RunsFront (UnlessList (K.wants out.old) (K.wants out.new)) (lines_of bytes) states
+        (λ states bytes. RunsPrefix (UnlessList (K.wants out.old) (K.wants out.new)) (lines_of bytes) states
         (outside (K.written out.old) (F.files shelf.old) looks.old pairs.old places.old)
         (outside (K.written out.new) (F.files shelf.new) looks.new pairs.new places.new)) }
 {

@@ -1,6 +1,6 @@
 -- A line whose reply was written, and then flushed.
-use Rattle.span_session.proofs.Names.{Appends, Appends-kept, AppendsFront, arith, Carried, Carries, Command, Done, Ends, Err, HasNoFault, IfErr, IfOk, inl, inr, IsDone}
-use Rattle.span_session.proofs.Names.{IsGone, IsOfFile, IsStopped, Keeps, length, List, Ok, Option, Outlet, Passes, Quiet, Replies, Result, Rose, LineState}
+use Rattle.span_session.proofs.Names.{Appends, Appends-kept, AppendsPrefix, arith, Carried, Carries, Command, Done, Ends, Err, HasNoFault, IfErr, IfOk, inl, inr, IsDone}
+use Rattle.span_session.proofs.Names.{IsGone, IsOfFile, IsStopped, Keeps, length, List, Ok, Option, Outlet, Passes, Quiet, Replies, Result, HasIncreased, LineState}
 use Rattle.span_session.proofs.Names.{Accepted, Refused, refl, Some, Stop, Stopped, subst, sym, take_all, Told, world_in, Wrote, ℕ, ◌∙◌, ◌≡◌, ◌≤◌, ◌⊎◌}
 use Rattle.script_syntax.specs.declared.form.Command.TheVariants as form
 use Rattle.span_language.specs.declared.told.Stop.TheVariants as stop
@@ -68,19 +68,19 @@ module _ (number : ℕ) (meaning : Option Command) (old new : LineState) (before
   }
 
   -- or the flush failed
-  pub unsent_stopped : (why : Stop) → (told ≡ Quiet → ⊥) → mid.faults ≤ after.faults → mid.wants ≤ after.wants → (why ≡ stop.OutFault → Rose mid.faults after.faults)
-      → (why ≡ stop.NoMemory → Rose mid.wants after.wants) → (why ≡ stop.ShelfFault → ⊥) → Done number meaning old before new mid told → Stopped number meaning old before new after why
+  pub unsent_stopped : (why : Stop) → (told ≡ Quiet → ⊥) → mid.faults ≤ after.faults → mid.wants ≤ after.wants → (why ≡ stop.OutFault → HasIncreased mid.faults after.faults)
+      → (why ≡ stop.NoMemory → HasIncreased mid.wants after.wants) → (why ≡ stop.ShelfFault → ⊥) → Done number meaning old before new mid told → Stopped number meaning old before new after why
   unsent_stopped why spoken later wants_later fault want shelf d =
       let reply = d.finishes.0 in
       let wrote = Appends-kept before.written mid.written after.written reply d.finishes.2 kept in
-      let whole : AppendsFront before.written after.written reply =
+      let whole : AppendsPrefix before.written after.written reply =
       (length reply, subst (λ (l : List ℕ). Appends before.written after.written l) (sym (take_all (length reply) reply (omega arith))) wrote) in
       record {
         passes = passes_on later wants_later d.passes;
         halts = inr (told, reply, d.finishes.1, whole);
-        fault = λ is. (replied meaning reply spoken d.finishes.1, (let rose = fault is in omega (arith, rose, d.sink_sound.0)));
+        fault = λ is. (replied meaning reply spoken d.finishes.1, (let has_increased = fault is in omega (arith, has_increased, d.sink_sound.0)));
         shelf_fault = λ is. absurd (shelf is);
-        want = λ is. inr (inl (let rose = want is in omega (arith, rose, d.sink_sound.1)));
+        want = λ is. inr (inl (let has_increased = want is in omega (arith, has_increased, d.sink_sound.1)));
       }
 
 -- what holds of a line after its reply was written holds after the flush
@@ -101,12 +101,12 @@ module _ {K : Type 0} (line : List ℕ) (number : ℕ) (old new : LineState) (be
       by (Ok t) is calm = (meaning, means, subst (λ (x : Told). Done number meaning old before new after x) (sym is) (sent_done number meaning old new before mid after told kept calm d))
       by (Err why) is calm = tt
 
-  pub line_stopped : mid.faults ≤ after.faults → mid.wants ≤ after.wants → IfErr r (λ why. why ≡ stop.OutFault → Rose mid.faults after.faults)
-      → IfErr r (λ why. why ≡ stop.NoMemory → Rose mid.wants after.wants) → IfErr r (λ why. why ≡ stop.ShelfFault → ⊥) → IsDone line number old before new mid told
+  pub line_stopped : mid.faults ≤ after.faults → mid.wants ≤ after.wants → IfErr r (λ why. why ≡ stop.OutFault → HasIncreased mid.faults after.faults)
+      → IfErr r (λ why. why ≡ stop.NoMemory → HasIncreased mid.wants after.wants) → IfErr r (λ why. why ≡ stop.ShelfFault → ⊥) → IsDone line number old before new mid told
       → IfErr r (IsStopped line number old before new after)
   line_stopped later wants_later fault want shelf (meaning, means, d) = by r quiet fault want shelf
     where
-      by : (q : Result Told Stop) → (told ≡ Quiet → (q ≡ Ok Quiet) × (third ≡ second)) → IfErr q (λ why. why ≡ stop.OutFault → Rose mid.faults after.faults)
-          → IfErr q (λ why. why ≡ stop.NoMemory → Rose mid.wants after.wants) → IfErr q (λ why. why ≡ stop.ShelfFault → ⊥) → IfErr q (IsStopped line number old before new after)
+      by : (q : Result Told Stop) → (told ≡ Quiet → (q ≡ Ok Quiet) × (third ≡ second)) → IfErr q (λ why. why ≡ stop.OutFault → HasIncreased mid.faults after.faults)
+          → IfErr q (λ why. why ≡ stop.NoMemory → HasIncreased mid.wants after.wants) → IfErr q (λ why. why ≡ stop.ShelfFault → ⊥) → IfErr q (IsStopped line number old before new after)
       by (Ok t) silent f w s = tt
       by (Err why) silent f w s = inr (meaning, means, unsent_stopped number meaning old new before mid after told kept why (λ is. let bad : ⊥ = cc ((silent is).0) in bad) later wants_later f w s d)

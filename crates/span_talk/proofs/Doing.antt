@@ -3,13 +3,13 @@ use Rattle.std.proofs.Common.{◌≡◌, ℕ, ◌+◌, Bool, List, [], ◌∷◌
 use Rattle.std.specs.Prelude.{◌||◌, Option, Some, None}
 use Rattle.std.specs.Io.KnownBytes.{Appends}
 use Rattle.std.proofs.lemmas.List.{append-nil, take_all}
-use Rattle.edge_io.specs.Causes.{Rose}
+use Rattle.edge_io.specs.Causes.{HasIncreased}
 use Rattle.script_syntax.specs.Syntax.{LineText}
 use Rattle.script_syntax.specs.declared.form.Command.{Command}
 use Rattle.span_language.specs.State.{world}
 use Rattle.span_language.specs.Allowance.{no_steps}
 use Rattle.span_language.specs.Means.{Means}
-use Rattle.span_language.specs.Runs.{Ending, Outside, PlacesFew, RunsFront, is_refused}
+use Rattle.span_language.specs.Runs.{Ending, Outside, PlacesFew, RunsPrefix, is_refused}
 use Rattle.span_language.specs.declared.told.Told.{Told}
 use Rattle.span_language.specs.declared.told.Stop.{Stop}
 use Rattle.span_language.specs.declared.told.Stop.TheVariants as stop
@@ -17,7 +17,7 @@ use Rattle.session_state.specs.SessionState.{SessionModel, IsSessionModel}
 use Rattle.session_state.specs.LineState.{LineState}
 use Rattle.session_state.specs.Carried.{IsDone, IsStopped, Outlet}
 use Rattle.span_run.proofs.RunsLemmas.{IsAt, told_of, goes_on, or_false, stops_anywhere, stops_in_file, stops_wanting, ends}
-use Rattle.span_talk.specs.Progress.{Does, IsHalted, Place, StandsAt, StopsIn, place}
+use Rattle.span_talk.specs.Progress.{Does, IsHalted, ConversationState, ReachesState, StopsIn, place}
 use Rattle.span_talk.proofs.Cuts.{short_take}
 
 pub means_kept : (line : List ℕ) (meaning : Option Command) → Means (take 65537 line) meaning → Means line meaning
@@ -41,8 +41,8 @@ further lines more number refused st most before now at = record {
 }
 
 -- a run that was stopped when no line had begun
-pub stopped_between : (Ends : Ending) (lines left : List (List ℕ)) (most : ℕ) (before : Outside) (p : Place) → IsSessionModel p.model → Ends None [] p.now.files p.now.files → StandsAt lines most before p
-    → RunsFront Ends (lines ++ left) most before p.now
+pub stopped_between : (Ends : Ending) (lines left : List (List ℕ)) (most : ℕ) (before : Outside) (p : ConversationState) → IsSessionModel p.model → Ends None [] p.now.files p.now.files → ReachesState lines most before p
+    → RunsPrefix Ends (lines ++ left) most before p.now
 stopped_between Ends lines left most before p session ends_so at =
     let all = ends lines [] p.number p.refused p.model most before p.now refl session at in
     record {
@@ -74,28 +74,28 @@ module _ (kept : List ℕ) (number : ℕ) (old : LineState) (sink : Outlet) (new
   does refused told done = λ line lines most before is at.
       goes_on (lines ++ line ∷ []) (line ∷ []) [] line number refused most before old sink new after refl (further lines (line ∷ []) number refused old.model most before (told_of old sink) at) told (done_as line told is done)
 
-  out_rose : IsStopped kept number old sink new after stop.OutFault → Rose sink.faults after.faults
-  out_rose (inl (other, same, unsaid)) = let bad : ⊥ = cc other in absurd bad
-  out_rose (inr (meaning, means, s)) = (s.fault refl).1
+  output_increased : IsStopped kept number old sink new after stop.OutFault → HasIncreased sink.faults after.faults
+  output_increased (inl (other, same, unsaid)) = let bad : ⊥ = cc other in absurd bad
+  output_increased (inr (meaning, means, s)) = (s.fault refl).1
 
-  shelf_rose : IsStopped kept number old sink new after stop.ShelfFault → Rose old.faults new.faults
-  shelf_rose (inl (other, same, unsaid)) = let bad : ⊥ = cc other in absurd bad
-  shelf_rose (inr (meaning, means, s)) = (s.shelf_fault refl).1
+  store_increased : IsStopped kept number old sink new after stop.ShelfFault → HasIncreased old.faults new.faults
+  store_increased (inl (other, same, unsaid)) = let bad : ⊥ = cc other in absurd bad
+  store_increased (inr (meaning, means, s)) = (s.shelf_fault refl).1
 
   -- the run is stopped as the line was
   pub halts : (refused : Bool) (why : Stop) → IsSessionModel old.model → IsSessionModel new.model → IsStopped kept number old sink new after why
       → IsHalted (λ Ends. StopsIn Ends kept (place number refused old.model (told_of old sink)) (told_of new after)) sink old.faults after new.faults why
-  halts refused why session stands stopped = record {
+  halts refused why session state_of stopped = record {
     out_fault = λ is.
         let s = subst (λ (w : Stop). IsStopped kept number old sink new after w) is stopped in
-        (out_rose s, λ line lines more most before same at. (stops_anywhere (lines ++ line ∷ more) (line ∷ more) more line number refused most before old sink new after refl (begun line lines more most before at) session stands (stopped_as line stop.OutFault same s)).1);
+        (output_increased s, λ line lines more most before same at. (stops_anywhere (lines ++ line ∷ more) (line ∷ more) more line number refused most before old sink new after refl (begun line lines more most before at) session state_of (stopped_as line stop.OutFault same s)).1);
     shelf_fault = λ is.
         let s = subst (λ (w : Stop). IsStopped kept number old sink new after w) is stopped in
-        (shelf_rose s, λ line lines more most before same at. (stops_in_file (lines ++ line ∷ more) (line ∷ more) more line number refused most before old sink new after refl (begun line lines more most before at) session stands (stopped_as line stop.ShelfFault same s)).1);
+        (store_increased s, λ line lines more most before same at. (stops_in_file (lines ++ line ∷ more) (line ∷ more) more line number refused most before old sink new after refl (begun line lines more most before at) session state_of (stopped_as line stop.ShelfFault same s)).1);
     want = λ is wants few line lines more most before same at.
         let s = subst (λ (w : Stop). IsStopped kept number old sink new after w) is stopped in
-        stops_wanting (lines ++ line ∷ more) (line ∷ more) more line number refused most before old sink new after refl (begun line lines more most before at) wants few session stands (stopped_as line stop.NoMemory same s);
+        stops_wanting (lines ++ line ∷ more) (line ∷ more) more line number refused most before old sink new after refl (begun line lines more most before at) wants few session state_of (stopped_as line stop.NoMemory same s);
   }
     where
-      begun : (line : List ℕ) (lines more : List (List ℕ)) (most : ℕ) (before : Outside) → StandsAt lines most before (place number refused old.model (told_of old sink)) → IsAt (lines ++ line ∷ more) (line ∷ more) number refused old.model most before (told_of old sink)
+      begun : (line : List ℕ) (lines more : List (List ℕ)) (most : ℕ) (before : Outside) → ReachesState lines most before (place number refused old.model (told_of old sink)) → IsAt (lines ++ line ∷ more) (line ∷ more) number refused old.model most before (told_of old sink)
       begun line lines more most before at = further lines (line ∷ more) number refused old.model most before (told_of old sink) at

@@ -8,7 +8,7 @@ use Rattle.span_language.specs.declared.told.Stop.{Stop}
 use Rattle.span_language.specs.declared.told.Stop.TheVariants as stop
 use Rattle.session_state.specs.Carried.{Outlet}
 use Rattle.session_state.proofs.Goes.{passed_on}
-use Rattle.span_run.proofs.RunsLemmas.{rose_later}
+use Rattle.span_run.proofs.RunsLemmas.{increased_later}
 use Rattle.span_talk.specs.Progress.{IsHalted}
 use Rattle.span_talk.specs.declared.progress.End.TheVariants.{Stopped}
 
@@ -20,8 +20,8 @@ same_stop s t is = cc is
 pub halted_later : (P Q : Ending → Type 0) (first before after : Outlet) (start old new : ℕ) (why : Stop) → first.faults ≤ before.faults → first.wants ≤ before.wants → start ≤ old
     → IsHalted P before old after new why → ((Ends : Ending) → P Ends → Q Ends) → IsHalted Q first start after new why
 halted_later P Q first before after start old new why later wants_later shelf_later h so = record {
-  out_fault = λ is. let x = h.out_fault is in (rose_later first.faults before.faults after.faults later x.0, so Anywhere x.1);
-  shelf_fault = λ is. let x = h.shelf_fault is in (rose_later start old new shelf_later x.0, so InFileLine x.1);
+  out_fault = λ is. let x = h.out_fault is in (increased_later first.faults before.faults after.faults later x.0, so Anywhere x.1);
+  shelf_fault = λ is. let x = h.shelf_fault is in (increased_later start old new shelf_later x.0, so InFileLine x.1);
   want = λ is wants few. so (UnlessList wants after.wants) (h.want is wants (omega (arith, few, wants_later)));
 }
 

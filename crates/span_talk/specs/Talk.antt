@@ -22,8 +22,8 @@ OfSent (Some sent) Holds = Holds sent
 
 -- the property holds of the bytes that were read, which are those left before without those left after, if they are
 -- observable
-abbrev pub OfHeard : Option (List ℕ) → Option (List ℕ) → (List ℕ → Type 0) → Type 0
-OfHeard old new Holds = (heard : List ℕ) × Consumes old new heard × Holds heard
+abbrev pub OfBytesRead : Option (List ℕ) → Option (List ℕ) → (List ℕ → Type 0) → Type 0
+OfBytesRead old new Holds = (heard : List ℕ) × Consumes old new heard × Holds heard
 
 -- all these lines ran, rejected or not
 abbrev pub HaveRun : List (List ℕ) → ℕ → Outside → Outside → Type 0
@@ -55,7 +55,7 @@ pub record AreReplied (lines : List (List ℕ)) (most : ℕ) (before : Outside) 
 
 -- the replies to all complete lines by this moment had been written, and the number was that of the next line
 abbrev pub IsServed : Option (List ℕ) → ℕ → Outside → Moment → Type 0
-IsServed sent most before m = OfHeard sent m.left
+IsServed sent most before m = OfBytesRead sent m.left
     (λ heard. AreReplied (whole_lines heard) most before m.written × (m.number ≡ 1 + length (whole_lines heard)))
 
 -- the same at each further observable moment

@@ -1,10 +1,10 @@
 //! The top call: a conversation with a client, to its end.
 ghost use Rattle.std.specs.Prelude.{◌≡◌, ◌⊎◌, ◌^◌, ◌≤◌, true, false, length};
 ghost use Rattle.std.specs.Io.KnownBytes.{IsAtEnd};
-ghost use Rattle.edge_io.specs.Causes.{Rose};
+ghost use Rattle.edge_io.specs.Causes.{HasIncreased};
 ghost use Rattle.span_language.specs.Lines.{lines_of};
-ghost use Rattle.span_language.specs.Runs.{outside, Anywhere, InFileLine, UnlessList, RunsAll, RunsFront};
-ghost use Rattle.span_talk.specs.Talk.{whole_lines, AreServed, HaveRun, OfHeard, OfSent};
+ghost use Rattle.span_language.specs.Runs.{outside, Anywhere, InFileLine, UnlessList, RunsAll, RunsPrefix};
+ghost use Rattle.span_talk.specs.Talk.{whole_lines, AreServed, HaveRun, OfBytesRead, OfSent};
 
 use crate::client::Client;
 use crate::progress::{End, hear_script};
@@ -57,26 +57,26 @@ pub fn talk<
     ensures at_end { (result ≡ Status.Done) ⊎ (result ≡ Status.SomeRefused) → IsAtEnd (C.left client.new) }
 
     // The client failed, or it sent 2^62 bytes: the complete lines were executed, and the incomplete one wasn't.
-    ensures script_fault { result ≡ Status.ScriptFault → Rose (C.faults client.old) (C.faults client.new)
-        × OfHeard (C.left client.old) (C.left client.new)
+    ensures script_fault { result ≡ Status.ScriptFault → HasIncreased (C.faults client.old) (C.faults client.new)
+        × OfBytesRead (C.left client.old) (C.left client.new)
         (λ heard. HaveRun (whole_lines heard) states (outside (K.written out.old) (F.files shelf.old) looks.old pairs.old places.old)
         (outside (K.written out.new) (F.files shelf.new) looks.new pairs.new places.new)) }
-    ensures too_long { result ≡ Status.ScriptTooLong → OfHeard (C.left client.old) (C.left client.new)
+    ensures too_long { result ≡ Status.ScriptTooLong → OfBytesRead (C.left client.old) (C.left client.new)
         (λ heard. (2 ^ 62 ≤ length heard) × HaveRun (whole_lines heard) states
         (outside (K.written out.old) (F.files shelf.old) looks.old pairs.old places.old)
         (outside (K.written out.new) (F.files shelf.new) looks.new pairs.new places.new)) }
 
     // What was written is a prefix of the whole output.
-    ensures out_fault { result ≡ Status.OutFault → Rose (K.faults out.old) (K.faults out.new) × OfSent (C.left client.old)
-        (λ sent. RunsFront Anywhere (lines_of sent) states
+    ensures out_fault { result ≡ Status.OutFault → HasIncreased (K.faults out.old) (K.faults out.new) × OfSent (C.left client.old)
+        (λ sent. RunsPrefix Anywhere (lines_of sent) states
         (outside (K.written out.old) (F.files shelf.old) looks.old pairs.old places.old)
         (outside (K.written out.new) (F.files shelf.new) looks.new pairs.new places.new)) }
-    ensures shelf_fault { result ≡ Status.ShelfFault → Rose (F.faults shelf.old) (F.faults shelf.new) × OfSent (C.left client.old)
-        (λ sent. RunsFront InFileLine (lines_of sent) states
+    ensures shelf_fault { result ≡ Status.ShelfFault → HasIncreased (F.faults shelf.old) (F.faults shelf.new) × OfSent (C.left client.old)
+        (λ sent. RunsPrefix InFileLine (lines_of sent) states
         (outside (K.written out.old) (F.files shelf.old) looks.old pairs.old places.old)
         (outside (K.written out.new) (F.files shelf.new) looks.new pairs.new places.new)) }
     ensures want { result ≡ Status.NoMemory → OfSent (C.left client.old)
-        (λ sent. RunsFront (UnlessList (K.wants out.old) (K.wants out.new)) (lines_of sent) states
+        (λ sent. RunsPrefix (UnlessList (K.wants out.old) (K.wants out.new)) (lines_of sent) states
         (outside (K.written out.old) (F.files shelf.old) looks.old pairs.old places.old)
         (outside (K.written out.new) (F.files shelf.new) looks.new pairs.new places.new)) }
     ensures no_words { result ≡ Status.Usage → ⊥ }

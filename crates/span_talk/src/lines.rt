@@ -4,7 +4,7 @@ ghost use Rattle.std.specs.Prelude.{◌≡◌, ◌≢◌, ◌≤◌, ◌∷◌, 
 use span_types::NoMemory;
 
 /// The maximum number of bytes that are stored of a line: one more than a line may have.
-const MOST_KEPT: usize = 65_537;
+const MAX_STORED_BYTES: usize = 65_537;
 
 /// The bytes before the first newline and the bytes after it, or `None` without a newline.
 pub fn cut_line(text: &[u8]) -> Option<(&[u8], &[u8])>
@@ -21,7 +21,7 @@ pub fn keep(kept: &mut Vec<u8>, part: &[u8]) -> Result<(), NoMemory>
     ensures kept { OnOk result (kept.new.items ≡ take 65537 (kept.old.items ++ part.now)) }
     ensures few { length kept.new.items ≤ 65537 }
 {
-    let room = (MOST_KEPT - kept.len()).min(part.len());
+    let room = (MAX_STORED_BYTES - kept.len()).min(part.len());
     kept.extend_from_slice(&part[..room])?;
     Ok(())
 }

@@ -1,14 +1,14 @@
 //! The steps of a conversation: a line, a piece, and the whole script.
 ghost use Rattle.std.specs.Prelude.{◌≡◌, ◌+◌, ◌^◌, ◌<◌, ◌≤◌, ◌⊎◌, [], ◌||◌, IfOk, IfErr, MatchResult, OnOk, length};
 ghost use Rattle.std.specs.Io.KnownBytes.{IsAtEnd};
-ghost use Rattle.edge_io.specs.Causes.{Rose};
+ghost use Rattle.edge_io.specs.Causes.{HasIncreased};
 ghost use Rattle.span_language.specs.Lines.{lines_of};
-ghost use Rattle.span_language.specs.Runs.{is_refused, outside, Anywhere, InFileLine, UnlessList, RunsAll, RunsFront};
+ghost use Rattle.span_language.specs.Runs.{is_refused, outside, Anywhere, InFileLine, UnlessList, RunsAll, RunsPrefix};
 ghost use Rattle.session_state.specs.Carried.{outlet};
 ghost use Rattle.session_state.specs.SessionState.{IsSessionModel};
 ghost use Rattle.span_session.specs.Lending.{IsSameIo, IsSameMeters};
-ghost use Rattle.span_talk.specs.Talk.{whole_lines, AreServed, HaveRun, OfHeard, OfSent};
-ghost use Rattle.span_talk.specs.Progress.{stands, Does, Finishes, Hears, IsHalted, IsTalking, StopsAtEnd, StopsIn, StopsWithin};
+ghost use Rattle.span_talk.specs.Talk.{whole_lines, AreServed, HaveRun, OfBytesRead, OfSent};
+ghost use Rattle.span_talk.specs.Progress.{state_of, Does, Finishes, Hears, IsHalted, IsTalking, StopsAtEnd, StopsIn, StopsWithin};
 
 use crate::client::Client;
 use crate::lines::{cut_line, keep};
@@ -68,10 +68,10 @@ fn end_line<R: Threads + Sync, K: Sink, F: Shelf, G: Gate, P: Ledger, T: Ledger,
     ensures wants_later { K.wants io.old.out.now ≤ K.wants io.new.out.now }
     ensures shelf_later { F.faults io.old.shelf.now ≤ F.faults io.new.shelf.now }
     ensures done { OnOk result (Does progress.old.kept.items
-        (stands progress.old (outside (K.written io.old.out.now) (F.files io.old.shelf.now) meters.old.looks.now meters.old.pairs.now meters.old.places.now))
-        (stands progress.new (outside (K.written io.new.out.now) (F.files io.new.shelf.now) meters.new.looks.now meters.new.pairs.now meters.new.places.now))) }
+        (state_of progress.old (outside (K.written io.old.out.now) (F.files io.old.shelf.now) meters.old.looks.now meters.old.pairs.now meters.old.places.now))
+        (state_of progress.new (outside (K.written io.new.out.now) (F.files io.new.shelf.now) meters.new.looks.now meters.new.pairs.now meters.new.places.now))) }
     ensures stopped { IfErr result (IsHalted (λ Ends. StopsIn Ends progress.old.kept.items
-        (stands progress.old (outside (K.written io.old.out.now) (F.files io.old.shelf.now) meters.old.looks.now meters.old.pairs.now meters.old.places.now))
+        (state_of progress.old (outside (K.written io.old.out.now) (F.files io.old.shelf.now) meters.old.looks.now meters.old.pairs.now meters.old.places.now))
         (outside (K.written io.new.out.now) (F.files io.new.shelf.now) meters.new.looks.now meters.new.pairs.now meters.new.places.now))
         (outlet (K.written io.old.out.now) (K.faults io.old.out.now) (K.wants io.old.out.now)) (F.faults io.old.shelf.now)
         (outlet (K.written io.new.out.now) (K.faults io.new.out.now) (K.wants io.new.out.now)) (F.faults io.new.shelf.now)) }
@@ -116,10 +116,10 @@ fn hear_piece<R: Threads + Sync, K: Sink, F: Shelf, G: Gate, P: Ledger, T: Ledge
     ensures wants_later { K.wants io.old.out.now ≤ K.wants io.new.out.now }
     ensures shelf_later { F.faults io.old.shelf.now ≤ F.faults io.new.shelf.now }
     ensures done { OnOk result (Hears piece.now progress.old.kept.items
-        (stands progress.old (outside (K.written io.old.out.now) (F.files io.old.shelf.now) meters.old.looks.now meters.old.pairs.now meters.old.places.now)) progress.new.kept.items
-        (stands progress.new (outside (K.written io.new.out.now) (F.files io.new.shelf.now) meters.new.looks.now meters.new.pairs.now meters.new.places.now))) }
+        (state_of progress.old (outside (K.written io.old.out.now) (F.files io.old.shelf.now) meters.old.looks.now meters.old.pairs.now meters.old.places.now)) progress.new.kept.items
+        (state_of progress.new (outside (K.written io.new.out.now) (F.files io.new.shelf.now) meters.new.looks.now meters.new.pairs.now meters.new.places.now))) }
     ensures stopped { IfErr result (IsHalted (λ Ends. StopsWithin Ends piece.now progress.old.kept.items
-        (stands progress.old (outside (K.written io.old.out.now) (F.files io.old.shelf.now) meters.old.looks.now meters.old.pairs.now meters.old.places.now))
+        (state_of progress.old (outside (K.written io.old.out.now) (F.files io.old.shelf.now) meters.old.looks.now meters.old.pairs.now meters.old.places.now))
         (outside (K.written io.new.out.now) (F.files io.new.shelf.now) meters.new.looks.now meters.new.pairs.now meters.new.places.now))
         (outlet (K.written io.old.out.now) (K.faults io.old.out.now) (K.wants io.old.out.now)) (F.faults io.old.shelf.now)
         (outlet (K.written io.new.out.now) (K.faults io.new.out.now) (K.wants io.new.out.now)) (F.faults io.new.shelf.now)) }
@@ -167,25 +167,25 @@ fn hear_all<
     ensures all { IfOk result (λ progress. OfSent (C.left client.old)
         (λ sent. IsTalking sent states (outside (K.written io.old.out.now)
         (F.files io.old.shelf.now) meters.old.looks.now meters.old.pairs.now meters.old.places.now) progress.kept.items
-        (stands progress (outside (K.written io.new.out.now) (F.files io.new.shelf.now) meters.new.looks.now meters.new.pairs.now meters.new.places.now)))) }
-    ensures fault { IfErr result (λ why. why ≡ End.Fault → Rose (C.faults client.old) (C.faults client.new)
-        × OfHeard (C.left client.old) (C.left client.new)
+        (state_of progress (outside (K.written io.new.out.now) (F.files io.new.shelf.now) meters.new.looks.now meters.new.pairs.now meters.new.places.now)))) }
+    ensures fault { IfErr result (λ why. why ≡ End.Fault → HasIncreased (C.faults client.old) (C.faults client.new)
+        × OfBytesRead (C.left client.old) (C.left client.new)
         (λ heard. HaveRun (whole_lines heard) states (outside (K.written io.old.out.now) (F.files io.old.shelf.now) meters.old.looks.now meters.old.pairs.now meters.old.places.now)
         (outside (K.written io.new.out.now) (F.files io.new.shelf.now) meters.new.looks.now meters.new.pairs.now meters.new.places.now))) }
-    ensures too_long { IfErr result (λ why. why ≡ End.TooLong → OfHeard (C.left client.old) (C.left client.new)
+    ensures too_long { IfErr result (λ why. why ≡ End.TooLong → OfBytesRead (C.left client.old) (C.left client.new)
         (λ heard. (2 ^ 62 ≤ length heard) × HaveRun (whole_lines heard) states
         (outside (K.written io.old.out.now) (F.files io.old.shelf.now) meters.old.looks.now meters.old.pairs.now meters.old.places.now)
         (outside (K.written io.new.out.now) (F.files io.new.shelf.now) meters.new.looks.now meters.new.pairs.now meters.new.places.now))) }
-    ensures out_fault { IfErr result (λ why. why ≡ End.Stopped Stop.OutFault → Rose (K.faults io.old.out.now) (K.faults io.new.out.now)
-        × OfSent (C.left client.old) (λ sent. RunsFront Anywhere (lines_of sent) states
+    ensures out_fault { IfErr result (λ why. why ≡ End.Stopped Stop.OutFault → HasIncreased (K.faults io.old.out.now) (K.faults io.new.out.now)
+        × OfSent (C.left client.old) (λ sent. RunsPrefix Anywhere (lines_of sent) states
         (outside (K.written io.old.out.now) (F.files io.old.shelf.now) meters.old.looks.now meters.old.pairs.now meters.old.places.now)
         (outside (K.written io.new.out.now) (F.files io.new.shelf.now) meters.new.looks.now meters.new.pairs.now meters.new.places.now))) }
-    ensures shelf_fault { IfErr result (λ why. why ≡ End.Stopped Stop.ShelfFault → Rose (F.faults io.old.shelf.now) (F.faults io.new.shelf.now)
-        × OfSent (C.left client.old) (λ sent. RunsFront InFileLine (lines_of sent) states
+    ensures shelf_fault { IfErr result (λ why. why ≡ End.Stopped Stop.ShelfFault → HasIncreased (F.faults io.old.shelf.now) (F.faults io.new.shelf.now)
+        × OfSent (C.left client.old) (λ sent. RunsPrefix InFileLine (lines_of sent) states
         (outside (K.written io.old.out.now) (F.files io.old.shelf.now) meters.old.looks.now meters.old.pairs.now meters.old.places.now)
         (outside (K.written io.new.out.now) (F.files io.new.shelf.now) meters.new.looks.now meters.new.pairs.now meters.new.places.now))) }
     ensures want { IfErr result (λ why. why ≡ End.Stopped Stop.NoMemory → OfSent (C.left client.old)
-        (λ sent. RunsFront (UnlessList (K.wants io.old.out.now) (K.wants io.new.out.now)) (lines_of sent) states
+        (λ sent. RunsPrefix (UnlessList (K.wants io.old.out.now) (K.wants io.new.out.now)) (lines_of sent) states
         (outside (K.written io.old.out.now) (F.files io.old.shelf.now) meters.old.looks.now meters.old.pairs.now meters.old.places.now)
         (outside (K.written io.new.out.now) (F.files io.new.shelf.now) meters.new.looks.now meters.new.pairs.now meters.new.places.now))) }
     ensures served { AreServed (C.left client.old) states
@@ -234,10 +234,10 @@ fn finish<R: Threads + Sync, K: Sink, F: Shelf, G: Gate, P: Ledger, T: Ledger, L
     ensures same_io { IsSameIo io.old io.new }
     ensures same_meters { IsSameMeters meters.old meters.new }
     ensures done { IfOk result (λ refused. Finishes refused progress.old.kept.items
-        (stands progress.old (outside (K.written io.old.out.now) (F.files io.old.shelf.now) meters.old.looks.now meters.old.pairs.now meters.old.places.now))
+        (state_of progress.old (outside (K.written io.old.out.now) (F.files io.old.shelf.now) meters.old.looks.now meters.old.pairs.now meters.old.places.now))
         (outside (K.written io.new.out.now) (F.files io.new.shelf.now) meters.new.looks.now meters.new.pairs.now meters.new.places.now)) }
     ensures stopped { IfErr result (IsHalted (λ Ends. StopsAtEnd Ends progress.old.kept.items
-        (stands progress.old (outside (K.written io.old.out.now) (F.files io.old.shelf.now) meters.old.looks.now meters.old.pairs.now meters.old.places.now))
+        (state_of progress.old (outside (K.written io.old.out.now) (F.files io.old.shelf.now) meters.old.looks.now meters.old.pairs.now meters.old.places.now))
         (outside (K.written io.new.out.now) (F.files io.new.shelf.now) meters.new.looks.now meters.new.pairs.now meters.new.places.now))
         (outlet (K.written io.old.out.now) (K.faults io.old.out.now) (K.wants io.old.out.now)) (F.faults io.old.shelf.now)
         (outlet (K.written io.new.out.now) (K.faults io.new.out.now) (K.wants io.new.out.now)) (F.faults io.new.shelf.now)) }
@@ -277,24 +277,24 @@ pub fn hear_script<
     ensures done { IfOk result (λ refused. OfSent (C.left client.old)
         (λ sent. RunsAll (lines_of sent) refused states (outside (K.written io.old.out.now) (F.files io.old.shelf.now) meters.old.looks.now meters.old.pairs.now meters.old.places.now)
         (outside (K.written io.new.out.now) (F.files io.new.shelf.now) meters.new.looks.now meters.new.pairs.now meters.new.places.now))) }
-    ensures fault { IfErr result (λ why. why ≡ End.Fault → Rose (C.faults client.old) (C.faults client.new)
-        × OfHeard (C.left client.old) (C.left client.new)
+    ensures fault { IfErr result (λ why. why ≡ End.Fault → HasIncreased (C.faults client.old) (C.faults client.new)
+        × OfBytesRead (C.left client.old) (C.left client.new)
         (λ heard. HaveRun (whole_lines heard) states (outside (K.written io.old.out.now) (F.files io.old.shelf.now) meters.old.looks.now meters.old.pairs.now meters.old.places.now)
         (outside (K.written io.new.out.now) (F.files io.new.shelf.now) meters.new.looks.now meters.new.pairs.now meters.new.places.now))) }
-    ensures too_long { IfErr result (λ why. why ≡ End.TooLong → OfHeard (C.left client.old) (C.left client.new)
+    ensures too_long { IfErr result (λ why. why ≡ End.TooLong → OfBytesRead (C.left client.old) (C.left client.new)
         (λ heard. (2 ^ 62 ≤ length heard) × HaveRun (whole_lines heard) states
         (outside (K.written io.old.out.now) (F.files io.old.shelf.now) meters.old.looks.now meters.old.pairs.now meters.old.places.now)
         (outside (K.written io.new.out.now) (F.files io.new.shelf.now) meters.new.looks.now meters.new.pairs.now meters.new.places.now))) }
-    ensures out_fault { IfErr result (λ why. why ≡ End.Stopped Stop.OutFault → Rose (K.faults io.old.out.now) (K.faults io.new.out.now)
-        × OfSent (C.left client.old) (λ sent. RunsFront Anywhere (lines_of sent) states
+    ensures out_fault { IfErr result (λ why. why ≡ End.Stopped Stop.OutFault → HasIncreased (K.faults io.old.out.now) (K.faults io.new.out.now)
+        × OfSent (C.left client.old) (λ sent. RunsPrefix Anywhere (lines_of sent) states
         (outside (K.written io.old.out.now) (F.files io.old.shelf.now) meters.old.looks.now meters.old.pairs.now meters.old.places.now)
         (outside (K.written io.new.out.now) (F.files io.new.shelf.now) meters.new.looks.now meters.new.pairs.now meters.new.places.now))) }
-    ensures shelf_fault { IfErr result (λ why. why ≡ End.Stopped Stop.ShelfFault → Rose (F.faults io.old.shelf.now) (F.faults io.new.shelf.now)
-        × OfSent (C.left client.old) (λ sent. RunsFront InFileLine (lines_of sent) states
+    ensures shelf_fault { IfErr result (λ why. why ≡ End.Stopped Stop.ShelfFault → HasIncreased (F.faults io.old.shelf.now) (F.faults io.new.shelf.now)
+        × OfSent (C.left client.old) (λ sent. RunsPrefix InFileLine (lines_of sent) states
         (outside (K.written io.old.out.now) (F.files io.old.shelf.now) meters.old.looks.now meters.old.pairs.now meters.old.places.now)
         (outside (K.written io.new.out.now) (F.files io.new.shelf.now) meters.new.looks.now meters.new.pairs.now meters.new.places.now))) }
     ensures want { IfErr result (λ why. why ≡ End.Stopped Stop.NoMemory → OfSent (C.left client.old)
-        (λ sent. RunsFront (UnlessList (K.wants io.old.out.now) (K.wants io.new.out.now)) (lines_of sent) states
+        (λ sent. RunsPrefix (UnlessList (K.wants io.old.out.now) (K.wants io.new.out.now)) (lines_of sent) states
         (outside (K.written io.old.out.now) (F.files io.old.shelf.now) meters.old.looks.now meters.old.pairs.now meters.old.places.now)
         (outside (K.written io.new.out.now) (F.files io.new.shelf.now) meters.new.looks.now meters.new.pairs.now meters.new.places.now))) }
     ensures served { AreServed (C.left client.old) states

@@ -167,11 +167,11 @@ struct Endless {
 }
 
 impl Shelf for Endless {
-    ghost use Rattle.edge_io.specs.Outside.{untold_put};
+    ghost use Rattle.edge_io.specs.Outside.{unexposed_put};
 
     ghost files = { λ _. None };
 
-    ghost begun = { λ s. untold_put s.begun };
+    ghost begun = { λ s. unexposed_put s.begun };
 
     ghost faults = { λ _. 0 };
 

@@ -13,7 +13,7 @@ use Rattle.span_types.specs.VarList.{AreVars}
 use Rattle.span_types.specs.Strict.{StrictFun, AreStrictAnswers}
 
 -- marks are small, and determine the spans that they come from
-pub record MarksTell : Type 0 where
+pub record MarksDetermine : Type 0 where
   pub below : (k : ℕ) (t : Spans) (p : ℕ) → mark k t p < 4 ^ k
   pub tell : (k : ℕ) (t u : Spans) → ((p : ℕ) → mark k t p ≡ mark k u p) → (v : ℕ) → v < k → t v ≡ u v
 

@@ -13,8 +13,8 @@ spans_of (x ∷ xs) zero = x
 spans_of (x ∷ xs) (suc v) = spans_of xs v
 
 -- a number at one position, and 0 elsewhere
-abbrev pub at_place : ℕ → ℕ → ℕ → ℕ
-at_place i x p = if p == i then x else 0
+abbrev pub at_position : ℕ → ℕ → ℕ → ℕ
+at_position i x p = if p == i then x else 0
 
 -- what the start of the span of variable v adds to a mark
 abbrev pub opening : ℕ → ℕ
@@ -27,7 +27,7 @@ closing v = 2 * 4 ^ v
 -- what one variable adds to the mark at a position
 abbrev pub part_of : ℕ → Option Span → ℕ → ℕ
 part_of v None p = 0
-part_of v (Some q) p = at_place q.start (opening v) p + at_place q.end (closing v) p
+part_of v (Some q) p = at_position q.start (opening v) p + at_position q.end (closing v) p
 
 -- Mark: the number that the starts and ends at a position make, of the variables below k
 abbrev pub mark : ℕ → Spans → ℕ → ℕ

@@ -2,11 +2,11 @@
 ghost use Rattle.std.specs.Prelude.{ℕ};
 ghost use Rattle.span_types.specs.Fibonacci.{height_limit, IsHeightLimit};
 ghost use Rattle.span_types.specs.Rows.{MarkRows, LimitRows};
-ghost use Rattle.span_types.specs.Laws.{MarksTell, IsOrder, WordsOrder, WritesBack, Pieces, OneList, OnePage, LeafAnswers, OneQueryList, StrictSame};
+ghost use Rattle.span_types.specs.Laws.{MarksDetermine, IsOrder, WordsOrder, WritesBack, Pieces, OneList, OnePage, LeafAnswers, OneQueryList, StrictSame};
 
 /// Marks determine the spans that they come from.
-pub fn marks_tell()
-    ensures { MarksTell }
+pub fn marks_determine()
+    ensures { MarksDetermine }
 {}
 
 /// Mark order is a strict order of all tuples of the same variables.

@@ -61,14 +61,14 @@ abbrev pub OneReading : Type 0
 OneReading = (words : List Text) (workers more states most : ℕ) (demo other : Option ℕ) → Words words workers states demo → Words words more most other → (workers ≡ more) × (states ≡ most) × (demo ≡ other)
 
 -- arguments that clap accepts have a reading
-abbrev pub TakenHaveReading : Type 0
-TakenHaveReading = (words : List Text) → ClapTakes words → (workers : ℕ) × (states : ℕ) × (demo : Option ℕ) × Words words workers states demo
+abbrev pub AcceptedHaveReading : Type 0
+AcceptedHaveReading = (words : List Text) → ClapTakes words → (workers : ℕ) × (states : ℕ) × (demo : Option ℕ) × Words words workers states demo
 
 abbrev pub usage_line : List ℕ
 usage_line = codes "spanbase: Usage" ++ 10 ∷ []
 
 -- the usage text for the arguments: empty if they are accepted, and otherwise a text that begins with its line
-abbrev pub TellsUsage : List Text → List ℕ → Type 0
-TellsUsage words text =
+abbrev pub ReportsUsage : List Text → List ℕ → Type 0
+ReportsUsage words text =
     ((workers : ℕ) × (states : ℕ) × (demo : Option ℕ) × Words words workers states demo × (text ≡ []))
     ⊎ (Refused words × StartsWith text usage_line)

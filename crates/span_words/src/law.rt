@@ -1,6 +1,6 @@
 //! Laws of the definitions.
 ghost use Rattle.std.specs.Prelude.{[]};
-ghost use Rattle.span_words.specs.Words.{OneReading, TakenHaveReading, Words};
+ghost use Rattle.span_words.specs.Words.{OneReading, AcceptedHaveReading, Words};
 
 /// Accepted arguments have one reading.
 pub fn one_reading()
@@ -13,6 +13,6 @@ pub fn no_words()
 {}
 
 /// What `clap` accepts has a reading, so arguments are rejected exactly if `clap` rejects them.
-pub fn taken_have_reading()
-    ensures { TakenHaveReading }
+pub fn accepted_have_reading()
+    ensures { AcceptedHaveReading }
 {}

@@ -38,7 +38,7 @@ fn most_states_are_read(rt: HostRuntime) -> Result<(), Fail> {
 }
 
 #[test]
-fn usage_is_told(rt: HostRuntime) -> Result<(), Fail> {
+fn usage_is_reported(rt: HostRuntime) -> Result<(), Fail> {
     let alloc = rt.alloc();
     let cases = [
         ("--workers=0", "'0' for '--workers"),

@@ -1,7 +1,7 @@
 //! The text for arguments that are rejected.
 ghost use Rattle.std.specs.Prelude.{IfOk, map, string_bytes};
 ghost use Rattle.std.specs.Io.{StartsWith};
-ghost use Rattle.span_words.specs.Words.{usage_line, TellsUsage};
+ghost use Rattle.span_words.specs.Words.{usage_line, ReportsUsage};
 
 use crate::command::matches_of;
 use crate::words::{WordsRefusal, read_words};
@@ -38,7 +38,7 @@ fn below_usage(alloc: Global, below: &[u8]) -> Result<ByteList, NoMemory>
 ///
 /// `NoMemory` if allocation fails.
 pub fn usage_text(alloc: Global, words: &[String]) -> Result<ByteList, NoMemory>
-    ensures { IfOk result (λ text. TellsUsage (map string_bytes words.now) text) }
+    ensures { IfOk result (λ text. ReportsUsage (map string_bytes words.now) text) }
 {
     match read_words(alloc, words) {
         Ok(_) => ByteList::new(alloc, b""),

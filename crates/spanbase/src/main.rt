@@ -17,7 +17,7 @@
 #![tactic(auto)]
 
 ghost use Rattle.std.specs.Prelude.{◌≡◌, ◌<◌, ◌⊎◌, ◌^◌, IfSome, length, map, string_bytes};
-ghost use Rattle.edge_io.specs.Causes.{Rose};
+ghost use Rattle.edge_io.specs.Causes.{HasIncreased};
 ghost use Rattle.span_words.specs.Words.{Refused};
 ghost use Rattle.span_language.specs.Scripts.{AsksForNoDemo};
 ghost use Rattle.span_run.specs.Exit.{exit_of};
@@ -84,8 +84,8 @@ fn run_script<
     requires looks { (blanks.looks.name ≡ L.name) × (blanks.looks.parts ≡ L.parts) × (0 < L.parts) }
     ensures usage { result ≡ Status.Usage → Refused (map string_bytes words.now) }
     ensures refused { Refused (map string_bytes words.now) → (result ≡ Status.Usage) ⊎ (result ≡ Status.NoMemory) }
-    ensures script_fault { result ≡ Status.ScriptFault → AsksForNoDemo (map string_bytes words.now) × Rose (S.faults script.old) (S.faults script.new) }
-    ensures out_fault { result ≡ Status.OutFault → Rose (K.faults out.old) (K.faults out.new) }
+    ensures script_fault { result ≡ Status.ScriptFault → AsksForNoDemo (map string_bytes words.now) × HasIncreased (S.faults script.old) (S.faults script.new) }
+    ensures out_fault { result ≡ Status.OutFault → HasIncreased (K.faults out.old) (K.faults out.new) }
     ensures too_long { result ≡ Status.ScriptTooLong → AsksForNoDemo (map string_bytes words.now) × IfSome (S.left script.old) (λ bytes. 2 ^ 24 < length bytes) }
     ensures nothing { (result ≡ Status.Usage) ⊎ (result ≡ Status.ScriptFault) ⊎ (result ≡ Status.ScriptTooLong) ⊎ Refused (map string_bytes words.now) → K.written out.new ≡ K.written out.old }
 {
@@ -113,7 +113,7 @@ fn run_script<
 }
 
 /// Writes the name of a status to standard error, if the run was stopped.
-fn tell_word(rt: &HostRuntime, status: Status) {
+fn report_status(rt: &HostRuntime, status: Status) {
     let (word, number) = name_of(status);
     if number >= 2 {
         let _ = eprintln!(rt; "spanbase: {word}");
@@ -121,14 +121,14 @@ fn tell_word(rt: &HostRuntime, status: Status) {
 }
 
 /// Writes to standard error how a run ended. For rejected arguments it also writes why they are rejected.
-fn tell(rt: &HostRuntime, status: Status, words: &[String]) {
+fn report(rt: &HostRuntime, status: Status, words: &[String]) {
     if status == Status::Usage {
         if let Ok(text) = usage_text(rt.alloc(), words) {
             let _ = rt.stderr().write_all(text.bytes());
             return;
         }
     }
-    tell_word(rt, status);
+    report_status(rt, status);
 }
 
 /// Runs a script over the files of the current folder, with replies to standard output. The lines of a reply are
@@ -170,11 +170,11 @@ fn main(rt: HostRuntime) -> io::Result<ExitCode> {
         Ok(words) => {
             let mut script = StdSource::new(rt.reader());
             let status = run_over(&rt, &words, &mut script);
-            tell(&rt, status, &words);
+            report(&rt, status, &words);
             status
         }
         Err(status) => {
-            tell_word(&rt, status);
+            report_status(&rt, status);
             status
         }
     };

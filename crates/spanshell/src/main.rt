@@ -17,7 +17,7 @@
 #![tactic(auto)]
 
 ghost use Rattle.std.specs.Prelude.{◌≡◌, ◌≤◌, ◌<◌, IfErr, IfOk, map, string_bytes};
-ghost use Rattle.edge_io.specs.Causes.{Rose};
+ghost use Rattle.edge_io.specs.Causes.{HasIncreased};
 ghost use Rattle.span_words.specs.Words.{Refused, Words};
 ghost use Rattle.span_run.specs.Exit.{exit_of};
 
@@ -100,8 +100,8 @@ fn talk_with<
     requires pairs { (blanks.pairs.name ≡ P.name) × (blanks.pairs.parts ≡ P.parts) × (0 < P.parts) }
     requires places { (blanks.places.name ≡ T.name) × (blanks.places.parts ≡ T.parts) × (0 < T.parts) }
     requires looks { (blanks.looks.name ≡ L.name) × (blanks.looks.parts ≡ L.parts) × (0 < L.parts) }
-    ensures script_fault { result ≡ Status.ScriptFault → Rose (C.faults client.old) (C.faults client.new) }
-    ensures out_fault { result ≡ Status.OutFault → Rose (K.faults out.old) (K.faults out.new) }
+    ensures script_fault { result ≡ Status.ScriptFault → HasIncreased (C.faults client.old) (C.faults client.new) }
+    ensures out_fault { result ≡ Status.OutFault → HasIncreased (K.faults out.old) (K.faults out.new) }
 {
     let Blanks {
         pairs,
@@ -160,7 +160,7 @@ fn prompts_of(rt: &HostRuntime) -> Option<Stderr> {
 }
 
 /// Writes the name of a status to standard error, if the conversation was stopped.
-fn tell_word(rt: &HostRuntime, status: Status) {
+fn report_status(rt: &HostRuntime, status: Status) {
     let (word, number) = name_of(status);
     if number >= 2 {
         let _ = eprintln!(rt; "spanbase: {word}");
@@ -168,14 +168,14 @@ fn tell_word(rt: &HostRuntime, status: Status) {
 }
 
 /// Writes to standard error how a conversation ended. For rejected arguments it also writes why they are rejected.
-fn tell(rt: &HostRuntime, status: Status, words: &[String]) {
+fn report(rt: &HostRuntime, status: Status, words: &[String]) {
     if status == Status::Usage {
         if let Ok(text) = usage_text(rt.alloc(), words) {
             let _ = rt.stderr().write_all(text.bytes());
             return;
         }
     }
-    tell_word(rt, status);
+    report_status(rt, status);
 }
 
 fn main(rt: HostRuntime) -> io::Result<ExitCode> {
@@ -191,11 +191,11 @@ fn main(rt: HostRuntime) -> io::Result<ExitCode> {
                 },
                 Err(status) => status,
             };
-            tell(&rt, status, &words);
+            report(&rt, status, &words);
             status
         }
         Err(status) => {
-            tell_word(&rt, status);
+            report_status(&rt, status);
             status
         }
     };

@@ -6,7 +6,7 @@ use Rattle.marker_dfa.specs.Deterministic.{DeterministicAutomaton, IsDeterminist
 use Rattle.state_tables.specs.StateSet.{member, number_of_words, word_count}
 use Rattle.state_tables.specs.Table.{IsTableOf, Row, byte_row, byte_table, compose_of, compose_row, no_row, row_at, unmarked_of}
 use Rattle.state_tables.specs.Coded.{RowList, code_of, row_of, step_of, table_of}
-use Rattle.state_tables.specs.Classed.{ArePlaced, AreWithin, IsClassed}
+use Rattle.state_tables.specs.Classed.{AreRowsAt, AreWithin, IsClassed}
 use Rattle.state_tables.specs.RowSet.{IsRowAt, TakesRow}
 use Rattle.state_tables.proofs.Members.{marks-reached, not-both}
 use Rattle.state_tables.proofs.StateSets.{member-zero}
@@ -63,8 +63,8 @@ width-taken old new row (inl e) = ap (λ l. l.width) e
 width-taken old new row (inr e) = ap (λ l. l.width) e
 
 -- one more row
-pub placed-more : (f : ℕ → Row) (n states : ℕ) (places : List ℕ) (old new : RowList) (row : Row) (k : ℕ) → ArePlaced f n states places old → TakesRow old new row → IsRowAt new row k
-    → row ≡ f n → IsWithin states row → ArePlaced f (n + 1) states (places ++ k ∷ []) new
+pub placed-more : (f : ℕ → Row) (n states : ℕ) (places : List ℕ) (old new : RowList) (row : Row) (k : ℕ) → AreRowsAt f n states places old → TakesRow old new row → IsRowAt new row k
+    → row ≡ f n → IsWithin states row → AreRowsAt f (n + 1) states (places ++ k ∷ []) new
 placed-more f n states places old new row k are takes at same is = record {
   long = omega (arith, length_push places k, are.long);
   few = omega (arith, longer old new row takes, are.few);
@@ -78,7 +78,7 @@ placed-more f n states places old new row k are takes at same is = record {
   rows_within = within-taken states old new row takes are.rows_within is;
 }
 
-pub placed-none : (f : ℕ → Row) (states width : ℕ) → ArePlaced f 0 states [] (record { width = width; rows = [] })
+pub placed-none : (f : ℕ → Row) (states width : ℕ) → AreRowsAt f 0 states [] (record { width = width; rows = [] })
 placed-none f states width = record {
   long = refl;
   few = omega arith;
@@ -94,14 +94,14 @@ composed-is-within n t row is = record {
 }
 
 -- the rows of the states, where those of the classes are placed
-pub composed-table : (t : List Row) (left : List Row) (n states : ℕ) (places cs : List ℕ) (list : RowList) → ArePlaced (λ k. compose_row t (row_at left k)) n states places list
+pub composed-table : (t : List Row) (left : List Row) (n states : ℕ) (places cs : List ℕ) (list : RowList) → AreRowsAt (λ k. compose_row t (row_at left k)) n states places list
     → ((p : ℕ) → p < length cs → get_or cs p 0 < n) → table_of (map (λ c. get_or places c 0) cs) list.rows ≡ compose_of (table_of cs left) t
 composed-table t left n states places [] list are within = refl
 composed-table t left n states places (k ∷ cs) list are within =
     ap (λ r. r ∷ table_of (map (λ c. get_or places c 0) cs) list.rows) (are.placed k (within 0 (omega arith))).1
     ∙ ap (λ rs. compose_row t (row_at left k) ∷ rs) (composed-table t left n states places cs list are (λ p lt. within (suc p) (omega (arith, lt))))
 
-pub composed-classed : (f : ℕ → Row) (n : ℕ) (places cs : List ℕ) (list right : RowList) (rs : List ℕ) → ArePlaced f n (length rs) places list → IsClassed rs right → list.width ≡ right.width
+pub composed-classed : (f : ℕ → Row) (n : ℕ) (places cs : List ℕ) (list right : RowList) (rs : List ℕ) → AreRowsAt f n (length rs) places list → IsClassed rs right → list.width ≡ right.width
     → length cs ≡ length rs → n ≤ length cs → ((p : ℕ) → p < length cs → get_or cs p 0 < n) → IsClassed (map (λ c. get_or places c 0) cs) list
 composed-classed f n places cs list right rs are is wide long most within =
     let same : length (map (λ c. get_or places c 0) cs) ≡ length rs = length-map cs (λ c. get_or places c 0) ∙ long in
@@ -123,7 +123,7 @@ byte-is-within a b p auto = record {
 }
 
 -- the row of each state is placed
-pub byte-classed : (a : DeterministicAutomaton) (b : ℕ) (places : List ℕ) (list : RowList) → IsDeterministic a → ArePlaced (byte_row a b) (states_of a) (states_of a) places list
+pub byte-classed : (a : DeterministicAutomaton) (b : ℕ) (places : List ℕ) (list : RowList) → IsDeterministic a → AreRowsAt (byte_row a b) (states_of a) (states_of a) places list
     → list.width ≡ word_count (states_of a) → IsClassed places list
 byte-classed a b places list auto are wide = record {
   few = omega (arith, are.long, auto.few_states);
@@ -133,7 +133,7 @@ byte-classed a b places list auto are wide = record {
   rows_within = subst (λ m. AreWithin m list.rows) (sym are.long) are.rows_within;
 }
 
-pub placed-byte_table : (a : DeterministicAutomaton) (b : ℕ) (places : List ℕ) (list : RowList) → ArePlaced (byte_row a b) (states_of a) (states_of a) places list
+pub placed-byte_table : (a : DeterministicAutomaton) (b : ℕ) (places : List ℕ) (list : RowList) → AreRowsAt (byte_row a b) (states_of a) (states_of a) places list
     → table_of places list.rows ≡ byte_table a b
 placed-byte_table a b places list are =
     let left : length (table_of places list.rows) ≡ length places = length-table places list.rows in

@@ -25,7 +25,7 @@ pub record IsInClasses (classes : List ℕ) (list : RowList) (digest : ℕ) : Ty
   pub digest_is : digest ≡ digest_of (table_of classes list.rows)
 
 -- the first n rows have these indices in a list
-pub record ArePlaced (row : ℕ → Row) (n states : ℕ) (places : List ℕ) (list : RowList) : Type 0 where
+pub record AreRowsAt (row : ℕ → Row) (n states : ℕ) (places : List ℕ) (list : RowList) : Type 0 where
   pub long : length places ≡ n
   pub few : length list.rows ≤ n
   pub placed : (k : ℕ) → k < n → IsRowAt list (row k) (slice_index_or places k 0)

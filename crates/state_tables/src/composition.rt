@@ -4,7 +4,7 @@ ghost use Rattle.std.specs.Prelude.{◌≡◌, ℕ, ◌<◌, ◌≤◌, ◌++◌
 ghost use Rattle.marker_dfa.specs.Deterministic.{DeterministicAutomaton, IsDeterministic};
 ghost use Rattle.state_tables.specs.Table.{compose_of, compose_row, row_at};
 ghost use Rattle.state_tables.specs.Coded.{table_of};
-ghost use Rattle.state_tables.specs.Classed.{ArePlaced, AreWithin, IsClassed};
+ghost use Rattle.state_tables.specs.Classed.{AreRowsAt, AreWithin, IsClassed};
 ghost use Rattle.state_tables.specs.Meaning.{IsTable};
 ghost use Rattle.state_tables.specs.TableRows.{list_of};
 
@@ -53,7 +53,7 @@ fn compose_rows(
     requires width { (list_of left.now).width ≡ (list_of rows.now).width }
     requires empty { set.old ≡ record { width = (list_of rows.now).width; rows = [] } }
     ensures width { OnOk result (set.new.width ≡ (list_of rows.now).width) }
-    ensures placed { IfOk result (λ places. ArePlaced (λ k. compose_row (table_of classes.now (list_of rows.now).rows) (row_at (list_of left.now).rows k))
+    ensures placed { IfOk result (λ places. AreRowsAt (λ k. compose_row (table_of classes.now (list_of rows.now).rows) (row_at (list_of left.now).rows k))
         (length (list_of left.now).rows) (length classes.now) places.items set.new) }
 {
     let mut words = vec![in alloc; 0; rows.width()]?;
@@ -63,7 +63,7 @@ fn compose_rows(
     for row in 0..left.len() {
         reach_set(&mut reached, &mut taken, left, row, classes, rows);
         let code = compose_row(&mut words, &reached, classes, rows, left.code(row));
-        places.push(set.place_of(code, &words)?)?;
+        places.push(set.index_of(code, &words)?)?;
     }
     Ok(places)
 }

@@ -60,7 +60,7 @@ impl RowSet {
     /// # Errors
     ///
     /// `NoMemory` if allocation fails; the rows are then unchanged.
-    pub(crate) fn place_of(&mut self, code: u16, words: &[u64]) -> Result<u16, NoMemory>
+    pub(crate) fn index_of(&mut self, code: u16, words: &[u64]) -> Result<u16, NoMemory>
         requires width { length words.now ≡ self.old.width }
         requires few { length self.old.rows < 2 ^ 16 - 1 }
         ensures place { IfOk result (IsRowAt self.new (row_of code words.now)) }

@@ -3,7 +3,7 @@
 ghost use Rattle.std.specs.Prelude.{◌≡◌, ℕ, ◌+◌, ◌<◌, ◌≤◌, ◌-◌, ◌++◌, List, [], ◌∷◌, length, map, IfOk, OnOk, OnErr};
 ghost use Rattle.slp_model.specs.declared.Node.{Node};
 ghost use Rattle.slp_model.specs.Kept.{Keeps};
-ghost use Rattle.slp_model.specs.Thin.{IsThinOf, rank};
+ghost use Rattle.slp_model.specs.Thin.{IsCompactionOf, rank};
 ghost use Rattle.marker_dfa.specs.Deterministic.{DeterministicAutomaton, states_of};
 ghost use Rattle.state_tables.specs.Dictionary.{AreTables, GainsTable, IsDictionary, count_of, distinct_of, kept_of, number_of, table_of};
 ghost use Rattle.distinct_items.specs.Renumbering.{kept_items};
@@ -163,7 +163,7 @@ impl Tables {
         ensures each { (i : ℕ) → i < count_of self.old → Keeps moves.now i → table_of self.new (rank moves.now i) ≡ table_of self.old i }
         ensures room { self.new.room + count_of self.new ≡ self.old.room + count_of self.old }
         ensures same { self.new ≡ record self.old { kept = self.new.kept; numbers = self.new.numbers; room = self.new.room } }
-        ensures tables { (a : DeterministicAutomaton) (ns ms : List Node) → IsThinOf ns moves.now ms → AreTables a ns self.old → AreTables a ms self.new }
+        ensures tables { (a : DeterministicAutomaton) (ns ms : List Node) → IsCompactionOf ns moves.now ms → AreTables a ns self.old → AreTables a ms self.new }
     {
         renumber(&mut self.numbers, moves);
         let before = self.kept.len();

@@ -21,7 +21,7 @@ ghost use Rattle.std.specs.Prelude.{◌≡◌, ◌<◌, false, length, replicate
 ghost use Rattle.slp_model.specs.Nodes.{IsLive};
 ghost use Rattle.slp_model.specs.Kept.{AddsExactly, IsPlanOf, Reaches, RootReaches};
 ghost use Rattle.slp_model.specs.Thin as thinning;
-ghost use Rattle.slp_model.specs.Thin.{IsThinOf};
+ghost use Rattle.slp_model.specs.Thin.{IsCompactionOf};
 
 use node_store::{Moves, Node, NodeId, Store};
 use span_types::NoMemory;
@@ -99,7 +99,7 @@ impl Plan {
         requires plan { IsPlanOf store.now self.now }
         ensures store { IfOk result (λ made. made.0 ≡ thinning.thin store.now self.now) }
         ensures moves { IfOk result (λ made. made.1 ≡ self.now) }
-        ensures thin { IfOk result (λ made. IsThinOf store.now self.now made.0) }
+        ensures thin { IfOk result (λ made. IsCompactionOf store.now self.now made.0) }
     {
         store.thin(alloc, &self.keep)
     }

@@ -29,7 +29,7 @@ fn root_of(docs: &Docs, name: &[u8]) -> Option<Option<usize>> {
     }
 }
 
-fn stands_at(docs: &Docs, place: usize, name: &[u8]) -> bool {
+fn is_at(docs: &Docs, place: usize, name: &[u8]) -> bool {
     place < docs.count() && docs.at(place).0.bytes() == name
 }
 
@@ -43,7 +43,7 @@ fn empty_first(docs: &mut Docs) {
 fn documents_by_name(rt: HostRuntime) -> Result<(), Fail> {
     let docs = docs_of(rt.alloc(), &[(b"a", 0), (b"b", 1), (b"a", 2)])?;
     assert!(rt; docs.count() == 2);
-    assert!(rt; stands_at(&docs, 0, b"a") && stands_at(&docs, 1, b"b"));
+    assert!(rt; is_at(&docs, 0, b"a") && is_at(&docs, 1, b"b"));
     let mut rest = docs.copy(rt.alloc())?;
     assert!(rt; rest.take_out(b"a") == Ok(()));
     assert!(rt; rest.take_out(b"a") == Err(Missing::NoSuchDocument));

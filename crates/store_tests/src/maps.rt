@@ -20,7 +20,7 @@ fn sizes_of(alloc: Global, rows: &[(&[u8], u8)]) -> Result<NameMap<u8>, NoMemory
 }
 
 /// Whether the map has the name and the size at index `place`.
-fn stands_at(sizes: &NameMap<u8>, place: usize, name: &[u8], size: u8) -> bool {
+fn is_at(sizes: &NameMap<u8>, place: usize, name: &[u8], size: u8) -> bool {
     if place >= sizes.count() {
         return false;
     }
@@ -50,7 +50,7 @@ fn count(sizes: &NameMap<u8>) -> usize {
 fn sizes_by_name(rt: HostRuntime) -> Result<(), Fail> {
     let mut sizes = sizes_of(rt.alloc(), &[(b"a", 1), (b"b", 2), (b"a", 3)])?;
     assert!(rt; count(&sizes) == 2);
-    assert!(rt; stands_at(&sizes, 0, b"a", 3));
+    assert!(rt; is_at(&sizes, 0, b"a", 3));
     put_at(&mut sizes, 1, 4);
     assert!(rt; size_of(&sizes, b"b") == Some(4));
     assert!(rt; size_of(&sizes, b"c") == None);
@@ -72,8 +72,8 @@ fn b_and_a(rt: &impl Abort, alloc: Global) -> Result<NameMap<u8>, NoMemory> {
 fn first_name_goes_last(rt: HostRuntime) -> Result<(), Fail> {
     let mut sizes = b_and_a(&rt, rt.alloc())?;
     assert!(rt; count(&sizes) == 2);
-    assert!(rt; stands_at(&sizes, 0, b"b", 2));
-    assert!(rt; stands_at(&sizes, 1, b"a", 5));
+    assert!(rt; is_at(&sizes, 0, b"b", 2));
+    assert!(rt; is_at(&sizes, 1, b"a", 5));
     assert!(rt; taken(&mut sizes, b"a") == Some(5));
     assert!(rt; taken(&mut sizes, b"b") == Some(2));
     assert!(rt; count(&sizes) == 0);

@@ -13,7 +13,7 @@ use Rattle.slp_model.proofs.NodesLemmas.{node-at}
 use Rattle.state_tables.specs.Dictionary.{Dictionary, IsDictionary, kept_of, distinct_of, count_of, number_of}
 use Rattle.pair_memo.specs.Entries.{Entry}
 use Rattle.table_grow.specs.Remembering.{AreTrueEntries}
-use Rattle.table_grow.specs.Assignment.{Assignment, number_in, with_place, Fits, AreKept}
+use Rattle.table_grow.specs.Assignment.{Assignment, number_in, with_number, Fits, AreKept}
 use Rattle.table_grow.specs.Filling.{Assigns, AssignsOne, Continues, Filling, IsDue, IsFilledTo, IsNumberOf, IsReady, IsTableOfNode, assigned, filling_of}
 
 -- ---- more tables are kept
@@ -77,7 +77,7 @@ ready-kept s e es dict k entries r = record {
 
 -- ---- one more node is assigned
 in-set : (d : Dictionary) (f : Assignment) (id n j : ℕ) → f.known ≤ id → id < f.known + length f.places
-    → ((j ≡ id) × (number_in d (with_place f id n) j ≡ Some n)) ⊎ (number_in d (with_place f id n) j ≡ number_in d f j)
+    → ((j ≡ id) × (number_in d (with_number f id n) j ≡ Some n)) ⊎ (number_in d (with_number f id n) j ≡ number_in d f j)
 in-set d f id n j new live = elim (cases_eq j id) [
   | inl same ↦ inl (same, rw (same, le-ltb id f.known new) (get_or-set_same f.places (id - f.known) (Some n) None (omega (arith, new, live))))
   | inr other ↦ inr (elim (cases_lt j f.known) [
@@ -101,7 +101,7 @@ module _ (s : Filling) (id : NodeId) (n : ℕ) (r : IsReady s) (due : IsDue s id
   inside : id.index < s.filler.known + length s.filler.places
   inside = let fit = r.fits.nodes_fit in let live = due.live in omega (arith, fit, live)
 
-  pub ready-assigned : IsNumberOf s id.index n → IsReady (record s { filler = with_place s.filler id.index n })
+  pub ready-assigned : IsNumberOf s id.index n → IsReady (record s { filler = with_number s.filler id.index n })
   ready-assigned is =
       let fit = r.fits.nodes_fit in
       let new = due.new in
@@ -128,9 +128,9 @@ module _ (s : Filling) (id : NodeId) (n : ℕ) (r : IsReady s) (due : IsDue s id
         entries = r.entries;
       }
 
-  pub assigns-one : AssignsOne s (record s { filler = with_place s.filler id.index n }) id
+  pub assigns-one : AssignsOne s (record s { filler = with_number s.filler id.index n }) id
   assigns-one =
-      let now : Filling = record s { filler = with_place s.filler id.index n } in
+      let now : Filling = record s { filler = with_number s.filler id.index n } in
       let placed : IsSome (assigned now id.index) =
       rw (le-ltb id.index s.filler.known due.new, get_or-set_same s.filler.places (id.index - s.filler.known) (Some n) None (let new = due.new in let h = inside in omega (arith, new, h))) refl in
       let others : (j : ℕ) → id.index ≢ j → assigned now j ≡ assigned s j = λ j apart. elim (in-set s.tables s.filler id.index n j due.new inside) [

@@ -18,7 +18,7 @@ use Rattle.state_tables.specs.Dictionary.{AreTables, Dictionary, IsDictionary, c
 use Rattle.state_tables.proofs.Meanings.{IsTable-compose}
 use Rattle.pair_memo.specs.Entries.{Entry}
 use Rattle.table_grow.specs.Remembering.{AreTrueEntries, IsTrueEntry}
-use Rattle.table_grow.specs.Assignment.{AllPlaced, Assignment, Fits, IsComposed, finished, number_in, number_of_place}
+use Rattle.table_grow.specs.Assignment.{AllAssigned, Assignment, Fits, IsComposed, finished, number_in, number_of_entry}
 use Rattle.table_grow.specs.Filling.{AreParts, Continues, Filling, IsNumberOf, IsReady, IsTableOfNode, Starts, filling_of}
 use Rattle.table_grow.specs.Pieces.{IsComposition}
 use Rattle.table_grow.proofs.Growing.{entries-same}
@@ -114,14 +114,14 @@ since-start a nodes d es s t is start k =
           ∙ ap (λ ks. slice_index_or ks (number_of d id) []) kept;
     }
 
-pub all-placed : (nodes : List Node) (d : Dictionary) (f : Assignment) → Fits nodes d f → ((id : ℕ) → id < length nodes → IsSome (number_in d f id)) → AllPlaced f
+pub all-placed : (nodes : List Node) (d : Dictionary) (f : Assignment) → Fits nodes d f → ((id : ℕ) → id < length nodes → IsSome (number_in d f id)) → AllAssigned f
 all-placed nodes d f fit placed = λ i h.
     let len = fit.nodes_fit in
     let some = placed (f.known + i) (omega (arith, len, h)) in
     let at : f.known + i - f.known ≡ i = omega arith in
     rw (le-ltb (f.known + i) f.known (omega arith), at) at some
 
-number-place : (o : Option ℕ) → IsSome o → o ≡ Some (number_of_place o)
+number-place : (o : Option ℕ) → IsSome o → o ≡ Some (number_of_entry o)
 number-place None h = cc
 number-place (Some n) h = refl
 
@@ -131,12 +131,12 @@ unfinished-true s r = λ id h.
     let count = r.fits.tables_fit in
     r.all id (number_of s.tables id) (rw (lt-ltb id s.filler.known (omega (arith, h, count))) refl)
 
-pub finished-true : (s : Filling) → IsReady s → AllPlaced s.filler → AreTables s.automaton s.nodes (finished s.tables s.filler)
+pub finished-true : (s : Filling) → IsReady s → AllAssigned s.filler → AreTables s.automaton s.nodes (finished s.tables s.filler)
 finished-true s r placed = λ id h.
     let d = s.tables in
     let f = s.filler in
     let count = r.fits.tables_fit in
-    let more = map number_of_place f.places in
+    let more = map number_of_entry f.places in
     elim (cases_lt id f.known) [
       | inl lt ↦
           let number : slice_index (d.numbers ++ more) id ≡ number_of d id = get_or-append d.numbers more 0 id (omega (arith, count, lt)) in
@@ -145,12 +145,12 @@ finished-true s r placed = λ id h.
       | inr ge ↦
           let i = id - f.known in
           let total : length (d.numbers ++ more) ≡ length d.numbers + length more = length-append d.numbers more in
-          let len : length more ≡ length f.places = length-map f.places number_of_place in
+          let len : length more ≡ length f.places = length-map f.places number_of_entry in
           let bound : i < length f.places = omega (arith, h, total, len, count, ge) in
           let place = slice_index_or f.places i None in
           let where_ : id ≡ length d.numbers + i = omega (arith, count, ge) in
-          let number : slice_index (d.numbers ++ more) id ≡ number_of_place place =
-          ap (λ k. get_or (d.numbers ++ more) k 0) where_ ∙ get_or-append-add d.numbers more i 0 ∙ get_or-map {X = Option ℕ} {Y = ℕ} number_of_place f.places i None 0 bound in
-          let is : number_in d f id ≡ Some (number_of_place place) = rw (le-ltb id f.known ge) (number-place place (placed i bound)) in
-          subst (λ x. IsTableOfNode s id (kept_of d x)) (sym number) (r.all id (number_of_place place) is)
+          let number : slice_index (d.numbers ++ more) id ≡ number_of_entry place =
+          ap (λ k. get_or (d.numbers ++ more) k 0) where_ ∙ get_or-append-add d.numbers more i 0 ∙ get_or-map {X = Option ℕ} {Y = ℕ} number_of_entry f.places i None 0 bound in
+          let is : number_in d f id ≡ Some (number_of_entry place) = rw (le-ltb id f.known ge) (number-place place (placed i bound)) in
+          subst (λ x. IsTableOfNode s id (kept_of d x)) (sym number) (r.all id (number_of_entry place) is)
     ]

@@ -9,7 +9,7 @@ use Rattle.state_tables.specs.Dictionary.{Dictionary, distinct_of, kept_of}
 use Rattle.table_grow.specs.Assignment.{AreKept}
 use Rattle.pair_memo.specs.Cache.{AreAmong}
 use Rattle.table_grow.specs.Filling.{AreDue, AreParts, Assigns, Filling, IsDue, IsNumberOf, IsReady, IsTableOfNode}
-use Rattle.table_grow.specs.Pieces.{AreMade, AreNumbers, AreOwn, AreSpots, Extends, HasNumber, IsAdded, IsComposition, IsMade, IsPiece, IsSpot, IsWithin, StandAmong, number_at, shifted}
+use Rattle.table_grow.specs.Pieces.{AreMade, AreNumbers, AreOwn, AreSpots, Extends, HasNumber, IsAdded, IsComposition, IsMade, IsPiece, IsSpot, IsWithin, AreComputed, number_at, shifted}
 use Rattle.pair_memo.specs.Entries.{Entry}
 use Rattle.table_grow.proofs.Growing.{continues-kept, number-kept-in, same-nodes}
 use Rattle.table_grow.proofs.Placed.{parts-table}
@@ -51,13 +51,13 @@ one-alone P y p (suc k) x h = let bad : ⊥ = cc h in absurd bad
 pub made-both : (d : Dictionary) (made more : List Made) → AreMade d made → AreMade d more → AreMade d (made ++ more)
 made-both d made more all others = either-part (IsMade d) made more all others
 
-stand-kept : (es : List Entry) (made more : List Made) → Extends made more → StandAmong es made → StandAmong es more
+stand-kept : (es : List Entry) (made more : List Made) → Extends made more → AreComputed es made → AreComputed es more
 stand-kept es made more kept stand = λ e c. let at = stand e c in (at.0, kept e.1 at.0 at.1, at.2)
 
 pub own-kept : (cache : List (Option Entry)) (made more : List Made) → Extends made more → AreOwn cache made → AreOwn cache more
 own-kept cache made more kept own = (own.0, own.1, stand-kept own.0 made more kept own.2)
 
-stand-more : (es : List Entry) (made : List Made) (x : Made) (k : ℕ × ℕ) → x.parts ≡ Some k → StandAmong es made → StandAmong (es ++ (k, length made) ∷ []) (made ++ x ∷ [])
+stand-more : (es : List Entry) (made : List Made) (x : Made) (k : ℕ × ℕ) → x.parts ≡ Some k → AreComputed es made → AreComputed (es ++ (k, length made) ∷ []) (made ++ x ∷ [])
 stand-more es made x k parts stand = λ e c. elim (Contains-push_cases es (k, length made) e c) [
   | inl old ↦ stand-kept es made (made ++ x ∷ []) (λ i y h. in-first made (x ∷ []) i y h) stand e old
   | inr new ↦ subst (λ (f : Entry). (y : Made) × (slice_get (made ++ x ∷ []) f.1 ≡ Some y) × (y.parts ≡ Some f.0)) new (x, at-end made x, parts)
@@ -72,7 +72,7 @@ own-more cache noted made x k parts own note =
     (all, note all (Contains-push own.0 new) among, stand-more own.0 made x k parts own.2)
 
 -- a composition that the piece has computed is the node's table
-pub own-spot : (s : Filling) (made : List Made) (es : List Entry) (id : NodeId) (p : ℕ × ℕ) (k : ℕ) → IsReady s → AreParts s id.index p → AreMade s.tables made → StandAmong es made → Contains es (p, k)
+pub own-spot : (s : Filling) (made : List Made) (es : List Entry) (id : NodeId) (p : ℕ × ℕ) (k : ℕ) → IsReady s → AreParts s id.index p → AreMade s.tables made → AreComputed es made → Contains es (p, k)
     → IsSpot s made id (spot.Made k)
 own-spot s made es id p k r parts are own c =
     let at = own (p, k) c in

@@ -20,8 +20,8 @@ abbrev pub number_in : Dictionary → Assignment → ℕ → Option ℕ
 number_in d f id = if nat_lt id f.known then Some (number_of d id) else slice_index_or f.places (id - f.known) None
 
 -- the node's entry has this number
-abbrev pub with_place : Assignment → ℕ → ℕ → Assignment
-with_place f id n = record f { places = slice_set f.places (id - f.known) (Some n) }
+abbrev pub with_number : Assignment → ℕ → ℕ → Assignment
+with_number f id n = record f { places = slice_set f.places (id - f.known) (Some n) }
 
 -- the conditions of every call: the store, the tables, the room and the numbers fit the filler
 pub record Fits (nodes : List Node) (d : Dictionary) (f : Assignment) : Type 0 where
@@ -31,8 +31,8 @@ pub record Fits (nodes : List Node) (d : Dictionary) (f : Assignment) : Type 0 w
   pub kept_fit : (i n : ℕ) → slice_index_or f.places i None ≡ Some n → n < distinct_of d
 
 -- the children of a node are old or assigned
-abbrev pub ChildrenPlaced : List Node → Dictionary → Assignment → ℕ → Type 0
-ChildrenPlaced nodes d f id = (l r : NodeId) → slice_get nodes id ≡ Some (Pair l r) → IsSome (number_in d f l.index) × IsSome (number_in d f r.index)
+abbrev pub ChildrenAssigned : List Node → Dictionary → Assignment → ℕ → Type 0
+ChildrenAssigned nodes d f id = (l r : NodeId) → slice_get nodes id ≡ Some (Pair l r) → IsSome (number_in d f l.index) × IsSome (number_in d f r.index)
 
 -- an old or assigned node has the table of its text
 abbrev pub HasTrueTable : DeterministicAutomaton → List Node → Dictionary → Assignment → ℕ → Type 0
@@ -48,24 +48,24 @@ IsComposed nodes d f id t = (l r : NodeId) (m n : ℕ) → slice_get nodes id �
     → number_in d f l.index ≡ Some m → number_in d f r.index ≡ Some n → t ≡ compose_of (kept_of d m) (kept_of d n)
 
 -- the table is kept under a number, which the node's entry has
-pub record PlacesTable (d : Dictionary) (f g : Assignment) (id : ℕ) (t : List Row) : Type 0 where
+pub record AssignsTable (d : Dictionary) (f g : Assignment) (id : ℕ) (t : List Row) : Type 0 where
   pub number : ℕ
   pub within : number < distinct_of d
   pub table : kept_of d number ≡ t
-  pub place : g ≡ with_place f id number
+  pub place : g ≡ with_number f id number
 
 -- the number in an entry
-abbrev pub number_of_place : Option ℕ → ℕ
-number_of_place None = 0
-number_of_place (Some n) = n
+abbrev pub number_of_entry : Option ℕ → ℕ
+number_of_entry None = 0
+number_of_entry (Some n) = n
 
 -- every new node is assigned
-abbrev pub AllPlaced : Assignment → Type 0
-AllPlaced f = (i : ℕ) → i < length f.places → IsSome (slice_index_or f.places i None)
+abbrev pub AllAssigned : Assignment → Type 0
+AllAssigned f = (i : ℕ) → i < length f.places → IsSome (slice_index_or f.places i None)
 
 -- the tables after the assigned numbers are pushed in order
 abbrev pub finished : Dictionary → Assignment → Dictionary
-finished d f = record d { numbers = d.numbers ++ map number_of_place f.places; room = d.room - length f.places }
+finished d f = record d { numbers = d.numbers ++ map number_of_entry f.places; room = d.room - length f.places }
 
 -- the kept tables keep their numbers, and nothing else changes
 pub record AreKept (d e : Dictionary) : Type 0 where

@@ -9,7 +9,7 @@ use Rattle.marker_dfa.specs.Deterministic.{DeterministicAutomaton, IsDeterminist
 use Rattle.state_tables.specs.Table.{Row}
 use Rattle.state_tables.specs.Meaning.{IsTable}
 use Rattle.state_tables.specs.Dictionary.{Dictionary, count_of, distinct_of, kept_of}
-use Rattle.table_grow.specs.Assignment.{AreKept, Assignment, ChildrenPlaced, Fits, HasTrueTable, number_in}
+use Rattle.table_grow.specs.Assignment.{AreKept, Assignment, ChildrenAssigned, Fits, HasTrueTable, number_in}
 use Rattle.pair_memo.specs.Entries.{Entry}
 use Rattle.table_grow.specs.Remembering.{AreTrueEntries}
 
@@ -52,7 +52,7 @@ pub record IsDue (s : Filling) (id : NodeId) : Type 0 where
   pub new : s.filler.known ≤ id.index
   pub live : id.index < length s.nodes
   pub free : assigned s id.index ≡ None
-  pub children : ChildrenPlaced s.nodes s.tables s.filler id.index
+  pub children : ChildrenAssigned s.nodes s.tables s.filler id.index
 
 -- so is each of these nodes, and no two are one
 pub record AreDue (s : Filling) (ids : List NodeId) : Type 0 where

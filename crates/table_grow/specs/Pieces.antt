@@ -45,12 +45,12 @@ pub record IsAdded (s : Filling) (old new : List Made) (id : NodeId) (parts : Op
   pub found : IsFound s id.index (found.New one)
 
 -- each of these compositions is among the computed tables, at its index
-abbrev pub StandAmong : List Entry → List Made → Type 0
-StandAmong es made = (e : Entry) → Contains es e → (x : Made) × (slice_get made e.1 ≡ Some x) × (x.parts ≡ Some e.0)
+abbrev pub AreComputed : List Entry → List Made → Type 0
+AreComputed es made = (e : Entry) → Contains es e → (x : Made) × (slice_get made e.1 ≡ Some x) × (x.parts ≡ Some e.0)
 
 -- the same for the compositions in a piece's own cache
 abbrev pub AreOwn : List (Option Entry) → List Made → Type 0
-AreOwn cache made = (es : List Entry) × AreAmong cache es × StandAmong es made
+AreOwn cache made = (es : List Entry) × AreAmong cache es × AreComputed es made
 
 -- the spot has the table of the node
 abbrev pub IsSpot : Filling → List Made → NodeId → Spot → Type 0

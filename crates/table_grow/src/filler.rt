@@ -5,7 +5,7 @@ ghost use Rattle.slp_model.specs.Tree.{text};
 ghost use Rattle.slp_model.specs.Nodes.{tree};
 ghost use Rattle.state_tables.specs.Meaning.{IsTable};
 ghost use Rattle.state_tables.specs.Dictionary.{GainsTable, count_of, distinct_of, kept_of};
-ghost use Rattle.table_grow.specs.Assignment.{AllPlaced, AreKept, ChildrenPlaced, ChildrenTrue, Fits, IsComposed, PlacesTable, finished, number_in, with_place};
+ghost use Rattle.table_grow.specs.Assignment.{AllAssigned, AreKept, ChildrenAssigned, ChildrenTrue, Fits, IsComposed, AssignsTable, finished, number_in, with_number};
 
 use marker_dfa::Dfa;
 use node_store::{Node, NodeId, Store};
@@ -99,7 +99,7 @@ impl Filler {
         requires fits { Fits store.now tables.now self.now }
         requires new { self.now.known ≤ id.index }
         requires live { id.index < length store.now }
-        requires children { ChildrenPlaced store.now tables.now self.now id.index }
+        requires children { ChildrenAssigned store.now tables.now self.now id.index }
         requires true_children { ChildrenTrue dfa.now store.now tables.now self.now id.index }
         ensures meaning { IfOk result (IsTable dfa.now (text (tree store.now id.index))) }
         ensures composed { IfOk result (IsComposed store.now tables.now self.now id.index) }
@@ -120,7 +120,7 @@ impl Filler {
         requires kept { number < distinct_of tables.now }
         requires new { self.old.known ≤ id.index }
         requires live { id.index < self.old.known + length self.old.places }
-        ensures { self.new ≡ with_place self.old id.index number }
+        ensures { self.new ≡ with_number self.old id.index number }
     {
         let _ = tables.count();
         let place = id.index - self.known;
@@ -134,9 +134,9 @@ impl Filler {
         requires new { self.old.known ≤ id.index }
         requires live { id.index < length store.now }
         requires free { number_in tables.now self.old id.index ≡ None }
-        requires children { ChildrenPlaced store.now tables.now self.old id.index }
+        requires children { ChildrenAssigned store.now tables.now self.old id.index }
         requires kept { number < distinct_of tables.now }
-        ensures { self.new ≡ with_place self.old id.index number }
+        ensures { self.new ≡ with_number self.old id.index number }
     {
         self.set(tables, id, number);
     }
@@ -158,9 +158,9 @@ impl Filler {
         requires new { self.old.known ≤ id.index }
         requires live { id.index < length store.now }
         requires free { number_in tables.old self.old id.index ≡ None }
-        requires children { ChildrenPlaced store.now tables.old self.old id.index }
+        requires children { ChildrenAssigned store.now tables.old self.old id.index }
         requires states { length table ≡ tables.old.states }
-        ensures placed { OnOk result (PlacesTable tables.new self.old self.new id.index table) }
+        ensures placed { OnOk result (AssignsTable tables.new self.old self.new id.index table) }
         ensures err { OnErr result ((self.new ≡ self.old) × (tables.new ≡ tables.old)) }
         ensures kept { AreKept tables.old tables.new }
         ensures gains { OnOk result (GainsTable tables.old.kept tables.new.kept table) }
@@ -176,7 +176,7 @@ impl Filler {
         requires tables_fit { count_of tables.old ≡ self.known }
         requires room_fits { length self.places ≤ tables.old.room }
         requires kept_fit { (i n : ℕ) → slice_index_or self.places i None ≡ Some n → n < distinct_of tables.old }
-        requires all_placed { AllPlaced self }
+        requires all_placed { AllAssigned self }
         ensures finished { tables.new ≡ finished tables.old self }
         ensures steps { places.new ≡ places.old + length self.places }
     {

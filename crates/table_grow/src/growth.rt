@@ -45,10 +45,10 @@ fn in_order<G: Gate>(
 }
 
 /// The number of nodes of a height that are worth a thread, if each has its share of rows to compose.
-const NODES_WORTH_A_THREAD: usize = 512;
+const MIN_NODES_PER_THREAD: usize = 512;
 
 /// The number of rows that are composed in the time that it takes to start a thread, some 50 microseconds.
-const ROWS_WORTH_A_THREAD: usize = 1 << 13;
+const MIN_ROWS_PER_THREAD: usize = 1 << 13;
 
 /// At most this many new nodes are always cut in two while the cache is empty, so that a gate sees two threads on the
 /// shortest texts.
@@ -61,19 +61,19 @@ fn rows_of(dfa: &Dfa, nodes: usize) -> usize {
 
 // Whether this many nodes are processed in pieces while the cache is empty.
 fn starts_in_pieces(dfa: &Dfa, nodes: usize) -> bool {
-    nodes <= NODES_ALWAYS_CUT || rows_of(dfa, nodes) >= ROWS_WORTH_A_THREAD
+    nodes <= NODES_ALWAYS_CUT || rows_of(dfa, nodes) >= MIN_ROWS_PER_THREAD
 }
 
 // The number of pieces in which at most `count` nodes of one height are processed, of `nodes` in all heights. While the
 // cache is empty each node may need a table of its own.
 fn pieces_of(filling: &Filling, workers: u8, nodes: usize, count: usize) -> u8 {
     if filling.cached() != 0 {
-        return workers.min((count / NODES_WORTH_A_THREAD).min(64) as u8);
+        return workers.min((count / MIN_NODES_PER_THREAD).min(64) as u8);
     }
     if nodes <= NODES_ALWAYS_CUT {
         return workers.min(2);
     }
-    workers.min((rows_of(filling.growth().dfa, count) / ROWS_WORTH_A_THREAD).min(64) as u8)
+    workers.min((rows_of(filling.growth().dfa, count) / MIN_ROWS_PER_THREAD).min(64) as u8)
 }
 
 // Assigns tables to some new nodes in pieces.

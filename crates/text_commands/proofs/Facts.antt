@@ -1,7 +1,7 @@
 -- The lemmas that the proofs of this crate's functions use, each re-exported from the file that proves it.
 pub use Rattle.session_state.proofs.BookLemmas.{some_value}
-pub use Rattle.session_state.proofs.Goes.{free_answers, grown_answers, grown_same, grown_stays, grown_stops, if_err_both, marked_answers, no_shelf, no_sink, passed_on, same_shelf, saved_answers}
-pub use Rattle.session_state.proofs.Goes.{saved_stays, stays}
+pub use Rattle.session_state.proofs.KeepsInvariant.{free_answers, grown_answers, grown_same, grown_stays, grown_stops, if_err_both, marked_answers, no_shelf, no_sink, passed_on, same_shelf, saved_answers}
+pub use Rattle.session_state.proofs.KeepsInvariant.{saved_stays, stays}
 pub use Rattle.session_state.proofs.StateLemmas.{AreKept-put, AreKept-taken_out, AreLive-taken_out, document_is, document_lacks, live_root, plain-taken_out, plain_versions-put, plain_versions-taken_out, version_kept, version_of-plain}
 pub use Rattle.session_state.proofs.PaidLemmas.{none_of_err, not_begun, part_of_paid, some_of_ok}
 pub use Rattle.session_state.proofs.Written.{last, passed, sent_on, starts, stops, waits}

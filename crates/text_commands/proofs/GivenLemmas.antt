@@ -6,7 +6,7 @@ use Rattle.session_state.specs.DocumentReply.{Sets}
 use Rattle.session_state.specs.declared.replies.Answer.{Answer}
 use Rattle.span_language.specs.declared.told.Stop.TheVariants as stop
 use Rattle.session_state.proofs.DocumentLemmas.{assigned_after, only_documents}
-use Rattle.session_state.proofs.Goes.{grown_answers, grown_stops}
+use Rattle.session_state.proofs.KeepsInvariant.{grown_answers, grown_stops}
 use Rattle.session_state.proofs.PaidLemmas.{part_of_paid}
 use Rattle.text_commands.proofs.CarryLemmas.{load_paid, text_carries}
 

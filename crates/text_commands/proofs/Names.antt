@@ -47,6 +47,6 @@ pub use Rattle.std.proofs.lemmas.Result.{IfOk-weaker, err_from_is_err_and}
 pub use Rattle.std.specs.List.{AllByRecursion, flat_map}
 pub use Rattle.std.specs.Option.{option_map_or}
 pub use Rattle.text_commands.specs.Loading.{IsFileLoader, IsWithinLimit, fed_to, file_command, limit_of, method_of}
-pub use Rattle.text_commands.specs.Reading.{IsFileFront, IsLoadPaid, IsNextPiece, IsOfTheFile, IsFileRejection, MeansFile}
+pub use Rattle.text_commands.specs.Reading.{IsFilePrefix, IsLoadPaid, IsNextPiece, IsOfTheFile, IsFileRejection, MeansFile}
 pub use Rattle.text_commands.specs.Shown.{Assigns, IsEditRejectionReply, IsFileRejectionReply, IsShown, Opens}
 pub use Rattle.text_commands.specs.declared.loaders.Method.{Method}

@@ -1,5 +1,5 @@
 -- The pieces of a file, put together.
-use Rattle.text_commands.proofs.Names.{[], AllowsReads, ap, arith, drop, Files, HasPiece, Holds, IfSome, image, inr, IsFileFront, IsLoadPaid, IsNextPiece, IsOversized, IsWithin}
+use Rattle.text_commands.proofs.Names.{[], AllowsReads, ap, arith, drop, Files, HasPiece, Holds, IfSome, image, inr, IsFilePrefix, IsLoadPaid, IsNextPiece, IsOversized, IsWithin}
 use Rattle.text_commands.proofs.Names.{length, length-append, length-drop, length-replicate, length-take, length-take-le, limit_of, List, load_size, MeansFile, Method, None, open_size, Option, refl}
 use Rattle.std.proofs.lemmas.List.{take-append-drop}
 use Rattle.text_commands.proofs.LoadingLemmas.{limit_grows}
@@ -21,8 +21,8 @@ past_limit files name from count limit into some over bound readable h =
     record { bytes = bytes; held = there; readable = readable; long = omega (arith, over, long) }
 
 -- the next piece
-one_piece : (files : Option Files) (name : List ℕ) (limit : ℕ) (front piece : List ℕ) → IsFileFront files name limit front
-    → IfSome files (λ all. HasPiece all name (length front) piece) → IsFileFront files name limit (front ++ piece)
+one_piece : (files : Option Files) (name : List ℕ) (limit : ℕ) (front piece : List ℕ) → IsFilePrefix files name limit front
+    → IfSome files (λ all. HasPiece all name (length front) piece) → IsFilePrefix files name limit (front ++ piece)
 one_piece None name limit front piece so_far h = tt
 one_piece (Some all) name limit front piece so_far (bytes, there, is) =
     let same : so_far.file ≡ bytes = same_Some so_far.file bytes (sym so_far.there ∙ there) in
@@ -40,7 +40,7 @@ one_piece (Some all) name limit front piece so_far (bytes, there, is) =
     }
 
 -- no bytes are left: the whole file was read
-no_piece : (files : Option Files) (name : List ℕ) (limit : ℕ) (front piece : List ℕ) → length piece ≡ 0 → length front ≤ limit → IsFileFront files name limit front
+no_piece : (files : Option Files) (name : List ℕ) (limit : ℕ) (front piece : List ℕ) → length piece ≡ 0 → length front ≤ limit → IsFilePrefix files name limit front
     → IfSome files (λ all. HasPiece all name (length front) piece) → IsWithin files name limit front
 no_piece None name limit front piece none short so_far h = record { held = tt; readable = tt; short = short }
 no_piece (Some all) name limit front (b ∷ piece) none short so_far h = let bad : ⊥ = omega (arith, none) in absurd bad
@@ -55,14 +55,14 @@ is_next files name limit at piece within h front size so_far =
     (one_piece files name limit front piece so_far here, λ none. no_piece files name limit front piece none (omega (arith, size, within)) so_far here)
 
 -- what was read is at most the file's length
-front_within : (files : Option Files) (name : List ℕ) (limit : ℕ) (front : List ℕ) → length front ≤ limit → IsFileFront files name limit front
+front_within : (files : Option Files) (name : List ℕ) (limit : ℕ) (front : List ℕ) → length front ≤ limit → IsFilePrefix files name limit front
     → (bytes : List ℕ) × IsWithin files name limit bytes × (length front ≤ length bytes)
 front_within None name limit front short so_far = (front, record { held = tt; readable = tt; short = short }, omega arith)
 front_within (Some all) name limit front short so_far =
     (so_far.file, record { held = so_far.there; readable = so_far.readable; short = so_far.short }, omega (arith, ap length so_far.begins, length-take (length front) so_far.file))
 
 -- if the bytes after a prefix of a file don't matter, the file has the meaning of the prefix
-pub front_means : (files : Option Files) (name front : List ℕ) → length front ≤ open_size → IsFileFront files name open_size front → ((rest : List ℕ) → image (front ++ rest) ≡ image front) → MeansFile files name front
+pub front_means : (files : Option Files) (name front : List ℕ) → length front ≤ open_size → IsFilePrefix files name open_size front → ((rest : List ℕ) → image (front ++ rest) ≡ image front) → MeansFile files name front
 front_means None name front short so_far settled = record { all = front; within = record { held = tt; readable = tt; short = short }; same = refl }
 front_means (Some all) name front short so_far settled = record {
   all = so_far.file;
@@ -74,7 +74,7 @@ pub whole_means : (files : Option Files) (name bytes : List ℕ) → IsWithin fi
 whole_means files name bytes within = record { all = bytes; within = within; same = refl }
 
 -- the maximum cost of loading a prefix of a file
-pub front_paid : (m : Method) (files : Option Files) (name front : List ℕ) (before after : ℕ) → length front ≤ load_size → IsFileFront files name load_size front → after ≤ before + limit_of m (length front) → IsLoadPaid m files name before after
+pub front_paid : (m : Method) (files : Option Files) (name front : List ℕ) (before after : ℕ) → length front ≤ load_size → IsFilePrefix files name load_size front → after ≤ before + limit_of m (length front) → IsLoadPaid m files name before after
 front_paid m files name front before after short so_far paid =
     let within = front_within files name load_size front short so_far in
     inr (within.0, within.1, omega (arith, limit_grows m (length front) (length within.0) within.2, paid))

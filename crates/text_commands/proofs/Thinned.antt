@@ -12,7 +12,7 @@ use Rattle.query_book.specs.Renumbering.{ranked}
 use Rattle.script_syntax.specs.declared.form.Command.TheVariants as form
 use Rattle.session_state.proofs.BookLemmas.{tables-within}
 use Rattle.session_state.proofs.PaidLemmas.{none_paid, not_begun}
-use Rattle.session_state.proofs.Goes.{never, once_accepted}
+use Rattle.session_state.proofs.KeepsInvariant.{never, once_accepted}
 use Rattle.session_state.proofs.PlacesLemmas.{none_placed_part, not_asked}
 use Rattle.session_state.specs.SessionState.{tables_of}
 

@@ -3,7 +3,7 @@ use Rattle.text_commands.proofs.Names.{[], Accepted, AllowsWrites, Answers, arit
 use Rattle.text_commands.proofs.Names.{IsConsistent, IsPut, IsSome, length, List, load_size, no_steps, None, Option, plain, put, refl, Registers, Result}
 use Rattle.text_commands.proofs.Names.{SessionState, Some, state_of, Stays, subst, sym, take_all, Told, value_of, world, ℕ, ◌+◌, ◌-◌, ◌≡◌, ◌≤◌}
 use Rattle.std.proofs.Common.{IfErr}
-use Rattle.edge_io.specs.Causes.{Rose}
+use Rattle.edge_io.specs.Causes.{HasIncreased}
 use Rattle.edge_io.specs.Files.{IsBegun}
 use Rattle.report_text.specs.Reply.{written_text}
 use Rattle.script_syntax.specs.declared.form.Command.{Command}
@@ -15,7 +15,7 @@ use Rattle.span_language.specs.declared.told.Stop.{Stop}
 use Rattle.span_language.specs.declared.told.Stop.TheVariants as stop
 use Rattle.span_types.specs.Ranges.{content}
 use Rattle.session_state.specs.SessionState.{tables_of}
-use Rattle.session_state.proofs.Goes.{grown_goes, grown_stays, never, none_tallied}
+use Rattle.session_state.proofs.KeepsInvariant.{grown_goes, grown_stays, never, none_tallied}
 use Rattle.session_state.proofs.PaidLemmas.{none_paid, not_begun}
 use Rattle.session_state.proofs.PlacesLemmas.{none_placed, not_asked}
 
@@ -51,7 +51,7 @@ written_answers h number name file text answer files after faults more looks pai
     }
 
 -- the files are unchanged
-pub unwritten_stays : (h : SessionState) (number : ℕ) (name file : List ℕ) (files after : Option Files) (faults more looks pairs places : ℕ) (why : Stop) → IsConsistent h → after ≡ files → faults ≤ more → (why ≡ stop.ShelfFault → Rose faults more) → (why ≡ stop.OutFault → ⊥)
+pub unwritten_stays : (h : SessionState) (number : ℕ) (name file : List ℕ) (files after : Option Files) (faults more looks pairs places : ℕ) (why : Stop) → IsConsistent h → after ≡ files → faults ≤ more → (why ≡ stop.ShelfFault → HasIncreased faults more) → (why ≡ stop.OutFault → ⊥)
     → Stays (at h files faults looks pairs places) number (form.WriteFile name file) (at h after more looks pairs places) why
 unwritten_stays h number name file files after faults more looks pairs places why is same later shelf sink =
     grown_stays h h.store h.docs number (form.WriteFile name file) files after faults more looks pairs pairs places why is (Grows-none h.store pairs pairs (omega arith)) is.live refl

@@ -1,7 +1,7 @@
 //! The commands on files.
 ghost use Rattle.std.specs.Prelude.{◌≡◌, ◌<◌, ◌≤◌, ◌+◌, ◌++◌, [], true, length, take, IfOk, IfErr, List, OnOk, OnErr, Some, ℕ};
 ghost use Rattle.slp_model.specs.Nodes.{Grows, IsLive, text_of};
-ghost use Rattle.edge_io.specs.Causes.{Rose};
+ghost use Rattle.edge_io.specs.Causes.{HasIncreased};
 ghost use Rattle.doc_book.specs.Texts.{AreLive, plain};
 ghost use Rattle.report_text.specs.Reply.{refusal_text};
 ghost use Rattle.slp_image.specs.Fields.{kind_of};
@@ -12,7 +12,7 @@ ghost use Rattle.span_language.specs.declared.told.Told.TheVariants as told;
 ghost use Rattle.session_state.specs.Answers.{Answers, Stays};
 ghost use Rattle.session_state.specs.SessionState.{IsConsistent};
 ghost use Rattle.text_commands.specs.Loading.{file_command};
-ghost use Rattle.text_commands.specs.Reading.{IsFileFront, IsLoadPaid, IsNextPiece, IsSound, IsFileRejection, MeansFile};
+ghost use Rattle.text_commands.specs.Reading.{IsFilePrefix, IsLoadPaid, IsNextPiece, IsSound, IsFileRejection, MeansFile};
 ghost use Rattle.text_commands.specs.Shown.{IsFileRejectionReply, Opens};
 ghost use Rattle.session_state.specs.CommandState.{at};
 
@@ -55,7 +55,7 @@ fn next_piece<F: Shelf>(
     ensures refused { IfErr result (IsFileRejection (F.files shelf.old) name.now limit) }
     ensures files { F.files shelf.new ≡ F.files shelf.old }
     ensures later { F.faults shelf.old ≤ F.faults shelf.new }
-    ensures fault { IfErr result (λ why. why ≡ FileRefusal.Failed → Rose (F.faults shelf.old) (F.faults shelf.new)) }
+    ensures fault { IfErr result (λ why. why ≡ FileRefusal.Failed → HasIncreased (F.faults shelf.old) (F.faults shelf.new)) }
     ensures sound { IsSound result (F.faults shelf.old) (F.faults shelf.new) }
 {
     let count = shelf.read_at(name, at, piece)?;
@@ -74,7 +74,7 @@ fn load_pieces<F: Shelf, P: Ledger>(
     shelf: &mut F,
     pairs: &mut Steps<P>,
 ) -> Result<Option<NodeId>, FileRefusal>
-    requires { IsFileFront (F.files shelf.old) name.now load_size [] }
+    requires { IsFilePrefix (F.files shelf.old) name.now load_size [] }
     ensures grows { Grows store.old store.new pairs.old pairs.new }
     ensures live { IfOk result (λ root. IsLive store.new root) }
     ensures ok { IfOk result (λ root. IsWithin (F.files shelf.old) name.now load_size (text_of store.new root)) }
@@ -82,7 +82,7 @@ fn load_pieces<F: Shelf, P: Ledger>(
     ensures paid { IsLoadPaid method (F.files shelf.old) name.now pairs.old pairs.new }
     ensures files { F.files shelf.new ≡ F.files shelf.old }
     ensures later { F.faults shelf.old ≤ F.faults shelf.new }
-    ensures fault { IfErr result (λ why. why ≡ FileRefusal.Failed → Rose (F.faults shelf.old) (F.faults shelf.new)) }
+    ensures fault { IfErr result (λ why. why ≡ FileRefusal.Failed → HasIncreased (F.faults shelf.old) (F.faults shelf.new)) }
     ensures sound { IsSound result (F.faults shelf.old) (F.faults shelf.new) }
 {
     let mut loader = start(alloc, method)?;
@@ -115,7 +115,7 @@ fn load_from<F: Shelf, P: Ledger>(
     ensures paid { IsLoadPaid method (F.files shelf.old) name.now pairs.old pairs.new }
     ensures files { F.files shelf.new ≡ F.files shelf.old }
     ensures later { F.faults shelf.old ≤ F.faults shelf.new }
-    ensures fault { IfErr result (λ why. why ≡ FileRefusal.Failed → Rose (F.faults shelf.old) (F.faults shelf.new)) }
+    ensures fault { IfErr result (λ why. why ≡ FileRefusal.Failed → HasIncreased (F.faults shelf.old) (F.faults shelf.new)) }
     ensures sound { IsSound result (F.faults shelf.old) (F.faults shelf.new) }
 {
     check_size(shelf, name, MAX_LOAD)?;
@@ -201,12 +201,12 @@ fn is_no_image(front: &[u8]) -> bool
 
 /// Reads a file piece by piece, after its length was checked. Stops when the first bytes show that it is no image.
 fn read_pieces<F: Shelf>(alloc: Global, name: &[u8], shelf: &mut F) -> Result<Vec<u8>, FileRefusal>
-    requires { IsFileFront (F.files shelf.old) name.now open_size [] }
+    requires { IsFilePrefix (F.files shelf.old) name.now open_size [] }
     ensures ok { IfOk result (λ bytes. MeansFile (F.files shelf.old) name.now bytes.items) }
     ensures refused { IfErr result (IsFileRejection (F.files shelf.old) name.now open_size) }
     ensures files { F.files shelf.new ≡ F.files shelf.old }
     ensures later { F.faults shelf.old ≤ F.faults shelf.new }
-    ensures fault { IfErr result (λ why. why ≡ FileRefusal.Failed → Rose (F.faults shelf.old) (F.faults shelf.new)) }
+    ensures fault { IfErr result (λ why. why ≡ FileRefusal.Failed → HasIncreased (F.faults shelf.old) (F.faults shelf.new)) }
     ensures sound { IsSound result (F.faults shelf.old) (F.faults shelf.new) }
 {
     let mut bytes = Vec::new(alloc);
@@ -230,7 +230,7 @@ fn read_file<F: Shelf>(alloc: Global, name: &[u8], shelf: &mut F) -> Result<Vec<
     ensures refused { IfErr result (IsFileRejection (F.files shelf.old) name.now open_size) }
     ensures files { F.files shelf.new ≡ F.files shelf.old }
     ensures later { F.faults shelf.old ≤ F.faults shelf.new }
-    ensures fault { IfErr result (λ why. why ≡ FileRefusal.Failed → Rose (F.faults shelf.old) (F.faults shelf.new)) }
+    ensures fault { IfErr result (λ why. why ≡ FileRefusal.Failed → HasIncreased (F.faults shelf.old) (F.faults shelf.new)) }
     ensures sound { IsSound result (F.faults shelf.old) (F.faults shelf.new) }
 {
     check_size(shelf, name, MAX_OPEN)?;

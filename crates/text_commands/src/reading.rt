@@ -1,7 +1,7 @@
 //! Lengths and bytes of the texts in a store, and of files.
 ghost use Rattle.std.specs.Prelude.{◌≡◌, ◌≤◌, ◌+◌, ◌^◌, [], length, take, IfOk, IfErr, OnOk};
-ghost use Rattle.edge_io.specs.Causes.{Rose};
-ghost use Rattle.text_commands.specs.Reading.{IsFileFront, IsSound, IsFileRejection};
+ghost use Rattle.edge_io.specs.Causes.{HasIncreased};
+ghost use Rattle.text_commands.specs.Reading.{IsFilePrefix, IsSound, IsFileRejection};
 ghost use Rattle.slp_model.specs.Nodes.{IsLive, text_of};
 ghost use Rattle.span_types.specs.Ranges.{content, is_range};
 
@@ -50,11 +50,11 @@ impl From<ShelfRefusal> for FileRefusal {
 
 /// Checks that a file has at most `limit` bytes, by reading the byte after them.
 pub fn check_size<F: Shelf>(shelf: &mut F, name: &[u8], limit: u64) -> Result<(), FileRefusal>
-    ensures ok { OnOk result (IsFileFront (F.files shelf.old) name.now limit []) }
+    ensures ok { OnOk result (IsFilePrefix (F.files shelf.old) name.now limit []) }
     ensures refused { IfErr result (IsFileRejection (F.files shelf.old) name.now limit) }
     ensures files { F.files shelf.new ≡ F.files shelf.old }
     ensures later { F.faults shelf.old ≤ F.faults shelf.new }
-    ensures fault { IfErr result (λ why. why ≡ FileRefusal.Failed → Rose (F.faults shelf.old) (F.faults shelf.new)) }
+    ensures fault { IfErr result (λ why. why ≡ FileRefusal.Failed → HasIncreased (F.faults shelf.old) (F.faults shelf.new)) }
     ensures sound { IsSound result (F.faults shelf.old) (F.faults shelf.new) }
 {
     let mut byte = [0u8; 1];

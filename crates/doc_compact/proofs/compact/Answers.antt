@@ -1,7 +1,7 @@
 use Rattle.std.proofs.Common.{◌∙◌, ◌++◌, ℕ, Bool, List, inl, inr, sym, ap, subst}
 use Rattle.std.specs.Prelude.{◌↔◌}
 use Rattle.slp_model.specs.Kept.{IsPlanOf, Keeps}
-use Rattle.slp_model.specs.Thin.{AnyReaches, IsThinOf, thin}
+use Rattle.slp_model.specs.Thin.{AnyReaches, IsCompactionOf, thin}
 use Rattle.doc_book.specs.declared.Doc.{Doc}
 use Rattle.name_map.specs.Named.{Named}
 use Rattle.doc_book.specs.Docs.{roots_of}
@@ -34,7 +34,7 @@ returns-clause-compacted c =
     let same = c.in_ok-thin.ensures.moves in
     let plan : IsPlanOf ns keep = subst (IsPlanOf ns) (sym same) c.in_ok-plan.ensures.plan in
     let exact : (i : ℕ) → Keeps keep i ↔ AnyReaches ns (roots_of ds ++ version_roots vs) i = λ i. subst (λ (ks : List Bool). Keeps ks i ↔ AnyReaches ns (roots_of ds ++ version_roots vs) i) (sym same) (c.in_ok-plan.ensures.kept i) in
-    let is = subst (λ (ks : List Bool). IsThinOf ns ks c.in_ok-thin.thin) (sym same) c.in_ok-thin.ensures.thin in
+    let is = subst (λ (ks : List Bool). IsCompactionOf ns ks c.in_ok-thin.thin) (sym same) c.in_ok-thin.ensures.thin in
     let thin_is = c.in_ok-thin.ensures.store ∙ ap (thin ns) (sym same) in
     let all = compacted ns keep c.in_ok-thin.thin is ds vs plan exact thin_is in
     subst (λ (d : List Doc). IsCompacted ns ds vs keep c.in_ok-thin.thin d c.move_versions.new.versions) (sym c.move_docs.ensures)

@@ -3,7 +3,7 @@ use Rattle.slp_model.specs.declared.Node.TheVariants.{Pair}
 use Rattle.slp_model.specs.Tree.{Fork, height}
 use Rattle.slp_model.specs.Nodes.{tree, IsNodeAt}
 use Rattle.marker_dfa.specs.Deterministic.{states_of}
-use Rattle.count_tables.specs.Place.{tree_of}
+use Rattle.count_tables.specs.TextIndex.{tree_of}
 use Rattle.count_tables.proofs.Finding.{room-left}
 use Rattle.count_tables.proofs.PartSearch.{byte-among, finds-pair, finds-passed, left-among}
 use Rattle.count_tables.proofs.nth.+find.Goals as goal

@@ -3,7 +3,7 @@ use Rattle.span_types.specs.Fibonacci.{height_limit, looks_limit}
 use Rattle.slp_model.specs.Tree.{height, text}
 use Rattle.slp_model.specs.Nodes.{tree}
 use Rattle.slp_model.proofs.TreeLemmas.{length-text}
-use Rattle.count_tables.specs.Place.{IsNth}
+use Rattle.count_tables.specs.TextIndex.{IsNth}
 use Rattle.count_tables.proofs.RootSearch.{root-end, root-looks, root-none, root-nth}
 use Rattle.count_tables.proofs.nth.nth_of.Goals as goal
 

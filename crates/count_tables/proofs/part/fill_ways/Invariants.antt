@@ -1,5 +1,5 @@
 use Rattle.std.proofs.Common.{◌≡◌, ℕ, ◌<◌, get_or}
-use Rattle.count_tables.specs.Place.{number_over}
+use Rattle.count_tables.specs.TextIndex.{number_over}
 use Rattle.count_tables.proofs.part.fill_ways.Given as goal
 
 abbrev pub invariant-loop-state : goal.invariant-loop-state

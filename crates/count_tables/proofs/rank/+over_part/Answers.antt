@@ -6,7 +6,7 @@ use Rattle.slp_model.specs.Nodes.{tree, IsNodeAt}
 use Rattle.marker_dfa.specs.Deterministic.{states_of}
 use Rattle.state_tables.proofs.Meanings.{path-within}
 use Rattle.count_tables.specs.Earlier.{word_in}
-use Rattle.count_tables.specs.Place.{tree_of}
+use Rattle.count_tables.specs.TextIndex.{tree_of}
 use Rattle.count_tables.proofs.Finding.{room-left}
 use Rattle.count_tables.proofs.RankParts.{earlier-ended, earlier-pair, earlier-plain}
 use Rattle.count_tables.proofs.rank.+over_part.Goals as goal

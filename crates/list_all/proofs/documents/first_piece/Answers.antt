@@ -13,7 +13,7 @@ loop-index-preserved g c =
     record {
       pages = c.in_ok-place.ensures.pages;
       each = rw pushed
-          (subst (λ (rs : List (Option NodeId)). HaveEach (g.F.FindPage.is_page c.args.finder.now) c.place_of.new.found.items rs (at.places.items ++ c.in_ok-place.place ∷ [])) (sym (take_more c.args.documents.roots.now at.index None c.loop-index-test.true))
-          (have-push (g.F.FindPage.is_page c.args.finder.now) at.found.items c.place_of.new.found.items c.in_ok-place.ensures.kept (take at.index c.args.documents.roots.now) at.places.items (get_or c.args.documents.roots.now at.index None) c.in_ok-place.place at.invariant.each c.in_ok-place.ensures.page));
+          (subst (λ (rs : List (Option NodeId)). HaveEach (g.F.FindPage.is_page c.args.finder.now) c.page_index.new.found.items rs (at.places.items ++ c.in_ok-place.place ∷ [])) (sym (take_more c.args.documents.roots.now at.index None c.loop-index-test.true))
+          (have-push (g.F.FindPage.is_page c.args.finder.now) at.found.items c.page_index.new.found.items c.in_ok-place.ensures.kept (take at.index c.args.documents.roots.now) at.places.items (get_or c.args.documents.roots.now at.index None) c.in_ok-place.place at.invariant.each c.in_ok-place.ensures.page));
       count = more;
     }

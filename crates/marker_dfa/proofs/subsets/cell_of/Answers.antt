@@ -36,7 +36,7 @@ loop-step-preserved c =
     let same : e.mark ≡ get_or (marks_of steps) k 0 = sym (get_or_from_slice_get (marks_of steps) k e.mark 0 (mark_of steps k e at)) in
     let move = subst (λ (m : ℕ). IsMove c.args.nfa.now.states (Moves c.args.nfa.now) c.args.exits.now.from m c.args.readers.now.byte e.to) same (are.moves k e at) in
     let up : k < length (marks_of steps) = omega (arith, lt, length_map (λ (z : Step). z.mark) steps) in
-    let few : length c.place_of.new.found.sets.items ≤ c.args.plan.now.most = omega (arith, c.place_of.new.found.sets.ok.0, c.in_ok-target.ensures.few) in
+    let few : length c.index_of.new.found.sets.items ≤ c.args.plan.now.most = omega (arith, c.index_of.new.found.sets.ok.0, c.in_ok-target.ensures.few) in
     rw (c.in_ok-push.ensures.marks, c.in_ok-push.ensures.targets, same) (step_more c.args.plan.now.most c.args.nfa.now (marks_of steps) c.args.readers.now.byte k _ _ _ _ c.args.exits.now.from e.to _ _ c.loop-step.invariant (marks_fall c.args.nfa.now c.args.exits.now.from c.args.readers.now.byte steps are) up c.requires.reached move (are.filled k e at) c.in_ok-target.ensures.placed few)
 
 pub returns-clause-cell : goal.returns-clause-cell

@@ -2,7 +2,7 @@ use Rattle.std.proofs.Common.{◌-◌, Some, None, sym, ap, ◌∙◌, subst, ar
 use Rattle.slp_model.specs.Nodes.{text_of}
 use Rattle.span_types.specs.Query.{query_of}
 use Rattle.span_types.specs.Writes.{blanks}
-use Rattle.count_tables.specs.Place.{IsNth}
+use Rattle.count_tables.specs.TextIndex.{IsNth}
 use Rattle.query_book.specs.Numbers.{IsCursorAt}
 use Rattle.query_book.proofs.NumberLaws.{cursor-answer, cursor-first, cursor-last, list-counted}
 use Rattle.query_book.proofs.numbers.cursor_at.Goals as goal

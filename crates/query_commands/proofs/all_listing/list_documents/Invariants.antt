@@ -1,4 +1,4 @@
-use Rattle.query_commands.proofs.Names.{AreAnswered, every_text, IsUpTo, List, outlet, rest_text, Tuple, ◌-◌, ◌≤◌}
+use Rattle.query_commands.proofs.Names.{AreAnswered, documents_text, IsUpTo, List, outlet, rest_text, Tuple, ◌-◌, ◌≤◌}
 use Rattle.query_commands.proofs.all_listing.list_documents.Given as goal
 
 abbrev pub invariant-loop-first : goal.invariant-loop-first
@@ -6,7 +6,7 @@ invariant-loop-first g l = record {
   within : l.first ≤ l.all;
   so_far : (lists : List (List Tuple)) → AreAnswered l.all_listing.dfa.now l.all_listing.view.store.now l.all_listing.docs.now lists
       → IsUpTo (outlet (g.K.Sink.written l.fn.out) (g.K.Sink.faults l.fn.out) (g.K.Sink.wants l.fn.out)) (outlet (g.K.Sink.written l.out) (g.K.Sink.faults l.out) (g.K.Sink.wants l.out))
-      (rest_text l.all_listing.vars.now l.all_listing.limit l.all_listing.docs.now lists l.first) (every_text l.all_listing.vars.now l.all_listing.limit l.all_listing.docs.now lists);
+      (rest_text l.all_listing.vars.now l.all_listing.limit l.all_listing.docs.now lists l.first) (documents_text l.all_listing.vars.now l.all_listing.limit l.all_listing.docs.now lists);
 }
 
 abbrev pub decreases-loop-first : goal.decreases-loop-first

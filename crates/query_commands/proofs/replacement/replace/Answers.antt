@@ -8,11 +8,11 @@ use Rattle.query_commands.proofs.replacement.replace.Goals as goal
 pub choose-requires-clause-live : goal.choose-requires-clause-live
 choose-requires-clause-live g c = live_root c.args.session.now.store c.args.session.now.docs c.args.asked.source c.in-Ok.sources.root c.requires.live c.in-Ok.ensures.ok.root
 
-pub put_in_place-requires-clause-root : goal.put_in_place-requires-clause-root
-put_in_place-requires-clause-root g c = live_root c.args.session.now.store c.args.session.now.docs c.args.asked.source c.in-Ok.sources.root c.requires.live c.in-Ok.ensures.ok.root
+pub put_replaced-requires-clause-root : goal.put_replaced-requires-clause-root
+put_replaced-requires-clause-root g c = live_root c.args.session.now.store c.args.session.now.docs c.args.asked.source c.in-Ok.sources.root c.requires.live c.in-Ok.ensures.ok.root
 
-pub put_in_place-requires-clause-other : goal.put_in_place-requires-clause-other
-put_in_place-requires-clause-other g c = live_root c.args.session.now.store c.args.session.now.docs c.args.asked.by c.in-Ok.sources.other c.requires.live c.in-Ok.ensures.ok.other
+pub put_replaced-requires-clause-other : goal.put_replaced-requires-clause-other
+put_replaced-requires-clause-other g c = live_root c.args.session.now.store c.args.session.now.docs c.args.asked.by c.in-Ok.sources.other c.requires.live c.in-Ok.ensures.ok.other
 
 pub returns-in_err-grow-in-Ok-clause-stopped : goal.returns-in_err-grow-in-Ok-clause-stopped
 returns-in_err-grow-in-Ok-clause-stopped g c = λ files faults.
@@ -25,7 +25,7 @@ returns-in_ok-answer-in-Ok-Ok-clause-done g c = λ files faults.
     let asked = c.args.asked in
     let is : c.in-Ok-Ok.field-0 ≡ Ok c.in-Ok-Ok.spans = cc c.in-Ok-Ok.field-0-is in
     let choice = subst (λ (r : Result (List Span) Refusal). ChoosesFrom asked.longest (queries_of c.grow.new.book) asked.query (text_of c.args.session.now.store c.in-Ok.sources.root) (Ok r) c.args.looks.now c.choose.new.looks) is c.in-Ok-Ok.ensures.choice in
-    let put = c.put_in_place in
+    let put = c.put_replaced in
     let a = c.in_ok-answer-in-Ok-Ok in
     let number = c.args.context.number in
     let command = form.ReplaceDoc asked.name asked.query asked.source asked.by asked.longest in
@@ -39,7 +39,7 @@ returns-in_err-answer-in-Ok-Ok-clause-stopped g c = λ files faults.
     let asked = c.args.asked in
     let is : c.in-Ok-Ok.field-0 ≡ Ok c.in-Ok-Ok.spans = cc c.in-Ok-Ok.field-0-is in
     let choice = subst (λ (r : Result (List Span) Refusal). ChoosesFrom asked.longest (queries_of c.grow.new.book) asked.query (text_of c.args.session.now.store c.in-Ok.sources.root) (Ok r) c.args.looks.now c.choose.new.looks) is c.in-Ok-Ok.ensures.choice in
-    let put = c.put_in_place in
+    let put = c.put_replaced in
     let r = c.from_residual-in_err-answer-in-Ok-Ok in
     let number = c.args.context.number in
     let command = form.ReplaceDoc asked.name asked.query asked.source asked.by asked.longest in

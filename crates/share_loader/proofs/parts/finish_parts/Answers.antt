@@ -33,6 +33,6 @@ pub returns-in_err-root-clause-cost : goal.returns-in_err-root-clause-cost
 returns-in_err-root-clause-cost g c =
     omega (arith, kept-within c.args.store.now (kept_of c.args.parts) (length (kept_text c.args.store.now (kept_of c.args.parts))) (omega arith), c.short_root.ensures.cost, ap length c.deref.ensures.value)
 
-pub returns-then-len-lt-LEAST-clause-cost : goal.returns-then-len-lt-LEAST-clause-cost
-returns-then-len-lt-LEAST-clause-cost g c =
+pub returns-then-len-lt-MIN_WORD_BYTES-clause-cost : goal.returns-then-len-lt-MIN_WORD_BYTES-clause-cost
+returns-then-len-lt-MIN_WORD_BYTES-clause-cost g c =
     omega (arith, kept-within c.args.store.now (kept_of c.args.parts) (length (kept_text c.args.store.now (kept_of c.args.parts))) (omega arith), c.short_root.ensures.cost, ap length c.deref.ensures.value)

@@ -1,7 +1,7 @@
 use Rattle.std.proofs.Common.{◌≡◌, ◌++◌, List, length, arith, ap, sym, ◌∙◌}
 use Rattle.slp_model.specs.declared.Node.{Node}
-use Rattle.slp_model.specs.Thin.{thin, IsThinOf}
-use Rattle.slp_model.proofs.ThinLemmas.{thin_to, thin-all, thin-law}
+use Rattle.slp_model.specs.Thin.{thin, IsCompactionOf}
+use Rattle.slp_model.proofs.CompactionLemmas.{thin_to, thin-all, thin-law}
 use Rattle.slp_model.proofs.RankLemmas.{rank-most}
 use Rattle.node_store.proofs.MoveLemmas.{keeps-children}
 use Rattle.slp_image.specs.Written.{node_bytes, records_bytes}
@@ -30,10 +30,10 @@ returns-clause-thin c = thin-law c.args.store.now c.args.moves.now c.count-index
 
 pub returns-clause-distinct : goal.returns-clause-distinct
 returns-clause-distinct c =
-    let t : IsThinOf c.args.store.now c.args.moves.now (thin c.args.store.now c.args.moves.now) = thin-law c.args.store.now c.args.moves.now c.count-index-end.ensures.sound c.requires.plan in
+    let t : IsCompactionOf c.args.store.now c.args.moves.now (thin c.args.store.now c.args.moves.now) = thin-law c.args.store.now c.args.moves.now c.count-index-end.ensures.sound c.requires.plan in
     t.distinct c.count-index-end.ensures.distinct
 
 pub returns-clause-few : goal.returns-clause-few
 returns-clause-few c =
-    let t : IsThinOf c.args.store.now c.args.moves.now (thin c.args.store.now c.args.moves.now) = thin-law c.args.store.now c.args.moves.now c.count-index-end.ensures.sound c.requires.plan in
+    let t : IsCompactionOf c.args.store.now c.args.moves.now (thin c.args.store.now c.args.moves.now) = thin-law c.args.store.now c.args.moves.now c.count-index-end.ensures.sound c.requires.plan in
     omega (arith, t.long, rank-most c.args.moves.now (length c.args.store.now), c.count-index-end.ensures.count, c.count-index-end.type_inv)

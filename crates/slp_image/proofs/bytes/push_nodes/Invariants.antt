@@ -1,5 +1,5 @@
 use Rattle.std.proofs.Common.{◌≡◌, ◌++◌}
-use Rattle.slp_model.proofs.ThinLemmas.{thin_to}
+use Rattle.slp_model.proofs.CompactionLemmas.{thin_to}
 use Rattle.slp_image.specs.Written.{records_bytes}
 use Rattle.slp_image.proofs.bytes.push_nodes.Given as goal
 

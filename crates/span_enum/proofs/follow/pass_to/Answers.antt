@@ -1,4 +1,4 @@
-use Rattle.span_enum.proofs.Base.{Ahead, List, Stands, [], arith, length-append, sym, text_at, ℕ, ◌≡◌, ◌≤◌}
+use Rattle.span_enum.proofs.Base.{Ahead, List, IsWalkAt, [], arith, length-append, sym, text_at, ℕ, ◌≡◌, ◌≤◌}
 use Rattle.span_enum.proofs.Chains.{next-there}
 use Rattle.span_enum.proofs.Ways.{Next, back-none, next-node, passes-dies, passes-none, passes-on}
 use Rattle.span_enum.proofs.follow.pass_to.Goals.{After-ahead_at-node}
@@ -15,7 +15,7 @@ ahead_at-node-requires g c =
     (omega (arith, c.requires.input.narrow), (omega (arith, c.requires.input.narrow), next-there c.args.trail.now.ahead.items c.loop-place.place.next p.back p.stands.ahead c.loop-place-test.true))
 
 -- the node that comes next
-node : (g : Over) (c : After-ahead_at-node g) (at : ℕ) (k : List (Ahead g.row.N)) (s : Stands c.args.input.now c.args.trail.now.ahead.items at c.args.from k) (le : at ≤ c.args.position)
+node : (g : Over) (c : After-ahead_at-node g) (at : ℕ) (k : List (Ahead g.row.N)) (s : IsWalkAt c.args.input.now c.args.trail.now.ahead.items at c.args.from k) (le : at ≤ c.args.position)
     → Next c.args.input.now c.args.trail.now.ahead.items at c.args.from c.loop-place.place k (c.loop-place.invariant at k s le).passes c.ahead_at-node.result
 node g c at k s le = next-node c.args.input.now c.requires.input c.args.trail.now.ahead.items at c.args.from c.loop-place.place k (c.loop-place.invariant at k s le).passes c.ahead_at-node.result c.loop-place-test.true c.ahead_at-node.ensures
 

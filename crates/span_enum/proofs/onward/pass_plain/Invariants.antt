@@ -1,9 +1,9 @@
-use Rattle.span_enum.proofs.Base.{Ahead, CanEnd, List, PassesPlain, Stands, ℕ}
+use Rattle.span_enum.proofs.Base.{Ahead, CanEnd, List, PassesPlain, IsWalkAt, ℕ}
 use Rattle.span_enum.proofs.onward.pass_plain.Given as goal
 
 abbrev pub invariant-loop-place : goal.invariant-loop-place
 invariant-loop-place g l = record {
-  passes : (at : ℕ) (c : List (Ahead g.row.N)) → Stands l.input l.trail.ahead.items at l.fn.from c → CanEnd l.input l.fn.from.state c → PassesPlain l.input l.trail.ahead.items at l.fn.from l.place c;
+  passes : (at : ℕ) (c : List (Ahead g.row.N)) → IsWalkAt l.input l.trail.ahead.items at l.fn.from c → CanEnd l.input l.fn.from.state c → PassesPlain l.input l.trail.ahead.items at l.fn.from l.place c;
 }
 
 abbrev pub decreases-loop-place : goal.decreases-loop-place

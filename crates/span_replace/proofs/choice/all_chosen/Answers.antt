@@ -38,23 +38,23 @@ loop-next-preserved g c =
     record {
       automaton = c.span_after-next.ensures.automaton ∙ at.invariant.automaton;
       text = c.span_after-next.ensures.text ∙ at.invariant.text;
-      few = omega (arith, one_more, at.invariant.few, c.if-len-eq-MOST.false, c.len.ensures);
+      few = omega (arith, one_more, at.invariant.few, c.if-len-eq-MAX_SPANS.false, c.len.ensures);
       place = c.span_after-next.ensures.place;
       so_far = subst (λ (z : List Span). Picks a s z next) (sym c.in_ok-push.ensures.items) (picks-step a s c.requires.one c.requires.short spans q next iq before finds);
       paid = paid-next 3 1 c.args.looks.now at.looks c.span_after-next.new.looks (length spans) (length c.push.new.self.items) (looks_limit 1 (length s)) at.invariant.paid
           (subst (λ x. c.span_after-next.new.looks ≤ at.looks + 3 * looks_limit 1 (length x)) at.invariant.text c.span_after-next.ensures.cost) one_more;
     }
 
-pub returns-then-len-eq-MOST-clause-choice : goal.returns-then-len-eq-MOST-clause-choice
-returns-then-len-eq-MOST-clause-choice g c all answers =
+pub returns-then-len-eq-MAX_SPANS-clause-choice : goal.returns-then-len-eq-MAX_SPANS-clause-choice
+returns-then-len-eq-MAX_SPANS-clause-choice g c all answers =
     let a = c.args.answers.now.automaton in
     let s = c.args.answers.now.text in
     let p = subst (Picks a s c.loop-next.spans.items) c.in-Some.is c.loop-next.invariant.so_far in
     let more = picks-more a s c.loop-next.spans.items all answers c.in-Some.span p in
-    omega (arith, more, c.if-len-eq-MOST.true, c.len.ensures)
+    omega (arith, more, c.if-len-eq-MAX_SPANS.true, c.len.ensures)
 
-pub returns-then-len-eq-MOST-clause-cost : goal.returns-then-len-eq-MOST-clause-cost
-returns-then-len-eq-MOST-clause-cost g c all answers =
+pub returns-then-len-eq-MAX_SPANS-clause-cost : goal.returns-then-len-eq-MAX_SPANS-clause-cost
+returns-then-len-eq-MAX_SPANS-clause-cost g c all answers =
     let at = c.loop-next in
     paid-most 3 1 c.args.looks.now at.looks (length at.spans.items) _ (looks_limit 1 (length c.args.answers.now.text)) at.invariant.paid
     (picks-front c.args.answers.now.automaton c.args.answers.now.text at.spans.items all answers at.next at.invariant.so_far) at.invariant.few

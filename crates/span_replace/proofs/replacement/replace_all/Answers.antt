@@ -3,7 +3,7 @@ use Rattle.slp_model.proofs.NodesLemmas.{Grows-none, Grows-trans}
 use Rattle.slp_model.specs.Nodes.{text_of}
 use Rattle.span_replace.specs.Replaced.{AreApartFrom, replaced_from}
 use Rattle.span_replace.proofs.Grown.{text-grows}
-use Rattle.span_replace.proofs.Spliced.{at_place, next-at, rest-at, whole-next, fits-next, rest-next, end-next}
+use Rattle.span_replace.proofs.Spliced.{at_position, next-at, rest-at, whole-next, fits-next, rest-next, end-next}
 use Rattle.span_replace.proofs.replacement.replace_all.Goals as goal
 
 pub loop-span-init : goal.loop-span-init
@@ -24,7 +24,7 @@ replace_next-requires-clause-end g c =
     let i = c.loop-span.span-index in
     let qs = c.args.spans.now in
     let n = next-at c.loop-span.work.at (length s) qs i c.loop-span-test.true c.loop-span.invariant.apart in
-    omega (arith, ap length c.loop-span.invariant.rest, end-next c.loop-span.work.at (at_place qs i) (drop (i + 1) qs) s (text_of c.args.store.now c.args.by) c.loop-span.invariant.start n)
+    omega (arith, ap length c.loop-span.invariant.rest, end-next c.loop-span.work.at (at_position qs i) (drop (i + 1) qs) s (text_of c.args.store.now c.args.by) c.loop-span.invariant.start n)
 
 pub replace_next-requires-clause-short : goal.replace_next-requires-clause-short
 replace_next-requires-clause-short g c =
@@ -37,7 +37,7 @@ replace_next-requires-clause-short g c =
     let n = next-at at (length s) qs i c.loop-span-test.true c.loop-span.invariant.apart in
     let h = ap (λ xs. done ++ replaced_from at s xs w) (sym (rest-at qs i c.loop-span-test.true)) ∙ c.loop-span.invariant.whole in
     let by : text_of c.loop-span.store c.args.by ≡ w = text-grows _ _ _ _ c.loop-span.invariant.grows c.args.by c.requires.by in
-    omega (arith, ap length by, fits-next at (at_place qs i) (drop (i + 1) qs) s w c.loop-span.invariant.start n done _ h c.requires.short)
+    omega (arith, ap length by, fits-next at (at_position qs i) (drop (i + 1) qs) s w c.loop-span.invariant.start n done _ h c.requires.short)
 
 pub returns-in_err-work-clause-grows : goal.returns-in_err-work-clause-grows
 returns-in_err-work-clause-grows g c = Grows-trans _ _ _ _ _ _ c.loop-span.invariant.grows c.replace_next.ensures.grows
@@ -49,7 +49,7 @@ loop-span-preserved g c =
     let at = c.loop-span.work.at in
     let i = c.loop-span.span-index in
     let qs = c.args.spans.now in
-    let q = at_place qs i in
+    let q = at_position qs i in
     let more = drop (i + 1) qs in
     let new = c.replace_next.new.store in
     let next = c.in_ok-work.work in

@@ -1,7 +1,7 @@
 use Rattle.std.proofs.Common.{◌≡◌, ◌+◌, ◌≤◌, arith, ap, sym, subst, ◌∷◌, length, drop}
 use Rattle.std.proofs.Math.Nat.{mul-le-mul_right}
 use Rattle.span_replace.specs.Replaced.{replaced_from}
-use Rattle.span_replace.proofs.Spliced.{at_place, IsNext, next-at, rest-at, length-next}
+use Rattle.span_replace.proofs.Spliced.{at_position, IsNext, next-at, rest-at, length-next}
 use Rattle.span_replace.proofs.replacement.replaced_len.Goals as goal
 
 pub overflow_add-done : goal.overflow_add-done
@@ -20,7 +20,7 @@ loop-span-preserved c =
     let at = c.loop-span.at in
     let i = c.loop-span.span-index in
     let qs = c.args.spans.now in
-    let q = at_place qs i in
+    let q = at_position qs i in
     let n = next-at at c.args.len qs i c.loop-span-test.true c.loop-span.invariant.apart in
     record {
       start = omega (arith, n.start, n.order, c.loop-span.invariant.start);

@@ -1,6 +1,6 @@
 use Rattle.span_run.proofs.Names.{ap, arith, Bool, err_from_is_err_and, IsStopped, lines_of, outlet, outside, refl, seen, Stop, subst, sym, ◌+◌, ◌∙◌, ◌≡◌}
 use Rattle.span_language.specs.declared.told.Stop.TheVariants as stop
-use Rattle.span_run.proofs.Facts.{at_start, empty_of, ends, goes_on, IsAt, gone_on, gone_still, rose_later, stops_anywhere, stops_in_file, stops_wanting, told_of}
+use Rattle.span_run.proofs.Facts.{at_start, empty_of, ends, goes_on, IsAt, gone_on, gone_still, increased_later, stops_anywhere, stops_in_file, stops_wanting, told_of}
 use Rattle.span_run.proofs.run_script.run_lines.Goals as goal
 
 pub returns-in_err-told : goal.returns-in_err-told
@@ -28,10 +28,10 @@ returns-in_err-told g c =
       gone = λ none is. gone_still k.kept next.out now.io.out.now (c.in_err-told.ensures.unsent is) (i.gone none);
       out_fault = λ is.
           let h = stops_anywhere lines (lines_of now.rest.now) rest line now.number now.refused c.args.states before old sink new after c.next_line.ensures.lines i.at i.model c.line.ensures.model (stopped stop.OutFault is) in
-          (rose_later (k.faults c.args.io.now.out.now) sink.faults after.faults (omega (arith, i.faults)) h.0, h.1);
+          (increased_later (k.faults c.args.io.now.out.now) sink.faults after.faults (omega (arith, i.faults)) h.0, h.1);
       shelf_fault = λ is.
           let h = stops_in_file lines (lines_of now.rest.now) rest line now.number now.refused c.args.states before old sink new after c.next_line.ensures.lines i.at i.model c.line.ensures.model (stopped stop.ShelfFault is) in
-          (rose_later (f.faults c.args.io.now.shelf.now) old.faults new.faults (omega (arith, i.shelf_faults)) h.0, h.1);
+          (increased_later (f.faults c.args.io.now.shelf.now) old.faults new.faults (omega (arith, i.shelf_faults)) h.0, h.1);
       want = λ is.
           stops_wanting lines (lines_of now.rest.now) rest line now.number now.refused c.args.states before old sink new after c.next_line.ensures.lines i.at (k.wants c.args.io.now.out.now) (omega (arith, i.wants)) i.model c.line.ensures.model (stopped stop.NoMemory is);
     })

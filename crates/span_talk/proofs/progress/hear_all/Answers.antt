@@ -1,9 +1,9 @@
 use Rattle.std.proofs.Common.{◌++◌, ◌∙◌, inl, [], arith, ap, length, length-append, take, refl}
 use Rattle.std.proofs.KnownBytes.{Consumes-nil, Consumes-trans, Consumes-kept}
 use Rattle.span_language.specs.Lines.{lines_of}
-use Rattle.span_language.specs.Runs.{outside, RunsFront}
+use Rattle.span_language.specs.Runs.{outside, RunsPrefix}
 use Rattle.session_state.specs.Carried.{outlet}
-use Rattle.span_run.proofs.RunsLemmas.{rose_later}
+use Rattle.span_run.proofs.RunsLemmas.{increased_later}
 use Rattle.span_talk.specs.Talk.{AreServed, OfSent, moment}
 use Rattle.span_talk.specs.Progress.{IsHalted}
 use Rattle.span_talk.proofs.Ends.{halted_later, kept_or, same_stop}
@@ -39,7 +39,7 @@ returns-in-Err-clause-fault g c =
     let t = g.C.Client in
     let i = c.pieces.invariant in
     λ _. (
-      rose_later (t.faults c.args.client.now) (t.faults c.pieces.client) (t.faults c.hear.new.self) (omega (arith, i.client_faults)) c.in-Err.ensures.cause.failed,
+      increased_later (t.faults c.args.client.now) (t.faults c.pieces.client) (t.faults c.hear.new.self) (omega (arith, i.client_faults)) c.in-Err.ensures.cause.failed,
       (i.so_far.0, Consumes-kept (t.left c.args.client.now) (t.left c.pieces.client) (t.left c.hear.new.self) i.so_far.0 i.so_far.1 c.in-Err.ensures.bytes, have_run i.so_far.0 _ _ _ _ i.so_far.3 i.model),
     )
 
@@ -64,7 +64,7 @@ returns-in-Err-hear_piece-clause-served g c = served g (goal.at.returns-in-Err-h
 
 -- a run that was stopped in a piece
 halted : (g : Over) (c : In-Err-hear_piece g) → IsHalted
-    (λ Ends. OfSent (g.C.Client.left c.args.client.now) (λ sent. RunsFront Ends (lines_of sent) c.args.states
+    (λ Ends. OfSent (g.C.Client.left c.args.client.now) (λ sent. RunsPrefix Ends (lines_of sent) c.args.states
     (outside (g.K.Sink.written c.args.io.now.out.now) (g.F.Shelf.files c.args.io.now.shelf.now) c.args.meters.now.looks.now c.args.meters.now.pairs.now c.args.meters.now.places.now)
     (outside (g.K.Sink.written c.hear_piece.new.io.out.now) (g.F.Shelf.files c.hear_piece.new.io.shelf.now) c.hear_piece.new.meters.looks.now c.hear_piece.new.meters.pairs.now c.hear_piece.new.meters.places.now)))
     (outlet (g.K.Sink.written c.args.io.now.out.now) (g.K.Sink.faults c.args.io.now.out.now) (g.K.Sink.wants c.args.io.now.out.now)) (g.F.Shelf.faults c.args.io.now.shelf.now)

@@ -1,6 +1,6 @@
 use Rattle.std.proofs.Common.{◌∙◌, arith}
 use Rattle.span_language.specs.Lines.{lines_of}
-use Rattle.span_language.specs.Runs.{outside, RunsAll, RunsFront}
+use Rattle.span_language.specs.Runs.{outside, RunsAll, RunsPrefix}
 use Rattle.session_state.specs.Carried.{outlet}
 use Rattle.span_talk.specs.Talk.{OfSent}
 use Rattle.span_talk.specs.Progress.{IsHalted}
@@ -22,7 +22,7 @@ returns-in-Ok-clause-done g c =
 
 -- stopped in the last line
 halted : (g : Over) (c : In-Err g) → IsHalted
-    (λ Ends. OfSent (g.C.Client.left c.args.client.now) (λ sent. RunsFront Ends (lines_of sent) c.args.states
+    (λ Ends. OfSent (g.C.Client.left c.args.client.now) (λ sent. RunsPrefix Ends (lines_of sent) c.args.states
     (outside (g.K.Sink.written c.args.io.now.out.now) (g.F.Shelf.files c.args.io.now.shelf.now) c.args.meters.now.looks.now c.args.meters.now.pairs.now c.args.meters.now.places.now)
     (outside (g.K.Sink.written c.finish.new.io.out.now) (g.F.Shelf.files c.finish.new.io.shelf.now) c.finish.new.meters.looks.now c.finish.new.meters.pairs.now c.finish.new.meters.places.now)))
     (outlet (g.K.Sink.written c.args.io.now.out.now) (g.K.Sink.faults c.args.io.now.out.now) (g.K.Sink.wants c.args.io.now.out.now)) (g.F.Shelf.faults c.args.io.now.shelf.now)

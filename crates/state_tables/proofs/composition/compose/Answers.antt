@@ -1,7 +1,7 @@
 use Rattle.std.proofs.Common.{◌≡◌, ℕ, ◌<◌, List, ap, sym, subst, ◌∙◌, arith, length, map, get_or}
 use Rattle.state_tables.specs.Table.{compose_of, compose_row, row_at}
 use Rattle.state_tables.specs.Coded.{table_of}
-use Rattle.state_tables.specs.Classed.{ArePlaced, IsClassed}
+use Rattle.state_tables.specs.Classed.{AreRowsAt, IsClassed}
 use Rattle.state_tables.specs.TableRows.{list_of}
 use Rattle.state_tables.proofs.Collecting.{length-table}
 use Rattle.state_tables.proofs.Meanings.{IsTable-compose}
@@ -17,10 +17,10 @@ merged-requires c =
 
 -- ---- the composed table
 -- the rows are placed
-placed : (c : In_ok-partition) → ArePlaced (λ k. compose_row (table_of c.right.inside.partition (list_of c.right.inside.rows).rows) (row_at (list_of c.left.inside.rows).rows k)) (length (list_of c.left.inside.rows).rows)
+placed : (c : In_ok-partition) → AreRowsAt (λ k. compose_row (table_of c.right.inside.partition (list_of c.right.inside.rows).rows) (row_at (list_of c.left.inside.rows).rows k)) (length (list_of c.left.inside.rows).rows)
     (length c.right.inside.partition) c.in_ok-places.places.items c.compose_rows.new.set
 placed c =
-    subst (λ rs. ArePlaced (λ k. compose_row (table_of rs (list_of c.right.inside.rows).rows) (row_at (list_of c.left.inside.rows).rows k)) (length (list_of c.left.inside.rows).rows) (length rs) c.in_ok-places.places.items c.compose_rows.new.set)
+    subst (λ rs. AreRowsAt (λ k. compose_row (table_of rs (list_of c.right.inside.rows).rows) (row_at (list_of c.left.inside.rows).rows k)) (length (list_of c.left.inside.rows).rows) (length rs) c.in_ok-places.places.items c.compose_rows.new.set)
     c.classes.ensures c.in_ok-places.ensures.placed
 
 -- as many states on both sides

@@ -56,8 +56,8 @@ loop-row-preserved c =
           (subst (λ y. HasRoom cs (list_of c.args.rows.now) c.reach_set.new.words y) (sym taken) room);
       before = λ lt. ap number_of_words reached ∙ c.reach_set.ensures.value ∙ ap (λ k. reach (row_at lefts k).marked 0 t) (omega (arith));
       long = ap length words ∙ width;
-      width = width-taken at.set c.place_of.new.self row c.in_ok-place_of.ensures.taken ∙ at.invariant.width;
+      width = width-taken at.set c.index_of.new.self row c.in_ok-index_of.ensures.taken ∙ at.invariant.width;
       placed = rw c.in_ok-push.ensures.items
-          (placed-more f at.row n at.places.items at.set c.place_of.new.self row c.in_ok-place_of.field-0 at.invariant.placed c.in_ok-place_of.ensures.taken c.in_ok-place_of.ensures.place
+          (placed-more f at.row n at.places.items at.set c.index_of.new.self row c.in_ok-index_of.field-0 at.invariant.placed c.in_ok-index_of.ensures.taken c.in_ok-index_of.ensures.place
           same (subst (IsWithin n) (sym same) (composed-is-within n t left shape)));
     }

@@ -5,7 +5,7 @@ use Rattle.marker_dfa.specs.Deterministic.{states_of}
 use Rattle.state_tables.specs.StateSet.{word_count}
 use Rattle.state_tables.specs.Table.{byte_row}
 use Rattle.state_tables.specs.Coded.{row_of, table_of}
-use Rattle.state_tables.specs.Classed.{ArePlaced, IsClassed}
+use Rattle.state_tables.specs.Classed.{AreRowsAt, IsClassed}
 use Rattle.state_tables.proofs.Meanings.{IsTable-byte}
 use Rattle.state_tables.proofs.Placing.{IsWithin, byte-classed, byte-is-within, placed-byte_table, placed-more, placed-none, width-taken}
 use Rattle.state_tables.proofs.one_byte.of_byte.Goals as goal
@@ -29,16 +29,16 @@ loop-p-preserved c =
     ap (row_of c.byte_row-code.result) (c.deref.ensures.value ∙ words) ∙ c.byte_row-code.ensures.value in
     record {
       words = ap length words ∙ c.byte_row-code.ensures.width ∙ ap length c.deref_mut.ensures.value ∙ at.invariant.words;
-      width = width-taken at.set c.place_of.new.self row c.in_ok-place_of.ensures.taken ∙ at.invariant.width;
+      width = width-taken at.set c.index_of.new.self row c.in_ok-index_of.ensures.taken ∙ at.invariant.width;
       placed = rw c.in_ok-push.ensures.items
-          (placed-more (byte_row c.args.dfa.now c.args.byte) at.p n at.classes.items at.set c.place_of.new.self row c.in_ok-place_of.field-0 at.invariant.placed c.in_ok-place_of.ensures.taken
-          c.in_ok-place_of.ensures.place same (subst (IsWithin n) (sym same) (byte-is-within c.args.dfa.now c.args.byte at.p c.states-states.ensures.automaton)));
+          (placed-more (byte_row c.args.dfa.now c.args.byte) at.p n at.classes.items at.set c.index_of.new.self row c.in_ok-index_of.field-0 at.invariant.placed c.in_ok-index_of.ensures.taken
+          c.in_ok-index_of.ensures.place same (subst (IsWithin n) (sym same) (byte-is-within c.args.dfa.now c.args.byte at.p c.states-states.ensures.automaton)));
     }
 
-placed : (c : After-loop-p) → ArePlaced (byte_row c.args.dfa.now c.args.byte) (states_of c.args.dfa.now) (states_of c.args.dfa.now) c.loop-p.classes.items c.loop-p.set
+placed : (c : After-loop-p) → AreRowsAt (byte_row c.args.dfa.now c.args.byte) (states_of c.args.dfa.now) (states_of c.args.dfa.now) c.loop-p.classes.items c.loop-p.set
 placed c =
     let at : c.loop-p.p ≡ states_of c.args.dfa.now = omega (arith, c.states-states.ensures.value, c.loop-p-test.false, c.loop-p.auto.p-end) in
-    subst (λ m. ArePlaced (byte_row c.args.dfa.now c.args.byte) m (states_of c.args.dfa.now) c.loop-p.classes.items c.loop-p.set) at c.loop-p.invariant.placed
+    subst (λ m. AreRowsAt (byte_row c.args.dfa.now c.args.byte) m (states_of c.args.dfa.now) c.loop-p.classes.items c.loop-p.set) at c.loop-p.invariant.placed
 
 classed : (c : After-loop-p) → IsClassed c.loop-p.classes.items c.loop-p.set
 classed c = byte-classed c.args.dfa.now c.args.byte c.loop-p.classes.items c.loop-p.set c.states-states.ensures.automaton (placed c) c.loop-p.invariant.width

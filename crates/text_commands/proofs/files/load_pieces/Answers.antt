@@ -1,4 +1,4 @@
-use Rattle.text_commands.proofs.Names.{ap, arith, fed_to, Files, Grows-none, Grows-trans, inr, IsFileFront, IsLoadPaid, IsNextPiece, IsWithin, length, length-append}
+use Rattle.text_commands.proofs.Names.{ap, arith, fed_to, Files, Grows-none, Grows-trans, inr, IsFilePrefix, IsLoadPaid, IsNextPiece, IsWithin, length, length-append}
 use Rattle.text_commands.proofs.Names.{length-take-le, limit_of, load_size, Method, method_of, Option, refl, rules, subst, sym, take, ℕ, ◌++◌, ◌+◌, ◌∙◌, ◌≡◌, ◌≤◌}
 use Rattle.text_commands.proofs.Facts.{front_paid, within_limit}
 use Rattle.text_commands.proofs.files.load_pieces.Goals as goal
@@ -15,7 +15,7 @@ loop-loader-init g c =
       method = fresh.method_is;
       at = ap length (sym none);
       within = omega arith;
-      front = subst (IsFileFront (g.F.Shelf.files c.args.shelf.now) c.args.name.now load_size) (sym none) c.requires;
+      front = subst (IsFilePrefix (g.F.Shelf.files c.args.shelf.now) c.args.name.now load_size) (sym none) c.requires;
       grows = Grows-none c.args.store.now c.args.pairs.now c.args.pairs.now (omega arith);
       cost = fresh.free c.args.store.now c.args.pairs.now;
       files = refl;
@@ -91,7 +91,7 @@ loop-loader-preserved g c =
       method = c.in_ok-feed.ensures.method ∙ i.method;
       at = omega (arith, ap length all, length-append front piece, taken, i.at);
       within = omega (arith, c.in_ok-count.ensures.count.1);
-      front = subst (IsFileFront (g.F.Shelf.files c.args.shelf.now) c.args.name.now load_size) (sym all) (next front (sym i.at) i.front).0;
+      front = subst (IsFilePrefix (g.F.Shelf.files c.args.shelf.now) c.args.name.now load_size) (sym all) (next front (sym i.at) i.front).0;
       grows = Grows-trans _ _ _ _ _ _ i.grows c.feed.ensures.grows;
       cost = c.in_ok-feed.ensures.cost c.args.pairs.now i.cost;
       files = c.next_piece.ensures.files ∙ i.files;

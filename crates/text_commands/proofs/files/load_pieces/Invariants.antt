@@ -1,4 +1,4 @@
-use Rattle.text_commands.proofs.Names.{fed_to, Grows, IsFileFront, IsFileLoader, IsWithinLimit, length, load_size, method_of, ◌-◌, ◌≡◌, ◌≤◌}
+use Rattle.text_commands.proofs.Names.{fed_to, Grows, IsFilePrefix, IsFileLoader, IsWithinLimit, length, load_size, method_of, ◌-◌, ◌≡◌, ◌≤◌}
 use Rattle.text_commands.proofs.files.load_pieces.Given as goal
 
 abbrev pub invariant-loop-loader : goal.invariant-loop-loader
@@ -7,7 +7,7 @@ invariant-loop-loader g l = record {
   method : method_of l.loader ≡ l.fn.method;
   at : l.at ≡ length (fed_to l.store l.loader);
   within : l.at ≤ load_size;
-  front : IsFileFront (g.F.Shelf.files l.fn.shelf) l.name load_size (fed_to l.store l.loader);
+  front : IsFilePrefix (g.F.Shelf.files l.fn.shelf) l.name load_size (fed_to l.store l.loader);
   grows : Grows l.fn.store l.store l.fn.pairs l.pairs;
   cost : IsWithinLimit l.store l.loader l.fn.pairs l.pairs;
   files : g.F.Shelf.files l.shelf ≡ g.F.Shelf.files l.fn.shelf;

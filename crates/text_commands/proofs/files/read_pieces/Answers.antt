@@ -1,4 +1,4 @@
-use Rattle.text_commands.proofs.Names.{ap, arith, Files, IsFileFront, IsNextPiece, length, length-append, length-take-le, open_size, Option, rules, subst, sym, take, ◌∙◌, ◌≡◌}
+use Rattle.text_commands.proofs.Names.{ap, arith, Files, IsFilePrefix, IsNextPiece, length, length-append, length-take-le, open_size, Option, rules, subst, sym, take, ◌∙◌, ◌≡◌}
 use Rattle.text_commands.proofs.Facts.{front_means, whole_means}
 use Rattle.text_commands.proofs.files.read_pieces.Goals as goal
 
@@ -23,7 +23,7 @@ loop-piece-preserved g c =
     let all = c.in_ok-push_piece.ensures in
     record {
       within = omega (arith, ap length all, length-append c.loop-piece.bytes.items piece, length-take-le c.in_ok-count.count c.next_piece.new.piece c.in_ok-count.ensures.count.0, c.in_ok-count.ensures.count.1, c.len.ensures);
-      front = subst (IsFileFront (g.F.Shelf.files c.args.shelf.now) c.args.name.now open_size) (sym all) (next c.loop-piece.bytes.items at i.front).0;
+      front = subst (IsFilePrefix (g.F.Shelf.files c.args.shelf.now) c.args.name.now open_size) (sym all) (next c.loop-piece.bytes.items at i.front).0;
       files = c.next_piece.ensures.files ∙ i.files;
       sound = c.in_ok-count.ensures.sound ∙ i.sound;
     }

@@ -1,7 +1,7 @@
 use Rattle.std.proofs.Common.{◌≡◌, ◌+◌, ◌-◌, [], length, get_or, ap, subst, ◌∙◌, arith, Some, None}
 use Rattle.span_types.specs.Writes.{blanks, write_mark}
 use Rattle.marker_dfa.specs.Deterministic.{ends_of}
-use Rattle.count_tables.specs.Place.{IsNth}
+use Rattle.count_tables.specs.TextIndex.{IsNth}
 use Rattle.count_tables.proofs.Finding.{empty-nth, empty-none}
 use Rattle.count_tables.proofs.tables.CountTables.nth.Goals as goal
 

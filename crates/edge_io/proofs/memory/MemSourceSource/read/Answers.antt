@@ -8,8 +8,8 @@ returns-clause-bytes c =
     let bytes = c.deref.result.now in
     let all = c.self.inside.bytes.items in
     let place = c.self.inside.place in
-    let n = c.copy_front-count.result in
-    let into = c.copy_front-count.new.into in
+    let n = c.copy_prefix-count.result in
+    let into = c.copy_prefix-count.new.into in
     let rest = take (length bytes - place) (drop place bytes) in
     let cut = c.min.result in
     let size = length-take cut rest in
@@ -17,9 +17,9 @@ returns-clause-bytes c =
     let size_drop = length-drop place bytes in
     let same = ap length c.deref.ensures.value in
     let is : take n into ≡ take n (drop place all) =
-    c.copy_front-count.ensures.bytes
-    ∙ take-take n cut rest (omega (arith, c.copy_front-count.ensures.count, size))
+    c.copy_prefix-count.ensures.bytes
+    ∙ take-take n cut rest (omega (arith, c.copy_prefix-count.ensures.count, size))
     ∙ ap (λ l. take n l) (take_rest bytes place ∙ ap (λ l. drop place l) c.deref.ensures.value) in (
       sym (ap (λ v. v.left) c.self.view_is) ∙ moved all into place n is,
-      λ none room. ended all place n (omega (arith, none, room, c.self.invariant, c.copy_front-count.ensures.count, c.min.ensures, size, size_rest, size_drop, same)),
+      λ none room. ended all place n (omega (arith, none, room, c.self.invariant, c.copy_prefix-count.ensures.count, c.min.ensures, size, size_rest, size_drop, same)),
     )

@@ -2,7 +2,7 @@ use Rattle.std.proofs.Common.{◌≡◌, ℕ, ◌<◌, length, map, refl, ap, sy
 use Rattle.std.specs.Prelude.{All}
 use Rattle.slp_model.specs.declared.Node.{Node}
 use Rattle.slp_model.specs.Kept.{Keeps}
-use Rattle.slp_model.specs.Thin.{IsThinOf, rank}
+use Rattle.slp_model.specs.Thin.{IsCompactionOf, rank}
 use Rattle.marker_dfa.specs.Deterministic.{DeterministicAutomaton}
 use Rattle.distinct_items.specs.Renumbering.{kept_items, used_of}
 use Rattle.state_tables.specs.Dictionary.{AreTables, Dictionary, IsDictionary, count_of, table_of}
@@ -37,7 +37,7 @@ each c i lt keeps =
     let low : i < count_of (view_of c.self.inside) = subst (λ d. i < count_of d) (sym c.self.view_is) lt in
     table-stays (view_of c.self.inside) c.args.moves.now (after c) c.self.invariant (dropped c) i low keeps ∙ ap (λ d. table_of d i) c.self.view_is
 
-tables : (c : After-len) (a : DeterministicAutomaton) (ns ms : List Node) → IsThinOf ns c.args.moves.now ms → AreTables a ns c.args.self.now → AreTables a ms (after c)
+tables : (c : After-len) (a : DeterministicAutomaton) (ns ms : List Node) → IsCompactionOf ns c.args.moves.now ms → AreTables a ns c.args.self.now → AreTables a ms (after c)
 tables c a ns ms thin are =
     tables-thin (view_of c.self.inside) c.args.moves.now (after c) c.self.invariant (dropped c) a ns ms thin.trees (subst (AreTables a ns) (sym c.self.view_is) are)
 

@@ -11,7 +11,7 @@ use Rattle.slp_model.specs.Nodes.{tree, trees, node_tree, IsSound, IsNodeAt, IsB
 use Rattle.slp_model.proofs.NodesLemmas.{tree-append, tree-push, node-at, IsSound-push}
 use Rattle.slp_model.specs.Distinct.{AreDistinct, AreOfBytes, IsOfByte}
 use Rattle.slp_model.specs.Kept.{Keeps, IsPlanOf, Reaches, Here, Left, Right, RootReaches}
-use Rattle.slp_model.specs.Thin.{rank, renumbered, moved, kept_of, thin, AnyReaches, ThinLaw}
+use Rattle.slp_model.specs.Thin.{rank, renumbered, moved, kept_of, thin, AnyReaches, CompactionLaw}
 use Rattle.slp_model.proofs.KeptLemmas.{cases_eq}
 use Rattle.slp_model.proofs.RankLemmas.{rank-kept, rank-other, rank-below, rank-apart, kept-within, kept-on, kept-skip}
 
@@ -247,7 +247,7 @@ thin-bytes ns ks ms t bytes j m h =
     let v = comes-from ns ks ms t j m h in
     subst IsOfByte (sym v.is) (byte-renumbered (rank ks) v.node (bytes v.place v.node v.at))
 
-pub thin-law : ThinLaw
+pub thin-law : CompactionLaw
 thin-law ns ks sound plan = record {
   sound = t.sound;
   bytes = thin-bytes ns ks (thin ns ks) t;

@@ -4,7 +4,7 @@ use Rattle.slp_model.specs.declared.NodeId.{NodeId}
 use Rattle.list_all.specs.Page.{Page}
 use Rattle.list_all.proofs.Rows.{each-push}
 use Rattle.list_all.proofs.Sharing.{page-at, get-front}
-use Rattle.list_all.proofs.shared.place_of.Goals as goal
+use Rattle.list_all.proofs.shared.page_index.Goals as goal
 
 pub returns-then-not-new-clause-page : goal.returns-then-not-new-clause-page
 returns-then-not-new-clause-page g c =

@@ -19,7 +19,7 @@ use Rattle.count_tables.specs.declared.nth.Way.{Way}
 pub record IsNth (a : DeterministicAutomaton) (s : List ℕ) (m : ℕ) (r : Option Tuple) : Type 0 where
   pub answers : List Tuple
   pub all : AreAnswersOf a s answers
-  pub at_place : r ≡ slice_get answers (m - 1)
+  pub at_position : r ≡ slice_get answers (m - 1)
 
 -- `after` says of each state how many texts go on from it, as it is kept
 abbrev pub AreWays : ℕ → (ℕ → List Marked) → List ℕ → Type 0
@@ -35,7 +35,7 @@ number_over t p after = stopped (number_onward (counts_at t p) after + onward_fr
 
 -- w leads over s from p to q. Of the texts over s from p, each followed by one that goes on from its state, that at index i is w and then the
 -- one at index j of those from q
-pub record IsPlace (a : DeterministicAutomaton) (s : List ℕ) (p : ℕ) (after : List ℕ) (i : ℕ) (w : Marked) (q j : ℕ) : Type 0 where
+pub record IsTextAt (a : DeterministicAutomaton) (s : List ℕ) (p : ℕ) (after : List ℕ) (i : ℕ) (w : Marked) (q j : ℕ) : Type 0 where
   pub bytes : bytes_of w ≡ s
   pub ends : path (next_of a) w p ≡ Some q
   pub behind : j < slice_index_or after q 0
@@ -72,6 +72,6 @@ pub record IsPassed (t : List CountRow) (after : List ℕ) (from to : Way) : Typ
 -- the marks over the part were found and written
 pub record Finds (g : CountInput) (here : Part) (after : List ℕ) (from to : Way) (before later : ℕ) : Type 0 where
   pub word : Marked
-  pub place : IsPlace g.dfa.now (text (tree_of g here)) from.state after from.index word to.state to.index
+  pub place : IsTextAt g.dfa.now (text (tree_of g here)) from.state after from.index word to.state to.index
   pub written : to.tuple ≡ write_word here.at word from.tuple
   pub cost : later ≤ before + 2 * (height (tree_of g here) * mark_count word)

@@ -1,5 +1,5 @@
 use Rattle.span_words.proofs.Numbers.{reading_of}
-use Rattle.span_words.proofs.law.taken_have_reading.Goals as goal
+use Rattle.span_words.proofs.law.accepted_have_reading.Goals as goal
 
 pub returns : goal.returns
 returns c = reading_of

@@ -1,9 +1,9 @@
 -- Facts about the session's state, for commands that add nodes, compute tables, or do neither.
 use Rattle.session_state.proofs.Names.{Accepted, AllowsWrites, Answer, Answers, ap, AreKept, AreLive, AreLive-grows, arith, AsksForCounts, at, Bool, Carries}
-use Rattle.session_state.proofs.Names.{Book, Command, Compacts, counters, Doc, Documents, Err, false, Files, Goes, Grows, Grows-length, Grows-none}
+use Rattle.session_state.proofs.Names.{Book, Command, Compacts, counters, Doc, Documents, Err, false, Files, KeepsInvariant, Grows, Grows-length, Grows-none}
 use Rattle.session_state.proofs.Names.{GrowsTables, IfErr, IfOk, inl, inr, IsAllowed, IsConsistent, IsErrAnd, IsOfFile, IsOnce, IsPut, IsSaved, length}
 use Rattle.session_state.proofs.Names.{line_state, LineState, List, Named, no_steps, Node, nodes_of, Ok, open_size, Option, pairs_of, PaysFor, PaysForPart}
-use Rattle.session_state.proofs.Names.{PlacesOfBoth, plain, plain-grows, plain_versions, put, queries_of, Query, Quiet, refl, Refused, Registers, Result, Rose}
+use Rattle.session_state.proofs.Names.{PlacesOfBoth, plain, plain-grows, plain_versions, put, queries_of, Query, Quiet, refl, Refused, Registers, Result, HasIncreased}
 use Rattle.session_state.proofs.Names.{saved_text, Serves, SessionState, State, state_of, Stays, Stop, subst, sym, tables_in, tables_of, Tallies, Told, true}
 use Rattle.session_state.proofs.Names.{with_documents, with_queries, world, world_at, ℕ, ◌+◌, ◌∙◌, ◌≡◌, ◌≤◌, ◌⊎◌}
 use Rattle.script_syntax.specs.declared.form.Command.TheVariants as form
@@ -59,7 +59,7 @@ none_tallied registers compacts asks counts told old new none kept nodes pairs a
 -- ---- the store has more nodes, and the documents changed
 pub grown_goes : (h : SessionState) (store : List Node) (docs : List Doc) (command : Command) (files after : Option Files) (faults more looks p q places : ℕ) → IsConsistent h → Grows h.store store p q → AreLive store docs
     → PaysForPart (world_at (at h files faults looks p places)) command (counters looks p) (counters looks q) → faults ≤ more
-    → Goes (at h files faults looks p places) command (at (record h { store = store; docs = docs }) after more looks q places)
+    → KeepsInvariant (at h files faults looks p places) command (at (record h { store = store; docs = docs }) after more looks q places)
 grown_goes h store docs command files after faults more looks p q places is grows live begun later =
     let serves = serves-grows h.store store p q h.book grows is.serves in
     record {
@@ -108,7 +108,7 @@ same_world same files = λ i. world (same i) (files i)
 -- and the documents have the same texts
 pub grown_stays : (h : SessionState) (store : List Node) (docs : List Doc) (number : ℕ) (command : Command) (files after : Option Files) (faults more looks p q places : ℕ) (why : Stop) → IsConsistent h → Grows h.store store p q → AreLive store docs
     → plain store docs ≡ plain h.store h.docs → PaysForPart (world (state_of h) files) command (counters looks p) (counters looks q) → after ≡ files → faults ≤ more
-    → (why ≡ stop.ShelfFault → IsOfFile command × Rose faults more) → (why ≡ stop.OutFault → ⊥)
+    → (why ≡ stop.ShelfFault → IsOfFile command × HasIncreased faults more) → (why ≡ stop.OutFault → ⊥)
     → Stays (at h files faults looks p places) number command (at (record h { store = store; docs = docs }) after more looks q places) why
 grown_stays h store docs number command files after faults more looks p q places why is grows live texts begun same later shelf sink = record {
   goes = grown_goes h store docs command files after faults more looks p q places is grows live begun later;
@@ -146,7 +146,7 @@ stays h number command files faults looks pairs places is =
 -- ---- the store and the counters are unchanged
 still_goes : (h : SessionState) (docs : List Doc) (versions : Named (List Doc)) (book : Book) (command : Command) (files after : Option Files) (faults more looks pairs places : ℕ) → IsConsistent h
     → IsConsistent (record h { docs = docs; versions = versions; book = book }) → faults ≤ more
-    → Goes (at h files faults looks pairs places) command (at (record h { docs = docs; versions = versions; book = book }) after more looks pairs places)
+    → KeepsInvariant (at h files faults looks pairs places) command (at (record h { docs = docs; versions = versions; book = book }) after more looks pairs places)
 still_goes h docs versions book command files after faults more looks pairs places is now later = record {
   session = now;
   nodes = inl (omega arith);
@@ -224,7 +224,7 @@ saved_answers h number file bytes nodes answer files after faults more looks pai
       (omega arith) (omega arith) not_asked (none_placed (length h.store) (tables_of h.book) places);
 }
 
-pub saved_stays : (h : SessionState) (number : ℕ) (file : List ℕ) (files after : Option Files) (faults more looks pairs places : ℕ) (why : Stop) → IsConsistent h → after ≡ files → faults ≤ more → (why ≡ stop.ShelfFault → Rose faults more) → (why ≡ stop.OutFault → ⊥)
+pub saved_stays : (h : SessionState) (number : ℕ) (file : List ℕ) (files after : Option Files) (faults more looks pairs places : ℕ) (why : Stop) → IsConsistent h → after ≡ files → faults ≤ more → (why ≡ stop.ShelfFault → HasIncreased faults more) → (why ≡ stop.OutFault → ⊥)
     → Stays (at h files faults looks pairs places) number (form.SaveFile file) (at h after more looks pairs places) why
 saved_stays h number file files after faults more looks pairs places why is same later shelf sink = record {
   goes = still_goes h h.docs h.versions h.book (form.SaveFile file) files after faults more looks pairs places is is later;
@@ -250,7 +250,7 @@ marked_answers h docs versions number command answer files faults looks pairs pl
 -- ---- tables were computed, then the store got nodes and the documents changed
 moved_goes : (asked : Bool) (h : SessionState) (store : List Node) (docs : List Doc) (book : Book) (command : Command) (files : Option Files) (faults looks more p q r s : ℕ) → IsConsistent h → Grows h.store store p q → AreLive store docs
     → GrowsTables asked h.store h.book book r s → (asked ≡ true → AsksForCounts (world (state_of h) files) command) → PaysForPart (world (state_of h) files) command (counters looks p) (counters more q)
-    → Goes (at h files faults looks p r) command (at (record h { store = store; docs = docs; book = book }) files faults more q s)
+    → KeepsInvariant (at h files faults looks p r) command (at (record h { store = store; docs = docs; book = book }) files faults more q s)
 moved_goes asked h store docs book command files faults looks more p q r s is grows live grown asks begun =
     let part = grown_placed_part asked h.store h.book book r s grown in
     record {
@@ -302,7 +302,7 @@ moved_stops asked h store docs book number command files faults looks more p q r
 -- ---- only tables were computed
 pub placed_goes : (asked : Bool) (h : SessionState) (book : Book) (command : Command) (files : Option Files) (faults looks more pairs p q : ℕ) → IsConsistent h → GrowsTables asked h.store h.book book p q
     → (asked ≡ true → AsksForCounts (world (state_of h) files) command) → PaysForPart (world (state_of h) files) command (counters looks pairs) (counters more pairs)
-    → Goes (at h files faults looks pairs p) command (at (record h { book = book }) files faults more pairs q)
+    → KeepsInvariant (at h files faults looks pairs p) command (at (record h { book = book }) files faults more pairs q)
 placed_goes asked h book command files faults looks more pairs p q is grown asks begun =
     moved_goes asked h h.store h.docs book command files faults looks more pairs pairs p q is (Grows-none h.store pairs pairs (omega arith)) is.live grown asks begun
 

@@ -1,6 +1,6 @@
 use Rattle.query_commands.proofs.Names.{ap, AreLive-grows, err_from_is_err_and, inl, plain, plain-grows, refl, replaced, text_of, ◌∙◌}
 use Rattle.query_commands.proofs.Facts.{assigned_after}
-use Rattle.query_commands.proofs.replacement.put_in_place.Goals as goal
+use Rattle.query_commands.proofs.replacement.put_replaced.Goals as goal
 
 pub set_document-requires-clause-live : goal.set_document-requires-clause-live
 set_document-requires-clause-live g c = AreLive-grows c.args.session.now.store c.replaced.new.store c.args.pairs.now c.replaced.new.pairs c.replaced.ensures.grows c.args.session.now.docs c.requires.live

@@ -1,12 +1,12 @@
 use Rattle.std.proofs.Common.{◌≡◌, List, Some, length, slice_get, arith, ap, sym, subst, ◌∙◌}
 use Rattle.slp_model.specs.declared.Node.{Node}
-use Rattle.slp_model.specs.Thin.{rank, renumbered, thin, IsThinOf}
-use Rattle.slp_model.proofs.ThinLemmas.{thin_to, thin-all, thin-law}
+use Rattle.slp_model.specs.Thin.{rank, renumbered, thin, IsCompactionOf}
+use Rattle.slp_model.proofs.CompactionLemmas.{thin_to, thin-all, thin-law}
 use Rattle.node_store.specs.declared.Facts.{Facts}
 use Rattle.node_store.specs.Stored.{IsNext, IsKept}
 use Rattle.node_store.proofs.MoveLemmas.{next-kept, kept-last, kept-same}
-use Rattle.node_store.proofs.thin.thinned.Goals as goal
-use Rattle.node_store.proofs.thin.thinned.Goals.{then-kept+in_ok-insert, else-kept}
+use Rattle.node_store.proofs.thin.compacted_nodes.Goals as goal
+use Rattle.node_store.proofs.thin.compacted_nodes.Goals.{then-kept+in_ok-insert, else-kept}
 
 pub insert-requires : goal.insert-requires
 insert-requires c =
@@ -29,4 +29,4 @@ pub returns-clause-thin : goal.returns-clause-thin
 returns-clause-thin c =
     let end : c.loop-index.index ≡ length c.args.store.now = omega (arith, c.count-index-end.ensures.count, c.loop-index-test.false, c.loop-index.auto.index-end) in
     let made : c.loop-index.thin ≡ thin c.args.store.now c.args.moves.now = c.loop-index.invariant ∙ (ap (thin_to c.args.store.now c.args.moves.now) end ∙ thin-all c.args.store.now c.args.moves.now) in
-    subst (λ (ms : List Node). IsThinOf c.args.store.now c.args.moves.now ms) (sym made) (thin-law c.args.store.now c.args.moves.now c.count-index-end.ensures.sound c.requires)
+    subst (λ (ms : List Node). IsCompactionOf c.args.store.now c.args.moves.now ms) (sym made) (thin-law c.args.store.now c.args.moves.now c.count-index-end.ensures.sound c.requires)

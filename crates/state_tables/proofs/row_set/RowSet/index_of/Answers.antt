@@ -1,7 +1,7 @@
 use Rattle.std.proofs.Common.{ap, sym, ◌∙◌, arith}
 use Rattle.state_tables.specs.Digest.{digest_with, low_of}
 use Rattle.state_tables.proofs.RowSets.{number-of-row, set-push}
-use Rattle.state_tables.proofs.row_set.RowSet.place_of.Goals as goal
+use Rattle.state_tables.proofs.row_set.RowSet.index_of.Goals as goal
 
 pub invariant_of-self-in-Free : goal.invariant_of-self-in-Free
 invariant_of-self-in-Free c =
