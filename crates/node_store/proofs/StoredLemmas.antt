@@ -1,6 +1,6 @@
 -- A store with one more node, and what its facts say.
 use Rattle.std.proofs.Common.{◌≡◌, ◌≢◌, ℕ, ◌+◌, ◌^◌, ◌*◌, ◌%◌, ◌<◌, ◌≤◌, inl, inr, List, [], ◌∷◌, ◌++◌, length, get_or, slice_get, Some, refl, ap, sym, subst, ◌∙◌, arith, length-append}
-use Rattle.std.proofs.Common.{Bool, true, false, zero, suc}
+use Rattle.std.proofs.Common.{Bool, true, false, zero, suc, max}
 use Rattle.std.specs.List.{IsDistinct, AllByRecursion}
 use Rattle.std.proofs.lemmas.Bool.{cases_lt}
 use Rattle.std.proofs.lemmas.Nat.{pow-add}
@@ -99,15 +99,15 @@ new-added eq same ns n d i h =
     omega arith
 
 -- the element at an index
-pub at-place : (f : Tree → ℕ) (ns : List Node) (xs : List ℕ) (i x : ℕ) → AreOfTrees f ns xs → i < length ns → x ≡ get_or xs i x → x ≡ f (tree ns i)
-at-place f ns xs i x a h e =
+pub at-index : (f : Tree → ℕ) (ns : List Node) (xs : List ℕ) (i x : ℕ) → AreOfTrees f ns xs → i < length ns → x ≡ get_or xs i x → x ≡ f (tree ns i)
+at-index f ns xs i x a h e =
     let inside : i < length xs = omega (arith, a.as_long) in
     a.each i x (slice_get-get_or xs i x inside ∙ ap Some (sym e))
 
 -- a height at an index, with what the tree has of bytes
 pub height-at : (ns : List Node) (lens heights : List ℕ) (i h : ℕ) → IsStored ns lens heights → i < length ns → h ≡ get_or heights i h → IsHeightOf (tree ns i) h
 height-at ns lens heights i h s within e =
-    let is : h ≡ height (tree ns i) = at-place height ns heights i h s.heights_are within e in
+    let is : h ≡ height (tree ns i) = at-index height ns heights i h s.heights_are within e in
     let bal : IsBalanced (tree ns i) = s.sound.balanced i within in
     record {
       enough = subst (λ g. fibonacci (g + 2) ≤ leaves (tree ns i)) (sym is) (height-enough (tree ns i) bal);
@@ -140,3 +140,29 @@ block-next ns h l r f sound left right low len high =
 
     few : 2 ^ (h + 1) ≤ 2 ^ 48
     few = pow_mono {i = h + 1} {j = 48} (omega (arith, low))
+
+-- the value of a node in a list of values
+pub at-or : (f : Tree → ℕ) (ns : List Node) (xs : List ℕ) (i : ℕ) → AreOfTrees f ns xs → i < length ns → get_or xs i 0 ≡ f (tree ns i)
+at-or f ns xs i a h =
+    let inside : i < length xs = omega (arith, a.as_long) in
+    a.each i (get_or xs i 0) (slice_get-get_or xs i 0 inside)
+
+-- two nodes that may be a pair: it may follow, and what is known of it
+pub pair-next : (ns : List Node) (lens heights : List ℕ) (l r : NodeId) (f : Facts) → IsStored ns lens heights → l.index < length ns → r.index < length ns
+    → IsNear (height (tree ns l.index)) (height (tree ns r.index)) → leaves (tree ns l.index) + leaves (tree ns r.index) ≤ 2 ^ 48
+    → f.len ≡ get_or lens l.index 0 + get_or lens r.index 0 → f.height ≡ max (get_or heights l.index 0) (get_or heights r.index 0) + 1 → IsNext ns (Pair l r) f
+unfolding tree
+pair-next ns lens heights l r f s left right near short len high = record {
+  below = (left, right);
+  byte = tt;
+  balanced = (near, s.sound.balanced l.index left, s.sound.balanced r.index right);
+  len = len ∙ (λ i. at-or leaves ns lens l.index s.lens_are left i + at-or leaves ns lens r.index s.lens_are right i);
+  height_is = high ∙ (λ i. max (at-or height ns heights l.index s.heights_are left i) (at-or height ns heights r.index s.heights_are right i) + 1);
+  short = short;
+}
+
+-- each height is small
+pub low-at : (ns : List Node) (lens heights : List ℕ) (i : ℕ) → IsStored ns lens heights → i < length ns → get_or heights i 0 < 255
+low-at ns lens heights i s within =
+    let most : height (tree ns i) ≤ 68 = height-most (tree ns i) (s.sound.balanced i within) (s.sound.short i within) in
+    omega (arith, at-or height ns heights i s.heights_are within, most)

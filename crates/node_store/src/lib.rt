@@ -29,7 +29,7 @@
 //! Neither: Memory per node; time of a search.
 #![tactic(auto)]
 
-ghost use Rattle.std.specs.Prelude.{◌≡◌, ◌+◌, ◌^◌, ◌<◌, ◌≤◌, [], length, slice_get, IfSome, IfOk, IsTrue, OnErr, Some};
+ghost use Rattle.std.specs.Prelude.{◌≡◌, ◌+◌, ◌^◌, ◌<◌, ◌≤◌, [], length, get_or, max, slice_get, IfSome, IfOk, IsTrue, OnErr, Some};
 ghost use Rattle.span_types.specs.Fibonacci.{fibonacci, height_limit};
 ghost use Rattle.slp_model.specs.Tree.{Fork, Leaf, leaves, height, IsNear, IsBalanced};
 ghost use Rattle.slp_model.specs.Nodes.{tree, trees, node_tree, pair_count, Grows, IsNodeAt, IsSound};
@@ -216,15 +216,10 @@ impl Store {
         ensures step { pairs.new ≡ pairs.old + 1 }
     {
         pairs.tick();
-        let node = Node::Pair(left, right);
-        if let Some(id) = self.found_next(node) {
-            return Ok(id);
+        match self.found_next(Node::Pair(left, right)) {
+            Some(id) => Ok(id),
+            None => self.insert_pair(left, right),
         }
-        let facts = Facts {
-            len: self.len(left) + self.len(right),
-            height: self.height(left).max(self.height(right)) + 1,
-        };
-        self.insert(node, facts)
     }
 
     /// The id of the pair of two blocks of 2^height bytes each, whose trees have this height. It returns what `pair`
@@ -330,6 +325,31 @@ impl Store {
         })
     }
 
+    // The id of the pair. The lengths and heights of its children are read only if it is added: a wait for memory less
+    // for each pair that is there.
+    fn insert_pair(&mut self, left: NodeId, right: NodeId) -> Result<NodeId, NoMemory>
+        requires left { left.index < length self.old }
+        requires right { right.index < length self.old }
+        requires near { IsNear (height (tree self.old left.index)) (height (tree self.old right.index)) }
+        requires short { leaves (tree self.old left.index) + leaves (tree self.old right.index) ≤ 2 ^ 48 }
+        ensures kept { IsKept self.old self.new (Node.Pair left right) }
+        ensures node { IfOk result (λ id. slice_get self.new id.index ≡ Some (Node.Pair left right)) }
+        ensures live { IfOk result (λ id. id.index < length self.new) }
+        ensures tree { IfOk result (λ id. tree self.new id.index ≡ Fork (tree self.old left.index) (tree self.old right.index)) }
+        ensures err { OnErr result (self.new ≡ self.old) }
+    {
+        self.lens.reserve(1).map_err(|_| NoMemory)?;
+        self.heights.reserve(1).map_err(|_| NoMemory)?;
+        let (index, added) = self.nodes.insert(Node::Pair(left, right))?;
+        self.next = index.wrapping_add(1);
+        if added {
+            let facts = pair_facts(&self.lens, &self.heights, left, right);
+            self.lens.push_reserved(facts.len);
+            self.heights.push_reserved(facts.height);
+        }
+        Ok(NodeId { index })
+    }
+
     // The id of the node, whose facts are these.
     fn insert(&mut self, node: Node, facts: Facts) -> Result<NodeId, NoMemory>
         requires { IsNext self.old node facts }
@@ -348,5 +368,23 @@ impl Store {
             self.heights.push_reserved(facts.height);
         }
         Ok(NodeId { index })
+    }
+}
+
+// The length and the height of a pair, from those of its children.
+fn pair_facts(lens: &[u64], heights: &[u8], left: NodeId, right: NodeId) -> Facts
+    requires lens_left { left.index < length lens.now }
+    requires lens_right { right.index < length lens.now }
+    requires heights_left { left.index < length heights.now }
+    requires heights_right { right.index < length heights.now }
+    requires short { get_or lens.now left.index 0 + get_or lens.now right.index 0 ≤ 2 ^ 48 }
+    requires low_left { get_or heights.now left.index 0 < 255 }
+    requires low_right { get_or heights.now right.index 0 < 255 }
+    ensures len { result.len ≡ get_or lens.now left.index 0 + get_or lens.now right.index 0 }
+    ensures height { result.height ≡ max (get_or heights.now left.index 0) (get_or heights.now right.index 0) + 1 }
+{
+    Facts {
+        len: lens[left.index] + lens[right.index],
+        height: heights[left.index].max(heights[right.index]) + 1,
     }
 }
