@@ -1,11 +1,11 @@
--- What the lists of rows give.
+-- Lists of rows and of sets.
 use Rattle.std.proofs.Common.{zero, suc, ◌≡◌, ℕ, ◌+◌, ◌-◌, ◌*◌, ◌<◌, ◌≤◌, Bool, true, false, nat_eq, refl, ap, sym, ◌∙◌, arith, List, [], ◌∷◌, ◌++◌, length, take, drop, get_or, ext_get_or, Option, Some, None, mul-le-mul_right, suc-mul, zero-mul}
 use Rattle.std.proofs.lemmas.Bool.{eq-eqb}
 use Rattle.std.proofs.lemmas.List.{drop-append-le, drop-drop, length-drop, take-append-le, take_all}
 use Rattle.std.specs.Option.{SomeIff}
 use Rattle.state_tables.specs.StateSet.{number_of_words}
 use Rattle.state_tables.specs.Table.{Row, no_row, row_at}
-use Rattle.state_tables.specs.Coded.{RowList, code_of, row_of, rows_of, step_of}
+use Rattle.state_tables.specs.Coded.{RowList, SetList, code_of, row_of, sets_of, step_of}
 use Rattle.state_tables.specs.Digest.{digest_of}
 use Rattle.state_tables.specs.Same.{table_eq, table_same}
 
@@ -24,7 +24,7 @@ pub code_of-step_of : (u : ℕ) → code_of (step_of u) ≡ u
 code_of-step_of zero = refl
 code_of-step_of (suc q) = refl
 
--- a row is told by its code and the words of its set
+-- a code and the words of a set determine a row
 pub row-told : (row : Row) (code : ℕ) (ws : List ℕ) → code ≡ code_of row.unmarked → number_of_words ws ≡ row.marked → row_of code ws ≡ row
 row-told row code ws e m =
     let make : Option ℕ → ℕ → Row = λ u n. record { unmarked = u; marked = n } in
@@ -36,38 +36,44 @@ lists-same a b wide long each =
     let make : ℕ → List Row → RowList = λ w rows. record { width = w; rows = rows } in
     ap (λ w. make w a.rows) wide ∙ ap (make b.width) (ext_get_or no_row a.rows b.rows long each)
 
--- ---- the rows of the lists
-pub rows-length : (w : ℕ) (us ws : List ℕ) → length (rows_of w us ws) ≡ length us
-rows-length w [] ws = refl
-rows-length w (u ∷ us) ws = ap suc (rows-length w us (drop w ws))
+-- two lists of sets are the same
+pub set-lists-same : (a b : SetList) → a.width ≡ b.width → length a.sets ≡ length b.sets → ((k : ℕ) → k < length a.sets → get_or a.sets k 0 ≡ get_or b.sets k 0) → a ≡ b
+set-lists-same a b wide long each =
+    let make : ℕ → List ℕ → SetList = λ w sets. record { width = w; sets = sets } in
+    ap (λ w. make w a.sets) wide ∙ ap (make b.width) (ext_get_or 0 a.sets b.sets long each)
 
--- each row has a code
-pub row-low : (w : ℕ) (us ws : List ℕ) (list : RowList) (k : ℕ) → record { width = w; rows = rows_of w us ws } ≡ list → k < length list.rows → k < length us
-row-low w us ws list k e lt = omega (arith, lt, rows-length w us ws, ap (λ r. length r.rows) e)
+-- ---- the sets of the list
+pub sets-length : (w n : ℕ) (ws : List ℕ) → length (sets_of w n ws) ≡ n
+sets-length w zero ws = refl
+sets-length w (suc n) ws = ap suc (sets-length w n (drop w ws))
 
-pub rows-at : (w : ℕ) (us ws : List ℕ) (k : ℕ) → k < length us → row_at (rows_of w us ws) k ≡ row_of (get_or us k 0) (take w (drop (k * w) ws))
-rows-at w [] ws k lt = absurd (omega (arith, lt))
-rows-at w (u ∷ us) ws zero lt = ap (λ n. row_of u (take w (drop n ws))) (sym (zero-mul w))
-rows-at w (u ∷ us) ws (suc k) lt =
+pub sets-at : (w n : ℕ) (ws : List ℕ) (k : ℕ) → k < n → get_or (sets_of w n ws) k 0 ≡ number_of_words (take w (drop (k * w) ws))
+sets-at w zero ws k lt = absurd (omega (arith, lt))
+sets-at w (suc n) ws zero lt = ap (λ m. number_of_words (take w (drop m ws))) (sym (zero-mul w))
+sets-at w (suc n) ws (suc k) lt =
     let sum : w + k * w ≡ suc k * w = omega (arith, suc-mul k w) in
-    rows-at w us (drop w ws) k (omega (arith, lt)) ∙ ap (λ x. row_of (get_or us k 0) (take w x)) (drop-drop (k * w) w ws ∙ ap (λ n. drop n ws) sum)
+    sets-at w n (drop w ws) k (omega (arith, lt)) ∙ ap (λ x. number_of_words (take w x)) (drop-drop (k * w) w ws ∙ ap (λ m. drop m ws) sum)
 
--- the words of a set lie within
+-- each set has its words
+pub sets-low : (w n : ℕ) (ws : List ℕ) (list : SetList) (k : ℕ) → record { width = w; sets = sets_of w n ws } ≡ list → k < length list.sets → k < n
+sets-low w n ws list k e lt = omega (arith, lt, sets-length w n ws, ap (λ s. length s.sets) e)
+
+-- the words of a set are within
 pub words-within : (k n w m : ℕ) → k < n → m ≡ n * w → k * w + w ≤ m
 words-within k n w m lt e =
     let most : suc k * w ≤ n * w = mul-le-mul_right w (omega (arith, lt)) in
     omega (arith, most, suc-mul k w, e)
 
-pub rows-push : (w : ℕ) (us ws : List ℕ) (u : ℕ) (xs : List ℕ) → length ws ≡ length us * w → length xs ≡ w → rows_of w (us ++ u ∷ []) (ws ++ xs) ≡ rows_of w us ws ++ row_of u xs ∷ []
-rows-push w [] [] u xs long wide = ap (λ x. row_of u x ∷ []) (take_all w xs (omega (arith, wide)))
-rows-push w [] (x ∷ ws) u xs long wide = absurd (omega (arith, long, zero-mul w))
-rows-push w (v ∷ us) ws u xs long wide =
-    let sum : length ws ≡ length us * w + w = long ∙ suc-mul (length us) w in
+pub sets-push : (w n : ℕ) (ws xs : List ℕ) → length ws ≡ n * w → length xs ≡ w → sets_of w (suc n) (ws ++ xs) ≡ sets_of w n ws ++ number_of_words xs ∷ []
+sets-push w zero [] xs long wide = ap (λ x. number_of_words x ∷ []) (take_all w xs (omega (arith, wide)))
+sets-push w zero (x ∷ ws) xs long wide = absurd (omega (arith, long, zero-mul w))
+sets-push w (suc n) ws xs long wide =
+    let sum : length ws ≡ n * w + w = long ∙ suc-mul n w in
     let some : w ≤ length ws = omega (arith, sum) in
-    let rest : length (drop w ws) ≡ length us * w = omega (arith, length-drop w ws, sum) in
-    ap (λ x. row_of v x ∷ rows_of w (us ++ u ∷ []) (drop w (ws ++ xs))) (take-append-le w ws xs some)
-    ∙ ap (λ x. row_of v (take w ws) ∷ rows_of w (us ++ u ∷ []) x) (drop-append-le w ws xs some)
-    ∙ ap (λ t. row_of v (take w ws) ∷ t) (rows-push w us (drop w ws) u xs rest wide)
+    let rest : length (drop w ws) ≡ n * w = omega (arith, length-drop w ws, sum) in
+    ap (λ x. number_of_words x ∷ sets_of w (suc n) (drop w (ws ++ xs))) (take-append-le w ws xs some)
+    ∙ ap (λ x. number_of_words (take w ws) ∷ sets_of w (suc n) x) (drop-append-le w ws xs some)
+    ∙ ap (λ t. number_of_words (take w ws) ∷ t) (sets-push w n (drop w ws) xs rest wide)
 
 -- ---- digests
 -- tables whose digests differ are different

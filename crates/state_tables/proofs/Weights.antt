@@ -32,7 +32,7 @@ pub weight-more : (p : ℕ) → weight_of (p + 1) ≡ weight_of p * 0xd134_2543_
 unfolding weight_of
 weight-more p = ap (λ k. 0xd134_2543_de82_ef95 ^ k) (add-one p) ∙ pow-suc 0xd134_2543_de82_ef95 p
 
-weighted-take : (f : ℕ → ℕ) (xs : List ℕ) (i : ℕ) → i < length xs → weighted f 0 (take (i + 1) xs) ≡ weighted f 0 (take i xs) + weight_of i * f (get_or xs i 0)
+pub weighted-take : (f : ℕ → ℕ) (xs : List ℕ) (i : ℕ) → i < length xs → weighted f 0 (take (i + 1) xs) ≡ weighted f 0 (take i xs) + weight_of i * f (get_or xs i 0)
 weighted-take f xs i lt =
     let here : 0 + length (take i xs) ≡ i = omega (arith, length-take-le i xs (omega (arith, lt))) in
     ap (weighted f 0) (take_more xs i 0 lt) ∙ weighted-push f 0 (take i xs) (get_or xs i 0) ∙ ap (λ k. weighted f 0 (take i xs) + weight_of k * f (get_or xs i 0)) here

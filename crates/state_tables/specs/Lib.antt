@@ -6,6 +6,7 @@ pub mod Coded
 pub mod RowSet
 pub mod Classed
 pub mod Reached
+pub mod Unions
 pub mod Weights
 pub mod Digest
 pub mod Partition

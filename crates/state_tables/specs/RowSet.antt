@@ -1,10 +1,12 @@
--- Rows that are found by their numbers.
-use Rattle.std.specs.Prelude.{◌≡◌, ◌⊎◌, ℕ, ◌<◌, ◌≤◌, List, length, slice_index_or}
+-- Sets and rows that are found by numbers.
+use Rattle.std.specs.Prelude.{◌≡◌, ◌⊎◌, ℕ, ◌<◌, ◌≤◌, ◌++◌, [], ◌∷◌, List, length, slice_index_or}
+use Rattle.state_tables.specs.StateSet.{words_of}
 use Rattle.state_tables.specs.Table.{Row, row_at}
-use Rattle.state_tables.specs.Coded.{RowList, with_row}
-use Rattle.state_tables.specs.Digest.{row_number}
-use Rattle.state_tables.specs.declared.row_set.Slot.{Slot}
-use Rattle.state_tables.specs.declared.row_set.Slot.TheVariants.{Free, Taken}
+use Rattle.state_tables.specs.Coded.{RowList, SetList, coded_at, with_row}
+use Rattle.state_tables.specs.declared.table_rows.CodedRow.{CodedRow}
+use Rattle.state_tables.specs.Digest.{row_number, set_digest}
+use Rattle.state_tables.specs.declared.slot.Slot.{Slot}
+use Rattle.state_tables.specs.declared.slot.Slot.TheVariants.{Free, Taken}
 
 -- each row has its number, and each slot one more than the index of a row, or 0
 pub record IsRowSet (list : RowList) (numbers slots : List ℕ) : Type 0 where
@@ -18,10 +20,30 @@ abbrev pub IsRowAt : RowList → Row → ℕ → Type 0
 IsRowAt list row k = (k < length list.rows) × (row_at list.rows k ≡ row)
 
 -- where the search for the row ends
-abbrev pub IsSlot : RowList → List ℕ → Row → Slot → Type 0
-IsSlot list slots row (Taken k) = IsRowAt list row k
-IsSlot list slots row (Free s) = s < length slots
+abbrev pub IsCodedSlot : List CodedRow → List ℕ → CodedRow → Slot → Type 0
+IsCodedSlot rows slots row (Taken k) = (k < length rows) × (coded_at rows k ≡ row)
+IsCodedSlot rows slots row (Free s) = s < length slots
 
 -- the rows are unchanged, or this one is added last
 abbrev pub TakesRow : RowList → RowList → Row → Type 0
 TakesRow old new row = (new ≡ old) ⊎ (new ≡ with_row old row)
+
+-- each set has its digest, and each slot one more than the index of a set, or 0
+pub record IsSetIndex (list : SetList) (digests slots : List ℕ) : Type 0 where
+  pub as_long : length digests ≡ length list.sets
+  pub digests_are : (k : ℕ) → k < length list.sets → slice_index_or digests k 0 ≡ set_digest (words_of list.width (slice_index_or list.sets k 0))
+  pub some : 0 < length slots
+  pub within : (s : ℕ) → slice_index_or slots s 0 ≤ length list.sets
+
+-- there is a set k, and it is this one
+abbrev pub IsSetAt : List ℕ → ℕ → ℕ → Type 0
+IsSetAt sets set k = (k < length sets) × (slice_index_or sets k 0 ≡ set)
+
+-- where the search for the set ends
+abbrev pub IsSetSlot : List ℕ → List ℕ → ℕ → Slot → Type 0
+IsSetSlot sets slots set (Taken k) = IsSetAt sets set k
+IsSetSlot sets slots set (Free s) = s < length slots
+
+-- the sets are unchanged, or this one is added last
+abbrev pub TakesSet : List ℕ → List ℕ → ℕ → Type 0
+TakesSet old new set = (new ≡ old) ⊎ (new ≡ old ++ set ∷ [])

@@ -2,21 +2,23 @@
 
 ghost use Rattle.std.specs.Prelude.{◌≡◌, ℕ, ◌<◌, ◌≤◌, ◌++◌, [], List, get_or, length, map, IfOk, OnOk};
 ghost use Rattle.marker_dfa.specs.Deterministic.{DeterministicAutomaton, IsDeterministic};
-ghost use Rattle.state_tables.specs.Table.{compose_of, compose_row, row_at};
-ghost use Rattle.state_tables.specs.Coded.{table_of};
-ghost use Rattle.state_tables.specs.Classed.{AreRowsAt, AreWithin, IsClassed};
+ghost use Rattle.state_tables.specs.Table.{compose_of, compose_row, reach, row_at};
+ghost use Rattle.state_tables.specs.Coded.{list_of, table_of};
+ghost use Rattle.state_tables.specs.Classed.{AreRowsAt, AreSetsWithin, AreWithin, IsClassed};
 ghost use Rattle.state_tables.specs.Meaning.{IsTable};
-ghost use Rattle.state_tables.specs.TableRows.{list_of};
 
-use crate::reached::{compose_row, reach_set};
+use crate::reached::{reach_set, step_over};
 use crate::row_set::RowSet;
+use crate::sets::Sets;
 use crate::table::Table;
-use crate::table_rows::TableRows;
+use crate::table_rows::{CodedRow, TableRows};
+use crate::unions::Unions;
 use span_types::NoMemory;
 use std::alloc::Global;
 
-/// The table of two texts joined, from the tables of the two. For each class of the left table it adds up the rows that
-/// its row leads to in the right table, each of these at most once. Equal rows are then one class again.
+/// The table of two texts joined, from the tables of the two. For each set of the left table it adds up the rows that
+/// the set leads to in the right table, each of these at most once. Then it composes the row of each class of the left
+/// table, and equal rows are one class again.
 ///
 /// # Errors
 ///
@@ -27,16 +29,38 @@ pub fn compose(alloc: Global, left: &Table, right: &Table) -> Result<Table, NoMe
     ensures meaning { IfOk result (λ t. (a : DeterministicAutomaton) (s u : List ℕ) → IsDeterministic a
         → IsTable a s left.now → IsTable a u right.now → IsTable a (s ++ u) t) }
 {
+    let classes = right.partition.classes();
+    let images = images_of(alloc, &left.rows, classes, &right.rows)?;
     let mut set = RowSet::with_capacity(alloc, right.rows.width(), left.rows.len() as u16)?;
-    let places = compose_rows(
-        alloc,
-        &left.rows,
-        right.partition.classes(),
-        &right.rows,
-        &mut set,
-    )?;
+    let places = compose_rows(alloc, &left.rows, classes, &right.rows, images, &mut set)?;
     let partition = left.partition.merged(alloc, &places)?;
     Ok(Table::from_partition(partition, set))
+}
+
+// What each set of the left text reaches over the right one.
+fn images_of(
+    alloc: Global,
+    left: &TableRows,
+    classes: &[u16],
+    rows: &TableRows,
+) -> Result<Sets, NoMemory>
+    requires right { IsClassed classes.now (list_of rows.now) }
+    requires left { AreSetsWithin (length classes.now) left.now.sets }
+    requires few { length left.now.sets ≤ length classes.now }
+    requires width { left.now.width ≡ rows.now.width }
+    ensures { IfOk result (λ images. images ≡ record {
+      width = rows.now.width;
+      sets = map (λ set. reach set 0 (table_of classes.now (list_of rows.now).rows)) left.now.sets;
+    }) }
+{
+    let mut words = vec![in alloc; 0; rows.width()]?;
+    let mut taken = vec![in alloc; false; rows.len()]?;
+    let mut images = Sets::with_capacity(alloc, rows.width(), left.set_count())?;
+    for set in 0..left.set_count() {
+        reach_set(&mut words, &mut taken, left.set(set).words(), classes, rows);
+        images.push(&words)?;
+    }
+    Ok(images)
 }
 
 // The rows of the left text composed with those of the right one, and the index of each among them.
@@ -45,25 +69,30 @@ fn compose_rows(
     left: &TableRows,
     classes: &[u16],
     rows: &TableRows,
-    set: &mut RowSet,
+    images: Sets,
+    found: &mut RowSet,
 ) -> Result<Vec<u16>, NoMemory>
     requires right { IsClassed classes.now (list_of rows.now) }
+    requires right_sets { length rows.now.sets ≤ length classes.now }
     requires left { AreWithin (length classes.now) (list_of left.now).rows }
-    requires few { length (list_of left.now).rows ≤ length classes.now }
-    requires width { (list_of left.now).width ≡ (list_of rows.now).width }
-    requires empty { set.old ≡ record { width = (list_of rows.now).width; rows = [] } }
-    ensures width { OnOk result (set.new.width ≡ (list_of rows.now).width) }
+    requires few { length left.now.rows ≤ length classes.now }
+    requires images { images ≡ record {
+      width = rows.now.width;
+      sets = map (λ set. reach set 0 (table_of classes.now (list_of rows.now).rows)) left.now.sets;
+    } }
+    requires empty { found.old ≡ record { width = rows.now.width; sets = []; rows = [] } }
+    ensures width { OnOk result (found.new.width ≡ rows.now.width) }
+    ensures few { OnOk result (length found.new.sets ≤ length left.now.rows) }
+    ensures within { OnOk result (AreSetsWithin (length classes.now) found.new.sets) }
     ensures placed { IfOk result (λ places. AreRowsAt (λ k. compose_row (table_of classes.now (list_of rows.now).rows) (row_at (list_of left.now).rows k))
-        (length (list_of left.now).rows) (length classes.now) places.items set.new) }
+        (length (list_of left.now).rows) (length classes.now) places.items (list_of found.new)) }
 {
-    let mut words = vec![in alloc; 0; rows.width()]?;
-    let mut reached = vec![in alloc; 0; rows.width()]?;
-    let mut taken = vec![in alloc; false; rows.len()]?;
+    let mut unions = Unions::new(alloc, images)?;
     let mut places = Vec::with_capacity(alloc, left.len())?;
     for row in 0..left.len() {
-        reach_set(&mut reached, &mut taken, left, row, classes, rows);
-        let code = compose_row(&mut words, &reached, classes, rows, left.code(row));
-        places.push(set.index_of(code, &words)?)?;
+        let (code, beyond) = step_over(left.code(row), classes, rows);
+        let set = unions.index_of(found, rows, left.set_of(row), beyond)?;
+        places.push(found.index_of(CodedRow { code, set })?)?;
     }
     Ok(places)
 }

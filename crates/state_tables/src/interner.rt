@@ -1,14 +1,13 @@
 //! What several tables have in common, stored once.
 
 ghost use Rattle.std.specs.Prelude.{◌≡◌, [], IfOk};
-ghost use Rattle.state_tables.specs.Coded.{RowList};
-ghost use Rattle.state_tables.specs.TableRows.{list_of};
+ghost use Rattle.state_tables.specs.TableRows.{sets_in};
 
 use crate::partition::SharedPartition;
-use crate::rows::Rows;
-use crate::shared_rows::SharedRows;
-use crate::shared_set::{SetWords, SharedSet};
-use crate::table_rows::TableRows;
+use crate::sets::Sets;
+use crate::shared_set::SharedSet;
+use crate::shared_sets::SharedSets;
+use crate::table_sets::TableSets;
 use distinct_items::DistinctItems;
 use span_types::NoMemory;
 use std::alloc::Global;
@@ -26,19 +25,15 @@ const OWN_WORDS: usize = 2;
 pub(crate) struct Interner {
     alloc: Global,
     partitions: DistinctItems<SharedPartition>,
-    // The sets, by which they are found, and as they are shared.
-    sets: DistinctItems<SetWords>,
-    shared: Vec<SharedSet>,
+    sets: DistinctItems<SharedSet>,
 }
 
 impl Model for Interner {
-    ghost use Rattle.std.specs.Prelude.{◌≡◌, ℕ, List};
+    ghost use Rattle.std.specs.Prelude.{ℕ, List};
 
     ghost Value = { List (List ℕ) };
 
     ghost view = { λ i. i.sets };
-
-    ghost invariant = { λ i. i.shared.items ≡ i.sets };
 }
 
 impl Interner {
@@ -50,7 +45,6 @@ impl Interner {
             alloc,
             partitions: DistinctItems::new(alloc),
             sets: DistinctItems::new(alloc),
-            shared: Vec::new(alloc),
         }
     }
 
@@ -83,49 +77,41 @@ impl Interner {
     fn set(&mut self, words: &[u64]) -> Result<SharedSet, NoMemory>
         ensures { IfOk result (λ s. s ≡ words.now) }
     {
-        let set = SetWords::new(self.alloc, words)?;
-        if let Some(number) = self.sets.find(&set) {
-            return self.shared[number].share();
-        }
         if self.sets.len() > MAX_ITEMS {
             return Err(NoMemory);
         }
-        let shared = SharedSet::new(self.alloc, words)?;
-        let result = shared.share()?;
-        self.shared.reserve(1)?;
-        self.sets.insert(set)?;
-        self.shared.push_reserved(shared);
-        Ok(result)
+        let number = self.sets.insert(SharedSet::new(self.alloc, words)?)?;
+        self.sets.at(number).share()
     }
 
-    // The rows with sets that are shared.
-    fn shared_rows(&mut self, rows: &Rows) -> Result<SharedRows, NoMemory>
-        ensures { IfOk result (λ r. r ≡ rows.now) }
+    // The sets, shared with the tables that have them.
+    fn shared_sets(&mut self, sets: &Sets) -> Result<SharedSets, NoMemory>
+        ensures { IfOk result (λ s. s ≡ sets.now) }
     {
-        let mut shared = SharedRows::with_capacity(self.alloc, rows.width(), rows.len())?;
-        for row in 0..rows.len() {
-            let set = self.set(rows.marked(row).words())?;
-            shared.push(rows.code(row), set)?;
+        let mut shared = SharedSets::with_capacity(self.alloc, sets.width(), sets.len())?;
+        for index in 0..sets.len() {
+            let set = self.set(sets.words(index))?;
+            shared.push(set)?;
         }
         Ok(shared)
     }
 
-    /// The rows with sets that are shared with the rows that have them. Sets of at most two words are not shared, since a
+    /// The sets of a table, shared with the tables that have them. Sets of at most two words aren't shared, since a
     /// reference takes as much memory.
     ///
     /// # Errors
     ///
     /// `NoMemory` if allocation fails.
-    pub(crate) fn rows(&mut self, rows: TableRows) -> Result<TableRows, NoMemory>
-        ensures { IfOk result (λ r. list_of r ≡ list_of rows) }
+    pub(crate) fn sets(&mut self, sets: TableSets) -> Result<TableSets, NoMemory>
+        ensures { IfOk result (λ s. sets_in s ≡ sets_in sets) }
     {
-        match rows {
-            TableRows::Own(mut rows) if rows.width() <= OWN_WORDS => {
-                rows.shrink();
-                Ok(TableRows::Own(rows))
+        match sets {
+            TableSets::Own(mut sets) if sets.width() <= OWN_WORDS => {
+                sets.shrink();
+                Ok(TableSets::Own(sets))
             }
-            TableRows::Own(rows) => Ok(TableRows::Shared(self.shared_rows(&rows)?)),
-            TableRows::Shared(rows) => Ok(TableRows::Shared(rows)),
+            TableSets::Own(sets) => Ok(TableSets::Shared(self.shared_sets(&sets)?)),
+            TableSets::Shared(sets) => Ok(TableSets::Shared(sets)),
         }
     }
 }

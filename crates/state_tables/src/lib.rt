@@ -14,17 +14,20 @@
 //! only way to a node, so a function that receives a view counts a step for each.
 //!
 //! Most states lead to the same few states after a few bytes. So the states of a table, at most 1,024, are in classes,
-//! and each class has one row: the state reached without marks, and a set, one word for each 64 states. Kept tables share
-//! their classes, and above 128 states their sets. So a table takes some 250 bytes. A row takes 10 bytes more, or 18 from
-//! 65 to 128 states. Each distinct partition takes 2 bytes for each state, and each distinct set 16 bytes
-//! for each word. A node takes 4 bytes for the number of its table.
+//! and each class has one row: the state reached without marks, and the index of a set, which has one word for each 64
+//! states. Rows with equal sets have one set. Kept tables share their classes, and above 128 states their sets. So a
+//! table takes some 250 bytes, 4 bytes more for each row, and 8 for each set, or 16 from 65 to 128 states. Each distinct
+//! partition takes 2 bytes for each state, and 8 for each class if these are at most a quarter of the states. Each distinct
+//! set that is shared takes 8 bytes for each word and some 110. A node takes 4 bytes for the number of its table.
 //!
-//! A composition computes one row for each class of the left table. Where the class reaches states with marks, each row
-//! of the right table is added to the set at most once, and no state is visited twice; successive classes with the same
-//! set share this work. Equal rows are then one class again. So it takes time linear in the states, in the members of
-//! the left sets, and in the words of the rows that are added; at most 1,024 classes times 1,024 rows of 16 words. A
-//! table has a digest of the rows of its states, so `keep` takes expected constant time besides the comparison with an
-//! equal table. It never takes more than a search by the bits of a table, however the tables are chosen.
+//! A composition computes what each set of the left table reaches in the right one: each row of the right table is added
+//! to the result at most once, and no state is visited twice. The row of a class is then found by numbers: those of its
+//! own set's image and of the set of the row that its unmarked state leads to. Unions of these two are computed once as
+//! far as 64 slots have them. Equal rows are then one class again. It takes time linear in the classes, in the members of
+//! the left sets, and in the words of the rows that are added: at most 1,024 sets times 1,024 rows of 16 words. Merged
+//! classes take time linear in the states. A table has a digest of the rows of its states, so `keep` takes expected
+//! constant time besides the comparison with an equal table. It never takes more than a search by the bits of a table,
+//! however the tables are chosen.
 //!
 //! The tables are those of M. L. Schmid and N. Schweikardt, *Spanner evaluation over SLP-compressed documents*, PODS
 //! 2021. Rows by classes of states are this project's own.
@@ -38,19 +41,23 @@
 
 pub mod composition;
 mod digest;
+mod distinct_sets;
 mod interner;
 pub mod one_byte;
 mod partition;
 mod reached;
 mod renumbering;
 mod row_set;
-mod rows;
-mod shared_rows;
+mod sets;
 mod shared_set;
+mod shared_sets;
+mod slot;
 pub mod state_set;
 pub mod table;
 mod table_rows;
+mod table_sets;
 pub mod tables;
+mod unions;
 pub mod view;
 
 pub use composition::compose;

@@ -31,7 +31,7 @@ pub fn of_byte(alloc: Global, dfa: &Dfa, byte: u8) -> Result<Table, NoMemory>
     let mut classes = Vec::with_capacity(alloc, states as usize)?;
     for p in 0..states {
         let code = byte_row(&mut words, dfa, p, byte);
-        classes.push(set.index_of(code, &words)?)?;
+        classes.push(set.index_with(code, &words)?)?;
     }
     let partition = SharedPartition::new(alloc, classes)?;
     Ok(Table::from_partition(partition, set))

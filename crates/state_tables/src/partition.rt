@@ -1,9 +1,9 @@
 //! The classes of the states of a table.
 
-ghost use Rattle.std.specs.Prelude.{◌≡◌, ◌↔◌, ℕ, ◌/◌, ◌%◌, ◌^◌, ◌<◌, get_or, length, map, IfOk, IsTrue};
+ghost use Rattle.std.specs.Prelude.{◌≡◌, ◌↔◌, ℕ, ◌/◌, ◌%◌, ◌^◌, ◌<◌, ◌⊎◌, List, [], get_or, length, map, IfOk, IfSome, IsTrue};
 ghost use Rattle.std.specs.Int.{bit_at};
 ghost use Rattle.state_tables.specs.Weights.{weighted};
-ghost use Rattle.state_tables.specs.Partition.{partition_branch, partition_digest, partition_root};
+ghost use Rattle.state_tables.specs.Partition.{HasWeights, partition_branch, partition_digest, partition_root};
 
 use crate::digest::{WEIGHT, sum_digest};
 use distinct_items::Digested;
@@ -13,49 +13,126 @@ use std::marker::Model;
 use std::ops::Deref;
 use std::sync::Arc;
 
-/// The class of each state, with a digest by which equal partitions are found.
+/// The class of each state, with the weight of each class, and a digest by which equal partitions are found. The weight of
+/// a class is the sum of the weights of its states, modulo 2^64, so that sums over the states are sums over the classes.
 #[derive(Drop)]
 pub(crate) struct Partition {
     classes: Vec<u16>,
+    // The weight of each class, or nothing if the classes are many.
+    weights: Vec<u64>,
     digest: u128,
 }
 
 impl Model for Partition {
-    ghost use Rattle.std.specs.Prelude.{◌≡◌, ℕ, List};
-    ghost use Rattle.state_tables.specs.Partition.{partition_digest};
+    ghost use Rattle.std.specs.Prelude.{◌≡◌, ◌⊎◌, ℕ, List, []};
+    ghost use Rattle.state_tables.specs.Partition.{HasWeights, partition_digest};
 
     ghost Value = { List ℕ };
 
     ghost view = { λ p. p.classes.items };
 
-    ghost invariant = { λ p. p.digest ≡ partition_digest p.classes.items };
+    ghost invariant = { λ p. ((p.weights.items ≡ []) ⊎ HasWeights p.classes.items p.weights.items) × p.digest ≡ partition_digest p.classes.items };
 }
 
 impl Partition {
-    /// The partition with these classes.
-    fn new(classes: Vec<u16>) -> Partition
+    /// The partition with these classes, which have these weights.
+    fn new(alloc: Global, classes: Vec<u16>, weights: Vec<u64>) -> Partition
+        requires { HasWeights classes.items weights.items }
         ensures { result ≡ classes.items }
     {
-        let digest = sum_digest(class_sum(&classes));
-        Partition { classes, digest }
+        let digest = sum_digest(class_sum(&weights));
+        let weights = if_few(alloc, weights, classes.len());
+        Partition {
+            classes,
+            weights,
+            digest,
+        }
     }
 }
 
-// The sum over the states of the weight of each times its class, modulo 2^64.
-fn class_sum(classes: &[u16]) -> u64
-    ensures { result ≡ weighted (λ c. c) 0 classes.now % 2 ^ 64 }
+// The weights of more classes than a quarter of the states take more memory than the classes, and save little time.
+const STATES_PER_CLASS: usize = 4;
+
+// The weights, or nothing if the classes are many.
+fn if_few(alloc: Global, weights: Vec<u64>, states: usize) -> Vec<u64>
+    ensures { (result.items ≡ []) ⊎ (result.items ≡ weights.items) }
 {
-    let mut sum: u64 = 0;
+    if weights.len() <= states / STATES_PER_CLASS {
+        weights
+    } else {
+        Vec::new(alloc)
+    }
+}
+
+// One more than the greatest of these classes, or 0 if there is none.
+fn class_count(classes: &[u16]) -> usize
+    ensures { (p : ℕ) → p < length classes.now → get_or classes.now p 0 < result }
+{
+    let mut count = 0;
+    for class in classes {
+        let end = *class as usize + 1;
+        if count < end {
+            count = end;
+        }
+    }
+    count
+}
+
+// The weight of each class, from the classes of the states.
+fn class_weights(alloc: Global, classes: &[u16]) -> Result<Vec<u64>, NoMemory>
+    ensures { IfOk result (λ weights. HasWeights classes.now weights.items) }
+{
+    let mut weights = vec![in alloc; 0u64; class_count(classes)]?;
     let mut weight: u64 = 1;
     for class in classes {
-        sum = sum.wrapping_add(weight.wrapping_mul(*class as u64));
+        let class = *class as usize;
+        weights[class] = weights[class].wrapping_add(weight);
         weight = weight.wrapping_mul(WEIGHT);
+    }
+    Ok(weights)
+}
+
+// The weight of each new class, to which the old ones go.
+fn merged_weights(alloc: Global, weights: &[u64], places: &[u16]) -> Result<Vec<u64>, NoMemory>
+    ensures { IfOk result (λ merged. (classes : List ℕ) → HasWeights classes weights.now
+        → ((p : ℕ) → p < length classes → get_or classes p 0 < length places.now)
+        → HasWeights (map (λ c. get_or places.now c 0) classes) merged.items) }
+{
+    let mut merged = vec![in alloc; 0u64; class_count(places)]?;
+    for class in 0..weights.len().min(places.len()) {
+        let new = places[class] as usize;
+        merged[new] = merged[new].wrapping_add(weights[class]);
+    }
+    Ok(merged)
+}
+
+// The sum over the states of the weight of each times its class, modulo 2^64.
+fn class_sum(weights: &[u64]) -> u64
+    ensures { (classes : List ℕ) → HasWeights classes weights.now
+        → result ≡ weighted (λ c. c) 0 classes % 2 ^ 64 }
+{
+    let mut sum: u64 = 0;
+    for class in 0..weights.len() {
+        sum = sum.wrapping_add(weights[class].wrapping_mul(class as u64));
     }
     sum
 }
 
 // The sum over the states of the weight of each times the number of its class, modulo 2^64.
-fn number_sum(classes: &[u16], numbers: &[u64]) -> u64
+fn number_sum(weights: &[u64], numbers: &[u64]) -> u64
+    ensures { (classes : List ℕ) → HasWeights classes weights.now
+        → ((p : ℕ) → p < length classes → get_or classes p 0 < length numbers.now)
+        → result ≡ weighted (λ c. get_or numbers.now c 0) 0 classes % 2 ^ 64 }
+{
+    let mut sum: u64 = 0;
+    for class in 0..weights.len().min(numbers.len()) {
+        sum = sum.wrapping_add(weights[class].wrapping_mul(numbers[class]));
+    }
+    sum
+}
+
+// The same sum, without the weights of the classes.
+fn state_sum(classes: &[u16], numbers: &[u64]) -> u64
     requires { (p : ℕ) → p < length classes.now → get_or classes.now p 0 < length numbers.now }
     ensures { result ≡ weighted (λ c. get_or numbers.now c 0) 0 classes.now % 2 ^ 64 }
 {
@@ -104,7 +181,8 @@ impl SharedPartition {
     pub(crate) fn new(alloc: Global, classes: Vec<u16>) -> Result<SharedPartition, NoMemory>
         ensures { IfOk result (λ s. s ≡ classes.items) }
     {
-        let partition = Arc::new(alloc, Partition::new(classes))?;
+        let weights = class_weights(alloc, &classes)?;
+        let partition = Arc::new(alloc, Partition::new(alloc, classes, weights))?;
         Ok(SharedPartition { partition })
     }
 
@@ -140,7 +218,12 @@ impl SharedPartition {
             return self.share();
         }
         let classes = through(alloc, self.classes(), places)?;
-        SharedPartition::new(alloc, classes)
+        let weights = match self.weights() {
+            Some(weights) => merged_weights(alloc, weights, places)?,
+            None => class_weights(alloc, &classes)?,
+        };
+        let partition = Arc::new(alloc, Partition::new(alloc, classes, weights))?;
+        Ok(SharedPartition { partition })
     }
 
     /// The sum over the states of the weight of each times the number of its class, modulo 2^64.
@@ -148,7 +231,22 @@ impl SharedPartition {
         requires { (p : ℕ) → p < length self.now → get_or self.now p 0 < length numbers.now }
         ensures { result ≡ weighted (λ c. get_or numbers.now c 0) 0 self.now % 2 ^ 64 }
     {
-        number_sum(self.classes(), numbers)
+        match self.weights() {
+            Some(weights) => number_sum(weights, numbers),
+            None => state_sum(self.classes(), numbers),
+        }
+    }
+
+    // The weight of each class, unless the classes are many.
+    fn weights(&self) -> Option<&[u64]>
+        ensures { IfSome result (λ weights. HasWeights self.now weights.now) }
+    {
+        let weights = &Deref::deref(&self.partition).weights;
+        if weights.is_empty() {
+            None
+        } else {
+            Some(weights)
+        }
     }
 
     // The digest of the classes.

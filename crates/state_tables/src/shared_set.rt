@@ -13,9 +13,9 @@ use std::marker::Model;
 use std::ops::Deref;
 use std::sync::Arc;
 
-/// The words of a set of states, with their digest.
+/// The words of a set of states, with a digest by which equal sets are found.
 #[derive(Drop)]
-pub(crate) struct SetWords {
+struct SetWords {
     words: Vec<u64>,
     digest: u128,
 }
@@ -32,12 +32,8 @@ impl Model for SetWords {
 }
 
 impl SetWords {
-    /// These words.
-    ///
-    /// # Errors
-    ///
-    /// `NoMemory` if allocation fails.
-    pub(crate) fn new(alloc: Global, words: &[u64]) -> Result<SetWords, NoMemory>
+    // The set with these words.
+    fn new(alloc: Global, words: &[u64]) -> Result<SetWords, NoMemory>
         ensures { IfOk result (λ s. s ≡ words.now) }
     {
         let digest = set_digest(words);
@@ -58,32 +54,10 @@ fn word_bit(words: &[u64], place: usize) -> usize
     }
 }
 
-impl Digested for SetWords {
-    ghost root = { set_root };
-
-    ghost branch = { set_branch };
-
-    fn root(&self, roots: usize) -> usize {
-        (self.digest & (roots - 1) as u128) as usize
-    }
-
-    fn branch(&self, depth: usize) -> usize {
-        if depth < 64 {
-            (self.digest >> (127 - depth) & 1) as usize
-        } else {
-            word_bit(self.words.as_slice(), depth - 64)
-        }
-    }
-
-    fn is_same(&self, other: &SetWords) -> bool {
-        self.words.as_slice() == other.words.as_slice()
-    }
-}
-
-/// A set of states that several rows may have, as its words.
+/// A set of states that the rows of several tables may have, as its words.
 #[derive(Drop)]
 pub(crate) struct SharedSet {
-    words: Arc<Vec<u64>, Global>,
+    set: Arc<SetWords, Global>,
 }
 
 impl Model for SharedSet {
@@ -92,7 +66,7 @@ impl Model for SharedSet {
 
     ghost Value = { List ℕ };
 
-    ghost view = { λ s. (arc_value s.words).items };
+    ghost view = { λ s. arc_value s.set };
 }
 
 impl SharedSet {
@@ -104,8 +78,8 @@ impl SharedSet {
     pub(crate) fn new(alloc: Global, words: &[u64]) -> Result<SharedSet, NoMemory>
         ensures { IfOk result (λ s. s ≡ words.now) }
     {
-        let words = Arc::new(alloc, Vec::from_slice(alloc, words)?)?;
-        Ok(SharedSet { words })
+        let set = Arc::new(alloc, SetWords::new(alloc, words)?)?;
+        Ok(SharedSet { set })
     }
 
     /// The same set once more. Nothing is copied.
@@ -116,14 +90,43 @@ impl SharedSet {
     pub(crate) fn share(&self) -> Result<SharedSet, NoMemory>
         ensures { IfOk result (λ s. s ≡ self.now) }
     {
-        let words = Arc::try_clone(&self.words)?;
-        Ok(SharedSet { words })
+        let set = Arc::try_clone(&self.set)?;
+        Ok(SharedSet { set })
     }
 
     /// The words of the set, the lowest states first.
     pub(crate) fn words(&self) -> &[u64]
         ensures { result.now ≡ self.now }
     {
-        Deref::deref(&self.words).as_slice()
+        &Deref::deref(&self.set).words
+    }
+
+    // The digest of the words.
+    fn digest(&self) -> u128
+        ensures { result ≡ set_digest self.now }
+    {
+        Deref::deref(&self.set).digest
+    }
+}
+
+impl Digested for SharedSet {
+    ghost root = { set_root };
+
+    ghost branch = { set_branch };
+
+    fn root(&self, roots: usize) -> usize {
+        (self.digest() & (roots - 1) as u128) as usize
+    }
+
+    fn branch(&self, depth: usize) -> usize {
+        if depth < 64 {
+            (self.digest() >> (127 - depth) & 1) as usize
+        } else {
+            word_bit(self.words(), depth - 64)
+        }
+    }
+
+    fn is_same(&self, other: &SharedSet) -> bool {
+        self.words() == other.words()
     }
 }

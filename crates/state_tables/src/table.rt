@@ -7,11 +7,10 @@ ghost use Rattle.std.proofs.Common.{rules};
 ghost use Rattle.state_tables.specs.StateSet.{member, word_count};
 ghost use Rattle.state_tables.specs.StateSetView.{set_of, width_of};
 ghost use Rattle.state_tables.specs.Table.{IsTableOf, marked_of, unmarked_of};
-ghost use Rattle.state_tables.specs.Coded.{table_of};
-ghost use Rattle.state_tables.specs.Classed.{IsClassed};
+ghost use Rattle.state_tables.specs.Coded.{list_of, table_of};
+ghost use Rattle.state_tables.specs.Classed.{AreClassed, IsClassed};
 ghost use Rattle.state_tables.specs.Branch.{branch_of, root_of, rows_bit};
 ghost use Rattle.state_tables.specs.Same.{table_eq};
-ghost use Rattle.state_tables.specs.TableRows.{list_of};
 
 use crate::interner::Interner;
 use crate::partition::SharedPartition;
@@ -41,25 +40,24 @@ impl Model for Table {
 
     ghost Value = { List Row };
 
-    ghost use Rattle.state_tables.specs.Coded.{table_of};
+    ghost use Rattle.state_tables.specs.Coded.{list_of, table_of};
     ghost use Rattle.state_tables.specs.Classed.{IsInClasses};
-    ghost use Rattle.state_tables.specs.TableRows.{list_of};
 
     ghost view = { λ t. table_of t.partition (list_of t.rows).rows };
 
-    ghost invariant = { λ t. IsInClasses t.partition (list_of t.rows) t.digest };
+    ghost invariant = { λ t. IsInClasses t.partition t.rows t.digest };
 }
 
 impl Table {
     /// The table in which each state has the row of its class.
     pub(crate) fn from_partition(partition: SharedPartition, set: RowSet) -> Table
-        requires { IsClassed partition set }
-        ensures { result ≡ table_of partition set.rows }
+        requires { AreClassed partition set }
+        ensures { result ≡ table_of partition (list_of set).rows }
     {
         let digest = set.digest(&partition);
         Table {
             partition,
-            rows: TableRows::Own(set.into_rows()),
+            rows: set.into_rows(),
             digest,
         }
     }
@@ -79,7 +77,7 @@ impl Table {
         } = self;
         Ok(Table {
             partition: interner.partition(partition)?,
-            rows: interner.rows(rows)?,
+            rows: rows.interned(interner)?,
             digest,
         })
     }

@@ -1,42 +1,82 @@
-//! The rows of a table, in one of two forms.
+//! The rows of a table.
 
-ghost use Rattle.std.specs.Prelude.{◌≡◌, ◌<◌, length, ◌↔◌, IsTrue};
+ghost use Rattle.std.specs.Prelude.{◌≡◌, ◌<◌, get_or, length, ◌↔◌, IfOk, IsTrue};
 ghost use Rattle.std.specs.Bool.{OnTrue};
 ghost use Rattle.state_tables.specs.Table.{row_at};
-ghost use Rattle.state_tables.specs.Coded.{code_of};
+ghost use Rattle.state_tables.specs.Coded.{GroupedRows, code_of, coded_at, list_of};
 ghost use Rattle.state_tables.specs.StateSetView.{set_of, width_of};
-ghost use Rattle.state_tables.specs.TableRows.{list_of};
+ghost use Rattle.state_tables.specs.TableRows.{HaveSets, sets_in};
 
-use crate::rows::Rows;
-use crate::shared_rows::SharedRows;
+use crate::interner::Interner;
 use crate::state_set::{StateSet, is_same};
+use crate::table_sets::TableSets;
+use span_types::NoMemory;
+use std::marker::Model;
 
-/// The rows of a new table with the words of their sets, or those of a kept one, which shares its sets with others.
+/// A row: one more than the state that is reached without marks, or 0 for none, and the index of the set of those that
+/// are reached with some.
+#[derive(Clone, Copy)]
+pub(crate) struct CodedRow {
+    pub(crate) code: u16,
+    pub(crate) set: u16,
+}
+
+/// The row of each class of states. Rows with the same set share it. A row takes 4 bytes besides its set.
 #[derive(Drop)]
-pub(crate) enum TableRows {
-    Own(Rows),
-    Shared(SharedRows),
+pub(crate) struct TableRows {
+    rows: Vec<CodedRow>,
+    sets: TableSets,
+}
+
+impl Model for TableRows {
+    ghost use Rattle.state_tables.specs.Coded.{GroupedRows};
+    ghost use Rattle.state_tables.specs.TableRows.{HaveSets, sets_in};
+
+    ghost Value = { GroupedRows };
+
+    ghost view = { λ t. record { width = (sets_in t.sets).width; sets = (sets_in t.sets).sets; rows = t.rows.items } };
+
+    ghost invariant = { λ t. HaveSets (sets_in t.sets).sets t.rows.items };
 }
 
 impl TableRows {
+    /// These rows, which have these sets.
+    pub(crate) fn new(rows: Vec<CodedRow>, sets: TableSets) -> TableRows
+        requires { HaveSets (sets_in sets).sets rows.items }
+        ensures { result ≡ record { width = (sets_in sets).width; sets = (sets_in sets).sets; rows = rows.items } }
+    {
+        TableRows { rows, sets }
+    }
+
     /// The number of rows.
     pub(crate) fn len(&self) -> usize
-        ensures { result ≡ length (list_of self.now).rows }
+        ensures rows { result ≡ length self.now.rows }
+        ensures list { result ≡ length (list_of self.now).rows }
     {
-        match self {
-            TableRows::Own(rows) => rows.len(),
-            TableRows::Shared(rows) => rows.len(),
-        }
+        self.rows.len()
     }
 
     /// The number of words of each set.
     pub(crate) fn width(&self) -> usize
-        ensures { result ≡ (list_of self.now).width }
+        ensures { result ≡ self.now.width }
     {
-        match self {
-            TableRows::Own(rows) => rows.width(),
-            TableRows::Shared(rows) => rows.width(),
-        }
+        self.sets.width()
+    }
+
+    /// The number of sets.
+    pub(crate) fn set_count(&self) -> usize
+        ensures { result ≡ length self.now.sets }
+    {
+        self.sets.len()
+    }
+
+    /// The set with this index.
+    pub(crate) fn set(&self, set: usize) -> StateSet<'_>
+        requires { set < length self.now.sets }
+        ensures set { set_of result ≡ get_or self.now.sets set 0 }
+        ensures width { width_of result ≡ self.now.width }
+    {
+        self.sets.at(set)
     }
 
     /// One more than the unmarked state of the row, or 0 for none.
@@ -44,47 +84,73 @@ impl TableRows {
         requires { row < length (list_of self.now).rows }
         ensures { result ≡ code_of (row_at (list_of self.now).rows row).unmarked }
     {
-        match self {
-            TableRows::Own(rows) => rows.code(row),
-            TableRows::Shared(rows) => rows.code(row),
-        }
+        self.rows[row].code
+    }
+
+    /// The index of the marked set of the row.
+    pub(crate) fn set_of(&self, row: usize) -> u16
+        requires { row < length (list_of self.now).rows }
+        ensures within { result < length self.now.sets }
+        ensures set { get_or self.now.sets result 0 ≡ (row_at (list_of self.now).rows row).marked }
+    {
+        self.rows[row].set
     }
 
     /// The marked set of the row.
     pub(crate) fn marked(&self, row: usize) -> StateSet<'_>
         requires { row < length (list_of self.now).rows }
         ensures set { set_of result ≡ (row_at (list_of self.now).rows row).marked }
-        ensures width { width_of result ≡ (list_of self.now).width }
+        ensures width { width_of result ≡ self.now.width }
     {
-        match self {
-            TableRows::Own(rows) => rows.marked(row),
-            TableRows::Shared(rows) => rows.marked(row),
-        }
+        self.sets.at(self.set_of(row) as usize)
     }
 
     /// Whether this row is a row of others, whose sets have as many words.
     pub(crate) fn has_row_of(&self, row: usize, others: &TableRows, other: usize) -> bool
         requires row { row < length (list_of self.now).rows }
         requires other { other < length (list_of others.now).rows }
-        requires width { (list_of self.now).width ≡ (list_of others.now).width }
+        requires width { self.now.width ≡ others.now.width }
         ensures { IsTrue result ↔ row_at (list_of self.now).rows row ≡ row_at (list_of others.now).rows other }
     {
         self.code(row) == others.code(other)
             && is_same(self.marked(row).words(), others.marked(other).words())
     }
 
-    /// Whether the rows are the same.
+    /// Whether the rows and their sets are the same.
     pub(crate) fn is_same(&self, others: &TableRows) -> bool
-        ensures { OnTrue result (list_of self.now ≡ list_of others.now) }
+        ensures { OnTrue result (self.now ≡ others.now) }
     {
-        if self.width() != others.width() || self.len() != others.len() {
+        are_same(&self.rows, &others.rows) && self.sets.is_same(&others.sets)
+    }
+
+    /// The same rows, whose sets are shared with the tables that have them.
+    ///
+    /// # Errors
+    ///
+    /// `NoMemory` if allocation fails.
+    pub(crate) fn interned(self, interner: &mut Interner) -> Result<TableRows, NoMemory>
+        ensures { IfOk result (λ t. t ≡ self) }
+    {
+        let TableRows { mut rows, sets } = self;
+        rows.shrink_to_fit();
+        Ok(TableRows {
+            rows,
+            sets: interner.sets(sets)?,
+        })
+    }
+}
+
+// Whether the rows have the same codes and the same indices.
+fn are_same(rows: &[CodedRow], others: &[CodedRow]) -> bool
+    ensures { OnTrue result (rows.now ≡ others.now) }
+{
+    if rows.len() != others.len() {
+        return false;
+    }
+    for row in 0..rows.len() {
+        if rows[row].code != others[row].code || rows[row].set != others[row].set {
             return false;
         }
-        for row in 0..self.len() {
-            if !self.has_row_of(row, others, row) {
-                return false;
-            }
-        }
-        true
     }
+    true
 }

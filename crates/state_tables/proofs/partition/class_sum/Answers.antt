@@ -1,24 +1,16 @@
-use Rattle.std.proofs.Common.{ℕ, List, ◌%◌, ◌^◌, ap, arith, refl, sym, ◌∙◌}
-use Rattle.std.proofs.lemmas.List.{take_all}
-use Rattle.state_tables.specs.Weights.{weighted}
-use Rattle.state_tables.proofs.Weights.{next-weight, weight-none, weighted-more}
+use Rattle.std.proofs.Common.{◌*◌, ◌^◌, arith, get_or, refl, ◌∙◌}
+use Rattle.state_tables.proofs.ClassWeights.{sum-more, sum-of_classes}
 use Rattle.state_tables.proofs.partition.class_sum.Goals as goal
 
 pub loop-class-init : goal.loop-class-init
-loop-class-init c = record {
-  next = ap (λ n. n % 2 ^ 64) (sym weight-none);
-  added = refl;
-}
+loop-class-init c = refl
 
 pub loop-class-preserved : goal.loop-class-preserved
 loop-class-preserved c =
     let at = c.loop-class in
-    record {
-      next = next-weight at.class-index at.weight at.invariant.next;
-      added = weighted-more (λ n. n) (2 ^ 64) c.args.classes.now at.class-index at.sum at.weight c.loop-class-test.true at.invariant.next at.invariant.added;
-    }
+    sum-more (λ k. get_or c.args.weights.now k 0 * k) at.class at.sum (2 ^ 64) at.invariant
 
 pub returns : goal.returns
-returns c =
+returns c = λ classes has.
     let at = c.loop-class in
-    at.invariant.added ∙ ap (λ (cs : List ℕ). weighted (λ n. n) 0 cs % 2 ^ 64) (take_all at.class-index c.args.classes.now (omega (arith, c.loop-class-test.false)))
+    at.invariant ∙ sum-of_classes (λ k. k) at.class classes c.args.weights.now has (omega (arith, at.auto.class-end)) (λ p lt. omega (arith, c.loop-class-test.false, has.within p lt))

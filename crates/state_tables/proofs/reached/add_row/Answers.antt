@@ -1,7 +1,7 @@
 use Rattle.std.proofs.Common.{◌-◌, ◌^◌, ap, bit_or, ◌∙◌}
 use Rattle.state_tables.specs.StateSet.{number_of_words}
 use Rattle.state_tables.specs.Table.{row_at}
-use Rattle.state_tables.specs.TableRows.{list_of}
+use Rattle.state_tables.specs.Coded.{list_of}
 use Rattle.state_tables.proofs.Collecting.{row-none, row-some}
 use Rattle.state_tables.proofs.reached.add_row.Goals as goal
 

@@ -1,8 +1,7 @@
 use Rattle.std.proofs.Common.{◌+◌, ◌*◌, ap, sym, ◌∙◌, arith, bit_or, drop}
 use Rattle.state_tables.specs.StateSet.{number_of_words}
 use Rattle.state_tables.specs.Table.{reach}
-use Rattle.state_tables.specs.Coded.{table_of}
-use Rattle.state_tables.specs.TableRows.{list_of}
+use Rattle.state_tables.specs.Coded.{list_of, table_of}
 use Rattle.state_tables.proofs.Collecting.{bit-of-word, word-end, word-step}
 use Rattle.state_tables.proofs.reached.add_set.Goals as goal
 

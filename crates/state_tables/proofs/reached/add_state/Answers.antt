@@ -1,5 +1,5 @@
 use Rattle.std.proofs.Common.{get_or}
-use Rattle.state_tables.specs.TableRows.{list_of}
+use Rattle.state_tables.specs.Coded.{list_of}
 use Rattle.state_tables.proofs.Collecting.{collecting-more}
 use Rattle.state_tables.proofs.reached.add_state.Goals as goal
 

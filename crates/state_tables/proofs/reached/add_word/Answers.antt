@@ -4,8 +4,7 @@ use Rattle.std.specs.Int.Bits.{or_zero_r}
 use Rattle.std.proofs.lemmas.Bool.{cases_eq}
 use Rattle.state_tables.specs.StateSet.{number_of_words}
 use Rattle.state_tables.specs.Table.{reach}
-use Rattle.state_tables.specs.Coded.{table_of}
-use Rattle.state_tables.specs.TableRows.{list_of}
+use Rattle.state_tables.specs.Coded.{list_of, table_of}
 use Rattle.state_tables.proofs.Collecting.{bit-step, length-table}
 use Rattle.state_tables.proofs.Reach.{reach-none}
 use Rattle.state_tables.proofs.reached.add_word.Goals as goal

@@ -2,9 +2,8 @@ use Rattle.std.proofs.Common.{◌≡◌, ℕ, bit_or, drop}
 use Rattle.std.specs.Int.{bit_at}
 use Rattle.state_tables.specs.StateSet.{number_of_words}
 use Rattle.state_tables.specs.Table.{reach}
-use Rattle.state_tables.specs.Coded.{table_of}
+use Rattle.state_tables.specs.Coded.{list_of, table_of}
 use Rattle.state_tables.specs.Reached.{IsCollecting}
-use Rattle.state_tables.specs.TableRows.{list_of}
 use Rattle.state_tables.proofs.reached.add_word.Given as goal
 
 abbrev pub invariant-loop-rest : goal.invariant-loop-rest

@@ -1,8 +1,7 @@
 use Rattle.std.proofs.Common.{◌≡◌, ◌<◌, sym, subst, ◌∙◌, arith, inl, inr, length}
 use Rattle.std.proofs.lemmas.Bool.{cases_lt}
 use Rattle.state_tables.specs.Table.{row_at}
-use Rattle.state_tables.specs.Coded.{table_of}
-use Rattle.state_tables.specs.TableRows.{list_of}
+use Rattle.state_tables.specs.Coded.{list_of, table_of}
 use Rattle.state_tables.proofs.ClassedTables.{rows-same, tables-differ}
 use Rattle.state_tables.proofs.Collecting.{length-table, state-row}
 use Rattle.state_tables.proofs.Members.{not-both}

@@ -1,7 +1,6 @@
 use Rattle.std.proofs.Common.{◌≡◌, ℕ, ◌<◌}
 use Rattle.state_tables.specs.Table.{row_at}
-use Rattle.state_tables.specs.Coded.{table_of}
-use Rattle.state_tables.specs.TableRows.{list_of}
+use Rattle.state_tables.specs.Coded.{list_of, table_of}
 use Rattle.state_tables.proofs.table.are_same.Given as goal
 
 abbrev pub invariant-loop-p : goal.invariant-loop-p

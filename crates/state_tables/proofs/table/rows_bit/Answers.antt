@@ -1,8 +1,7 @@
 use Rattle.std.proofs.Common.{◌/◌, ◌%◌, ap, sym, ◌∙◌, arith}
 use Rattle.std.specs.Int.{bit_at}
-use Rattle.state_tables.specs.Coded.{table_of}
+use Rattle.state_tables.specs.Coded.{list_of, table_of}
 use Rattle.state_tables.specs.Table.{row_at}
-use Rattle.state_tables.specs.TableRows.{list_of}
 use Rattle.state_tables.proofs.Branches.{row-bit-set}
 use Rattle.state_tables.proofs.Collecting.{state-row}
 use Rattle.state_tables.proofs.table.rows_bit.Goals as goal

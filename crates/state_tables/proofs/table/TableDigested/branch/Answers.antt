@@ -1,9 +1,8 @@
 use Rattle.std.proofs.Common.{◌-◌, ap, sym, ◌∙◌}
 use Rattle.std.specs.Int.{bit_at}
 use Rattle.std.proofs.lemmas.Nat.Bits.{shr_and_one}
-use Rattle.state_tables.specs.Coded.{table_of}
+use Rattle.state_tables.specs.Coded.{list_of, table_of}
 use Rattle.state_tables.specs.Digest.{digest_of}
-use Rattle.state_tables.specs.TableRows.{list_of}
 use Rattle.state_tables.specs.Branch.{rows_bit}
 use Rattle.state_tables.proofs.Branches.{branch-digest, branch-rows}
 use Rattle.state_tables.proofs.table.TableDigested.branch.Goals as goal

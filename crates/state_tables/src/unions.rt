@@ -1,0 +1,131 @@
+//! The unions of the sets that two texts reach.
+
+ghost use Rattle.std.specs.Prelude.{◌≡◌, ℕ, ◌-◌, ◌<◌, ◌≤◌, ◌^◌, List, length, IfOk, OnOk};
+ghost use Rattle.state_tables.specs.StateSet.{number_of_words};
+ghost use Rattle.state_tables.specs.Coded.{list_of};
+ghost use Rattle.state_tables.specs.RowSet.{IsSetAt, TakesSet};
+ghost use Rattle.state_tables.specs.Unions.{AreUnions, union_of};
+
+use crate::row_set::RowSet;
+use crate::sets::Sets;
+use crate::state_set::{add_all, clear};
+use crate::table_rows::TableRows;
+use span_types::NoMemory;
+use std::alloc::Global;
+use std::marker::Model;
+
+/// The union of an image and a set of the right text: the indices of both, and one more than its own index, or 0.
+#[derive(Clone, Copy)]
+pub(crate) struct Union {
+    image: u16,
+    beyond: u16,
+    union: u16,
+}
+
+const SLOTS: usize = 64;
+
+/// What the sets of a left text reach over a right one, their images, and some unions of these with sets of the right
+/// text that were computed already. The rows of a table have few distinct sets, so most unions are found here.
+#[derive(Drop)]
+pub(crate) struct Unions {
+    images: Sets,
+    words: Vec<u64>,
+    slots: Vec<Union>,
+}
+
+impl Model for Unions {
+    ghost use Rattle.std.specs.Prelude.{◌≡◌, length};
+    ghost use Rattle.state_tables.specs.Unions.{UnionMemo};
+
+    ghost Value = { UnionMemo };
+
+    ghost view = { λ u. record { width = u.images.width; images = u.images.sets; slots = u.slots.items } };
+
+    ghost invariant = { λ u. (length u.words.items ≡ u.images.width) × (length u.slots.items ≡ 64) };
+}
+
+impl Unions {
+    /// No unions of these images yet.
+    ///
+    /// # Errors
+    ///
+    /// `NoMemory` if allocation fails.
+    pub(crate) fn new(alloc: Global, images: Sets) -> Result<Unions, NoMemory>
+        ensures images { IfOk result (λ u. u ≡ record u { width = images.width; images = images.sets }) }
+        ensures none { IfOk result (λ u. (rights sets : List ℕ) → AreUnions u rights sets) }
+    {
+        let none = Union {
+            image: 0,
+            beyond: 0,
+            union: 0,
+        };
+        Ok(Unions {
+            words: vec![in alloc; 0; images.width()]?,
+            images,
+            slots: vec![in alloc; none; SLOTS]?,
+        })
+    }
+
+    /// The index among the found sets of the union of an image and a set of the right text. It is added if it isn't there.
+    /// `beyond` is one more than the index of the right text's set, or 0 for none.
+    ///
+    /// # Errors
+    ///
+    /// `NoMemory` if allocation fails.
+    pub(crate) fn index_of(
+        &mut self,
+        found: &mut RowSet,
+        rows: &TableRows,
+        image: u16,
+        beyond: u16,
+    ) -> Result<u16, NoMemory>
+        requires image { image < length self.old.images }
+        requires beyond { beyond ≤ length rows.now.sets }
+        requires right { rows.now.width ≡ self.old.width }
+        requires width { found.old.width ≡ self.old.width }
+        requires few { length found.old.sets < 2 ^ 16 - 1 }
+        requires unions { AreUnions self.old rows.now.sets found.old.sets }
+        ensures unions { OnOk result (AreUnions self.new rows.now.sets found.new.sets) }
+        ensures images { self.new ≡ record self.new { width = self.old.width; images = self.old.images } }
+        ensures index { IfOk result (IsSetAt found.new.sets (union_of self.old.images rows.now.sets image beyond)) }
+        ensures taken { OnOk result (TakesSet found.old.sets found.new.sets (union_of self.old.images rows.now.sets image beyond)) }
+        ensures same { OnOk result (list_of found.new ≡ list_of found.old) }
+    {
+        let slot = slot_of(image, beyond);
+        let known = self.slots[slot];
+        if known.union > 0 && known.image == image && known.beyond == beyond {
+            return Ok(known.union - 1);
+        }
+        unite(&mut self.words, &self.images, rows, image, beyond);
+        let index = found.set_of(&self.words)?;
+        self.slots[slot] = Union {
+            image,
+            beyond,
+            union: index + 1,
+        };
+        Ok(index)
+    }
+}
+
+// Makes the words those of the union of an image and a set of the right text.
+fn unite(words: &mut [u64], images: &Sets, rows: &TableRows, image: u16, beyond: u16)
+    requires image { image < length images.now.sets }
+    requires beyond { beyond ≤ length rows.now.sets }
+    requires left { length words.old ≡ images.now.width }
+    requires right { length words.old ≡ rows.now.width }
+    ensures value { number_of_words words.new ≡ union_of images.now.sets rows.now.sets image beyond }
+    ensures width { length words.new ≡ length words.old }
+{
+    clear(words);
+    if beyond > 0 {
+        add_all(words, rows.set((beyond - 1) as usize).words());
+    }
+    add_all(words, images.words(image as usize));
+}
+
+// The slot of a union.
+fn slot_of(image: u16, beyond: u16) -> usize
+    ensures { result < 64 }
+{
+    (image.wrapping_mul(7) ^ beyond) as usize % SLOTS
+}
