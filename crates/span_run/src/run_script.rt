@@ -245,15 +245,15 @@ pub fn run<
     // What was written is a prefix of the whole output. A failure of the file store stops a line of the form `load`,
     // `share`, `write`, `save` or `open` before any of its reply is written, and leaves the files unchanged. An
     // allocation failure stops a `list` before any of its reply is written, unless the sink's allocation failed.
-    ensures front { result ≡ Status.OutFault → OfScript (map string_bytes words.now) (S.left script.old)
+    ensures out_prefix { result ≡ Status.OutFault → OfScript (map string_bytes words.now) (S.left script.old)
         (λ states bytes. RunsPrefix Anywhere (lines_of bytes) states
         (outside (K.written out.old) (F.files shelf.old) looks.old pairs.old places.old)
         (outside (K.written out.new) (F.files shelf.new) looks.new pairs.new places.new)) }
-    ensures shelf_front { result ≡ Status.ShelfFault → OfScript (map string_bytes words.now) (S.left script.old)
+    ensures shelf_prefix { result ≡ Status.ShelfFault → OfScript (map string_bytes words.now) (S.left script.old)
         (λ states bytes. RunsPrefix InFileLine (lines_of bytes) states
         (outside (K.written out.old) (F.files shelf.old) looks.old pairs.old places.old)
         (outside (K.written out.new) (F.files shelf.new) looks.new pairs.new places.new)) }
-    ensures want_front { result ≡ Status.NoMemory → OfScript (map string_bytes words.now) (S.left script.old)
+    ensures memory_prefix { result ≡ Status.NoMemory → OfScript (map string_bytes words.now) (S.left script.old)
         (λ states bytes. RunsPrefix (UnlessList (K.wants out.old) (K.wants out.new)) (lines_of bytes) states
         (outside (K.written out.old) (F.files shelf.old) looks.old pairs.old places.old)
         (outside (K.written out.new) (F.files shelf.new) looks.new pairs.new places.new)) }

@@ -36,7 +36,8 @@ const MAX_LOAD: u64 = 1 << 32;
 /// The maximum length of an image for `open` and `save`, in bytes.
 const MAX_OPEN: u64 = 1 << 30;
 
-/// The number of bytes of a file that are read at once.
+/// The number of bytes of a file that are read at once. A function with such a buffer is never inlined, so that a line
+/// needs stack for one buffer alone.
 const PIECE: usize = 65_536;
 
 /// Reads the next piece of a file, from offset `at`, and returns its length, which is 0 at the end. The file may have
@@ -66,6 +67,7 @@ fn next_piece<F: Shelf>(
 }
 
 /// Loads a file piece by piece, after its length was checked.
+#[inline(never)]
 fn load_pieces<F: Shelf, P: Ledger>(
     alloc: Global,
     method: Method,
@@ -200,6 +202,7 @@ fn is_no_image(front: &[u8]) -> bool
 }
 
 /// Reads a file piece by piece, after its length was checked. Stops when the first bytes show that it is no image.
+#[inline(never)]
 fn read_pieces<F: Shelf>(alloc: Global, name: &[u8], shelf: &mut F) -> Result<Vec<u8>, FileRefusal>
     requires { IsFilePrefix (F.files shelf.old) name.now open_size [] }
     ensures ok { IfOk result (λ bytes. MeansFile (F.files shelf.old) name.now bytes.items) }

@@ -41,6 +41,7 @@ fn next_bytes(bytes: &mut RangeBytes<'_>, piece: &mut [u8]) -> usize
 }
 
 /// Appends all these bytes to the put that was begun, piece by piece.
+#[inline(never)]
 fn append_bytes<F: Shelf>(shelf: &mut F, bytes: &mut RangeBytes<'_>) -> Result<(), PutRefusal>
     requires { IsSome (F.begun shelf.old) }
     ensures kept { F.files shelf.new ≡ F.files shelf.old }
