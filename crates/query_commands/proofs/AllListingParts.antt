@@ -1,5 +1,5 @@
 -- The output of the parts of a listing on every document.
-use Rattle.query_commands.proofs.Names.{ap, AreAnswered, AreLive, arith, at, Bool, DeterministicAutomaton, Doc, doc_line, documents_text, HasAnswersIn, IsPageOf}
+use Rattle.query_commands.proofs.Names.{ap, AreAnswered, AreLive, arith, Bool, DeterministicAutomaton, Doc, doc_line, documents_text, HasAnswersIn, IsPageOf}
 use Rattle.query_commands.proofs.Names.{IsUpTo, length, List, ListsAll, map, names_of, Node, Outlet, Page, page_text, plain, Query, rest_text, slice_get}
 use Rattle.query_commands.proofs.Names.{Some, subst, suc, sym, text_of, Tuple, ℕ, ◌++◌, ◌+◌, ◌∙◌, ◌≡◌}
 use Rattle.list_all.specs.Pages.{ArePages}

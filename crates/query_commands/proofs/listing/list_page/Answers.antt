@@ -1,6 +1,6 @@
 use Rattle.query_commands.proofs.Names.{Begins, Err, Listing, Ok, Refusal, Result, Stop, subst, Told, text_of, ◌≡◌, refl}
 use Rattle.span_types.specs.Query.{query_of}
-use Rattle.query_commands.proofs.Facts.{over_count, passed, starts, tells_none, tells_page, tells_refused, waits}
+use Rattle.query_commands.proofs.Facts.{over_count, starts, tells_none, tells_page, tells_refused, waits}
 use Rattle.span_language.specs.declared.told.Stop.TheVariants as stop
 use Rattle.query_commands.proofs.listing.list_page.Goals as goal
 
