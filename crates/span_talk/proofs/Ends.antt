@@ -7,7 +7,7 @@ use Rattle.span_language.specs.Runs.{Anywhere, Ending, InFileLine, UnlessList}
 use Rattle.span_language.specs.declared.told.Stop.{Stop}
 use Rattle.span_language.specs.declared.told.Stop.TheVariants as stop
 use Rattle.session_state.specs.Carried.{Outlet}
-use Rattle.session_state.proofs.Goes.{passed_on}
+use Rattle.session_state.proofs.KeepsInvariant.{passed_on}
 use Rattle.span_run.proofs.RunsLemmas.{increased_later}
 use Rattle.span_talk.specs.Progress.{IsHalted}
 use Rattle.span_talk.specs.declared.progress.End.TheVariants.{Stopped}
