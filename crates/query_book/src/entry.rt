@@ -19,7 +19,7 @@ use table_grow::{Memory, grow};
 use work_gate::Gate;
 
 /// The size of each query's cache of compositions, in compositions.
-const REMEMBERED: usize = 4096;
+const REMEMBERED: usize = 65_536;
 
 /// A query, its tables for the first nodes of a store, and a cache of compositions of these tables. A query whose answers
 /// were counted also has counting tables.

@@ -32,7 +32,7 @@
 //! number of queries, and so does `remove`, amortised.
 //!
 //! The memory of a query is that of its automaton, its distinct tables, a number for each node, and a cache of up to
-//! 4,096 compositions. Counting tables need a number for each node too, and have a cache of up to 65,536 compositions.
+//! 65,536 compositions. Counting tables need a number for each node too, and have a cache of the same size.
 //! `renumber` drops the tables that no node uses any more.
 //!
 //! Queries are the regex formulas and the algebra of R. Fagin, B. Kimelfeld, F. Reiss and S. Vansummeren, *Document
