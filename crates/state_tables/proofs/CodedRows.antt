@@ -4,8 +4,8 @@ use Rattle.std.proofs.lemmas.Bool.{eq-eqb}
 use Rattle.std.proofs.lemmas.List.{drop-append-le, drop-drop, length-drop, take-append-le, take_all}
 use Rattle.std.specs.Option.{SomeIff}
 use Rattle.state_tables.specs.StateSet.{number_of_words}
-use Rattle.state_tables.specs.Table.{Row, no_row, row_at}
-use Rattle.state_tables.specs.Coded.{RowList, SetList, code_of, row_of, sets_of, step_of}
+use Rattle.state_tables.specs.Table.{Row}
+use Rattle.state_tables.specs.Coded.{SetList, code_of, sets_of, step_of}
 use Rattle.state_tables.specs.Digest.{digest_of}
 use Rattle.state_tables.specs.Same.{table_eq, table_same}
 
@@ -23,18 +23,6 @@ step_of-code_of (Some q) = refl
 pub code_of-step_of : (u : ℕ) → code_of (step_of u) ≡ u
 code_of-step_of zero = refl
 code_of-step_of (suc q) = refl
-
--- a code and the words of a set determine a row
-pub row-told : (row : Row) (code : ℕ) (ws : List ℕ) → code ≡ code_of row.unmarked → number_of_words ws ≡ row.marked → row_of code ws ≡ row
-row-told row code ws e m =
-    let make : Option ℕ → ℕ → Row = λ u n. record { unmarked = u; marked = n } in
-    ap (λ z. make z (number_of_words ws)) (ap step_of e ∙ step_of-code_of row.unmarked) ∙ ap (make row.unmarked) m
-
--- two lists of rows are the same
-pub lists-same : (a b : RowList) → a.width ≡ b.width → length a.rows ≡ length b.rows → ((k : ℕ) → k < length a.rows → row_at a.rows k ≡ row_at b.rows k) → a ≡ b
-lists-same a b wide long each =
-    let make : ℕ → List Row → RowList = λ w rows. record { width = w; rows = rows } in
-    ap (λ w. make w a.rows) wide ∙ ap (make b.width) (ext_get_or no_row a.rows b.rows long each)
 
 -- two lists of sets are the same
 pub set-lists-same : (a b : SetList) → a.width ≡ b.width → length a.sets ≡ length b.sets → ((k : ℕ) → k < length a.sets → get_or a.sets k 0 ≡ get_or b.sets k 0) → a ≡ b

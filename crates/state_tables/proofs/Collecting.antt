@@ -9,11 +9,9 @@ use Rattle.std.proofs.lemmas.Nat.{or_comm}
 use Rattle.std.proofs.lemmas.Nat.Bits.{bit_at-zero, bit_at_above, bit_at_cat_low, bit_at_cat_high}
 use Rattle.state_tables.specs.StateSet.{AreWords, member, number_of_words, single_of}
 use Rattle.state_tables.specs.StateSetLaws.{member-words}
-use Rattle.state_tables.specs.Table.{Row, compose_row, marked_from, no_row, reach, reached_of, row_at, unmarked_of}
-use Rattle.state_tables.specs.Coded.{RowList, code_of, row_of, step_of, table_of}
+use Rattle.state_tables.specs.Table.{Row, no_row, reach, reached_of, row_at}
+use Rattle.state_tables.specs.Coded.{RowList, code_of, step_of, table_of}
 use Rattle.state_tables.specs.Reached.{IsCollecting}
-use Rattle.marker_dfa.specs.Deterministic.{and_then}
-use Rattle.state_tables.proofs.CodedRows.{step_of-code_of}
 use Rattle.state_tables.proofs.StateSets.{member-bit, or_assoc, or_swap}
 use Rattle.state_tables.proofs.Reach.{reach-same, reach-none, reach-take}
 
@@ -165,11 +163,3 @@ bit-of-word ws i b are h = elim (cases_lt b 64) [
 pub step-some : (code : ℕ) → code ≢ 0 → step_of code ≡ Some (code - 1)
 step-some zero ne = absurd (ne refl)
 step-some (suc q) ne = ap Some (omega arith)
-
-pub composed-row : (t : List Row) (row : Row) (start code : ℕ) (ws : List ℕ) → start ≡ code_of row.unmarked → number_of_words ws ≡ bit_or (marked_from t (step_of start)) (reach row.marked 0 t)
-    → step_of code ≡ and_then (step_of start) (unmarked_of t) → row_of code ws ≡ compose_row t row
-composed-row t row start code ws from set step =
-    let make : Option ℕ → ℕ → Row = λ u n. record { unmarked = u; marked = n } in
-    let back : step_of start ≡ row.unmarked = ap step_of from ∙ step_of-code_of row.unmarked in
-    ap (λ u. make u (number_of_words ws)) (step ∙ ap (λ o. and_then o (unmarked_of t)) back)
-    ∙ ap (make (and_then row.unmarked (unmarked_of t))) (set ∙ ap (λ o. bit_or (marked_from t o) (reach row.marked 0 t)) back)

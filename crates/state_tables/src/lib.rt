@@ -18,7 +18,7 @@
 //! states. Rows with equal sets have one set. Kept tables share their classes, and above 128 states their sets. So a
 //! table takes some 250 bytes, 4 bytes more for each row, and 8 for each set, or 16 from 65 to 128 states. Each distinct
 //! partition takes 2 bytes for each state, and 8 for each class if these are at most a quarter of the states. Each distinct
-//! set that is shared takes 8 bytes for each word and some 110. A node takes 4 bytes for the number of its table.
+//! set that is shared takes 8 bytes for each word and some 130. A node takes 4 bytes for the number of its table.
 //!
 //! A composition computes what each set of the left table reaches in the right one: each row of the right table is added
 //! to the result at most once, and no state is visited twice. The row of a class is then found by numbers: those of its
