@@ -184,11 +184,11 @@ last-before m (n ∷ ns) = by (nat_lt m n) (n == m) (number_before (map (λ k. (
 
 -- ---- a list in mark order is cut at v
 pub record IsCut {X : Type 0} (f : X → Marked) (v : Marked) (xs : List X) : Type 0 where
-  pub front : List X
+  pub prefix : List X
   pub rest : List X
-  pub cut : xs ≡ front ++ rest
-  pub number : number_before (map f xs) v ≡ length front
-  pub before : (x : X) → Contains front x → Precedes (f x) v
+  pub cut : xs ≡ prefix ++ rest
+  pub number : number_before (map f xs) v ≡ length prefix
+  pub before : (x : X) → Contains prefix x → Precedes (f x) v
   pub others : (x : X) → Contains rest x → Precedes (f x) v → ⊥
 
 none-before : {X : Type 0} (f : X → Marked) (v : Marked) (xs : List X) → ((x : X) → Contains xs x → is_before (f x) v ≡ false) → number_before (map f xs) v ≡ 0
@@ -197,16 +197,16 @@ none-before f v (x ∷ xs) none =
     ap (λ z. (if z then 1 else 0) + number_before (map f xs) v) (none x (contains-here x xs)) ∙ omega (arith, none-before f v xs (λ y c. none y (contains-there x xs y c)))
 
 pub cut-before : {X : Type 0} (f : X → Marked) (v : Marked) (xs : List X) → AllPairs Precedes (map f xs) → IsCut f v xs
-cut-before f v [] rises = record { front = []; rest = []; cut = refl; number = refl; before = λ x c. absurd (contains-none x c); others = λ x c h. contains-none x c }
+cut-before f v [] rises = record { prefix = []; rest = []; cut = refl; number = refl; before = λ x c. absurd (contains-none x c); others = λ x c h. contains-none x c }
 cut-before f v (x ∷ xs) rises = elim (bool-cases (is_before (f x) v)) [
   | inl first ↦
       let r = cut-before f v xs (pairs-tail Precedes (f x) (map f xs) rises) in
       record {
-        front = x ∷ r.front;
+        prefix = x ∷ r.prefix;
         rest = r.rest;
         cut = ap (λ ys. x ∷ ys) r.cut;
         number = ap (λ z. (if z then 1 else 0) + number_before (map f xs) v) first ∙ omega (arith, r.number);
-        before = λ y c. elim (contains-cases x r.front y c) [
+        before = λ y c. elim (contains-cases x r.prefix y c) [
           | inl same ↦ subst (λ z. Precedes (f z) v) same (precedes-is (f x) v first)
           | inr more ↦ r.before y more
         ];
@@ -220,7 +220,7 @@ cut-before f v (x ∷ xs) rises = elim (bool-cases (is_before (f x) v)) [
             (is-precedes (f x) v (precedes-on (f x) (f y) v (pairs-head Precedes (f x) (map f xs) (f y) rises (map-contains f xs y more)) h)) none
       ] in
       record {
-        front = [];
+        prefix = [];
         rest = x ∷ xs;
         cut = refl;
         number = none-before f v (x ∷ xs) (λ y c. elim (bool-cases (is_before (f y) v)) [ inl is ↦ absurd (later y c (precedes-is (f y) v is)) | inr isnt ↦ isnt ]);

@@ -8,7 +8,7 @@ use Rattle.marker_dfa.specs.Deterministic.{DeterministicAutomaton, and_then, sta
 use Rattle.path_counts.specs.Paths.{most}
 use Rattle.path_counts.specs.Runs.{at_state, runs}
 use Rattle.count_tables.specs.TextIndex.{AreWays, IsTextAt}
-use Rattle.count_tables.proofs.Places.{any_texts, any-ways, back-get, front-get, map-get}
+use Rattle.count_tables.proofs.Places.{any_texts, any-ways, back-get, prefix-get, map-get}
 
 -- the texts over the byte by one mark, from the state behind it
 abbrev pub piece : (ℕ → List Marked) → ℕ → ℕ → Option ℕ → List Marked
@@ -72,7 +72,7 @@ module _ (a : DeterministicAutomaton) (p b : ℕ) (after : List ℕ) where
       behind = among;
       at_index = λ k are v e.
           left.same k are ((m, b) ∷ v) (ap (λ ws. slice_get ws i) (first-of a p b m ms k (Some q) step)
-          ∙ front-get (piece k m b (Some q)) (pieces a k p b ms) i ((m, b) ∷ v) (map-get (λ w. (m, b) ∷ w) (k q) i v e));
+          ∙ prefix-get (piece k m b (Some q)) (pieces a k p b ms) i ((m, b) ∷ v) (map-get (λ w. (m, b) ∷ w) (k q) i v e));
     }
       where
         ends : (o : Option ℕ) → o ≡ Some q → and_then o (λ r. Some r) ≡ Some q

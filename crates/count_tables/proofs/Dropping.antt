@@ -28,7 +28,7 @@ pub kept-within : (d : CountDictionary) (keep : List Bool) → IsCountDictionary
 kept-within d keep is =
     All-from_get_or (λ n. n < distinct_of d) (kept_items d.numbers keep) 0 (λ j lt.
     let o = kept-back d.numbers keep 0 j lt in
-    subst (λ n. n < distinct_of d) (sym o.item) (is.numbers o.place o.within))
+    subst (λ n. n < distinct_of d) (sym o.item) (is.numbers o.index o.within))
 
 module _ (d : CountDictionary) (keep : List Bool) (e : CountDictionary) (is : IsCountDictionary d) (are : AreDropped d keep e) where
   new-count : length e.numbers ≡ length (kept_items d.numbers keep)
@@ -43,7 +43,7 @@ module _ (d : CountDictionary) (keep : List Bool) (e : CountDictionary) (is : Is
   old-within : (j : ℕ) → j < count_of e → get_or (kept_items d.numbers keep) j 0 < distinct_of d
   old-within j lt =
       let o = kept-back d.numbers keep 0 j (omega (arith, lt, new-count)) in
-      subst (λ n. n < distinct_of d) (sym o.item) (is.numbers o.place o.within)
+      subst (λ n. n < distinct_of d) (sym o.item) (is.numbers o.index o.within)
 
   old-used : (j : ℕ) → j < count_of e → Keeps (used_by d keep) (get_or (kept_items d.numbers keep) j 0)
   old-used j lt =
@@ -68,15 +68,15 @@ module _ (d : CountDictionary) (keep : List Bool) (e : CountDictionary) (is : Is
   pub tables-thin : (a : DeterministicAutomaton) (ns ms : List Node) → ((i : ℕ) → Keeps keep i → tree ms (rank keep i) ≡ tree ns i) → AreCountTables a ns d → AreCountTables a ms e
   tables-thin a ns ms trees true_tables = λ j lt.
       let o = kept-back d.numbers keep 0 j (omega (arith, lt, new-count)) in
-      let table : table_of e j ≡ table_of d o.place = ap (λ i. table_of e i) (sym o.rank_is) ∙ table-stays o.place o.within o.kept in
-      let same : tree ms j ≡ tree ns o.place = ap (λ i. tree ms i) (sym o.rank_is) ∙ trees o.place o.kept in
-      subst (λ t. IsCountTable a (text (tree ms j)) t) (sym table) (subst (λ t. IsCountTable a (text t) (table_of d o.place)) (sym same) (true_tables o.place o.within))
+      let table : table_of e j ≡ table_of d o.index = ap (λ i. table_of e i) (sym o.rank_is) ∙ table-stays o.index o.within o.kept in
+      let same : tree ms j ≡ tree ns o.index = ap (λ i. tree ms i) (sym o.rank_is) ∙ trees o.index o.kept in
+      subst (λ t. IsCountTable a (text (tree ms j)) t) (sym table) (subst (λ t. IsCountTable a (text t) (table_of d o.index)) (sym same) (true_tables o.index o.within))
 
   -- a kept table is one of before
   kept-from : (n : ℕ) → n < distinct_of e → (m : ℕ) × (m < distinct_of d) × (rank (used_by d keep) m ≡ n) × (kept_of e n ≡ kept_of d m)
   kept-from n lt =
       let o = kept-back d.kept (used_by d keep) [] n (subst (λ (ts : List (List CountRow)). n < length ts) are.kept lt) in
-      (o.place, o.within, o.rank_is, ap (λ (ts : List (List CountRow)). get_or ts n []) are.kept ∙ o.item)
+      (o.index, o.within, o.rank_is, ap (λ (ts : List (List CountRow)). get_or ts n []) are.kept ∙ o.item)
 
   apart : AreDistinctTables e.kept
   apart i j t at_i at_j =

@@ -78,8 +78,8 @@ module _ (a : DeterministicAutomaton) (nodes : List Node) where
         let same : get_or numbers id 0 ≡ n = cc in
         subst (λ m. HasTable a nodes kept id m) same (record { within = are.tables.within id lt; table = are.tables.tables id lt })
     | inr ge ↦
-        let place : length numbers + (id - length numbers) ≡ id = omega (arith, ge) in
-        subst (λ k. HasTable a nodes kept k n) place (are.entries (id - length numbers) n (some-entry found (id - length numbers) n (rw (le-ltb id (length numbers) ge) at h)))
+        let index : length numbers + (id - length numbers) ≡ id = omega (arith, ge) in
+        subst (λ k. HasTable a nodes kept k n) index (are.entries (id - length numbers) n (some-entry found (id - length numbers) n (rw (le-ltb id (length numbers) ge) at h)))
   ]
 
   -- ---- a pair

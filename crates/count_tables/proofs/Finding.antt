@@ -91,14 +91,14 @@ module _ (a : DeterministicAutomaton) (auto : IsDeterministic a) (s : List ℕ) 
         let found = get-map (marked s) ts.0 i (w ++ (m, 256) ∷ []) (ap (λ ws. slice_get ws i) (answers-words a auto s short ts.0 ts.1) ∙ at) in
         let t = found.0 in
         let member = (ts.1.members t).0 (get-member ts.0 i t found.1.0) in
-        let place : 1 + length w ≡ length s + 1 = omega (arith, length-bytes w, ap length over) in
+        let index : 1 + length w ≡ length s + 1 = omega (arith, length-bytes w, ap length over) in
         let back : i + 1 - 1 ≡ i = omega arith in
         record {
           tuple = t;
           size = member.size;
           word = found.1.1;
           written =
-              ap (λ n. write_mark m n (write_word 1 w (blanks a.variables))) (sym place)
+              ap (λ n. write_mark m n (write_word 1 w (blanks a.variables))) (sym index)
               ∙ sym (write_word-append 1 w ((m, 256) ∷ []) (blanks a.variables))
               ∙ ap (λ v. write_word 1 v (blanks a.variables)) (sym found.1.1)
               ∙ ap (λ n. write_word 1 (marked s t) (blanks n)) (sym member.size)
@@ -118,10 +118,10 @@ module _ (a : DeterministicAutomaton) (auto : IsDeterministic a) (s : List ℕ) 
   pub end-ways : (after : List ℕ) → ((q : ℕ) → q < states_of a → get_or after q 0 ≡ stopped (endings a q)) → AreWays (states_of a) (endings_at a) after
   end-ways after are q lt = are q lt ∙ ap stopped (sym (length-map (ends_of a q) (λ m. (m, 256) ∷ [])))
 
-  pub ended-place : (after : List ℕ) (i q j : ℕ) (w : Marked) → ((q : ℕ) → q < states_of a → get_or after q 0 ≡ stopped (endings a q)) → j < endings a q → IsTextAt a s 0 after i w q j
+  pub ended-index : (after : List ℕ) (i q j : ℕ) (w : Marked) → ((q : ℕ) → q < states_of a → get_or after q 0 ≡ stopped (endings a q)) → j < endings a q → IsTextAt a s 0 after i w q j
       → slice_get (runs (next_of a) (marks_of a) false (endings_at a) s 0) i ≡ Some (w ++ (get_or (ends_of a q) j 0, 256) ∷ [])
-  ended-place after i q j w are lt place =
-      place.at_index (endings_at a) (end-ways after are) ((get_or (ends_of a q) j 0, 256) ∷ []) (map-get (λ m. (m, 256) ∷ []) (ends_of a q) j (get_or (ends_of a q) j 0) (slice_get-get_or (ends_of a q) j 0 lt))
+  ended-index after i q j w are lt index =
+      index.at_index (endings_at a) (end-ways after are) ((get_or (ends_of a q) j 0, 256) ∷ []) (map-get (λ m. (m, 256) ∷ []) (ends_of a q) j (get_or (ends_of a q) j 0) (slice_get-get_or (ends_of a q) j 0 lt))
 
   -- no answer is there
   pub none-at : (n i : ℕ) → n ≡ stopped (length (runs (next_of a) (marks_of a) false (endings_at a) s 0)) → n ≤ i → i < most → IsNth a s (i + 1) None

@@ -58,8 +58,8 @@ tables-push a nodes kept numbers n id are long within is = record {
   ];
 }
 
-pub front-push : (old numbers : List ℕ) (n : ℕ) → length old ≤ length numbers → take (length old) numbers ≡ old → take (length old) (numbers ++ n ∷ []) ≡ old
-front-push old numbers n le e = take-append-le (length old) numbers (n ∷ []) le ∙ e
+pub prefix-push : (old numbers : List ℕ) (n : ℕ) → length old ≤ length numbers → take (length old) numbers ≡ old → take (length old) (numbers ++ n ∷ []) ≡ old
+prefix-push old numbers n le e = take-append-le (length old) numbers (n ∷ []) le ∙ e
 
 take-in : (k : ℕ) (xs : List ℕ) (m : ℕ) → k ≤ m → take k (take m xs) ≡ take k xs
 take-in zero xs m le = refl
@@ -68,8 +68,8 @@ take-in (suc k) [] (suc m) le = refl
 take-in (suc k) (x ∷ xs) zero le = absurd (omega arith)
 take-in (suc k) (x ∷ xs) (suc m) le = ap (λ (ys : List ℕ). x ∷ ys) (take-in k xs m (omega arith))
 
-pub front-on : (old numbers new : List ℕ) → length old ≤ length numbers → take (length old) numbers ≡ old → take (length numbers) new ≡ numbers → take (length old) new ≡ old
-front-on old numbers new le first second = sym (take-in (length old) new (length numbers) le) ∙ (ap (λ xs. take (length old) xs) second ∙ first)
+pub prefix-on : (old numbers new : List ℕ) → length old ≤ length numbers → take (length old) numbers ≡ old → take (length numbers) new ≡ numbers → take (length old) new ≡ old
+prefix-on old numbers new le first second = sym (take-in (length old) new (length numbers) le) ∙ (ap (λ xs. take (length old) xs) second ∙ first)
 
 -- a composition is kept
 pub number-composed : {E : Type 0} (made : Result ℕ E) (left right t : List CountRow) (new : List (List CountRow)) → IsComposed left right t → IfOk made (λ n. (n < length new) × (get_or new n [] ≡ t)) → IfOk made (λ n. (n < length new) × IsComposed left right (get_or new n []))

@@ -16,7 +16,7 @@ use Rattle.count_tables.specs.declared.part.CountInput.{CountInput}
 use Rattle.count_tables.specs.declared.part.Part.{Part}
 use Rattle.count_tables.specs.declared.nth.Way.{Way}
 use Rattle.count_tables.proofs.Finding.{pair-cost, write-none, write_word-append}
-use Rattle.count_tables.proofs.Places.{joined-place, left-number, over-runs, passed-place, place-marked}
+use Rattle.count_tables.proofs.Places.{joined-index, left-number, over-runs, passed-index, index-marked}
 use Rattle.path_counts.specs.Runs.{runs}
 
 -- the number with any marks is below the greatest, or stopped there
@@ -33,7 +33,7 @@ module _ (g : CountInput) (input : IsCountInput g) (here : Part) (part : IsPart 
       let s = text (tree_of g here) in
       record {
         word = plain s;
-        place = passed-place g.dfa.now input.automaton s here.table.now part.table_is from.state to.state from.index to.index after state passed.step passed.index passed.behind (below-most here.table.now from.state from.index after among);
+        index = passed-index g.dfa.now input.automaton s here.table.now part.table_is from.state to.state from.index to.index after state passed.step passed.index passed.behind (below-most here.table.now from.state from.index after among);
         written = passed.kept ∙ sym (write-none here.at s from.tuple);
         cost = omega arith;
       }
@@ -41,9 +41,9 @@ module _ (g : CountInput) (input : IsCountInput g) (here : Part) (part : IsPart 
   -- ---- a byte
   pub finds-byte : (before b m : ℕ) → IsNodeAt g.store.now here.id.index (Byte b) → IsTextAt g.dfa.now (b ∷ []) from.state after from.index ((m, b) ∷ []) to.state to.index → to.tuple ≡ write_mark m here.at from.tuple
       → Finds g here after from to before before
-  finds-byte before b m node place written = record {
+  finds-byte before b m node index written = record {
     word = (m, b) ∷ [];
-    place = subst (λ x. IsTextAt g.dfa.now x from.state after from.index ((m, b) ∷ []) to.state to.index) (sym (ap text node)) place;
+    index = subst (λ x. IsTextAt g.dfa.now x from.state after from.index ((m, b) ∷ []) to.state to.index) (sym (ap text node)) index;
     written = written;
     cost = omega arith;
   }
@@ -65,13 +65,13 @@ module _ (g : CountInput) (input : IsCountInput g) (here : Part) (part : IsPart 
         let u = text (tree_of g right) in
         let w = first.word in
         let v = second.word in
-        let place : IsTextAt g.dfa.now (s ++ u) from.state after from.index (w ++ v) to.state to.index =
-        joined-place g.dfa.now input.automaton s u right.table.now is_right.table_is after ways filled from.state middle.state to.state from.index middle.index to.index w v first.place second.place in
-        let some = place-marked g.dfa.now input.automaton (s ++ u) here.table.now joined from.state to.state from.index to.index after (w ++ v) state low place among in
-        let there : left.at + length w ≡ right.at = omega (arith, left_at, right_at, is_left.len_is, length-bytes w, ap length first.place.bytes) in
+        let index : IsTextAt g.dfa.now (s ++ u) from.state after from.index (w ++ v) to.state to.index =
+        joined-index g.dfa.now input.automaton s u right.table.now is_right.table_is after ways filled from.state middle.state to.state from.index middle.index to.index w v first.index second.index in
+        let some = index-marked g.dfa.now input.automaton (s ++ u) here.table.now joined from.state to.state from.index to.index after (w ++ v) state low index among in
+        let there : left.at + length w ≡ right.at = omega (arith, left_at, right_at, is_left.len_is, length-bytes w, ap length first.index.bytes) in
         record {
           word = w ++ v;
-          place = subst (λ x. IsTextAt g.dfa.now (text x) from.state after from.index (w ++ v) to.state to.index) (sym whole) place;
+          index = subst (λ x. IsTextAt g.dfa.now (text x) from.state after from.index (w ++ v) to.state to.index) (sym whole) index;
           written =
               second.written
               ∙ ap (λ t. write_word right.at v t) first.written

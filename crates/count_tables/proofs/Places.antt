@@ -24,20 +24,20 @@ use Rattle.count_tables.specs.TextIndex.{AreWays, IsTextAt, number_marked, numbe
 use Rattle.count_tables.proofs.Weights.{all-ways, weighted-ways}
 
 -- ---- positions in lists
-pub front-get : {X : Type 0} (xs ys : List X) (i : ℕ) (x : X) → slice_get xs i ≡ Some x → slice_get (xs ++ ys) i ≡ Some x
-front-get [] ys i x e = cc
-front-get (z ∷ xs) ys zero x e = e
-front-get (z ∷ xs) ys (suc i) x e = front-get xs ys i x e
+pub prefix-get : {X : Type 0} (xs ys : List X) (i : ℕ) (x : X) → slice_get xs i ≡ Some x → slice_get (xs ++ ys) i ≡ Some x
+prefix-get [] ys i x e = cc
+prefix-get (z ∷ xs) ys zero x e = e
+prefix-get (z ∷ xs) ys (suc i) x e = prefix-get xs ys i x e
 
 pub back-get : {X : Type 0} (xs ys : List X) (i j : ℕ) → i ≡ length xs + j → slice_get (xs ++ ys) i ≡ slice_get ys j
 back-get [] ys i j e = let same : i ≡ j = omega (arith, e) in ap (slice_get ys) same
 back-get (z ∷ xs) ys zero j e = absurd (omega (arith, e))
 back-get (z ∷ xs) ys (suc i) j e = back-get xs ys i j (omega (arith, e))
 
-pub in-front : {X : Type 0} (xs ys : List X) (i : ℕ) (x : X) → slice_get (xs ++ ys) i ≡ Some x → i < length xs → slice_get xs i ≡ Some x
-in-front [] ys i x e lt = absurd (omega (arith, lt))
-in-front (z ∷ xs) ys zero x e lt = e
-in-front (z ∷ xs) ys (suc i) x e lt = in-front xs ys i x e (omega (arith, lt))
+pub in-prefix : {X : Type 0} (xs ys : List X) (i : ℕ) (x : X) → slice_get (xs ++ ys) i ≡ Some x → i < length xs → slice_get xs i ≡ Some x
+in-prefix [] ys i x e lt = absurd (omega (arith, lt))
+in-prefix (z ∷ xs) ys zero x e lt = e
+in-prefix (z ∷ xs) ys (suc i) x e lt = in-prefix xs ys i x e (omega (arith, lt))
 
 pub map-get : {X Y : Type 0} (f : X → Y) (xs : List X) (i : ℕ) (x : X) → slice_get xs i ≡ Some x → slice_get (map f xs) i ≡ Some (f x)
 map-get f [] i x e = cc
@@ -55,8 +55,8 @@ get-member xs i x e = (i, slice_get_within xs i x e, get_or_from_slice_get xs i 
 -- words cut at the same position
 pub append-same : {X : Type 0} (a b c d : List X) → length a ≡ length c → a ++ b ≡ c ++ d → (a ≡ c) × (b ≡ d)
 append-same a b c d len e =
-    let front : a ≡ c = sym (take_at a b (length a) refl) ∙ ap (take (length a)) e ∙ take_at c d (length a) (sym len) in
-    (front, append_cancel_left a b d (e ∙ ap (λ x. x ++ d) (sym front)))
+    let prefix : a ≡ c = sym (take_at a b (length a) refl) ∙ ap (take (length a)) e ∙ take_at c d (length a) (sym len) in
+    (prefix, append_cancel_left a b d (e ∙ ap (λ x. x ++ d) (sym prefix)))
 
 -- ---- numbers by the texts that go on
 onward-weighted : (cs : List Count) (after : List ℕ) → number_onward cs after ≡ weighted (λ q. get_or after q 0) cs
@@ -98,9 +98,9 @@ module _ (a : DeterministicAutomaton) (auto : IsDeterministic a) where
         ∙ ap stopped (sym (ways-length (next_of a) (marks_of a) true k s p))
 
   -- ---- a text without marks
-  pub passed-place : (s : List ℕ) (t : List CountRow) → IsCountTable a s t → (p q i j : ℕ) (after : List ℕ) → p < states_of a → unmarked_at t p ≡ Some q → i ≡ number_marked t p after + j → j < get_or after q 0 → i < most
+  pub passed-index : (s : List ℕ) (t : List CountRow) → IsCountTable a s t → (p q i j : ℕ) (after : List ℕ) → p < states_of a → unmarked_at t p ≡ Some q → i ≡ number_marked t p after + j → j < get_or after q 0 → i < most
       → IsTextAt a s p after i (plain s) q j
-  passed-place s t is p q i j after lt step index behind low =
+  passed-index s t is p q i j after lt step index behind low =
       let ends : path (next_of a) (plain s) p ≡ Some q = sym (is.unmarked p lt) ∙ step in
       record {
         bytes = bytes-plain s;
@@ -119,8 +119,8 @@ module _ (a : DeterministicAutomaton) (auto : IsDeterministic a) where
     pub right-ways : (k : ℕ → List Marked) → AreWays (states_of a) k after → AreWays (states_of a) (runs (next_of a) (marks_of a) false k u) ways
     right-ways k are q lt = filled q lt ∙ over-runs u tr ir k after are q lt
 
-    pub joined-place : (p q r i j l : ℕ) (w v : Marked) → IsTextAt a s p ways i w q j → IsTextAt a u q after j v r l → IsTextAt a (s ++ u) p after i (w ++ v) r l
-    joined-place p q r i j l w v first second = record {
+    pub joined-index : (p q r i j l : ℕ) (w v : Marked) → IsTextAt a s p ways i w q j → IsTextAt a u q after j v r l → IsTextAt a (s ++ u) p after i (w ++ v) r l
+    joined-index p q r i j l w v first second = record {
       bytes = bytes-append w v ∙ ap (λ x. x ++ bytes_of v) first.bytes ∙ ap (λ x. s ++ x) second.bytes;
       ends = path-on (next_of a) p q w v first.ends ∙ second.ends;
       behind = second.behind;
@@ -139,16 +139,16 @@ module _ (a : DeterministicAutomaton) (auto : IsDeterministic a) where
         ∙ sym (over-runs s tl il (runs (next_of a) (marks_of a) false k u) ways (right-ways k are) p lt)
 
   -- ---- a text whose index is among those with some mark has one
-  pub place-marked : (s : List ℕ) (t : List CountRow) → IsCountTable a s t → (p q i j : ℕ) (after : List ℕ) (w : Marked) → p < states_of a → ((r : ℕ) → get_or after r 0 ≤ most) → IsTextAt a s p after i w q j
+  pub index-marked : (s : List ℕ) (t : List CountRow) → IsCountTable a s t → (p q i j : ℕ) (after : List ℕ) (w : Marked) → p < states_of a → ((r : ℕ) → get_or after r 0 ≤ most) → IsTextAt a s p after i w q j
       → i < number_marked t p after → 0 < mark_count w
-  place-marked s t is p q i j after w lt low place among =
+  index-marked s t is p q i j after w lt low index among =
       let k = any_texts after in
       let are = any-ways (states_of a) after low in
-      let some : slice_get (k q) j ≡ Some [] = texts-get (get_or after q 0) j place.behind in
+      let some : slice_get (k q) j ≡ Some [] = texts-get (get_or after q 0) j index.behind in
       let whole : slice_get (runs (next_of a) (marks_of a) true k s p ++ map (λ x. plain s ++ x) (at_state k (path (next_of a) (plain s) p))) i ≡ Some (w ++ []) =
-      ap (λ ws. slice_get ws i) (sym (runs-parted (next_of a) (marks_of a) (are_marks a auto) k s p)) ∙ place.at_index k are [] some in
-      let front = in-front (runs (next_of a) (marks_of a) true k s p) (map (λ x. plain s ++ x) (at_state k (path (next_of a) (plain s) p))) i (w ++ []) whole (omega (arith, among, marked-runs s t is k after are p lt)) in
-      let run = runs-forth (next_of a) (marks_of a) true k s p (w ++ []) (get-member (runs (next_of a) (marks_of a) true k s p) i (w ++ []) front) in
-      let long : length w ≡ length run.word = sym (length-bytes w) ∙ ap length place.bytes ∙ sym (ap length run.bytes) ∙ length-bytes run.word in
+      ap (λ ws. slice_get ws i) (sym (runs-parted (next_of a) (marks_of a) (are_marks a auto) k s p)) ∙ index.at_index k are [] some in
+      let prefix = in-prefix (runs (next_of a) (marks_of a) true k s p) (map (λ x. plain s ++ x) (at_state k (path (next_of a) (plain s) p))) i (w ++ []) whole (omega (arith, among, marked-runs s t is k after are p lt)) in
+      let run = runs-forth (next_of a) (marks_of a) true k s p (w ++ []) (get-member (runs (next_of a) (marks_of a) true k s p) i (w ++ []) prefix) in
+      let long : length w ≡ length run.word = sym (length-bytes w) ∙ ap length index.bytes ∙ sym (ap length run.bytes) ∙ length-bytes run.word in
       let same : w ≡ run.word = (append-same w [] run.word run.rest long run.joined).0 in
       has-count w (ap has_mark same ∙ run.mark refl)

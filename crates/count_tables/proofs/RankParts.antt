@@ -212,7 +212,7 @@ module _ (g : RankInput) (input : IsCountInput g.counts) (here : Part) (part : I
     marked : 0 < mark_count (word_in g left ++ word_in g right)
     marked =
         subst (λ w. 0 < mark_count w) words
-        (over-count g.tuple.now here.at (text (tree_of g.counts here)) some.place some.after (subst (λ n. some.place < here.at + n) part.len_is some.before) some.some)
+        (over-count g.tuple.now here.at (text (tree_of g.counts here)) some.position some.after (subst (λ n. some.position < here.at + n) part.len_is some.before) some.some)
 
     cost-of : (before now mid later : ℕ) → now ≡ before + 2 → mid ≤ now + 2 * (height (tree_of g.counts left) * mark_count (word_in g left)) → later ≤ mid + 2 * (height (tree_of g.counts right) * mark_count (word_in g right))
         → later ≤ before + 2 * (height (tree_of g.counts here) * mark_count (word_in g here))

@@ -33,11 +33,11 @@ comes-words : (s : List ℕ) (u t : Tuple) → IsTuple u → IsTuple t → lengt
 comes-words s u t hu ht e lies = (to, λ h. rises-comes u t (1 + length (ended s)) e hu.spans ht.spans (rises (mark_of u) (mark_of t) 1 (ended s) h))
   where
     to : Comes u t → Precedes (marked s u) (marked s t)
-    to c = elim (cases_lt c.place 1) [
-      | inl first ↦ let zero_is : c.place ≡ 0 = omega (arith, first) in absurd (omega (arith, c.greater, ap (mark_of u) zero_is, mark-first u hu.spans))
-      | inr from ↦ elim (cases_lt c.place (1 + length (ended s))) [
+    to c = elim (cases_lt c.index 1) [
+      | inl first ↦ let zero_is : c.index ≡ 0 = omega (arith, first) in absurd (omega (arith, c.greater, ap (mark_of u) zero_is, mark-first u hu.spans))
+      | inr from ↦ elim (cases_lt c.index (1 + length (ended s))) [
         | inl within ↦ precedes (mark_of u) (mark_of t) 1 (ended s) (comes-rises u t (1 + length (ended s)) e c from within)
-        | inr past ↦ absurd (omega (arith, c.greater, mark-last (length s) u c.place lies (omega (arith, past, length-ended s))))
+        | inr past ↦ absurd (omega (arith, c.greater, mark-last (length s) u c.index lies (omega (arith, past, length-ended s))))
       ]
     ]
 
@@ -50,12 +50,12 @@ module _ (a : DeterministicAutomaton) (auto : IsDeterministic a) (s : List ℕ) 
       let m = (are.members u).0 among in
       comes-words s u t (is-tuple a auto s short u m) is (m.size ∙ sym size) m.lies in
       record {
-        front = c.front;
+        prefix = c.prefix;
         rest = c.rest;
         cut = c.cut;
         number = ap (λ ws. number_before ws (marked s t)) (sym words) ∙ c.number;
-        before = λ u among. (comes u (subst (λ xs. Contains xs u) (sym c.cut) (Contains-append_left c.front c.rest u among))).1 (c.before u among);
-        others = λ u among h. c.others u among ((comes u (subst (λ xs. Contains xs u) (sym c.cut) (Contains-append_right c.front c.rest u among))).0 h);
+        before = λ u among. (comes u (subst (λ xs. Contains xs u) (sym c.cut) (Contains-append_left c.prefix c.rest u among))).1 (c.before u among);
+        others = λ u among h. c.others u among ((comes u (subst (λ xs. Contains xs u) (sym c.cut) (Contains-append_right c.prefix c.rest u among))).0 h);
       }
 
   -- by the number of the words before its word
@@ -79,8 +79,8 @@ module _ (a : DeterministicAutomaton) (auto : IsDeterministic a) (s : List ℕ) 
       → end ≡ length s + 1 → r ≡ stopped (number_to_end a n o (mark_of t end)) → IsRank a s t r
   rank-over after n r end o are number at e =
       let m = mark_of t end in
-      let place : 1 + length s ≡ end = omega (arith, at) in
-      let word : marked s t ≡ word_over t 1 s ++ (m, 256) ∷ [] = word-end (mark_of t) s ∙ ap (λ i. word_over t 1 s ++ (mark_of t i, 256) ∷ []) place in
+      let index : 1 + length s ≡ end = omega (arith, at) in
+      let word : marked s t ≡ word_over t 1 s ++ (m, 256) ∷ [] = word-end (mark_of t) s ∙ ap (λ i. word_over t 1 s ++ (mark_of t i, 256) ∷ []) index in
       rank-is r
       (e ∙ ap stopped (sym (at-end o n m)) ∙ sym (number.before (endings_at a) (end-ways a auto s short bytes after are) ((m, 256) ∷ []))
       ∙ ap (λ w. stopped (number_before (runs (next_of a) (marks_of a) false (endings_at a) s 0) w)) (sym word))

@@ -7,11 +7,11 @@ use Rattle.path_counts.specs.Paths.{stopped}
 
 -- n of the tuples, which are in mark order, come before t
 pub record CountsBefore (all : List Tuple) (t : Tuple) (n : ℕ) : Type 0 where
-  pub front : List Tuple
+  pub prefix : List Tuple
   pub rest : List Tuple
-  pub cut : all ≡ front ++ rest
-  pub number : n ≡ length front
-  pub before : (u : Tuple) → Contains front u → Comes u t
+  pub cut : all ≡ prefix ++ rest
+  pub number : n ≡ length prefix
+  pub before : (u : Tuple) → Contains prefix u → Comes u t
   pub others : (u : Tuple) → Contains rest u → Comes u t → ⊥
 
 -- Rank: how many answers come before the tuple, as it is kept

@@ -72,6 +72,6 @@ pub record IsPassed (t : List CountRow) (after : List ℕ) (from to : Way) : Typ
 -- the marks over the part were found and written
 pub record Finds (g : CountInput) (here : Part) (after : List ℕ) (from to : Way) (before later : ℕ) : Type 0 where
   pub word : Marked
-  pub place : IsTextAt g.dfa.now (text (tree_of g here)) from.state after from.index word to.state to.index
+  pub index : IsTextAt g.dfa.now (text (tree_of g here)) from.state after from.index word to.state to.index
   pub written : to.tuple ≡ write_word here.at word from.tuple
   pub cost : later ≤ before + 2 * (height (tree_of g here) * mark_count word)

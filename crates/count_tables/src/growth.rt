@@ -159,7 +159,7 @@ fn place_in_order<R, G: Gate>(
     requires live { length numbers.old.items + nodes ≤ length growth.now.store.now }
     ensures all { OnOk result (length numbers.new.items ≡ length numbers.old.items + nodes) }
     ensures tables { AreNodeTables growth.now.dfa.now growth.now.store.now kept.new numbers.new.items }
-    ensures front { take (length numbers.old.items) numbers.new.items ≡ numbers.old.items }
+    ensures prefix { take (length numbers.old.items) numbers.new.items ≡ numbers.old.items }
     ensures kept { AreKept (states_of growth.now.dfa.now) kept.new }
     ensures extends { Extends kept.old kept.new }
     ensures entries { AreTrueEntries kept.new memo.new }
@@ -186,7 +186,7 @@ fn place_next<R, G: Gate>(
     requires entry { (n : ℕ) → entry ≡ suc n → HasTable growth.now.dfa.now growth.now.store.now kept.old (length numbers.old.items) n }
     ensures one { OnOk result (length numbers.new.items ≡ length numbers.old.items + 1) }
     ensures tables { AreNodeTables growth.now.dfa.now growth.now.store.now kept.new numbers.new.items }
-    ensures front { take (length numbers.old.items) numbers.new.items ≡ numbers.old.items }
+    ensures prefix { take (length numbers.old.items) numbers.new.items ≡ numbers.old.items }
     ensures kept { AreKept (states_of growth.now.dfa.now) kept.new }
     ensures extends { Extends kept.old kept.new }
     ensures entries { AreTrueEntries kept.new memo.new }
@@ -212,7 +212,7 @@ fn place_found<R, G: Gate>(
     requires entries { AreTrueEntries kept.old memo.old }
     ensures all { OnOk result (length numbers.new.items ≡ length numbers.old.items + length found.now) }
     ensures tables { AreNodeTables growth.now.dfa.now growth.now.store.now kept.new numbers.new.items }
-    ensures front { take (length numbers.old.items) numbers.new.items ≡ numbers.old.items }
+    ensures prefix { take (length numbers.old.items) numbers.new.items ≡ numbers.old.items }
     ensures kept { AreKept (states_of growth.now.dfa.now) kept.new }
     ensures extends { Extends kept.old kept.new }
     ensures entries { AreTrueEntries kept.new memo.new }
@@ -274,7 +274,7 @@ fn place_part<R: Threads + Sync, G: Gate>(
     requires live { length numbers.old.items + nodes ≤ length growth.now.store.now }
     ensures all { OnOk result (length numbers.new.items ≡ length numbers.old.items + nodes) }
     ensures tables { AreNodeTables growth.now.dfa.now growth.now.store.now kept.new numbers.new.items }
-    ensures front { take (length numbers.old.items) numbers.new.items ≡ numbers.old.items }
+    ensures prefix { take (length numbers.old.items) numbers.new.items ≡ numbers.old.items }
     ensures kept { AreKept (states_of growth.now.dfa.now) kept.new }
     ensures extends { Extends kept.old kept.new }
     ensures entries { AreTrueEntries kept.new memo.new }
@@ -331,7 +331,7 @@ fn place_new<R: Threads + Sync, G: Gate>(
     requires covered { length numbers.old.items ≤ length growth.now.store.now }
     ensures all { OnOk result (length numbers.new.items ≡ length growth.now.store.now) }
     ensures tables { AreNodeTables growth.now.dfa.now growth.now.store.now kept.new numbers.new.items }
-    ensures front { take (length numbers.old.items) numbers.new.items ≡ numbers.old.items }
+    ensures prefix { take (length numbers.old.items) numbers.new.items ≡ numbers.old.items }
     ensures kept { AreKept (states_of growth.now.dfa.now) kept.new }
     ensures extends { Extends kept.old kept.new }
     ensures entries { AreTrueEntries kept.new memo.new }
@@ -383,7 +383,7 @@ pub(crate) fn grow<R: Threads + Sync, G: Gate, L: Ledger>(
     requires covered { length numbers.old.items ≤ length growth.now.store.now }
     ensures all { OnOk result (length numbers.new.items ≡ length growth.now.store.now) }
     ensures tables { AreNodeTables growth.now.dfa.now growth.now.store.now kept.new numbers.new.items }
-    ensures front { take (length numbers.old.items) numbers.new.items ≡ numbers.old.items }
+    ensures prefix { take (length numbers.old.items) numbers.new.items ≡ numbers.old.items }
     ensures err { OnErr result (numbers.new.items ≡ numbers.old.items) }
     ensures kept { AreKept (states_of growth.now.dfa.now) kept.new }
     ensures extends { Extends kept.old kept.new }

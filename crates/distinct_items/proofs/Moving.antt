@@ -18,22 +18,22 @@ module _ {A : Type 0} where
 
   -- where a kept item comes from
   pub record Origin (xs : List A) (ks : List Bool) (d : A) (j : ℕ) : Type 0 where
-    pub place : ℕ
-    pub within : place < length xs
-    pub kept : Keeps ks place
-    pub rank_is : rank ks place ≡ j
-    pub item : get_or (kept_items xs ks) j d ≡ get_or xs place d
+    pub index : ℕ
+    pub within : index < length xs
+    pub kept : Keeps ks index
+    pub rank_is : rank ks index ≡ j
+    pub item : get_or (kept_items xs ks) j d ≡ get_or xs index d
 
   pub kept-back : (xs : List A) (ks : List Bool) (d : A) (j : ℕ) → j < length (kept_items xs ks) → Origin xs ks d j
   kept-back [] ks d j lt = absurd (omega arith)
   kept-back (x ∷ xs) [] d j lt = absurd (omega arith)
-  kept-back (x ∷ xs) (true ∷ bs) d zero lt = record { place = 0; within = omega arith; kept = refl; rank_is = refl; item = refl }
+  kept-back (x ∷ xs) (true ∷ bs) d zero lt = record { index = 0; within = omega arith; kept = refl; rank_is = refl; item = refl }
   kept-back (x ∷ xs) (true ∷ bs) d (suc j) lt =
       let o = kept-back xs bs d j (omega arith) in
-      record { place = suc o.place; within = omega (arith, o.within); kept = o.kept; rank_is = omega (arith, o.rank_is); item = o.item }
+      record { index = suc o.index; within = omega (arith, o.within); kept = o.kept; rank_is = omega (arith, o.rank_is); item = o.item }
   kept-back (x ∷ xs) (false ∷ bs) d j lt =
       let o = kept-back xs bs d j lt in
-      record { place = suc o.place; within = omega (arith, o.within); kept = o.kept; rank_is = omega (arith, o.rank_is); item = o.item }
+      record { index = suc o.index; within = omega (arith, o.within); kept = o.kept; rank_is = omega (arith, o.rank_is); item = o.item }
 
   -- and where it goes
   pub kept-at : (xs : List A) (ks : List Bool) (d : A) (i : ℕ) → i < length xs → Keeps ks i → get_or (kept_items xs ks) (rank ks i) d ≡ get_or xs i d
@@ -49,11 +49,11 @@ module _ {A : Type 0} where
     pub low : k ≤ i
     pub count : k ≡ rank ks i
     pub long : length now ≡ length old
-    pub front : (j : ℕ) → j < k → get_or now j d ≡ get_or (kept_items old ks) j d
+    pub prefix : (j : ℕ) → j < k → get_or now j d ≡ get_or (kept_items old ks) j d
     pub rest : (j : ℕ) → i ≤ j → get_or now j d ≡ get_or old j d
 
   pub moved-none : (old : List A) (ks : List Bool) (d : A) → AreMoved old ks d 0 old 0
-  moved-none old ks d = record { low = omega arith; count = refl; long = refl; front = λ j lt. absurd (omega arith); rest = λ j le. refl }
+  moved-none old ks d = record { low = omega arith; count = refl; long = refl; prefix = λ j lt. absurd (omega arith); rest = λ j le. refl }
 
   module _ (old : List A) (ks : List Bool) (d : A) (i : ℕ) (now : List A) (k : ℕ) (m : AreMoved old ks d i now k) where
     -- item i was moved to index k, and nothing else before or after these
@@ -63,8 +63,8 @@ module _ {A : Type 0} where
       low = omega (arith, m.low);
       count = omega (arith, m.count, rank-kept ks i keeps, ap (rank ks) (add-one i));
       long = long ∙ m.long;
-      front = λ j below. elim (cases_lt j k) [
-        | inl less ↦ before j less ∙ m.front j less
+      prefix = λ j below. elim (cases_lt j k) [
+        | inl less ↦ before j less ∙ m.prefix j less
         | inr ge ↦
             let here : j ≡ k = omega (arith, ge, below) in
             subst (λ n. get_or next n d ≡ get_or (kept_items old ks) n d) (sym here)
@@ -85,7 +85,7 @@ module _ {A : Type 0} where
       low = omega (arith, m.low);
       count = omega (arith, m.count, rank-other ks i none, ap (rank ks) (add-one i));
       long = m.long;
-      front = m.front;
+      prefix = m.prefix;
       rest = λ j le. m.rest j (omega (arith, le));
     }
 
@@ -97,7 +97,7 @@ module _ {A : Type 0} where
         let short : length (take k now) ≡ k = length-take-le k now within in
         ext_get_or d (take k now) (kept_items old ks) (short ∙ sym long) (λ j lt.
         let below : j < k = omega (arith, lt, short) in
-        get_or-take k now j d below ∙ m.front j below)
+        get_or-take k now j d below ∙ m.prefix j below)
 
 -- whatever stands past the end
 pub record AreAllMoved {A : Type 0} (old : List A) (ks : List Bool) (i : ℕ) (now : List A) (k : ℕ) : Type 0 where

@@ -133,7 +133,7 @@ impl<T: Digested> DistinctItems<T> {
     /// `NoMemory` if allocation fails; the items are then unchanged.
     pub fn insert(&mut self, item: T) -> Result<usize, NoMemory>
         requires { length self.old < 2 ^ 32 - 1 }
-        ensures place { IfOk result (λ n. slice_get self.new n ≡ Some item) }
+        ensures index { IfOk result (λ n. slice_get self.new n ≡ Some item) }
         ensures taken { OnOk result (TakesIn self.old self.new item) }
         ensures err { OnErr result (self.new ≡ self.old) }
     {

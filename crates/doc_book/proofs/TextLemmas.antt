@@ -9,10 +9,10 @@ use Rattle.doc_book.specs.declared.Doc.{Doc}
 use Rattle.doc_book.specs.Docs.{is_same, put}
 use Rattle.doc_book.specs.Texts.{AreLive, plain}
 
-pub live-at : (ns : List Node) (ds : List Doc) (place : ℕ) (d : Doc) → AreLive ns ds → slice_get ds place ≡ Some d → IsLive ns d.root
-live-at ns [] place d h e = let bad : ⊥ = cc e in absurd bad
+pub live-at : (ns : List Node) (ds : List Doc) (index : ℕ) (d : Doc) → AreLive ns ds → slice_get ds index ≡ Some d → IsLive ns d.root
+live-at ns [] index d h e = let bad : ⊥ = cc e in absurd bad
 live-at ns (x ∷ ds) zero d h e = let same : x ≡ d = cc e in subst (λ (y : Doc). IsLive ns y.root) same h.0
-live-at ns (x ∷ ds) (suc place) d h e = live-at ns ds place d h.1 e
+live-at ns (x ∷ ds) (suc index) d h e = live-at ns ds index d h.1 e
 
 pub AreLive-put : (ns : List Node) (ds : List Doc) (name : List ℕ) (root : Option NodeId) → AreLive ns ds → IsLive ns root → AreLive ns (put ds name root)
 AreLive-put ns [] name root h live = (live, tt)

@@ -139,23 +139,23 @@ impl Docs {
         self.by_name.count()
     }
 
-    /// The name and the root of the document at index `place`, counted from 0. Takes constant time after `settle`, and
+    /// The name and the root of the document at index `index`, counted from 0. Takes constant time after `settle`, and
     /// otherwise up to linear time.
-    pub fn at(&self, place: usize) -> (&Name, Option<NodeId>)
-        requires { place < length self.now }
-        ensures { slice_get self.now place ≡ Some (record { name = result.0.now; root = result.1 }) }
+    pub fn at(&self, index: usize) -> (&Name, Option<NodeId>)
+        requires { index < length self.now }
+        ensures { slice_get self.now index ≡ Some (record { name = result.0.now; root = result.1 }) }
     {
-        let (name, root) = self.by_name.at(place);
+        let (name, root) = self.by_name.at(index);
         (name, *root)
     }
 
-    /// Sets the root of the document at index `place`. Allocates nothing. Takes constant time after `settle`, and
+    /// Sets the root of the document at index `index`. Allocates nothing. Takes constant time after `settle`, and
     /// otherwise up to linear time.
-    pub fn set_root(&mut self, place: usize, root: Option<NodeId>)
-        requires { place < length self.old }
-        ensures { self.new ≡ with_root self.old place root }
+    pub fn set_root(&mut self, index: usize, root: Option<NodeId>)
+        requires { index < length self.old }
+        ensures { self.new ≡ with_root self.old index root }
     {
-        *self.by_name.value_mut(place) = root;
+        *self.by_name.value_mut(index) = root;
     }
 
     /// A copy with the same names and roots in the same order. Takes O(n log n) time and linear memory for n documents.

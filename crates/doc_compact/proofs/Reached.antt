@@ -50,37 +50,37 @@ pub any-append : (ns : List Node) (xs ys : List (Option NodeId)) (j : ℕ) → A
 any-append ns xs ys j = (any-cut ns xs ys j, (λ s. elim s [ inl h ↦ any-left ns xs ys j h | inr h ↦ any-right ns xs ys j h ]))
 
 -- the first documents and the next one
-pub any-next : (ns : List Node) (ds : List Doc) (place : ℕ) (d : Doc) → slice_get ds place ≡ Some d → (j : ℕ)
-    → AnyReaches ns (roots_of (take (suc place) ds)) j ↔ (AnyReaches ns (roots_of (take place ds)) j ⊎ RootReaches ns d.root j)
-any-next ns [] place d at j = let bad : ⊥ = cc at in absurd bad
+pub any-next : (ns : List Node) (ds : List Doc) (index : ℕ) (d : Doc) → slice_get ds index ≡ Some d → (j : ℕ)
+    → AnyReaches ns (roots_of (take (suc index) ds)) j ↔ (AnyReaches ns (roots_of (take index ds)) j ⊎ RootReaches ns d.root j)
+any-next ns [] index d at j = let bad : ⊥ = cc at in absurd bad
 any-next ns (x ∷ ds) zero d at j =
     let same : x ≡ d = cc at in
     subst (λ (y : Doc). AnyReaches ns (x.root ∷ []) j ↔ (⊥ ⊎ RootReaches ns y.root j)) same
     ((λ s. elim s [ inl h ↦ inr h | inr bad ↦ absurd bad ]), (λ s. elim s [ inl bad ↦ absurd bad | inr h ↦ inl h ]))
-any-next ns (x ∷ ds) (suc place) d at j =
-    let rest = any-next ns ds place d at j in (
+any-next ns (x ∷ ds) (suc index) d at j =
+    let rest = any-next ns ds index d at j in (
       (λ s. elim s [ inl h ↦ inl (inl h) | inr h ↦ elim (rest.0 h) [ inl before ↦ inl (inr before) | inr here ↦ inr here ] ]),
       (λ s. elim s [ inl first ↦ elim first [ inl h ↦ inl h | inr before ↦ inr (rest.1 (inl before)) ] | inr here ↦ inr (rest.1 (inr here)) ]),
     )
 
 -- the first versions and the next one
-pub any-next_version : (ns : List Node) (vs : Named (List Doc)) (place : ℕ) (v : List ℕ × List Doc) → slice_get vs place ≡ Some v → (j : ℕ)
-    → AnyReaches ns (version_roots (take (suc place) vs)) j ↔ (AnyReaches ns (version_roots (take place vs)) j ⊎ AnyReaches ns (roots_of v.1) j)
-any-next_version ns [] place v at j = let bad : ⊥ = cc at in absurd bad
+pub any-next_version : (ns : List Node) (vs : Named (List Doc)) (index : ℕ) (v : List ℕ × List Doc) → slice_get vs index ≡ Some v → (j : ℕ)
+    → AnyReaches ns (version_roots (take (suc index) vs)) j ↔ (AnyReaches ns (version_roots (take index vs)) j ⊎ AnyReaches ns (roots_of v.1) j)
+any-next_version ns [] index v at j = let bad : ⊥ = cc at in absurd bad
 any-next_version ns (x ∷ vs) zero v at j =
     let same : x ≡ v = cc at in
     let both = any-append ns (roots_of x.1) [] j in
     subst (λ (y : List ℕ × List Doc). AnyReaches ns (roots_of x.1 ++ []) j ↔ (⊥ ⊎ AnyReaches ns (roots_of y.1) j)) same
     ((λ h. elim (both.0 h) [ inl here ↦ inr here | inr bad ↦ absurd bad ]), (λ s. elim s [ inl bad ↦ absurd bad | inr h ↦ both.1 (inl h) ]))
-any-next_version ns (x ∷ vs) (suc place) v at j =
-    let rest = any-next_version ns vs place v at j in
-    let more = any-append ns (roots_of x.1) (version_roots (take (suc place) vs)) j in
-    let less = any-append ns (roots_of x.1) (version_roots (take place vs)) j in (
+any-next_version ns (x ∷ vs) (suc index) v at j =
+    let rest = any-next_version ns vs index v at j in
+    let more = any-append ns (roots_of x.1) (version_roots (take (suc index) vs)) j in
+    let less = any-append ns (roots_of x.1) (version_roots (take index vs)) j in (
       (λ h. elim (more.0 h) [ inl own ↦ inl (less.1 (inl own)) | inr late ↦ elim (rest.0 late) [ inl before ↦ inl (less.1 (inr before)) | inr here ↦ inr here ] ]),
       (λ s. elim s [ inl first ↦ elim (less.0 first) [ inl own ↦ more.1 (inl own) | inr before ↦ more.1 (inr (rest.1 (inl before))) ] | inr here ↦ more.1 (inr (rest.1 (inr here))) ]),
     )
 
-pub kept-at : (ns : List Node) (vs : Named (List Doc)) (place : ℕ) (v : List ℕ × List Doc) → AreKept ns vs → slice_get vs place ≡ Some v → AreLive ns v.1
-kept-at ns [] place v h e = let bad : ⊥ = cc e in absurd bad
+pub kept-at : (ns : List Node) (vs : Named (List Doc)) (index : ℕ) (v : List ℕ × List Doc) → AreKept ns vs → slice_get vs index ≡ Some v → AreLive ns v.1
+kept-at ns [] index v h e = let bad : ⊥ = cc e in absurd bad
 kept-at ns (x ∷ vs) zero v h e = let same : x ≡ v = cc e in subst (λ (y : List ℕ × List Doc). AreLive ns y.1) same h.0
-kept-at ns (x ∷ vs) (suc place) v h e = kept-at ns vs place v h.1 e
+kept-at ns (x ∷ vs) (suc index) v h e = kept-at ns vs index v h.1 e

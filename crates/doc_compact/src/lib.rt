@@ -41,8 +41,8 @@ fn keep_docs(plan: &mut Plan, store: &Store, docs: &Docs) -> Result<(), NoMemory
     ensures kept { OnOk result (AddsExactly plan.old plan.new (AnyReaches store.now (roots_of docs.now))) }
     ensures plan { OnOk result (IsPlanOf store.now plan.new) }
 {
-    for place in 0..docs.count() {
-        let (_, root) = docs.at(place);
+    for index in 0..docs.count() {
+        let (_, root) = docs.at(index);
         plan.keep_root(store, root)?;
     }
     Ok(())
@@ -55,8 +55,8 @@ fn keep_versions(plan: &mut Plan, store: &Store, versions: &Versions) -> Result<
     ensures kept { OnOk result (AddsExactly plan.old plan.new (AnyReaches store.now (version_roots versions.now))) }
     ensures plan { OnOk result (IsPlanOf store.now plan.new) }
 {
-    for place in 0..versions.count() {
-        let (_, docs) = versions.at(place);
+    for index in 0..versions.count() {
+        let (_, docs) = versions.at(index);
         keep_docs(plan, store, docs)?;
     }
     Ok(())
@@ -91,21 +91,21 @@ fn move_docs(docs: &mut Docs, moves: &Moves)
     requires { AreKeptRoots moves.now docs.old }
     ensures { docs.new ≡ moved_docs moves.now docs.old }
 {
-    for place in 0..docs.count() {
-        let (_, root) = docs.at(place);
-        docs.set_root(place, moved_root(moves, root));
+    for index in 0..docs.count() {
+        let (_, root) = docs.at(index);
+        docs.set_root(index, moved_root(moves, root));
     }
 }
 
 /// Moves the roots of the version at this index to the new node numbers.
-fn move_version(versions: &mut Versions, place: usize, moves: &Moves)
-    requires place { place < length versions.old }
-    requires kept { AreKeptRoots moves.now (docs_at versions.old place) }
-    ensures { versions.new ≡ with_value versions.old place (moved_docs moves.now (docs_at versions.old place)) }
+fn move_version(versions: &mut Versions, index: usize, moves: &Moves)
+    requires index { index < length versions.old }
+    requires kept { AreKeptRoots moves.now (docs_at versions.old index) }
+    ensures { versions.new ≡ with_value versions.old index (moved_docs moves.now (docs_at versions.old index)) }
 {
-    for doc in 0..versions.at(place).1.count() {
-        let (_, root) = versions.at(place).1.at(doc);
-        versions.set_root(place, doc, moved_root(moves, root));
+    for doc in 0..versions.at(index).1.count() {
+        let (_, root) = versions.at(index).1.at(doc);
+        versions.set_root(index, doc, moved_root(moves, root));
     }
 }
 
@@ -114,8 +114,8 @@ fn move_versions(versions: &mut Versions, moves: &Moves)
     requires { AreKeptVersions moves.now versions.old }
     ensures { versions.new ≡ moved_versions moves.now versions.old }
 {
-    for place in 0..versions.count() {
-        move_version(versions, place, moves);
+    for index in 0..versions.count() {
+        move_version(versions, index, moves);
     }
 }
 

@@ -8,8 +8,8 @@ use Rattle.name_map.specs.Named.{Named, with_value}
 
 -- the documents of the version at this index
 abbrev pub docs_at : Named (List Doc) → ℕ → List Doc
-docs_at versions place = unwrap_or (option_map (λ v. v.1) (slice_get versions place)) []
+docs_at versions index = unwrap_or (option_map (λ v. v.1) (slice_get versions index)) []
 
 -- the document at index doc of the version at this index gets the root
 abbrev pub with_version_root : Named (List Doc) → ℕ → ℕ → Option NodeId → Named (List Doc)
-with_version_root versions place doc root = with_value versions place (with_root (docs_at versions place) doc root)
+with_version_root versions index doc root = with_value versions index (with_root (docs_at versions index) doc root)

@@ -151,22 +151,22 @@ impl Versions {
         self.by_name.count()
     }
 
-    /// The name and the documents of the version at index `place`, counted from 0. Takes constant time after `settle`,
+    /// The name and the documents of the version at index `index`, counted from 0. Takes constant time after `settle`,
     /// and otherwise up to linear time.
-    pub fn at(&self, place: usize) -> (&Name, &Docs)
-        requires { place < length self.now }
-        ensures { slice_get self.now place ≡ Some (result.0.now, result.1.now) }
+    pub fn at(&self, index: usize) -> (&Name, &Docs)
+        requires { index < length self.now }
+        ensures { slice_get self.now index ≡ Some (result.0.now, result.1.now) }
     {
-        self.by_name.at(place)
+        self.by_name.at(index)
     }
 
-    /// Sets the root of the document at index `doc` in the version at index `place`. Allocates nothing. Takes constant
+    /// Sets the root of the document at index `doc` in the version at index `index`. Allocates nothing. Takes constant
     /// time after `settle`, and otherwise up to linear time.
-    pub fn set_root(&mut self, place: usize, doc: usize, root: Option<NodeId>)
-        requires place { place < length self.old }
-        requires doc { doc < length (docs_at self.old place) }
-        ensures { self.new ≡ with_version_root self.old place doc root }
+    pub fn set_root(&mut self, index: usize, doc: usize, root: Option<NodeId>)
+        requires index { index < length self.old }
+        requires doc { doc < length (docs_at self.old index) }
+        ensures { self.new ≡ with_version_root self.old index doc root }
     {
-        self.by_name.value_mut(place).set_root(doc, root);
+        self.by_name.value_mut(index).set_root(doc, root);
     }
 }

@@ -3,11 +3,11 @@ use Rattle.std.proofs.Common.{◌≡◌, ℕ, ◌+◌, ◌≤◌, List, [], ◌+
 use Rattle.std.proofs.lemmas.List.{drop_all, drop-drop}
 
 -- what was copied from the place on, and then the rest from the new place on
-pub moved : (all into : List ℕ) (place n : ℕ) → take n into ≡ take n (drop place all) → drop place all ≡ take n into ++ drop (place + n) all
-moved all into place n is =
-    sym (take-append-drop n (drop place all))
-    ∙ ap (λ (l : List ℕ). l ++ drop n (drop place all)) (sym is)
-    ∙ ap (λ (l : List ℕ). take n into ++ l) (drop-drop n place all)
+pub moved : (all into : List ℕ) (position n : ℕ) → take n into ≡ take n (drop position all) → drop position all ≡ take n into ++ drop (position + n) all
+moved all into position n is =
+    sym (take-append-drop n (drop position all))
+    ∙ ap (λ (l : List ℕ). l ++ drop n (drop position all)) (sym is)
+    ∙ ap (λ (l : List ℕ). take n into ++ l) (drop-drop n position all)
 
-pub ended : (all : List ℕ) (place n : ℕ) → length all ≤ place + n → drop (place + n) all ≡ []
-ended all place n past = drop_all (place + n) all past
+pub ended : (all : List ℕ) (position n : ℕ) → length all ≤ position + n → drop (position + n) all ≡ []
+ended all position n past = drop_all (position + n) all past

@@ -58,7 +58,7 @@ close_file files name reads writes = record {
 
 -- the file has these bytes from the offset on, and the piece is empty only if none is left
 pub record IsPiece (bytes : List ℕ) (from : ℕ) (piece : List ℕ) : Type 0 where
-  pub front : piece ≡ take (length piece) (drop from bytes)
+  pub prefix : piece ≡ take (length piece) (drop from bytes)
   pub end : piece ≡ [] → length bytes ≤ from
 
 -- there is a file of this name, and it has these bytes from the offset on

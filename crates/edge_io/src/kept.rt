@@ -59,11 +59,11 @@ fn put_bytes(
     ensures whole { OnOk result (entries_of files.new.items ≡ put_entry (entries_of files.old.items) name.now bytes.now) }
     ensures refused { OnErr result (entries_of files.new.items ≡ entries_of files.old.items) }
 {
-    let place = index_of(files, name);
+    let index = index_of(files, name);
     let alloc = *files.allocator();
     let bytes = Vec::from_slice(alloc, bytes)?;
-    match place {
-        Some(place) => files[place].1 = bytes,
+    match index {
+        Some(index) => files[index].1 = bytes,
         None => {
             let name = Vec::from_slice(alloc, name)?;
             files.push((name, bytes))?;
@@ -102,7 +102,7 @@ impl KeptFiles {
         ensures { option_map (λ bytes. bytes.now) result ≡ file_of self.now name.now }
     {
         match index_of(&self.files, name) {
-            Some(place) => Some(&self.files[place].1),
+            Some(index) => Some(&self.files[index].1),
             None => None,
         }
     }

@@ -20,7 +20,7 @@ use std::marker::Model;
 #[derive(Drop)]
 pub struct MemSource {
     bytes: Vec<u8>,
-    place: usize,
+    position: usize,
     piece: usize,
     plan: FaultPlan,
 }
@@ -31,9 +31,9 @@ impl Model for MemSource {
 
     ghost Value = { MemInput };
 
-    ghost view = { λ s. record { left = drop s.place s.bytes.items; piece = s.piece; injection = s.plan } };
+    ghost view = { λ s. record { left = drop s.position s.bytes.items; piece = s.piece; injection = s.plan } };
 
-    ghost invariant = { λ s. (s.place ≤ length s.bytes.items) × (0 < s.piece) };
+    ghost invariant = { λ s. (s.position ≤ length s.bytes.items) × (0 < s.piece) };
 }
 
 impl MemSource {
@@ -44,7 +44,7 @@ impl MemSource {
     {
         MemSource {
             bytes,
-            place: 0,
+            position: 0,
             piece,
             plan: FaultPlan::new(failing),
         }
@@ -69,9 +69,9 @@ impl Source for MemSource {
         if self.plan.next_fails() {
             return Err(Failed);
         }
-        let rest = &self.bytes[self.place..];
+        let rest = &self.bytes[self.position..];
         let count = copy_prefix(&rest[..rest.len().min(self.piece)], into);
-        self.place += count;
+        self.position += count;
         Ok(count)
     }
 }

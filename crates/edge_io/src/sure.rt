@@ -17,7 +17,7 @@ use std::marker::Model;
 #[derive(Drop)]
 pub struct SureSource {
     bytes: Vec<u8>,
-    place: usize,
+    position: usize,
 }
 
 impl Model for SureSource {
@@ -25,9 +25,9 @@ impl Model for SureSource {
 
     ghost Value = { List ℕ };
 
-    ghost view = { λ s. drop s.place s.bytes.items };
+    ghost view = { λ s. drop s.position s.bytes.items };
 
-    ghost invariant = { λ s. s.place ≤ length s.bytes.items };
+    ghost invariant = { λ s. s.position ≤ length s.bytes.items };
 }
 
 impl SureSource {
@@ -35,7 +35,7 @@ impl SureSource {
     pub fn new(bytes: Vec<u8>) -> SureSource
         ensures { result ≡ bytes.items }
     {
-        SureSource { bytes, place: 0 }
+        SureSource { bytes, position: 0 }
     }
 }
 
@@ -51,8 +51,8 @@ impl Source for SureSource {
         ensures cause { HasCause 0 0 result }
         ensures sure { IsOk result }
     {
-        let count = copy_prefix(&self.bytes[self.place..], into);
-        self.place += count;
+        let count = copy_prefix(&self.bytes[self.position..], into);
+        self.position += count;
         Ok(count)
     }
 }

@@ -3,5 +3,5 @@ pub mod PartLemmas
 pub mod NamedLemmas
 pub mod CutLemmas
 pub mod WordLemmas
-pub mod FrontLemmas
+pub mod PrefixLemmas
 pub mod MeaningLemmas

@@ -11,7 +11,7 @@ use Rattle.edit_expr.specs.Expressions.{AreTokens, IsWritable, tokens, trimmed}
 use Rattle.edit_expr.specs.Operations.{IsClosing, IsWordEnd, operation_named, word_of}
 use Rattle.edit_expr.specs.Laws.{HaveOneMeaning, OneExpression}
 use Rattle.edit_expr.proofs.WordLemmas.{AreLetters, closing_end, closing_shut, decimal_letters, name_letters, sign_end, tails, word_same}
-use Rattle.edit_expr.proofs.FrontLemmas.{named_itself, word_letters}
+use Rattle.edit_expr.proofs.PrefixLemmas.{named_itself, word_letters}
 
 -- the operation of an expression, if it is one
 abbrev kind : Expr → Option Operation

@@ -26,9 +26,9 @@ operation_named word = find (λ o. bytes_eq (word_of o) word) (Concat ∷ Extrac
 abbrev pub IsWordEnd : List ℕ → Type 0
 IsWordEnd text = option_map_or is_later_byte (slice_get text 0) false ≡ false
 
--- the text is tokens followed by `rest`; `front` prepends these tokens to others
+-- the text is tokens followed by `rest`; `prefix` prepends these tokens to others
 abbrev pub Begins : (List (List ℕ) → List (List ℕ)) → List ℕ → List ℕ → Type 0
-Begins front text rest = (others : List (List ℕ)) → AreTokens others rest → AreTokens (front others) text
+Begins prefix text rest = (others : List (List ℕ)) → AreTokens others rest → AreTokens (prefix others) text
 
 -- what may follow an expression or a number: the end, `,` or `)`
 abbrev pub IsClosing : List (List ℕ) → Type 0

@@ -87,8 +87,8 @@ pub(crate) fn delete<L: Ledger>(
         });
     }
     let (before, after) = split(store, root, j, pairs)?;
-    let (front, _) = split(store, before, i, pairs)?;
-    let whole = concat(store, front, after, pairs)?;
+    let (prefix, _) = split(store, before, i, pairs)?;
+    let whole = concat(store, prefix, after, pairs)?;
     Ok(whole)
 }
 
@@ -120,9 +120,9 @@ pub(crate) fn insert<L: Ledger>(
     if sum > LONGEST {
         return Err(EditRefusal::TooLong { len: sum });
     }
-    let (front, back) = split(store, root, k, pairs)?;
+    let (prefix, back) = split(store, root, k, pairs)?;
     let rest = concat(store, part, back, pairs)?;
-    let whole = concat(store, front, rest, pairs)?;
+    let whole = concat(store, prefix, rest, pairs)?;
     Ok(whole)
 }
 

@@ -51,19 +51,19 @@ pub fn read(alloc: Global, text: &[u8]) -> Result<Expr, ExprRefusal>
     ensures ok { IfOk result (λ expr. ExprReads text.now expr) }
     ensures syntax { IfErr result (λ why. why ≡ ExprRefusal.Syntax → (expr : Expr) → ExprReads text.now expr → ⊥) }
 {
-    let front = expression(alloc, text, MAX_NESTING)?;
-    if !trim(front.rest).is_empty() {
+    let prefix = expression(alloc, text, MAX_NESTING)?;
+    if !trim(prefix.rest).is_empty() {
         return Err(ExprRefusal::Syntax);
     }
-    Ok(front.expr)
+    Ok(prefix.expr)
 }
 
 // Parses an expression nested at most `depth` deep.
 #[cycle(exprs)]
 fn expression(alloc: Global, text: &[u8], depth: u8) -> Result<ParsedPrefix<'_>, ExprRefusal>
-    ensures ok { IfOk result (λ front. Fits depth front.expr × Begins (tokens front.expr) text.now front.rest.now) }
+    ensures ok { IfOk result (λ prefix. Fits depth prefix.expr × Begins (tokens prefix.expr) text.now prefix.rest.now) }
     ensures exact { (e : Expr) (others : List (List ℕ)) → Fits depth e → IsClosing others → AreTokens (tokens e others) text.now
-        → MatchResult result (λ front. AreTokens others front.rest.now) (λ why. why ≡ ExprRefusal.NoMemory) }
+        → MatchResult result (λ prefix. AreTokens others prefix.rest.now) (λ why. why ≡ ExprRefusal.NoMemory) }
 {
     let (word, rest) = word_at(text);
     let Some(inside) = sign_at(rest, b'(') else {
@@ -76,12 +76,12 @@ fn expression(alloc: Global, text: &[u8], depth: u8) -> Result<ParsedPrefix<'_>,
     if depth == 0 {
         return Err(ExprRefusal::Syntax);
     }
-    let front = arguments(alloc, operation, inside, depth - 1)?;
-    let Some(rest) = sign_at(front.rest, b')') else {
+    let prefix = arguments(alloc, operation, inside, depth - 1)?;
+    let Some(rest) = sign_at(prefix.rest, b')') else {
         return Err(ExprRefusal::Syntax);
     };
     Ok(ParsedPrefix {
-        expr: front.expr,
+        expr: prefix.expr,
         rest,
     })
 }
@@ -106,11 +106,11 @@ fn arguments(
     text: &[u8],
     depth: u8,
 ) -> Result<ParsedPrefix<'_>, ExprRefusal>
-    ensures ok { IfOk result (λ front. Fits (depth + 1) front.expr
+    ensures ok { IfOk result (λ prefix. Fits (depth + 1) prefix.expr
         × ((whole : List ℕ) → Opens operation whole text.now
-        → (others : List (List ℕ)) → AreTokens (codes ")" ∷ others) front.rest.now → AreTokens (tokens front.expr others) whole)) }
+        → (others : List (List ℕ)) → AreTokens (codes ")" ∷ others) prefix.rest.now → AreTokens (tokens prefix.expr others) whole)) }
     ensures exact { (others : List (List ℕ)) → IsClosing others → IsInside operation depth others text.now
-        → MatchResult result (λ front. AreTokens others front.rest.now) (λ why. why ≡ ExprRefusal.NoMemory) }
+        → MatchResult result (λ prefix. AreTokens others prefix.rest.now) (λ why. why ≡ ExprRefusal.NoMemory) }
 {
     match operation {
         Operation::Concat => {

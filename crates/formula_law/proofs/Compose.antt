@@ -45,8 +45,8 @@ module _ (A : ℕ → List Bool → Type 0) where
   words_inside (Set b) i j u h = zero_inside i j u h.2
   words_inside Empty i j u h = zero_inside i j u h.1
   words_inside (Cat a b) i j u h =
-      let l = words_inside a i h.place h.left h.in_left in
-      let r = words_inside b h.place j h.right h.in_right in
+      let l = words_inside a i h.index h.left h.in_left in
+      let r = words_inside b h.index j h.right h.in_right in
       record {
         below = λ p lt. omega (arith, h.sum.at p, l.below p lt, r.below p (omega (arith, h.low)));
         above = λ p lt. omega (arith, h.sum.at p, r.above p lt, l.above p (omega (arith, h.high)));
@@ -72,8 +72,8 @@ module _ (A : ℕ → List Bool → Type 0) where
   embeds_walk a f n l u v p o q c e same w =
       walk_marks u p o q c same (walk_more p o q c e.follow (λ r d h. embeds_reads a f n l r d e h) w)
 
-  in_front : (a b : FormulaTree) (n : ℕ) → Embeds a (Cat a b) n n
-  in_front a b n = record { has = λ o c h. inl h; follow = λ o m p h. inl h }
+  in_prefix : (a b : FormulaTree) (n : ℕ) → Embeds a (Cat a b) n n
+  in_prefix a b n = record { has = λ o c h. inl h; follow = λ o m p h. inl h }
 
   in_back : (a b : FormulaTree) (n : ℕ) → Embeds b (Cat a b) (n + sets a) n
   in_back a b n = record { has = λ o c h. inr h; follow = λ o m p h. inr (inl h) }
@@ -140,8 +140,8 @@ module _ (A : ℕ → List Bool → Type 0) where
         exit = p.exit;
         final = p.final;
         begins = inl (subst F (same i lt) p.begins);
-        reads = embeds_reads a (Cat a b) n n i p.entry (in_front a b n) p.reads;
-        walk = embeds_walk a (Cat a b) n n u v i p.entry p.final p.exit (in_front a b n) (λ r g h. same r (omega (arith, p.at_end))) p.walk;
+        reads = embeds_reads a (Cat a b) n n i p.entry (in_prefix a b n) p.reads;
+        walk = embeds_walk a (Cat a b) n n u v i p.entry p.final p.exit (in_prefix a b n) (λ r g h. same r (omega (arith, p.at_end))) p.walk;
         at_end = p.at_end;
         ends = inr (record { left = v j; right = w j; in_left = p.ends; in_right = null; sum = s.at j });
       }
@@ -160,8 +160,8 @@ module _ (A : ℕ → List Bool → Type 0) where
         exit = q.exit;
         final = q.final;
         begins = inl (subst F (same i lt) p.begins);
-        reads = embeds_reads a (Cat a b) n n i p.entry (in_front a b n) p.reads;
-        walk = walk_join i p.entry p.final p.exit m q.entry q.final q.exit (embeds_walk a (Cat a b) n n u v i p.entry p.final p.exit (in_front a b n) (λ r g h. same r (omega (arith, p.at_end))) p.walk) p.at_end (inr (inr (record { left = v m; right = w m; in_left = p.ends; in_right = q.begins; sum = s.at m }))) (embeds_reads b (Cat a b) (n + sets a) n m q.entry (in_back a b n) q.reads) (embeds_walk b (Cat a b) (n + sets a) n u w m q.entry q.final q.exit (in_back a b n) (λ r g h. same' r g) q.walk);
+        reads = embeds_reads a (Cat a b) n n i p.entry (in_prefix a b n) p.reads;
+        walk = walk_join i p.entry p.final p.exit m q.entry q.final q.exit (embeds_walk a (Cat a b) n n u v i p.entry p.final p.exit (in_prefix a b n) (λ r g h. same r (omega (arith, p.at_end))) p.walk) p.at_end (inr (inr (record { left = v m; right = w m; in_left = p.ends; in_right = q.begins; sum = s.at m }))) (embeds_reads b (Cat a b) (n + sets a) n m q.entry (in_back a b n) q.reads) (embeds_walk b (Cat a b) (n + sets a) n u w m q.entry q.final q.exit (in_back a b n) (λ r g h. same' r g) q.walk);
         at_end = q.at_end;
         ends = inl (subst L (same' j lt') q.ends);
       }
@@ -271,7 +271,7 @@ module _ (A : ℕ → List Bool → Type 0) where
   })
   compose Empty n i j u h = inl (record { same = h.0; null = h.1.at i })
   compose (Cat a b) n i j u h =
-      then_runs a b n i h.place j u h.left h.right h.sum (words_inside a i h.place h.left h.in_left) (words_inside b h.place j h.right h.in_right) (compose a n i h.place h.left h.in_left) (compose b (n + sets a) h.place j h.right h.in_right)
+      then_runs a b n i h.index j u h.left h.right h.sum (words_inside a i h.index h.left h.in_left) (words_inside b h.index j h.right h.in_right) (compose a n i h.index h.left h.in_left) (compose b (n + sets a) h.index j h.right h.in_right)
   compose (Alt a b) n i j u (inl h) = either_one a b n i j u (compose a n i j u h)
   compose (Alt a b) n i j u (inr h) = either_other a b n i j u (compose b (n + sets a) i j u h)
   compose (Star a) n i j u h =

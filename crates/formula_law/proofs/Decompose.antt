@@ -6,7 +6,7 @@ use Rattle.span_types.specs.Marks.{at_position, opening, closing}
 use Rattle.span_types.specs.Fits.{Turns, done, more}
 use Rattle.formula_law.specs.Positions.{HasSet, IsNull, IsFirst, IsLast, Joins, IsFollow}
 use Rattle.formula_law.proofs.Ranges.{InRange, apart, set_range, first_range, last_range, follow_range, NoVars, null_zero, first_zero, last_zero, follow_zero}
-use Rattle.formula_law.proofs.Sums.{IsZero, IsInside, zeros, zeros_path, at_same, at_other, front, back, front_before, front_at, front_after, back_before, back_at, back_after, three, front_back}
+use Rattle.formula_law.proofs.Sums.{IsZero, IsInside, zeros, zeros_path, at_same, at_other, prefix, back, prefix_before, prefix_at, prefix_after, back_before, back_at, back_after, three, prefix_back}
 use Rattle.formula_law.proofs.Walk.{Walk, stop, step, walk_le, walk_marks, walk_more}
 use Rattle.formula_law.proofs.Words.{Words}
 use Rattle.formula_law.proofs.Enters.{Reads, Path, Runs}
@@ -23,10 +23,10 @@ StarsPlain (Plus a) = StarsPlain a × NoVars a
 StarsPlain (Opt a) = StarsPlain a
 StarsPlain (Capture x a) = StarsPlain a
 
-front_inside : (i j m x : ℕ) (u : ℕ → ℕ) → IsInside i j u → i ≤ m → IsInside i m (front u m x)
-front_inside i j m x u d le = record {
-  below = λ p h. front_before u m x p (omega arith) ∙ d.below p h;
-  above = λ p h. front_after u m x p h;
+prefix_inside : (i j m x : ℕ) (u : ℕ → ℕ) → IsInside i j u → i ≤ m → IsInside i m (prefix u m x)
+prefix_inside i j m x u d le = record {
+  below = λ p h. prefix_before u m x p (omega arith) ∙ d.below p h;
+  above = λ p h. prefix_after u m x p h;
 }
 
 back_inside : (i j m x : ℕ) (u : ℕ → ℕ) → IsInside i j u → m ≤ j → IsInside m j (back u m x)
@@ -117,8 +117,8 @@ module _ (A : ℕ → List Bool → Type 0) where
       follow' o m p r (inr (inl h)) = h
       follow' o m p r (inr (inr h)) = apart n (sets a) (sets b) o (last_range a n o h.left h.in_left) r
 
-  front_reads : (a b : FormulaTree) (n p o : ℕ) → InRange n (sets a) o → Reads A (Cat a b) n p o → Reads A a n p o
-  front_reads a b n p o r h = record { members = h.members; has_set = pick h.has_set; fits = h.fits }
+  prefix_reads : (a b : FormulaTree) (n p o : ℕ) → InRange n (sets a) o → Reads A (Cat a b) n p o → Reads A a n p o
+  prefix_reads a b n p o r h = record { members = h.members; has_set = pick h.has_set; fits = h.fits }
     where
       pick : HasSet (Cat a b) n o h.members → HasSet a n o h.members
       pick (inl y) = y
@@ -134,13 +134,13 @@ module _ (A : ℕ → List Bool → Type 0) where
   record Over (a b : FormulaTree) (n : ℕ) (u : ℕ → ℕ) (p o q c : ℕ) : Type 0 where
     last : ℕ
     exit : ℕ
-    place : ℕ
+    index : ℕ
     entry : ℕ
     first_walk : Walk (IsFollow a n) (Reads A a n) u p o last exit
-    next : place ≡ suc last
-    joins : Joins (IsLast a n) (IsFirst b (n + sets a)) exit (u place) entry
-    reads : Reads A b (n + sets a) place entry
-    second : Kept b (n + sets a) u place entry q c
+    next : index ≡ suc last
+    joins : Joins (IsLast a n) (IsFirst b (n + sets a)) exit (u index) entry
+    reads : Reads A b (n + sets a) index entry
+    second : Kept b (n + sets a) u index entry q c
 
   cut_walk : (a b : FormulaTree) (n : ℕ) (u : ℕ → ℕ) (p o q c : ℕ) → InRange n (sets a) o → Walk (IsFollow (Cat a b) n) (Reads A (Cat a b) n) u p o q c → Kept a n u p o q c ⊎ Over a b n u p o q c
   cut_walk a b n u p o q c r (stop _ _ _ _ e g) =
@@ -148,14 +148,14 @@ module _ (A : ℕ → List Bool → Type 0) where
       inl (record { walk = stop p o q c e g; range = subst R g r })
   cut_walk a b n u p o q c r (step _ _ s d _ _ e (inl x) h w) =
       let t = (follow_range a n o (u s) d x).to in
-      go e x (front_reads a b n s d t h) (cut_walk a b n u s d q c t w)
+      go e x (prefix_reads a b n s d t h) (cut_walk a b n u s d q c t w)
     where
       go : s ≡ suc p → IsFollow a n o (u s) d → Reads A a n s d → Kept a n u s d q c ⊎ Over a b n u s d q c → Kept a n u p o q c ⊎ Over a b n u p o q c
       go e x h (inl k) = inl (record { walk = step p o s d q c e x h k.walk; range = k.range })
       go e x h (inr k) = inr (record {
         last = k.last;
         exit = k.exit;
-        place = k.place;
+        index = k.index;
         entry = k.entry;
         first_walk = step p o s d k.last k.exit e x h k.first_walk;
         next = k.next;
@@ -170,7 +170,7 @@ module _ (A : ℕ → List Bool → Type 0) where
       inr (record {
         last = p;
         exit = o;
-        place = s;
+        index = s;
         entry = d;
         first_walk = stop p o p o refl refl;
         next = e;
@@ -181,38 +181,38 @@ module _ (A : ℕ → List Bool → Type 0) where
 
   -- the two halves of a concatenation at an index
   record Halves (a b : FormulaTree) (n i j : ℕ) (u : ℕ → ℕ) : Type 0 where
-    place : ℕ
-    low : i ≤ place
-    high : place ≤ j
+    index : ℕ
+    low : i ≤ index
+    high : index ≤ j
     left : ℕ
     right : ℕ
-    sum : u place ≡ left + right
-    in_left : Runs A a n i place (front u place left)
-    in_right : Runs A b (n + sets a) place j (back u place right)
+    sum : u index ≡ left + right
+    in_left : Runs A a n i index (prefix u index left)
+    in_right : Runs A b (n + sets a) index j (back u index right)
 
-  crossed_front : (a : FormulaTree) (n i x : ℕ) (u : ℕ → ℕ) → IsNull a x → Runs A a n i i (front u i x)
-  crossed_front a n i x u h =
+  crossed_prefix : (a : FormulaTree) (n i x : ℕ) (u : ℕ → ℕ) → IsNull a x → Runs A a n i i (prefix u i x)
+  crossed_prefix a n i x u h =
       let N : ℕ → Type 0 = λ m. IsNull a m in
-      inl (record { same = refl; null = subst N (sym (front_at u i x)) h })
+      inl (record { same = refl; null = subst N (sym (prefix_at u i x)) h })
 
   crossed_back : (b : FormulaTree) (n i j x : ℕ) (u : ℕ → ℕ) → i ≡ j → IsNull b x → Runs A b n i j (back u i x)
   crossed_back b n i j x u e h =
       let N : ℕ → Type 0 = λ m. IsNull b m in
       inl (record { same = e; null = subst N (sym (back_at u i x)) h })
 
-  path_front : (a : FormulaTree) (n i m x entry final exit : ℕ) (u : ℕ → ℕ) → m ≡ suc final → i ≤ final → IsFirst a n (u i) entry → Reads A a n i entry → Walk (IsFollow a n) (Reads A a n) u i entry final exit → IsLast a n exit x → Runs A a n i m (front u m x)
-  path_front a n i m x entry final exit u e le first reads walk last =
+  path_prefix : (a : FormulaTree) (n i m x entry final exit : ℕ) (u : ℕ → ℕ) → m ≡ suc final → i ≤ final → IsFirst a n (u i) entry → Reads A a n i entry → Walk (IsFollow a n) (Reads A a n) u i entry final exit → IsLast a n exit x → Runs A a n i m (prefix u m x)
+  path_prefix a n i m x entry final exit u e le first reads walk last =
       let F : ℕ → Type 0 = λ y. IsFirst a n y entry in
       let L : ℕ → Type 0 = λ y. IsLast a n exit y in
       inr (record {
         entry = entry;
         exit = exit;
         final = final;
-        begins = subst F (sym (front_before u m x i (omega arith))) first;
+        begins = subst F (sym (prefix_before u m x i (omega arith))) first;
         reads = reads;
-        walk = walk_marks (front u m x) i entry final exit (λ r g h. sym (front_before u m x r (omega arith))) walk;
+        walk = walk_marks (prefix u m x) i entry final exit (λ r g h. sym (prefix_before u m x r (omega arith))) walk;
         at_end = e;
-        ends = subst L (sym (front_at u m x)) last;
+        ends = subst L (sym (prefix_at u m x)) last;
       })
 
   path_back : (b : FormulaTree) (n m j x entry final exit : ℕ) (u : ℕ → ℕ) → j ≡ suc final → m ≤ final → IsFirst b n x entry → Reads A b n m entry → Walk (IsFollow b n) (Reads A b n) u m entry final exit → IsLast b n exit (u j) → Runs A b n m j (back u m x)
@@ -237,29 +237,29 @@ module _ (A : ℕ → List Bool → Type 0) where
   stays_halves a b n i j u entry final exit e first reads k (inr h) =
       let le = walk_le i entry final exit k.walk in
       record {
-        place = j;
+        index = j;
         low = omega (arith, e, le);
         high = omega arith;
         left = h.left;
         right = h.right;
         sum = h.sum;
-        in_left = path_front a n i j h.left entry final exit u e le first reads k.walk h.in_left;
+        in_left = path_prefix a n i j h.left entry final exit u e le first reads k.walk h.in_left;
         in_right = crossed_back b (n + sets a) j j h.right u refl h.in_right;
       }
 
   over_halves : (a b : FormulaTree) (n i j : ℕ) (u : ℕ → ℕ) (entry final exit : ℕ) → j ≡ suc final → IsFirst a n (u i) entry → Reads A a n i entry → Over a b n u i entry final exit → IsLast (Cat a b) n exit (u j) → Halves a b n i j u
   over_halves a b n i j u entry final exit e first reads k (inl h) =
       let le = walk_le i entry k.last k.exit k.first_walk in
-      let le' = walk_le k.place k.entry final exit k.second.walk in
+      let le' = walk_le k.index k.entry final exit k.second.walk in
       record {
-        place = k.place;
+        index = k.index;
         low = omega (arith, k.next, le);
         high = omega (arith, e, le');
         left = k.joins.left;
         right = k.joins.right;
         sum = k.joins.sum;
-        in_left = path_front a n i k.place k.joins.left entry k.last k.exit u k.next le first reads k.first_walk k.joins.in_left;
-        in_right = path_back b (n + sets a) k.place j k.joins.right k.entry final exit u e le' k.joins.in_right k.reads k.second.walk h;
+        in_left = path_prefix a n i k.index k.joins.left entry k.last k.exit u k.next le first reads k.first_walk k.joins.in_left;
+        in_right = path_back b (n + sets a) k.index j k.joins.right k.entry final exit u e le' k.joins.in_right k.reads k.second.walk h;
       }
   over_halves a b n i j u entry final exit e first reads k (inr h) =
       apart n (sets a) (sets b) exit (last_range a n exit h.left h.in_left) k.second.range
@@ -275,31 +275,31 @@ module _ (A : ℕ → List Bool → Type 0) where
   enter_halves : (a b : FormulaTree) (n i j : ℕ) (u : ℕ → ℕ) (entry final exit : ℕ) → j ≡ suc final → IsFirst (Cat a b) n (u i) entry → Reads A (Cat a b) n i entry → Walk (IsFollow (Cat a b) n) (Reads A (Cat a b) n) u i entry final exit → IsLast (Cat a b) n exit (u j) → Halves a b n i j u
   enter_halves a b n i j u entry final exit e (inl first) reads walk last =
       let r = first_range a n (u i) entry first in
-      cut_halves a b n i j u entry final exit e first (front_reads a b n i entry r reads) (cut_walk a b n u i entry final exit r walk) last
+      cut_halves a b n i j u entry final exit e first (prefix_reads a b n i entry r reads) (cut_walk a b n u i entry final exit r walk) last
   enter_halves a b n i j u entry final exit e (inr first) reads walk last =
       let r = first_range b (n + sets a) first.right entry first.in_right in
       let k = keeps_walk (Cat a b) b n (n + sets a) u i entry final exit (keeps_back a b n) r walk in
       let le = walk_le i entry final exit k.walk in
       record {
-        place = i;
+        index = i;
         low = omega arith;
         high = omega (arith, e, le);
         left = first.left;
         right = first.right;
         sum = first.sum;
-        in_left = crossed_front a n i first.left u first.in_left;
+        in_left = crossed_prefix a n i first.left u first.in_left;
         in_right = path_back b (n + sets a) i j first.right entry final exit u e le first.in_right (keeps_reads (Cat a b) b n (n + sets a) i entry (keeps_back a b n) r reads) k.walk (back_last a b n exit (u j) k.range last);
       }
 
   halves : (a b : FormulaTree) (n i j : ℕ) (u : ℕ → ℕ) → Runs A (Cat a b) n i j u → Halves a b n i j u
   halves a b n i j u (inl h) = record {
-    place = i;
+    index = i;
     low = omega arith;
     high = omega (arith, h.same);
     left = h.null.left;
     right = h.null.right;
     sum = h.null.sum;
-    in_left = crossed_front a n i h.null.left u h.null.in_left;
+    in_left = crossed_prefix a n i h.null.left u h.null.in_left;
     in_right = crossed_back b (n + sets a) i j h.null.right u h.same h.null.in_right;
   }
   halves a b n i j u (inr h) = enter_halves a b n i j u h.entry h.final h.exit h.at_end h.begins h.reads h.walk h.ends
@@ -385,11 +385,11 @@ module _ (A : ℕ → List Bool → Type 0) where
 
   -- a first turn, and the turns after it
   record OneMore (a : FormulaTree) (i j : ℕ) : Type 0 where
-    place : ℕ
-    low : i < place
-    high : place ≤ j
-    turn : Words A a i place zeros
-    turns : Turns (λ g h. Words A a g h zeros) place j
+    index : ℕ
+    low : i < index
+    high : index ≤ j
+    turn : Words A a i index zeros
+    turns : Turns (λ g h. Words A a g h zeros) index j
 
   one_more : (a : FormulaTree) (n i j : ℕ) → ((g h : ℕ) → Path A a n g h zeros → Words A a g h zeros) → Path A (Star a) n i j zeros → OneMore a i j
   one_more a n i j each p =
@@ -398,7 +398,7 @@ module _ (A : ℕ → List Bool → Type 0) where
       let up = turns_up (suc t.final) (suc p.final) t.turns in
       let T : ℕ → Type 0 = λ y. Turns (λ g h. Words A a g h zeros) (suc t.final) y in
       record {
-        place = suc t.final;
+        index = suc t.final;
         low = omega arith;
         high = omega (arith, up, p.at_end);
         turn = each i (suc t.final) (record {
@@ -416,7 +416,7 @@ module _ (A : ℕ → List Bool → Type 0) where
 
   star_words : (a : FormulaTree) (n i j : ℕ) → ((g h : ℕ) → Path A a n g h zeros → Words A a g h zeros) → Runs A (Star a) n i j zeros → Turns (λ g h. Words A a g h zeros) i j
   star_words a n i j each (inl h) = done i j h.same
-  star_words a n i j each (inr h) = let m = one_more a n i j each h in more i m.place j m.low m.high m.turn m.turns
+  star_words a n i j each (inr h) = let m = one_more a n i j each h in more i m.index j m.low m.high m.turn m.turns
 
   to_star : (a : FormulaTree) (n i j : ℕ) → Path A (Plus a) n i j zeros → Path A (Star a) n i j zeros
   to_star a n i j p = record {
@@ -561,7 +561,7 @@ module _ (A : ℕ → List Bool → Type 0) where
       (z, i, omega arith, omega (arith, h.same), each i i (inl (record { same = refl; null = h.null })), done i j h.same)
   plus_words a n i j u z each (inr h) =
       let m = one_more a n i j (λ g k p. each g k (inr p)) (to_star a n i j h) in
-      (z, m.place, omega (arith, m.low), m.high, m.turn, m.turns)
+      (z, m.index, omega (arith, m.low), m.high, m.turn, m.turns)
 
   pub decompose : (f : FormulaTree) (n i j : ℕ) (u : ℕ → ℕ) → StarsPlain f → IsInside i j u → Runs A f n i j u → Words A f i j u
   decompose (Set b) n i j u pl d h = letter_words b n i j u d h
@@ -569,14 +569,14 @@ module _ (A : ℕ → List Bool → Type 0) where
   decompose (Cat a b) n i j u pl d h =
       let k = halves a b n i j u h in
       record {
-        place = k.place;
+        index = k.index;
         low = k.low;
         high = k.high;
-        left = front u k.place k.left;
-        right = back u k.place k.right;
-        in_left = decompose a n i k.place (front u k.place k.left) pl.0 (front_inside i j k.place k.left u d k.low) k.in_left;
-        in_right = decompose b (n + sets a) k.place j (back u k.place k.right) pl.1 (back_inside i j k.place k.right u d k.high) k.in_right;
-        sum = front_back u k.place k.left k.right k.sum;
+        left = prefix u k.index k.left;
+        right = back u k.index k.right;
+        in_left = decompose a n i k.index (prefix u k.index k.left) pl.0 (prefix_inside i j k.index k.left u d k.low) k.in_left;
+        in_right = decompose b (n + sets a) k.index j (back u k.index k.right) pl.1 (back_inside i j k.index k.right u d k.high) k.in_right;
+        sum = prefix_back u k.index k.left k.right k.sum;
       }
   decompose (Alt a b) n i j u pl d h =
       one_of (decompose a n i j u pl.0 d) (decompose b (n + sets a) i j u pl.1 d) (either_runs a b n i j u h)

@@ -113,7 +113,7 @@ module _ (s : List ℕ) (k : ℕ) where
       (omega (arith, h.0), h.1, record { at = λ p. mark_none k t p (λ v. w v refl) })
   fits_words Empty i j t pl below w h = (h, record { at = λ p. mark_none k t p (λ v. w v refl) })
   fits_words (Cat a b) i j t pl below w h = record {
-    place = h.0;
+    index = h.0;
     low = h.1;
     high = h.2;
     left = mark k (on_vars a t);
@@ -161,8 +161,8 @@ module _ (s : List ℕ) (k : ℕ) where
   abbrev both : FormulaTree → Spans → Spans → Spans
   both a t u v = if has_var a v then t v else u v
 
-  both_front : (a : FormulaTree) (t u : Spans) → IsWithin a t → on_vars a (both a t u) ≡ t
-  both_front a t u w = λ i v. go v (has_var a v) refl i
+  both_prefix : (a : FormulaTree) (t u : Spans) → IsWithin a t → on_vars a (both a t u) ≡ t
+  both_prefix a t u w = λ i v. go v (has_var a v) refl i
     where
       go : (v : ℕ) (b : Bool) → has_var a v ≡ b → (if b then (if b then t v else u v) else None) ≡ t v
       go v true e = refl
@@ -193,7 +193,7 @@ module _ (s : List ℕ) (k : ℕ) where
   then_found : (a b : FormulaTree) (i m j : ℕ) (u v w : ℕ → ℕ) → Apart a b → i ≤ m → m ≤ j → IsSum u v w → Found a i m v → Found b m j w → Found (Cat a b) i j u
   then_found a b i m j u v w n le le' sum l r =
       let t = both a l.spans r.spans in
-      let fr = both_front a l.spans r.spans l.within in
+      let fr = both_prefix a l.spans r.spans l.within in
       let ba = both_back a b l.spans r.spans n r.within in
       let wi = both_within a b l.spans r.spans r.within in
       let F : Spans → Type 0 = λ x. FitsIn a s i m x in
@@ -291,7 +291,7 @@ module _ (s : List ℕ) (k : ℕ) where
     lies = nothing_lies i j;
   }
   words_fits (Cat a b) i j u pl below h =
-      then_found a b i h.place j u h.left h.right pl.2 h.low h.high h.sum (words_fits a i h.place h.left pl.0 (below_left k a b below) h.in_left) (words_fits b h.place j h.right pl.1 (below_right k a b below) h.in_right)
+      then_found a b i h.index j u h.left h.right pl.2 h.low h.high h.sum (words_fits a i h.index h.left pl.0 (below_left k a b below) h.in_left) (words_fits b h.index j h.right pl.1 (below_right k a b below) h.in_right)
   words_fits (Alt a b) i j u pl below (inl h) = either_found_one a b i j u (words_fits a i j u pl.0 (below_left k a b below) h)
   words_fits (Alt a b) i j u pl below (inr h) = either_found_other a b i j u (words_fits b i j u pl.1 (below_right k a b below) h)
   words_fits (Star a) i j u pl below h = record {

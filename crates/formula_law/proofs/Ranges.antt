@@ -9,8 +9,8 @@ pub record InRange (n size o : ℕ) : Type 0 where
   pub low : n ≤ o
   pub high : o < n + size
 
-front_range : (n a b o : ℕ) → InRange n a o → InRange n (a + b) o
-front_range n a b o r = record { low = r.low; high = omega (arith, r.high) }
+prefix_range : (n a b o : ℕ) → InRange n a o → InRange n (a + b) o
+prefix_range n a b o r = record { low = r.low; high = omega (arith, r.high) }
 
 back_range : (n a b o : ℕ) → InRange (n + a) b o → InRange n (a + b) o
 back_range n a b o r = record { low = omega (arith, r.low); high = omega (arith, r.high) }
@@ -24,9 +24,9 @@ only n o e = record { low = omega arith; high = omega arith }
 pub set_range : (f : FormulaTree) (n o : ℕ) (c : List Bool) → HasSet f n o c → InRange n (sets f) o
 set_range (Set b) n o c h = only n o h.0
 set_range Empty n o c h = absurd h
-set_range (Cat a b) n o c (inl h) = front_range n (sets a) (sets b) o (set_range a n o c h)
+set_range (Cat a b) n o c (inl h) = prefix_range n (sets a) (sets b) o (set_range a n o c h)
 set_range (Cat a b) n o c (inr h) = back_range n (sets a) (sets b) o (set_range b (n + sets a) o c h)
-set_range (Alt a b) n o c (inl h) = front_range n (sets a) (sets b) o (set_range a n o c h)
+set_range (Alt a b) n o c (inl h) = prefix_range n (sets a) (sets b) o (set_range a n o c h)
 set_range (Alt a b) n o c (inr h) = back_range n (sets a) (sets b) o (set_range b (n + sets a) o c h)
 set_range (Star a) n o c h = set_range a n o c h
 set_range (Plus a) n o c h = set_range a n o c h
@@ -36,9 +36,9 @@ set_range (Capture x a) n o c h = set_range a n o c h
 pub first_range : (f : FormulaTree) (n m o : ℕ) → IsFirst f n m o → InRange n (sets f) o
 first_range (Set b) n m o h = only n o h.1
 first_range Empty n m o h = absurd h
-first_range (Cat a b) n m o (inl h) = front_range n (sets a) (sets b) o (first_range a n m o h)
+first_range (Cat a b) n m o (inl h) = prefix_range n (sets a) (sets b) o (first_range a n m o h)
 first_range (Cat a b) n m o (inr h) = back_range n (sets a) (sets b) o (first_range b (n + sets a) h.right o h.in_right)
-first_range (Alt a b) n m o (inl h) = front_range n (sets a) (sets b) o (first_range a n m o h)
+first_range (Alt a b) n m o (inl h) = prefix_range n (sets a) (sets b) o (first_range a n m o h)
 first_range (Alt a b) n m o (inr h) = back_range n (sets a) (sets b) o (first_range b (n + sets a) m o h)
 first_range (Star a) n m o h = first_range a n m o h
 first_range (Plus a) n m o h = first_range a n m o h
@@ -49,8 +49,8 @@ pub last_range : (f : FormulaTree) (n o m : ℕ) → IsLast f n o m → InRange 
 last_range (Set b) n o m h = only n o h.0
 last_range Empty n o m h = absurd h
 last_range (Cat a b) n o m (inl h) = back_range n (sets a) (sets b) o (last_range b (n + sets a) o m h)
-last_range (Cat a b) n o m (inr h) = front_range n (sets a) (sets b) o (last_range a n o h.left h.in_left)
-last_range (Alt a b) n o m (inl h) = front_range n (sets a) (sets b) o (last_range a n o m h)
+last_range (Cat a b) n o m (inr h) = prefix_range n (sets a) (sets b) o (last_range a n o h.left h.in_left)
+last_range (Alt a b) n o m (inl h) = prefix_range n (sets a) (sets b) o (last_range a n o m h)
 last_range (Alt a b) n o m (inr h) = back_range n (sets a) (sets b) o (last_range b (n + sets a) o m h)
 last_range (Star a) n o m h = last_range a n o m h
 last_range (Plus a) n o m h = last_range a n o m h
@@ -61,8 +61,8 @@ pub record InRanges (n size o p : ℕ) : Type 0 where
   pub from : InRange n size o
   pub to : InRange n size p
 
-front_ranges : (n a b o p : ℕ) → InRanges n a o p → InRanges n (a + b) o p
-front_ranges n a b o p r = record { from = front_range n a b o r.from; to = front_range n a b p r.to }
+prefix_ranges : (n a b o p : ℕ) → InRanges n a o p → InRanges n (a + b) o p
+prefix_ranges n a b o p r = record { from = prefix_range n a b o r.from; to = prefix_range n a b p r.to }
 
 back_ranges : (n a b o p : ℕ) → InRanges (n + a) b o p → InRanges n (a + b) o p
 back_ranges n a b o p r = record { from = back_range n a b o r.from; to = back_range n a b p r.to }
@@ -70,13 +70,13 @@ back_ranges n a b o p r = record { from = back_range n a b o r.from; to = back_r
 pub follow_range : (f : FormulaTree) (n o m p : ℕ) → IsFollow f n o m p → InRanges n (sets f) o p
 follow_range (Set b) n o m p h = absurd h
 follow_range Empty n o m p h = absurd h
-follow_range (Cat a b) n o m p (inl h) = front_ranges n (sets a) (sets b) o p (follow_range a n o m p h)
+follow_range (Cat a b) n o m p (inl h) = prefix_ranges n (sets a) (sets b) o p (follow_range a n o m p h)
 follow_range (Cat a b) n o m p (inr (inl h)) = back_ranges n (sets a) (sets b) o p (follow_range b (n + sets a) o m p h)
 follow_range (Cat a b) n o m p (inr (inr h)) = record {
-  from = front_range n (sets a) (sets b) o (last_range a n o h.left h.in_left);
+  from = prefix_range n (sets a) (sets b) o (last_range a n o h.left h.in_left);
   to = back_range n (sets a) (sets b) p (first_range b (n + sets a) h.right p h.in_right);
 }
-follow_range (Alt a b) n o m p (inl h) = front_ranges n (sets a) (sets b) o p (follow_range a n o m p h)
+follow_range (Alt a b) n o m p (inl h) = prefix_ranges n (sets a) (sets b) o p (follow_range a n o m p h)
 follow_range (Alt a b) n o m p (inr h) = back_ranges n (sets a) (sets b) o p (follow_range b (n + sets a) o m p h)
 follow_range (Star a) n o m p (inl h) = follow_range a n o m p h
 follow_range (Star a) n o m p (inr h) = record { from = last_range a n o h.left h.in_left; to = first_range a n h.right p h.in_right }

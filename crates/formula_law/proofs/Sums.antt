@@ -27,21 +27,21 @@ pub at_other : (i x p : ℕ) → (p ≡ i → ⊥) → at_position i x p ≡ 0
 at_other i x p n = grind (arith, nat_tests)
 
 -- the marks before a position, and one at it
-abbrev pub front : (ℕ → ℕ) → ℕ → ℕ → ℕ → ℕ
-front u m x p = if nat_lt p m then u p else at_position m x p
+abbrev pub prefix : (ℕ → ℕ) → ℕ → ℕ → ℕ → ℕ
+prefix u m x p = if nat_lt p m then u p else at_position m x p
 
 -- the marks after a position, and one at it
 abbrev pub back : (ℕ → ℕ) → ℕ → ℕ → ℕ → ℕ
 back u m x p = if nat_lt m p then u p else at_position m x p
 
-pub front_before : (u : ℕ → ℕ) (m x p : ℕ) → p < m → front u m x p ≡ u p
-front_before u m x p h = grind (arith, nat_tests)
+pub prefix_before : (u : ℕ → ℕ) (m x p : ℕ) → p < m → prefix u m x p ≡ u p
+prefix_before u m x p h = grind (arith, nat_tests)
 
-pub front_at : (u : ℕ → ℕ) (m x : ℕ) → front u m x m ≡ x
-front_at u m x = grind (arith, nat_tests)
+pub prefix_at : (u : ℕ → ℕ) (m x : ℕ) → prefix u m x m ≡ x
+prefix_at u m x = grind (arith, nat_tests)
 
-pub front_after : (u : ℕ → ℕ) (m x p : ℕ) → m < p → front u m x p ≡ 0
-front_after u m x p h = grind (arith, nat_tests)
+pub prefix_after : (u : ℕ → ℕ) (m x p : ℕ) → m < p → prefix u m x p ≡ 0
+prefix_after u m x p h = grind (arith, nat_tests)
 
 pub back_before : (u : ℕ → ℕ) (m x p : ℕ) → p < m → back u m x p ≡ 0
 back_before u m x p h = grind (arith, nat_tests)
@@ -56,10 +56,10 @@ back_after u m x p h = grind (arith, nat_tests)
 pub three : (p m : ℕ) → (p < m) ⊎ ((p ≡ m) ⊎ (m < p))
 three p m = grind arith
 
-pub front_back : (u : ℕ → ℕ) (m x y : ℕ) → u m ≡ x + y → IsSum u (front u m x) (back u m y)
-front_back u m x y e = record { at = λ p. ⊎_elim_three u m x y e p (three p m) }
+pub prefix_back : (u : ℕ → ℕ) (m x y : ℕ) → u m ≡ x + y → IsSum u (prefix u m x) (back u m y)
+prefix_back u m x y e = record { at = λ p. ⊎_elim_three u m x y e p (three p m) }
   where
-    ⊎_elim_three : (u : ℕ → ℕ) (m x y : ℕ) → u m ≡ x + y → (p : ℕ) → (p < m) ⊎ ((p ≡ m) ⊎ (m < p)) → u p ≡ front u m x p + back u m y p
-    ⊎_elim_three u m x y e p (inl h) = omega (arith, front_before u m x p h, back_before u m y p h)
-    ⊎_elim_three u m x y e p (inr (inl h)) = ap u h ∙ e ∙ (omega (arith, front_at u m x, back_at u m y)) ∙ sym (ap (λ q. front u m x q + back u m y q) h)
-    ⊎_elim_three u m x y e p (inr (inr h)) = omega (arith, front_after u m x p h, back_after u m y p h)
+    ⊎_elim_three : (u : ℕ → ℕ) (m x y : ℕ) → u m ≡ x + y → (p : ℕ) → (p < m) ⊎ ((p ≡ m) ⊎ (m < p)) → u p ≡ prefix u m x p + back u m y p
+    ⊎_elim_three u m x y e p (inl h) = omega (arith, prefix_before u m x p h, back_before u m y p h)
+    ⊎_elim_three u m x y e p (inr (inl h)) = ap u h ∙ e ∙ (omega (arith, prefix_at u m x, back_at u m y)) ∙ sym (ap (λ q. prefix u m x q + back u m y q) h)
+    ⊎_elim_three u m x y e p (inr (inr h)) = omega (arith, prefix_after u m x p h, back_after u m y p h)

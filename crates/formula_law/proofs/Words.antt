@@ -7,13 +7,13 @@ use Rattle.formula_law.proofs.Sums.{IsZero, IsSum, zeros}
 
 -- marks of one part up to a position, and of another from there
 pub record Split (P Q : ℕ → ℕ → (ℕ → ℕ) → Type 0) (i j : ℕ) (u : ℕ → ℕ) : Type 0 where
-  pub place : ℕ
-  pub low : i ≤ place
-  pub high : place ≤ j
+  pub index : ℕ
+  pub low : i ≤ index
+  pub high : index ≤ j
   pub left : ℕ → ℕ
   pub right : ℕ → ℕ
-  pub in_left : P i place left
-  pub in_right : Q place j right
+  pub in_left : P i index left
+  pub in_right : Q index j right
   pub sum : IsSum u left right
 
 pub record Around (x : ℕ) (P : ℕ → ℕ → (ℕ → ℕ) → Type 0) (i j : ℕ) (u : ℕ → ℕ) : Type 0 where

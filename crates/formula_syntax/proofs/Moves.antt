@@ -19,31 +19,31 @@ take_nil (suc n) = refl
 
 pub record Numbered (n : ℕ) (ys : Names) (x : List ℕ) (v : ℕ) : Type 0 where
   pub number : number_in ys x ≡ v
-  pub front : take n (seen ys x) ≡ seen (take n ys) x
+  pub prefix : take n (seen ys x) ≡ seen (take n ys) x
   pub small : length ys ≤ n → length (seen ys x) ≤ n
   pub more : length ys ≤ length (seen ys x)
 
 pub number_ok : (n : ℕ) (ys : Names) (x : List ℕ) (v : ℕ) → v ≡ number_in (take n ys) x → v < n → Numbered n ys x v
 number_ok zero ys x v e lt = absurd (omega arith)
-number_ok (suc n) [] x v e lt = record { number = sym e; front = ap (λ z. x ∷ z) (take_nil n); small = λ h. omega arith; more = omega arith }
+number_ok (suc n) [] x v e lt = record { number = sym e; prefix = ap (λ z. x ∷ z) (take_nil n); small = λ h. omega arith; more = omega arith }
 number_ok (suc n) (y ∷ ys) x v e lt = go (bytes_eq y x) refl (λ w. number_ok n ys x w)
   where
     go : (t : Bool) → bytes_eq y x ≡ t → ((w : ℕ) → w ≡ number_in (take n ys) x → w < n → Numbered n ys x w) → Numbered (suc n) (y ∷ ys) x v
     go true q ih =
         let none : v ≡ 0 = e ∙ rw q refl in
-        record { number = rw q (sym none); front = rw q refl; small = rw q (λ h. h); more = rw q (omega arith) }
+        record { number = rw q (sym none); prefix = rw q refl; small = rw q (λ h. h); more = rw q (omega arith) }
     go false q ih =
         let rest = ih (number_in (take n ys) x) refl (let one : v ≡ suc (number_in (take n ys) x) = e ∙ rw q refl in omega arith) in
         let one : v ≡ suc (number_in (take n ys) x) = e ∙ rw q refl in
-        record { number = rw q (ap suc rest.number ∙ sym one); front = rw q (ap (λ z. y ∷ z) rest.front); small = rw q (λ h. let s = rest.small (omega arith) in omega arith); more = rw q (let s = rest.more in omega arith) }
+        record { number = rw q (ap suc rest.number ∙ sym one); prefix = rw q (ap (λ z. y ∷ z) rest.prefix); small = rw q (λ h. let s = rest.small (omega arith) in omega arith); more = rw q (let s = rest.more in omega arith) }
 
 pub record Crowded (n : ℕ) (ys : Names) (x : List ℕ) : Type 0 where
   pub number : n ≤ number_in ys x
-  pub front : take n (seen ys x) ≡ take n ys
+  pub prefix : take n (seen ys x) ≡ take n ys
   pub many : n < length (seen ys x)
 
 pub number_full : (n : ℕ) (ys : Names) (x : List ℕ) → n ≤ number_in (take n ys) x → Crowded n ys x
-number_full zero ys x h = record { number = omega arith; front = refl; many = some ys }
+number_full zero ys x h = record { number = omega arith; prefix = refl; many = some ys }
   where
     pick : (y : List ℕ) (ys : Names) (t : Bool) → bytes_eq y x ≡ t → 0 < length (seen (y ∷ ys) x)
     pick y ys true q = rw q (omega arith)
@@ -60,7 +60,7 @@ number_full (suc n) (y ∷ ys) x h = go (bytes_eq y x) refl (number_full n ys x)
     go false q ih =
         let more : suc n ≤ suc (number_in (take n ys) x) = rw q at h in
         let rest = ih (omega arith) in
-        record { number = rw q (let s = rest.number in omega arith); front = rw q (ap (λ z. y ∷ z) rest.front); many = rw q (let s = rest.many in omega arith) }
+        record { number = rw q (let s = rest.number in omega arith); prefix = rw q (ap (λ z. y ∷ z) rest.prefix); many = rw q (let s = rest.many in omega arith) }
 
 pub same_test : (n a b : ℕ) → (b ≤ n → a ≤ n) → b ≤ a → nat_lt n a ≡ nat_lt n b
 same_test n a b f le = go (nat_lt n b) refl
@@ -80,22 +80,22 @@ bar_branches bs new qs f ms ps e h p q =
     ∙ ap (λ z. map capped ms ++ z ∷ []) (h ∙ ap cat_of q ∙ sym (capped-cat ps)) ∙ sym (capped-append ms (cat_of ps ∷ []))
 
 pub record Snoc (ps : List FormulaTree) (xs : List FormulaTree) (y : FormulaTree) : Type 0 where
-  pub front : List FormulaTree
+  pub prefix : List FormulaTree
   pub last : FormulaTree
-  pub cut : ps ≡ front ++ last ∷ []
-  pub same_front : map capped front ≡ xs
+  pub cut : ps ≡ prefix ++ last ∷ []
+  pub same_prefix : map capped prefix ≡ xs
   pub same_last : capped last ≡ y
 
 pub snoc_capped : (ps xs : List FormulaTree) (y : FormulaTree) → map capped ps ≡ xs ++ y ∷ [] → Snoc ps xs y
 snoc_capped [] [] y e = cc
 snoc_capped [] (x ∷ xs) y e = cc
-snoc_capped (p ∷ []) [] y e = let s : capped p ≡ y = cc in record { front = []; last = p; cut = refl; same_front = refl; same_last = s }
+snoc_capped (p ∷ []) [] y e = let s : capped p ≡ y = cc in record { prefix = []; last = p; cut = refl; same_prefix = refl; same_last = s }
 snoc_capped (p ∷ q ∷ ps) [] y e = cc
 snoc_capped (p ∷ ps) (x ∷ xs) y e =
     let rest : map capped ps ≡ xs ++ y ∷ [] = cc in
     let first : capped p ≡ x = cc in
     let r = snoc_capped ps xs y rest in
-    record { front = p ∷ r.front; last = r.last; cut = ap (λ z. p ∷ z) r.cut; same_front = rw (first, r.same_front) refl; same_last = r.same_last }
+    record { prefix = p ∷ r.prefix; last = r.last; cut = ap (λ z. p ∷ z) r.cut; same_prefix = rw (first, r.same_prefix) refl; same_last = r.same_last }
 
 pub none_capped : (ps : List FormulaTree) → [] ≡ map capped ps → ps ≡ []
 none_capped [] e = refl

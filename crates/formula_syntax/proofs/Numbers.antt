@@ -71,10 +71,10 @@ rest-apart : (y : List ℕ) (ys : Names) → AllPairs (λ a b. a ≢ b) (y ∷ y
 rest-apart y ys h i j d lt in_list = h (suc i) (suc j) d (omega (arith, lt)) (omega (arith, in_list))
 
 -- in a list of different names a name has one index
-place-is : (ys : Names) (x : List ℕ) (v : ℕ) → AllPairs (λ a b. a ≢ b) (seen ys x) → slice_get (seen ys x) v ≡ Some x → v ≡ number_in ys x
-place-is [] x zero h e = refl
-place-is [] x (suc v) h e = absurd (cc)
-place-is (y ∷ ys) x v h e = go (bytes_eq y x) refl v h e (place-is ys x)
+index-is : (ys : Names) (x : List ℕ) (v : ℕ) → AllPairs (λ a b. a ≢ b) (seen ys x) → slice_get (seen ys x) v ≡ Some x → v ≡ number_in ys x
+index-is [] x zero h e = refl
+index-is [] x (suc v) h e = absurd (cc)
+index-is (y ∷ ys) x v h e = go (bytes_eq y x) refl v h e (index-is ys x)
   where
     go : (t : Bool) → bytes_eq y x ≡ t → (v : ℕ) → AllPairs (λ a b. a ≢ b) (if t then y ∷ ys else y ∷ seen ys x) → slice_get (if t then y ∷ ys else y ∷ seen ys x) v ≡ Some x
         → ((w : ℕ) → AllPairs (λ a b. a ≢ b) (seen ys x) → slice_get (seen ys x) w ≡ Some x → w ≡ number_in ys x) → v ≡ (if t then 0 else suc (number_in ys x))
@@ -88,7 +88,7 @@ number-is old new x v a vars e =
     let s = adds-seen old new x a in
     let A : Names → Type 0 = λ z. AllPairs (λ p q. p ≢ q) z in
     let G : Names → Type 0 = λ z. slice_get z v ≡ Some x in
-    place-is old x v (subst A s vars.distinct) (subst G s e)
+    index-is old x v (subst A s vars.distinct) (subst G s e)
 
 pub number-small : (new : Names) (x : List ℕ) (v : ℕ) → slice_get new v ≡ Some x → length new ≤ 8 → v < 8
 number-small new x v e le = omega (arith, slice_get_within new v x e, le)

@@ -22,15 +22,15 @@ pub data PartsRead : List ℕ → List FormulaTree → ℕ → Names → Names �
   part : (s a b : List ℕ) (ps fs : List FormulaTree) (f : FormulaTree) (d c e : ℕ) (n k m : Names) → s ≡ a ++ b → Reads rep a f c n k → PartsRead b fs e k m → ps ≡ f ∷ fs → d ≡ max c e → PartsRead s ps d n m
 
 pub record LevelRead (bs ps : List FormulaTree) (s : List ℕ) (d : ℕ) (n m : Names) : Type 0 where
-  pub front : List ℕ
+  pub prefix : List ℕ
   pub back : List ℕ
-  pub cut : s ≡ front ++ back
-  pub front_depth : ℕ
+  pub cut : s ≡ prefix ++ back
+  pub prefix_depth : ℕ
   pub back_depth : ℕ
   pub between : Names
-  pub branches_read : BranchesRead front bs front_depth n between
+  pub branches_read : BranchesRead prefix bs prefix_depth n between
   pub parts_read : PartsRead back ps back_depth between m
-  pub depth : d ≡ max front_depth back_depth
+  pub depth : d ≡ max prefix_depth back_depth
 
 -- the text that opens a group or a capture
 abbrev pub Opens : Option ℕ → List ℕ → Names → Names → Type 0
@@ -84,7 +84,7 @@ branches_alt s a b bs ps d c e n k m cut dd p (branch _ a' b' _ fs f _ c' e' _ k
     rw is (more_branches s a' (b' ++ b) (Alt f (alt_of fs (cat_of ps))) f (alt_of fs (cat_of ps)) d c' (max e' e) n k' m (cut ∙ ap (λ v. v ++ b) cut' ∙ append_assoc a' (124 ∷ b') b) r (branches_alt (b' ++ b) b' b fs ps (max e' e) e' e k' k m refl refl p h) refl (omega arith))
 
 pub level_alt : (bs ps : List FormulaTree) (s : List ℕ) (d : ℕ) (n m : Names) → LevelRead bs ps s d n m → Reads alt s (alt_of bs (cat_of ps)) d n m
-level_alt bs ps s d n m h = branches_alt s h.front h.back bs ps d h.front_depth h.back_depth n h.between m h.cut h.depth h.parts_read h.branches_read
+level_alt bs ps s d n m h = branches_alt s h.prefix h.back bs ps d h.prefix_depth h.back_depth n h.between m h.cut h.depth h.parts_read h.branches_read
 
 push_part : (s b : List ℕ) (ps : List FormulaTree) (f : FormulaTree) (d e : ℕ) (n k m : Names) → Reads rep b f e k m → PartsRead s ps d n k → PartsRead (s ++ b) (ps ++ f ∷ []) (max d e) n m
 push_part s b ps f d e n k m r (no_part _ _ _ _ _ x y z q) =
@@ -151,10 +151,10 @@ change_level (g ∷ gs) bs ps cs qs s w e x m m' f h =
 
 level_push : (bs ps : List FormulaTree) (f : FormulaTree) (w b : List ℕ) (d x : ℕ) (n m m' : Names) → Reads rep w f x m m' → LevelRead bs ps b d n m → LevelRead bs (ps ++ f ∷ []) (b ++ w) (max d x) n m'
 level_push bs ps f w b d x n m m' r h = record {
-  front = h.front;
+  prefix = h.prefix;
   back = h.back ++ w;
-  cut = ap (λ v. v ++ w) h.cut ∙ append_assoc h.front h.back w;
-  front_depth = h.front_depth;
+  cut = ap (λ v. v ++ w) h.cut ∙ append_assoc h.prefix h.back w;
+  prefix_depth = h.prefix_depth;
   back_depth = max h.back_depth x;
   between = h.between;
   branches_read = h.branches_read;
@@ -164,23 +164,23 @@ level_push bs ps f w b d x n m m' r h = record {
 
 level_bar : (bs ps : List FormulaTree) (b : List ℕ) (d : ℕ) (n m : Names) → LevelRead bs ps b d n m → LevelRead (bs ++ cat_of ps ∷ []) [] (b ++ 124 ∷ []) (max d 0) n m
 level_bar bs ps b d n m h = record {
-  front = h.front ++ (h.back ++ 124 ∷ []);
+  prefix = h.prefix ++ (h.back ++ 124 ∷ []);
   back = [];
-  cut = ap (λ v. v ++ 124 ∷ []) h.cut ∙ append_assoc h.front h.back (124 ∷ []) ∙ sym (append-nil (h.front ++ (h.back ++ 124 ∷ [])));
-  front_depth = max h.front_depth h.back_depth;
+  cut = ap (λ v. v ++ 124 ∷ []) h.cut ∙ append_assoc h.prefix h.back (124 ∷ []) ∙ sym (append-nil (h.prefix ++ (h.back ++ 124 ∷ [])));
+  prefix_depth = max h.prefix_depth h.back_depth;
   back_depth = 0;
   between = m;
-  branches_read = push_branch h.front h.back bs (cat_of ps) h.front_depth h.back_depth n h.between m (parts_cat h.back ps h.back_depth h.between m h.parts_read) h.branches_read;
+  branches_read = push_branch h.prefix h.back bs (cat_of ps) h.prefix_depth h.back_depth n h.between m (parts_cat h.back ps h.back_depth h.between m h.parts_read) h.branches_read;
   parts_read = no_part [] [] 0 m m refl refl refl refl;
   depth = omega (arith, h.depth);
 }
 
 level_sign : (z : ℕ) (c : FormulaTree → FormulaTree) → Signs z c → (bs ps qs : List FormulaTree) (b : List ℕ) (d : ℕ) (n m : Names) → change_last c ps ≡ Some qs → LevelRead bs ps b d n m → LevelRead bs qs (b ++ z ∷ []) (max d 0) n m
 level_sign z c y bs ps qs b d n m e h = record {
-  front = h.front;
+  prefix = h.prefix;
   back = h.back ++ z ∷ [];
-  cut = ap (λ v. v ++ z ∷ []) h.cut ∙ append_assoc h.front h.back (z ∷ []);
-  front_depth = h.front_depth;
+  cut = ap (λ v. v ++ z ∷ []) h.cut ∙ append_assoc h.prefix h.back (z ∷ []);
+  prefix_depth = h.prefix_depth;
   back_depth = h.back_depth;
   between = h.between;
   branches_read = h.branches_read;
@@ -190,10 +190,10 @@ level_sign z c y bs ps qs b d n m e h = record {
 
 level_fresh : (n : Names) → LevelRead [] [] [] 0 n n
 level_fresh n = record {
-  front = [];
+  prefix = [];
   back = [];
   cut = refl;
-  front_depth = 0;
+  prefix_depth = 0;
   back_depth = 0;
   between = n;
   branches_read = no_branch [] [] 0 n n refl refl refl refl;

@@ -7,8 +7,8 @@ pub fn cut_at(text: &[u8], mark: u8) -> Option<(&[u8], &[u8])>
     ensures { MatchOption result (All (λ b. b ≢ mark) text.now)
         (λ p. (text.now ≡ p.0.now ++ mark ∷ p.1.now) × All (λ b. b ≢ mark) p.0.now) }
 {
-    let place = text.iter().position(|b| *b == mark)?;
-    Some((&text[..place], &text[place + 1..]))
+    let index = text.iter().position(|b| *b == mark)?;
+    Some((&text[..index], &text[index + 1..]))
 }
 
 /// The bytes before the first space and those after it, or `None` if there is no space.

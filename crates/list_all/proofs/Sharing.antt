@@ -8,10 +8,10 @@ use Rattle.list_all.specs.Pages.{AreEach}
 use Rattle.list_all.specs.Places.{no_page, pages_at, HasPage, HaveEach}
 
 -- ---- elements by index
-pub get-front : {X : Type 0} (xs ys : List X) (k : ℕ) (x : X) → slice_get xs k ≡ Some x → slice_get (xs ++ ys) k ≡ Some x
-get-front [] ys k x h = cc
-get-front (y ∷ xs) ys zero x h = h
-get-front (y ∷ xs) ys (suc k) x h = get-front xs ys k x h
+pub get-prefix : {X : Type 0} (xs ys : List X) (k : ℕ) (x : X) → slice_get xs k ≡ Some x → slice_get (xs ++ ys) k ≡ Some x
+get-prefix [] ys k x h = cc
+get-prefix (y ∷ xs) ys zero x h = h
+get-prefix (y ∷ xs) ys (suc k) x h = get-prefix xs ys k x h
 
 get-back : {X : Type 0} (xs ys : List X) (k : ℕ) (x : X) → slice_get ys k ≡ Some x → slice_get (xs ++ ys) (length xs + k) ≡ Some x
 get-back [] ys k x h = let e : 0 + k ≡ k = omega arith in rw e h
@@ -51,7 +51,7 @@ module _ (P : Option NodeId → Page → Type 0) where
   pub have-joined : (a b found : List Page) (rs ss roots : List (Option NodeId)) (ks ls places : List ℕ) → HaveEach P a rs ks → HaveEach P b ss ls
       → roots ≡ rs ++ ss → found ≡ a ++ b → places ≡ ks ++ map (λ k. length a + k) ls → HaveEach P found roots places
   have-joined a b found rs ss roots ks ls places h k is joined at =
-      rw (is, joined, at) (have-append (a ++ b) rs ks ss (map (λ k. length a + k) ls) (have-kept a (a ++ b) (λ i p e. get-front a b i p e) rs ks h) (have-moved a b ss ls k))
+      rw (is, joined, at) (have-append (a ++ b) rs ks ss (map (λ k. length a + k) ls) (have-kept a (a ++ b) (λ i p e. get-prefix a b i p e) rs ks h) (have-moved a b ss ls k))
 
   -- ---- the list of the pages
   within-at : (found : List Page) (rs : List (Option NodeId)) (ks : List ℕ) (i d : ℕ) → HaveEach P found rs ks → i < length ks → get_or ks i d < length found

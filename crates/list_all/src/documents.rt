@@ -62,8 +62,8 @@ fn one_piece<F: FindPage, G: Gate>(
     let mut places = Vec::with_capacity(alloc, documents.roots.len())?;
     for (index, root) in documents.roots.iter().enumerate() {
         gate.pass(documents.first + index);
-        let place = page_index(alloc, finder, &mut seen, &mut found, *root)?;
-        places.push(place)?;
+        let page = page_index(alloc, finder, &mut seen, &mut found, *root)?;
+        places.push(page)?;
     }
     Ok(Shared { found, places })
 }
@@ -157,8 +157,8 @@ fn first_piece<F: FindPage, G: Gate>(
         }
         gate.pass(documents.first + index);
         let before = found.len();
-        let place = page_index(alloc, finder, &mut seen, &mut found, *root)?;
-        places.push(place)?;
+        let page = page_index(alloc, finder, &mut seen, &mut found, *root)?;
+        places.push(page)?;
         if found.len() > before {
             cost = cost.saturating_add(last_cost(&found));
         }
@@ -189,11 +189,11 @@ fn in_worthy_pieces<R: Threads + Sync, F: FindPage, G: Gate>(
         return in_pieces(rt, alloc, finder, documents, workers, gate);
     }
     let first = first_piece(alloc, finder, documents, gate)?;
-    let (front, roots) = documents.roots.split_at(first.places.len());
+    let (prefix, roots) = documents.roots.split_at(first.places.len());
     let pieces = pieces_of(&first.found, roots.len(), workers);
     let rest = RootRange {
         roots,
-        first: documents.first + front.len(),
+        first: documents.first + prefix.len(),
     };
     let second = in_pieces(rt, alloc, finder, rest, pieces, gate)?;
     joined(first, second)

@@ -62,27 +62,27 @@ impl Pages {
         self.shared.places.len()
     }
 
-    /// The page at index `place`, counted from 0.
-    fn page(&self, place: usize) -> &OnePage
-        requires { place < length self.now }
-        ensures { slice_get self.now place ≡ Some result.now }
+    /// The page at index `index`, counted from 0.
+    fn page(&self, index: usize) -> &OnePage
+        requires { index < length self.now }
+        ensures { slice_get self.now index ≡ Some result.now }
     {
-        &self.shared.found[self.shared.places[place]]
+        &self.shared.found[self.shared.places[index]]
     }
 
-    /// The answers of the page at index `place`, in mark order. Indices count from 0.
-    pub fn tuples(&self, place: usize) -> &[Tuple]
-        requires { place < length self.now }
-        ensures { slice_get (map (λ p. p.tuples) self.now) place ≡ Some result.now }
+    /// The answers of the page at index `index`, in mark order. Indices count from 0.
+    pub fn tuples(&self, index: usize) -> &[Tuple]
+        requires { index < length self.now }
+        ensures { slice_get (map (λ p. p.tuples) self.now) index ≡ Some result.now }
     {
-        self.page(place).tuples()
+        self.page(index).tuples()
     }
 
-    /// Whether there are more answers after those of the page at index `place`, counted from 0.
-    pub fn more(&self, place: usize) -> bool
-        requires { place < length self.now }
-        ensures { slice_get (map (λ p. p.more) self.now) place ≡ Some result }
+    /// Whether there are more answers after those of the page at index `index`, counted from 0.
+    pub fn more(&self, index: usize) -> bool
+        requires { index < length self.now }
+        ensures { slice_get (map (λ p. p.more) self.now) index ≡ Some result }
     {
-        self.page(place).more()
+        self.page(index).more()
     }
 }

@@ -33,15 +33,15 @@ pub(crate) fn page_index<F: FindPage>(
     ensures page { IfOk result (HasPage (F.is_page finder.now) found.new.items root) }
     ensures kept { OnOk result ((k : ℕ) (p : Page) → slice_get found.old.items k ≡ Some p → slice_get found.new.items k ≡ Some p) }
 {
-    let Ok((place, new)) = seen.insert_full(root) else {
+    let Ok((index, new)) = seen.insert_full(root) else {
         return Err(NoMemory);
     };
     if !new {
-        return Ok(place);
+        return Ok(index);
     }
     let page = finder.find(alloc, root)?;
     found.push(page)?;
-    Ok(place)
+    Ok(index)
 }
 
 /// The pages of the first roots followed by those of the second.
@@ -61,8 +61,8 @@ pub(crate) fn joined(first: Shared, second: Shared) -> Result<Shared, NoMemory>
     let before = found.len();
     found.append(&mut more)?;
     let _all = found.len();
-    for place in &next {
-        places.push(before + *place)?;
+    for index in &next {
+        places.push(before + *index)?;
     }
     Ok(Shared { found, places })
 }

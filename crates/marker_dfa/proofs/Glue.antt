@@ -16,9 +16,9 @@ use Rattle.marker_dfa.proofs.Tracks.{same_move, states_above, to_machine, to_pat
 
 -- where a mark is found
 record FoundAt (ms ts : List ℕ) (m r : ℕ) : Type 0 where
-  place : ℕ
-  mark : slice_get ms place ≡ Some m
-  target : slice_get ts place ≡ Some r
+  index : ℕ
+  mark : slice_get ms index ≡ Some m
+  target : slice_get ts index ≡ Some r
 
 found_at : (ms ts : List ℕ) (m r : ℕ) → find_target ms ts m ≡ Some r → FoundAt ms ts m r
 found_at [] ts m r h = absurd (cc)
@@ -26,10 +26,10 @@ found_at (n ∷ ms) [] m r h = absurd (cc)
 found_at (n ∷ ms) (t ∷ ts) m r h = go (eqb_tells n m) (λ k. found_at ms ts m r k)
   where
     go : ((n == m ≡ true) × (n ≡ m)) ⊎ ((n == m ≡ false) × (n ≡ m → ⊥)) → (find_target ms ts m ≡ Some r → FoundAt ms ts m r) → FoundAt (n ∷ ms) (t ∷ ts) m r
-    go (inl e) rec = record { place = 0; mark = ap Some e.1; target = sym (ap (λ b. if b then Some t else find_target ms ts m) e.0) ∙ h }
+    go (inl e) rec = record { index = 0; mark = ap Some e.1; target = sym (ap (λ b. if b then Some t else find_target ms ts m) e.0) ∙ h }
     go (inr e) rec =
         let k = rec (sym (ap (λ b. if b then Some t else find_target ms ts m) e.0) ∙ h) in
-        record { place = suc k.place; mark = k.mark; target = k.target }
+        record { index = suc k.index; mark = k.mark; target = k.target }
 
 not_found : (ms ts : List ℕ) (m j : ℕ) → length ms ≡ length ts → find_target ms ts m ≡ None → slice_get ms j ≡ Some m → ⊥
 not_found [] ts m j e h k = cc
@@ -193,7 +193,7 @@ module _ (most : ℕ) (a : Automaton) (classes : ByteClasses) (rows : List Row) 
       let s = step q m b r g in
       let k = known q b s.cell s.is in
       let f = found_at s.cell.marks.items s.cell.targets.items m r s.target in
-      let t = k.is_cell.sound f.place m r f.mark f.target in
+      let t = k.is_cell.sound f.index m r f.mark f.target in
       record {
         set_of = k.set_of;
         there = k.there;
@@ -257,7 +257,7 @@ module _ (most : ℕ) (a : Automaton) (classes : ByteClasses) (rows : List Row) 
   marks_from q b m r g =
       let s = step q m b r g in
       let f = found_at s.cell.marks.items s.cell.targets.items m r s.target in
-      subst (λ (o : Option Cell). Contains (marks_in o) m) (sym s.is) (contains_at s.cell.marks.items f.place m f.mark)
+      subst (λ (o : Option Cell). Contains (marks_in o) m) (sym s.is) (contains_at s.cell.marks.items f.index m f.mark)
 
   marks_fall : (q b : ℕ) → AllPairs (λ x y. y < x) (marks_of dfa q b)
   marks_fall q b = both_ways (cell_of dfa q b) (λ n. subst (λ (o : Option Cell). AllPairs (λ x y. y < x) (marks_in o)) (sym n) no_pairs) (λ cell i. subst (λ (o : Option Cell). AllPairs (λ x y. y < x) (marks_in o)) (sym i) (falling_pairs cell.marks.items (known q b cell i).is_cell.falling))

@@ -105,11 +105,11 @@ pub record LeadsTo (x : Subset) (m p : ℕ) (w : Bundle) : Type 0 where
 -- one of the bundles at the first n places leads there
 pub record LeadsUpTo (bundles : List Bundle) (x : Subset) (places : List ℕ) (n m p : ℕ) : Type 0 where
   pub index : ℕ
-  pub place : ℕ
+  pub position : ℕ
   pub bundle : Bundle
   pub below : index < n
-  pub there : slice_get places index ≡ Some place
-  pub at : slice_get bundles place ≡ Some bundle
+  pub there : slice_get places index ≡ Some position
+  pub at : slice_get bundles position ≡ Some bundle
   pub leads : LeadsTo x m p bundle
 
 -- the steps of the bundles at the first n places
@@ -130,18 +130,18 @@ steps_start size bundles x places = record {
 }
 
 -- one more index, and the steps before and after it
-module _ (size : ℕ) (bundles : List Bundle) (x : Subset) (places : List ℕ) (n place : ℕ) (w : Bundle) (old : List Step) (there : slice_get places n ≡ Some place) (at : slice_get bundles place ≡ Some w) (h : StepsUpTo size bundles x places n old) where
+module _ (size : ℕ) (bundles : List Bundle) (x : Subset) (places : List ℕ) (n position : ℕ) (w : Bundle) (old : List Step) (there : slice_get places n ≡ Some position) (at : slice_get bundles position ≡ Some w) (h : StepsUpTo size bundles x places n old) where
   this_one : (m p : ℕ) → (s : LeadsUpTo bundles x places (n + 1) m p) → s.index ≡ n → LeadsTo x m p w
   this_one m p s q =
-      let here : s.place ≡ place = one_value places n s.place place (ap (slice_get places) (sym q) ∙ s.there) there in
-      let same : s.bundle ≡ w = one_value bundles place s.bundle w (ap (slice_get bundles) (sym here) ∙ s.at) at in
+      let here : s.position ≡ position = one_value places n s.position position (ap (slice_get places) (sym q) ∙ s.there) there in
+      let same : s.bundle ≡ w = one_value bundles position s.bundle w (ap (slice_get bundles) (sym here) ∙ s.at) at in
       subst (λ (y : Bundle). LeadsTo x m p y) same s.leads
 
   wider : (m p : ℕ) → LeadsUpTo bundles x places n m p → LeadsUpTo bundles x places (n + 1) m p
-  wider m p s = record { index = s.index; place = s.place; bundle = s.bundle; below = omega (arith, s.below); there = s.there; at = s.at; leads = s.leads }
+  wider m p s = record { index = s.index; position = s.position; bundle = s.bundle; below = omega (arith, s.below); there = s.there; at = s.at; leads = s.leads }
 
   narrow : (m p : ℕ) → (s : LeadsUpTo bundles x places (n + 1) m p) → s.index < n → LeadsUpTo bundles x places n m p
-  narrow m p s l = record { index = s.index; place = s.place; bundle = s.bundle; below = l; there = s.there; at = s.at; leads = s.leads }
+  narrow m p s l = record { index = s.index; position = s.position; bundle = s.bundle; below = l; there = s.there; at = s.at; leads = s.leads }
 
   -- it doesn't leave the set with a mark
   narrower : (m p : ℕ) → (Leaves x m w → ⊥) → (s : LeadsUpTo bundles x places (n + 1) m p) → (s.index < n) ⊎ (s.index ≡ n) → LeadsUpTo bundles x places n m p
@@ -165,7 +165,7 @@ module _ (size : ℕ) (bundles : List Bundle) (x : Subset) (places : List ℕ) (
 
   module _ (fall : MarksFall bundles) (rising : (i j m k : ℕ) → i < j → slice_get places i ≡ Some m → slice_get places j ≡ Some k → m < k) (within : w.to < size) (leaves : (o : ℕ) × IsIn w.sources o × IsIn x o) where
     here : (m p : ℕ) → w.mark ≡ m → w.to ≡ p → LeadsUpTo bundles x places (n + 1) m p
-    here m p e q = record { index = n; place = place; bundle = w; below = omega arith; there = there; at = at; leads = record { leaves = record { from = leaves; mark = e }; to = q } }
+    here m p e q = record { index = n; position = position; bundle = w; below = omega arith; there = there; at = at; leads = record { leaves = record { from = leaves; mark = e }; to = q } }
 
     -- the last step has its mark
     joined_last : (new : List Step) → JoinsLast old new w.mark w.to → StepsUpTo size bundles x places (n + 1) new
@@ -252,8 +252,8 @@ module _ (size : ℕ) (bundles : List Bundle) (x : Subset) (places : List ℕ) (
         at_most k e g =
             let c = h.filled k e g in
             let s = (h.members k c.0 e g).0 c.1 in
-            let under = rising s.index n s.place place s.below s.there there in
-            let low = fall s.place place s.bundle w under s.at at in
+            let under = rising s.index n s.position position s.below s.there there in
+            let low = fall s.position position s.bundle w under s.at at in
             omega (arith, low, s.leads.leaves.mark)
 
         differs : (m k : ℕ) → m ≤ k → (k ≡ m → ⊥) → m < k
@@ -324,8 +324,8 @@ steps_end a bundles x readers n steps le b r h = record {
   where
     to : (m p : ℕ) → LeadsUpTo bundles x readers.places.items n m p → (o : ℕ) × IsIn x o × Moves a o m readers.byte p
     to m p s =
-        let w = (r.members s.place).0 (contains_at readers.places.items s.index s.place s.there) in
-        let same : w.0 ≡ s.bundle = one_value bundles s.place w.0 s.bundle w.1 s.at in
+        let w = (r.members s.position).0 (contains_at readers.places.items s.index s.position s.there) in
+        let same : w.0 ≡ s.bundle = one_value bundles s.position w.0 s.bundle w.1 s.at in
         let f = s.leads.leaves.from in
         let carries : Carries s.bundle f.0 m readers.byte p = record {
           from = f.1;
@@ -333,7 +333,7 @@ steps_end a bundles x readers n steps le b r h = record {
           letter = ap (λ (v : Bundle). slice_index_or v.letters readers.byte false) (sym same) ∙ w.2;
           to = s.leads.to;
         } in
-        (f.0, f.2, (b.moves f.0 m readers.byte p).0 (s.place, (s.bundle, s.at, carries)))
+        (f.0, f.2, (b.moves f.0 m readers.byte p).0 (s.position, (s.bundle, s.at, carries)))
 
     from : (m o p : ℕ) → IsIn x o → Moves a o m readers.byte p → LeadsUpTo bundles x readers.places.items n m p
     from m o p i mv =
@@ -342,7 +342,7 @@ steps_end a bundles x readers n steps le b r h = record {
         let k = at_contains readers.places.items c.0 ((r.members c.0).1 (w.0, w.1, w.2.letter)) in
         record {
           index = k.0;
-          place = c.0;
+          position = c.0;
           bundle = w.0;
           below = omega (arith, get_within readers.places.items k.0 c.0 k.1, le);
           there = k.1;

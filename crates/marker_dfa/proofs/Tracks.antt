@@ -62,10 +62,10 @@ module _ (n : ℕ) (Step : ℕ → ℕ → ℕ → ℕ → Type 0) (End : ℕ �
   above_states limit lt = record { subsets = h.subsets; many = omega (arith, lt, h.states); sets = h.sets }
 
   pub states_above : (limit : ℕ) → CountIsAbove limit n Step → limit < states_of d
-  states_above limit c = omega (arith, c.many, h.states, fits (length c.subsets) (length h.subsets) (Placed c.subsets h.subsets) place (λ i q p. get_within h.subsets q p.0 p.2) same)
+  states_above limit c = omega (arith, c.many, h.states, fits (length c.subsets) (length h.subsets) (Placed c.subsets h.subsets) index (λ i q p. get_within h.subsets q p.0 p.2) same)
     where
-      place : (i : ℕ) → i < length c.subsets → (q : ℕ) × Placed c.subsets h.subsets i q
-      place i lt =
+      index : (i : ℕ) → i < length c.subsets → (q : ℕ) × Placed c.subsets h.subsets i q
+      index i lt =
           let x = get_or c.subsets i [] in
           let at : slice_get c.subsets i ≡ Some x = slice_get-get_or c.subsets i [] lt in
           let q = h.all x (c.sets.reached i x at) in

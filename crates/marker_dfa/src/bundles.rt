@@ -49,14 +49,14 @@ impl Hints {
         Ok(())
     }
 
-    fn set(&mut self, alloc: Global, edge: &Edge, place: usize) -> Result<(), NoMemory> {
+    fn set(&mut self, alloc: Global, edge: &Edge, index: usize) -> Result<(), NoMemory> {
         self.reach(alloc, edge.mark)?;
         if let Some(row) = self.by_mark.get_mut(edge.mark as usize) {
             if row.is_empty() {
                 row.resize(self.states as usize, 0)?;
             }
             if let Some(hint) = row.get_mut(edge.to as usize) {
-                *hint = place;
+                *hint = index;
             }
         }
         Ok(())
@@ -91,14 +91,14 @@ fn put_edge(
     }
     let mut sources = StateSet::empty(alloc, nfa.states())?;
     sources.insert(edge.from);
-    let place = bundles.len();
+    let index = bundles.len();
     bundles.push(Bundle {
         sources,
         mark: edge.mark,
         letters: edge.letters,
         to: edge.to,
     })?;
-    Ok(place)
+    Ok(index)
 }
 
 /// Sorts bundles by their marks, the greatest first. So those with one mark are next to each other.
@@ -121,9 +121,9 @@ pub fn bundles_of(alloc: Global, nfa: &Nfa) -> Result<Vec<Bundle>, NoMemory>
     let mut hints = Hints::new(alloc, nfa);
     for edge in nfa.edges() {
         let hint = hints.get(edge);
-        let place = put_edge(alloc, &mut bundles, nfa, edge, hint)?;
-        if place != hint {
-            hints.set(alloc, edge, place)?;
+        let index = put_edge(alloc, &mut bundles, nfa, edge, hint)?;
+        if index != hint {
+            hints.set(alloc, edge, index)?;
         }
     }
     put_in_order(&mut bundles);
@@ -142,9 +142,9 @@ fn readers_of(alloc: Global, bundles: &[Bundle], byte: u8) -> Result<Readers, No
     ensures byte { IfOk result (λ readers. readers.byte ≡ byte) }
 {
     let mut places = Vec::new(alloc);
-    for (place, bundle) in bundles.iter().enumerate() {
+    for (index, bundle) in bundles.iter().enumerate() {
         if bundle.letters.contains(byte) {
-            places.push(place)?;
+            places.push(index)?;
         }
     }
     Ok(Readers { byte, places })

@@ -54,9 +54,9 @@ fn index_among(classes: &ByteClasses, letters: &ByteSet, firsts: &[u8], byte: u8
     ensures within { result ≤ length firsts.now }
     ensures goes { (f : ℕ) → slice_get firsts.now result ≡ Some f → Agrees classes.now letters.now byte f }
 {
-    for (place, first) in firsts.iter().enumerate() {
+    for (index, first) in firsts.iter().enumerate() {
         if agrees_with(classes, letters, byte, *first) {
-            return place;
+            return index;
         }
     }
     firsts.len()
@@ -73,9 +73,9 @@ fn put_byte(
     requires so_far { IsSplitUpTo classes.now letters.now byte split.old }
     ensures { OnOk result (IsSplitUpTo classes.now letters.now (byte + 1) split.new) }
 {
-    let place = index_among(classes, letters, &split.firsts, byte);
-    split.of.push(place as u8)?;
-    if place < split.firsts.len() {
+    let index = index_among(classes, letters, &split.firsts, byte);
+    split.of.push(index as u8)?;
+    if index < split.firsts.len() {
         return Ok(());
     }
     split.firsts.push(byte)?;

@@ -19,7 +19,7 @@ impl Cell {
         ensures { result ≡ find_target self.now.marks.items self.now.targets.items mark }
     {
         match self.marks.binary_search_by(|other| mark.cmp(other)) {
-            Ok(place) => self.targets.get(place).copied(),
+            Ok(index) => self.targets.get(index).copied(),
             Err(_) => None,
         }
     }

@@ -75,11 +75,11 @@ fn put_target(
 }
 
 /// The bundle at an index.
-fn bundle_at(bundles: &[Bundle], place: usize) -> &Bundle
-    requires { place < length bundles.now }
-    ensures { slice_get bundles.now place ≡ Some result.now }
+fn bundle_at(bundles: &[Bundle], index: usize) -> &Bundle
+    requires { index < length bundles.now }
+    ensures { slice_get bundles.now index ≡ Some result.now }
 {
-    &bundles[place]
+    &bundles[index]
 }
 
 /// The steps from a set with a byte, by descending marks. Bundles with one mark are next to each other, and so are
@@ -101,9 +101,9 @@ pub fn steps_of(
     ensures { IfOk result (λ steps. AreSteps nfa.now exits.now.from readers.now.byte steps.items) }
 {
     let mut steps = Vec::new(alloc);
-    for place in &readers.places {
-        if exits.leaving[*place] {
-            put_target(alloc, nfa, &mut steps, bundle_at(bundles, *place))?;
+    for index in &readers.places {
+        if exits.leaving[*index] {
+            put_target(alloc, nfa, &mut steps, bundle_at(bundles, *index))?;
         }
     }
     Ok(steps)

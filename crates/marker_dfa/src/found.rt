@@ -38,9 +38,9 @@ impl Hints {
         self.by_hash.get(slot).copied().unwrap_or(0)
     }
 
-    fn set(&mut self, slot: usize, place: u16) {
+    fn set(&mut self, slot: usize, index: u16) {
         if let Some(hint) = self.by_hash.get_mut(slot) {
-            *hint = place;
+            *hint = index;
         }
     }
 }
@@ -70,10 +70,10 @@ pub fn found_start(alloc: Global, nfa: &Nfa, most: u16) -> Result<Found, NoMemor
 }
 
 /// Whether a set is at an index.
-fn is_at(sets: &[StateSet], set: &StateSet, place: u16) -> bool
-    ensures { IsTrue result → slice_get sets.now place ≡ Some set.now }
+fn is_at(sets: &[StateSet], set: &StateSet, index: u16) -> bool
+    ensures { IsTrue result → slice_get sets.now index ≡ Some set.now }
 {
-    match sets.get(place as usize) {
+    match sets.get(index as usize) {
         Some(other) => other.same(set),
         None => false,
     }
@@ -91,17 +91,17 @@ fn index_among(
     ensures few { vec_len sets.new ≤ most }
     ensures refused { IfTooMany result (HasNoRoom most sets.old.items set.now) }
 {
-    for (place, other) in sets.iter().enumerate() {
+    for (index, other) in sets.iter().enumerate() {
         if other.same(set) {
-            return Ok(place as u16);
+            return Ok(index as u16);
         }
     }
-    let place = sets.len();
-    if place == most as usize {
+    let index = sets.len();
+    if index == most as usize {
         return Err(DfaRefusal::TooManyStates);
     }
     sets.push(set.copy(alloc)?)?;
-    Ok(place as u16)
+    Ok(index as u16)
 }
 
 /// The index of a set, which is appended if it is new. There are at most `most` sets. The index in the hint is tested
@@ -126,7 +126,7 @@ pub fn index_of(
     if is_at(&found.sets, set, hint) {
         return Ok(hint);
     }
-    let place = index_among(alloc, &mut found.sets, set, most)?;
-    found.hints.set(slot, place);
-    Ok(place)
+    let index = index_among(alloc, &mut found.sets, set, most)?;
+    found.hints.set(slot, index);
+    Ok(index)
 }

@@ -99,20 +99,20 @@ fn row_of(
     alloc: Global,
     nfa: &Nfa,
     plan: &Plan,
-    place: usize,
+    index: usize,
     found: &mut Found,
 ) -> Result<Row, DfaRefusal>
     requires automaton { IsAutomaton nfa.now }
     requires bundles { AreInOrder nfa.now plan.now.bundles.items }
     requires readers { AreAllReaders plan.now.bundles.items plan.now.by_byte.items }
-    requires place { place < vec_len found.old.sets }
+    requires index { index < vec_len found.old.sets }
     requires found { AreFound plan.now.most nfa.now found.old.sets.items }
     ensures found { IfOk result (λ _. AreFound plan.now.most nfa.now found.new.sets.items) }
     ensures extends { IfOk result (λ _. Extends found.old.sets.items found.new.sets.items) }
-    ensures row { IfOk result (λ r. (x : List Bool) → slice_get found.old.sets.items place ≡ Some x → IsRow nfa.now found.new.sets.items x (bytes_of plan.now.by_byte.items) r) }
+    ensures row { IfOk result (λ r. (x : List Bool) → slice_get found.old.sets.items index ≡ Some x → IsRow nfa.now found.new.sets.items x (bytes_of plan.now.by_byte.items) r) }
     ensures refused { IfTooMany result (AreTooMany plan.now.most nfa.now) }
 {
-    let from = found.sets[place].copy(alloc)?;
+    let from = found.sets[index].copy(alloc)?;
     let ends = ends_of_set(alloc, nfa, &from)?;
     let exits = exits_of(alloc, nfa, &plan.bundles, from)?;
     let cells = cells_of(alloc, nfa, plan, &exits, found)?;

@@ -16,8 +16,8 @@ get_right [] ys k d = let e : 0 + k ≡ k = omega arith in ap (λ n. slice_index
 get_right (x ∷ xs) ys k d = let e : suc (length xs) + k ≡ suc (length xs + k) = omega arith in ap (λ n. slice_index_or (x ∷ (xs ++ ys)) n d) e ∙ get_right xs ys k d
 
 -- in a list of two pieces, an occurrence of the first piece
-in_front : (xs ys : List (List Bool)) (n o : ℕ) → n ≤ o → o < n + length xs → slice_index_or (xs ++ ys) (o - n) [] ≡ slice_index_or xs (o - n) []
-in_front xs ys n o low high = get_left xs ys (o - n) [] (omega (arith, low, high))
+in_prefix : (xs ys : List (List Bool)) (n o : ℕ) → n ≤ o → o < n + length xs → slice_index_or (xs ++ ys) (o - n) [] ≡ slice_index_or xs (o - n) []
+in_prefix xs ys n o low high = get_left xs ys (o - n) [] (omega (arith, low, high))
 
 -- and one of the second
 in_back : (xs ys : List (List Bool)) (n m o : ℕ) → m ≡ n + length xs → m ≤ o → slice_index_or (xs ++ ys) (o - n) [] ≡ slice_index_or ys (o - m) []
@@ -34,7 +34,7 @@ set_is Empty n o c h = absurd h
 set_is (Cat a b) n o c (inl h) =
     let r = set_range a n o c h in
     let l = letters_length a in
-    set_is a n o c h ∙ sym (in_front (letters_in a) (letters_in b) n o r.low (omega (arith, r.high, l)))
+    set_is a n o c h ∙ sym (in_prefix (letters_in a) (letters_in b) n o r.low (omega (arith, r.high, l)))
 set_is (Cat a b) n o c (inr h) =
     let r = set_range b (n + sets a) o c h in
     let l = letters_length a in
@@ -42,7 +42,7 @@ set_is (Cat a b) n o c (inr h) =
 set_is (Alt a b) n o c (inl h) =
     let r = set_range a n o c h in
     let l = letters_length a in
-    set_is a n o c h ∙ sym (in_front (letters_in a) (letters_in b) n o r.low (omega (arith, r.high, l)))
+    set_is a n o c h ∙ sym (in_prefix (letters_in a) (letters_in b) n o r.low (omega (arith, r.high, l)))
 set_is (Alt a b) n o c (inr h) =
     let r = set_range b (n + sets a) o c h in
     let l = letters_length a in

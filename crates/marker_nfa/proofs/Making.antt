@@ -155,8 +155,8 @@ letters_length (Plus a) = letters_length a
 letters_length (Opt a) = letters_length a
 letters_length (Capture x a) = letters_length a
 
-pub next_place : (old mid : List (List Bool)) (a : FormulaTree) → mid ≡ old ++ letters_in a → length mid + 1 ≡ length old + 1 + sets a
-next_place old mid a e =
+pub next_index : (old mid : List (List Bool)) (a : FormulaTree) → mid ≡ old ++ letters_in a → length mid + 1 ≡ length old + 1 + sets a
+next_index old mid a e =
     let l : length mid ≡ length (old ++ letters_in a) = ap length e in
     omega (arith, l, length_both old (letters_in a), letters_length a)
 

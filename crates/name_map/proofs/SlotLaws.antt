@@ -385,8 +385,8 @@ module _ {A : Type 0} where
       by (None ∷ os) (suc k) r low e none = by os k r (omega (arith, low)) e none
       by (Some p ∷ os) (suc k) r low e none = omega (arith, by os k r (omega (arith, low)) e none)
 
-  pub slot-there : (os : Row A) (place k left : ℕ) (r : Option (List ℕ × A)) → length (live (take k os)) + left ≡ place → left ≡ 0 → k < length os → r ≡ get_or os k r → is_some r ≡ true → IsSlotOf os place k
-  slot-there os place k left r sum none low e some =
+  pub slot-there : (os : Row A) (index k left : ℕ) (r : Option (List ℕ × A)) → length (live (take k os)) + left ≡ index → left ≡ 0 → k < length os → r ≡ get_or os k r → is_some r ≡ true → IsSlotOf os index k
+  slot-there os index k left r sum none low e some =
       let p = some-there r some in
       record { pair = p.0; there = read os k r low e ∙ ap (λ o. Some o) p.1; before_it = omega (arith, sum, none) }
 

@@ -37,11 +37,11 @@ pub record AreSlots {A : Type 0} (index : List ℕ → Option ℕ) (os : List (O
   pub names : HasNames index os
   pub count : length (live os) + empty ≡ length os
 
--- the slot with this number has the pair at index `place`
-pub record IsSlotOf {A : Type 0} (os : List (Option (List ℕ × A))) (place slot : ℕ) : Type 0 where
+-- the slot with this number has the pair at index `index`
+pub record IsSlotOf {A : Type 0} (os : List (Option (List ℕ × A))) (index slot : ℕ) : Type 0 where
   pub pair : List ℕ × A
   pub there : slice_get os slot ≡ Some (Some pair)
-  pub before_it : length (live (take slot os)) ≡ place
+  pub before_it : length (live (take slot os)) ≡ index
 
 -- if the slot with this number has a name that the index has, the index has this number for it; other names keep theirs
 abbrev pub IsNumbered : {A : Type 0} → (List ℕ → Option ℕ) → (List ℕ → Option ℕ) → List (Option (List ℕ × A)) → ℕ → Type 0

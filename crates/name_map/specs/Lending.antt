@@ -6,4 +6,4 @@ use Rattle.name_map.specs.contracts.NameMap.{the_row}
 
 -- the name at this index has the last value written through the reference
 abbrev pub lends_value : (A : RattleType) → MutBor (Named A.Denot) → ℕ → MutBor A.Denot → Fml
-lends_value A m place r = Lends (the_row A) A m r (with_value m.now place)
+lends_value A m index r = Lends (the_row A) A m r (with_value m.now index)

@@ -29,9 +29,9 @@ module _ {A : Type 0} where
 
   -- the name at this index has the value
   abbrev pub with_value : Named A → ℕ → A → Named A
-  with_value [] place value = []
+  with_value [] index value = []
   with_value (p ∷ ps) zero value = (p.0, value) ∷ ps
-  with_value (p ∷ ps) (suc place) value = p ∷ with_value ps place value
+  with_value (p ∷ ps) (suc index) value = p ∷ with_value ps index value
 
   -- no name occurs twice
   abbrev pub AreDistinctNames : Named A → Type 0

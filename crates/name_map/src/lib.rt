@@ -153,26 +153,26 @@ impl<V> NameMap<V> {
         self.slots.items.len() - self.slots.empty
     }
 
-    /// The name and the value at index `place`, counted from 0. Takes constant time after `settle`, and otherwise up to
+    /// The name and the value at index `index`, counted from 0. Takes constant time after `settle`, and otherwise up to
     /// linear time.
-    pub fn at(&self, place: usize) -> (&Name, &V)
-        requires { place < length self.now }
-        ensures { slice_get self.now place ≡ Some (result.0.now, result.1.now) }
+    pub fn at(&self, index: usize) -> (&Name, &V)
+        requires { index < length self.now }
+        ensures { slice_get self.now index ≡ Some (result.0.now, result.1.now) }
     {
-        let slot = slot_of(&self.slots, place);
+        let slot = slot_of(&self.slots, index);
         match &self.slots.items[slot] {
             Some(named) => (&named.0, &named.1),
             None => unreachable!(),
         }
     }
 
-    /// The value at index `place`, by mutable reference. Takes constant time after `settle`, and otherwise up to linear time.
-    pub fn value_mut(&mut self, place: usize) -> &mut V
-        requires { place < length self.old }
-        ensures* writes_back { sem 𝓛 (lends_value V.row self.entry place result) }
-        ensures value { option_map (λ p. p.1) (slice_get self.old place) ≡ Some result.now }
+    /// The value at index `index`, by mutable reference. Takes constant time after `settle`, and otherwise up to linear time.
+    pub fn value_mut(&mut self, index: usize) -> &mut V
+        requires { index < length self.old }
+        ensures* writes_back { sem 𝓛 (lends_value V.row self.entry index result) }
+        ensures value { option_map (λ p. p.1) (slice_get self.old index) ≡ Some result.now }
     {
-        let slot = slot_of(&self.slots, place);
+        let slot = slot_of(&self.slots, index);
         let slots = &mut self.slots;
         match &mut slots.items[slot] {
             Some(named) => &mut named.1,

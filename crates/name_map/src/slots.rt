@@ -25,17 +25,17 @@ pub(crate) fn slot_named<V>(slots: &Slots<V>, name: &[u8]) -> Option<usize>
     slots.index.get(name).copied()
 }
 
-/// The number of the slot that has the pair at index `place`. Takes constant time if no slot is empty, and otherwise
+/// The number of the slot that has the pair at index `index`. Takes constant time if no slot is empty, and otherwise
 /// time linear in the number of slots.
-pub(crate) fn slot_of<V>(slots: &Slots<V>, place: usize) -> usize
-    requires within { place < length (live slots.now.items.items) }
+pub(crate) fn slot_of<V>(slots: &Slots<V>, index: usize) -> usize
+    requires within { index < length (live slots.now.items.items) }
     requires count { length (live slots.now.items.items) + slots.now.empty ≡ length slots.now.items.items }
-    ensures { IsSlotOf slots.now.items.items place result }
+    ensures { IsSlotOf slots.now.items.items index result }
 {
     if slots.empty == 0 {
-        return place;
+        return index;
     }
-    let mut left = place;
+    let mut left = index;
     for (slot, held) in slots.items.iter().enumerate() {
         if held.is_some() {
             if left == 0 {

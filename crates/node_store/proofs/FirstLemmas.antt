@@ -168,7 +168,7 @@ module _ (all : List Narrow) (firsts seconds : List ℕ) (others : List Narrow) 
   }
     where
       at : (i : ℕ) (m : Narrow) → i ≡ length all → n ≡ m → LeadsTo f m i ⊎ RightLeadsTo s m i
-      at i m place same = subst (λ j. LeadsTo f m j ⊎ RightLeadsTo s m j) (sym place) (subst (λ k. LeadsTo f k (length all) ⊎ RightLeadsTo s k (length all)) same by)
+      at i m index same = subst (λ j. LeadsTo f m j ⊎ RightLeadsTo s m j) (sym index) (subst (λ k. LeadsTo f k (length all) ⊎ RightLeadsTo s k (length all)) same by)
 
   pub first-added : (l : ℕ) → IsWay all firsts seconds n (First l) → IsIndexed (all ++ n ∷ []) (set firsts l (suc (length all)) ++ 0 ∷ []) (seconds ++ 0 ∷ []) others indices
   first-added l (r, is, within, none) =

@@ -112,8 +112,8 @@ impl HashClusters {
 }
 
 // Adds one to the count at this index, if there is one, and returns it.
-fn raise(counts: &mut [u16], place: usize) -> u16 {
-    match counts.get_mut(place) {
+fn raise(counts: &mut [u16], index: usize) -> u16 {
+    match counts.get_mut(index) {
         Some(count) => {
             *count = count.saturating_add(1);
             *count
@@ -123,8 +123,8 @@ fn raise(counts: &mut [u16], place: usize) -> u16 {
 }
 
 // The same for a kind.
-fn raise_kind(counts: &mut [u8], place: usize) -> u8 {
-    match counts.get_mut(place) {
+fn raise_kind(counts: &mut [u8], index: usize) -> u8 {
+    match counts.get_mut(index) {
         Some(count) => {
             *count = count.saturating_add(1);
             *count

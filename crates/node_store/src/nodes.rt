@@ -101,8 +101,8 @@ impl Nodes {
     /// The number of pairs of neighbours that no link leads to.
     pub(crate) fn unknown_pairs(&self, blocks: &[NodeId]) -> usize {
         let mut count: usize = 0;
-        for place in 0..blocks.len() / 2 {
-            if !self.is_led_to(blocks[2 * place], blocks[2 * place + 1]) {
+        for index in 0..blocks.len() / 2 {
+            if !self.is_led_to(blocks[2 * index], blocks[2 * index + 1]) {
                 count = count.saturating_add(1);
             }
         }
@@ -245,9 +245,9 @@ fn insert_other(
     firsts.reserve(1)?;
     seconds.reserve(1)?;
     indices.reserve(1)?;
-    let (place, added) = others.insert(narrow)?;
+    let (entry, added) = others.insert(narrow)?;
     if !added {
-        return Ok((indices[place] as usize, false));
+        return Ok((indices[entry] as usize, false));
     }
     indices.push_reserved(number);
     all.push_reserved(narrow);

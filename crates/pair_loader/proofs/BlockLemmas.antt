@@ -30,8 +30,8 @@ stack_of-grows old new p q g xs h = ap reverse (trees_of-grows old new p q g xs 
 pub live-grows : (old new : List Node) (p q : ℕ) → Grows old new p q → (xs : List NodeId) → AreLiveIds old xs → AreLiveIds new xs
 live-grows old new p q g xs h = record { live = λ k d m. omega (arith, h.live k d m, Grows-length old new p q g) }
 
-pub live-front : (ns : List Node) (xs ys : List NodeId) → AreLiveIds ns (xs ++ ys) → AreLiveIds ns xs
-live-front ns xs ys h = record {
+pub live-prefix : (ns : List Node) (xs ys : List NodeId) → AreLiveIds ns (xs ++ ys) → AreLiveIds ns xs
+live-prefix ns xs ys h = record {
   live = λ k d m.
       let longer : k < length (xs ++ ys) = omega (arith, length-append xs ys) in
       subst (λ (x : NodeId). x.index < length ns) (get_or_append_left xs ys d k m) (h.live k d longer);
@@ -60,18 +60,18 @@ new-loader ns loader is =
     (subst (IsLoader ns) (sym is) (none, known), ap (fed ns) is, ap pending_count is)
 
 -- the blocks without the last one
-pub record IsPopped (ns : List Node) (blocks front : List NodeId) (top : NodeId) : Type 0 where
-  pub stack : stack_of ns blocks ≡ tree ns top.index ∷ stack_of ns front
-  pub live : AreLiveIds ns front
-  pub long : length (stack_text (stack_of ns blocks)) ≡ length (stack_text (stack_of ns front)) + leaves (tree ns top.index)
+pub record IsPopped (ns : List Node) (blocks prefix : List NodeId) (top : NodeId) : Type 0 where
+  pub stack : stack_of ns blocks ≡ tree ns top.index ∷ stack_of ns prefix
+  pub live : AreLiveIds ns prefix
+  pub long : length (stack_text (stack_of ns blocks)) ≡ length (stack_text (stack_of ns prefix)) + leaves (tree ns top.index)
 
-pub popped : (ns : List Node) (blocks front : List NodeId) (top : NodeId) → blocks ≡ front ++ top ∷ [] → AreLiveIds ns blocks → IsPopped ns blocks front top
-popped ns blocks front top split h =
-    let e : stack_of ns blocks ≡ tree ns top.index ∷ stack_of ns front = ap (λ xs. stack_of ns xs) split ∙ stack_of-push ns front top in
+pub popped : (ns : List Node) (blocks prefix : List NodeId) (top : NodeId) → blocks ≡ prefix ++ top ∷ [] → AreLiveIds ns blocks → IsPopped ns blocks prefix top
+popped ns blocks prefix top split h =
+    let e : stack_of ns blocks ≡ tree ns top.index ∷ stack_of ns prefix = ap (λ xs. stack_of ns xs) split ∙ stack_of-push ns prefix top in
     record {
       stack = e;
-      live = live-front ns front (top ∷ []) (subst (λ xs. AreLiveIds ns xs) split h);
-      long = ap (λ w. length (stack_text w)) e ∙ omega (arith, length-append (stack_text (stack_of ns front)) (text (tree ns top.index)), length-text (tree ns top.index));
+      live = live-prefix ns prefix (top ∷ []) (subst (λ xs. AreLiveIds ns xs) split h);
+      long = ap (λ w. length (stack_text w)) e ∙ omega (arith, length-append (stack_text (stack_of ns prefix)) (text (tree ns top.index)), length-text (tree ns top.index));
     }
 
 -- two equal full trees make one that is higher

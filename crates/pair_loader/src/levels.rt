@@ -55,9 +55,9 @@ fn put_words<L: Ledger>(
     ensures made { OnOk result (AreBlocks store.new 3 (length piece.now / 8) piece.now ids.new) }
     ensures cost { pairs.new ≤ pairs.old + 7 * (length piece.now / 8) }
 {
-    for place in 0..piece.len() / 8 {
-        let start = 8 * place;
-        ids[place] = words.eight(store, &piece[start..start + 8], pairs)?;
+    for index in 0..piece.len() / 8 {
+        let start = 8 * index;
+        ids[index] = words.eight(store, &piece[start..start + 8], pairs)?;
     }
     Ok(())
 }
@@ -79,8 +79,8 @@ fn pair_neighbours<L: Ledger>(
     ensures cost { pairs.new ≤ pairs.old + length piece.now / 2 ^ (height + 1) }
 {
     store.make_room(&ids[..piece.len() >> height]);
-    for place in 0..piece.len() >> (height + 1) {
-        ids[place] = store.pair_blocks(ids[2 * place], ids[2 * place + 1], height, pairs)?;
+    for index in 0..piece.len() >> (height + 1) {
+        ids[index] = store.pair_blocks(ids[2 * index], ids[2 * index + 1], height, pairs)?;
     }
     Ok(())
 }

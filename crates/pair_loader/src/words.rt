@@ -219,8 +219,8 @@ fn found(words: &Vec<Word>, bytes: u64) -> Option<NodeId>
 fn note(words: &mut Vec<Word>, bytes: u64, block: NodeId)
     ensures { (nodes : List Node) (h : ℕ) (w : Width) → IsBlockAt nodes h (to_le_bytes w bytes) block.index → AreWords nodes h w words.old.items → AreWords nodes h w words.new.items }
 {
-    let place = entry_of(words, bytes);
-    if let (Some(word), Ok(index)) = (words.get_mut(place), u32::try_from(block.index)) {
+    let slot = entry_of(words, bytes);
+    if let (Some(word), Ok(index)) = (words.get_mut(slot), u32::try_from(block.index)) {
         *word = Word {
             bytes,
             block: Some(index),

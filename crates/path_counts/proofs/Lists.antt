@@ -72,10 +72,10 @@ pairs-append R (x ∷ xs) ys h k between =
       | inr in_ys ↦ between x y (contains-here x xs) in_ys
     ]
 
-pub pairs-front : {X : Type 0} (R : X → X → Type 0) (xs ys : List X) → AllPairs R (xs ++ ys) → AllPairs R xs
-pairs-front R [] ys h = pairs-nil R
-pairs-front R (x ∷ xs) ys h =
-    AllPairs-cons R x xs (all-members (R x) xs (λ y c. pairs-head R x (xs ++ ys) y h (Contains-append_left xs ys y c))) (pairs-front R xs ys (pairs-tail R x (xs ++ ys) h))
+pub pairs-prefix : {X : Type 0} (R : X → X → Type 0) (xs ys : List X) → AllPairs R (xs ++ ys) → AllPairs R xs
+pairs-prefix R [] ys h = pairs-nil R
+pairs-prefix R (x ∷ xs) ys h =
+    AllPairs-cons R x xs (all-members (R x) xs (λ y c. pairs-head R x (xs ++ ys) y h (Contains-append_left xs ys y c))) (pairs-prefix R xs ys (pairs-tail R x (xs ++ ys) h))
 
 pub pairs-map : {X Y : Type 0} (R : Y → Y → Type 0) (f : X → Y) (xs : List X) → AllPairs (λ x y. R (f x) (f y)) xs → AllPairs R (map f xs)
 pairs-map R f [] h = pairs-nil R

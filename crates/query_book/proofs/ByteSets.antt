@@ -8,7 +8,7 @@ use Rattle.formula_law.specs.Positions.{HasSet}
 use Rattle.formula_law.specs.Accepts.{Steps}
 use Rattle.marker_dfa.specs.Deterministic.{DeterministicAutomaton, IsAutomatonOf}
 use Rattle.span_algebra.proofs.CopyLaws.{step-within}
-use Rattle.span_algebra.proofs.SetLaws.{at-place}
+use Rattle.span_algebra.proofs.SetLaws.{at-index}
 use Rattle.query_book.specs.Compiling.{HasByteSets, ReadsBytes}
 
 length-tests : (b n : ℕ) (p : ℕ → Bool) → length (tests_from b n p) ≡ n
@@ -63,7 +63,7 @@ steps-bytes f h o m b p s = omega (arith, within s.members b s.is_member, set-si
 -- if each step of the occurrences reads a byte, so does each step of the automaton
 pub reads-by : (n : ℕ) (Step : ℕ → ℕ → ℕ → ℕ → Type 0) (End : ℕ → ℕ → Type 0) (d : DeterministicAutomaton) → ((o m b p : ℕ) → Step o m b p → b < 256) → IsAutomatonOf n Step End d → ReadsBytes d
 reads-by n Step End d bytes is q m b r e =
-    let x = at-place is.subsets q (omega (arith, is.states, step-within d q m b r e)) in
+    let x = at-index is.subsets q (omega (arith, is.states, step-within d q m b r e)) in
     let g = is.goes q m b r x.0 x.1 e in
     let s = (g.3.members g.1).0 g.4 in
     bytes s.0 m b g.1 s.2

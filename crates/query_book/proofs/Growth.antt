@@ -52,8 +52,8 @@ first-step : (R : TabledQuery → TabledQuery → Type 0) (ps rs : Named TabledQ
 first-step R [] rs c = c.set
 first-step R (p ∷ ps) rs c = subst (ChangesFirst R 1 (p ∷ ps)) (sym c.set) (refl, subst (λ v. R v c.after) (sym (some_is c.there)) c.allowed, refl)
 
-later-place : (R : TabledQuery → TabledQuery → Type 0) (n : ℕ) (q : List ℕ × TabledQuery) (qs : Named TabledQuery) (rs : Named TabledQuery) → (c : ChangesAt R (suc n) (q ∷ qs) rs) → ChangesAt R n qs (with_value qs n c.after)
-later-place R n q qs rs c = record { before = c.before; after = c.after; there = c.there; set = refl; allowed = c.allowed }
+later-index : (R : TabledQuery → TabledQuery → Type 0) (n : ℕ) (q : List ℕ × TabledQuery) (qs : Named TabledQuery) (rs : Named TabledQuery) → (c : ChangesAt R (suc n) (q ∷ qs) rs) → ChangesAt R n qs (with_value qs n c.after)
+later-index R n q qs rs c = record { before = c.before; after = c.after; there = c.there; set = refl; allowed = c.allowed }
 
 pub changes-step : (R : TabledQuery → TabledQuery → Type 0) (n : ℕ) (ps qs rs : Named TabledQuery) → ChangesFirst R n ps qs → ChangesAt R n qs rs → ChangesFirst R (suc n) ps rs
 changes-step R zero ps qs rs h c = first-step R ps rs (subst (λ xs. ChangesAt R 0 xs rs) h c)
@@ -62,7 +62,7 @@ changes-step R (suc n) [] qs rs h c =
     let no : ⊥ = cc in absurd no
 changes-step R (suc n) (p ∷ ps) [] rs h c = absurd h
 changes-step R (suc n) (p ∷ ps) (q ∷ qs) rs h c =
-    subst (ChangesFirst R (suc (suc n)) (p ∷ ps)) (sym c.set) (h.0, h.1, changes-step R n ps qs (with_value qs n c.after) h.2 (later-place R n q qs rs c))
+    subst (ChangesFirst R (suc (suc n)) (p ∷ ps)) (sym c.set) (h.0, h.1, changes-step R n ps qs (with_value qs n c.after) h.2 (later-index R n q qs rs c))
 
 pub changes-map : (R S : TabledQuery → TabledQuery → Type 0) → ((v w : TabledQuery) → R v w → S v w) → (n : ℕ) (ps qs : Named TabledQuery) → ChangesFirst R n ps qs → ChangesFirst S n ps qs
 changes-map R S f zero ps qs h = h

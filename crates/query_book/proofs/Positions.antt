@@ -18,9 +18,9 @@ none-some : {X : Type 0} (x : X) → ◌≡◌ {A = Option X} (Some x) None → 
 none-some x e = let bad : ⊥ = cc e in bad
 
 -- a cut at a tuple
-after-cut : (all front rest : List Tuple) (c : Tuple) → all ≡ front ++ rest → ((t : Tuple) → Contains front t → Comes c t → ⊥) → ((t : Tuple) → Contains rest t → Comes c t) → IsAfter all (Some c) rest
-after-cut all front rest c whole passed left = record {
-  front = front;
+after-cut : (all prefix rest : List Tuple) (c : Tuple) → all ≡ prefix ++ rest → ((t : Tuple) → Contains prefix t → Comes c t → ⊥) → ((t : Tuple) → Contains rest t → Comes c t) → IsAfter all (Some c) rest
+after-cut all prefix rest c whole passed left = record {
+  prefix = prefix;
   cut = whole;
   start = λ e. absurd (none-some c e);
   passed = λ d t e m b. passed t m (subst (λ z. Comes z t) (sym (some_is e)) b);
@@ -74,7 +74,7 @@ blank-mark k (suc j) p = omega (arith, blank-mark k j p, ap (λ o. part_of j o p
 pub after-last : (all : List Tuple) (n k : ℕ) → slice_get all n ≡ None → IsAfter all (Some (blanks k)) (drop (suc n) all)
 after-last all n k none =
     after-cut all all (drop (suc n) all) (blanks k) (sym (append-nil all) ∙ ap (λ r. all ++ r) (sym empty))
-    (λ t m comes. omega (arith, marked_first (blanks k) t comes, blank-mark k (length (blanks k)) comes.place))
+    (λ t m comes. omega (arith, marked_first (blanks k) t comes, blank-mark k (length (blanks k)) comes.index))
     (λ t m. absurd (no-member t (subst (λ l. Contains l t) empty m)))
   where
     long : length all ≤ n

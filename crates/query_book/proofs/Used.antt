@@ -33,8 +33,8 @@ used-kept : {A : Type 0} (kept new : List A) (default : A) (numbers new-numbers 
 used-kept kept new default numbers new-numbers is numbers-are k low =
     let used = used_of numbers (length kept) in
     let o = kept-back kept used default k (omega (arith, low, ap length is)) in
-    let c = stands numbers o.place (sym (used-of-at numbers (length kept) o.place o.within) ∙ o.kept) in
-    subst (λ xs. Contains xs k) (sym numbers-are) (subst (λ n. Contains (map (rank used) numbers) n) o.rank_is (mapped (rank used) numbers o.place c))
+    let c = stands numbers o.index (sym (used-of-at numbers (length kept) o.index o.within) ∙ o.kept) in
+    subst (λ xs. Contains xs k) (sym numbers-are) (subst (λ n. Contains (map (rank used) numbers) n) o.rank_is (mapped (rank used) numbers o.index c))
 
 pub used-each : (d e : Dictionary) (keep : List Bool) → e.kept ≡ kept_items d.kept (used_by d keep) → e.numbers ≡ map (rank (used_by d keep)) (kept_items d.numbers keep) → UsesEachTable e
 used-each d e keep kept numbers k low = used-kept d.kept e.kept [] (kept_items d.numbers keep) e.numbers kept numbers k low

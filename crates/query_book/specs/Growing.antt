@@ -47,11 +47,11 @@ pub record KeepsCounts (ns : List Node) (old new : TabledQuery) : Type 0 where
   pub same : counted new ≡ counted old
 
 -- the value at this index changes to one that R allows, and the others are unchanged
-pub record ChangesAt (R : TabledQuery → TabledQuery → Type 0) (place : ℕ) (old new : Named TabledQuery) : Type 0 where
+pub record ChangesAt (R : TabledQuery → TabledQuery → Type 0) (index : ℕ) (old new : Named TabledQuery) : Type 0 where
   pub before : TabledQuery
   pub after : TabledQuery
-  pub there : option_map (λ p. p.1) (slice_get old place) ≡ Some before
-  pub set : new ≡ with_value old place after
+  pub there : option_map (λ p. p.1) (slice_get old index) ≡ Some before
+  pub set : new ≡ with_value old index after
   pub allowed : R before after
 
 -- the value of this name changes to one that R allows, and the others are unchanged

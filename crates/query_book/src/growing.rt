@@ -47,27 +47,27 @@ pub(crate) fn grow_entries<R: Threads + Sync, G: Gate, L: Ledger>(
     ensures some { ChangesFirst (MayGrow lent.entry.store.now) (length by_name.old) by_name.old by_name.new }
     ensures steps { places.new + sum_of (covered_in (entries_of by_name.old)) ≡ places.old + sum_of (covered_in (entries_of by_name.new)) }
 {
-    for place in 0..by_name.count() {
-        grow_at(lent, by_name, place, places)?;
+    for index in 0..by_name.count() {
+        grow_at(lent, by_name, index, places)?;
     }
     Ok(())
 }
 
-/// Computes the missing tables of the query at index `place`.
+/// Computes the missing tables of the query at index `index`.
 fn grow_at<R: Threads + Sync, G: Gate, L: Ledger>(
     lent: Lent<'_, R, G>,
     by_name: &mut NameMap<TabledQuery>,
-    place: usize,
+    index: usize,
     places: &mut Steps<L>,
 ) -> Result<(), NoMemory>
-    requires place { place < length by_name.old }
+    requires index { index < length by_name.old }
     requires kept { AreSound by_name.old }
     requires served { AreServed lent.store.now (entries_of by_name.old) }
-    ensures all { OnOk result (ChangesAt (Grows lent.entry.store.now) place by_name.old by_name.new) }
-    ensures same { OnErr result (ChangesAt (Keeps lent.entry.store.now) place by_name.old by_name.new) }
-    ensures some { ChangesAt (MayGrow lent.entry.store.now) place by_name.old by_name.new }
+    ensures all { OnOk result (ChangesAt (Grows lent.entry.store.now) index by_name.old by_name.new) }
+    ensures same { OnErr result (ChangesAt (Keeps lent.entry.store.now) index by_name.old by_name.new) }
+    ensures some { ChangesAt (MayGrow lent.entry.store.now) index by_name.old by_name.new }
     ensures steps { places.new + sum_of (covered_in (entries_of by_name.old)) ≡ places.old + sum_of (covered_in (entries_of by_name.new)) }
 {
-    let tabled = by_name.value_mut(place);
+    let tabled = by_name.value_mut(index);
     grow_query(lent, tabled, places)
 }

@@ -17,19 +17,19 @@ pub(crate) fn renumber_entries(by_name: &mut NameMap<TabledQuery>, moves: &Moves
     requires within { AreWithin moves.now (entries_of by_name.old) }
     ensures { ChangesFirst (Renumbers moves.now) (length by_name.old) by_name.old by_name.new }
 {
-    for place in 0..by_name.count() {
-        renumber_at(by_name, place, moves);
+    for index in 0..by_name.count() {
+        renumber_at(by_name, index, moves);
     }
 }
 
-/// Does the same for the query at index `place`.
-fn renumber_at(by_name: &mut NameMap<TabledQuery>, place: usize, moves: &Moves)
-    requires place { place < length by_name.old }
+/// Does the same for the query at index `index`.
+fn renumber_at(by_name: &mut NameMap<TabledQuery>, index: usize, moves: &Moves)
+    requires index { index < length by_name.old }
     requires kept { AreSound by_name.old }
     requires within { AreWithin moves.now (entries_of by_name.old) }
-    ensures { ChangesAt (Renumbers moves.now) place by_name.old by_name.new }
+    ensures { ChangesAt (Renumbers moves.now) index by_name.old by_name.new }
 {
-    let tabled = by_name.value_mut(place);
+    let tabled = by_name.value_mut(index);
     renumber_query(tabled, moves);
 }
 

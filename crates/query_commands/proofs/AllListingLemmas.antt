@@ -28,11 +28,11 @@ page_of a s l n p are is = subst (λ (ts : List Tuple). IsPage ts None n p.tuple
 
 -- ---- the documents from an index on
 module _ (a : DeterministicAutomaton) (ns : List Node) (names : List (List ℕ)) (n : ℕ) where
-  pub rest_next : (ds : List Doc) (ls : List (List Tuple)) (place : ℕ) (d : Doc) (p : Page) → AreAnswered a ns ds ls → slice_get ds place ≡ Some d → IsPageOf a (text_of ns d.root) n p
-      → rest_text names n ds ls place ≡ (doc_line d.name ++ page_text names p.tuples p.more) ++ rest_text names n ds ls (suc place)
-  rest_next [] ls place d p are e is = let bad : ⊥ = cc e in absurd bad
-  rest_next (x ∷ ds) [] place d p are e is = absurd are
-  rest_next (x ∷ ds) (l ∷ ls) (suc place) d p are e is = rest_next ds ls place d p are.1 e is
+  pub rest_next : (ds : List Doc) (ls : List (List Tuple)) (index : ℕ) (d : Doc) (p : Page) → AreAnswered a ns ds ls → slice_get ds index ≡ Some d → IsPageOf a (text_of ns d.root) n p
+      → rest_text names n ds ls index ≡ (doc_line d.name ++ page_text names p.tuples p.more) ++ rest_text names n ds ls (suc index)
+  rest_next [] ls index d p are e is = let bad : ⊥ = cc e in absurd bad
+  rest_next (x ∷ ds) [] index d p are e is = absurd are
+  rest_next (x ∷ ds) (l ∷ ls) (suc index) d p are e is = rest_next ds ls index d p are.1 e is
   rest_next (x ∷ ds) (l ∷ ls) zero d p are e is =
       let same : x ≡ d = cc e in
       let here : AreAnswersOf a (text_of ns d.root) l = subst (λ (y : Doc). AreAnswersOf a (text_of ns y.root) l) same are.0 in
@@ -72,8 +72,8 @@ lists_exist a ns q has (d ∷ ds) live =
     let ls = lists_exist a ns q has ds live.1 in
     (l.0 ∷ ls.0, ((has.same d.root l.0 live.0).1 l.1, ls.1))
 
-pub rest_end : {x y : Outlet} {whole : List ℕ} (names : List (List ℕ)) (n : ℕ) (ds : List Doc) (ls : List (List Tuple)) (place : ℕ) → length ds ≤ place → IsUpTo x y (rest_text names n ds ls place) whole → IsUpTo x y done_line whole
-rest_end {x} {y} {whole} names n ds ls place past h = subst (λ (es : List Doc). IsUpTo x y (documents_text names n es (drop place ls)) whole) (drop_all place ds past) h
+pub rest_end : {x y : Outlet} {whole : List ℕ} (names : List (List ℕ)) (n : ℕ) (ds : List Doc) (ls : List (List Tuple)) (index : ℕ) → length ds ≤ index → IsUpTo x y (rest_text names n ds ls index) whole → IsUpTo x y done_line whole
+rest_end {x} {y} {whole} names n ds ls index past h = subst (λ (es : List Doc). IsUpTo x y (documents_text names n es (drop index ls)) whole) (drop_all index ds past) h
 
 -- ---- the answers of a page, and all answers
 take_at : (n : ℕ) (xs : List Tuple) (k : ℕ) (t : Tuple) → slice_get (take n xs) k ≡ Some t → slice_get xs k ≡ Some t

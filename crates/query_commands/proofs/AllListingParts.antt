@@ -7,20 +7,20 @@ use Rattle.query_commands.proofs.AllListingLemmas.{listed, lists_exist, page_at,
 
 -- ---- a batch: the page at one index
 module _ (a : DeterministicAutomaton) (ns : List Node) (ds : List Doc) (first count n : ℕ) (pages : List Page) (are : ArePages a ns ds first count n pages)
-    (place : ℕ) (d : Doc) (tuples : List Tuple) (more : Bool) (at : slice_get ds (first + place) ≡ Some d)
-    (tuples_are : slice_get (map (λ (p : Page). p.tuples) pages) place ≡ Some tuples) (more_is : slice_get (map (λ (p : Page). p.more) pages) place ≡ Some more) where
+    (index : ℕ) (d : Doc) (tuples : List Tuple) (more : Bool) (at : slice_get ds (first + index) ≡ Some d)
+    (tuples_are : slice_get (map (λ (p : Page). p.tuples) pages) index ≡ Some tuples) (more_is : slice_get (map (λ (p : Page). p.more) pages) index ≡ Some more) where
   found : IsPageOf a (text_of ns d.root) n (record { tuples = tuples; more = more })
-  found = are.each place d (record { tuples = tuples; more = more }) at (page_at pages place tuples more tuples_are more_is)
+  found = are.each index d (record { tuples = tuples; more = more }) at (page_at pages index tuples more tuples_are more_is)
 
   pub found_sizes : (k : ℕ) → k ≡ a.variables → (i : ℕ) (t : Tuple) → slice_get tuples i ≡ Some t → k ≡ length t
   found_sizes k is i t e = is ∙ sym (page_sizes a (text_of ns d.root) n (record { tuples = tuples; more = more }) found i t e)
 
-  pub batch_left : {x y : Outlet} {whole : List ℕ} (names : List (List ℕ)) (lists : List (List Tuple)) → AreAnswered a ns ds lists → IsUpTo x y (rest_text names n ds lists (first + place)) whole
-      → IsUpTo x y ((doc_line d.name ++ page_text names tuples more) ++ rest_text names n ds lists (first + (place + 1))) whole
+  pub batch_left : {x y : Outlet} {whole : List ℕ} (names : List (List ℕ)) (lists : List (List Tuple)) → AreAnswered a ns ds lists → IsUpTo x y (rest_text names n ds lists (first + index)) whole
+      → IsUpTo x y ((doc_line d.name ++ page_text names tuples more) ++ rest_text names n ds lists (first + (index + 1))) whole
   batch_left {x} {y} {whole} names lists answered so_far =
-      let next : suc (first + place) ≡ first + (place + 1) = omega arith in
-      let cut : rest_text names n ds lists (first + place) ≡ (doc_line d.name ++ page_text names tuples more) ++ rest_text names n ds lists (first + (place + 1)) =
-      rest_next a ns names n ds lists (first + place) d (record { tuples = tuples; more = more }) answered at found
+      let next : suc (first + index) ≡ first + (index + 1) = omega arith in
+      let cut : rest_text names n ds lists (first + index) ≡ (doc_line d.name ++ page_text names tuples more) ++ rest_text names n ds lists (first + (index + 1)) =
+      rest_next a ns names n ds lists (first + index) d (record { tuples = tuples; more = more }) answered at found
       ∙ ap (λ (k : ℕ). (doc_line d.name ++ page_text names tuples more) ++ rest_text names n ds lists k) next in
       subst (λ (l : List ℕ). IsUpTo x y l whole) cut so_far
 

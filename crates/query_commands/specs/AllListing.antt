@@ -36,7 +36,7 @@ documents_text names n (d ∷ ds) (l ∷ ls) = doc_line d.name ++ (first_page_te
 
 -- the same for the documents from an index on
 abbrev pub rest_text : List (List ℕ) → ℕ → List Doc → List (List Tuple) → ℕ → List ℕ
-rest_text names n ds ls place = documents_text names n (drop place ds) (drop place ls)
+rest_text names n ds ls index = documents_text names n (drop index ds) (drop index ls)
 
 -- the reply with the answers of the query on each document is written
 pub record ListsAll (Writes : List ℕ → Type 0) (q : Query) (documents : Documents) (n : ℕ) : Type 0 where

@@ -53,7 +53,7 @@ fn last_of(more: bool) -> &'static [u8]
 
 /// Writes the lines of a page's tuples.
 fn write_tuples<K: Sink>(tuples: &[Tuple], vars: &Vars, out: &mut K) -> Result<(), Stop>
-    requires { (place : ℕ) (t : ATuple) → slice_get tuples.now place ≡ Some t → length vars.now ≡ length t }
+    requires { (index : ℕ) (t : ATuple) → slice_get tuples.now index ≡ Some t → length vars.now ≡ length t }
     ensures { Wrote result (outlet (K.written out.old) (K.faults out.old) (K.wants out.old)) (flat_map (tuple_line vars.now) tuples.now)
         (outlet (K.written out.new) (K.faults out.new) (K.wants out.new)) }
 {
@@ -72,7 +72,7 @@ fn write_document<K: Sink>(
     vars: &Vars,
     out: &mut K,
 ) -> Result<(), Stop>
-    requires { (place : ℕ) (t : ATuple) → slice_get tuples.now place ≡ Some t → length vars.now ≡ length t }
+    requires { (index : ℕ) (t : ATuple) → slice_get tuples.now index ≡ Some t → length vars.now ≡ length t }
     ensures { Wrote result (outlet (K.written out.old) (K.faults out.old) (K.wants out.old)) (doc_line name.now ++ page_text vars.now tuples.now more)
         (outlet (K.written out.new) (K.faults out.new) (K.wants out.new)) }
 {
@@ -127,13 +127,13 @@ fn list_batch<R: Threads + Sync, K: Sink, G: Gate>(
         context.lent.workers,
         context.lent.gate,
     )?;
-    for place in 0..count {
-        let (name, _) = all_listing.docs.at(first + place);
+    for index in 0..count {
+        let (name, _) = all_listing.docs.at(first + index);
         write_document(
             all_listing.alloc,
             name,
-            found.tuples(place),
-            found.more(place),
+            found.tuples(index),
+            found.more(index),
             all_listing.vars,
             out,
         )?;

@@ -13,12 +13,12 @@ abbrev order : List NodeId
 order = at 1 ∷ at 0 ∷ at 3 ∷ at 2 ∷ at 4 ∷ []
 
 -- where each of them stands in the order
-abbrev place : ℕ → ℕ
-place zero = 1
-place (suc zero) = 0
-place (suc (suc zero)) = 3
-place (suc (suc (suc zero))) = 2
-place (suc (suc (suc (suc n)))) = 4
+abbrev index : ℕ → ℕ
+index zero = 1
+index (suc zero) = 0
+index (suc (suc zero)) = 3
+index (suc (suc (suc zero))) = 2
+index (suc (suc (suc (suc n)))) = 4
 
 apart : (x : ℕ) (l r : NodeId) → Some (Byte x) ≡ Some (Pair l r) → ⊥
 apart x l r h = cc
@@ -30,7 +30,7 @@ same-right : (l r m s : NodeId) → Some (Pair l r) ≡ Some (Pair m s) → r �
 same-right l r m s h = cc
 
 -- ---- the places
-placed : (i : ℕ) (d : NodeId) → i < 5 → place (slice_index_or order i d).index ≡ i
+placed : (i : ℕ) (d : NodeId) → i < 5 → index (slice_index_or order i d).index ≡ i
 placed zero d lt = refl
 placed (suc zero) d lt = refl
 placed (suc (suc zero)) d lt = refl
@@ -40,7 +40,7 @@ placed (suc (suc (suc (suc (suc i))))) d lt = absurd (omega (arith, lt))
 
 once : (i j : ℕ) (d : NodeId) → i < j → j < 5 → (slice_index_or order i d).index ≡ (slice_index_or order j d).index → ⊥
 once i j d lt most e =
-    let same : i ≡ j = sym (placed i d (omega (arith, lt, most))) ∙ (ap place e ∙ placed j d most) in
+    let same : i ≡ j = sym (placed i d (omega (arith, lt, most))) ∙ (ap index e ∙ placed j d most) in
     omega (arith, lt, same)
 
 in-two : (c : NodeId) (n : ℕ) → c.index ≡ n → n < 2 → Contains (at 1 ∷ at 0 ∷ []) c
@@ -92,18 +92,18 @@ module _ (nodes : List Node) (y : ℕ) (left right : NodeId) (five : length node
   children (b ∷ c ∷ []) after id l r e h =
       let is : at 3 ≡ id = ap (λ (ids : List NodeId). slice_index_or ids 2 id) e in
       let same : Some (Pair left right) ≡ Some (Pair l r) = sym pair ∙ subst (λ (n : NodeId). slice_get nodes n.index ≡ Some (Pair l r)) (sym is) h in
-      let front : at 1 ∷ at 0 ∷ [] ≡ b ∷ c ∷ [] = ap (λ (ids : List NodeId). take 2 ids) e in (
-        λ ge. subst (λ (ids : List NodeId). Contains ids l) front (in-two l l.index refl (subst (λ (n : NodeId). n.index < 2) (same-left left right l r same) low)),
-        λ ge. subst (λ (ids : List NodeId). Contains ids r) front (in-two r r.index refl (subst (λ (n : NodeId). n.index < 2) (same-right left right l r same) also)),
+      let prefix : at 1 ∷ at 0 ∷ [] ≡ b ∷ c ∷ [] = ap (λ (ids : List NodeId). take 2 ids) e in (
+        λ ge. subst (λ (ids : List NodeId). Contains ids l) prefix (in-two l l.index refl (subst (λ (n : NodeId). n.index < 2) (same-left left right l r same) low)),
+        λ ge. subst (λ (ids : List NodeId). Contains ids r) prefix (in-two r r.index refl (subst (λ (n : NodeId). n.index < 2) (same-right left right l r same) also)),
       )
   children (b ∷ c ∷ d ∷ []) after id l r e h =
       let low = below 2 id l r (ap (λ (ids : List NodeId). slice_index_or ids 3 id) e) h in
-      let front : at 1 ∷ at 0 ∷ at 3 ∷ [] ≡ b ∷ c ∷ d ∷ [] = ap (λ (ids : List NodeId). take 3 ids) e in
-      (λ ge. subst (λ (ids : List NodeId). Contains ids l) front (in-three l l.index refl low.0), λ ge. subst (λ (ids : List NodeId). Contains ids r) front (in-three r r.index refl low.1))
+      let prefix : at 1 ∷ at 0 ∷ at 3 ∷ [] ≡ b ∷ c ∷ d ∷ [] = ap (λ (ids : List NodeId). take 3 ids) e in
+      (λ ge. subst (λ (ids : List NodeId). Contains ids l) prefix (in-three l l.index refl low.0), λ ge. subst (λ (ids : List NodeId). Contains ids r) prefix (in-three r r.index refl low.1))
   children (b ∷ c ∷ d ∷ f ∷ []) after id l r e h =
       let low = below 4 id l r (ap (λ (ids : List NodeId). slice_index_or ids 4 id) e) h in
-      let front : at 1 ∷ at 0 ∷ at 3 ∷ at 2 ∷ [] ≡ b ∷ c ∷ d ∷ f ∷ [] = ap (λ (ids : List NodeId). take 4 ids) e in
-      (λ ge. subst (λ (ids : List NodeId). Contains ids l) front (in-four l l.index refl low.0), λ ge. subst (λ (ids : List NodeId). Contains ids r) front (in-four r r.index refl low.1))
+      let prefix : at 1 ∷ at 0 ∷ at 3 ∷ at 2 ∷ [] ≡ b ∷ c ∷ d ∷ f ∷ [] = ap (λ (ids : List NodeId). take 4 ids) e in
+      (λ ge. subst (λ (ids : List NodeId). Contains ids l) prefix (in-four l l.index refl low.0), λ ge. subst (λ (ids : List NodeId). Contains ids r) prefix (in-four r r.index refl low.1))
   children (b ∷ c ∷ d ∷ f ∷ g ∷ before) after id l r e h = absurd (omega (arith, ap length e, length-append before (id ∷ after)))
 
   pub crossed-order : IsSchedule nodes 0 order

@@ -48,10 +48,10 @@ fn two_letters(alloc: Global, store: &mut Store, first: u8, second: u8) -> Resul
     two_documents(alloc, store, Some(left), Some(right))
 }
 
-/// The number of answers of the page at index `place`, and whether there are more, or `None` if there is no such page.
-fn seen_at(pages: &Pages, place: usize) -> Option<(usize, bool)> {
-    if place < pages.count() {
-        Some((pages.tuples(place).len(), pages.more(place)))
+/// The number of answers of the page at index `index`, and whether there are more, or `None` if there is no such page.
+fn seen_at(pages: &Pages, index: usize) -> Option<(usize, bool)> {
+    if index < pages.count() {
+        Some((pages.tuples(index).len(), pages.more(index)))
     } else {
         None
     }

@@ -43,7 +43,7 @@ written_ends number meaning old new before after told reply (Ok t) passes sound 
 }
 written_ends number meaning old new before after told reply (Err why) passes sound replied carried paid tallies wants is cut = record {
   passes = passes cut.later cut.wants_later;
-  halts = inr (told, reply, carried, cut.front);
+  halts = inr (told, reply, carried, cut.prefix);
   fault = λ e. (replied, cut.fault e);
   shelf_fault = λ e. absurd (cut.no_shelf e);
   want = λ e. elim wants [
@@ -75,7 +75,7 @@ stays_stopped old new number command before why answering s = record {
   passes = passes_of old new command before before s.goes (omega arith) (omega arith);
   halts = elim s.world [
     | inl same ↦ inl (record { written = Keeps-refl before.written; world = same })
-    | inr more ↦ inr (more.1.0, more.1.1, more.1.2, (waits (starts before more.1.1)).front)
+    | inr more ↦ inr (more.1.0, more.1.1, more.1.2, (waits (starts before more.1.1)).prefix)
   ];
   fault = λ is. absurd (s.sink is);
   shelf_fault = λ is. let file = s.shelf is in (

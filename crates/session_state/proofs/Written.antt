@@ -14,16 +14,16 @@ more_of_piece a b c piece done n first second =
     subst (λ (l : List ℕ). Appends a c l) (sym (take-add done n piece)) (Appends-trans a b c (take done piece) (take n (drop done piece)) first second)
 
 -- a prefix of a piece, after the pieces before it, is a prefix of the whole
-front_of_whole : (a b c : Option (List ℕ)) (before piece after whole : List ℕ) → whole ≡ before ++ piece ++ after
+prefix_of_whole : (a b c : Option (List ℕ)) (before piece after whole : List ℕ) → whole ≡ before ++ piece ++ after
     → Appends a b before → AppendsPrefix b c piece → AppendsPrefix a c whole
-front_of_whole a b c before piece after whole is first (n, second) =
+prefix_of_whole a b c before piece after whole is first (n, second) =
     let m = length before + min n (length piece) in
     let few : min n (length piece) ≤ length piece = omega arith in
-    let front : take m whole ≡ before ++ take n piece =
+    let prefix : take m whole ≡ before ++ take n piece =
     ap (λ (l : List ℕ). take m l) (is ∙ append_assoc before piece after)
     ∙ take-append-add before (piece ++ after) (min n (length piece))
     ∙ ap (λ (l : List ℕ). before ++ l) (take-append-le (min n (length piece)) piece after few ∙ take_min n piece)
-    in (m, subst (λ (l : List ℕ). Appends a c l) (sym front) (Appends-trans a b c before (take n piece) first second))
+    in (m, subst (λ (l : List ℕ). Appends a c l) (sym prefix) (Appends-trans a b c before (take n piece) first second))
 
 -- ---- a listing in progress
 pub none_sent : (a : Outlet) → IsSent a [] a
@@ -44,8 +44,8 @@ sent_on {a} {b} {c} {whole} piece left line h is wrote = record {
 
 pub stops : {a b c : Outlet} {whole : List ℕ} {why : Stop} (piece left line : List ℕ) → IsUpTo a b (piece ++ left) whole → line ≡ piece → IsCut b line c why → IsCut a whole c why
 stops {a} {b} {c} {whole} {why} piece left line h is stopped = record {
-  front = front_of_whole a.written b.written c.written h.done piece left whole (h.cut ∙ sym (append_assoc h.done piece left)) h.sent.appends
-      (subst (λ (l : List ℕ). AppendsPrefix b.written c.written l) is stopped.front);
+  prefix = prefix_of_whole a.written b.written c.written h.done piece left whole (h.cut ∙ sym (append_assoc h.done piece left)) h.sent.appends
+      (subst (λ (l : List ℕ). AppendsPrefix b.written c.written l) is stopped.prefix);
   later = omega (arith, h.sent.sound.0, stopped.later);
   wants_later = omega (arith, h.sent.sound.1, stopped.wants_later);
   fault = λ e. let has_increased = stopped.fault e in omega (arith, h.sent.sound.0, has_increased);
@@ -54,7 +54,7 @@ stops {a} {b} {c} {whole} {why} piece left line h is stopped = record {
 
 pub waits : {a b : Outlet} {left whole : List ℕ} → IsUpTo a b left whole → IsCut a whole b stop.NoMemory
 waits {a} {b} {left} {whole} h = record {
-  front = (length h.done, subst (λ (l : List ℕ). Appends a.written b.written l) (sym (ap (λ (l : List ℕ). take (length h.done) l) h.cut ∙ take-append_seam h.done left)) h.sent.appends);
+  prefix = (length h.done, subst (λ (l : List ℕ). Appends a.written b.written l) (sym (ap (λ (l : List ℕ). take (length h.done) l) h.cut ∙ take-append_seam h.done left)) h.sent.appends);
   later = omega (arith, h.sent.sound.0);
   wants_later = omega (arith, h.sent.sound.1);
   fault = λ e. let bad : ⊥ = cc e in absurd bad;

@@ -17,7 +17,7 @@ pub record IsSent (before : Outlet) (piece : List ℕ) (after : Outlet) : Type 0
 
 -- a prefix of it was written, and then the call was stopped for this reason
 pub record IsCut (before : Outlet) (piece : List ℕ) (after : Outlet) (why : Stop) : Type 0 where
-  pub front : AppendsPrefix before.written after.written piece
+  pub prefix : AppendsPrefix before.written after.written piece
   pub later : before.faults ≤ after.faults
   pub wants_later : before.wants ≤ after.wants
   pub fault : why ≡ stop.OutFault → HasIncreased before.faults after.faults

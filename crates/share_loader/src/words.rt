@@ -168,7 +168,7 @@ fn number_of_eight(bytes: &[u8]) -> u64
 fn padded(word: &[u8]) -> [u8; MAX_WORD_BYTES]
     requires { length word.now ≤ 8 }
     ensures long { length result ≡ 8 }
-    ensures front { take (length word.now) result ≡ word.now }
+    ensures prefix { take (length word.now) result ≡ word.now }
 {
     let mut bytes = [0; MAX_WORD_BYTES];
     bytes[..word.len()].copy_from_slice(word);
@@ -198,9 +198,9 @@ fn found(entries: &[Entry], key: Key) -> Option<NodeId>
 fn note(entries: &mut Vec<Entry>, key: Key, node: NodeId)
     ensures { (nodes : List Node) → IsWordAt nodes (take key.len (to_le_bytes w64 key.bytes)) node.index → AreKnown nodes entries.old.items → AreKnown nodes entries.new.items }
 {
-    let place = index_of(entries, key.hash);
+    let slot = index_of(entries, key.hash);
     let Key { bytes, len, .. } = key;
-    if let (Some(entry), Ok(index)) = (entries.get_mut(place), u32::try_from(node.index)) {
+    if let (Some(entry), Ok(index)) = (entries.get_mut(slot), u32::try_from(node.index)) {
         *entry = Entry { bytes, len, index };
     }
 }

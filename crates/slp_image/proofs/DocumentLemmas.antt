@@ -60,9 +60,9 @@ unfolding document_at
 document-is count ds bytes name after rest root n h = rw (n, h) refl
 
 -- a root
-pub place-fails : (count : ℕ) (bytes : List ℕ) (e : ImageRefusal) → Fails e (number_at bytes) → Fails e (root_at count bytes)
+pub index-fails : (count : ℕ) (bytes : List ℕ) (e : ImageRefusal) → Fails e (number_at bytes) → Fails e (root_at count bytes)
 unfolding root_at
-place-fails count bytes e h = fails-bind e (number_at bytes) _ h
+index-fails count bytes e h = fails-bind e (number_at bytes) _ h
 
 pub root-none : (count n : ℕ) (bytes rest : List ℕ) → number_at bytes ≡ Ok (n, rest) → n ≡ 2 ^ 64 - 1 → root_at count bytes ≡ Ok (None, rest)
 unfolding root_at

@@ -25,7 +25,7 @@ use Rattle.slp_image.specs.Written.{AllNext, MayBeNext, IsNextDocument, records_
 use Rattle.slp_image.proofs.FollowLemmas.{all-follow}
 use Rattle.slp_image.proofs.SavedLemmas.{saved_doc, take-next}
 use Rattle.slp_image.proofs.ReadLemmas.{image-one, trees-one, nodes-meant}
-use Rattle.slp_image.proofs.WriteLemmas.{front, body_bytes, contents-again, version-again}
+use Rattle.slp_image.proofs.WriteLemmas.{prefix, body_bytes, contents-again, version-again}
 
 -- one document further
 pub exactly-next : (ns : List Node) (old new : List Bool) (ds : List Doc) (k : ℕ) (d : Doc) → KeepsExactly ns old (roots_of (take k ds)) → slice_get ds k ≡ Some d → AddsExactly old new (RootReaches ns d.root) → KeepsExactly ns new (roots_of (take (k + 1) ds))
@@ -35,13 +35,13 @@ exactly-next ns old new ds k d a at b =
     subst (λ (rs : List (Option NodeId)). KeepsExactly ns new rs) more (keeps-next ns old new (roots_of (take k ds)) d.root a b)
 
 -- the roots are kept
-root-reached : (ns : List Node) (ds : List Doc) (place : ℕ) (d : Doc) (j : ℕ) → slice_get ds place ≡ Some d → RootReaches ns d.root j → AnyReaches ns (roots_of ds) j
-root-reached ns [] place d j at x = cc
+root-reached : (ns : List Node) (ds : List Doc) (index : ℕ) (d : Doc) (j : ℕ) → slice_get ds index ≡ Some d → RootReaches ns d.root j → AnyReaches ns (roots_of ds) j
+root-reached ns [] index d j at x = cc
 root-reached ns (e ∷ ds) zero d j at x = let s : e ≡ d = cc in inl (subst (λ (y : Doc). RootReaches ns y.root j) (sym s) x)
-root-reached ns (e ∷ ds) (suc place) d j at x = inr (root-reached ns ds place d j at x)
+root-reached ns (e ∷ ds) (suc index) d j at x = inr (root-reached ns ds index d j at x)
 
 pub roots-kept : (ns : List Node) (ks : List Bool) (ds : List Doc) → KeepsExactly ns ks (roots_of ds) → KeepsRoots ks ds
-roots-kept ns ks ds exact place d at = by d.root (λ j x. (exact j).1 (root-reached ns ds place d j at x))
+roots-kept ns ks ds exact index d at = by d.root (λ j x. (exact j).1 (root-reached ns ds index d j at x))
   where
     by : (r : Option NodeId) → ((j : ℕ) → RootReaches ns r j → Keeps ks j) → IsKeptRoot ks r
     by None h = tt
@@ -52,21 +52,21 @@ abbrev number : Option NodeId → Option ℕ
 number r = option_map (λ id. id.index) r
 
 later : (ns : List Node) (r : Option ℕ) (rs : List (Option ℕ)) (j : ℕ) → IsReached ns rs j → IsReached ns (r ∷ rs) j
-later ns r rs j x = record { place = suc x.place; root = x.root; there = x.there; below = x.below }
+later ns r rs j x = record { index = suc x.index; root = x.root; there = x.there; below = x.below }
 
 any-reached : (ns : List Node) (rs : List (Option NodeId)) (j : ℕ) → AnyReaches ns rs j → IsReached ns (map number rs) j
 any-reached ns [] j x = absurd x
 any-reached ns (None ∷ rs) j x = elim x [ inl y ↦ absurd y | inr y ↦ later ns None (map number rs) j (any-reached ns rs j y) ]
 any-reached ns (Some id ∷ rs) j x = elim x [
-  | inl y ↦ record { place = zero; root = id.index; there = refl; below = y }
+  | inl y ↦ record { index = zero; root = id.index; there = refl; below = y }
   | inr y ↦ later ns (Some id.index) (map number rs) j (any-reached ns rs j y)
 ]
 
-reached-any : (ns : List Node) (rs : List (Option NodeId)) (place root j : ℕ) → slice_get (map number rs) place ≡ Some (Some root) → Reaches ns root j → AnyReaches ns rs j
-reached-any ns [] place root j at x = cc
+reached-any : (ns : List Node) (rs : List (Option NodeId)) (index root j : ℕ) → slice_get (map number rs) index ≡ Some (Some root) → Reaches ns root j → AnyReaches ns rs j
+reached-any ns [] index root j at x = cc
 reached-any ns (None ∷ rs) zero root j at x = absurd (cc at)
 reached-any ns (Some id ∷ rs) zero root j at x = let e : id.index ≡ root = cc at in inl (subst (λ n. Reaches ns n j) (sym e) x)
-reached-any ns (r ∷ rs) (suc place) root j at x = inr (reached-any ns rs place root j at x)
+reached-any ns (r ∷ rs) (suc index) root j at x = inr (reached-any ns rs index root j at x)
 
 numbers : (ds : List Doc) → map number (roots_of ds) ≡ root_indices ds
 numbers [] = refl
@@ -90,21 +90,21 @@ kept-count ns ks ms ds t exact = record {
 }
   where
     to : (i : ℕ) → IsReached ns (root_indices ds) i → Keeps ks i
-    to i p = let q = subst (λ (rs : List (Option ℕ)). IsReached ns rs i) (sym (numbers ds)) p in (exact i).1 (reached-any ns (roots_of ds) q.place q.root i q.there q.below)
+    to i p = let q = subst (λ (rs : List (Option ℕ)). IsReached ns rs i) (sym (numbers ds)) p in (exact i).1 (reached-any ns (roots_of ds) q.index q.root i q.there q.below)
 
 -- the trees of the written documents
 trees-thin : (ns : List Node) (ks : List Bool) (ms : List Node) → IsCompactionOf ns ks ms → (ds : List Doc) → KeepsRoots ks ds → rooted ns ds ≡ map (λ d. (d.name, option_map (λ i. tree ms i) d.root)) (saved (rank ks) ds)
 trees-thin ns ks ms t [] kept = refl
-trees-thin ns ks ms t (d ∷ ds) kept = λ j. (d.name, by d.root (kept zero d refl) j) ∷ trees-thin ns ks ms t ds (λ place e at. kept (suc place) e at) j
+trees-thin ns ks ms t (d ∷ ds) kept = λ j. (d.name, by d.root (kept zero d refl) j) ∷ trees-thin ns ks ms t ds (λ index e at. kept (suc index) e at) j
   where
     by : (r : Option NodeId) → IsKeptRoot ks r → root_tree ns r ≡ option_map (λ i. tree ms i) (option_map (λ id. rank ks id.index) r)
     by None k = refl
     by (Some id) k = ap Some (sym (t.trees id.index k))
 
 -- the numbers of roots are below the count
-place-within : (ns : List Node) (ks : List Bool) (ms : List Node) → IsCompactionOf ns ks ms → (r : Option NodeId) → IsKeptRoot ks r → IsNextDocument (length ms) (option_map (λ id. rank ks id.index) r)
-place-within ns ks ms t None kept = tt
-place-within ns ks ms t (Some id) kept = t.live id.index kept
+index-within : (ns : List Node) (ks : List Bool) (ms : List Node) → IsCompactionOf ns ks ms → (r : Option NodeId) → IsKeptRoot ks r → IsNextDocument (length ms) (option_map (λ id. rank ks id.index) r)
+index-within ns ks ms t None kept = tt
+index-within ns ks ms t (Some id) kept = t.live id.index kept
 
 -- the written documents may follow one another
 put-long : (ds : List Doc) (name : List ℕ) (root : Option NodeId) → is_among (map (λ d. d.name) ds) name ≡ true → length (put ds name root) ≡ length ds
@@ -151,7 +151,7 @@ all-next f count ds apart named placed (suc k) le =
 pub record IsWhole (ns : List Node) (ds : List Doc) (bytes : List ℕ) (nodes : ℕ) : Type 0 where
   pub records : List Node
   pub documents : List Document
-  pub bytes_are : bytes ≡ front ++ body_bytes records documents
+  pub bytes_are : bytes ≡ prefix ++ body_bytes records documents
   pub count : nodes ≡ length records
   pub accepted : (contents node_at (body_bytes records documents)).answer ≡ Ok (record { records = records; documents = documents })
   pub reached : (j : ℕ) → j < length records → IsReached records (map (λ d. d.root) documents) j
@@ -163,11 +163,11 @@ gather : (f n r c d : List ℕ) → ((([] ++ (f ++ n)) ++ r) ++ c) ++ d ≡ f ++
 gather f n r c d = append_assoc ((f ++ n) ++ r) c d ∙ (append_assoc (f ++ n) r (c ++ d) ∙ append_assoc f n (r ++ (c ++ d)))
 
 pub whole-from : (ns : List Node) (ks : List Bool) (ms : List Node) (ds : List Doc) (nodes : ℕ) (a b c d : List ℕ) → AreLive ns ds → AreDistinctNames ds → KeepsExactly ns ks (roots_of ds) → IsCompactionOf ns ks ms → IsSound ms → AreDistinct ms → nodes ≡ length ms → nodes < 2 ^ 64 → length ds < 2 ^ 64
-    → a ≡ [] ++ (front ++ big_bytes 8 nodes) → b ≡ a ++ records_bytes ms → c ≡ b ++ big_bytes 8 (length ds) → AreSaved (rank ks) ds (length ds) c d → IsWhole ns ds d nodes
+    → a ≡ [] ++ (prefix ++ big_bytes 8 nodes) → b ≡ a ++ records_bytes ms → c ≡ b ++ big_bytes 8 (length ds) → AreSaved (rank ks) ds (length ds) c d → IsWhole ns ds d nodes
 whole-from ns ks ms ds nodes a b c d live names exact t sound apart count short few ea eb ec s = record {
   records = ms;
   documents = fs;
-  bytes_are = s.bytes ∙ ((λ j. ec j ++ documents_bytes (all j)) ∙ ((λ j. (eb j ++ big_bytes 8 (size j)) ++ documents_bytes fs) ∙ ((λ j. ((ea j ++ records_bytes ms) ++ big_bytes 8 (length fs)) ++ documents_bytes fs) ∙ ((λ j. ((([] ++ (front ++ big_bytes 8 (count j))) ++ records_bytes ms) ++ big_bytes 8 (length fs)) ++ documents_bytes fs) ∙ gather front (big_bytes 8 (length ms)) (records_bytes ms) (big_bytes 8 (length fs)) (documents_bytes fs)))));
+  bytes_are = s.bytes ∙ ((λ j. ec j ++ documents_bytes (all j)) ∙ ((λ j. (eb j ++ big_bytes 8 (size j)) ++ documents_bytes fs) ∙ ((λ j. ((ea j ++ records_bytes ms) ++ big_bytes 8 (length fs)) ++ documents_bytes fs) ∙ ((λ j. ((([] ++ (prefix ++ big_bytes 8 (count j))) ++ records_bytes ms) ++ big_bytes 8 (length fs)) ++ documents_bytes fs) ∙ gather prefix (big_bytes 8 (length ms)) (records_bytes ms) (big_bytes 8 (length fs)) (documents_bytes fs)))));
   count = count;
   accepted = contents-again ms fs fits (omega (arith, size, few)) (all-follow ms sound fits) next;
   reached = λ j lt. subst (λ (rs : List (Option ℕ)). IsReached ms rs j) (new-numbers ks ds) (any-reached ms (map (moved ks) (roots_of ds)) j (t.reached (roots_of ds) exact j lt));
@@ -193,7 +193,7 @@ whole-from ns ks ms ds nodes a b c d live names exact t sound apart count short 
 
     next : AllNext (length ms) [] fs
     next = subst (λ (xs : List Document). AllNext (length ms) [] xs) all
-        (all-next (rank ks) (length ms) ds names (λ i e at. s.named i e (slice_get_within ds i e at) at) (λ i e at. place-within ns ks ms t e.root (kept i e at)) (length ds) (omega arith))
+        (all-next (rank ks) (length ms) ds names (λ i e at. s.named i e (slice_get_within ds i e at) at) (λ i e at. index-within ns ks ms t e.root (kept i e at)) (length ds) (omega arith))
 
 -- and what holds of it
 pub whole-form : (ns : List Node) (ds : List Doc) (bytes : List ℕ) (nodes : ℕ) → IsWhole ns ds bytes nodes → SaveForm bytes
@@ -212,10 +212,10 @@ whole-nodes ns ds bytes nodes w = record { live = w.live; whole = record { recor
 pub whole-documents : (ns : List Node) (ds : List Doc) (bytes : List ℕ) (nodes : ℕ) → IsWhole ns ds bytes nodes → (image bytes).answer ≡ Ok (record { documents = plain ns ds; nodes = nodes })
 whole-documents ns ds bytes nodes w =
     let body : List ℕ = body_bytes w.records w.documents in
-    let one = image-one (front ++ body_bytes w.records w.documents) (body_bytes w.records w.documents) 1 (version-again (body_bytes w.records w.documents)) refl in
+    let one = image-one (prefix ++ body_bytes w.records w.documents) (body_bytes w.records w.documents) 1 (version-again (body_bytes w.records w.documents)) refl in
     ap (λ bs. (image bs).answer) w.bytes_are ∙ (ap (λ (o : Outcome Meaning). o.answer) one
     ∙ (nodes-meant ns (contents node_at (body_bytes w.records w.documents)) ds (whole-nodes ns ds bytes nodes w) ∙ ap (λ n. Ok (record { documents = plain ns ds; nodes = n })) (sym w.count)))
 
 pub whole-trees : (ns : List Node) (ds : List Doc) (bytes : List ℕ) (nodes : ℕ) → IsWhole ns ds bytes nodes → HaveTrees bytes ns ds
 whole-trees ns ds bytes nodes w =
-    subst (λ (bs : List ℕ). HaveTrees bs ns ds) (sym w.bytes_are) (trees-one (front ++ body_bytes w.records w.documents) (body_bytes w.records w.documents) 1 ns (Ok ds) (version-again (body_bytes w.records w.documents)) (whole-nodes ns ds bytes nodes w))
+    subst (λ (bs : List ℕ). HaveTrees bs ns ds) (sym w.bytes_are) (trees-one (prefix ++ body_bytes w.records w.documents) (body_bytes w.records w.documents) 1 ns (Ok ds) (version-again (body_bytes w.records w.documents)) (whole-nodes ns ds bytes nodes w))

@@ -53,14 +53,14 @@ records-again (n ∷ more) ns cost rest h =
     let again = records-again more (ns ++ n ∷ []) (cost + pair_weight n) rest h.2 in
     ap (λ bs. (records_onto node_at (suc (length more)) ns cost bs).answer) split ∙ (ap (λ (t : Outcome (List Node × List ℕ)). t.answer) step ∙ (again ∙ ap (λ (ms : List Node). Ok (ms, rest)) (append_assoc ns (n ∷ []) more)))
 
-drop-front : (xs ys : List ℕ) → drop (length xs) (xs ++ ys) ≡ ys
-drop-front [] ys = refl
-drop-front (x ∷ xs) ys = drop-front xs ys
+drop-prefix : (xs ys : List ℕ) → drop (length xs) (xs ++ ys) ≡ ys
+drop-prefix [] ys = refl
+drop-prefix (x ∷ xs) ys = drop-prefix xs ys
 
 bytes-again : (xs rest : List ℕ) → bytes_at (length xs) (xs ++ rest) ≡ Ok (xs, rest)
 bytes-again xs rest =
     let long : ltb (length (xs ++ rest)) (length xs) ≡ false = le-ltb (length (xs ++ rest)) (length xs) (omega (arith, length-append xs rest)) in
-    rw long (λ j. Ok (take-append_seam xs rest j, drop-front xs rest j))
+    rw long (λ j. Ok (take-append_seam xs rest j, drop-prefix xs rest j))
 
 pub name-again : (names : List (List ℕ)) (name rest : List ℕ) → is_name name ≡ true → is_among names name ≡ false → name_at names (length name ∷ (name ++ rest)) ≡ Ok (name, rest)
 unfolding name_at
@@ -99,9 +99,9 @@ contents-again ms ds k short follow next =
     ∙ whole-is (records_onto node_at (length ms) [] 0 (records_bytes ms ++ (big_bytes 8 (length ds) ++ documents_bytes ds))) ms (big_bytes 8 (length ds) ++ documents_bytes ds) ds
     (records-again ms [] 0 (big_bytes 8 (length ds) ++ documents_bytes ds) follow) (tail-again (length ms) ds k short next)
 
-abbrev pub front : List ℕ
-front = 83 ∷ (76 ∷ (80 ∷ (73 ∷ (1 ∷ []))))
+abbrev pub prefix : List ℕ
+prefix = 83 ∷ (76 ∷ (80 ∷ (73 ∷ (1 ∷ []))))
 
-pub version-again : (rest : List ℕ) → version_at (front ++ rest) ≡ Ok (1, rest)
+pub version-again : (rest : List ℕ) → version_at (prefix ++ rest) ≡ Ok (1, rest)
 unfolding version_at version_of
 version-again rest = rw (bytes-again (83 ∷ (76 ∷ (80 ∷ (73 ∷ [])))) (1 ∷ rest)) refl

@@ -7,9 +7,9 @@ use Rattle.slp_image.specs.Image.{Contents, contents, node_at, version_at}
 
 -- one of the roots reaches the node
 pub record IsReached (ns : List Node) (roots : List (Option ℕ)) (j : ℕ) : Type 0 where
-  pub place : ℕ
+  pub index : ℕ
   pub root : ℕ
-  pub there : slice_get roots place ≡ Some (Some root)
+  pub there : slice_get roots index ≡ Some (Some root)
   pub below : Reaches ns root j
 
 -- no two nodes are equal, and each is reachable from a document

@@ -8,7 +8,7 @@ use Rattle.slp_image.specs.Written.{documents_bytes}
 
 -- each document's root is none, or its node is kept
 abbrev pub KeepsRoots : List Bool → List Doc → Type 0
-KeepsRoots keep ds = (place : ℕ) (d : Doc) → slice_get ds place ≡ Some d → IsKeptRoot keep d.root
+KeepsRoots keep ds = (index : ℕ) (d : Doc) → slice_get ds index ≡ Some d → IsKeptRoot keep d.root
 
 -- the documents, with new numbers for their roots
 abbrev pub saved : (ℕ → ℕ) → List Doc → List Document

@@ -93,8 +93,8 @@ pub(crate) fn push_documents(out: &mut Vec<u8>, docs: &Docs, moves: &Moves) -> R
     requires { KeepsRoots moves.now docs.now }
     ensures { OnOk result (AreSaved (rank moves.now) docs.now (length docs.now) out.old.items out.new.items) }
 {
-    for place in 0..docs.count() {
-        let (name, root) = docs.at(place);
+    for index in 0..docs.count() {
+        let (name, root) = docs.at(index);
         push_document(out, name, number_of(root, moves))?;
     }
     Ok(())

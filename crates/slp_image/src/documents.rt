@@ -42,14 +42,14 @@ fn name<'a>(alloc: Global, bytes: &'a [u8], docs: &Docs) -> Result<(Name, &'a [u
 fn root<'a>(bytes: &'a [u8], roots: &Roots) -> Result<(Option<NodeId>, &'a [u8]), ImageRefusal>
     ensures { ReadsRoot (λ x. (x.0, x.1.now)) roots.now bytes.now result }
 {
-    let (place, rest) = number(bytes)?;
-    if place == u64::MAX {
+    let (index, rest) = number(bytes)?;
+    if index == u64::MAX {
         return Ok((None, rest));
     }
-    if place >= roots.count() as u64 {
+    if index >= roots.count() as u64 {
         return Err(ImageRefusal::Root);
     }
-    Ok((Some(roots.root(place as usize)), rest))
+    Ok((Some(roots.root(index as usize)), rest))
 }
 
 // Reads a document and adds it to those before it.

@@ -28,8 +28,8 @@ pub(crate) fn number(bytes: &[u8]) -> Result<(u64, &[u8]), ImageRefusal>
     if bytes.len() < 8 {
         return Err(ImageRefusal::Cut);
     }
-    let (front, rest) = bytes.split_at(8);
-    Ok((BigEndian::read_u64(front), rest))
+    let (prefix, rest) = bytes.split_at(8);
+    Ok((BigEndian::read_u64(prefix), rest))
 }
 
 /// Reads `len` bytes. Returns them and the bytes after them.
@@ -48,11 +48,11 @@ pub(crate) fn child(bytes: &[u8], own: usize) -> Result<(usize, &[u8]), ImageRef
     ensures read { Gives (λ x. (x.0, x.1.now)) result (child_at own bytes.now) }
     ensures below { IfOk result (λ x. x.0 < own) }
 {
-    let (place, rest) = number(bytes)?;
-    if place >= own as u64 {
+    let (index, rest) = number(bytes)?;
+    if index >= own as u64 {
         return Err(ImageRefusal::Child);
     }
-    Ok((place as usize, rest))
+    Ok((index as usize, rest))
 }
 
 // Reads the version, which follows the magic bytes.

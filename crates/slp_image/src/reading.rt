@@ -84,10 +84,10 @@ pub fn read<L: Ledger>(
 
 /// Whether the first bytes of a file, at least four, are those of an image. If they are not, the bytes after them don't
 /// change what `read` returns, so a caller needn't read them. Takes constant time.
-pub fn begins_image(front: &[u8]) -> bool
-    requires { 4 ≤ length front.now }
-    ensures value { result ≡ is_magic (take 4 front.now) }
-    ensures settled { result ≡ false → (rest : List ℕ) → image (front.now ++ rest) ≡ image front.now }
+pub fn begins_image(prefix: &[u8]) -> bool
+    requires { 4 ≤ length prefix.now }
+    ensures value { result ≡ is_magic (take 4 prefix.now) }
+    ensures settled { result ≡ false → (rest : List ℕ) → image (prefix.now ++ rest) ≡ image prefix.now }
 {
-    is_magic(&front[..4])
+    is_magic(&prefix[..4])
 }

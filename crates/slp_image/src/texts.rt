@@ -38,13 +38,13 @@ fn join_entry<'a, L: Ledger>(
     Ok(rest)
 }
 
-// Whether `times` copies of the entry at index `place` have at most 2^48 bytes.
-fn is_short_run(roots: &Roots, store: &Store, place: usize, times: u64) -> bool
+// Whether `times` copies of the entry at index `index` have at most 2^48 bytes.
+fn is_short_run(roots: &Roots, store: &Store, index: usize, times: u64) -> bool
     requires live { AreLiveIds store.now roots.now }
-    requires place { place < length roots.now }
-    ensures { result ≡ nat_le (times * leaves (get_or (entry_trees store.now roots.now) place (Leaf 0))) (2 ^ 48) }
+    requires index { index < length roots.now }
+    ensures { result ≡ nat_le (times * leaves (get_or (entry_trees store.now roots.now) index (Leaf 0))) (2 ^ 48) }
 {
-    match times.checked_mul(store.len(roots.root(place))) {
+    match times.checked_mul(store.len(roots.root(index))) {
         Some(len) => len <= 1 << 48,
         None => false,
     }
@@ -65,15 +65,15 @@ fn run_entry<'a, L: Ledger>(
     ensures cost { (ts : List (List ℕ)) → map text (entry_trees store.old roots.old) ≡ ts → pairs.new ≤ pairs.old + cost_of (text_run ts bytes.now) }
 {
     let own = roots.count();
-    let (place, after) = child(bytes, own)?;
+    let (index, after) = child(bytes, own)?;
     let (times, rest) = number(after)?;
     if times == 0 {
         return Err(ImageRefusal::Count);
     }
-    if !is_short_run(roots, store, place, times) {
+    if !is_short_run(roots, store, index, times) {
         return Err(ImageRefusal::Length);
     }
-    roots.repeat(store, place, times, pairs)?;
+    roots.repeat(store, index, times, pairs)?;
     Ok(rest)
 }
 

@@ -60,8 +60,8 @@ fn plan_of(alloc: Global, docs: &Docs, store: &Store) -> Result<Plan, NoMemory>
     ensures kept { IfOk result (λ plan. KeepsExactly store.now plan (roots_of docs.now)) }
 {
     let mut plan = Plan::new(alloc, store)?;
-    for place in 0..docs.count() {
-        let (_, root) = docs.at(place);
+    for index in 0..docs.count() {
+        let (_, root) = docs.at(index);
         plan.keep_root(store, root)?;
     }
     Ok(plan)

@@ -16,8 +16,8 @@ use Rattle.slp_model.proofs.KeptLemmas.{cases_eq}
 use Rattle.slp_model.proofs.RankLemmas.{rank-kept, rank-other, rank-below, rank-apart, kept-within, kept-on, kept-skip}
 
 -- an element of a list with one more
-get-front : {X : Type 0} (xs : List X) (x y : X) (i : ℕ) → slice_get xs i ≡ Some y → slice_get (xs ++ x ∷ []) i ≡ Some y
-get-front xs x y i h =
+get-prefix : {X : Type 0} (xs : List X) (x y : X) (i : ℕ) → slice_get xs i ≡ Some y → slice_get (xs ++ x ∷ []) i ≡ Some y
+get-prefix xs x y i h =
     let lt : i < length xs = slice_get_within xs i y h in
     let more : i < length (xs ++ x ∷ []) = omega (arith, lt, length-append xs (x ∷ [])) in
     slice_get-get_or (xs ++ x ∷ []) i y more ∙ ap Some (get_or_append_left xs (x ∷ []) y i lt ∙ get_or_from_slice_get xs i y y h)
@@ -87,7 +87,7 @@ so-far-on ns ks k ms n t sound plan keep at = record {
         let same : Some m ≡ Some n = sym is ∙ (ap (λ p. slice_get ns p) e ∙ at) in
         let one : m ≡ n = cc same in
         get-last ms x (rank ks i) (ap (rank ks) e ∙ sym t.long) ∙ ap (λ (p : Node). Some (renumbered (rank ks) p)) (sym one)
-    | inr ne ↦ get-front ms x (renumbered (rank ks) m) (rank ks i) (t.node i m (omega (arith, lt, ne)) im is)
+    | inr ne ↦ get-prefix ms x (renumbered (rank ks) m) (rank ks i) (t.node i m (omega (arith, lt, ne)) im is)
   ];
   back = λ j lt. elim (cases_lt j (length ms)) [
     | inl old ↦ let w = t.back j old in (w.0, omega (arith, w.1), w.2, w.3)
@@ -215,11 +215,11 @@ next-new ns ks k n sound plan apart keep at j h =
 
 -- where a node of the compacted store comes from
 record ComesFrom (ns : List Node) (ks : List Bool) (j : ℕ) (m : Node) : Type 0 where
-  pub place : ℕ
-  pub kept : Keeps ks place
-  pub rank_is : rank ks place ≡ j
+  pub index : ℕ
+  pub kept : Keeps ks index
+  pub rank_is : rank ks index ≡ j
   pub node : Node
-  pub at : slice_get ns place ≡ Some node
+  pub at : slice_get ns index ≡ Some node
   pub is : m ≡ renumbered (rank ks) node
 
 comes-from : (ns : List Node) (ks : List Bool) (ms : List Node) → IsSoFar ns ks (length ns) ms → (j : ℕ) (m : Node) → slice_get ms j ≡ Some m → ComesFrom ns ks j m
@@ -228,14 +228,14 @@ comes-from ns ks ms t j m h =
     let x = node-of ns v.0 v.1 in
     let a : slice_get ms j ≡ Some (renumbered (rank ks) x.0) = ap (λ p. slice_get ms p) (sym v.3) ∙ t.node v.0 x.0 v.1 v.2 x.1 in
     let c : Some m ≡ Some (renumbered (rank ks) x.0) = sym h ∙ a in
-    record { place = v.0; kept = v.2; rank_is = v.3; node = x.0; at = x.1; is = cc c }
+    record { index = v.0; kept = v.2; rank_is = v.3; node = x.0; at = x.1; is = cc c }
 
 thin-distinct : (ns : List Node) (ks : List Bool) (ms : List Node) → IsSoFar ns ks (length ns) ms → IsPlanOf ns ks → AreDistinct ns → AreDistinct ms
 thin-distinct ns ks ms t plan apart i j n hi hj =
     let v = comes-from ns ks ms t i n hi in
     let w = comes-from ns ks ms t j n hj in
-    let e : v.node ≡ w.node = renumber-apart ks v.node w.node (λ l r q. plan.closed v.place l r (v.at ∙ ap Some q) v.kept) (λ l r q. plan.closed w.place l r (w.at ∙ ap Some q) w.kept) (sym v.is ∙ w.is) in
-    let f : v.place ≡ w.place = apart v.place w.place w.node (v.at ∙ ap Some e) w.at in
+    let e : v.node ≡ w.node = renumber-apart ks v.node w.node (λ l r q. plan.closed v.index l r (v.at ∙ ap Some q) v.kept) (λ l r q. plan.closed w.index l r (w.at ∙ ap Some q) w.kept) (sym v.is ∙ w.is) in
+    let f : v.index ≡ w.index = apart v.index w.index w.node (v.at ∙ ap Some e) w.at in
     sym v.rank_is ∙ (ap (rank ks) f ∙ w.rank_is)
 
 pub byte-renumbered : (f : ℕ → ℕ) (n : Node) → IsOfByte n → IsOfByte (renumbered f n)
@@ -245,7 +245,7 @@ byte-renumbered f (Pair l r) h = tt
 thin-bytes : (ns : List Node) (ks : List Bool) (ms : List Node) → IsSoFar ns ks (length ns) ms → AreOfBytes ns → AreOfBytes ms
 thin-bytes ns ks ms t bytes j m h =
     let v = comes-from ns ks ms t j m h in
-    subst IsOfByte (sym v.is) (byte-renumbered (rank ks) v.node (bytes v.place v.node v.at))
+    subst IsOfByte (sym v.is) (byte-renumbered (rank ks) v.node (bytes v.index v.node v.at))
 
 pub thin-law : CompactionLaw
 thin-law ns ks sound plan = record {

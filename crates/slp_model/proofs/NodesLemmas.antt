@@ -102,12 +102,12 @@ IsSound-push ns n s below bal short = record {
     | inl old ↦ s.children i m old.1
     | inr new ↦ subst (λ x. IsBelow i x) new.1 (subst (λ k. IsBelow k n) (sym new.0) below)
   ];
-  balanced = λ i h. by_place IsBalanced i h (s.balanced i) bal;
-  short = λ i h. by_place (λ t. leaves t ≤ 2 ^ 48) i h (s.short i) short;
+  balanced = λ i h. by_index IsBalanced i h (s.balanced i) bal;
+  short = λ i h. by_index (λ t. leaves t ≤ 2 ^ 48) i h (s.short i) short;
 }
   where
-    by_place : (P : Tree → Type 0) (i : ℕ) → i < length (ns ++ n ∷ []) → (i < length ns → P (tree ns i)) → P (node_tree (trees ns) n) → P (tree (ns ++ n ∷ []) i)
-    by_place P i h old new = elim (cases_lt i (length ns)) [
+    by_index : (P : Tree → Type 0) (i : ℕ) → i < length (ns ++ n ∷ []) → (i < length ns → P (tree ns i)) → P (node_tree (trees ns) n) → P (tree (ns ++ n ∷ []) i)
+    by_index P i h old new = elim (cases_lt i (length ns)) [
       | inl lt ↦ subst P (sym (tree-append ns (n ∷ []) i lt)) (old lt)
       | inr ge ↦
           let e : length ns ≡ i = omega (arith, length-append ns (n ∷ [])) in

@@ -69,11 +69,11 @@ impl Roots {
     }
 
     /// The entry at this index, counted from 0.
-    pub fn root(&self, place: usize) -> NodeId
-        requires { place < length self.now }
-        ensures { slice_get self.now place ≡ Some result }
+    pub fn root(&self, index: usize) -> NodeId
+        requires { index < length self.now }
+        ensures { slice_get self.now index ≡ Some result }
     {
-        self.ids[place]
+        self.ids[index]
     }
 
     /// Appends an entry with this one byte.

@@ -82,8 +82,8 @@ pub fn extract<L: Ledger>(
     ensures low { IfOk result (λ r. root_height (root_tree store.new r) ≤ root_height (root_tree store.old root)) }
     ensures cost { pairs.new ≤ pairs.old + 20 * root_height (root_tree store.old root) }
 {
-    let (front, _) = split(store, root, j, pairs)?;
-    let (_, middle) = split(store, front, i, pairs)?;
+    let (prefix, _) = split(store, root, j, pairs)?;
+    let (_, middle) = split(store, prefix, i, pairs)?;
     Ok(middle)
 }
 

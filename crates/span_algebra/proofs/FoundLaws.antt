@@ -22,7 +22,7 @@ use Rattle.span_algebra.specs.TreeAutomaton.{JoinStep, join_size, pair_of}
 use Rattle.span_algebra.proofs.CopyLaws.{step-within}
 use Rattle.span_algebra.proofs.JoinLaws.{AreApart, same-pair}
 use Rattle.span_algebra.proofs.JointLaws.{joint-forth, joint-back, short-with}
-use Rattle.span_algebra.proofs.SetLaws.{at-place}
+use Rattle.span_algebra.proofs.SetLaws.{at-index}
 
 -- a step of which there is one at most leads from a set of one to a set of one
 module _ (n : ℕ) (Step : ℕ → ℕ → ℕ → ℕ → Type 0) (one : (o m c p q : ℕ) → Step o m c p → Step o m c q → p ≡ q) where
@@ -246,7 +246,7 @@ module _ (a : DeterministicAutomaton) (va : List (List ℕ)) (b : DeterministicA
             Contains-append_left steps found x ((h.steps_are x).1 ((i, lt, old.1 ∙ ap Some same), w))
           where
             at-before : (i : ℕ) → i < k → (p : Pair) × (slice_get pairs i ≡ Some p)
-            at-before i lt = at-place pairs i (omega (arith, lt, get_within pairs k o at))
+            at-before i lt = at-index pairs i (omega (arith, lt, get_within pairs k o at))
         by x i s w (inr n) =
             let there : slice_get more k ≡ Some x.from = subst (λ (j : ℕ). slice_get more j ≡ Some x.from) n s in
             let same : x.from ≡ o = one_value more k x.from o there (g.stays k o at) in

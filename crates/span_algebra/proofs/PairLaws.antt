@@ -120,6 +120,6 @@ targets-refused most old mid steps k s TooManyStates lt at h r = (r.0, no-room-m
     up p (inr q) = (s, (k, lt, at), q)
 targets-refused most old mid steps k s NoMemory lt at h r = tt
 
-pub absent : (xs : List Pair) (x : Pair) (place : Option ℕ) → MatchOption place (Contains xs x → ⊥) (λ i. slice_get xs i ≡ Some x) → is_some place ≡ false → Contains xs x → ⊥
+pub absent : (xs : List Pair) (x : Pair) (index : Option ℕ) → MatchOption index (Contains xs x → ⊥) (λ i. slice_get xs i ≡ Some x) → is_some index ≡ false → Contains xs x → ⊥
 absent xs x None h e c = h c
 absent xs x (Some i) h e c = let bad : true ≡ false = e in absurd (cc)

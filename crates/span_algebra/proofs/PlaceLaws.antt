@@ -33,8 +33,8 @@ early [] (suc k) x c = absurd (omega (arith, c.1))
 early (y ∷ xs) (suc k) x (zero, lt, e) = (0, omega arith, ap Some e)
 early (y ∷ xs) (suc k) x (suc j, lt, e) = let r = early xs k x (j, omega (arith, lt), e) in (suc r.0, omega (arith, r.1), r.2)
 
-one-place : (ns : List Name) (j k : ℕ) (n : Name) → AllPairs (λ a b. a ≢ b) ns → j < k → slice_get ns j ≡ Some n → slice_get ns k ≡ Some n → ⊥
-one-place ns j k n distinct lt ej ek =
+one-index : (ns : List Name) (j k : ℕ) (n : Name) → AllPairs (λ a b. a ≢ b) ns → j < k → slice_get ns j ≡ Some n → slice_get ns k ≡ Some n → ⊥
+one-index ns j k n distinct lt ej ek =
     distinct j k n lt (slice_get_within ns k n ek) (get_or_from_slice_get ns j n n ej ∙ sym (get_or_from_slice_get ns k n n ek))
 
 pub has-contains : (ns : List Name) (n : Name) → has_name ns n ≡ true → Contains ns n
@@ -91,7 +91,7 @@ both-has va vb k n distinct e c = by (Contains-append_cases va (lacking va (take
   where
     by : Contains va n ⊎ Contains (lacking va (take k vb)) n → Contains va n
     by (inl x) = x
-    by (inr x) = let w = early vb k n (lacking-in va (take k vb) n x) in absurd (one-place vb w.0 k n distinct w.1 w.2 e)
+    by (inr x) = let w = early vb k n (lacking-in va (take k vb) n x) in absurd (one-index vb w.0 k n distinct w.1 w.2 e)
 
 left-has : (va ws : List Name) (n : Name) → Contains va n → Contains (va ++ ws) n
 left-has [] ws n c = absurd (omega (arith, c.1))
@@ -152,14 +152,14 @@ markers-some (x ∷ from) m zero n distinct h =
 markers-some (x ∷ from) m (suc v) n distinct h = by (same_name x n) refl (markers-some from (m / 4) v n (λ i j d a b. distinct (suc i) (suc j) d (omega (arith, a)) (omega (arith, b))) h)
   where
     by : (b : Bool) → same_name x n ≡ b → markers from (m / 4) n ≡ (m / 4 / 4 ^ v) % 4 → (if b then m % 4 else markers from (m / 4) n) ≡ (m / 4 ^ suc v) % 4
-    by true e g = absurd (one-place (x ∷ from) 0 (suc v) n distinct (omega arith) (ap Some (same-is x n e)) h)
+    by true e g = absurd (one-index (x ∷ from) 0 (suc v) n distinct (omega arith) (ap Some (same-is x n e)) h)
     by false e g =
         let p : 4 * 4 ^ v ≡ 4 ^ suc v = omega (arith, pow-suc 4 v) in
         g ∙ ap (λ y. y % 4) (div-div-eq-div-mul m 4 (4 ^ v)) ∙ ap (λ y. (m / y) % 4) p
 
-place-right : (from : List Name) (n : Name) (place : Option ℕ) (m : ℕ) → AreVars from → MatchOption place (Contains from n → ⊥) (λ v. slice_get from v ≡ Some n) → digit_at place m ≡ markers from m n
-place-right from n None m vars h = sym (markers-none from m n h)
-place-right from n (Some v) m vars h = sym (markers-some from m v n vars.distinct h)
+index-right : (from : List Name) (n : Name) (index : Option ℕ) (m : ℕ) → AreVars from → MatchOption index (Contains from n → ⊥) (λ v. slice_get from v ≡ Some n) → digit_at index m ≡ markers from m n
+index-right from n None m vars h = sym (markers-none from m n h)
+index-right from n (Some v) m vars h = sym (markers-some from m v n vars.distinct h)
 
 mark_by-push : (ps : List (Option ℕ)) (p : Option ℕ) (m : ℕ) → mark_by (ps ++ p ∷ []) m ≡ mark_by ps m + 4 ^ length ps * digit_at p m
 mark_by-push [] p m = omega arith
@@ -192,9 +192,9 @@ small-push [] p h g = g
 small-push (None ∷ ps) p h g = small-push ps p h g
 small-push (Some v ∷ ps) p h g = (h.0, small-push ps p h.1 g)
 
-small-place : (from : List Name) (n : Name) (place : Option ℕ) → AreVars from → MatchOption place (Contains from n → ⊥) (λ v. slice_get from v ≡ Some n) → AreIndices (place ∷ [])
-small-place from n None vars h = tt
-small-place from n (Some v) vars h = (omega (arith, slice_get_within from v n h, vars.few), tt)
+small-index : (from : List Name) (n : Name) (index : Option ℕ) → AreVars from → MatchOption index (Contains from n → ⊥) (λ v. slice_get from v ≡ Some n) → AreIndices (index ∷ [])
+small-index from n None vars h = tt
+small-index from n (Some v) vars h = (omega (arith, slice_get_within from v n h, vars.few), tt)
 
 pub no-places : (from : List Name) → AreIndicesOf [] from []
 no-places from = record { size = refl; small = tt; marks = λ m. refl }
@@ -210,12 +210,12 @@ places-next to from k n ps new p vars e made h is =
     let R : List Name → List (Option ℕ) → Type 0 = λ l q. AreIndicesOf l from q in
     let whole : AreIndicesOf (take k to ++ n ∷ []) from (ps ++ p ∷ []) = record {
       size = length-push ps p ∙ ap suc is.size ∙ sym (length-push (take k to) n);
-      small = small-push ps p is.small (small-place from n p vars h);
+      small = small-push ps p is.small (small-index from n p vars h);
       marks = λ m. (
           mark_by-push ps p m
           ∙ ap (λ x. x + 4 ^ length ps * digit_at p m) (is.marks m)
           ∙ ap (λ j. mark_for (take k to) from m + 4 ^ j * digit_at p m) is.size
-          ∙ ap (λ d. mark_for (take k to) from m + 4 ^ length (take k to) * d) (place-right from n p m vars h)
+          ∙ ap (λ d. mark_for (take k to) from m + 4 ^ length (take k to) * d) (index-right from n p m vars h)
           ∙ sym (mark_for-push (take k to) from n m)
           );
     } in

@@ -79,9 +79,9 @@ put-new l n b h = by (eqb_tells b n)
     by (inl e) = inl e.1
     by (inr ne) = inr (sym (get_or-set_other l n b true false ne.1) ∙ h)
 
-pub at-place : {X : Type 0} (xs : List X) (q : ℕ) → q < length xs → (x : X) × (slice_get xs q ≡ Some x)
-at-place [] q lt = absurd (omega (arith, lt))
-at-place (x ∷ xs) q lt = (get_or (x ∷ xs) q x, slice_get-get_or (x ∷ xs) q x lt)
+pub at-index : {X : Type 0} (xs : List X) (q : ℕ) → q < length xs → (x : X) × (slice_get xs q ≡ Some x)
+at-index [] q lt = absurd (omega (arith, lt))
+at-index (x ∷ xs) q lt = (get_or (x ∷ xs) q x, slice_get-get_or (x ∷ xs) q x lt)
 
 -- a list with a partner at each index
 choose-all : {X : Type 0} (P : X → X → Type 0) (xs : List X) → ((q : ℕ) (x : X) → slice_get xs q ≡ Some x → (y : X) × P x y) → (ys : List X) × (length ys ≡ length xs) × ((q : ℕ) (y : X) → slice_get ys q ≡ Some y → (x : X) × (slice_get xs q ≡ Some x) × P x y)
@@ -230,7 +230,7 @@ module _ {n k : ℕ} {S T : ℕ → ℕ → ℕ → ℕ → Type 0} {E F : ℕ �
 
           to : (q : ℕ) (x u : Subset) → slice_get xs q ≡ Some x → IsImage n k R x u → slice_get us.0 q ≡ Some u
           to q x u e g =
-              let v = at-place us.0 q (omega (arith, get_within xs q x e, us.1)) in
+              let v = at-index us.0 q (omega (arith, get_within xs q x e, us.1)) in
               let y = us.2 q v.0 v.1 in
               let same = subst (λ (z : Subset). IsImage n k R z v.0) (one_value xs q y.0 x y.1 e) y.2.0 in
               v.1 ∙ ap Some (one-image h x v.0 u same g)

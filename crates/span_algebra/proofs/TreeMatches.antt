@@ -34,18 +34,18 @@ turned-same d e Q h = record {
 }
 
 module _ {n : ℕ} {S : ℕ → ℕ → ℕ → ℕ → Type 0} {E : ℕ → ℕ → Type 0} (d e : DeterministicAutomaton) (f : IsAutomatonOf n S E d) (g : IsAutomatonOf n S E e) where
-  place-one : (q r p : ℕ) → Placed f.subsets g.subsets q r → Placed f.subsets g.subsets q p → r ≡ p
-  place-one q r p s t = g.sets.apart r p s.0 s.2 (subst (λ (z : Subset). slice_get g.subsets p ≡ Some z) (one_value f.subsets q t.0 s.0 t.1 s.1) t.2)
+  index-one : (q r p : ℕ) → Placed f.subsets g.subsets q r → Placed f.subsets g.subsets q p → r ≡ p
+  index-one q r p s t = g.sets.apart r p s.0 s.2 (subst (λ (z : Subset). slice_get g.subsets p ≡ Some z) (one_value f.subsets q t.0 s.0 t.1 s.1) t.2)
 
-  place-right : (q : ℕ) → q < states_of d → (r : ℕ) × Placed f.subsets g.subsets q r
-  place-right q lt =
+  index-right : (q : ℕ) → q < states_of d → (r : ℕ) × Placed f.subsets g.subsets q r
+  index-right q lt =
       let x = get_or f.subsets q [] in
       let at : slice_get f.subsets q ≡ Some x = slice_get-get_or f.subsets q [] (omega (arith, lt, f.states)) in
       let r = g.all x (f.sets.reached q x at) in
       (r.0, (x, at, r.1))
 
-  place-forth : (q r m b p : ℕ) → Placed f.subsets g.subsets q r → Goes d q m b p → (v : ℕ) × Goes e r m b v × Placed f.subsets g.subsets p v
-  place-forth q r m b p s step = by (next_of e r m b) refl (f.goes q m b p s.0 s.1 step)
+  index-forth : (q r m b p : ℕ) → Placed f.subsets g.subsets q r → Goes d q m b p → (v : ℕ) × Goes e r m b v × Placed f.subsets g.subsets p v
+  index-forth q r m b p s step = by (next_of e r m b) refl (f.goes q m b p s.0 s.1 step)
     where
       by : (o : Option ℕ) → next_of e r m b ≡ o → (y : Subset) × (i : ℕ) × (slice_get f.subsets p ≡ Some y) × IsMove n S s.0 m b y × IsIn y i → (v : ℕ) × Goes e r m b v × Placed f.subsets g.subsets p v
       by None none y = let o = (y.3.members y.1).0 y.4 in absurd (g.stays r m b s.0 s.2 none o.0 y.1 o.1 o.2)
@@ -59,15 +59,15 @@ same-automata {n = n} {S = S} {E = E} d e f g variables = record {
   states = record {
     starts = (start_set n, f.start, g.start);
     within = λ q r s. ((λ lt. (within q r s).1), (λ lt. (within q r s).0));
-    one_right = place-one d e f g;
-    one_left = λ q p r s t. place-one e d g f r q p (s.0, s.2, s.1) (t.0, t.2, t.1);
-    forth = place-forth d e f g;
-    back = λ q r m b v s step. (let p = place-forth e d g f r q m b v (s.0, s.2, s.1) step in (p.0, p.1, (p.2.0, p.2.2, p.2.1)));
+    one_right = index-one d e f g;
+    one_left = λ q p r s t. index-one e d g f r q p (s.0, s.2, s.1) (t.0, t.2, t.1);
+    forth = index-forth d e f g;
+    back = λ q r m b v s step. (let p = index-forth e d g f r q m b v (s.0, s.2, s.1) step in (p.0, p.1, (p.2.0, p.2.2, p.2.1)));
     ends = λ q r m s. (let x = f.ends_are q m s.0 s.1 in let y = g.ends_are r m s.0 s.2 in ((λ c. y.1 (x.0 c)), (λ c. x.1 (y.0 c))));
   };
   within = within;
-  right = place-right d e f g;
-  left = λ r lt. (let q = place-right e d g f r lt in (q.0, (q.1.0, q.1.2, q.1.1)));
+  right = index-right d e f g;
+  left = λ r lt. (let q = index-right e d g f r lt in (q.0, (q.1.0, q.1.2, q.1.1)));
 }
   where
     within : (q r : ℕ) → Placed f.subsets g.subsets q r → (q < states_of d) × (r < states_of e)

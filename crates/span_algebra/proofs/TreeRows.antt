@@ -73,7 +73,7 @@ module _ (n : ℕ) (S : ℕ → ℕ → ℕ → ℕ → Type 0) (E : ℕ → ℕ
     states = sym is.states;
     start = refl;
     sets = record { apart = apart; reached = reached };
-    all = λ x r. place x (found x r);
+    all = λ x r. index x (found x r);
     goes = goes;
     stays = stays;
     ends_are = λ q m x e. (ends-to q m x e, ends-from q m x e);
@@ -86,9 +86,9 @@ module _ (n : ℕ) (S : ℕ → ℕ → ℕ → ℕ → Type 0) (E : ℕ → ℕ
           go (inl g) = subst (λ (z : Subset). IsReached n S z) (sym g.1) start
           go (inr g) = subst (λ (z : Subset). IsReached n S z) (sym g.1) y-reached
 
-      place : (x : Subset) → (x ≡ start_set n) ⊎ (x ≡ y) → (q : ℕ) × (slice_get both q ≡ Some x)
-      place x (inl e) = (0, ap Some (sym e))
-      place x (inr e) = (1, ap Some (sym e))
+      index : (x : Subset) → (x ≡ start_set n) ⊎ (x ≡ y) → (q : ℕ) × (slice_get both q ≡ Some x)
+      index x (inl e) = (0, ap Some (sym e))
+      index x (inr e) = (1, ap Some (sym e))
 
       goes : (q m b r : ℕ) (x : Subset) → slice_get both q ≡ Some x → next_of d q m b ≡ Some r → (z : Subset) × (p : ℕ) × (slice_get both r ≡ Some z) × IsMove n S x m b z × IsIn z p
       goes q m b r x e g = go (which q x e)

@@ -78,9 +78,9 @@ pub record AreIndicesOf (to from : List (List ℕ)) (places : List (Option ℕ))
   pub marks : (m : ℕ) → mark_by places m ≡ mark_for to from m
 
 -- the class at an index, whose first byte is like this one in both automata
-pub record IsClassOf (classes : List Class) (left right : DeterministicAutomaton) (b place : ℕ) : Type 0 where
+pub record IsClassOf (classes : List Class) (left right : DeterministicAutomaton) (b index : ℕ) : Type 0 where
   pub class : Class
-  pub there : slice_get classes place ≡ Some class
+  pub there : slice_get classes index ≡ Some class
   pub left_alike : AreAlike left b class.first
   pub right_alike : AreAlike right b class.first
 

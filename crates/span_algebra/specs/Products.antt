@@ -29,10 +29,10 @@ IsPairStepAmong a b t pair classes s = (c : Class) × Contains classes c × IsPa
 
 -- an end of a pair, which has this index
 abbrev pub IsPairEndBy : ℕ → Joint → End → Type 0
-IsPairEndBy place j e = e ≡ record { state = place; mark = j.mark }
+IsPairEndBy index j e = e ≡ record { state = index; mark = j.mark }
 
 abbrev pub IsPairEndOf : DeterministicAutomaton → DeterministicAutomaton → Meeting → Pair → ℕ → End → Type 0
-IsPairEndOf a b t pair place e = (j : Joint) × IsJointAmong t (ends_of a pair.left) (ends_of b pair.right) j × IsPairEndBy place j e
+IsPairEndOf a b t pair index e = (j : Joint) × IsJointAmong t (ends_of a pair.left) (ends_of b pair.right) j × IsPairEndBy index j e
 
 -- an end of a pair of a list
 pub record IsPairEnd (a b : DeterministicAutomaton) (t : Meeting) (pairs : List Pair) (e : End) : Type 0 where

@@ -26,9 +26,9 @@ fn are_alike(dfa: &Dfa, byte: u8, other: u8) -> bool
 fn class_of(classes: &[Class], left: &Dfa, right: &Dfa, byte: u8) -> Option<usize>
     ensures { IfSome result (IsClassOf classes.now left.now right.now byte) }
 {
-    for (place, class) in classes.iter().enumerate() {
+    for (index, class) in classes.iter().enumerate() {
         if are_alike(left, byte, class.first) && are_alike(right, byte, class.first) {
-            return Some(place);
+            return Some(index);
         }
     }
     None
@@ -42,7 +42,7 @@ fn put_byte(classes: &mut Vec<Class>, left: &Dfa, right: &Dfa, byte: u8) -> Resu
     ensures right { IfOk result (λ _. AreClassesUpTo (byte + 1) right.now classes.new.items) }
 {
     match class_of(classes, left, right, byte) {
-        Some(place) => classes[place].letters.insert(byte),
+        Some(index) => classes[index].letters.insert(byte),
         None => {
             let mut letters = ByteSet::empty();
             letters.insert(byte);

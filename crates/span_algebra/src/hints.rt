@@ -41,14 +41,14 @@ impl Hints {
     /// # Errors
     ///
     /// `NoMemory` if allocation fails.
-    pub fn set(&mut self, alloc: Global, pair: Pair, place: u16) -> Result<(), NoMemory> {
+    pub fn set(&mut self, alloc: Global, pair: Pair, index: u16) -> Result<(), NoMemory> {
         self.reach(alloc, pair.left)?;
         if let Some(row) = self.by_left.get_mut(pair.left as usize) {
             if row.is_empty() {
                 row.resize(self.rights as usize, 0)?;
             }
             if let Some(hint) = row.get_mut(pair.right as usize) {
-                *hint = place;
+                *hint = index;
             }
         }
         Ok(())

@@ -4,12 +4,12 @@ ghost use Rattle.std.specs.Prelude.{◌≡◌, ℕ, ◌<◌, ◌≤◌, ◌^◌,
 ghost use Rattle.span_algebra.specs.Making.{AreIndices, digit_at, mark_by};
 
 /// The digit of a mark at an index.
-fn digit(place: Option<u8>, mark: u16) -> u16
-    requires { (v : ℕ) → place ≡ Some v → v < 8 }
-    ensures value { result ≡ digit_at place mark }
+fn digit(index: Option<u8>, mark: u16) -> u16
+    requires { (v : ℕ) → index ≡ Some v → v < 8 }
+    ensures value { result ≡ digit_at index mark }
     ensures small { result < 4 }
 {
-    match place {
+    match index {
         Some(v) => mark / 4u16.pow(u32::from(v)) % 4,
         None => 0,
     }

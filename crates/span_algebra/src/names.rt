@@ -44,7 +44,7 @@ pub fn names_of_both(alloc: Global, left: &Vars, right: &Vars) -> Result<Vars, A
 
 /// The number of a name, if it is there.
 fn position_of(names: &Vars, name: &Name) -> Option<u8>
-    ensures place { MatchOption result (Contains names.now name.now → ⊥) (λ v. slice_get names.now v ≡ Some name.now) }
+    ensures index { MatchOption result (Contains names.now name.now → ⊥) (λ v. slice_get names.now v ≡ Some name.now) }
     ensures vars { AreVars names.now }
 {
     for v in 0..names.count() {

@@ -30,10 +30,10 @@ pub struct PairStep {
 }
 
 /// Whether a pair is at an index.
-fn is_at(pairs: &[Pair], pair: Pair, place: usize) -> bool
-    ensures { IsTrue result → slice_get pairs.now place ≡ Some pair }
+fn is_at(pairs: &[Pair], pair: Pair, index: usize) -> bool
+    ensures { IsTrue result → slice_get pairs.now index ≡ Some pair }
 {
-    match pairs.get(place) {
+    match pairs.get(index) {
         Some(other) => *other == pair,
         None => false,
     }
@@ -46,9 +46,9 @@ fn position_of(pairs: &[Pair], pair: Pair, hint: u16) -> Option<usize>
     if is_at(pairs, pair, hint as usize) {
         return Some(hint as usize);
     }
-    for (place, other) in pairs.iter().enumerate() {
+    for (index, other) in pairs.iter().enumerate() {
         if *other == pair {
-            return Some(place);
+            return Some(index);
         }
     }
     None
@@ -110,7 +110,7 @@ fn index_of(pairs: &[Pair], hints: &Hints, pair: Pair) -> u16
     ensures { slice_get pairs.now result ≡ Some pair }
 {
     match position_of(pairs, pair, hints.get(pair)) {
-        Some(place) => place as u16,
+        Some(index) => index as u16,
         None => unreachable!(),
     }
 }

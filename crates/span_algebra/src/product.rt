@@ -96,11 +96,11 @@ pub fn steps_of(
 }
 
 /// Appends an end with a joint mark to a list.
-fn push_end(place: u16, joint: &Joint, ends: &mut Vec<End>) -> Result<(), NoMemory>
-    ensures { IfOk result (λ _. Adds ends.old.items ends.new.items (IsPairEndBy place joint.now)) }
+fn push_end(index: u16, joint: &Joint, ends: &mut Vec<End>) -> Result<(), NoMemory>
+    ensures { IfOk result (λ _. Adds ends.old.items ends.new.items (IsPairEndBy index joint.now)) }
 {
     ends.push(End {
-        state: place,
+        state: index,
         mark: joint.mark,
     })?;
     Ok(())
@@ -111,14 +111,14 @@ fn push_ends(
     alloc: Global,
     sides: Sides<'_>,
     pair: Pair,
-    place: u16,
+    index: u16,
     ends: &mut Vec<End>,
 ) -> Result<(), NoMemory>
     requires meeting { MayMeet sides.meeting.now }
     requires short { AreShortSteps sides.left.now sides.meeting.now }
     requires left { pair.left < states_of sides.left.now }
     requires right { pair.right < states_of sides.right.now }
-    ensures { IfOk result (λ _. Adds ends.old.items ends.new.items (IsPairEndOf sides.entry.left.now sides.entry.right.now sides.entry.meeting.now pair place)) }
+    ensures { IfOk result (λ _. Adds ends.old.items ends.new.items (IsPairEndOf sides.entry.left.now sides.entry.right.now sides.entry.meeting.now pair index)) }
 {
     let joints = joints_of(
         alloc,
@@ -127,7 +127,7 @@ fn push_ends(
         sides.right.ends(pair.right),
     )?;
     for joint in &joints {
-        push_end(place, joint, ends)?;
+        push_end(index, joint, ends)?;
     }
     Ok(())
 }
@@ -141,8 +141,8 @@ pub fn ends_of(alloc: Global, sides: Sides<'_>, pairs: &[Pair]) -> Result<Vec<En
     ensures { IfOk result (λ ends. (e : End) → Contains ends.items e ↔ IsPairEnd sides.entry.left.now sides.entry.right.now sides.entry.meeting.now pairs.now e) }
 {
     let mut ends = Vec::new(alloc);
-    for (place, pair) in pairs.iter().enumerate() {
-        push_ends(alloc, sides, *pair, place as u16, &mut ends)?;
+    for (index, pair) in pairs.iter().enumerate() {
+        push_ends(alloc, sides, *pair, index as u16, &mut ends)?;
     }
     Ok(ends)
 }

@@ -10,7 +10,7 @@ use Rattle.span_enum.specs.declared.agreement.Agreement.TheVariants.{Whole, Unti
 -- no run follows the mark at a letter
 pub until-byte : (a : DeterministicAutomaton) (p b at : ℕ) (t : Tuple) (goals : ℕ) → CanRun a p (b ∷ []) goals → ((q : ℕ) → step_of a p (mark_of t at) b ≡ Some q → member goals q ≡ true → ⊥) → AgreesUntil a p t at (b ∷ []) goals at
 until-byte a p b at t goals can none = record {
-  front = [];
+  prefix = [];
   letter = b;
   back = [];
   parts = refl;
@@ -25,18 +25,18 @@ until-byte a p b at t goals can none = record {
 pub until-left : (a : DeterministicAutomaton) (p at : ℕ) (t : Tuple) (s u : List ℕ) (goals between position : ℕ) → AreBetween a p s u goals between → AgreesUntil a p t at s between position
     → AgreesUntil a p t at (s ++ u) goals position
 until-left a p at t s u goals between position are k = record {
-  front = k.front;
+  prefix = k.prefix;
   letter = k.letter;
   back = k.back ++ u;
-  parts = ap (λ x. x ++ u) k.parts ∙ append_assoc k.front (k.letter ∷ k.back) u;
+  parts = ap (λ x. x ++ u) k.parts ∙ append_assoc k.prefix (k.letter ∷ k.back) u;
   position_is = k.position_is;
   state = k.state;
   follows = k.follows;
   can = run-join a k.state k.can.state goals (k.letter ∷ k.back) u k.can.word k.can.bytes k.can.ends (are.onward k.can.state k.can.goal);
   none = λ q e run.
       let c = path-parts (step_of a) q k.back u run.word run.state run.bytes run.ends in
-      let w = word_over t at (k.front ++ k.letter ∷ []) in
-      let bytes : bytes_of (w ++ c.left) ≡ s = bytes-append w c.left ∙ rw (over-bytes t at (k.front ++ k.letter ∷ []), c.left_bytes) (append_assoc k.front (k.letter ∷ []) k.back ∙ sym k.parts) in
+      let w = word_over t at (k.prefix ++ k.letter ∷ []) in
+      let bytes : bytes_of (w ++ c.left) ≡ s = bytes-append w c.left ∙ rw (over-bytes t at (k.prefix ++ k.letter ∷ []), c.left_bytes) (append_assoc k.prefix (k.letter ∷ []) k.back ∙ sym k.parts) in
       let goal = are.reach c.middle (w ++ c.left) bytes (path-on (step_of a) p q w c.left e ∙ c.left_ends) (run-behind a q k.back u run.word run.state goals c run.goal) in
       k.none q e (record { word = c.left; state = c.middle; bytes = c.left_bytes; ends = c.left_ends; goal = goal });
 }
@@ -46,15 +46,15 @@ pub agree-right : (a : DeterministicAutomaton) (p q at : ℕ) (t : Tuple) (s u :
     → IsAgreement a p t at (s ++ u) goals r
 agree-right a p q at t s u goals (Whole n) e k = (over-run a p at q t s u e ∙ k.0, k.1)
 agree-right a p q at t s u goals (Until position) e k = record {
-  front = s ++ k.front;
+  prefix = s ++ k.prefix;
   letter = k.letter;
   back = k.back;
-  parts = ap (λ x. s ++ x) k.parts ∙ sym (append_assoc s k.front (k.letter ∷ k.back));
-  position_is = omega (arith, k.position_is, length-append s k.front);
+  parts = ap (λ x. s ++ x) k.parts ∙ sym (append_assoc s k.prefix (k.letter ∷ k.back));
+  position_is = omega (arith, k.position_is, length-append s k.prefix);
   state = k.state;
-  follows = over-run a p at q t s k.front e ∙ k.follows;
+  follows = over-run a p at q t s k.prefix e ∙ k.follows;
   can = k.can;
-  none = λ n run. k.none n (sym (over-run a p at q t s (k.front ++ k.letter ∷ []) e) ∙ ap (λ x. reached a p (word_over t at x)) (sym (append_assoc s k.front (k.letter ∷ []))) ∙ run);
+  none = λ n run. k.none n (sym (over-run a p at q t s (k.prefix ++ k.letter ∷ []) e) ∙ ap (λ x. reached a p (word_over t at x)) (sym (append_assoc s k.prefix (k.letter ∷ []))) ∙ run);
 }
 
 -- ---- table lookups

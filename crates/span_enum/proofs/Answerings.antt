@@ -6,7 +6,7 @@ use Rattle.span_enum.proofs.Kept.{leads-on}
 use Rattle.span_enum.proofs.Runs.{IsFirst-byte, IsFirst-fork, fit-end, member-one, reach-end}
 use Rattle.span_enum.proofs.Tuples.{IsText, accepted-word, accepts-from_member, first-member, none-member, read-back, word-run}
 use Rattle.span_enum.proofs.Walks.{begins-few}
-use Rattle.span_enum.proofs.Words.{IsNext-byte, IsNext-fork, IsNext-front, looks-within, none-byte, none-fork, none-plain, over-bytes, read-cut, write_word-append}
+use Rattle.span_enum.proofs.Words.{IsNext-byte, IsNext-fork, IsNext-prefix, looks-within, none-byte, none-fork, none-plain, over-bytes, read-cut, write_word-append}
 
 first-end : (a : DeterministicAutomaton) (auto : IsDeterministic a) (q e : ℕ) → IsGreatestMark a q 256 1 65536 e 0 → IsFirst a q (256 ∷ []) 1 ((e, 256) ∷ []) 0
 first-end a auto q e best = IsFirst-byte a q 256 e 1 0 best.step best.goal (λ n r sn gn. best.most n r (fit-end a auto q n r sn) sn gn)
@@ -66,7 +66,7 @@ module _ {words : ℕ} (g : EnumerationInput words) (is : IsEnumerationInput g) 
       → IsFirstMember a s (Some t) u × (word_over u 1 s ≡ word_over t 1 s) × (reached a 0 (word_over u 1 s) ≡ Some q)
   lowered-end t u it q m run best written =
       let x = end_mark t (length s + 1) in
-      let next = IsNext-front a s (256 ∷ []) 0 1 (word_over t 1 s) ((x, 256) ∷ []) (over-bytes t 1 s) q 0 ((m, 256) ∷ []) run (IsNext-byte a q 256 1 x m 0 best) in
+      let next = IsNext-prefix a s (256 ∷ []) 0 1 (word_over t 1 s) ((x, 256) ∷ []) (over-bytes t 1 s) q 0 ((m, 256) ∷ []) run (IsNext-byte a q 256 1 x m 0 best) in
       let start : cut (length s + 1) t ≡ write_word 1 (word_over t 1 s) (blanks a.variables) = sym (read-cut t s it.valid.spans) ∙ ap (λ n. write_word 1 (word_over t 1 s) (blanks n)) it.size in
       let k = answer-word (Some t) it (word_over t 1 s) q m u (over-bytes t 1 s) run best.step next (written ∙ ap (write_mark m (length s + 1)) start) in
       (k.0, k.1, ap (reached a 0) k.1 ∙ run)

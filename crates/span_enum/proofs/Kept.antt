@@ -5,7 +5,7 @@ use Rattle.span_enum.proofs.Base.{length-append, length-bytes, length-plain, len
 use Rattle.span_enum.proofs.Base.{take-append-le, take-length, text_ahead, whole_text, word_over, write_mark, write_word, zero, ℕ, ◌*◌, ◌++◌, ◌+◌, ◌-◌, ◌<◌, ◌∙◌, ◌∷◌, ◌≡◌, ◌≤◌}
 use Rattle.span_enum.proofs.Chains.{fits-none, fits-short, stands-mark}
 use Rattle.span_enum.proofs.Tuples.{few-marks}
-use Rattle.span_enum.proofs.Words.{IsNext-byte, IsNext-fork, IsNext-front, append-same, none-byte, none-fork, none-passed, over-append, over-plain, over-split, read-cut, write_word-append}
+use Rattle.span_enum.proofs.Words.{IsNext-byte, IsNext-fork, IsNext-prefix, append-same, none-byte, none-fork, none-passed, over-append, over-plain, over-split, read-cut, write_word-append}
 
 -- ---- what is read
 module _ {words : ℕ} (g : EnumerationInput words) (w : Marked) (q : ℕ) (back : List ℕ) (leads : Leads g w q back) where
@@ -68,18 +68,18 @@ module _ {words : ℕ} (g : EnumerationInput words) (at : ℕ) (place : WalkPosi
   abbrev m : Mark words
   m = k.mark
 
-  abbrev front : Marked
-  front = word ++ plain way.front
+  abbrev prefix : Marked
+  prefix = word ++ plain way.prefix
 
   abbrev pub word-more : Marked
-  word-more = front ++ (m.mark, m.byte) ∷ []
+  word-more = prefix ++ (m.mark, m.byte) ∷ []
 
-  abbrev pub is-kept : IsKept g front new m
+  abbrev pub is-kept : IsKept g prefix new m
   is-kept = record {
     chain = way.back;
     is_mark = way.is_mark;
-    leads = leads-pass g word place.state (text_ahead g c) b.leads way.front m.state (m.byte ∷ text_ahead g way.back) way.passed;
-    at_is = omega (arith, b.at_is, way.at_is, length-append word (plain way.front), length-plain way.front);
+    leads = leads-pass g word place.state (text_ahead g c) b.leads way.prefix m.state (m.byte ∷ text_ahead g way.back) way.passed;
+    at_is = omega (arith, b.at_is, way.at_is, length-append word (plain way.prefix), length-plain way.prefix);
     some = some;
     low = omega (arith, k.base_is, ap length k.ahead, length-append old k.beside, low);
     fits = subst (λ n. Fits g n new) (sym k.base_is) k.fits;
@@ -88,17 +88,17 @@ module _ {words : ℕ} (g : EnumerationInput words) (at : ℕ) (place : WalkPosi
   pub kept-more : AreKept g (suc b.count) word-more more new
   kept-more =
       let there : take base hs ≡ take m.base new = sym (ap (λ n. take n new) k.base_is ∙ ap (take base) k.ahead ∙ take-append-le base old k.beside low ∙ same) in (
-        record { others = ms; mark = m; marks_are = k.kept; before = front; bare = []; word_is = refl; kept = is-kept },
-        subst (λ x. AreKept g b.count front ms x) there (kept-plain g b.count word ms (take base hs) way.front b.kept),
+        record { others = ms; mark = m; marks_are = k.kept; before = prefix; bare = []; word_is = refl; kept = is-kept },
+        subst (λ x. AreKept g b.count prefix ms x) there (kept-plain g b.count word ms (take base hs) way.prefix b.kept),
       )
 
   -- the walk is after its letter
   pub behind-mark : (to : WalkPosition) → IsDeterministic g.dfa.now → step_of g.dfa.now m.state m.mark m.byte ≡ Some to.state → to.next ≡ m.next → IsQuietPosition g to way.back
       → Behind g (m.at + 1) to (length new) word-more more new way.back
   behind-mark to auto step next quiet = record {
-    at_is = omega (arith, is-kept.at_is, length-append front ((m.mark, m.byte) ∷ []));
+    at_is = omega (arith, is-kept.at_is, length-append prefix ((m.mark, m.byte) ∷ []));
     stands = stands-mark g new m way.back m.mark to auto way.is_mark step next quiet;
-    leads = leads-on g front m.state (m.byte ∷ text_ahead g way.back) is-kept.leads ((m.mark, m.byte) ∷ []) to.state (text_ahead g way.back) refl (path-one (step_of g.dfa.now) m.state m.mark m.byte ∙ step);
+    leads = leads-on g prefix m.state (m.byte ∷ text_ahead g way.back) is-kept.leads ((m.mark, m.byte) ∷ []) to.state (text_ahead g way.back) refl (path-one (step_of g.dfa.now) m.state m.mark m.byte ∙ step);
     low = omega arith;
     count = suc b.count;
     kept = subst (λ x. AreKept g (suc b.count) word-more more x) (sym (take-length new)) kept-more;
@@ -224,7 +224,7 @@ module _ {words : ℕ} (g : EnumerationInput words) (t : Tuple) (others : List (
           let a = g.dfa.now in
           let on : IsNext a m.state (m.byte ∷ rest) g.finals (letter ++ k.behind) (low-letter ++ w) r =
           IsNext-fork a (m.byte ∷ []) rest m.state g.finals letter k.behind refl m.goals k.kept.is_mark.letter.reach k.none l.state r low-letter w (IsNext-byte a m.state m.byte m.goals m.mark l.mark l.state best) first in
-          let whole = IsNext-front a (bytes_of k.before) (m.byte ∷ rest) 0 g.finals k.before (letter ++ k.behind) refl m.state r (low-letter ++ w) k.kept.leads.ends on in
+          let whole = IsNext-prefix a (bytes_of k.before) (m.byte ∷ rest) 0 g.finals k.before (letter ++ k.behind) refl m.state r (low-letter ++ w) k.kept.leads.ends on in
           rw (k.word_is, append_assoc k.before low-letter w) (subst (λ s. IsNext a 0 s g.finals (k.before ++ (letter ++ k.behind)) (k.before ++ (low-letter ++ w)) r) (sym k.kept.leads.parts) whole);
     }
 

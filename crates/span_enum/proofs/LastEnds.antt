@@ -149,21 +149,21 @@ module _ (a : DeterministicAutomaton) (auto : IsDeterministic a) (single : a.var
           record { member = subst (λ n. IsMember a s (one (record { start = start; end = n }))) e o.1; last = λ r m k. within r m }
 
   module _ (position : ℕ) (k : AgreesUntil a 0 (open_at start) 1 s finals position) where
-    size : length s ≡ length k.front + suc (length k.back)
-    size = ap length k.parts ∙ length-append k.front (k.letter ∷ k.back)
+    size : length s ≡ length k.prefix + suc (length k.back)
+    size = ap length k.parts ∙ length-append k.prefix (k.letter ∷ k.back)
 
     abbrev upto : List ℕ
-    upto = k.front ++ k.letter ∷ []
+    upto = k.prefix ++ k.letter ∷ []
 
-    upto-length : length upto ≡ length k.front + 1
-    upto-length = length-append k.front (k.letter ∷ [])
+    upto-length : length upto ≡ length k.prefix + 1
+    upto-length = length-append k.prefix (k.letter ∷ [])
 
     -- no run of a member passes the position with the span open
     no-later : (q : Span) → IsMember a s (one q) → q.start ≡ start → position < q.end → ⊥
     no-later q m e lt =
         let r = run-of (one q) m in
         let rest = word_over (one q) (1 + length upto) k.back in
-        let parts : s ≡ upto ++ k.back = k.parts ∙ sym (append_assoc k.front (k.letter ∷ []) k.back) in
+        let parts : s ≡ upto ++ k.back = k.parts ∙ sym (append_assoc k.prefix (k.letter ∷ []) k.back) in
         let split : word_over (one q) 1 s ≡ word_over (one q) 1 upto ++ rest = ap (word_over (one q) 1) parts ∙ over-append (one q) 1 upto k.back in
         let mid = then-between (λ n. reached a n rest) (reached a 0 (word_over (one q) 1 upto)) r.0 (sym (path-append (step_of a) 0 (word_over (one q) 1 upto) rest) ∙ ap (reached a 0) (sym split) ∙ r.1) in
         let low : position < 281474976710657 = omega (arith, k.position_is, size, text.short) in
@@ -176,12 +176,12 @@ module _ (a : DeterministicAutomaton) (auto : IsDeterministic a) (single : a.var
 
     until-early : start < position → IsMember a s (one (record { start = start; end = position }))
     until-early lt =
-        let front = word_over (open_at start) 1 k.front in
-        let w = front ++ k.can.word in
-        let bytes : bytes_of w ≡ s = bytes-append front k.can.word ∙ rw (over-bytes (open_at start) 1 k.front, k.can.bytes) (sym k.parts) in
-        let v = member-of w k.can.state bytes (path-on (step_of a) 0 k.state front k.can.word k.follows ∙ k.can.ends) k.can.goal in
-        let split = over-split v.tuple 1 k.front (k.letter ∷ k.back) front k.can.word (over-bytes (open_at start) 1 k.front) (ap (word_over v.tuple 1) (sym k.parts) ∙ sym v.word_is) in
-        let o = opened-member position v.tuple v.member lt (omega (arith, k.position_is, size)) (λ i from to. same-over (mark_of v.tuple) (mark_of (open_at start)) 1 k.front split.0 i from (omega (arith, to, k.position_is))) in
+        let prefix = word_over (open_at start) 1 k.prefix in
+        let w = prefix ++ k.can.word in
+        let bytes : bytes_of w ≡ s = bytes-append prefix k.can.word ∙ rw (over-bytes (open_at start) 1 k.prefix, k.can.bytes) (sym k.parts) in
+        let v = member-of w k.can.state bytes (path-on (step_of a) 0 k.state prefix k.can.word k.follows ∙ k.can.ends) k.can.goal in
+        let split = over-split v.tuple 1 k.prefix (k.letter ∷ k.back) prefix k.can.word (over-bytes (open_at start) 1 k.prefix) (ap (word_over v.tuple 1) (sym k.parts) ∙ sym v.word_is) in
+        let o = opened-member position v.tuple v.member lt (omega (arith, k.position_is, size)) (λ i from to. same-over (mark_of v.tuple) (mark_of (open_at start)) 1 k.prefix split.0 i from (omega (arith, to, k.position_is))) in
         let e : o.0 ≡ position = omega (arith, o.2, no-greater (record { start = start; end = o.0 }) o.1 refl) in
         subst (λ n. IsMember a s (one (record { start = start; end = n }))) e o.1
 

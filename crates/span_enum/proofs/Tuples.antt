@@ -101,12 +101,12 @@ reaches-past : (n : ℕ) (t : Tuple) → reaches (n + 1 + 1) t ≡ true → IsPa
 reaches-past n t h =
     let r = reaching (n + 1 + 1) t h in
     let k = past-span (spans_of t r.place) (n + 1 + 1) r.far in
-    record { place = k.0.end; past = omega (arith, k.2); there = mark-some t r.place k.0.end r.there k.3 }
+    record { index = k.0.end; past = omega (arith, k.2); there = mark-some t r.place k.0.end r.there k.3 }
 
 past-reaches : (n : ℕ) (t : Tuple) → AreSpans t → reaches (n + 1 + 1) t ≡ false → IsPast n t → ⊥
-past-reaches n t spans h past = omega (arith, past.there, mark-none t past.place (λ v lt b. no v (spans_of t v) refl b))
+past-reaches n t spans h past = omega (arith, past.there, mark-none t past.index (λ v lt b. no v (spans_of t v) refl b))
   where
-    no : (v : ℕ) (o : Option Span) → o ≡ spans_of t v → IsBound o past.place → ⊥
+    no : (v : ℕ) (o : Option Span) → o ≡ spans_of t v → IsBound o past.index → ⊥
     no v None e b = b
     no v (Some q) e b =
         let is : IsSpan q = span-is (spans_of t v) q (spans-at t v spans) (sym e) in
@@ -232,11 +232,11 @@ module _ (a : DeterministicAutomaton) (auto : IsDeterministic a) (s : List ℕ) 
   pub wellmarked : Wellmarked a s
   wellmarked w q e t =
       let k = ended-run a s w q e t in
-      let front = k.parts.left in
+      let prefix = k.parts.left in
       let bytes = k.parts.left_bytes in
-      let text : MarkedText = record { pairs = front; last = k.last.mark } in
-      let accepts : PathAccepts a text = record { state = k.parts.middle; leads = sym (on-bytes front bytes) ∙ k.parts.left_ends; may_end = (end-facts a k.parts.middle k.last.mark q k.last.step).1 } in
-      let m : IsMarked a.variables text = auto.accepted text (omega (arith, length-bytes front, ap length bytes, is.short)) accepts in
+      let text : MarkedText = record { pairs = prefix; last = k.last.mark } in
+      let accepts : PathAccepts a text = record { state = k.parts.middle; leads = sym (on-bytes prefix bytes) ∙ k.parts.left_ends; may_end = (end-facts a k.parts.middle k.last.mark q k.last.step).1 } in
+      let m : IsMarked a.variables text = auto.accepted text (omega (arith, length-bytes prefix, ap length bytes, is.short)) accepts in
       let lies : Lies (length s) m.tuple = subst (λ (x : List ℕ). Lies (length x) m.tuple) bytes m.lies in
       let marks : text ≡ marked_text s m.tuple = subst (λ (x : List ℕ). text ≡ marked_text x m.tuple) bytes m.marks in
       let end : k.last.mark ≡ end_mark m.tuple (length s + 1) = ap (λ x. x.last) marks ∙ sym (last-mark s m.tuple lies) in
@@ -244,7 +244,7 @@ module _ (a : DeterministicAutomaton) (auto : IsDeterministic a) (s : List ℕ) 
         tuple = m.tuple;
         tuple_is = record { size = m.size; valid = m.valid };
         lies = lies;
-        word_is = k.parts.joined ∙ ap (λ x. front ++ x) k.last.word ∙ ap (λ x. x ++ (k.last.mark, 256) ∷ []) (ap (λ x. x.pairs) marks) ∙ ap (λ n. word_over m.tuple 1 s ++ (n, 256) ∷ []) end;
+        word_is = k.parts.joined ∙ ap (λ x. prefix ++ x) k.last.word ∙ ap (λ x. x ++ (k.last.mark, 256) ∷ []) (ap (λ x. x.pairs) marks) ∙ ap (λ n. word_over m.tuple 1 s ++ (n, 256) ∷ []) end;
       }
 
   pub accepted-word : (w : Marked) (r e : ℕ) → bytes_of w ≡ s → reached a 0 w ≡ Some r → step_of a r e 256 ≡ Some 0 → (k : IsWord a.variables s (w ++ (e, 256) ∷ [])) × (w ≡ word_over k.tuple 1 s)
@@ -265,8 +265,8 @@ module _ (a : DeterministicAutomaton) (auto : IsDeterministic a) (s : List ℕ) 
   pub accepts-from_member : (t : Tuple) → IsMember a s t → AcceptsWord a s t
   accepts-from_member t m =
       let r = m.accepted in
-      let front : reached a 0 (word_over t 1 s) ≡ Some r.state = on-bytes (word_over t 1 s) (over-bytes t 1 s) ∙ r.leads in
-      record { lies = m.lies; ends = word-run a 0 r.state (word_over t 1 s) (end_mark t (length s + 1)) front ∙ end-step a r.state (end_mark t (length s + 1)) (rw (last-mark s t m.lies) r.may_end) }
+      let prefix : reached a 0 (word_over t 1 s) ≡ Some r.state = on-bytes (word_over t 1 s) (over-bytes t 1 s) ∙ r.leads in
+      record { lies = m.lies; ends = word-run a 0 r.state (word_over t 1 s) (end_mark t (length s + 1)) prefix ∙ end-step a r.state (end_mark t (length s + 1)) (rw (last-mark s t m.lies) r.may_end) }
 
   pub member-from_accepts : (t : Tuple) → length t ≡ a.variables → AcceptsWord a s t → IsMember a s t
   member-from_accepts t size h =

@@ -32,13 +32,13 @@ pub arrives : {words : ℕ} (g : EnumerationInput words) → IsEnumerationInput 
     → ((before : ℕ) → place.next ≡ suc before → slice_get hs before ≡ Some (Some h)) → cut ≡ max base (place.next - 1) → Arrives g hs cut at from place c h
 arrives g is hs base cut at from place c h pass some found e =
     let n = next-node g is hs at from place c pass.0.passes h some found in
-    let k = stands-before g hs (at + length pass.0.passes.front) place h n.rest n.stands in
+    let k = stands-before g hs (at + length pass.0.passes.prefix) place h n.rest n.stands in
     let low : h.next ≤ cut = omega (arith, e, n.stands.ahead.0.counted, n.stands.ahead.0.earlier) in
     record { passes = pass.0; turns = pass.1; node = n; before = record { ahead = ahead-move hs (take cut hs) cut h.next n.rest (λ i x lt there. slice-take cut i hs lt ∙ there) low k.ahead; join = k.join; goals = k.goals; state = k.state } }
 
 module _ {words : ℕ} (g : EnumerationInput words) (hs : List (Option (Ahead words))) (cut at : ℕ) (from place : WalkPosition) (c : List (Ahead words)) (h : Ahead words) (a : Arrives g hs cut at from place c h) where
   abbrev x : List ℕ
-  x = a.passes.passes.front
+  x = a.passes.passes.prefix
 
   to-node : Passed g.dfa.now from.state (text_ahead g c) x place.state (text_ahead g (h ∷ a.node.rest))
   to-node = record { parts = a.passes.passes.passed.parts ∙ ap (λ b. x ++ text_ahead g b) a.node.back; step = a.passes.passes.passed.step }
@@ -110,7 +110,7 @@ module _ {words : ℕ} (g : EnumerationInput words) (from : WalkPosition) (base 
   -- all nodes are passed
   pub finds-end : (place : WalkPosition) (looks : ℕ) (out : Tuple) → place.next ≡ 0 → PassesPlain g hs b.at from place c → Finds g from word back marks (take base hs) looks looks (Some place.state) out out
   finds-end place looks out last p =
-      let x = p.passes.front in
+      let x = p.passes.prefix in
       let none : p.passes.back ≡ [] = back-none hs place.next p.passes.back p.passes.stands.ahead (omega (arith, last)) in
       let goal = goal-from_nothing g.dfa.now place.state g.finals (rw none at p.can) in
       let texts : back ≡ x = p.passes.passed.parts ∙ ap (λ d. x ++ text_ahead g d) none ∙ append-nil x in
@@ -151,7 +151,7 @@ module _ {words : ℕ} (g : EnumerationInput words) (from : WalkPosition) (base 
       m = d.keeps.mark
 
       abbrev letters : Marked
-      letters = plain k.way.front ++ (m.mark, m.byte) ∷ []
+      letters = plain k.way.prefix ++ (m.mark, m.byte) ∷ []
 
       abbrev pub word-on : Marked
       word-on = word-more g b.at from base word marks ms1 hs (take cut hs) hs1 c b.behind d.keeps same low k.way k.on.some
@@ -165,11 +165,11 @@ module _ {words : ℕ} (g : EnumerationInput words) (from : WalkPosition) (base 
       finds-more hs2 ms2 after r out2 on =
           let f = on word-on begins-on.1 in
           let high = arrives-high g hs cut b.at from place c h n (length (whole_text g)) (omega (arith, leads-size g word from.state back b.behind.leads)) in
-          let x = plain k.way.front in
+          let x = plain k.way.prefix in
           let one : Marked = (m.mark, m.byte) ∷ [] in
           let join : word-on ++ f.rest ≡ word ++ (letters ++ f.rest) = ap (λ w. w ++ f.rest) (append_assoc word x one) ∙ append_assoc word letters f.rest in
           let count : mark_count (letters ++ f.rest) ≡ 1 + mark_count f.rest =
-          omega (arith, mark_count-append letters f.rest, mark_count-append x one, count-plain k.way.front, count-more m.mark m.byte [] k.on.some) in
+          omega (arith, mark_count-append letters f.rest, mark_count-append x one, count-plain k.way.prefix, count-more m.mark m.byte [] k.on.some) in
           let place : m.at ≡ 1 + length (word ++ x) = omega (arith, (is-kept g b.at from base word marks ms1 hs (take cut hs) hs1 c b.behind d.keeps same low k.way k.on.some).at_is) in
           record {
             rest = letters ++ f.rest;
@@ -177,7 +177,7 @@ module _ {words : ℕ} (g : EnumerationInput words) (from : WalkPosition) (base 
             ends = f.ends;
             first = k.first f.rest f.state f.first;
             cost = rw count (cost (height_limit (length (whole_text g))) (height_at g h.id.index) (mark_count f.rest) high d.cost f.cost);
-            written = λ t e. f.written t (d.written ∙ ap (λ n. write_mark m.mark n out) place ∙ ap (write_mark m.mark (1 + length (word ++ x))) (e ∙ sym (write-bare word k.way.front t))
+            written = λ t e. f.written t (d.written ∙ ap (λ n. write_mark m.mark n out) place ∙ ap (write_mark m.mark (1 + length (word ++ x))) (e ∙ sym (write-bare word k.way.prefix t))
                 ∙ sym (write_word-append 1 (word ++ x) one t)) ∙ ap (λ w. write_word 1 w t) join;
             count = f.count;
             kept = subst (λ w. AreKept g f.count w ms2 hs2) join f.kept;
@@ -210,10 +210,10 @@ module _ {words : ℕ} (g : EnumerationInput words) (t : Tuple) (hs : List (Opti
       omega (arith, kept-few g t k f.behind.count f.word (word_over t at ahead) ms (take (length hs) hs) size f.word_is f.behind.kept, over-count t at ahead position from to some)
 
   -- nodes in front of a position are passed without marks
-  pub follows-pass : (position : ℕ) (to : WalkPosition) → IsUnmarked t at position → (p : PassesTo g hs at position place to c) → Follows g t hs (at + length p.passes.front) to ms p.passes.back
+  pub follows-pass : (position : ℕ) (to : WalkPosition) → IsUnmarked t at position → (p : PassesTo g hs at position place to c) → Follows g t hs (at + length p.passes.prefix) to ms p.passes.back
   follows-pass position to quiet p =
       let k = p.passes in
-      let x = k.front in
+      let x = k.prefix in
       let rest = word_over t (at + length x) (text_ahead g k.back) in
       let bare = over-plain t at x (λ q above below. quiet q above (omega (arith, below, p.before))) in
       let letters : word_over t at ahead ≡ plain x ++ rest = ap (word_over t at) k.passed.parts ∙ over-append t at x (text_ahead g k.back) ∙ ap (λ w. w ++ rest) bare in
@@ -283,8 +283,8 @@ module _ {words : ℕ} (g : EnumerationInput words) (t : Tuple) (hs : List (Opti
       let p = (comes-there to all).0 in
       let d = p.passes.back in
       let empty : d ≡ [] = back-none hs to.next d p.passes.stands.ahead (omega (arith, none)) in
-      let on : Follows g t hs (at + length p.passes.front) to ms [] = subst (λ b. Follows g t hs (at + length p.passes.front) to ms b) empty (follows-pass g t hs at place ms c f position to quiet p) in
-      followed-none g t hs (at + length p.passes.front) to ms [] on (Some to.state) looks looks (none-plain g.dfa.now to.state [] g.finals) refl (omega arith)
+      let on : Follows g t hs (at + length p.passes.prefix) to ms [] = subst (λ b. Follows g t hs (at + length p.passes.prefix) to ms b) empty (follows-pass g t hs at place ms c f position to quiet p) in
+      followed-none g t hs (at + length p.passes.prefix) to ms [] on (Some to.state) looks looks (none-plain g.dfa.now to.state [] g.finals) refl (omega arith)
 
   -- the node over the position comes next
   pub over-node : IsEnumerationInput g → (to : WalkPosition) (h : Ahead words) → Comes to → 0 < to.next → ((before : ℕ) → to.next ≡ suc before → slice_get hs before ≡ Some (Some h)) → StandsOver g t hs position to ms h
@@ -292,10 +292,10 @@ module _ {words : ℕ} (g : EnumerationInput words) (t : Tuple) (hs : List (Opti
       let there = comes-there to all in
       let p = there.0.passes in
       let k = next-node g input hs at place to c p h pos found in
-      let here : at + length p.front ≡ h.at = sym k.stands.join.0 in
+      let here : at + length p.prefix ≡ h.at = sym k.stands.join.0 in
       record {
         rest = k.rest;
-        follows = subst (λ n. Follows g t hs n to ms (h ∷ k.rest)) here (subst (λ b. Follows g t hs (at + length p.front) to ms b) k.back (follows-pass g t hs at place ms c f position to quiet there.0));
+        follows = subst (λ n. Follows g t hs n to ms (h ∷ k.rest)) here (subst (λ b. Follows g t hs (at + length p.prefix) to ms b) k.back (follows-pass g t hs at place ms c f position to quiet there.0));
         over = record { from = omega (arith, here, there.0.before); before = subst (EndsBehind g position) k.back there.1 };
         quiet = λ q above below. quiet q (omega (arith, above, here)) below;
       }
@@ -354,7 +354,7 @@ module _ {words : ℕ} (g : EnumerationInput words) (t : Tuple) (old : List (Opt
     word = o.follows.word
 
     abbrev bare : List ℕ
-    bare = lays-way.front
+    bare = lays-way.prefix
 
     abbrev rest : List ℕ
     rest = text_ahead g lays-way.back

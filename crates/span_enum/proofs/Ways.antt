@@ -20,10 +20,10 @@ first-on g p q r b c d x y one two w n f = rw (append_assoc x y w) (one (y ++ w)
 abbrev pub way-on : {words : ℕ} (g : EnumerationInput words) (hs : List (Option (Ahead words))) (at here p q : ℕ) (x : List ℕ) (c d : List (Ahead words)) (m : Mark words) → Passed g.dfa.now p (text_ahead g c) x q (text_ahead g d) → here ≡ at + length x
     → Way g hs here q d m → Way g hs at p c m
 way-on g hs at here p q x c d m over e k = record {
-  front = x ++ k.front;
+  prefix = x ++ k.prefix;
   back = k.back;
-  passed = passed-on g.dfa.now p q m.state (text_ahead g c) (text_ahead g d) (m.byte ∷ text_ahead g k.back) x k.front over k.passed;
-  at_is = omega (arith, k.at_is, e, length-append x k.front);
+  passed = passed-on g.dfa.now p q m.state (text_ahead g c) (text_ahead g d) (m.byte ∷ text_ahead g k.back) x k.prefix over k.passed;
+  at_is = omega (arith, k.at_is, e, length-append x k.prefix);
   is_mark = k.is_mark;
 }
 
@@ -31,7 +31,7 @@ pub meets-on : {words : ℕ} (g : EnumerationInput words) (hs : List (Option (Ah
     → GoesFirst g p c (plain x) q d → Meets g hs here q d m to → Meets g hs at p c m to
 meets-on {words = words} g hs at here p q x c d m to over e first k =
     let last : Marked = (m.mark, m.byte) ∷ [] in
-    let y = k.way.front in
+    let y = k.way.prefix in
     let words : plain (x ++ y) ++ last ≡ plain x ++ (plain y ++ last) = ap (λ v. v ++ last) (plain-append x y) ∙ append_assoc (plain x) (plain y) last in
     record {
       way = way-on g hs at here p q x c d m over e k.way;
@@ -41,7 +41,7 @@ meets-on {words = words} g hs at here p q x c d m to over e first k =
 
 -- ---- nodes ahead
 abbrev pub passes-none : {words : ℕ} (g : EnumerationInput words) (hs : List (Option (Ahead words))) (at : ℕ) (from : WalkPosition) (c : List (Ahead words)) → IsWalkAt g hs at from c → Passes g hs at from from c
-passes-none g hs at from c s = record { front = []; back = c; passed = record { parts = refl; step = refl }; stands = let same : at ≡ at + 0 = omega arith in subst (λ n. IsWalkAt g hs n from c) same s }
+passes-none g hs at from c s = record { prefix = []; back = c; passed = record { parts = refl; step = refl }; stands = let same : at ≡ at + 0 = omega arith in subst (λ n. IsWalkAt g hs n from c) same s }
 
 pub plain-none : {words : ℕ} (g : EnumerationInput words) (hs : List (Option (Ahead words))) (at : ℕ) (from : WalkPosition) (c : List (Ahead words)) → IsWalkAt g hs at from c → CanEnd g from.state c → PassesPlain g hs at from from c
 plain-none g hs at from c s can = record { passes = passes-none g hs at from c s; can = can; first = λ w r f. f }
@@ -50,14 +50,14 @@ plain-none g hs at from c s can = record { passes = passes-none g hs at from c s
 pub record Next {words : ℕ} (g : EnumerationInput words) (hs : List (Option (Ahead words))) (at : ℕ) (from place : WalkPosition) (c : List (Ahead words)) (p : Passes g hs at from place c) (h : Ahead words) : Type 0 where
   pub rest : List (Ahead words)
   pub back : p.back ≡ h ∷ rest
-  pub stands : IsWalkAt g hs (at + length p.front) place (h ∷ rest)
+  pub stands : IsWalkAt g hs (at + length p.prefix) place (h ∷ rest)
   pub tells : Tells g.dfa.now (text_at g h.id.index) h.look.table.now
 
 pub next-node : {words : ℕ} (g : EnumerationInput words) → IsEnumerationInput g → (hs : List (Option (Ahead words))) (at : ℕ) (from place : WalkPosition) (c : List (Ahead words)) (p : Passes g hs at from place c) (h : Ahead words) → 0 < place.next
     → ((before : ℕ) → place.next ≡ suc before → slice_get hs before ≡ Some (Some h)) → Next g hs at from place c p h
 next-node g is hs at from place c p h some found =
     let head = next-is hs place.next p.back h p.stands.ahead some found in
-    let stands : IsWalkAt g hs (at + length p.front) place (h ∷ head.0) = rw head.1 at p.stands in
+    let stands : IsWalkAt g hs (at + length p.prefix) place (h ∷ head.0) = rw head.1 at p.stands in
     record {
       rest = head.0;
       back = head.1;
@@ -76,11 +76,11 @@ module _ {words : ℕ} (g : EnumerationInput words) (auto : IsDeterministic g.df
 
     abbrev pub passes-on : Passes g hs at from (record { state = q; next = h.next; quiet = false }) c
     passes-on = record {
-      front = p.front ++ node-text;
+      prefix = p.prefix ++ node-text;
       back = n.rest;
-      passed = passed-on g.dfa.now from.state place.state q (text_ahead g c) (text_ahead g p.back) (text_ahead g n.rest) p.front node-text p.passed node-passed;
+      passed = passed-on g.dfa.now from.state place.state q (text_ahead g c) (text_ahead g p.back) (text_ahead g n.rest) p.prefix node-text p.passed node-passed;
       stands =
-          let len : at + length p.front + length node-text ≡ at + length (p.front ++ node-text) = omega (arith, length-append p.front node-text) in
+          let len : at + length p.prefix + length node-text ≡ at + length (p.prefix ++ node-text) = omega (arith, length-append p.prefix node-text) in
           record {
             ahead = n.stands.ahead.1;
             join = subst (λ k. Join g k n.rest) len n.stands.join.1;
@@ -94,14 +94,14 @@ module _ {words : ℕ} (g : EnumerationInput words) (auto : IsDeterministic g.df
 pub passes-dies : {words : ℕ} (g : EnumerationInput words) (hs : List (Option (Ahead words))) (at position : ℕ) (from place : WalkPosition) (c : List (Ahead words)) (p : PassesTo g hs at position from place c) (h : Ahead words) → (n : Next g hs at from place c p.passes h)
     → h.at + h.look.len ≤ position → unmarked_of h.look.table.now place.state ≡ None → Dies g from.state at (text_ahead g c) position
 passes-dies g hs at position from place c p h n le none =
-    let front = p.passes.front in
+    let prefix = p.passes.prefix in
     let x = text_at g h.id.index in
-    let far = take (position - (at + length (front ++ x))) (text_ahead g n.rest) in
-    let whole : text_ahead g c ≡ (front ++ x) ++ text_ahead g n.rest = p.passes.passed.parts ∙ ap (λ b. front ++ text_ahead g b) n.back ∙ sym (append_assoc front x (text_ahead g n.rest)) in
-    let size : position - at ≡ length (front ++ x) + (position - (at + length (front ++ x))) = omega (arith, le, n.stands.join.0, n.stands.goals.0.look.len_is, length-append front x) in
-    let letters : take (position - at) (text_ahead g c) ≡ (front ++ x) ++ far = ap (take (position - at)) whole ∙ ap (λ k. take k ((front ++ x) ++ text_ahead g n.rest)) size ∙ take-append-add (front ++ x) (text_ahead g n.rest) (position - (at + length (front ++ x))) in
-    let dead : reached g.dfa.now from.state (plain (front ++ x)) ≡ None = plain-on (step_of g.dfa.now) from.state place.state front x p.passes.passed.step ∙ sym (n.tells.unmarked place.state n.stands.state) ∙ none in
-    ap (λ y. reached g.dfa.now from.state (plain y)) letters ∙ plain-dead (step_of g.dfa.now) from.state (front ++ x) far dead
+    let far = take (position - (at + length (prefix ++ x))) (text_ahead g n.rest) in
+    let whole : text_ahead g c ≡ (prefix ++ x) ++ text_ahead g n.rest = p.passes.passed.parts ∙ ap (λ b. prefix ++ text_ahead g b) n.back ∙ sym (append_assoc prefix x (text_ahead g n.rest)) in
+    let size : position - at ≡ length (prefix ++ x) + (position - (at + length (prefix ++ x))) = omega (arith, le, n.stands.join.0, n.stands.goals.0.look.len_is, length-append prefix x) in
+    let letters : take (position - at) (text_ahead g c) ≡ (prefix ++ x) ++ far = ap (take (position - at)) whole ∙ ap (λ k. take k ((prefix ++ x) ++ text_ahead g n.rest)) size ∙ take-append-add (prefix ++ x) (text_ahead g n.rest) (position - (at + length (prefix ++ x))) in
+    let dead : reached g.dfa.now from.state (plain (prefix ++ x)) ≡ None = plain-on (step_of g.dfa.now) from.state place.state prefix x p.passes.passed.step ∙ sym (n.tells.unmarked place.state n.stands.state) ∙ none in
+    ap (λ y. reached g.dfa.now from.state (plain y)) letters ∙ plain-dead (step_of g.dfa.now) from.state (prefix ++ x) far dead
 
 -- where the walk can go on, a run over the next node leads into its goals
 pub can-head : {words : ℕ} (g : EnumerationInput words) (hs : List (Option (Ahead words))) (at : ℕ) (from place : WalkPosition) (c : List (Ahead words)) (p : PassesPlain g hs at from place c) (h : Ahead words) → Next g hs at from place c p.passes h
@@ -128,11 +128,11 @@ node-on g auto hs at from place c p h q n none step =
     let alone = IsFirst-plain g.dfa.now x h.look.table.now place.state h.goals q n.tells n.stands.state none step goal in
     let node : GoesFirst g place.state (h ∷ n.rest) (plain x) q n.rest =
     λ w r f. IsFirst-fork g.dfa.now x (text_ahead g n.rest) place.state q r g.finals h.goals (plain x) w n.stands.goals.1.reach alone f in
-    let first : GoesFirst g from.state c (plain p.passes.front) place.state (h ∷ n.rest) = subst (λ b. GoesFirst g from.state c (plain p.passes.front) place.state b) n.back p.first in
+    let first : GoesFirst g from.state c (plain p.passes.prefix) place.state (h ∷ n.rest) = subst (λ b. GoesFirst g from.state c (plain p.passes.prefix) place.state b) n.back p.first in
     record {
       passes = passes-on g auto hs at from place c p.passes h n q step;
       can = n.stands.goals.1.onward q goal;
-      first = subst (λ w. GoesFirst g from.state c w q n.rest) (sym (plain-append p.passes.front x)) (first-on g from.state place.state q c (h ∷ n.rest) n.rest (plain p.passes.front) (plain x) first node);
+      first = subst (λ w. GoesFirst g from.state c w q n.rest) (sym (plain-append p.passes.prefix x)) (first-on g from.state place.state q c (h ∷ n.rest) n.rest (plain p.passes.prefix) (plain x) first node);
     }
 
 -- nothing is left where no node comes next
@@ -145,7 +145,7 @@ pub some-mark : {words : ℕ} (g : EnumerationInput words) (hs : List (Option (A
     → Next g hs at from place c p.passes h → Turns place.state p.passes.back → AtMost g from.state c most → 1 ≤ most
 some-mark g hs at from place c p h most n turns few =
     let a = g.dfa.now in
-    let x = p.passes.front in
+    let x = p.passes.prefix in
     let here : Turns place.state (h ∷ n.rest) = rw n.back at turns in
     let run = marked-run a (text_at g h.id.index) h.look.table.now place.state h.goals n.tells n.stands.state here in
     let on = n.stands.goals.1.onward run.0 run.1 in
@@ -161,7 +161,7 @@ abbrev pub way-byte : {words : ℕ} (g : EnumerationInput words) (hs : List (Opt
 way-byte g hs h q c b m base node s =
     let one : text_at g h.id.index ≡ b ∷ [] = byte-text g.view.store.now h.id.index b node in
     record {
-      front = [];
+      prefix = [];
       back = c;
       passed = record { parts = ap (λ x. x ++ text_ahead g c) one; step = refl };
       at_is = omega arith;

@@ -64,8 +64,8 @@ over-dead a p at t s u e = ap (reached a p) (over-append t at s u) ∙ path-dead
 -- ---- words cut at the same place
 pub append-same : {X : Type 0} (a b c d : List X) → length a ≡ length c → a ++ b ≡ c ++ d → (a ≡ c) × (b ≡ d)
 append-same a b c d len e =
-    let front : a ≡ c = sym (take_at a b (length a) refl) ∙ ap (take (length a)) e ∙ take_at c d (length a) (sym len) in
-    (front, append_cancel_left a b d (e ∙ ap (λ x. x ++ d) (sym front)))
+    let prefix : a ≡ c = sym (take_at a b (length a) refl) ∙ ap (take (length a)) e ∙ take_at c d (length a) (sym len) in
+    (prefix, append_cancel_left a b d (e ∙ ap (λ x. x ++ d) (sym prefix)))
 
 -- a tuple whose word over two joined texts is cut between them
 pub over-split : (t : Tuple) (p : ℕ) (s u : List ℕ) (w v : Marked) → bytes_of w ≡ s → word_over t p (s ++ u) ≡ w ++ v → (word_over t p s ≡ w) × (word_over t (p + length s) u ≡ v)
@@ -150,8 +150,8 @@ module _ (a : DeterministicAutomaton) (s u : List ℕ) (p goals : ℕ) (w1 w2 : 
       }
 
   -- the first part stays, and the second becomes the next
-  pub IsNext-front : (q r : ℕ) (v2 : Marked) → reached a p w1 ≡ Some q → IsNext a q u goals w2 v2 r → IsNext a p (s ++ u) goals (w1 ++ w2) (w1 ++ v2) r
-  IsNext-front q r v2 run l = record {
+  pub IsNext-prefix : (q r : ℕ) (v2 : Marked) → reached a p w1 ≡ Some q → IsNext a q u goals w2 v2 r → IsNext a p (s ++ u) goals (w1 ++ w2) (w1 ++ v2) r
+  IsNext-prefix q r v2 run l = record {
     is_after = record {
       bytes = bytes-append w1 v2 ∙ rw (e1, l.is_after.bytes) refl;
       ends = path-on (step_of a) p q w1 v2 run ∙ l.is_after.ends;

@@ -11,15 +11,15 @@ use Rattle.span_enum.specs.declared.agreement.Agreement.TheVariants.{Whole, Unti
 
 -- a run over s from p into a goal follows the tuple's marks before the letter at this position, and none follows them over it
 pub record AgreesUntil (a : DeterministicAutomaton) (p : ℕ) (t : Tuple) (at : ℕ) (s : List ℕ) (goals position : ℕ) : Type 0 where
-  pub front : List ℕ
+  pub prefix : List ℕ
   pub letter : ℕ
   pub back : List ℕ
-  pub parts : s ≡ front ++ letter ∷ back
-  pub position_is : position ≡ at + length front
+  pub parts : s ≡ prefix ++ letter ∷ back
+  pub position_is : position ≡ at + length prefix
   pub state : ℕ
-  pub follows : reached a p (word_over t at front) ≡ Some state
+  pub follows : reached a p (word_over t at prefix) ≡ Some state
   pub can : CanRun a state (letter ∷ back) goals
-  pub none : (q : ℕ) → reached a p (word_over t at (front ++ letter ∷ [])) ≡ Some q → CanRun a q back goals → ⊥
+  pub none : (q : ℕ) → reached a p (word_over t at (prefix ++ letter ∷ [])) ≡ Some q → CanRun a q back goals → ⊥
 
 -- it follows them over the whole text, or up to a letter
 abbrev pub IsAgreement : DeterministicAutomaton → ℕ → Tuple → ℕ → List ℕ → ℕ → Agreement → Type 0

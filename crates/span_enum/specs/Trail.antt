@@ -120,9 +120,9 @@ Turns q [] = Unit {0}
 Turns q (h ∷ c) = bit_and (marked_of h.look.table.now q) h.goals ≡ 0 → ⊥
 
 -- the letters in front are passed without marks, from one state to another
-pub record Passed (a : DeterministicAutomaton) (q : ℕ) (s front : List ℕ) (to : ℕ) (rest : List ℕ) : Type 0 where
-  pub parts : s ≡ front ++ rest
-  pub step : reached a q (plain front) ≡ Some to
+pub record Passed (a : DeterministicAutomaton) (q : ℕ) (s prefix : List ℕ) (to : ℕ) (rest : List ℕ) : Type 0 where
+  pub parts : s ≡ prefix ++ rest
+  pub step : reached a q (plain prefix) ≡ Some to
 
 -- the first marked text over these nodes is the word and then the first one over those
 abbrev pub GoesFirst : {words : ℕ} → EnumerationInput words → ℕ → List (Ahead words) → Marked → ℕ → List (Ahead words) → Type 0
@@ -130,16 +130,16 @@ GoesFirst g q c word to back = (w : Marked) (r : ℕ) → IsFirst g.dfa.now to (
 
 -- nodes in front are passed without marks
 pub record Passes {words : ℕ} (g : EnumerationInput words) (hs : List (Option (Ahead words))) (at : ℕ) (from to : WalkPosition) (c : List (Ahead words)) : Type 0 where
-  pub front : List ℕ
+  pub prefix : List ℕ
   pub back : List (Ahead words)
-  pub passed : Passed g.dfa.now from.state (text_ahead g c) front to.state (text_ahead g back)
-  pub stands : IsWalkAt g hs (at + length front) to back
+  pub passed : Passed g.dfa.now from.state (text_ahead g c) prefix to.state (text_ahead g back)
+  pub stands : IsWalkAt g hs (at + length prefix) to back
 
 -- and so does the first marked text
 pub record PassesPlain {words : ℕ} (g : EnumerationInput words) (hs : List (Option (Ahead words))) (at : ℕ) (from to : WalkPosition) (c : List (Ahead words)) : Type 0 where
   pub passes : Passes g hs at from to c
   pub can : CanEnd g to.state passes.back
-  pub first : GoesFirst g from.state c (plain passes.front) to.state passes.back
+  pub first : GoesFirst g from.state c (plain passes.prefix) to.state passes.back
 
 -- the walk is in this state before a node, after which these come
 pub record IsWalkBefore {words : ℕ} (g : EnumerationInput words) (hs : List (Option (Ahead words))) (h : Ahead words) (q : ℕ) (c : List (Ahead words)) : Type 0 where
@@ -158,10 +158,10 @@ pub record IsMark {words : ℕ} (g : EnumerationInput words) (hs : List (Option 
 
 -- m is a mark over a letter of the nodes, to which the letters in front lead without marks
 pub record Way {words : ℕ} (g : EnumerationInput words) (hs : List (Option (Ahead words))) (at q : ℕ) (c : List (Ahead words)) (m : Mark words) : Type 0 where
-  pub front : List ℕ
+  pub prefix : List ℕ
   pub back : List (Ahead words)
-  pub passed : Passed g.dfa.now q (text_ahead g c) front m.state (m.byte ∷ text_ahead g back)
-  pub at_is : m.at ≡ at + length front
+  pub passed : Passed g.dfa.now q (text_ahead g c) prefix m.state (m.byte ∷ text_ahead g back)
+  pub at_is : m.at ≡ at + length prefix
   pub is_mark : IsMark g hs m back
 
 -- after the mark the rest is accepted
@@ -176,7 +176,7 @@ pub record Continues {words : ℕ} (g : EnumerationInput words) (m : Mark words)
 pub record Meets {words : ℕ} (g : EnumerationInput words) (hs : List (Option (Ahead words))) (at q : ℕ) (c : List (Ahead words)) (m : Mark words) (to : WalkPosition) : Type 0 where
   pub way : Way g hs at q c m
   pub on : Continues g m to way.back
-  pub first : GoesFirst g q c (plain way.front ++ (m.mark, m.byte) ∷ []) to.state way.back
+  pub first : GoesFirst g q c (plain way.prefix ++ (m.mark, m.byte) ∷ []) to.state way.back
 
 -- a node this far after the base is as much lower than the tallest tree
 abbrev pub FitsAt : {words : ℕ} → EnumerationInput words → ℕ → Option (Ahead words) → Type 0
@@ -346,7 +346,7 @@ Dies g q at s position = reached g.dfa.now q (plain (take (position - at) s)) �
 -- the nodes in front of the position are passed without marks
 pub record PassesTo {words : ℕ} (g : EnumerationInput words) (hs : List (Option (Ahead words))) (at position : ℕ) (from to : WalkPosition) (c : List (Ahead words)) : Type 0 where
   pub passes : Passes g hs at from to c
-  pub before : at + length passes.front ≤ position
+  pub before : at + length passes.prefix ≤ position
 
 -- the position lies before the end of the next node, if there is one
 abbrev pub EndsBehind : {words : ℕ} → EnumerationInput words → ℕ → List (Ahead words) → Type 0

@@ -46,17 +46,17 @@ EndsPast (Some q) p = p ≤ q.end
 
 -- the span starts or ends from `from` on and before `to`
 pub record IsBoundBetween (o : Option Span) (from to : ℕ) : Type 0 where
-  pub place : ℕ
-  pub after : from ≤ place
-  pub before : place < to
-  pub bound : IsBound o place
+  pub position : ℕ
+  pub after : from ≤ position
+  pub before : position < to
+  pub bound : IsBound o position
 
 -- some position from `from` on and before `to` has a mark
 pub record IsMarkedBetween (t : Tuple) (from to : ℕ) : Type 0 where
-  pub place : ℕ
-  pub after : from ≤ place
-  pub before : place < to
-  pub some : 0 < mark_of t place
+  pub position : ℕ
+  pub after : from ≤ position
+  pub before : position < to
+  pub some : 0 < mark_of t position
 
 -- no position from `from` on and before `to` has one
 abbrev pub IsUnmarked : Tuple → ℕ → ℕ → Type 0

@@ -106,7 +106,7 @@ IsStoppedLine old number meaning part files = ((part ≡ []) × (files ≡ old.f
 -- counting tables, and the observable files
 pub record IsNext (old : World) (number : ℕ) (line : List ℕ) (meaning : Option Command) (part : List ℕ) (cost : Allowance) (counted : Bool) (files : Option Files) : Type 0 where
   pub means : Means line meaning
-  pub front : IsStoppedLine old number meaning part files
+  pub prefix : IsStoppedLine old number meaning part files
   pub allowed : (cost ≡ no_steps) ⊎ IsAllowance old meaning cost
   pub counts : counted ≡ true → Of (AsksForCounts old) meaning
 

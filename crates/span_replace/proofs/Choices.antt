@@ -187,8 +187,8 @@ module _ (a : DeterministicAutomaton) (s : List ℕ) (spans : List Span) (all : 
       let e : length (chosen all) ≡ length (spans ++ q ∷ picked (past q) (spans_in all)) = ap length (p.whole all answers) in
       omega (arith, e, length-append spans (q ∷ picked (past q) (spans_in all)))
 
-  pub picks-front : (o : Option Span) → Picks a s spans o → length spans ≤ length (chosen all)
-  picks-front o p =
+  pub picks-prefix : (o : Option Span) → Picks a s spans o → length spans ≤ length (chosen all)
+  picks-prefix o p =
       let e : length (chosen all) ≡ length (spans ++ upcoming o (spans_in all)) = ap length (p.whole all answers) in
       omega (arith, e, length-append spans (upcoming o (spans_in all)))
 

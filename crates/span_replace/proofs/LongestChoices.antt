@@ -112,7 +112,7 @@ module _ (a : DeterministicAutomaton) (s : List ℕ) (spans : List Span) (all : 
       let e : length (longest all) ≡ length (spans ++ q ∷ longest_from (Some q) (spans_in all)) = ap length (p.whole all answers) in
       omega (arith, e, length-append spans (q ∷ longest_from (Some q) (spans_in all)))
 
-  pub takes-front : (o : Option Span) → Takes a s spans o → length spans ≤ length (longest all)
-  takes-front o p =
+  pub takes-prefix : (o : Option Span) → Takes a s spans o → length spans ≤ length (longest all)
+  takes-prefix o p =
       let e : length (longest all) ≡ length (spans ++ following o (spans_in all)) = ap length (p.whole all answers) in
       omega (arith, e, length-append spans (following o (spans_in all)))

@@ -23,14 +23,14 @@ mark-none q p h o = omega (arith, mark-one q p, at_other q.start 1 p (λ e. omeg
 
 starts-before : (a b : Span) → a.start ≤ a.end → b.start ≤ b.end → a.start < b.start → Comes (one a) (one b)
 starts-before a b oa ob h = record {
-  place = a.start;
+  index = a.start;
   same_before = λ p lt. mark-none a p lt oa ∙ sym (mark-none b p (omega (arith, lt, h)) ob);
   greater = omega (arith, mark-none b a.start h ob, mark-one a a.start, at_same a.start 1);
 }
 
 ends-before : (a b : Span) → a.start ≤ a.end → a.start ≡ b.start → a.end < b.end → Comes (one a) (one b)
 ends-before a b oa e h = record {
-  place = a.end;
+  index = a.end;
   same_before = λ p lt. omega (arith, mark-one a p, mark-one b p, starts p, at_other a.end 2 p (λ k. omega (arith, k, lt)), at_other b.end 2 p (λ k. omega (arith, k, lt, h)));
   greater = omega (arith, mark-one a a.end, mark-one b a.end, starts a.end, at_same a.end 2, at_other b.end 2 a.end (λ k. omega (arith, k, h)));
 }

@@ -121,9 +121,9 @@ abbrev pub place_after : Option Span → ℕ
 place_after None = 1
 place_after (Some l) = l.end
 
-follow-place : (last : Option Span) (q : Span) → 1 ≤ q.start → may_follow last q ≡ true → place_after last ≤ q.start
-follow-place None q p h = p
-follow-place (Some l) q p h = grind (arith, nat_tests)
+follow-index : (last : Option Span) (q : Span) → 1 ≤ q.start → may_follow last q ≡ true → place_after last ≤ q.start
+follow-index None q p h = p
+follow-index (Some l) q p h = grind (arith, nat_tests)
 
 pub longest-apart : (n : ℕ) (last : Option Span) (qs : List Span) → place_after last ≤ n + 1 → ((q : Span) → Has qs q → (1 ≤ q.start) × (q.start ≤ q.end) × (q.end ≤ n + 1))
     → AreApartFrom (place_after last) n (longest_from last qs)
@@ -133,6 +133,6 @@ longest-apart n last (q ∷ qs) h all =
   where
     by : (a b : Bool) → a ≡ may_follow last q → AreApartFrom q.end n (longest_from (Some q) qs) → AreApartFrom (place_after last) n (longest_from last qs)
         → AreApartFrom (place_after last) n (if a && b then q ∷ longest_from (Some q) qs else longest_from last qs)
-    by true true e taken left = (follow-place last q (all q (inl refl)).0 (sym e), (all q (inl refl)).1, taken)
+    by true true e taken left = (follow-index last q (all q (inl refl)).0 (sym e), (all q (inl refl)).1, taken)
     by true false e taken left = left
     by false b e taken left = left

@@ -132,7 +132,7 @@ pub(crate) fn next_span<L: Ledger>(answers: &mut Answers<'_>, looks: &mut Steps<
     ensures text { answers.new.text ≡ answers.old.text }
     ensures span { MatchOption result (NoSpanLeft answers.old.automaton answers.old.text answers.old.after)
         (λ q. IsFirstMember answers.old.automaton answers.old.text answers.old.after (Some q ∷ [])) }
-    ensures place { IsSpanOr result }
+    ensures index { IsSpanOr result }
     ensures cost { looks.new ≤ looks.old + looks_limit 1 (length answers.old.text) }
 {
     match answers.next(looks) {
@@ -153,7 +153,7 @@ fn span_after<L: Ledger>(
     ensures text { answers.new.text ≡ answers.old.text }
     ensures span { MatchOption result (NoSpanLeft answers.old.automaton answers.old.text (Some cursor.now))
         (λ q. IsFirstMember answers.old.automaton answers.old.text (Some cursor.now) (Some q ∷ [])) }
-    ensures place { IsSpanOr result }
+    ensures index { IsSpanOr result }
     ensures cost { looks.new ≤ looks.old + 3 * looks_limit 1 (length answers.old.text) }
 {
     answers.reseek(cursor, looks);

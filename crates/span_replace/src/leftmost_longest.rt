@@ -88,7 +88,7 @@ fn longest_left<L: Ledger>(answers: &mut Answers<'_>, looks: &mut Steps<L>) -> O
     ensures text { answers.new.text ≡ answers.old.text }
     ensures span { MatchOption result (NoSpanLeft answers.old.automaton answers.old.text answers.old.after)
         (IsLongestLeft answers.old.automaton answers.old.text answers.old.after) }
-    ensures place { IsSpanOr result }
+    ensures index { IsSpanOr result }
     ensures cost { looks.new ≤ looks.old + 2 * looks_limit 1 (length answers.old.text) }
 {
     let first = next_span(answers, looks)?;
@@ -113,7 +113,7 @@ fn longest_after<L: Ledger>(
     ensures text { answers.new.text ≡ answers.old.text }
     ensures span { MatchOption result (NoSpanLeft answers.old.automaton answers.old.text (Some (Some (empty_end taken) ∷ [])))
         (IsLongestLeft answers.old.automaton answers.old.text (Some (Some (empty_end taken) ∷ []))) }
-    ensures place { IsSpanOr result }
+    ensures index { IsSpanOr result }
     ensures cost { looks.new ≤ looks.old + 4 * looks_limit 1 (length answers.old.text) }
 {
     answers.reseek(&cursor_at_end(taken), looks);

@@ -128,9 +128,9 @@ fn replace_next<L: Ledger>(
     ensures at { IfOk result (λ r. r.at ≡ span.end) }
     ensures cost { pairs.new ≤ pairs.old + 1770 }
 {
-    let (front, tail) = cut(store, work.rest, span.start - work.at, pairs)?;
+    let (prefix, tail) = cut(store, work.rest, span.start - work.at, pairs)?;
     let (_, rest) = cut(store, tail, span.end - span.start, pairs)?;
-    let piece = join(store, front, by, pairs)?;
+    let piece = join(store, prefix, by, pairs)?;
     let done = join(store, work.done, piece, pairs)?;
     Ok(Progress {
         done,

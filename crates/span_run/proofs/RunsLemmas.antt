@@ -167,9 +167,9 @@ module _ (lines left rest : List (List ℕ)) (line : List ℕ) (number : ℕ) (r
   part_of meaning (inl kept) = []
   part_of meaning (inr (told, reply, carried, (n, wrote))) = take n reply
 
-  part_is_front : (meaning : Option Command) (h : HaltsAt meaning) → IsStoppedLine (world_in old) (1 + length at.done) meaning (part_of meaning h) new.files
-  part_is_front meaning (inl kept) = inl (refl, ap (λ (w : World). w.files) kept.world)
-  part_is_front meaning (inr (told, reply, carried, (n, wrote))) = inr (told, reply, world_in new, n, subst (λ (k : ℕ). Carried (world_in old) k meaning told reply (world_in new)) at.counted carried, refl, refl)
+  part_is_prefix : (meaning : Option Command) (h : HaltsAt meaning) → IsStoppedLine (world_in old) (1 + length at.done) meaning (part_of meaning h) new.files
+  part_is_prefix meaning (inl kept) = inl (refl, ap (λ (w : World). w.files) kept.world)
+  part_is_prefix meaning (inr (told, reply, carried, (n, wrote))) = inr (told, reply, world_in new, n, subst (λ (k : ℕ). Carried (world_in old) k meaning told reply (world_in new)) at.counted carried, refl, refl)
 
   part_written : (meaning : Option Command) (h : HaltsAt meaning) → Appends before.written after.written (at.sum.output ++ part_of meaning h)
   part_written meaning (inl kept) = Appends-trans before.written sink.written after.written at.sum.output [] at.wrote (Appends-kept sink.written sink.written after.written [] (Appends-nil sink.written) kept.written)
@@ -192,7 +192,7 @@ module _ (lines left rest : List (List ℕ)) (line : List ℕ) (number : ℕ) (r
         part = part_of meaning h;
         last = s.passes.begun.0;
         counted = s.passes.counts;
-        next = inr (line, rest, meaning, refl, record { means = means; front = part_is_front meaning h; allowed = s.passes.begun.1; counts = s.passes.asked }, ends);
+        next = inr (line, rest, meaning, refl, record { means = means; prefix = part_is_prefix meaning h; allowed = s.passes.begun.1; counts = s.passes.asked }, ends);
         wrote = part_written meaning h;
         paid = both_paid at.sum.cost s.passes.begun.0 before.counters (told_of old sink).counters (told_of new after).counters at.paid s.passes.begun.2;
         placed = few_of (at.sum.counted || s.passes.counts) at.sum before (told_of new after) (n + at.dropped) bound

@@ -7,8 +7,8 @@ fn cut_line(text: &[u8]) -> Option<(&[u8], &[u8])>
     ensures { MatchOption result (All (λ b. b ≢ 10) text.now)
         (λ p. (text.now ≡ p.0.now ++ 10 ∷ p.1.now) × All (λ b. b ≢ 10) p.0.now) }
 {
-    let place = text.iter().position(|b| *b == b'\n')?;
-    Some((&text[..place], &text[place + 1..]))
+    let index = text.iter().position(|b| *b == b'\n')?;
+    Some((&text[..index], &text[index + 1..]))
 }
 
 /// The first line, without its newline, and what follows it.

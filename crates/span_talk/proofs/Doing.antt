@@ -17,7 +17,7 @@ use Rattle.session_state.specs.SessionState.{SessionModel, IsSessionModel}
 use Rattle.session_state.specs.LineState.{LineState}
 use Rattle.session_state.specs.Carried.{IsDone, IsStopped, Outlet}
 use Rattle.span_run.proofs.RunsLemmas.{IsAt, told_of, goes_on, or_false, stops_anywhere, stops_in_file, stops_wanting, ends}
-use Rattle.span_talk.specs.Progress.{Does, IsHalted, ConversationState, ReachesState, StopsIn, place}
+use Rattle.span_talk.specs.Progress.{Does, IsHalted, ConversationState, ReachesState, StopsIn, conversation}
 use Rattle.span_talk.proofs.Cuts.{short_take}
 
 pub means_kept : (line : List ℕ) (meaning : Option Command) → Means (take 65537 line) meaning → Means line meaning
@@ -70,7 +70,7 @@ module _ (kept : List ℕ) (number : ℕ) (old : LineState) (sink : Outlet) (new
   stopped_as line why is (inr (meaning, means, s)) = inr (meaning, means_kept line meaning (subst (λ (l : List ℕ). Means l meaning) is means), s)
 
   pub does : (refused : Bool) (told : Told) → IsDone kept number old sink new after told
-      → Does kept (place number refused old.model (told_of old sink)) (place (number + 1) (refused || is_refused told) new.model (told_of new after))
+      → Does kept (conversation number refused old.model (told_of old sink)) (conversation (number + 1) (refused || is_refused told) new.model (told_of new after))
   does refused told done = λ line lines most before is at.
       goes_on (lines ++ line ∷ []) (line ∷ []) [] line number refused most before old sink new after refl (further lines (line ∷ []) number refused old.model most before (told_of old sink) at) told (done_as line told is done)
 
@@ -84,7 +84,7 @@ module _ (kept : List ℕ) (number : ℕ) (old : LineState) (sink : Outlet) (new
 
   -- the run is stopped as the line was
   pub halts : (refused : Bool) (why : Stop) → IsSessionModel old.model → IsSessionModel new.model → IsStopped kept number old sink new after why
-      → IsHalted (λ Ends. StopsIn Ends kept (place number refused old.model (told_of old sink)) (told_of new after)) sink old.faults after new.faults why
+      → IsHalted (λ Ends. StopsIn Ends kept (conversation number refused old.model (told_of old sink)) (told_of new after)) sink old.faults after new.faults why
   halts refused why session state_of stopped = record {
     out_fault = λ is.
         let s = subst (λ (w : Stop). IsStopped kept number old sink new after w) is stopped in
@@ -97,5 +97,5 @@ module _ (kept : List ℕ) (number : ℕ) (old : LineState) (sink : Outlet) (new
         stops_wanting (lines ++ line ∷ more) (line ∷ more) more line number refused most before old sink new after refl (begun line lines more most before at) wants few session state_of (stopped_as line stop.NoMemory same s);
   }
     where
-      begun : (line : List ℕ) (lines more : List (List ℕ)) (most : ℕ) (before : Outside) → ReachesState lines most before (place number refused old.model (told_of old sink)) → IsAt (lines ++ line ∷ more) (line ∷ more) number refused old.model most before (told_of old sink)
+      begun : (line : List ℕ) (lines more : List (List ℕ)) (most : ℕ) (before : Outside) → ReachesState lines most before (conversation number refused old.model (told_of old sink)) → IsAt (lines ++ line ∷ more) (line ∷ more) number refused old.model most before (told_of old sink)
       begun line lines more most before at = further lines (line ∷ more) number refused old.model most before (told_of old sink) at

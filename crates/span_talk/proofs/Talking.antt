@@ -11,12 +11,12 @@ use Rattle.session_state.specs.SessionState.{SessionModel, IsSessionModel}
 use Rattle.span_run.proofs.LinesLemmas.{no_newline}
 use Rattle.span_run.proofs.RunsLemmas.{at_start, ends}
 use Rattle.span_talk.specs.Talk.{AreReplied, HaveRun, OfSent, whole_lines}
-use Rattle.span_talk.specs.Progress.{Does, Hears, IsTalking, ConversationState, StopsIn, StopsWithin, place}
+use Rattle.span_talk.specs.Progress.{Does, Hears, IsTalking, ConversationState, StopsIn, StopsWithin, conversation}
 use Rattle.span_talk.proofs.Cuts.{ended_with, ended_without, kept_goes_on, line_cut, none_kept, nothing_cut, part_cut, some_begun, whole_is}
 use Rattle.span_talk.proofs.Doing.{stopped_between}
 use Rattle.span_talk.proofs.Known.{of_sent}
 
-pub begins : (most : ℕ) (before : Outside) (st : SessionModel) (kept : List ℕ) → kept ≡ [] → st.state ≡ nothing most → st.covered ≡ [] → st.counted ≡ [] → st.store ≡ [] → IsTalking [] most before kept (place 1 false st before)
+pub begins : (most : ℕ) (before : Outside) (st : SessionModel) (kept : List ℕ) → kept ≡ [] → st.state ≡ nothing most → st.covered ≡ [] → st.counted ≡ [] → st.store ≡ [] → IsTalking [] most before kept (conversation 1 false st before)
 begins most before st kept none state covered counted store = record { done = []; begun = []; cut = nothing_cut; kept_is = none; at = at_start [] most before st state covered counted store }
 
 module _ (bytes : List ℕ) (most : ℕ) (before : Outside) (kept : List ℕ) (p : ConversationState) (t : IsTalking bytes most before kept p) where

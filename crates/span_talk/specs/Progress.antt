@@ -19,12 +19,12 @@ pub record ConversationState : Type 0 where
   pub model : SessionModel
   pub now : Outside
 
-abbrev pub place : ℕ → Bool → SessionModel → Outside → ConversationState
-place number refused model now = record { number = number; refused = refused; model = model; now = now }
+abbrev pub conversation : ℕ → Bool → SessionModel → Outside → ConversationState
+conversation number refused model now = record { number = number; refused = refused; model = model; now = now }
 
 -- the state of a conversation, with this observable of the environment
 abbrev pub state_of : Progress → Outside → ConversationState
-state_of p now = place p.number p.refused p.session now
+state_of p now = conversation p.number p.refused p.session now
 
 -- these lines ran, and resulted in this state
 abbrev pub ReachesState : List (List ℕ) → ℕ → Outside → ConversationState → Type 0

@@ -11,8 +11,8 @@ pub fn cut_line(text: &[u8]) -> Option<(&[u8], &[u8])>
     ensures { MatchOption result (All (λ b. b ≢ 10) text.now)
         (λ p. (text.now ≡ p.0.now ++ 10 ∷ p.1.now) × All (λ b. b ≢ 10) p.0.now) }
 {
-    let place = text.iter().position(|b| *b == b'\n')?;
-    Some((&text[..place], &text[place + 1..]))
+    let end = text.iter().position(|b| *b == b'\n')?;
+    Some((&text[..end], &text[end + 1..]))
 }
 
 /// Appends bytes of a line to the stored ones, up to 65,537 in total. The rest is dropped.

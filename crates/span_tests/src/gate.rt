@@ -21,7 +21,7 @@ struct Meeting {
 }
 
 impl Gate for Meeting {
-    fn pass(&self, _place: usize) {
+    fn pass(&self, _index: usize) {
         if self.arrived.fetch_add(1, Ordering::SeqCst) != self.passing {
             return;
         }

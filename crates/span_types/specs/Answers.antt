@@ -17,10 +17,10 @@ pub record IsAnswers (f : FormulaTree) (k : ℕ) (s : List ℕ) (ts : List (List
 
 -- the part of a list in mark order that comes after a cursor
 pub record IsAfter (all : List (List (Option Span))) (cursor : Option (List (Option Span))) (rest : List (List (Option Span))) : Type 0 where
-  pub front : List (List (Option Span))
-  pub cut : all ≡ front ++ rest
-  pub start : cursor ≡ None → front ≡ []
-  pub passed : (c t : List (Option Span)) → cursor ≡ Some c → Contains front t → Comes c t → ⊥
+  pub prefix : List (List (Option Span))
+  pub cut : all ≡ prefix ++ rest
+  pub start : cursor ≡ None → prefix ≡ []
+  pub passed : (c t : List (Option Span)) → cursor ≡ Some c → Contains prefix t → Comes c t → ⊥
   pub left : (c t : List (Option Span)) → cursor ≡ Some c → Contains rest t → Comes c t
 
 -- Page: the first n tuples after the cursor, which is any tuple or none, and whether there are more

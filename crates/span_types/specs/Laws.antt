@@ -22,7 +22,7 @@ pub record IsOrder : Type 0 where
   pub irreflexive : (t : List (Option Span)) → Comes t t → ⊥
   pub transitive : (t u v : List (Option Span)) → length t ≡ length u → Comes t u → Comes u v → Comes t v
   pub total : (t u : List (Option Span)) → IsTuple t → IsTuple u → length t ≡ length u → Comes t u ⊎ ((t ≡ u) ⊎ Comes u t)
-  pub marked_first : (t u : List (Option Span)) → (b : Comes t u) → 0 < mark_of t b.place
+  pub marked_first : (t u : List (Option Span)) → (b : Comes t u) → 0 < mark_of t b.index
 
 -- the words of tuples over a text, whose end counts as a letter, are in the order of the tuples
 pub record WordsOrder : Type 0 where

@@ -36,9 +36,9 @@ mark (suc k) t p = mark k t p + part_of k (t k) p
 
 -- Before, mark order of spans of k variables: at some position t has the greater mark, and at every smaller one the marks are equal
 pub record Before (k : ℕ) (t u : Spans) : Type 0 where
-  pub place : ℕ
-  pub same_before : (p : ℕ) → p < place → mark k t p ≡ mark k u p
-  pub greater : mark k u place < mark k t place
+  pub index : ℕ
+  pub same_before : (p : ℕ) → p < index → mark k t p ≡ mark k u p
+  pub greater : mark k u index < mark k t index
 
 -- every span lies between the positions i and j
 abbrev pub LiesIn : ℕ → ℕ → Spans → Type 0

@@ -38,6 +38,6 @@ mark_count (x ∷ w) = (if x.0 == 0 then 0 else 1) + mark_count w
 
 -- the tuple has a bound past the end of a text of n bytes
 pub record IsPast (n : ℕ) (t : List (Option Span)) : Type 0 where
-  pub place : ℕ
-  pub past : suc n < place
-  pub there : 0 < mark_of t place
+  pub index : ℕ
+  pub past : suc n < index
+  pub there : 0 < mark_of t index

@@ -61,7 +61,7 @@ impl Vars {
         ensures vars { AreVars self.new }
         ensures err { OnErr result (self.new ≡ self.old) }
     {
-        if let Some(v) = place_of(&self.names, &name) {
+        if let Some(v) = index_of(&self.names, &name) {
             return Ok(v as u8);
         }
         if self.names.len() == 8 {
@@ -107,7 +107,7 @@ impl Vars {
 }
 
 /// The first index of a name.
-fn place_of(names: &[Name], name: &Name) -> Option<usize>
+fn index_of(names: &[Name], name: &Name) -> Option<usize>
     ensures { MatchOption result (Contains names.now name.now → ⊥) (λ v. (v < length names.now) × (slice_get names.now v ≡ Some name.now)) }
 {
     names.iter().position(|other| is_same(other, name))

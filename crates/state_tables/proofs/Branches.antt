@@ -17,17 +17,17 @@ pub branch-rows : (t : List Row) (depth : ℕ) → 64 ≤ depth → branch_of t 
 unfolding branch_of
 branch-rows t depth le = ap (λ b. cond b (bit_at (digest_of t) (127 - depth)) (rows_bit t (depth - 64))) (le-ltb depth 64 le)
 
-pub row-bit-set : (row : Row) (place : ℕ) → place < 1024 → row_bit row place ≡ bit_at row.marked place
-row-bit-set row place lt = ap (λ b. cond b (bit_at row.marked place) (bit_at (code_of row.unmarked) (place - 1024))) (lt-ltb place 1024 lt)
+pub row-bit-set : (row : Row) (index : ℕ) → index < 1024 → row_bit row index ≡ bit_at row.marked index
+row-bit-set row index lt = ap (λ b. cond b (bit_at row.marked index) (bit_at (code_of row.unmarked) (index - 1024))) (lt-ltb index 1024 lt)
 
-pub row-bit-code : (row : Row) (place : ℕ) → 1024 ≤ place → row_bit row place ≡ bit_at (code_of row.unmarked) (place - 1024)
-row-bit-code row place le = ap (λ b. cond b (bit_at row.marked place) (bit_at (code_of row.unmarked) (place - 1024))) (le-ltb place 1024 le)
+pub row-bit-code : (row : Row) (index : ℕ) → 1024 ≤ index → row_bit row index ≡ bit_at (code_of row.unmarked) (index - 1024)
+row-bit-code row index le = ap (λ b. cond b (bit_at row.marked index) (bit_at (code_of row.unmarked) (index - 1024))) (le-ltb index 1024 le)
 
-no-bit : (place : ℕ) → row_bit no_row place ≡ 0
-no-bit place = elim (cases_lt place 1024) [
-  | inl lt ↦ row-bit-set no_row place lt ∙ bit_at-zero place
-  | inr ge ↦ row-bit-code no_row place ge ∙ bit_at-zero (place - 1024)
+no-bit : (index : ℕ) → row_bit no_row index ≡ 0
+no-bit index = elim (cases_lt index 1024) [
+  | inl lt ↦ row-bit-set no_row index lt ∙ bit_at-zero index
+  | inr ge ↦ row-bit-code no_row index ge ∙ bit_at-zero (index - 1024)
 ]
 
-pub bit-past : (t : List Row) (place : ℕ) → length t ≤ place / 1040 → rows_bit t place ≡ 0
-bit-past t place past = ap (λ r. row_bit r (place % 1040)) (get_or_past t (place / 1040) no_row past) ∙ no-bit (place % 1040)
+pub bit-past : (t : List Row) (index : ℕ) → length t ≤ index / 1040 → rows_bit t index ≡ 0
+bit-past t index past = ap (λ r. row_bit r (index % 1040)) (get_or_past t (index / 1040) no_row past) ∙ no-bit (index % 1040)

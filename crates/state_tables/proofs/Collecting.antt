@@ -107,8 +107,8 @@ member-low n w i lt = ap (λ b. b == 1) (bit_at_cat_low n 64 w i lt)
 member-high : (n w i : ℕ) → w < 2 ^ 64 → member (n * 2 ^ 64 + w) (64 + i) ≡ member n (0 + i)
 unfolding member
 member-high n w i lt =
-    let place : 64 + i - 64 ≡ 0 + i = omega arith in
-    ap (λ b. b == 1) (bit_at_cat_high n 64 w (64 + i) lt (omega arith) ∙ ap (bit_at n) place)
+    let index : 64 + i - 64 ≡ 0 + i = omega arith in
+    ap (λ b. b == 1) (bit_at_cat_high n 64 w (64 + i) lt (omega arith) ∙ ap (bit_at n) index)
 
 member-above : (w i : ℕ) → w < 2 ^ 64 → 64 ≤ i → member w i ≡ member 0 i
 unfolding member
@@ -139,8 +139,8 @@ pub word-step : (all i : ℕ) (ws : List ℕ) (t : List Row) → i < length ws �
 word-step all i ws t lt are =
     let w = get_or ws i 0 in
     let n = number_of_words (drop (i + 1) ws) in
-    let place : i * 64 + 64 ≡ (i + 1) * 64 = omega arith in
-    let rest : drop 64 (drop (i * 64) t) ≡ drop ((i + 1) * 64) t = drop-drop 64 (i * 64) t ∙ ap (λ m. drop m t) place in
+    let index : i * 64 + 64 ≡ (i + 1) * 64 = omega arith in
+    let rest : drop 64 (drop (i * 64) t) ≡ drop ((i + 1) * 64) t = drop-drop 64 (i * 64) t ∙ ap (λ m. drop m t) index in
     or_assoc all (reach (get_or ws i 0) 0 (drop (i * 64) t)) (reach (number_of_words (drop (i + 1) ws)) 0 (drop ((i + 1) * 64) t))
     ∙ ap (λ rs. bit_or all (bit_or (reach (get_or ws i 0) 0 (drop (i * 64) t)) (reach (number_of_words (drop (i + 1) ws)) 0 rs))) (sym rest)
     ∙ ap (bit_or all) (sym (split-from n w 0 (drop (i * 64) t) (are i) (omega arith)))
@@ -154,8 +154,8 @@ pub bit-of-word : (ws : List ℕ) (i b : ℕ) → AreWords ws → bit_at (get_or
 bit-of-word ws i b are h = elim (cases_lt b 64) [
   | inl lt ↦
       let word : (i * 64 + b) / 64 ≡ i = omega (arith, lt) in
-      let place : (i * 64 + b) % 64 ≡ b = omega (arith, lt) in
-      member-words ws (i * 64 + b) are ∙ ap (λ k. bit_at (get_or ws k 0) ((i * 64 + b) % 64) == 1) word ∙ ap (λ k. bit_at (get_or ws i 0) k == 1) place ∙ ap (λ k. k == 1) h
+      let index : (i * 64 + b) % 64 ≡ b = omega (arith, lt) in
+      member-words ws (i * 64 + b) are ∙ ap (λ k. bit_at (get_or ws k 0) ((i * 64 + b) % 64) == 1) word ∙ ap (λ k. bit_at (get_or ws i 0) k == 1) index ∙ ap (λ k. k == 1) h
   | inr ge ↦ absurd (omega (arith, h, bit_at_above (get_or ws i 0) 64 b (are i) ge))
 ]
 

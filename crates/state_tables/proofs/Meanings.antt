@@ -162,14 +162,14 @@ compose-forth a s u left right auto l r p q h k =
           joined a s u p from.0 q (plain s) later.word (bytes-plain s) later.bytes (sym (l.unmarked p h) ∙ from.1.0) later.ends (or-right (has_mark (plain s)) (has_mark later.word) later.mark)
       | inr e ↦
           let by = reached-by (marked_of left p) 0 q right e in
-          let below : by.place < states_of a = omega (arith, by.among, r.shape.states) in
-          let first = (l.marked p by.place h).0 (ap (member (marked_of left p)) (sym (zero-add by.place)) ∙ by.in_set) in
+          let below : by.index < states_of a = omega (arith, by.among, r.shape.states) in
+          let first = (l.marked p by.index h).0 (ap (member (marked_of left p)) (sym (zero-add by.index)) ∙ by.in_set) in
           elim by.how [
             | inl m ↦
-                let later = (r.marked by.place q below).0 m in
-                joined a s u p by.place q first.word later.word first.bytes later.bytes first.ends later.ends (or-left (has_mark first.word) (has_mark later.word) first.mark)
+                let later = (r.marked by.index q below).0 m in
+                joined a s u p by.index q first.word later.word first.bytes later.bytes first.ends later.ends (or-left (has_mark first.word) (has_mark later.word) first.mark)
             | inr m ↦
-                joined a s u p by.place q first.word (plain u) first.bytes (bytes-plain u) first.ends (sym (r.unmarked by.place below) ∙ m) (or-left (has_mark first.word) (has_mark (plain u)) first.mark)
+                joined a s u p by.index q first.word (plain u) first.bytes (bytes-plain u) first.ends (sym (r.unmarked by.index below) ∙ m) (or-left (has_mark first.word) (has_mark (plain u)) first.mark)
           ]
     ]
 

@@ -49,10 +49,10 @@ true-if false n q e h = cc
 -- ---- what a set reaches
 -- some state of the set, numbered from k, reaches q
 pub record ReachedBy (set k : ℕ) (rows : List Row) (q : ℕ) : Type 0 where
-  pub place : ℕ
-  pub among : place < length rows
-  pub in_set : member set (k + place) ≡ true
-  pub how : (member (row_at rows place).marked q ≡ true) ⊎ ((row_at rows place).unmarked ≡ Some q)
+  pub index : ℕ
+  pub among : index < length rows
+  pub in_set : member set (k + index) ≡ true
+  pub how : (member (row_at rows index).marked q ≡ true) ⊎ ((row_at rows index).unmarked ≡ Some q)
 
 row-cases : (row : Row) (q : ℕ) → member (reached_of row) q ≡ true → (member row.marked q ≡ true) ⊎ (row.unmarked ≡ Some q)
 row-cases row q h = elim (or-cases (member row.marked q) (member (single_of row.unmarked) q) (sym (member-or row.marked (single_of row.unmarked) q) ∙ h)) [
@@ -73,11 +73,11 @@ reached-by set k q (row ∷ rows) h =
     (sym (member-or (if member set k then reached_of row else 0) (reach set (k + 1) rows) q) ∙ h)) [
       | inl e ↦
           let both = if-true (member set k) (reached_of row) q e in
-          record { place = 0; among = omega arith; in_set = ap (member set) (omega arith) ∙ both.0; how = row-cases row q both.1 }
+          record { index = 0; among = omega arith; in_set = ap (member set) (omega arith) ∙ both.0; how = row-cases row q both.1 }
       | inr e ↦
           let later = reached-by set (k + 1) q rows e in
-          let at : k + suc later.place ≡ k + 1 + later.place = omega arith in
-          record { place = suc later.place; among = omega (arith, later.among); in_set = ap (member set) at ∙ later.in_set; how = later.how }
+          let at : k + suc later.index ≡ k + 1 + later.index = omega arith in
+          record { index = suc later.index; among = omega (arith, later.among); in_set = ap (member set) at ∙ later.in_set; how = later.how }
     ]
 
 pub by-reached : (set k q : ℕ) (rows : List Row) (i : ℕ) → i < length rows → member set (k + i) ≡ true

@@ -16,21 +16,21 @@ reach-same s t k (row ∷ rows) e =
     ∙ ap (bit_or (if member t k then reached_of row else 0)) (reach-same s t (k + 1) rows (λ i h. e i (omega arith)))
 
 -- one member, and then the others
-pub reach-take : (s t k place q : ℕ) (rows : List Row) → k + place ≡ q → place < length rows → member s q ≡ true → member t q ≡ false
-    → ((i : ℕ) → i ≢ q → member t i ≡ member s i) → reach s k rows ≡ bit_or (reached_of (row_at rows place)) (reach t k rows)
-reach-take s t k place q [] at lt is gone others = absurd (omega arith)
+pub reach-take : (s t k index q : ℕ) (rows : List Row) → k + index ≡ q → index < length rows → member s q ≡ true → member t q ≡ false
+    → ((i : ℕ) → i ≢ q → member t i ≡ member s i) → reach s k rows ≡ bit_or (reached_of (row_at rows index)) (reach t k rows)
+reach-take s t k index q [] at lt is gone others = absurd (omega arith)
 reach-take s t k zero q (row ∷ rows) at lt is gone others =
     let here : k ≡ q = omega arith in
     let later : reach s (k + 1) rows ≡ reach t (k + 1) rows = reach-same s t (k + 1) rows (λ i h. sym (others i (omega arith))) in
     ap (λ b. bit_or (if b then reached_of row else 0) (reach s (k + 1) rows)) (ap (member s) here ∙ is)
     ∙ ap (bit_or (reached_of row)) later
     ∙ ap (λ b. bit_or (reached_of row) (bit_or (if b then reached_of row else 0) (reach t (k + 1) rows))) (sym (ap (member t) here ∙ gone))
-reach-take s t k (suc place) q (row ∷ rows) at lt is gone others =
-    let next : k + 1 + place ≡ q = omega arith in
+reach-take s t k (suc index) q (row ∷ rows) at lt is gone others =
+    let next : k + 1 + index ≡ q = omega arith in
     let apart : k ≢ q = omega arith in
-    ap (bit_or (if member s k then reached_of row else 0)) (reach-take s t (k + 1) place q rows next (omega arith) is gone others)
-    ∙ or_swap (if member s k then reached_of row else 0) (reached_of (row_at rows place)) (reach t (k + 1) rows)
-    ∙ ap (λ b. bit_or (reached_of (row_at rows place)) (bit_or (if b then reached_of row else 0) (reach t (k + 1) rows))) (sym (others k apart))
+    ap (bit_or (if member s k then reached_of row else 0)) (reach-take s t (k + 1) index q rows next (omega arith) is gone others)
+    ∙ or_swap (if member s k then reached_of row else 0) (reached_of (row_at rows index)) (reach t (k + 1) rows)
+    ∙ ap (λ b. bit_or (reached_of (row_at rows index)) (bit_or (if b then reached_of row else 0) (reach t (k + 1) rows))) (sym (others k apart))
 
 -- the empty set reaches nothing
 pub reach-none : (k : ℕ) (rows : List Row) → reach 0 k rows ≡ 0

@@ -68,8 +68,8 @@ composed-within n right row q r h =
       | inr e ↦
           let by = reached-by row.marked 0 q right e in
           elim by.how [
-            | inl m ↦ r.marked_within by.place q m
-            | inr m ↦ r.unmarked_within by.place q m
+            | inl m ↦ r.marked_within by.index q m
+            | inr m ↦ r.unmarked_within by.index q m
           ]
     ]
 

@@ -102,5 +102,5 @@ words-back (w ∷ ws) are =
     ∙ ap (λ n. w ∷ words_of (length ws) n) (high-part (number_of_words ws) w (are 0))
     ∙ ap (λ x. w ∷ x) (words-back ws (λ i. are (suc i)))
 
-pub words-told : (ws vs : List ℕ) → AreWords ws → AreWords vs → length ws ≡ length vs → number_of_words ws ≡ number_of_words vs → ws ≡ vs
-words-told ws vs w v long e = sym (words-back ws w) ∙ ap (λ n. words_of n (number_of_words ws)) long ∙ ap (words_of (length vs)) e ∙ words-back vs v
+pub words-injective : (ws vs : List ℕ) → AreWords ws → AreWords vs → length ws ≡ length vs → number_of_words ws ≡ number_of_words vs → ws ≡ vs
+words-injective ws vs w v long e = sym (words-back ws w) ∙ ap (λ n. words_of n (number_of_words ws)) long ∙ ap (words_of (length vs)) e ∙ words-back vs v

@@ -11,11 +11,11 @@ root_of roots t = bit_and (digest_of t) (roots - 1)
 
 -- a bit of a row, which has 1,040
 abbrev pub row_bit : Row → ℕ → ℕ
-row_bit row place = if nat_lt place 1024 then bit_at row.marked place else bit_at (code_of row.unmarked) (place - 1024)
+row_bit row index = if nat_lt index 1024 then bit_at row.marked index else bit_at (code_of row.unmarked) (index - 1024)
 
 -- a bit of the concatenated rows
 abbrev pub rows_bit : List Row → ℕ → ℕ
-rows_bit t place = row_bit (row_at t (place / 1040)) (place % 1040)
+rows_bit t index = row_bit (row_at t (index / 1040)) (index % 1040)
 
 -- the bit that chooses the branch at this depth: the upper half of the digest from its highest bit on, and then the
 -- rows

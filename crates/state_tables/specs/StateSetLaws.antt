@@ -11,15 +11,15 @@ bit-words [] q are = bit_at-zero q ∙ sym (bit_at-zero (q % 64))
 bit-words (w ∷ ws) q are = elim (cases_lt q 64) [
   | inl lt ↦
       let word : q / 64 ≡ 0 = omega (arith, lt) in
-      let place : q % 64 ≡ q = omega (arith, lt) in
+      let index : q % 64 ≡ q = omega (arith, lt) in
       bit_at_cat_low (number_of_words ws) 64 w q lt
-      ∙ sym (ap (λ k. bit_at (get_or (w ∷ ws) k 0) (q % 64)) word ∙ ap (bit_at w) place)
+      ∙ sym (ap (λ k. bit_at (get_or (w ∷ ws) k 0) (q % 64)) word ∙ ap (bit_at w) index)
   | inr ge ↦
       let word : q / 64 ≡ suc ((q - 64) / 64) = omega (arith, ge) in
-      let place : q % 64 ≡ (q - 64) % 64 = omega (arith, ge) in
+      let index : q % 64 ≡ (q - 64) % 64 = omega (arith, ge) in
       bit_at_cat_high (number_of_words ws) 64 w q (are 0) ge
       ∙ bit-words ws (q - 64) (λ i. are (suc i))
-      ∙ sym (ap (λ k. bit_at (get_or (w ∷ ws) k 0) (q % 64)) word ∙ ap (bit_at (get_or ws ((q - 64) / 64) 0)) place)
+      ∙ sym (ap (λ k. bit_at (get_or (w ∷ ws) k 0) (q % 64)) word ∙ ap (bit_at (get_or ws ((q - 64) / 64) 0)) index)
 ]
 
 -- whether a state is in it

@@ -287,11 +287,11 @@ fn are_same(classes: &[u16], others: &[u16]) -> bool
 const CLASS_BITS: usize = 16;
 
 // A bit of the concatenated classes, or 0 past the end.
-fn class_bit(classes: &[u16], place: usize) -> usize
-    ensures { result ≡ bit_at (get_or classes.now (place / 16) 0) (place % 16) }
+fn class_bit(classes: &[u16], index: usize) -> usize
+    ensures { result ≡ bit_at (get_or classes.now (index / 16) 0) (index % 16) }
 {
-    match classes.get(place / CLASS_BITS) {
-        Some(class) => (*class >> (place % CLASS_BITS) as u16 & 1) as usize,
+    match classes.get(index / CLASS_BITS) {
+        Some(class) => (*class >> (index % CLASS_BITS) as u16 & 1) as usize,
         None => 0,
     }
 }

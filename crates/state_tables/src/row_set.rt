@@ -81,7 +81,7 @@ impl RowSet {
     pub(crate) fn index_of(&mut self, row: CodedRow) -> Result<u16, NoMemory>
         requires set { row.set < length self.old.sets }
         requires few { length self.old.rows < 2 ^ 16 - 1 }
-        ensures place { IfOk result (IsRowAt (list_of self.new) (row_in self.old.sets row)) }
+        ensures index { IfOk result (IsRowAt (list_of self.new) (row_in self.old.sets row)) }
         ensures taken { OnOk result (TakesRow (list_of self.old) (list_of self.new) (row_in self.old.sets row)) }
         ensures sets { self.new.sets ≡ self.old.sets }
     {
@@ -108,7 +108,7 @@ impl RowSet {
         requires width { length words.now ≡ self.old.width }
         requires few_sets { length self.old.sets < 2 ^ 16 - 1 }
         requires few { length self.old.rows < 2 ^ 16 - 1 }
-        ensures place { IfOk result (IsRowAt (list_of self.new) (row_of code words.now)) }
+        ensures index { IfOk result (IsRowAt (list_of self.new) (row_of code words.now)) }
         ensures taken { OnOk result (TakesRow (list_of self.old) (list_of self.new) (row_of code words.now)) }
         ensures sets { OnOk result (TakesSet self.old.sets self.new.sets (number_of_words words.now)) }
     {

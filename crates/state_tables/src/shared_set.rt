@@ -45,11 +45,11 @@ impl SetWords {
 const WORD_BITS: usize = 64;
 
 // A bit of the concatenated words, or 0 past the end.
-fn word_bit(words: &[u64], place: usize) -> usize
-    ensures { result ≡ bit_at (get_or words.now (place / 64) 0) (place % 64) }
+fn word_bit(words: &[u64], index: usize) -> usize
+    ensures { result ≡ bit_at (get_or words.now (index / 64) 0) (index % 64) }
 {
-    match words.get(place / WORD_BITS) {
-        Some(word) => (*word >> (place % WORD_BITS) as u64 & 1) as usize,
+    match words.get(index / WORD_BITS) {
+        Some(word) => (*word >> (index % WORD_BITS) as u64 & 1) as usize,
         None => 0,
     }
 }

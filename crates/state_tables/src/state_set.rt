@@ -56,9 +56,9 @@ impl<'a> StateSet<'a> {
 fn bit(words: &[u64], q: u16) -> u64
     ensures { result ≡ bit_at (number_of_words words.now) q }
 {
-    let place = (q / WORD_BITS) as usize;
-    if place < words.len() {
-        words[place] >> (q % WORD_BITS) & 1
+    let index = (q / WORD_BITS) as usize;
+    if index < words.len() {
+        words[index] >> (q % WORD_BITS) & 1
     } else {
         0
     }

@@ -174,20 +174,20 @@ const SET_BITS: u16 = 1_024;
 const ROW_BITS: usize = 1_040;
 
 // A bit of the concatenated rows of the states, or 0 past the end.
-fn rows_bit(classes: &[u16], rows: &TableRows, place: usize) -> usize
+fn rows_bit(classes: &[u16], rows: &TableRows, index: usize) -> usize
     requires { IsClassed classes.now (list_of rows.now) }
-    ensures { result ≡ rows_bit (table_of classes.now (list_of rows.now).rows) place }
+    ensures { result ≡ rows_bit (table_of classes.now (list_of rows.now).rows) index }
 {
-    let state = place / ROW_BITS;
+    let state = index / ROW_BITS;
     if state >= classes.len() {
         return 0;
     }
     let row = classes[state] as usize;
-    let place = (place % ROW_BITS) as u16;
-    if place < SET_BITS {
-        rows.marked(row).bit(place) as usize
+    let index = (index % ROW_BITS) as u16;
+    if index < SET_BITS {
+        rows.marked(row).bit(index) as usize
     } else {
-        (rows.code(row) >> (place - SET_BITS) & 1) as usize
+        (rows.code(row) >> (index - SET_BITS) & 1) as usize
     }
 }
 

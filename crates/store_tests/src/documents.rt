@@ -29,8 +29,8 @@ fn root_of(docs: &Docs, name: &[u8]) -> Option<Option<usize>> {
     }
 }
 
-fn is_at(docs: &Docs, place: usize, name: &[u8]) -> bool {
-    place < docs.count() && docs.at(place).0.bytes() == name
+fn is_at(docs: &Docs, index: usize, name: &[u8]) -> bool {
+    index < docs.count() && docs.at(index).0.bytes() == name
 }
 
 fn empty_first(docs: &mut Docs) {

@@ -44,12 +44,12 @@ fn len_of(docs: &Docs, store: &Store) -> Result<u64, u8> {
     }
 }
 
-/// The outcome with another byte at index `place`, and more bytes at the end.
-fn changed(alloc: Global, bytes: &[u8], place: usize, byte: u8, more: &[u8]) -> Result<u64, u8> {
+/// The outcome with another byte at index `index`, and more bytes at the end.
+fn changed(alloc: Global, bytes: &[u8], index: usize, byte: u8, more: &[u8]) -> Result<u64, u8> {
     let Ok(mut copy) = bytes.to_vec(alloc) else {
         return Err(0);
     };
-    if let Some(cell) = copy.get_mut(place) {
+    if let Some(cell) = copy.get_mut(index) {
         *cell = byte;
     }
     if copy.extend_from_slice(more).is_err() {
@@ -123,7 +123,7 @@ fn stair(alloc: Global) -> Result<Vec<Node>, AllocError> {
 
 #[test]
 fn changed_images(rt: HostRuntime) -> Result<(), Fail> {
-    for (place, byte, answer) in [
+    for (index, byte, answer) in [
         (4, 1, Ok(2)),
         (0, 0x54, Err(1)),
         (4, 2, Ok(2)),
@@ -133,7 +133,7 @@ fn changed_images(rt: HostRuntime) -> Result<(), Fail> {
         (51, 3, Err(8)),
         (43, 0x39, Err(9)),
     ] {
-        assert_eq!(rt; changed(rt.alloc(), &SMALL, place, byte, b""), answer);
+        assert_eq!(rt; changed(rt.alloc(), &SMALL, index, byte, b""), answer);
     }
     let again = SMALL.split_at(42).1;
     assert_eq!(rt; changed(rt.alloc(), &SMALL, 41, 2, again), Err(10));
@@ -143,14 +143,14 @@ fn changed_images(rt: HostRuntime) -> Result<(), Fail> {
 
 #[test]
 fn changed_runs(rt: HostRuntime) -> Result<(), Fail> {
-    for (place, byte, answer) in [
+    for (index, byte, answer) in [
         (4, 2, Ok(1 << 48)),
         (4, 1, Err(4)),
         (42, 3, Err(5)),
         (45, 0, Err(12)),
         (50, 1, Err(7)),
     ] {
-        assert_eq!(rt; changed(rt.alloc(), &RUN, place, byte, b""), answer);
+        assert_eq!(rt; changed(rt.alloc(), &RUN, index, byte, b""), answer);
     }
     Ok(())
 }

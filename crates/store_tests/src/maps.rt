@@ -19,18 +19,18 @@ fn sizes_of(alloc: Global, rows: &[(&[u8], u8)]) -> Result<NameMap<u8>, NoMemory
     Ok(sizes)
 }
 
-/// Whether the map has the name and the size at index `place`.
-fn is_at(sizes: &NameMap<u8>, place: usize, name: &[u8], size: u8) -> bool {
-    if place >= sizes.count() {
+/// Whether the map has the name and the size at index `index`.
+fn is_at(sizes: &NameMap<u8>, index: usize, name: &[u8], size: u8) -> bool {
+    if index >= sizes.count() {
         return false;
     }
-    let (found, value) = sizes.at(place);
+    let (found, value) = sizes.at(index);
     found.bytes() == name && *value == size
 }
 
-fn put_at(sizes: &mut NameMap<u8>, place: usize, size: u8) {
-    if place < sizes.count() {
-        *sizes.value_mut(place) = size;
+fn put_at(sizes: &mut NameMap<u8>, index: usize, size: u8) {
+    if index < sizes.count() {
+        *sizes.value_mut(index) = size;
     }
 }
 

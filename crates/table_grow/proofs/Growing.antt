@@ -228,8 +228,8 @@ filled-next s t id at one = record {
 }
 
 -- ---- lists of nodes
-pub all-front : {X : Type 0} (P : X → Type 0) (xs : List X) (x : X) → All P (xs ++ x ∷ []) → All P xs
-all-front P xs x all = λ k d h.
+pub all-prefix : {X : Type 0} (P : X → Type 0) (xs : List X) (x : X) → All P (xs ++ x ∷ []) → All P xs
+all-prefix P xs x all = λ k d h.
     subst P (get_or-append xs (x ∷ []) d k h) (all k d (let l = length-append xs (x ∷ []) in omega (arith, l, h)))
 
 pub all-last : {X : Type 0} (P : X → Type 0) (xs : List X) (x : X) → All P (xs ++ x ∷ []) → P x
@@ -246,7 +246,7 @@ assigns-next s t u i ids first h all one =
           (All-push (λ (id : NodeId). IsSome (assigned u id.index)) (take i ids) x (λ k d lt. one.continues.still _ (all.placed k d lt)) one.placed);
       others = λ j apart.
           let split = subst (All (λ (id : NodeId). id.index ≢ j)) is apart in
-          one.others j (all-last (λ (id : NodeId). id.index ≢ j) (take i ids) x split) ∙ all.others j (all-front (λ (id : NodeId). id.index ≢ j) (take i ids) x split);
+          one.others j (all-last (λ (id : NodeId). id.index ≢ j) (take i ids) x split) ∙ all.others j (all-prefix (λ (id : NodeId). id.index ≢ j) (take i ids) x split);
     }
 
 -- each element before x is related to it

@@ -123,8 +123,8 @@ impl Filler {
         ensures { self.new ≡ with_number self.old id.index number }
     {
         let _ = tables.count();
-        let place = id.index - self.known;
-        self.places[place] = number as u32 + 1;
+        let entry = id.index - self.known;
+        self.places[entry] = number as u32 + 1;
     }
 
     /// Assigns the kept table of this number to a new node. The node has none assigned yet, and its children are old or
@@ -180,8 +180,8 @@ impl Filler {
         ensures finished { tables.new ≡ finished tables.old self }
         ensures steps { places.new ≡ places.old + length self.places }
     {
-        for place in &self.places {
-            match place.checked_sub(1) {
+        for entry in &self.places {
+            match entry.checked_sub(1) {
                 Some(number) => tables.push(number as usize, places),
                 None => unreachable!(),
             }

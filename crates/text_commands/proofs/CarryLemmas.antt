@@ -59,19 +59,19 @@ let_paid old name expr e looks p q reads h = (record { looks = 0; pairs = edit_l
 
 -- the lines of the documents from an index on, and the end
 abbrev pub names_rest : List Node → List Doc → ℕ → List ℕ
-names_rest ns ds place = names_text (plain ns (drop place ds))
+names_rest ns ds index = names_text (plain ns (drop index ds))
 
-pub names_next : {a b : Outlet} {whole : List ℕ} (ns : List Node) (ds : List Doc) (place : ℕ) (d : Doc) → slice_get ds place ≡ Some d → IsUpTo a b (names_rest ns ds place) whole
-    → IsUpTo a b (entry_text (d.name, text_of ns d.root) ++ names_rest ns ds (place + 1)) whole
-names_next {a} {b} {whole} ns ds place d e h = subst (λ (l : List ℕ). IsUpTo a b l whole) next h
+pub names_next : {a b : Outlet} {whole : List ℕ} (ns : List Node) (ds : List Doc) (index : ℕ) (d : Doc) → slice_get ds index ≡ Some d → IsUpTo a b (names_rest ns ds index) whole
+    → IsUpTo a b (entry_text (d.name, text_of ns d.root) ++ names_rest ns ds (index + 1)) whole
+names_next {a} {b} {whole} ns ds index d e h = subst (λ (l : List ℕ). IsUpTo a b l whole) next h
   where
-    next : names_rest ns ds place ≡ entry_text (d.name, text_of ns d.root) ++ names_rest ns ds (place + 1)
+    next : names_rest ns ds index ≡ entry_text (d.name, text_of ns d.root) ++ names_rest ns ds (index + 1)
     next =
-        ap (λ (es : List Doc). names_text (plain ns es)) (drop_at ds place d e)
-        ∙ append_assoc (entry_text (d.name, text_of ns d.root)) (flat_map entry_text (plain ns (drop (place + 1) ds))) (codes "end" ++ 10 ∷ [])
+        ap (λ (es : List Doc). names_text (plain ns es)) (drop_at ds index d e)
+        ∙ append_assoc (entry_text (d.name, text_of ns d.root)) (flat_map entry_text (plain ns (drop (index + 1) ds))) (codes "end" ++ 10 ∷ [])
 
-pub names_end : {a b : Outlet} {whole : List ℕ} (ns : List Node) (ds : List Doc) (place : ℕ) → length ds ≤ place → IsUpTo a b (names_rest ns ds place) whole → IsUpTo a b (codes "end" ++ 10 ∷ []) whole
-names_end {a} {b} {whole} ns ds place past h = subst (λ (l : List ℕ). IsUpTo a b l whole) (at_drop_all (λ (es : List Doc). names_text (plain ns es)) ds place past) h
+pub names_end : {a b : Outlet} {whole : List ℕ} (ns : List Node) (ds : List Doc) (index : ℕ) → length ds ≤ index → IsUpTo a b (names_rest ns ds index) whole → IsUpTo a b (codes "end" ++ 10 ∷ []) whole
+names_end {a} {b} {whole} ns ds index past h = subst (λ (l : List ℕ). IsUpTo a b l whole) (at_drop_all (λ (es : List Doc). names_text (plain ns es)) ds index past) h
 
 -- ---- the commands on versions
 only_versions : (st : State) (old new : Named Documents) (files : Option Files) → new ≡ old → world (with_versions st new) files ≡ world (with_versions st old) files

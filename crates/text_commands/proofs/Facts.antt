@@ -10,5 +10,5 @@ pub use Rattle.text_commands.proofs.CarryLemmas.{assigned_refusal, assigned_valu
 pub use Rattle.text_commands.proofs.CarryLemmas.{show_carries, text_carries, unmark_carries}
 pub use Rattle.text_commands.proofs.FileLemmas.{file_begun, file_paid, file_refused_paid, load_carries, load_denied, of_the_file, open_carries, open_denied, open_paid, open_refused_paid, opens_refused}
 pub use Rattle.text_commands.proofs.LoadingLemmas.{load_kinds, shared_within, within_limit}
-pub use Rattle.text_commands.proofs.ReadingLemmas.{front_means, front_paid, is_next, past_limit, whole_means}
+pub use Rattle.text_commands.proofs.ReadingLemmas.{prefix_means, prefix_paid, is_next, past_limit, whole_means}
 pub use Rattle.text_commands.proofs.Thinned.{compact_answers}

@@ -37,16 +37,16 @@ abbrev pub IsSound : {T : Type 0} → Result T FileRefusal → ℕ → ℕ → T
 IsSound result before after = MatchResult result (λ _. after ≡ before) (λ why. IsOfTheFile why → after ≡ before)
 
 -- the file with this name may be read, has at most this many bytes, and begins with these
-pub record IsPrefixOfFile (all : Files) (name : List ℕ) (limit : ℕ) (front : List ℕ) : Type 0 where
+pub record IsPrefixOfFile (all : Files) (name : List ℕ) (limit : ℕ) (prefix : List ℕ) : Type 0 where
   pub file : List ℕ
   pub there : file_of all name ≡ Some file
   pub readable : IsFalse (reads_closed all name)
   pub short : length file ≤ limit
-  pub begins : front ≡ take (length front) file
+  pub begins : prefix ≡ take (length prefix) file
 
 -- if the files are observable
 abbrev pub IsFilePrefix : Option Files → List ℕ → ℕ → List ℕ → Type 0
-IsFilePrefix files name limit front = IfSome files (λ all. IsPrefixOfFile all name limit front)
+IsFilePrefix files name limit prefix = IfSome files (λ all. IsPrefixOfFile all name limit prefix)
 
 -- the file, which is within the limit of `open`, has the same meaning as an image as these bytes
 pub record MeansFile (files : Option Files) (name bytes : List ℕ) : Type 0 where
@@ -57,8 +57,8 @@ pub record MeansFile (files : Option Files) (name bytes : List ℕ) : Type 0 whe
 -- what was read of a file after a prefix of this length: the file begins with both, and if nothing was read the prefix
 -- is the whole file
 abbrev pub IsNextPiece : Option Files → List ℕ → ℕ → ℕ → List ℕ → Type 0
-IsNextPiece files name limit at piece = (front : List ℕ) → length front ≡ at → IsFilePrefix files name limit front
-    → IsFilePrefix files name limit (front ++ piece) × (length piece ≡ 0 → IsWithin files name limit front)
+IsNextPiece files name limit at piece = (prefix : List ℕ) → length prefix ≡ at → IsFilePrefix files name limit prefix
+    → IsFilePrefix files name limit (prefix ++ piece) × (length piece ≡ 0 → IsWithin files name limit prefix)
 
 -- the node constructions of loading a file: none, or at most the maximum for its length
 abbrev pub IsLoadPaid : Method → Option Files → List ℕ → ℕ → ℕ → Type 0

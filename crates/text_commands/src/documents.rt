@@ -229,8 +229,8 @@ pub fn write_names<K: Sink>(
     ensures wrote { Wrote result (outlet (K.written out.old) (K.faults out.old) (K.wants out.old)) (names_text (plain store.now docs.now))
         (outlet (K.written out.new) (K.faults out.new) (K.wants out.new)) }
 {
-    for place in 0..docs.count() {
-        let (name, root) = docs.at(place);
+    for index in 0..docs.count() {
+        let (name, root) = docs.at(index);
         let line = entry_line(alloc, store, name, root)?;
         offer(out, &line)?;
     }

@@ -195,10 +195,10 @@ fn push_piece(bytes: &mut Vec<u8>, piece: &[u8]) -> Result<(), NoMemory>
 }
 
 /// Whether a file with these first bytes is no image, whatever follows them.
-fn is_no_image(front: &[u8]) -> bool
-    ensures { result ≡ true → (rest : List ℕ) → image (front.now ++ rest) ≡ image front.now }
+fn is_no_image(prefix: &[u8]) -> bool
+    ensures { result ≡ true → (rest : List ℕ) → image (prefix.now ++ rest) ≡ image prefix.now }
 {
-    front.len() >= 4 && !begins_image(front)
+    prefix.len() >= 4 && !begins_image(prefix)
 }
 
 /// Reads a file piece by piece, after its length was checked. Stops when the first bytes show that it is no image.

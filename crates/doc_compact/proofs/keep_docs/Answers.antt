@@ -10,18 +10,18 @@ use Rattle.doc_compact.proofs.keep_docs.Goals as goal
 pub keep_root-requires-clause-live : goal.keep_root-requires-clause-live
 keep_root-requires-clause-live c =
     let d : Doc = record { name = c.at-root.result.0.now; root = c.at-root.result.1 } in
-    live-at c.args.store.now c.args.docs.now c.loop-place.place d c.requires.live c.at-root.ensures
+    live-at c.args.store.now c.args.docs.now c.loop-index.index d c.requires.live c.at-root.ensures
 
-pub loop-place-preserved : goal.loop-place-preserved
-loop-place-preserved c =
+pub loop-index-preserved : goal.loop-index-preserved
+loop-index-preserved c =
     let d : Doc = record { name = c.at-root.result.0.now; root = c.at-root.result.1 } in
     let ns = c.args.store.now in
     let ds = c.args.docs.now in
-    let place = c.loop-place.place in
-    let both = any-next ns ds place d c.at-root.ensures in
-    let more = adds-both c.args.plan.now c.loop-place.plan c.keep_root.new.self (AnyReaches ns (roots_of (take place ds))) (RootReaches ns d.root) (AnyReaches ns (roots_of (take (suc place) ds))) both
-    c.loop-place.invariant.kept c.keep_root.ensures.kept in
+    let index = c.loop-index.index in
+    let both = any-next ns ds index d c.at-root.ensures in
+    let more = adds-both c.args.plan.now c.loop-index.plan c.keep_root.new.self (AnyReaches ns (roots_of (take index ds))) (RootReaches ns d.root) (AnyReaches ns (roots_of (take (suc index) ds))) both
+    c.loop-index.invariant.kept c.keep_root.ensures.kept in
     record {
-      kept = subst (λ (n : ℕ). AddsExactly c.args.plan.now c.keep_root.new.self (AnyReaches ns (roots_of (take n ds)))) (sym (add-one place)) more;
+      kept = subst (λ (n : ℕ). AddsExactly c.args.plan.now c.keep_root.new.self (AnyReaches ns (roots_of (take n ds)))) (sym (add-one index)) more;
       plan = c.keep_root.ensures.plan;
     }

@@ -4,8 +4,8 @@ use Rattle.slp_model.specs.Thin.{AnyReaches}
 use Rattle.doc_book.specs.Docs.{roots_of}
 use Rattle.doc_compact.proofs.keep_docs.Given as goal
 
-abbrev pub invariant-loop-place : goal.invariant-loop-place
-invariant-loop-place l = record {
-  kept : AddsExactly l.fn.plan l.plan (AnyReaches l.store (roots_of (take l.place l.docs)));
+abbrev pub invariant-loop-index : goal.invariant-loop-index
+invariant-loop-index l = record {
+  kept : AddsExactly l.fn.plan l.plan (AnyReaches l.store (roots_of (take l.index l.docs)));
   plan : IsPlanOf l.store l.plan;
 }

@@ -5,4 +5,4 @@ use Rattle.doc_compact.proofs.Moving.{docs_first}
 use Rattle.doc_compact.proofs.move_version.Given as goal
 
 abbrev pub invariant-loop-doc : goal.invariant-loop-doc
-invariant-loop-doc l = l.versions ≡ with_value l.fn.versions l.place (docs_first l.moves l.doc (docs_at l.fn.versions l.place))
+invariant-loop-doc l = l.versions ≡ with_value l.fn.versions l.index (docs_first l.moves l.doc (docs_at l.fn.versions l.index))

@@ -6,26 +6,26 @@ use Rattle.doc_compact.specs.Compacted.{AreKeptRoots, moved_docs}
 use Rattle.doc_compact.proofs.Moving.{kept-version, length-versions_first, next-version, versions-all, versions-step, versions_first}
 use Rattle.doc_compact.proofs.move_versions.Goals as goal
 
-pub move_version-requires-clause-place : goal.move_version-requires-clause-place
-move_version-requires-clause-place c = omega (arith, c.loop-place-test.true, c.count-place-end.ensures, ap length c.loop-place.invariant, length-versions_first c.args.moves.now c.loop-place.place c.args.versions.now)
+pub move_version-requires-clause-index : goal.move_version-requires-clause-index
+move_version-requires-clause-index c = omega (arith, c.loop-index-test.true, c.count-index-end.ensures, ap length c.loop-index.invariant, length-versions_first c.args.moves.now c.loop-index.index c.args.versions.now)
 
 pub move_version-requires-clause-kept : goal.move_version-requires-clause-kept
 move_version-requires-clause-kept c =
     let keep = c.args.moves.now in
     let vs = c.args.versions.now in
-    let place = c.loop-place.place in
-    let same : docs_at vs place ≡ docs_at c.loop-place.versions place = sym (next-version keep place vs) ∙ ap (λ (v : Named (List Doc)). docs_at v place) (sym c.loop-place.invariant) in
-    subst (AreKeptRoots keep) same (kept-version keep vs place (omega (arith, c.loop-place-test.true, c.count-place-end.ensures)) c.requires)
+    let index = c.loop-index.index in
+    let same : docs_at vs index ≡ docs_at c.loop-index.versions index = sym (next-version keep index vs) ∙ ap (λ (v : Named (List Doc)). docs_at v index) (sym c.loop-index.invariant) in
+    subst (AreKeptRoots keep) same (kept-version keep vs index (omega (arith, c.loop-index-test.true, c.count-index-end.ensures)) c.requires)
 
-pub loop-place-preserved : goal.loop-place-preserved
-loop-place-preserved c =
+pub loop-index-preserved : goal.loop-index-preserved
+loop-index-preserved c =
     let keep = c.args.moves.now in
     let vs = c.args.versions.now in
-    let place = c.loop-place.place in
-    let step : c.move_version.new.versions ≡ with_value (versions_first keep place vs) place (moved_docs keep (docs_at (versions_first keep place vs) place)) =
-    c.move_version.ensures ∙ ap (λ (v : Named (List Doc)). with_value v place (moved_docs keep (docs_at v place))) c.loop-place.invariant in
-    step ∙ (ap (λ (ds : List Doc). with_value (versions_first keep place vs) place (moved_docs keep ds)) (next-version keep place vs)
-    ∙ (versions-step keep place vs (omega (arith, c.loop-place-test.true, c.count-place-end.ensures)) ∙ ap (λ (n : ℕ). versions_first keep n vs) (sym (add-one place))))
+    let index = c.loop-index.index in
+    let step : c.move_version.new.versions ≡ with_value (versions_first keep index vs) index (moved_docs keep (docs_at (versions_first keep index vs) index)) =
+    c.move_version.ensures ∙ ap (λ (v : Named (List Doc)). with_value v index (moved_docs keep (docs_at v index))) c.loop-index.invariant in
+    step ∙ (ap (λ (ds : List Doc). with_value (versions_first keep index vs) index (moved_docs keep ds)) (next-version keep index vs)
+    ∙ (versions-step keep index vs (omega (arith, c.loop-index-test.true, c.count-index-end.ensures)) ∙ ap (λ (n : ℕ). versions_first keep n vs) (sym (add-one index))))
 
 pub returns : goal.returns
-returns c = c.loop-place.invariant ∙ versions-all c.args.moves.now c.loop-place.place c.args.versions.now (omega (arith, c.count-place-end.ensures, c.loop-place-test.false))
+returns c = c.loop-index.invariant ∙ versions-all c.args.moves.now c.loop-index.index c.args.versions.now (omega (arith, c.count-index-end.ensures, c.loop-index-test.false))

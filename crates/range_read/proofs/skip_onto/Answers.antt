@@ -19,7 +19,7 @@ down-preserved-then-skip-len c =
     let right = c.children.result.1 in
     let fork = c.children.ensures.tree in
     let low = ap height fork in
-    let front = text (tree nodes left.index) in
+    let prefix = text (tree nodes left.index) in
     let back = text (tree nodes right.index) in
     let size = length-append items (right ∷ []) in
     let longer = c.push_reserved.ensures.items in
@@ -32,9 +32,9 @@ down-preserved-then-skip-len c =
           (omega (arith, c.down.invariant.live, c.children.ensures.right)) (omega (arith, c.down.invariant.room, low)));
       is = c.down.invariant.is
           ∙ ap (λ t. drop c.down.skip (text t) ++ trail_text nodes items) fork
-          ∙ ap (λ l. l ++ trail_text nodes items) (drop-append-le c.down.skip front back (omega (arith, here, c.len-len.ensures.len, length-text (tree nodes left.index))))
-          ∙ append_assoc (drop c.down.skip front) back (trail_text nodes items)
-          ∙ ap (λ l. drop c.down.skip front ++ l) (sym (trail_text-push nodes items right) ∙ ap (λ ids. trail_text nodes ids) (sym longer));
+          ∙ ap (λ l. l ++ trail_text nodes items) (drop-append-le c.down.skip prefix back (omega (arith, here, c.len-len.ensures.len, length-text (tree nodes left.index))))
+          ∙ append_assoc (drop c.down.skip prefix) back (trail_text nodes items)
+          ∙ ap (λ l. drop c.down.skip prefix ++ l) (sym (trail_text-push nodes items right) ∙ ap (λ ids. trail_text nodes ids) (sym longer));
     }
 
 pub down-preserved : goal.down-preserved
@@ -46,7 +46,7 @@ down-preserved c =
     let fork = c.children.ensures.tree in
     let low = ap height fork in
     let both = ap leaves fork in
-    let front = text (tree nodes left.index) in
+    let prefix = text (tree nodes left.index) in
     let back = text (tree nodes right.index) in
     let past = c.if-skip-len.false in
     let behind = c.down.skip - c.len-len.result in
@@ -57,8 +57,8 @@ down-preserved c =
       trail = c.down.invariant.trail;
       is = c.down.invariant.is
           ∙ ap (λ t. drop c.down.skip (text t) ++ trail_text nodes items) fork
-          ∙ ap (λ k. drop k (front ++ back) ++ trail_text nodes items) (omega (arith, past, c.len-len.ensures.len, length-text (tree nodes left.index)))
-          ∙ ap (λ l. l ++ trail_text nodes items) (drop-append-add front back behind);
+          ∙ ap (λ k. drop k (prefix ++ back) ++ trail_text nodes items) (omega (arith, past, c.len-len.ensures.len, length-text (tree nodes left.index)))
+          ∙ ap (λ l. l ++ trail_text nodes items) (drop-append-add prefix back behind);
     }
 
 pub returns-clause-text : goal.returns-clause-text

@@ -29,45 +29,45 @@ fn room(alloc: Global) -> Result<Box<Formula>, NoMemory> {
 }
 
 // Writes a copy of the formula. A result by value would take the room of several on the stack for each level.
-fn copy_to(formula: &Formula, alloc: Global, place: &mut Formula) -> Result<(), NoMemory>
-    ensures { IfOk result (λ _. tree_of place.new ≡ tree_of formula.now) }
+fn copy_to(formula: &Formula, alloc: Global, index: &mut Formula) -> Result<(), NoMemory>
+    ensures { IfOk result (λ _. tree_of index.new ≡ tree_of formula.now) }
 {
     match formula {
-        Formula::Set(bytes) => *place = Formula::Set(*bytes),
-        Formula::Empty => *place = Formula::Empty,
+        Formula::Set(bytes) => *index = Formula::Set(*bytes),
+        Formula::Empty => *index = Formula::Empty,
         Formula::Cat(a, b) => {
             let mut left = room(alloc)?;
             copy_to(a, alloc, &mut left)?;
             let mut right = room(alloc)?;
             copy_to(b, alloc, &mut right)?;
-            *place = Formula::Cat(left, right);
+            *index = Formula::Cat(left, right);
         }
         Formula::Alt(a, b) => {
             let mut left = room(alloc)?;
             copy_to(a, alloc, &mut left)?;
             let mut right = room(alloc)?;
             copy_to(b, alloc, &mut right)?;
-            *place = Formula::Alt(left, right);
+            *index = Formula::Alt(left, right);
         }
         Formula::Star(a) => {
             let mut inner = room(alloc)?;
             copy_to(a, alloc, &mut inner)?;
-            *place = Formula::Star(inner);
+            *index = Formula::Star(inner);
         }
         Formula::Plus(a) => {
             let mut inner = room(alloc)?;
             copy_to(a, alloc, &mut inner)?;
-            *place = Formula::Plus(inner);
+            *index = Formula::Plus(inner);
         }
         Formula::Opt(a) => {
             let mut inner = room(alloc)?;
             copy_to(a, alloc, &mut inner)?;
-            *place = Formula::Opt(inner);
+            *index = Formula::Opt(inner);
         }
         Formula::Capture(v, a) => {
             let mut inner = room(alloc)?;
             copy_to(a, alloc, &mut inner)?;
-            *place = Formula::Capture(*v, inner);
+            *index = Formula::Capture(*v, inner);
         }
     }
     Ok(())

@@ -10,12 +10,12 @@ use crate::tuple::{BLANK, Span, Tuple};
 impl Tuple {
     /// The tuple with this span, or none, for a variable.
     pub fn with_span(&self, v: u8, span: Option<Span>) -> Tuple
-        requires place { v < length self.now }
+        requires index { v < length self.now }
         requires span { IsSpanOr span }
         ensures { result ≡ slice_set self.now v span }
     {
         let mut out = *self;
-        out.spans[v as usize] = place_of(span);
+        out.spans[v as usize] = index_of(span);
         out
     }
 
@@ -49,7 +49,7 @@ impl Tuple {
 }
 
 /// The entry that says what span there is.
-fn place_of(span: Option<Span>) -> Span
+fn index_of(span: Option<Span>) -> Span
     ensures { result ≡ unplaced span }
 {
     match span {

@@ -22,10 +22,10 @@ returns-clause-found g c =
     let are = found-extend a nodes c.args.kept.now new numbers c.args.found.now c.keep_composed.ensures.extends kept c.requires.found in
     let first = c.requires.job.new in
     let last = c.requires.job.live in
-    let index = c.args.one.job.node - length numbers in
-    let place : c.args.one.job.node ≡ length c.args.numbers.now + (c.args.one.job.node - length c.args.numbers.now) = omega (arith, first) in
+    let offset = c.args.one.job.node - length numbers in
+    let index : c.args.one.job.node ≡ length c.args.numbers.now + (c.args.one.job.node - length c.args.numbers.now) = omega (arith, first) in
     let low : c.args.one.job.node - length c.args.numbers.now < length c.args.found.now = omega (arith, first, last) in
     let has : HasTable a nodes new c.args.one.job.node c.in_ok-number.number =
     made-true a nodes c.args.kept.now new numbers c.args.found.now c.args.one c.in_ok-number.number c.requires.found c.requires.job c.requires.made number.0 number.1 in
     subst (λ xs. AreFound a nodes new numbers xs) (sym c.set.ensures)
-    (found-set a nodes new numbers c.args.found.now index c.in_ok-number.number low are (subst (λ k. HasTable a nodes new k c.in_ok-number.number) place has))
+    (found-set a nodes new numbers c.args.found.now offset c.in_ok-number.number low are (subst (λ k. HasTable a nodes new k c.in_ok-number.number) index has))

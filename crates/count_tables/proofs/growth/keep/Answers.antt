@@ -13,4 +13,4 @@ returns-clause-extends c =
     (AreKept-keep c.insert.result c.args.states c.args.kept.now c.insert.new.self c.args.table c.requires.kept c.requires.table room c.insert.ensures.taken c.insert.ensures.err).1
 
 pub returns-clause-number : goal.returns-clause-number
-returns-clause-number c = read-ok c.insert.result c.insert.new.self c.args.table c.insert.ensures.place
+returns-clause-number c = read-ok c.insert.result c.insert.new.self c.args.table c.insert.ensures.index

@@ -2,7 +2,7 @@ use Rattle.std.proofs.Common.{suc, ◌≡◌, ◌+◌, ◌∙◌, length, slice_
 use Rattle.std.proofs.lemmas.Option.{slice_get-get_or}
 use Rattle.count_tables.specs.Ahead.{HasTable}
 use Rattle.count_tables.proofs.Entries.{has-extend}
-use Rattle.count_tables.proofs.Growing.{extends-on, front-on}
+use Rattle.count_tables.proofs.Growing.{extends-on, prefix-on}
 use Rattle.count_tables.proofs.growth.place_found.Goals as goal
 
 pub place_next-requires-clause-entry : goal.place_next-requires-clause-entry
@@ -14,11 +14,11 @@ place_next-requires-clause-entry g c κs within = λ n h.
     let has = has-extend a nodes c.args.kept.now at.kept (length c.args.numbers.now.items + at.entry-index) n at.invariant.extends (c.requires.found.entries at.entry-index n entry) in
     subst (λ k. HasTable a nodes at.kept k n) (sym at.invariant.long) has
 
-pub returns-in_err-place_next-clause-front : goal.returns-in_err-place_next-clause-front
-returns-in_err-place_next-clause-front g c =
+pub returns-in_err-place_next-clause-prefix : goal.returns-in_err-place_next-clause-prefix
+returns-in_err-place_next-clause-prefix g c =
     let at = c.loop-entry in
     let long = at.invariant.long in
-    front-on c.args.numbers.now.items at.numbers.items c.place_next.new.numbers.items (omega (arith, long)) at.invariant.front c.place_next.ensures.front
+    prefix-on c.args.numbers.now.items at.numbers.items c.place_next.new.numbers.items (omega (arith, long)) at.invariant.prefix c.place_next.ensures.prefix
 
 pub returns-in_err-place_next-clause-extends : goal.returns-in_err-place_next-clause-extends
 returns-in_err-place_next-clause-extends g c = extends-on c.args.kept.now c.loop-entry.kept c.place_next.new.kept c.loop-entry.invariant.extends c.place_next.ensures.extends
@@ -32,7 +32,7 @@ loop-entry-preserved g c =
     record {
       long = omega (arith, long, one);
       tables = c.place_next.ensures.tables;
-      front = front-on c.args.numbers.now.items at.numbers.items new.numbers.items (omega (arith, long)) at.invariant.front c.place_next.ensures.front;
+      prefix = prefix-on c.args.numbers.now.items at.numbers.items new.numbers.items (omega (arith, long)) at.invariant.prefix c.place_next.ensures.prefix;
       kept = c.place_next.ensures.kept;
       extends = extends-on c.args.kept.now at.kept new.kept at.invariant.extends c.place_next.ensures.extends;
       entries = c.place_next.ensures.entries;

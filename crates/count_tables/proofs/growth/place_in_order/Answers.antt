@@ -1,6 +1,6 @@
 use Rattle.std.proofs.Common.{◌≡◌, ◌≤◌, [], ◌∷◌, ◌++◌, length, length-append, refl, subst, arith}
 use Rattle.count_tables.specs.Ahead.{HasTable}
-use Rattle.count_tables.proofs.Growing.{extends-on, front-push, tables-extend, tables-push}
+use Rattle.count_tables.proofs.Growing.{extends-on, prefix-push, tables-extend, tables-push}
 use Rattle.count_tables.proofs.growth.place_in_order.Goals as goal
 
 pub returns-in_err-number-clause-extends : goal.returns-in_err-number-clause-extends
@@ -23,7 +23,7 @@ loop-node-preserved g c =
     rw items (record {
       long = omega (arith, length-append numbers (n ∷ []), before.long);
       tables = tables-push a nodes new numbers n (length numbers) (tables-extend a nodes c.loop-node.kept new numbers c.number_of.ensures.extends before.tables) refl made.within made.table;
-      front = front-push c.args.numbers.now.items numbers n longer before.front;
+      prefix = prefix-push c.args.numbers.now.items numbers n longer before.prefix;
       kept = c.number_of.ensures.kept;
       extends = extends-on c.args.kept.now c.loop-node.kept new before.extends c.number_of.ensures.extends;
       entries = c.number_of.ensures.entries;

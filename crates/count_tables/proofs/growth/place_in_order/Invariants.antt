@@ -8,7 +8,7 @@ abbrev pub invariant-loop-node : goal.invariant-loop-node
 invariant-loop-node g l = record {
   long : length l.numbers.items ≡ length l.fn.numbers.items + l._node;
   tables : AreNodeTables l.growth.dfa.now l.growth.store.now l.kept l.numbers.items;
-  front : take (length l.fn.numbers.items) l.numbers.items ≡ l.fn.numbers.items;
+  prefix : take (length l.fn.numbers.items) l.numbers.items ≡ l.fn.numbers.items;
   kept : AreKept (states_of l.growth.dfa.now) l.kept;
   extends : Extends l.fn.kept l.kept;
   entries : AreTrueEntries l.kept l.memo;

@@ -10,7 +10,7 @@ invariant-loop-numbers g l = record {
   within : length l.numbers.items ≤ l.count;
   tables : AreNodeTables l.growth.dfa.now l.growth.store.now l.kept l.numbers.items;
   longer : length l.fn.numbers.items ≤ length l.numbers.items;
-  front : take (length l.fn.numbers.items) l.numbers.items ≡ l.fn.numbers.items;
+  prefix : take (length l.fn.numbers.items) l.numbers.items ≡ l.fn.numbers.items;
   kept : AreKept (states_of l.growth.dfa.now) l.kept;
   extends : Extends l.fn.kept l.kept;
   entries : AreTrueEntries l.kept l.memo;

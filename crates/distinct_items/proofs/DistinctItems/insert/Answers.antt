@@ -17,7 +17,7 @@ invariant_of-self-in-Open g c =
     let link : c.len-index.result + 1 ≡ length items + 1 = omega (arith, c.len-index.ensures) in
     rw (c.push_reserved.ensures.items, c.reserve.ensures.items) (tree-push (bits_of g.T.Digested.root g.T.Digested.branch) roots items links c.args.item c.in-Open.slot (c.len-index.result + 1) tree room free link)
 
-pub returns-in_ok-reserve-in-Open-clause-place : goal.returns-in_ok-reserve-in-Open-clause-place
-returns-in_ok-reserve-in-Open-clause-place g c =
+pub returns-in_ok-reserve-in-Open-clause-index : goal.returns-in_ok-reserve-in-Open-clause-index
+returns-in_ok-reserve-in-Open-clause-index g c =
     let last : c.len-index.result ≡ length c.self.inside.items.items = omega (arith, c.len-index.ensures) in
     rw (c.push_reserved.ensures.items, c.reserve.ensures.items, last) (last-of c.self.inside.items.items c.args.item)

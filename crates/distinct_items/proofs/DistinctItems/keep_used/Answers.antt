@@ -7,7 +7,7 @@ use Rattle.slp_model.specs.Thin.{rank}
 use Rattle.distinct_items.specs.Renumbering.{flags_of, kept_items, used_of}
 use Rattle.distinct_items.proofs.Marks.{AreMarked}
 use Rattle.distinct_items.proofs.Moving.{kept-long}
-use Rattle.distinct_items.proofs.Used.{ArePlaced, come-back, kept-used, new-numbers, place-of}
+use Rattle.distinct_items.proofs.Used.{ArePlaced, come-back, kept-used, new-numbers, index-of}
 use Rattle.distinct_items.proofs.DistinctItems.keep_used.Goals as goal
 
 pub follow-requires : goal.follow-requires
@@ -28,10 +28,10 @@ follow-requires g c =
     let low_k : k < length ns = subst (λ xs. k < length xs) here lt in
     let same : get_or c.deref_mut-3.result.now k d ≡ get_or ns k 0 = ap (λ xs. get_or xs k d) here ∙ get_or_default ns k d 0 low_k in
     let low : get_or ns k 0 < length c.self.inside.items.items = All-get_or (λ n. n < size) ns k 0 low_k within in
-    let place = place-of size ns marks places marked placed within k low_k in
+    let index = index-of size ns marks places marked placed within k low_k in
     let read : get_or c.deref.result.now (get_or c.deref_mut-3.result.now k d) 0 ≡ get_or places (get_or ns k 0) 0 =
     ap (λ xs. get_or xs (get_or c.deref_mut-3.result.now k d) 0) back ∙ ap (λ m. get_or places m 0) same in
-    (omega (arith, same, low, long, c.self.invariant.few, c.self.invariant.long, c.deref_mut.ensures.len, ap length c.deref_mut.ensures.value), omega (arith, read, place))
+    (omega (arith, same, low, long, c.self.invariant.few, c.self.invariant.long, c.deref_mut.ensures.len, ap length c.deref_mut.ensures.value), omega (arith, read, index))
 
 pub link_all-requires-clause-few : goal.link_all-requires-clause-few
 link_all-requires-clause-few g c =

@@ -6,7 +6,7 @@ use Rattle.doc_book.proofs.BookLemmas.{with_root-docs}
 use Rattle.doc_book.proofs.Docs.set_root.Goals as goal
 
 pub value_mut-requires : goal.value_mut-requires
-value_mut-requires c = subst (λ n. c.args.place < n) (ap length (sym c.self.view_is) ∙ length-map c.self.inside.by_name doc) c.requires
+value_mut-requires c = subst (λ n. c.args.index < n) (ap length (sym c.self.view_is) ∙ length-map c.self.inside.by_name doc) c.requires
 
 pub returns : goal.returns
-returns c = with_root-docs c.self.inside.by_name c.args.place c.args.root ∙ ap (λ ds. with_root ds c.args.place c.args.root) c.self.view_is
+returns c = with_root-docs c.self.inside.by_name c.args.index c.args.root ∙ ap (λ ds. with_root ds c.args.index c.args.root) c.self.view_is

@@ -14,11 +14,11 @@ returns-in-Some-clause-whole c =
     let name = c.args.name.now in
     let bytes = c.in_ok-bytes.bytes in
     let d = c.index_mut.result.now in
-    let at : position (λ file. bytes_eq file.0.items name) files ≡ Some c.in-Some.place =
+    let at : position (λ file. bytes_eq file.0.items name) files ≡ Some c.in-Some.index =
     ap (λ l. position (λ file. bytes_eq file.0.items name) l) (sym c.deref.ensures.value) ∙ sym c.in-Some.ensures in
-    let found = position-Some (λ file. bytes_eq file.0.items name) files c.in-Some.place d at in
-    let is = present files name c.in-Some.place d found.0 found.1 found.2 in
-    ap (λ file. entries_of (slice_set files c.in-Some.place (file.0, bytes))) c.index_mut.ensures.value
+    let found = position-Some (λ file. bytes_eq file.0.items name) files c.in-Some.index d at in
+    let is = present files name c.in-Some.index d found.0 found.1 found.2 in
+    ap (λ file. entries_of (slice_set files c.in-Some.index (file.0, bytes))) c.index_mut.ensures.value
     ∙ sym (is.1 bytes)
     ∙ (λ j. put_entry (entries_of files) name (c.in_ok-bytes.ensures.items j))
 

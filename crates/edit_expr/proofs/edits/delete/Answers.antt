@@ -39,8 +39,8 @@ split-requires-2-clause-to g c =
       range-end c.args.i c.args.j c.root_len-len.result within,
     )
 
-pub returns-in_err-front-clause-grows : goal.returns-in_err-front-clause-grows
-returns-in_err-front-clause-grows g c = Grows-trans _ _ _ _ _ _ c.split.ensures.grows c.split-2.ensures.grows
+pub returns-in_err-prefix-clause-grows : goal.returns-in_err-prefix-clause-grows
+returns-in_err-prefix-clause-grows g c = Grows-trans _ _ _ _ _ _ c.split.ensures.grows c.split-2.ensures.grows
 
 pub concat-requires-clause-short : goal.concat-requires-clause-short
 concat-requires-clause-short g c =
@@ -49,19 +49,19 @@ concat-requires-clause-short g c =
     let kept = leaves-grows c.split.new.store c.split-2.new.store c.split.new.pairs c.split-2.new.pairs c.split-2.ensures.grows c.in_ok-before.after c.in_ok-before.ensures.live.1 in
     let after : length (text_of c.split.new.store c.in_ok-before.after) ≡ length (drop (c.args.j - 1) d) = ap length c.in_ok-before.ensures.after in
     let before : length b ≡ length (take (c.args.j - 1) d) = ap length c.in_ok-before.ensures.before in
-    let front : length (text_of c.split-2.new.store c.in_ok-front.front) ≡ length (take (c.args.i - 1) b) = ap length c.in_ok-front.ensures.before in
+    let prefix : length (text_of c.split-2.new.store c.in_ok-prefix.prefix) ≡ length (take (c.args.i - 1) b) = ap length c.in_ok-prefix.ensures.before in
     omega (
       arith,
       kept,
       after,
       before,
-      front,
+      prefix,
       cut-lengths (c.args.j - 1) d,
       take-most (c.args.i - 1) b,
       c.root_len-len.ensures.len,
       c.root_len-len.ensures.short,
       length-root_text (root_tree c.split.new.store c.in_ok-before.after),
-      length-root_text (root_tree c.split-2.new.store c.in_ok-front.front),
+      length-root_text (root_tree c.split-2.new.store c.in_ok-prefix.prefix),
     )
 
 pub returns-in_err-whole-clause-grows : goal.returns-in_err-whole-clause-grows
@@ -71,8 +71,8 @@ pub returns-in_err-whole-clause-cost : goal.returns-in_err-whole-clause-cost
 returns-in_err-whole-clause-cost g c n h =
     let low = c.root_len-len.ensures.low n h in
     let kept = height-grows c.split.new.store c.split-2.new.store c.split.new.pairs c.split-2.new.pairs c.split-2.ensures.grows c.in_ok-before.after c.in_ok-before.ensures.live.1 in
-    let whole = root_cost-most (root_tree c.split-2.new.store c.in_ok-front.front) (root_tree c.split-2.new.store c.in_ok-before.after) (root_height (root_tree c.args.store.now c.args.root))
-    (omega (arith, c.in_ok-front.ensures.low, c.in_ok-before.ensures.low)) (omega (arith, kept, c.in_ok-before.ensures.high)) in
+    let whole = root_cost-most (root_tree c.split-2.new.store c.in_ok-prefix.prefix) (root_tree c.split-2.new.store c.in_ok-before.after) (root_height (root_tree c.args.store.now c.args.root))
+    (omega (arith, c.in_ok-prefix.ensures.low, c.in_ok-before.ensures.low)) (omega (arith, kept, c.in_ok-before.ensures.high)) in
     omega (arith, low, c.split.ensures.cost, c.split-2.ensures.cost, c.concat.ensures.cost, c.in_ok-before.ensures.low, whole)
 
 pub returns-clause-grows : goal.returns-clause-grows
@@ -82,8 +82,8 @@ pub returns-clause-cost : goal.returns-clause-cost
 returns-clause-cost g c n h =
     let low = c.root_len-len.ensures.low n h in
     let kept = height-grows c.split.new.store c.split-2.new.store c.split.new.pairs c.split-2.new.pairs c.split-2.ensures.grows c.in_ok-before.after c.in_ok-before.ensures.live.1 in
-    let whole = root_cost-most (root_tree c.split-2.new.store c.in_ok-front.front) (root_tree c.split-2.new.store c.in_ok-before.after) (root_height (root_tree c.args.store.now c.args.root))
-    (omega (arith, c.in_ok-front.ensures.low, c.in_ok-before.ensures.low)) (omega (arith, kept, c.in_ok-before.ensures.high)) in
+    let whole = root_cost-most (root_tree c.split-2.new.store c.in_ok-prefix.prefix) (root_tree c.split-2.new.store c.in_ok-before.after) (root_height (root_tree c.args.store.now c.args.root))
+    (omega (arith, c.in_ok-prefix.ensures.low, c.in_ok-before.ensures.low)) (omega (arith, kept, c.in_ok-before.ensures.high)) in
     omega (arith, low, c.split.ensures.cost, c.split-2.ensures.cost, c.concat.ensures.cost, c.in_ok-before.ensures.low, whole)
 
 pub returns-clause-value : goal.returns-clause-value
@@ -91,9 +91,9 @@ returns-clause-value g c =
     let within : is_range c.args.i c.args.j c.root_len-len.result ≡ true = sym c.is_within.ensures ∙ c.if-not-is_within.false in
     let d = text_of c.args.store.now c.args.root in
     let order : c.args.i - 1 ≤ c.args.j - 1 = omega (arith, range-order c.args.i c.args.j c.root_len-len.result within) in
-    let front : text_of c.split-2.new.store c.in_ok-front.front ≡ take (c.args.i - 1) d =
-    c.in_ok-front.ensures.before ∙ (ap (λ x. take (c.args.i - 1) x) c.in_ok-before.ensures.before ∙ take-shorter (c.args.i - 1) (c.args.j - 1) d order) in
+    let prefix : text_of c.split-2.new.store c.in_ok-prefix.prefix ≡ take (c.args.i - 1) d =
+    c.in_ok-prefix.ensures.before ∙ (ap (λ x. take (c.args.i - 1) x) c.in_ok-before.ensures.before ∙ take-shorter (c.args.i - 1) (c.args.j - 1) d order) in
     let back : text_of c.split-2.new.store c.in_ok-before.after ≡ drop (c.args.j - 1) d =
     text_of-grows c.split.new.store c.split-2.new.store c.split.new.pairs c.split-2.new.pairs c.split-2.ensures.grows c.in_ok-before.after c.in_ok-before.ensures.live.1 ∙ c.in_ok-before.ensures.after in
-    let whole = c.in_ok-whole.ensures.joined.joined ∙ (λ k. front k ++ back k) in
+    let whole = c.in_ok-whole.ensures.joined.joined ∙ (λ k. prefix k ++ back k) in
     (c.in_ok-whole.ensures.live, ranged-in c.args.i c.args.j c.root_len-len.result (length d) _ within c.root_len-len.ensures.len ∙ ap (λ x. Ok x) (sym whole))

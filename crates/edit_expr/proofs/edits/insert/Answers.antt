@@ -30,7 +30,7 @@ pub concat-requires-clause-short : goal.concat-requires-clause-short
 concat-requires-clause-short g c =
     let d = text_of c.args.store.now c.args.root in
     let part = leaves-grows c.args.store.now c.split.new.store c.args.pairs.now c.split.new.pairs c.split.ensures.grows c.args.part c.requires.part in
-    let back : length (text_of c.split.new.store c.in_ok-front.back) ≡ length (drop (c.args.k - 1) d) = ap length c.in_ok-front.ensures.after in
+    let back : length (text_of c.split.new.store c.in_ok-prefix.back) ≡ length (drop (c.args.k - 1) d) = ap length c.in_ok-prefix.ensures.after in
     omega (
       arith,
       part,
@@ -40,7 +40,7 @@ concat-requires-clause-short g c =
       c.root_len-more.ensures.len,
       c.if-sum-gt-LONGEST.false,
       length-root_text (root_tree c.args.store.now c.args.part),
-      length-root_text (root_tree c.split.new.store c.in_ok-front.back),
+      length-root_text (root_tree c.split.new.store c.in_ok-prefix.back),
     )
 
 pub returns-in_err-rest-clause-grows : goal.returns-in_err-rest-clause-grows
@@ -50,8 +50,8 @@ pub returns-in_err-rest-clause-cost : goal.returns-in_err-rest-clause-cost
 returns-in_err-rest-clause-cost g c n h m =
     let low = c.root_len-len.ensures.low n h in
     let part = height-grows c.args.store.now c.split.new.store c.args.pairs.now c.split.new.pairs c.split.ensures.grows c.args.part c.requires.part in
-    let rest = root_cost-most (root_tree c.split.new.store c.args.part) (root_tree c.split.new.store c.in_ok-front.back) (height_limit n)
-    (omega (arith, part, c.root_len-more.ensures.low n m)) (omega (arith, c.in_ok-front.ensures.high, low)) in
+    let rest = root_cost-most (root_tree c.split.new.store c.args.part) (root_tree c.split.new.store c.in_ok-prefix.back) (height_limit n)
+    (omega (arith, part, c.root_len-more.ensures.low n m)) (omega (arith, c.in_ok-prefix.ensures.high, low)) in
     omega (arith, c.split.ensures.cost, low, c.concat.ensures.cost, rest)
 
 -- the whole: the prefix and the rest
@@ -61,25 +61,25 @@ concat-requires-2-clause-short g c =
     let d = text_of c.args.store.now c.args.root in
     let e = text_of c.split.new.store c.args.part in
     let part = leaves-grows c.args.store.now c.split.new.store c.args.pairs.now c.split.new.pairs c.split.ensures.grows c.args.part c.requires.part in
-    let kept = leaves-grows c.split.new.store c.concat.new.store c.split.new.pairs c.concat.new.pairs c.concat.ensures.grows c.in_ok-front.front c.in_ok-front.ensures.live.0 in
-    let front : length (text_of c.split.new.store c.in_ok-front.front) ≡ length (take (c.args.k - 1) d) = ap length c.in_ok-front.ensures.before in
-    let back : length (text_of c.split.new.store c.in_ok-front.back) ≡ length (drop (c.args.k - 1) d) = ap length c.in_ok-front.ensures.after in
-    let rest : length (text_of c.concat.new.store c.in_ok-rest.rest) ≡ length (e ++ text_of c.split.new.store c.in_ok-front.back) = ap length c.in_ok-rest.ensures.joined.joined in
+    let kept = leaves-grows c.split.new.store c.concat.new.store c.split.new.pairs c.concat.new.pairs c.concat.ensures.grows c.in_ok-prefix.prefix c.in_ok-prefix.ensures.live.0 in
+    let prefix : length (text_of c.split.new.store c.in_ok-prefix.prefix) ≡ length (take (c.args.k - 1) d) = ap length c.in_ok-prefix.ensures.before in
+    let back : length (text_of c.split.new.store c.in_ok-prefix.back) ≡ length (drop (c.args.k - 1) d) = ap length c.in_ok-prefix.ensures.after in
+    let rest : length (text_of c.concat.new.store c.in_ok-rest.rest) ≡ length (e ++ text_of c.split.new.store c.in_ok-prefix.back) = ap length c.in_ok-rest.ensures.joined.joined in
     omega (
       arith,
       part,
       kept,
-      front,
+      prefix,
       back,
       rest,
-      length-append e (text_of c.split.new.store c.in_ok-front.back),
+      length-append e (text_of c.split.new.store c.in_ok-prefix.back),
       cut-lengths (c.args.k - 1) d,
       c.root_len-len.ensures.len,
       c.root_len-more.ensures.len,
       c.if-sum-gt-LONGEST.false,
       length-root_text (root_tree c.args.store.now c.args.part),
       length-root_text (root_tree c.split.new.store c.args.part),
-      length-root_text (root_tree c.split.new.store c.in_ok-front.front),
+      length-root_text (root_tree c.split.new.store c.in_ok-prefix.prefix),
       length-root_text (root_tree c.concat.new.store c.in_ok-rest.rest),
     )
 
@@ -91,11 +91,11 @@ returns-in_err-whole-clause-cost g c n h m =
     let low = c.root_len-len.ensures.low n h in
     let part = height-grows c.args.store.now c.split.new.store c.args.pairs.now c.split.new.pairs c.split.ensures.grows c.args.part c.requires.part in
     let low_part = c.root_len-more.ensures.low n m in
-    let front = height-grows c.split.new.store c.concat.new.store c.split.new.pairs c.concat.new.pairs c.concat.ensures.grows c.in_ok-front.front c.in_ok-front.ensures.live.0 in
-    let rest = root_cost-most (root_tree c.split.new.store c.args.part) (root_tree c.split.new.store c.in_ok-front.back) (height_limit n)
-    (omega (arith, part, low_part)) (omega (arith, c.in_ok-front.ensures.high, low)) in
-    let whole = root_cost-most (root_tree c.concat.new.store c.in_ok-front.front) (root_tree c.concat.new.store c.in_ok-rest.rest) (height_limit n + 1)
-    (omega (arith, front, c.in_ok-front.ensures.low, low)) (omega (arith, c.in_ok-rest.ensures.joined.high, part, low_part, c.in_ok-front.ensures.high, low)) in
+    let prefix = height-grows c.split.new.store c.concat.new.store c.split.new.pairs c.concat.new.pairs c.concat.ensures.grows c.in_ok-prefix.prefix c.in_ok-prefix.ensures.live.0 in
+    let rest = root_cost-most (root_tree c.split.new.store c.args.part) (root_tree c.split.new.store c.in_ok-prefix.back) (height_limit n)
+    (omega (arith, part, low_part)) (omega (arith, c.in_ok-prefix.ensures.high, low)) in
+    let whole = root_cost-most (root_tree c.concat.new.store c.in_ok-prefix.prefix) (root_tree c.concat.new.store c.in_ok-rest.rest) (height_limit n + 1)
+    (omega (arith, prefix, c.in_ok-prefix.ensures.low, low)) (omega (arith, c.in_ok-rest.ensures.joined.high, part, low_part, c.in_ok-prefix.ensures.high, low)) in
     omega (arith, c.split.ensures.cost, low, c.concat.ensures.cost, rest, c.concat-2.ensures.cost, whole)
 
 pub returns-clause-grows : goal.returns-clause-grows
@@ -106,11 +106,11 @@ returns-clause-cost g c n h m =
     let low = c.root_len-len.ensures.low n h in
     let part = height-grows c.args.store.now c.split.new.store c.args.pairs.now c.split.new.pairs c.split.ensures.grows c.args.part c.requires.part in
     let low_part = c.root_len-more.ensures.low n m in
-    let front = height-grows c.split.new.store c.concat.new.store c.split.new.pairs c.concat.new.pairs c.concat.ensures.grows c.in_ok-front.front c.in_ok-front.ensures.live.0 in
-    let rest = root_cost-most (root_tree c.split.new.store c.args.part) (root_tree c.split.new.store c.in_ok-front.back) (height_limit n)
-    (omega (arith, part, low_part)) (omega (arith, c.in_ok-front.ensures.high, low)) in
-    let whole = root_cost-most (root_tree c.concat.new.store c.in_ok-front.front) (root_tree c.concat.new.store c.in_ok-rest.rest) (height_limit n + 1)
-    (omega (arith, front, c.in_ok-front.ensures.low, low)) (omega (arith, c.in_ok-rest.ensures.joined.high, part, low_part, c.in_ok-front.ensures.high, low)) in
+    let prefix = height-grows c.split.new.store c.concat.new.store c.split.new.pairs c.concat.new.pairs c.concat.ensures.grows c.in_ok-prefix.prefix c.in_ok-prefix.ensures.live.0 in
+    let rest = root_cost-most (root_tree c.split.new.store c.args.part) (root_tree c.split.new.store c.in_ok-prefix.back) (height_limit n)
+    (omega (arith, part, low_part)) (omega (arith, c.in_ok-prefix.ensures.high, low)) in
+    let whole = root_cost-most (root_tree c.concat.new.store c.in_ok-prefix.prefix) (root_tree c.concat.new.store c.in_ok-rest.rest) (height_limit n + 1)
+    (omega (arith, prefix, c.in_ok-prefix.ensures.low, low)) (omega (arith, c.in_ok-rest.ensures.joined.high, part, low_part, c.in_ok-prefix.ensures.high, low)) in
     omega (arith, c.split.ensures.cost, low, c.concat.ensures.cost, rest, c.concat-2.ensures.cost, whole)
 
 pub returns-clause-value : goal.returns-clause-value
@@ -120,9 +120,9 @@ returns-clause-value g c =
     let e = text_of c.args.store.now c.args.part in
     let part : text_of c.split.new.store c.args.part ≡ e =
     text_of-grows c.args.store.now c.split.new.store c.args.pairs.now c.split.new.pairs c.split.ensures.grows c.args.part c.requires.part in
-    let front : text_of c.concat.new.store c.in_ok-front.front ≡ take (c.args.k - 1) d =
-    text_of-grows c.split.new.store c.concat.new.store c.split.new.pairs c.concat.new.pairs c.concat.ensures.grows c.in_ok-front.front c.in_ok-front.ensures.live.0 ∙ c.in_ok-front.ensures.before in
-    let rest : text_of c.concat.new.store c.in_ok-rest.rest ≡ e ++ drop (c.args.k - 1) d = c.in_ok-rest.ensures.joined.joined ∙ (λ j. part j ++ c.in_ok-front.ensures.after j) in
+    let prefix : text_of c.concat.new.store c.in_ok-prefix.prefix ≡ take (c.args.k - 1) d =
+    text_of-grows c.split.new.store c.concat.new.store c.split.new.pairs c.concat.new.pairs c.concat.ensures.grows c.in_ok-prefix.prefix c.in_ok-prefix.ensures.live.0 ∙ c.in_ok-prefix.ensures.before in
+    let rest : text_of c.concat.new.store c.in_ok-rest.rest ≡ e ++ drop (c.args.k - 1) d = c.in_ok-rest.ensures.joined.joined ∙ (λ j. part j ++ c.in_ok-prefix.ensures.after j) in
     let fits : length (take (c.args.k - 1) d ++ (e ++ drop (c.args.k - 1) d)) ≤ 2 ^ 48 =
     omega (
       arith,
@@ -133,5 +133,5 @@ returns-clause-value g c =
       c.root_len-more.ensures.len,
       c.if-sum-gt-LONGEST.false,
     ) in
-    let whole = c.in_ok-whole.ensures.joined.joined ∙ (λ j. front j ++ rest j) in
+    let whole = c.in_ok-whole.ensures.joined.joined ∙ (λ j. prefix j ++ rest j) in
     (c.in_ok-whole.ensures.live, ranged-in c.args.k c.args.k c.root_len-len.result (length d) _ within c.root_len-len.ensures.len ∙ (fitting-fits _ fits ∙ ap (λ x. Ok x) (sym whole)))

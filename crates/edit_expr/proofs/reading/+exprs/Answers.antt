@@ -10,7 +10,7 @@ use Rattle.edit_expr.specs.declared.reading.ExprRefusal.TheVariants.{NoMemory}
 use Rattle.edit_expr.specs.Expressions.{AreTokens, tokens}
 use Rattle.edit_expr.specs.Operations.{Fits, IsInside, Opens, operation_named, word_of}
 use Rattle.edit_expr.proofs.WordLemmas.{letters_of, tails}
-use Rattle.edit_expr.proofs.FrontLemmas.{document_there, inside_of, named_is, operation_there}
+use Rattle.edit_expr.proofs.PrefixLemmas.{document_there, inside_of, named_is, operation_there}
 use Rattle.edit_expr.proofs.reading.+exprs.Goals as goal
 
 -- `EXPR,NUM,NUM`
@@ -75,20 +75,20 @@ expression-returns-then-depth-eq0-clause-exact t c = λ e others fits closing w.
     c.word_at.ensures.cut (letters_of c.word_at.result.0.now c.word_at.ensures.letters) c.word_at.ensures.whole c.in-Some.inside.now c.in-Some.ensures in
     let bad : ⊥ = omega (arith, there.2, c.if-depth-eq0.true) in absurd bad
 
-pub expression-returns-in_err-front-clause-exact : goal.expression-returns-in_err-front-clause-exact
-expression-returns-in_err-front-clause-exact t c = λ e others fits closing w.
+pub expression-returns-in_err-prefix-clause-exact : goal.expression-returns-in_err-prefix-clause-exact
+expression-returns-in_err-prefix-clause-exact t c = λ e others fits closing w.
     let there = operation_there e c.args.depth others c.args.text.now c.word_at.result.0.now c.word_at.result.1.now fits closing w
     c.word_at.ensures.cut (letters_of c.word_at.result.0.now c.word_at.ensures.letters) c.word_at.ensures.whole c.in-Some.inside.now c.in-Some.ensures in
     let inside = inside_of c.args.depth others c.word_at.result.0.now c.in-Some.inside.now c.in-Some-operation_of.operation c.in-Some-operation_of.ensures there in
-    let told = err_from_is_err_and c.from_residual-in_err-front.result c.from_residual-in_err-front.ensures.1 in
-    rw (told.1, told.2) (c.in_err-front.ensures.exact (codes ")" ∷ others) (inr refl) inside)
+    let told = err_from_is_err_and c.from_residual-in_err-prefix.result c.from_residual-in_err-prefix.ensures.1 in
+    rw (told.1, told.2) (c.in_err-prefix.ensures.exact (codes ")" ∷ others) (inr refl) inside)
 
 pub expression-returns-in_default-sign_at-clause-exact : goal.expression-returns-in_default-sign_at-clause-exact
 expression-returns-in_default-sign_at-clause-exact t c = λ e others fits closing w.
     let there = operation_there e c.args.depth others c.args.text.now c.word_at.result.0.now c.word_at.result.1.now fits closing w
     c.word_at.ensures.cut (letters_of c.word_at.result.0.now c.word_at.ensures.letters) c.word_at.ensures.whole c.in-Some.inside.now c.in-Some.ensures in
     let inside = inside_of c.args.depth others c.word_at.result.0.now c.in-Some.inside.now c.in-Some-operation_of.operation c.in-Some-operation_of.ensures there in
-    let left = c.in_ok-front.ensures.exact (codes ")" ∷ others) (inr refl) inside in
+    let left = c.in_ok-prefix.ensures.exact (codes ")" ∷ others) (inr refl) inside in
     absurd (c.in_default-sign_at.ensures left.0 left.1)
 
 pub expression-returns-clause-exact : goal.expression-returns-clause-exact
@@ -96,13 +96,13 @@ expression-returns-clause-exact t c = λ e others fits closing w.
     let there = operation_there e c.args.depth others c.args.text.now c.word_at.result.0.now c.word_at.result.1.now fits closing w
     c.word_at.ensures.cut (letters_of c.word_at.result.0.now c.word_at.ensures.letters) c.word_at.ensures.whole c.in-Some.inside.now c.in-Some.ensures in
     let inside = inside_of c.args.depth others c.word_at.result.0.now c.in-Some.inside.now c.in-Some-operation_of.operation c.in-Some-operation_of.ensures there in
-    let left = c.in_ok-front.ensures.exact (codes ")" ∷ others) (inr refl) inside in
+    let left = c.in_ok-prefix.ensures.exact (codes ")" ∷ others) (inr refl) inside in
     subst (AreTokens others) (tails 41 41 left.0 c.in-Some-sign_at.rest.now (sym left.1 ∙ c.in-Some-sign_at.ensures)) left.2
 
 pub expression-returns-clause-ok : goal.expression-returns-clause-ok
 expression-returns-clause-ok t c =
     let word : c.word_at.result.0.now ≡ word_of c.in-Some-operation_of.operation = named_is c.word_at.result.0.now c.in-Some-operation_of.operation (sym c.in-Some-operation_of.ensures) in
-    let ok = c.in_ok-front.ensures.ok in (
+    let ok = c.in_ok-prefix.ensures.ok in (
       (ok.0.0, omega (arith, ok.0.1, c.if-depth-eq0.false)),
       λ others w. ok.1 c.args.text.now
           (λ inside v. (c.word_at.result.1.now, c.word_at.ensures.cut ∙ ap (λ (x : List ℕ). x ++ c.word_at.result.1.now) word, (c.in-Some.inside.now, c.in-Some.ensures, v)))

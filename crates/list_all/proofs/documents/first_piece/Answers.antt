@@ -9,11 +9,11 @@ pub loop-index-preserved : goal.loop-index-preserved
 loop-index-preserved g c =
     let at = c.loop-index in
     let pushed = c.in_ok-push.ensures.items in
-    let more : length c.push.new.self.items ≡ at.index + 1 = rw pushed (omega (arith, length-append at.places.items (c.in_ok-place.place ∷ []), at.invariant.count)) in
+    let more : length c.push.new.self.items ≡ at.index + 1 = rw pushed (omega (arith, length-append at.places.items (c.in_ok-page.page ∷ []), at.invariant.count)) in
     record {
-      pages = c.in_ok-place.ensures.pages;
+      pages = c.in_ok-page.ensures.pages;
       each = rw pushed
-          (subst (λ (rs : List (Option NodeId)). HaveEach (g.F.FindPage.is_page c.args.finder.now) c.page_index.new.found.items rs (at.places.items ++ c.in_ok-place.place ∷ [])) (sym (take_more c.args.documents.roots.now at.index None c.loop-index-test.true))
-          (have-push (g.F.FindPage.is_page c.args.finder.now) at.found.items c.page_index.new.found.items c.in_ok-place.ensures.kept (take at.index c.args.documents.roots.now) at.places.items (get_or c.args.documents.roots.now at.index None) c.in_ok-place.place at.invariant.each c.in_ok-place.ensures.page));
+          (subst (λ (rs : List (Option NodeId)). HaveEach (g.F.FindPage.is_page c.args.finder.now) c.page_index.new.found.items rs (at.places.items ++ c.in_ok-page.page ∷ [])) (sym (take_more c.args.documents.roots.now at.index None c.loop-index-test.true))
+          (have-push (g.F.FindPage.is_page c.args.finder.now) at.found.items c.page_index.new.found.items c.in_ok-page.ensures.kept (take at.index c.args.documents.roots.now) at.places.items (get_or c.args.documents.roots.now at.index None) c.in_ok-page.page at.invariant.each c.in_ok-page.ensures.page));
       count = more;
     }

@@ -15,9 +15,9 @@ joined-requires g c =
 pub returns : goal.returns
 returns g c =
     let done : c.len.result ≡ length c.in_ok-first.first.places.items = omega (arith, c.len.ensures) in
-    let front : c.split_at.result.0.now ≡ take (length c.in_ok-first.first.places.items) c.args.documents.roots.now = rw (done) at c.split_at.ensures.front in
+    let prefix : c.split_at.result.0.now ≡ take (length c.in_ok-first.first.places.items) c.args.documents.roots.now = rw (done) at c.split_at.ensures.front in
     let first : HaveEach (g.F.FindPage.is_page c.args.finder.now) c.in_ok-first.first.found.items c.split_at.result.0.now c.in_ok-first.first.places.items =
-    subst (λ (rs : List (Option NodeId)). HaveEach (g.F.FindPage.is_page c.args.finder.now) c.in_ok-first.first.found.items rs c.in_ok-first.first.places.items) (sym front) c.in_ok-first.ensures.pages in
+    subst (λ (rs : List (Option NodeId)). HaveEach (g.F.FindPage.is_page c.args.finder.now) c.in_ok-first.first.found.items rs c.in_ok-first.first.places.items) (sym prefix) c.in_ok-first.ensures.pages in
     if-both c.joined.result _ _ _ (λ all found places.
     have-joined (g.F.FindPage.is_page c.args.finder.now) c.in_ok-first.first.found.items c.in_ok-second.second.found.items all.found.items c.split_at.result.0.now c.split_at.result.1.now c.args.documents.roots.now
     c.in_ok-first.first.places.items c.in_ok-second.second.places.items all.places.items first c.in_ok-second.ensures c.split_at.ensures.by_index.0 found places) c.joined.ensures.found c.joined.ensures.places

@@ -23,7 +23,7 @@ loop-edge-preserved c =
     let items = c.loop-edge.invariant.items in
     let lt : c.loop-edge.edge-index < length c.args.nfa.now.edges = omega (arith, c.loop-edge-test.true, ap length items) in
     let at : slice_get c.args.nfa.now.edges c.loop-edge.edge-index ≡ Some c.edge-item.result = slice_get-get_or c.args.nfa.now.edges c.loop-edge.edge-index c.edge-item.result lt ∙ ap Some (sym (c.edge-item.is ∙ ap (λ l. get_or l c.loop-edge.edge-index c.edge-item.result) items)) in
-    record { items = items; bundled = bundled_more c.args.nfa.now c.loop-edge.edge-index _ _ c.edge-item.result at c.loop-edge.invariant.bundled c.in_ok-place.ensures.bundles c.in_ok-place.ensures.gains }
+    record { items = items; bundled = bundled_more c.args.nfa.now c.loop-edge.edge-index _ _ c.edge-item.result at c.loop-edge.invariant.bundled c.in_ok-index.ensures.bundles c.in_ok-index.ensures.gains }
 
 pub returns : goal.returns
 returns c =

@@ -1,5 +1,5 @@
 use Rattle.marker_dfa.proofs.Bundling.{ReadersUpTo}
 use Rattle.marker_dfa.proofs.bundles.readers_of.Given as goal
 
-abbrev pub invariant-loop-place : goal.invariant-loop-place
-invariant-loop-place l = ReadersUpTo l.bundles l.byte l.place l.places.items
+abbrev pub invariant-loop-index : goal.invariant-loop-index
+invariant-loop-index l = ReadersUpTo l.bundles l.byte l.index l.places.items

@@ -3,7 +3,7 @@ use Rattle.span_types.specs.FormulaTree.{FormulaTree, tree_of, sets, Cat, Alt, S
 use Rattle.marker_nfa.proofs.Size.{tree_size}
 use Rattle.marker_nfa.specs.Parts.{IsPart}
 use Rattle.marker_nfa.proofs.Weights.{cat_small_left, cat_small_right, alt_small_left, alt_small_right, star_small, plus_small, opt_small, capture_small, may_follow, may_star, may_plus, may_name}
-use Rattle.marker_nfa.proofs.Making.{next_place, if_ok_map, if_ok_any}
+use Rattle.marker_nfa.proofs.Making.{next_index, if_ok_map, if_ok_any}
 use Rattle.marker_nfa.proofs.Following.{cat_hops, alt_hops, star_hops, plus_hops, opt_hops, capture_hops}
 use Rattle.marker_nfa.specs.Parts.{AddsFollow, AddsUnless, IsHopIn}
 use Rattle.span_types.specs.declared.refusal.NoMemory.{NoMemory}
@@ -17,7 +17,7 @@ put_part-requires t c =
 pub put_part-requires-in-Cat : goal.put_part-requires-in-Cat
 put_part-requires-in-Cat t c =
     let i : tree_of c.args.formula.now ≡ Cat (tree_of c.in-Cat.a.value) (tree_of c.in-Cat.b.value) = ap tree_of c.in-Cat.is in
-    let next = next_place c.args.letters.now.items _ (tree_of c.in-Cat.a.value) (rw (c.deref-in-Cat-2.ensures) at c.in_ok-put_part-in-Cat.ensures.letters) in
+    let next = next_index c.args.letters.now.items _ (tree_of c.in-Cat.a.value) (rw (c.deref-in-Cat-2.ensures) at c.in_ok-put_part-in-Cat.ensures.letters) in
     rw (c.deref-in-Cat-3.ensures) (omega (arith, c.decreases, ap tree_size i), (cat_small_right _ _ (rw i at c.requires.small), omega (arith, c.requires.room, ap sets i, next)))
 
 pub put_part-requires-in-Alt : goal.put_part-requires-in-Alt
@@ -28,7 +28,7 @@ put_part-requires-in-Alt t c =
 pub put_part-requires-in-Alt-2 : goal.put_part-requires-in-Alt-2
 put_part-requires-in-Alt-2 t c =
     let i : tree_of c.args.formula.now ≡ Alt (tree_of c.in-Alt.a.value) (tree_of c.in-Alt.b.value) = ap tree_of c.in-Alt.is in
-    let next = next_place c.args.letters.now.items _ (tree_of c.in-Alt.a.value) (rw (c.deref-in-Alt.ensures) at c.in_ok-put_part-in-Alt.ensures.letters) in
+    let next = next_index c.args.letters.now.items _ (tree_of c.in-Alt.a.value) (rw (c.deref-in-Alt.ensures) at c.in_ok-put_part-in-Alt.ensures.letters) in
     rw (c.deref-in-Alt-2.ensures) (omega (arith, c.decreases, ap tree_size i), (alt_small_right _ _ (rw i at c.requires.small), omega (arith, c.requires.room, ap sets i, next)))
 
 pub put_part-requires-in-Star : goal.put_part-requires-in-Star
@@ -54,7 +54,7 @@ put_part-requires-in-Capture t c =
 pub cat_part-requires : goal.cat_part-requires
 cat_part-requires t c =
     let i : tree_of c.args.formula.now ≡ Cat (tree_of c.in-Cat.a.value) (tree_of c.in-Cat.b.value) = ap tree_of c.in-Cat.is in
-    let next = next_place c.args.letters.now.items _ (tree_of c.in-Cat.a.value) (rw (c.deref-in-Cat-2.ensures) at c.in_ok-put_part-in-Cat.ensures.letters) in
+    let next = next_index c.args.letters.now.items _ (tree_of c.in-Cat.a.value) (rw (c.deref-in-Cat-2.ensures) at c.in_ok-put_part-in-Cat.ensures.letters) in
     let ip = rw (c.deref-in-Cat-2.ensures) at c.in_ok-put_part-in-Cat.ensures.part in
     let iq = rw (c.deref-in-Cat-3.ensures, next) at c.in_ok-put_part-in-Cat-2.ensures.part in
     rw (c.deref_mut-in-Cat.ensures.value) (may_follow (tree_of c.in-Cat.a.value) (tree_of c.in-Cat.b.value) _ _ _ _ (rw i at c.requires.small) ip iq)
@@ -62,7 +62,7 @@ cat_part-requires t c =
 pub returns-in_ok-put_part-in-Cat-2-clause-part : goal.returns-in_ok-put_part-in-Cat-2-clause-part
 returns-in_ok-put_part-in-Cat-2-clause-part t c =
     let i : tree_of c.args.formula.now ≡ Cat (tree_of c.in-Cat.a.value) (tree_of c.in-Cat.b.value) = ap tree_of c.in-Cat.is in
-    let next = next_place c.args.letters.now.items _ (tree_of c.in-Cat.a.value) (rw (c.deref-in-Cat-2.ensures) at c.in_ok-put_part-in-Cat.ensures.letters) in
+    let next = next_index c.args.letters.now.items _ (tree_of c.in-Cat.a.value) (rw (c.deref-in-Cat-2.ensures) at c.in_ok-put_part-in-Cat.ensures.letters) in
     let ip = rw (c.deref-in-Cat-2.ensures) at c.in_ok-put_part-in-Cat.ensures.part in
     let iq = rw (c.deref-in-Cat-3.ensures, next) at c.in_ok-put_part-in-Cat-2.ensures.part in
     rw i (if_ok_map {A = Unit {0}} {E = NoMemory} c.cat_part.result (λ _. (a b : FormulaTree) (n : ℕ) → IsPart a n c.put_part.new.part → IsPart b (n + sets a) c.put_part-in-Cat.new.part → IsPart (Cat a b) n c.cat_part.new.left) (λ _. IsPart (Cat (tree_of c.in-Cat.a.value) (tree_of c.in-Cat.b.value)) (length c.args.letters.now.items + 1) c.cat_part.new.left) (λ _ h. h (tree_of c.in-Cat.a.value) (tree_of c.in-Cat.b.value) (length c.args.letters.now.items + 1) ip iq) (rw (c.deref_mut-in-Cat.ensures.value) at c.cat_part.ensures.part))
@@ -70,7 +70,7 @@ returns-in_ok-put_part-in-Cat-2-clause-part t c =
 pub returns-in_ok-put_part-in-Cat-2-clause-hops : goal.returns-in_ok-put_part-in-Cat-2-clause-hops
 returns-in_ok-put_part-in-Cat-2-clause-hops t c =
     let i : tree_of c.args.formula.now ≡ Cat (tree_of c.in-Cat.a.value) (tree_of c.in-Cat.b.value) = ap tree_of c.in-Cat.is in
-    let next = next_place c.args.letters.now.items _ (tree_of c.in-Cat.a.value) (rw (c.deref-in-Cat-2.ensures) at c.in_ok-put_part-in-Cat.ensures.letters) in
+    let next = next_index c.args.letters.now.items _ (tree_of c.in-Cat.a.value) (rw (c.deref-in-Cat-2.ensures) at c.in_ok-put_part-in-Cat.ensures.letters) in
     let ip = rw (c.deref-in-Cat-2.ensures) at c.in_ok-put_part-in-Cat.ensures.part in
     let iq = rw (c.deref-in-Cat-3.ensures, next) at c.in_ok-put_part-in-Cat-2.ensures.part in
     let cl = rw (c.deref.ensures) at c.covers-left_covered.ensures in
@@ -82,7 +82,7 @@ returns-in_ok-put_part-in-Cat-2-clause-hops t c =
 pub returns-in_ok-put_part-in-Alt-2-clause-part : goal.returns-in_ok-put_part-in-Alt-2-clause-part
 returns-in_ok-put_part-in-Alt-2-clause-part t c =
     let i : tree_of c.args.formula.now ≡ Alt (tree_of c.in-Alt.a.value) (tree_of c.in-Alt.b.value) = ap tree_of c.in-Alt.is in
-    let next = next_place c.args.letters.now.items _ (tree_of c.in-Alt.a.value) (rw (c.deref-in-Alt.ensures) at c.in_ok-put_part-in-Alt.ensures.letters) in
+    let next = next_index c.args.letters.now.items _ (tree_of c.in-Alt.a.value) (rw (c.deref-in-Alt.ensures) at c.in_ok-put_part-in-Alt.ensures.letters) in
     let ip = rw (c.deref-in-Alt.ensures) at c.in_ok-put_part-in-Alt.ensures.part in
     let iq = rw (c.deref-in-Alt-2.ensures, next) at c.in_ok-put_part-in-Alt-2.ensures.part in
     rw i (if_ok_map {A = Unit {0}} {E = NoMemory} c.alt_part.result (λ _. (a b : FormulaTree) (n : ℕ) → IsPart a n c.put_part-in-Alt.new.part → IsPart b (n + sets a) c.put_part-in-Alt-2.new.part → IsPart (Alt a b) n c.alt_part.new.left) (λ _. IsPart (Alt (tree_of c.in-Alt.a.value) (tree_of c.in-Alt.b.value)) (length c.args.letters.now.items + 1) c.alt_part.new.left) (λ _ h. h (tree_of c.in-Alt.a.value) (tree_of c.in-Alt.b.value) (length c.args.letters.now.items + 1) ip iq) (rw (c.deref-in-Alt-3.ensures) at c.alt_part.ensures))
@@ -90,7 +90,7 @@ returns-in_ok-put_part-in-Alt-2-clause-part t c =
 pub returns-in_ok-put_part-in-Alt-2-clause-hops : goal.returns-in_ok-put_part-in-Alt-2-clause-hops
 returns-in_ok-put_part-in-Alt-2-clause-hops t c =
     let i : tree_of c.args.formula.now ≡ Alt (tree_of c.in-Alt.a.value) (tree_of c.in-Alt.b.value) = ap tree_of c.in-Alt.is in
-    let next = next_place c.args.letters.now.items _ (tree_of c.in-Alt.a.value) (rw (c.deref-in-Alt.ensures) at c.in_ok-put_part-in-Alt.ensures.letters) in
+    let next = next_index c.args.letters.now.items _ (tree_of c.in-Alt.a.value) (rw (c.deref-in-Alt.ensures) at c.in_ok-put_part-in-Alt.ensures.letters) in
     let ip = rw (c.deref-in-Alt.ensures) at c.in_ok-put_part-in-Alt.ensures.part in
     let iq = rw (c.deref-in-Alt-2.ensures, next) at c.in_ok-put_part-in-Alt-2.ensures.part in
     let h1 = rw (c.deref-in-Alt.ensures) at c.in_ok-put_part-in-Alt.ensures.hops in

@@ -7,4 +7,4 @@ returns g c =
     let os = c.self.inside.slots.items.items in
     let slot = c.slot_of-slot.ensures in
     let same = some_is (sym c.in-Some.is ∙ some_is (sym (read os c.slot_of-slot.result c.index.result.now (within os c.slot_of-slot.result (Some slot.pair) slot.there) c.index.ensures) ∙ slot.there)) in
-    ap (λ ps. slice_get ps c.args.place) (sym c.self.view_is) ∙ (slot-get os c.args.place c.slot_of-slot.result slot ∙ ap (λ p. Some p) (sym same))
+    ap (λ ps. slice_get ps c.args.index) (sym c.self.view_is) ∙ (slot-get os c.args.index c.slot_of-slot.result slot ∙ ap (λ p. Some p) (sym same))

@@ -12,7 +12,7 @@ invariant_of-self-lent g c =
     let k = c.slot_of-slot.result in
     let slot = c.slot_of-slot.ensures in
     let at = read os k c.index_mut.result.now (within os k (Some slot.pair) slot.there) c.index_mut.ensures.value ∙ ap (λ o. Some o) c.in-Some.is in
-    λ w. rw (c.in-Some.is) (AreSlots-with_value (indexed s.index.entries) os s.empty c.args.place k c.in-Some.named w c.self.invariant at slot.before_it)
+    λ w. rw (c.in-Some.is) (AreSlots-with_value (indexed s.index.entries) os s.empty c.args.index k c.in-Some.named w c.self.invariant at slot.before_it)
 
 pub returns : goal.returns
 returns g c =
@@ -21,9 +21,9 @@ returns g c =
     let slot = c.slot_of-slot.ensures in
     let at = read os k c.index_mut.result.now (within os k (Some slot.pair) slot.there) c.index_mut.ensures.value ∙ ap (λ o. Some o) c.in-Some.is in
     let named = some_is (some_is (sym slot.there ∙ at)) in (
-      (refl, λ w. rw (c.in-Some.is) (slot-with_value os c.args.place k c.in-Some.named w at slot.before_it ∙ ap (λ ps. with_value ps c.args.place w) c.self.view_is)),
+      (refl, λ w. rw (c.in-Some.is) (slot-with_value os c.args.index k c.in-Some.named w at slot.before_it ∙ ap (λ ps. with_value ps c.args.index w) c.self.view_is)),
       record {
         writes_back = tt;
-        value = rw (c.in-Some.is) (ap (λ ps. option_map (λ p. p.1) (slice_get ps c.args.place)) (sym c.self.view_is) ∙ ap (λ o. option_map (λ p. p.1) o) (slot-get os c.args.place k slot ∙ ap (λ p. Some p) named));
+        value = rw (c.in-Some.is) (ap (λ ps. option_map (λ p. p.1) (slice_get ps c.args.index)) (sym c.self.view_is) ∙ ap (λ o. option_map (λ p. p.1) o) (slot-get os c.args.index k slot ∙ ap (λ p. Some p) named));
       },
     )

@@ -4,7 +4,7 @@ use Rattle.name_map.proofs.slots.slot_of.Goals.{then-is_some+else-left-eq0, else
 use Rattle.name_map.proofs.slots.slot_of.Goals as goal
 
 pub returns-then-slots-eq0 : goal.returns-then-slots-eq0
-returns-then-slots-eq0 g c = full-slot c.args.slots.now.items.items c.args.place (omega (arith, c.requires.count, c.if-slots-eq0.true)) (omega (arith, c.requires.within, c.requires.count))
+returns-then-slots-eq0 g c = full-slot c.args.slots.now.items.items c.args.index (omega (arith, c.requires.count, c.if-slots-eq0.true)) (omega (arith, c.requires.within, c.requires.count))
 
 pub returns-then-left-eq0 : goal.returns-then-left-eq0
 returns-then-left-eq0 g c =
@@ -12,7 +12,7 @@ returns-then-left-eq0 g c =
     let k = c.loop-slot.slot in
     let r = c.held-item.result in
     let same = c.deref-held-items.ensures.value in
-    slot-there os c.args.place k c.loop-slot.left r c.loop-slot.invariant c.if-left-eq0.true (subst (λ row. k < length row) same c.loop-slot-test.true) (subst (λ row. r ≡ get_or row k r) same c.held-item.is) (sym c.is_some.ensures ∙ c.if-is_some.true)
+    slot-there os c.args.index k c.loop-slot.left r c.loop-slot.invariant c.if-left-eq0.true (subst (λ row. k < length row) same c.loop-slot-test.true) (subst (λ row. r ≡ get_or row k r) same c.held-item.is) (sym c.is_some.ensures ∙ c.if-is_some.true)
 
 pub loop-slot-preserved : goal.loop-slot-preserved
 loop-slot-preserved g c =

@@ -3,4 +3,4 @@ use Rattle.name_map.specs.Kept.{live}
 use Rattle.name_map.proofs.slots.slot_of.Given as goal
 
 abbrev pub invariant-loop-slot : goal.invariant-loop-slot
-invariant-loop-slot g l = length (live (take l.slot l.slots.items.items)) + l.left ≡ l.place
+invariant-loop-slot g l = length (live (take l.slot l.slots.items.items)) + l.left ≡ l.index

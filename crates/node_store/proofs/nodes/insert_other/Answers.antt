@@ -4,8 +4,8 @@ use Rattle.node_store.proofs.nodes.insert_other.Goals as goal
 
 pub returns-clause-indexed : goal.returns-clause-indexed
 returns-clause-indexed c =
-    let was : IsTrue c.in_ok-place.added = search rules in
-    let made = c.in_ok-place.ensures.added was in
+    let was : IsTrue c.in_ok-entry.added = search rules in
+    let made = c.in_ok-entry.ensures.added was in
     let all : c.push_reserved-2.new.self.items ≡ c.args.all.now.items ++ c.args.narrow ∷ [] = search rules in
     let firsts : c.push_reserved-3.new.self.items ≡ c.args.firsts.now.items ++ 0 ∷ [] = search rules in
     let number : c.in_ok-number.number ≡ length c.args.all.now.items = search rules in
@@ -16,8 +16,8 @@ returns-clause-indexed c =
 
 pub returns-clause-added : goal.returns-clause-added
 returns-clause-added c = λ was.
-    let is : IsTrue c.in_ok-place.added = search rules in
-    let made = c.in_ok-place.ensures.added is in
+    let is : IsTrue c.in_ok-entry.added = search rules in
+    let made = c.in_ok-entry.ensures.added is in
     (search rules, other-absent c.args.all.now.items c.args.firsts.now.items c.args.seconds.now.items c.args.others.now c.args.indices.now.items c.args.narrow c.requires.indexed c.requires.other made.1)
 
 pub returns-clause-node : goal.returns-clause-node

@@ -5,10 +5,10 @@ use Rattle.pair_loader.specs.Known.{AreKnown}
 use Rattle.pair_loader.specs.WordsView.{known_of}
 use Rattle.pair_loader.proofs.levels.put_words.Given as goal
 
-abbrev pub invariant-loop-place : goal.invariant-loop-place
-invariant-loop-place g l = record {
+abbrev pub invariant-loop-index : goal.invariant-loop-index
+invariant-loop-index g l = record {
   grows : Grows l.initial.store l.store l.initial.pairs l.pairs;
   known : AreKnown l.store (known_of l.words);
-  made : AreBlocks l.store 3 l.place l.piece l.ids;
-  cost : l.pairs ≤ l.initial.pairs + 7 * l.place;
+  made : AreBlocks l.store 3 l.index l.piece l.ids;
+  cost : l.pairs ≤ l.initial.pairs + 7 * l.index;
 }

@@ -6,7 +6,7 @@ use Rattle.share_loader.proofs.words.number_of.Goals as goal
 pub returns-then-text-lt-MAX_WORD_BYTES : goal.returns-then-text-lt-MAX_WORD_BYTES
 returns-then-text-lt-MAX_WORD_BYTES c =
     ap (take c.args.len) c.number_of_eight.ensures
-    ∙ subst (λ n. take n c.padded.result ≡ take c.args.len c.args.text.now) (length-take-le c.args.len c.args.text.now c.requires.within) c.padded.ensures.front
+    ∙ subst (λ n. take n c.padded.result ≡ take c.args.len c.args.text.now) (length-take-le c.args.len c.args.text.now c.requires.within) c.padded.ensures.prefix
 
 pub returns-then-len-eq-MAX_WORD_BYTES : goal.returns-then-len-eq-MAX_WORD_BYTES
 returns-then-len-eq-MAX_WORD_BYTES c =

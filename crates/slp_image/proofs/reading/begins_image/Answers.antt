@@ -5,5 +5,5 @@ use Rattle.slp_image.proofs.reading.begins_image.Goals as goal
 
 pub returns-clause-settled : goal.returns-clause-settled
 returns-clause-settled c = λ none rest.
-    let value : c.is_magic.result ≡ is_magic (take 4 c.args.front.now) = search rules in
-    no_image c.args.front.now rest c.requires (sym value ∙ none)
+    let value : c.is_magic.result ≡ is_magic (take 4 c.args.prefix.now) = search rules in
+    no_image c.args.prefix.now rest c.requires (sym value ∙ none)

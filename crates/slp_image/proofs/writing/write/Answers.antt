@@ -7,7 +7,7 @@ use Rattle.slp_model.specs.Thin.{rank, thin, IsCompactionOf}
 use Rattle.slp_image.specs.Save.{IsReached, IsCount, root_indices}
 use Rattle.slp_image.specs.Saved.{AreSaved, KeepsRoots}
 use Rattle.slp_image.specs.Written.{records_bytes}
-use Rattle.slp_image.proofs.WriteLemmas.{front}
+use Rattle.slp_image.proofs.WriteLemmas.{prefix}
 use Rattle.slp_image.proofs.KeptLemmas.{IsWhole, roots-kept, kept-count, whole-from, whole-form, whole-documents, whole-trees}
 use Rattle.slp_image.proofs.writing.write.Goals as goal
 
@@ -35,7 +35,7 @@ whole c =
     let short : c.in_ok-moves.count < 2 ^ 64 = omega (arith, count-of c, few-of c) in
     whole-from c.args.store.now c.in_ok-plan.plan ms c.args.docs.now c.in_ok-moves.count c.push_header.new.out.items c.push_nodes.new.out.items c.push_number.new.out.items c.push_documents.new.out.items
     c.requires c.count.ensures.distinct c.in_ok-plan.ensures.kept t t.sound apart (count-of c) short (omega (arith, c.count.ensures.count, c.count.type_inv))
-    (c.in_ok-push_header.ensures ∙ ap (λ (bs : List ℕ). bs ++ (front ++ big_bytes 8 c.in_ok-moves.count)) c.in_ok-bytes.ensures.items)
+    (c.in_ok-push_header.ensures ∙ ap (λ (bs : List ℕ). bs ++ (prefix ++ big_bytes 8 c.in_ok-moves.count)) c.in_ok-bytes.ensures.items)
     (c.in_ok-push_nodes.ensures.bytes ∙ ap (λ (ks : List Bool). c.push_header.new.out.items ++ records_bytes (thin c.args.store.now ks)) c.in_ok-moves.ensures.moves)
     (c.in_ok-push_number.ensures ∙ ap (λ (n : ℕ). c.push_nodes.new.out.items ++ big_bytes 8 n) c.count-2.ensures.count)
     (subst (λ (ks : List Bool). AreSaved (rank ks) c.args.docs.now (length c.args.docs.now) c.push_number.new.out.items c.push_documents.new.out.items) c.in_ok-moves.ensures.moves c.in_ok-push_documents.ensures)

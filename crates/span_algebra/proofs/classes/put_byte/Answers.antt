@@ -18,14 +18,14 @@ fresh n new empty e g =
 pub returns-in-Some-clause-left : goal.returns-in-Some-clause-left
 returns-in-Some-clause-left c =
     let k = c.in-Some.ensures in
-    let h = subst (λ (l : List Class). slice_get l c.in-Some.place ≡ Some k.class) c.deref.ensures.value k.there in
-    class-put c.args.left.now c.args.classes.now.items c.args.byte c.in-Some.place k.class _ c.requires.left (omega (arith, c.ranges.byte)) h k.left_alike (let g = c.index_mut.ensures.value ∙ get_or_from_slice_get c.args.classes.now.items c.in-Some.place k.class c.index_mut.result.now h in changed c.index_mut.result.now k.class c.args.byte c.insert.new.self g c.insert.ensures)
+    let h = subst (λ (l : List Class). slice_get l c.in-Some.index ≡ Some k.class) c.deref.ensures.value k.there in
+    class-put c.args.left.now c.args.classes.now.items c.args.byte c.in-Some.index k.class _ c.requires.left (omega (arith, c.ranges.byte)) h k.left_alike (let g = c.index_mut.ensures.value ∙ get_or_from_slice_get c.args.classes.now.items c.in-Some.index k.class c.index_mut.result.now h in changed c.index_mut.result.now k.class c.args.byte c.insert.new.self g c.insert.ensures)
 
 pub returns-in-Some-clause-right : goal.returns-in-Some-clause-right
 returns-in-Some-clause-right c =
     let k = c.in-Some.ensures in
-    let h = subst (λ (l : List Class). slice_get l c.in-Some.place ≡ Some k.class) c.deref.ensures.value k.there in
-    class-put c.args.right.now c.args.classes.now.items c.args.byte c.in-Some.place k.class _ c.requires.right (omega (arith, c.ranges.byte)) h k.right_alike (let g = c.index_mut.ensures.value ∙ get_or_from_slice_get c.args.classes.now.items c.in-Some.place k.class c.index_mut.result.now h in changed c.index_mut.result.now k.class c.args.byte c.insert.new.self g c.insert.ensures)
+    let h = subst (λ (l : List Class). slice_get l c.in-Some.index ≡ Some k.class) c.deref.ensures.value k.there in
+    class-put c.args.right.now c.args.classes.now.items c.args.byte c.in-Some.index k.class _ c.requires.right (omega (arith, c.ranges.byte)) h k.right_alike (let g = c.index_mut.ensures.value ∙ get_or_from_slice_get c.args.classes.now.items c.in-Some.index k.class c.index_mut.result.now h in changed c.index_mut.result.now k.class c.args.byte c.insert.new.self g c.insert.ensures)
 
 pub returns-in_ok-push-in-None-clause-left : goal.returns-in_ok-push-in-None-clause-left
 returns-in_ok-push-in-None-clause-left c =

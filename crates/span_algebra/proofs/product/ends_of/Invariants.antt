@@ -3,5 +3,5 @@ use Rattle.marker_nfa.specs.Parts.{Adds}
 use Rattle.span_algebra.proofs.ProductLaws.{EndBefore}
 use Rattle.span_algebra.proofs.product.ends_of.Given as goal
 
-abbrev pub invariant-loop-place : goal.invariant-loop-place
-invariant-loop-place l = Adds [] l.ends.items (EndBefore l.sides.left.now l.sides.right.now l.sides.meeting.now l.pairs l.place)
+abbrev pub invariant-loop-index : goal.invariant-loop-index
+invariant-loop-index l = Adds [] l.ends.items (EndBefore l.sides.left.now l.sides.right.now l.sides.meeting.now l.pairs l.index)

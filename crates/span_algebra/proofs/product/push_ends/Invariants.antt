@@ -4,4 +4,4 @@ use Rattle.span_algebra.specs.Products.{IsPairEndBy}
 use Rattle.span_algebra.proofs.product.push_ends.Given as goal
 
 abbrev pub invariant-loop-joint : goal.invariant-loop-joint
-invariant-loop-joint l = Adds l.fn.ends.items l.ends.items (EachBefore (IsPairEndBy l.place) l.joint-items l.joint-index)
+invariant-loop-joint l = Adds l.fn.ends.items l.ends.items (EachBefore (IsPairEndBy l.index) l.joint-items l.joint-index)

@@ -10,7 +10,7 @@ pub returns-then-is_marked_between : goal.returns-then-is_marked_between
 returns-then-is_marked_between g c = λ q e m.
     let h = c.args.here.now in
     let found = c.if-is_marked_between.ensures.some refl in
-    over-count c.args.t.now h.at (text_at c.args.input.now h.id.index) found.place found.after (omega (arith, found.before, c.requires.is_ahead.look.len_is)) found.some
+    over-count c.args.t.now h.at (text_at c.args.input.now h.id.index) found.position found.after (omega (arith, found.before, c.requires.is_ahead.look.len_is)) found.some
 
 -- without a mark of the tuple its word is that of the unmarked run
 unmarked-run : (g : Over) (c : After-unmarked g) → reached c.args.input.now.dfa.now c.args.p (word_over c.args.t.now c.args.here.now.at (text_at c.args.input.now c.args.here.now.id.index)) ≡ c.unmarked.result

@@ -54,7 +54,7 @@ loop-place-preserved g c = λ at k s le.
     let p = (c.loop-place.invariant at k s le).passes in
     record {
       passes = passes-on c.args.input.now c.requires.input.automaton c.args.trail.now.ahead.items at c.args.from c.loop-place.place k p c.ahead_at-node.result n c.in_ok-state.state (sym c.in_ok-state.ensures.value);
-      before = omega (arith, c.if-position-node.false, n.stands.join.0, n.stands.goals.0.look.len_is, length-append p.front (text_at c.args.input.now c.ahead_at-node.result.id.index));
+      before = omega (arith, c.if-position-node.false, n.stands.join.0, n.stands.goals.0.look.len_is, length-append p.prefix (text_at c.args.input.now c.ahead_at-node.result.id.index));
     }
 
 pub returns : goal.returns

@@ -50,7 +50,7 @@ returns-in-Some-clause-cost g t c =
     let join = pair-text nodes c.args.part.now.id.index _ _ pair in
     let found = c.if-not-is_marked_between.ensures.some refl in
     let pos : 0 < mark_count (word_over c.args.t.now c.args.part.now.at (text (tree nodes c.args.part.now.id.index))) =
-    over-count c.args.t.now c.args.part.now.at (text (tree nodes c.args.part.now.id.index)) found.place found.after (omega (arith, found.before, c.requires.look.len_is)) found.some in
+    over-count c.args.t.now c.args.part.now.at (text (tree nodes c.args.part.now.id.index)) found.position found.after (omega (arith, found.before, c.requires.look.len_is)) found.some in
     rw join (lower-cost c.args.t.now c.args.part.now.at _ _ _ c.args.looks.now _ _ _ (text (tree nodes c.in-Pair.l.index)) (text (tree nodes c.in-Pair.r.index))
     (pair-height nodes c.args.part.now.id.index _ _ pair) (omega (arith, c.look-left.ensures.step, c.look-right.ensures.step)) (rw join at pos) c.state_over.ensures.cost
     (rw c.look-left.ensures.look.len_is at c.state_over-in-Some.ensures.cost))
@@ -69,6 +69,6 @@ returns-in-None-clause-cost g t c =
     let join = pair-text nodes c.args.part.now.id.index _ _ pair in
     let found = c.if-not-is_marked_between.ensures.some refl in
     let pos : 0 < mark_count (word_over c.args.t.now c.args.part.now.at (text (tree nodes c.args.part.now.id.index))) =
-    over-count c.args.t.now c.args.part.now.at (text (tree nodes c.args.part.now.id.index)) found.place found.after (omega (arith, found.before, c.requires.look.len_is)) found.some in
+    over-count c.args.t.now c.args.part.now.at (text (tree nodes c.args.part.now.id.index)) found.position found.after (omega (arith, found.before, c.requires.look.len_is)) found.some in
     rw join (lower-cost c.args.t.now c.args.part.now.at _ _ _ c.args.looks.now _ _ _ (text (tree nodes c.in-Pair.l.index)) (text (tree nodes c.in-Pair.r.index))
     (pair-height nodes c.args.part.now.id.index _ _ pair) (omega (arith, c.look-left.ensures.step, c.look-right.ensures.step)) (rw join at pos) c.state_over.ensures.cost (omega arith))

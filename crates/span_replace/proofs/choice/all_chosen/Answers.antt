@@ -4,7 +4,7 @@ use Rattle.span_types.specs.Places.{IsSpan, IsSpanOr}
 use Rattle.span_types.specs.declared.tuple.Span.{Span}
 use Rattle.span_replace.specs.Cursor.{past}
 use Rattle.span_replace.proofs.SpanOrder.{one}
-use Rattle.span_replace.proofs.Choices.{Picks, apart-of, finds-same, paid-first, paid-most, paid-next, picks-all, picks-first, picks-front, picks-more, picks-step}
+use Rattle.span_replace.proofs.Choices.{Picks, apart-of, finds-same, paid-first, paid-most, paid-next, picks-all, picks-first, picks-prefix, picks-more, picks-step}
 use Rattle.span_replace.proofs.choice.all_chosen.Goals as goal
 
 pub loop-next-init : goal.loop-next-init
@@ -17,7 +17,7 @@ loop-next-init g c =
       automaton = c.next_span-next.ensures.automaton;
       text = c.next_span-next.ensures.text;
       few = omega (arith, none);
-      place = c.next_span-next.ensures.place;
+      index = c.next_span-next.ensures.index;
       so_far = subst (λ (z : List Span). Picks a s z next) (sym c.new-spans.ensures.items)
           (picks-first a s c.requires.one c.requires.short next (finds-same a a s s _ _ next refl refl c.requires.start c.next_span-next.ensures.span));
       paid = paid-first 3 1 c.args.looks.now c.next_span-next.new.looks (length c.new-spans.result.items) (looks_limit 1 (length s)) (omega (arith, c.next_span-next.ensures.cost)) none;
@@ -32,14 +32,14 @@ loop-next-preserved g c =
     let q = c.in-Some.span in
     let next = c.span_after-next.result in
     let one_more : length c.push.new.self.items ≡ length spans + 1 = ap length c.in_ok-push.ensures.items ∙ length-append spans (q ∷ []) in
-    let iq : IsSpan q = subst IsSpanOr c.in-Some.is at.invariant.place in
+    let iq : IsSpan q = subst IsSpanOr c.in-Some.is at.invariant.index in
     let before = subst (Picks a s spans) c.in-Some.is at.invariant.so_far in
     let finds = finds-same at.answers.automaton a at.answers.text s _ (Some (one (past q))) next at.invariant.automaton at.invariant.text (ap (λ t. Some t) c.cursor_past.ensures) c.span_after-next.ensures.span in
     record {
       automaton = c.span_after-next.ensures.automaton ∙ at.invariant.automaton;
       text = c.span_after-next.ensures.text ∙ at.invariant.text;
       few = omega (arith, one_more, at.invariant.few, c.if-len-eq-MAX_SPANS.false, c.len.ensures);
-      place = c.span_after-next.ensures.place;
+      index = c.span_after-next.ensures.index;
       so_far = subst (λ (z : List Span). Picks a s z next) (sym c.in_ok-push.ensures.items) (picks-step a s c.requires.one c.requires.short spans q next iq before finds);
       paid = paid-next 3 1 c.args.looks.now at.looks c.span_after-next.new.looks (length spans) (length c.push.new.self.items) (looks_limit 1 (length s)) at.invariant.paid
           (subst (λ x. c.span_after-next.new.looks ≤ at.looks + 3 * looks_limit 1 (length x)) at.invariant.text c.span_after-next.ensures.cost) one_more;
@@ -57,19 +57,19 @@ pub returns-then-len-eq-MAX_SPANS-clause-cost : goal.returns-then-len-eq-MAX_SPA
 returns-then-len-eq-MAX_SPANS-clause-cost g c all answers =
     let at = c.loop-next in
     paid-most 3 1 c.args.looks.now at.looks (length at.spans.items) _ (looks_limit 1 (length c.args.answers.now.text)) at.invariant.paid
-    (picks-front c.args.answers.now.automaton c.args.answers.now.text at.spans.items all answers at.next at.invariant.so_far) at.invariant.few
+    (picks-prefix c.args.answers.now.automaton c.args.answers.now.text at.spans.items all answers at.next at.invariant.so_far) at.invariant.few
 
 pub returns-in_err-push-clause-cost : goal.returns-in_err-push-clause-cost
 returns-in_err-push-clause-cost g c all answers =
     let at = c.loop-next in
     paid-most 3 1 c.args.looks.now at.looks (length at.spans.items) _ (looks_limit 1 (length c.args.answers.now.text)) at.invariant.paid
-    (picks-front c.args.answers.now.automaton c.args.answers.now.text at.spans.items all answers at.next at.invariant.so_far) at.invariant.few
+    (picks-prefix c.args.answers.now.automaton c.args.answers.now.text at.spans.items all answers at.next at.invariant.so_far) at.invariant.few
 
 pub returns-clause-cost : goal.returns-clause-cost
 returns-clause-cost g c all answers =
     let at = c.loop-next in
     paid-most 3 1 c.args.looks.now at.looks (length at.spans.items) _ (looks_limit 1 (length c.args.answers.now.text)) at.invariant.paid
-    (picks-front c.args.answers.now.automaton c.args.answers.now.text at.spans.items all answers at.next at.invariant.so_far) at.invariant.few
+    (picks-prefix c.args.answers.now.automaton c.args.answers.now.text at.spans.items all answers at.next at.invariant.so_far) at.invariant.few
 
 pub returns-clause-choice : goal.returns-clause-choice
 returns-clause-choice g c all answers =

@@ -4,7 +4,7 @@ use Rattle.span_types.specs.declared.tuple.Span.{Span}
 use Rattle.span_replace.specs.Cursor.{empty_end}
 use Rattle.span_replace.proofs.SpanOrder.{one}
 use Rattle.span_replace.proofs.Choices.{paid-first, paid-most, paid-next}
-use Rattle.span_replace.proofs.LongestChoices.{Takes, apart-taken, finds-longest-same, takes-all, takes-first, takes-front, takes-more, takes-step}
+use Rattle.span_replace.proofs.LongestChoices.{Takes, apart-taken, finds-longest-same, takes-all, takes-first, takes-prefix, takes-more, takes-step}
 use Rattle.span_replace.proofs.leftmost_longest.all_longest.Goals as goal
 
 pub loop-next-init : goal.loop-next-init
@@ -17,7 +17,7 @@ loop-next-init g c =
       automaton = c.longest_left-next.ensures.automaton;
       text = c.longest_left-next.ensures.text;
       few = omega (arith, none);
-      place = c.longest_left-next.ensures.place;
+      index = c.longest_left-next.ensures.index;
       so_far = subst (λ (z : List Span). Takes a s z next) (sym c.new-spans.ensures.items)
           (takes-first a s c.requires.one c.requires.short next (finds-longest-same a a s s _ _ next refl refl c.requires.start c.longest_left-next.ensures.span));
       paid = paid-first 4 2 c.args.looks.now c.longest_left-next.new.looks (length c.new-spans.result.items) (looks_limit 1 (length s)) (omega (arith, c.longest_left-next.ensures.cost)) none;
@@ -38,7 +38,7 @@ loop-next-preserved g c =
       automaton = c.longest_after-next.ensures.automaton ∙ at.invariant.automaton;
       text = c.longest_after-next.ensures.text ∙ at.invariant.text;
       few = omega (arith, one_more, at.invariant.few, c.if-len-eq-MAX_SPANS.false, c.len.ensures);
-      place = c.longest_after-next.ensures.place;
+      index = c.longest_after-next.ensures.index;
       so_far = subst (λ (z : List Span). Takes a s z next) (sym c.in_ok-push.ensures.items) (takes-step a s c.requires.one c.requires.short spans q next before finds);
       paid = paid-next 4 2 c.args.looks.now at.looks c.longest_after-next.new.looks (length spans) (length c.push.new.self.items) (looks_limit 1 (length s)) at.invariant.paid
           (subst (λ x. c.longest_after-next.new.looks ≤ at.looks + 4 * looks_limit 1 (length x)) at.invariant.text c.longest_after-next.ensures.cost) one_more;
@@ -56,19 +56,19 @@ pub returns-then-len-eq-MAX_SPANS-clause-cost : goal.returns-then-len-eq-MAX_SPA
 returns-then-len-eq-MAX_SPANS-clause-cost g c all answers =
     let at = c.loop-next in
     paid-most 4 2 c.args.looks.now at.looks (length at.spans.items) _ (looks_limit 1 (length c.args.answers.now.text)) at.invariant.paid
-    (takes-front c.args.answers.now.automaton c.args.answers.now.text at.spans.items all answers at.next at.invariant.so_far) at.invariant.few
+    (takes-prefix c.args.answers.now.automaton c.args.answers.now.text at.spans.items all answers at.next at.invariant.so_far) at.invariant.few
 
 pub returns-in_err-push-clause-cost : goal.returns-in_err-push-clause-cost
 returns-in_err-push-clause-cost g c all answers =
     let at = c.loop-next in
     paid-most 4 2 c.args.looks.now at.looks (length at.spans.items) _ (looks_limit 1 (length c.args.answers.now.text)) at.invariant.paid
-    (takes-front c.args.answers.now.automaton c.args.answers.now.text at.spans.items all answers at.next at.invariant.so_far) at.invariant.few
+    (takes-prefix c.args.answers.now.automaton c.args.answers.now.text at.spans.items all answers at.next at.invariant.so_far) at.invariant.few
 
 pub returns-clause-cost : goal.returns-clause-cost
 returns-clause-cost g c all answers =
     let at = c.loop-next in
     paid-most 4 2 c.args.looks.now at.looks (length at.spans.items) _ (looks_limit 1 (length c.args.answers.now.text)) at.invariant.paid
-    (takes-front c.args.answers.now.automaton c.args.answers.now.text at.spans.items all answers at.next at.invariant.so_far) at.invariant.few
+    (takes-prefix c.args.answers.now.automaton c.args.answers.now.text at.spans.items all answers at.next at.invariant.so_far) at.invariant.few
 
 pub returns-clause-choice : goal.returns-clause-choice
 returns-clause-choice g c all answers =

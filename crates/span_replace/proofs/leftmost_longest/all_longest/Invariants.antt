@@ -9,7 +9,7 @@ invariant-loop-next g l = record {
   automaton : l.answers.automaton ≡ l.fn.answers.automaton;
   text : l.answers.text ≡ l.fn.answers.text;
   few : length l.spans.items ≤ 32768;
-  place : IsSpanOr l.next;
+  index : IsSpanOr l.next;
   so_far : Takes l.fn.answers.automaton l.fn.answers.text l.spans.items l.next;
   paid : l.looks ≤ l.fn.looks + (4 * length l.spans.items + 2) * looks_limit 1 (length l.fn.answers.text);
 }

@@ -25,10 +25,10 @@ pub returns-in-Err-ShelfFault-clause-short : goal.returns-in-Err-ShelfFault-clau
 returns-in-Err-ShelfFault-clause-short g c = λ _. of_script (map string_bytes c.args.words.now) c.in-Ok.options.workers c.in-Ok.options.states c.in-Ok.options.demo c.in-Ok.ensures.taken (g.S.Source.left c.args.script.now) c.in-Ok-asked_script.bytes.items c.in-Ok-asked_script.bytes.items (λ _ bytes. length bytes ≤ 2 ^ 24) c.in-Ok-asked_script.ensures.all refl c.in-Ok-asked_script.ensures.short
 
 pub returns-in-Err-OutFault-clause-out_prefix : goal.returns-in-Err-OutFault-clause-out_prefix
-returns-in-Err-OutFault-clause-out_prefix g c = let front = (c.in-Err-OutFault.ensures.out_fault c.in-Err-OutFault.field-0-is).1 in λ _. of_script (map string_bytes c.args.words.now) c.in-Ok.options.workers c.in-Ok.options.states c.in-Ok.options.demo c.in-Ok.ensures.taken (g.S.Source.left c.args.script.now) c.in-Ok-asked_script.bytes.items c.deref.result.now _ c.in-Ok-asked_script.ensures.all c.deref.ensures.value (search rules)
+returns-in-Err-OutFault-clause-out_prefix g c = let prefix = (c.in-Err-OutFault.ensures.out_fault c.in-Err-OutFault.field-0-is).1 in λ _. of_script (map string_bytes c.args.words.now) c.in-Ok.options.workers c.in-Ok.options.states c.in-Ok.options.demo c.in-Ok.ensures.taken (g.S.Source.left c.args.script.now) c.in-Ok-asked_script.bytes.items c.deref.result.now _ c.in-Ok-asked_script.ensures.all c.deref.ensures.value (search rules)
 
 pub returns-in-Err-ShelfFault-clause-shelf_prefix : goal.returns-in-Err-ShelfFault-clause-shelf_prefix
-returns-in-Err-ShelfFault-clause-shelf_prefix g c = let front = (c.in-Err-ShelfFault.ensures.shelf_fault c.in-Err-ShelfFault.field-0-is).1 in λ _. of_script (map string_bytes c.args.words.now) c.in-Ok.options.workers c.in-Ok.options.states c.in-Ok.options.demo c.in-Ok.ensures.taken (g.S.Source.left c.args.script.now) c.in-Ok-asked_script.bytes.items c.deref.result.now _ c.in-Ok-asked_script.ensures.all c.deref.ensures.value (search rules)
+returns-in-Err-ShelfFault-clause-shelf_prefix g c = let prefix = (c.in-Err-ShelfFault.ensures.shelf_fault c.in-Err-ShelfFault.field-0-is).1 in λ _. of_script (map string_bytes c.args.words.now) c.in-Ok.options.workers c.in-Ok.options.states c.in-Ok.options.demo c.in-Ok.ensures.taken (g.S.Source.left c.args.script.now) c.in-Ok-asked_script.bytes.items c.deref.result.now _ c.in-Ok-asked_script.ensures.all c.deref.ensures.value (search rules)
 
 pub returns-clause-memory_prefix : goal.returns-clause-memory_prefix
-returns-clause-memory_prefix g c = let front = c.in-Err-NoMemory-run_lines.ensures.want c.in-Err-NoMemory-run_lines.field-0-is in λ _. of_script (map string_bytes c.args.words.now) c.in-Ok.options.workers c.in-Ok.options.states c.in-Ok.options.demo c.in-Ok.ensures.taken (g.S.Source.left c.args.script.now) c.in-Ok-asked_script.bytes.items c.deref.result.now _ c.in-Ok-asked_script.ensures.all c.deref.ensures.value (search rules)
+returns-clause-memory_prefix g c = let prefix = c.in-Err-NoMemory-run_lines.ensures.want c.in-Err-NoMemory-run_lines.field-0-is in λ _. of_script (map string_bytes c.args.words.now) c.in-Ok.options.workers c.in-Ok.options.states c.in-Ok.options.demo c.in-Ok.ensures.taken (g.S.Source.left c.args.script.now) c.in-Ok-asked_script.bytes.items c.deref.result.now _ c.in-Ok-asked_script.ensures.all c.deref.ensures.value (search rules)

@@ -2,7 +2,7 @@ use Rattle.std.proofs.Common.{arith}
 use Rattle.std.proofs.lemmas.Result.{err_from_is_err_and}
 use Rattle.span_language.specs.Runs.{outside}
 use Rattle.session_state.specs.Carried.{outlet}
-use Rattle.span_talk.specs.Progress.{place}
+use Rattle.span_talk.specs.Progress.{conversation}
 use Rattle.span_talk.proofs.Cuts.{none_by, some_by}
 use Rattle.span_talk.proofs.Ends.{halted_later}
 use Rattle.span_talk.proofs.Talking.{ends_so, ends_with_last, stops_in_last}
@@ -30,7 +30,7 @@ returns-clause-done g c =
     let n = c.end_line.new in
     let kept = c.args.progress.now.kept in
     let some = some_by kept.items kept.len (omega (arith, kept.ok.0)) c.if-is_empty.ensures in
-    let new = place n.progress.number n.progress.refused n.progress.session (outside (g.K.Sink.written n.io.out.now) (g.F.Shelf.files n.io.shelf.now) n.meters.looks.now n.meters.pairs.now n.meters.places.now) in
+    let new = conversation n.progress.number n.progress.refused n.progress.session (outside (g.K.Sink.written n.io.out.now) (g.F.Shelf.files n.io.shelf.now) n.meters.looks.now n.meters.pairs.now n.meters.places.now) in
     λ sent most before t. ends_with_last sent most before kept.items _ t new c.end_line.ensures.model some c.in_ok-end_line.ensures.done
 
 pub returns-in_err-end_line-clause-gone : goal.returns-in_err-end_line-clause-gone

@@ -4,7 +4,7 @@ use Rattle.span_language.specs.Runs.{outside}
 use Rattle.session_state.specs.SessionState.{IsSessionModel}
 use Rattle.span_session.specs.Lending.{IsSameIo, IsSameMeters}
 use Rattle.span_talk.specs.Talk.{AreServed}
-use Rattle.span_talk.specs.Progress.{IsTalking, place}
+use Rattle.span_talk.specs.Progress.{IsTalking, conversation}
 use Rattle.span_talk.proofs.progress.hear_all.Given as goal
 
 abbrev pub invariant-pieces : goal.invariant-pieces
@@ -13,7 +13,7 @@ invariant-pieces g l = record {
   same_meters : IsSameMeters l.fn.meters l.meters;
   so_far : (bytes : List ℕ) × Consumes (g.C.Client.left l.fn.client) (g.C.Client.left l.client) bytes × (l.heard ≡ length bytes)
       × IsTalking bytes l.states (outside (g.K.Sink.written l.fn.io.out.now) (g.F.Shelf.files l.fn.io.shelf.now) l.fn.meters.looks.now l.fn.meters.pairs.now l.fn.meters.places.now) l.progress.kept.items
-      (place l.progress.number l.progress.refused l.progress.session (outside (g.K.Sink.written l.io.out.now) (g.F.Shelf.files l.io.shelf.now) l.meters.looks.now l.meters.pairs.now l.meters.places.now));
+      (conversation l.progress.number l.progress.refused l.progress.session (outside (g.K.Sink.written l.io.out.now) (g.F.Shelf.files l.io.shelf.now) l.meters.looks.now l.meters.pairs.now l.meters.places.now));
   model : IsSessionModel l.progress.session;
   next : l.progress.number ≤ 1 + l.heard;
   kept : length l.progress.kept.items ≤ 65537;

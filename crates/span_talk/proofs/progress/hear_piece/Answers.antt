@@ -3,7 +3,7 @@ use Rattle.std.proofs.lemmas.List.{append-nil}
 use Rattle.std.proofs.lemmas.Result.{err_from_is_err_and}
 use Rattle.span_language.specs.Runs.{outside}
 use Rattle.session_state.specs.Carried.{outlet}
-use Rattle.span_talk.specs.Progress.{IsTalking, place}
+use Rattle.span_talk.specs.Progress.{IsTalking, conversation}
 use Rattle.span_talk.proofs.Ends.{halted_later, halted_wanting, kept_on}
 use Rattle.span_talk.proofs.Talking.{hears_line, hears_rest, stops_between, stops_line}
 use Rattle.span_talk.proofs.progress.hear_piece.Goals as goal
@@ -31,7 +31,7 @@ pub lines-init : goal.lines-init
 lines-init g c =
     let a = c.args in
     let p = a.progress.now in
-    let now = place p.number p.refused p.session (outside (g.K.Sink.written a.io.now.out.now) (g.F.Shelf.files a.io.now.shelf.now) a.meters.now.looks.now a.meters.now.pairs.now a.meters.now.places.now) in
+    let now = conversation p.number p.refused p.session (outside (g.K.Sink.written a.io.now.out.now) (g.F.Shelf.files a.io.now.shelf.now) a.meters.now.looks.now a.meters.now.pairs.now a.meters.now.places.now) in
     record {
       same_io = record { out = refl; shelf = refl };
       same_meters = record { pairs = refl; places = refl; looks = refl };
@@ -50,7 +50,7 @@ lines-preserved g c =
     let n = c.end_line.new in
     let i = c.lines.invariant in
     let e = c.in_ok-end_line.ensures in
-    let new = place n.progress.number n.progress.refused n.progress.session (outside (g.K.Sink.written n.io.out.now) (g.F.Shelf.files n.io.shelf.now) n.meters.looks.now n.meters.pairs.now n.meters.places.now) in
+    let new = conversation n.progress.number n.progress.refused n.progress.session (outside (g.K.Sink.written n.io.out.now) (g.F.Shelf.files n.io.shelf.now) n.meters.looks.now n.meters.pairs.now n.meters.places.now) in
     record {
       same_io = record { out = c.end_line.ensures.same_io.out ∙ i.same_io.out; shelf = c.end_line.ensures.same_io.shelf ∙ i.same_io.shelf };
       same_meters = record { pairs = c.end_line.ensures.same_meters.pairs ∙ i.same_meters.pairs; places = c.end_line.ensures.same_meters.places ∙ i.same_meters.places; looks = c.end_line.ensures.same_meters.looks ∙ i.same_meters.looks };

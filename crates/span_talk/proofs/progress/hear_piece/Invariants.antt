@@ -2,7 +2,7 @@ use Rattle.std.proofs.Common.{◌≡◌, ℕ, ◌+◌, ◌≤◌, List, ◌++◌
 use Rattle.span_language.specs.Runs.{outside}
 use Rattle.session_state.specs.SessionState.{IsSessionModel}
 use Rattle.span_session.specs.Lending.{IsSameIo, IsSameMeters}
-use Rattle.span_talk.specs.Progress.{Hears, place}
+use Rattle.span_talk.specs.Progress.{Hears, conversation}
 use Rattle.span_talk.proofs.progress.hear_piece.Given as goal
 
 abbrev pub invariant-lines : goal.invariant-lines
@@ -10,8 +10,8 @@ invariant-lines g l = record {
   same_io : IsSameIo l.fn.io l.io;
   same_meters : IsSameMeters l.fn.meters l.meters;
   so_far : (read : List ℕ) × (l.piece ≡ read ++ l.rest)
-      × Hears read l.fn.progress.kept.items (place l.fn.progress.number l.fn.progress.refused l.fn.progress.session (outside (g.K.Sink.written l.fn.io.out.now) (g.F.Shelf.files l.fn.io.shelf.now) l.fn.meters.looks.now l.fn.meters.pairs.now l.fn.meters.places.now))
-      l.progress.kept.items (place l.progress.number l.progress.refused l.progress.session (outside (g.K.Sink.written l.io.out.now) (g.F.Shelf.files l.io.shelf.now) l.meters.looks.now l.meters.pairs.now l.meters.places.now));
+      × Hears read l.fn.progress.kept.items (conversation l.fn.progress.number l.fn.progress.refused l.fn.progress.session (outside (g.K.Sink.written l.fn.io.out.now) (g.F.Shelf.files l.fn.io.shelf.now) l.fn.meters.looks.now l.fn.meters.pairs.now l.fn.meters.places.now))
+      l.progress.kept.items (conversation l.progress.number l.progress.refused l.progress.session (outside (g.K.Sink.written l.io.out.now) (g.F.Shelf.files l.io.shelf.now) l.meters.looks.now l.meters.pairs.now l.meters.places.now));
   model : IsSessionModel l.progress.session;
   next : l.progress.number + length l.rest ≤ l.fn.progress.number + length l.piece;
   kept : length l.progress.kept.items ≤ 65537;

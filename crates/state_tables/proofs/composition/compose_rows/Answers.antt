@@ -83,7 +83,7 @@ loop-row-preserved c =
           (sets-taken-within n old.sets mid.sets _ c.in_ok-set.ensures.taken c.loop-row.invariant.within (λ q h. within.marked q (ap (λ s. member s q) (sym is) ∙ h)));
       placed = rw c.in_ok-push.ensures.items
           (placed-more (λ j. compose_row t (row_at (list_of c.args.left.now).rows j)) k n c.loop-row.places.items (list_of old) (list_of new) row c.in_ok-index_of.field-0 c.loop-row.invariant.placed takes
-          c.in_ok-index_of.ensures.place same (subst (IsWithin n) (sym same) within));
+          c.in_ok-index_of.ensures.index same (subst (IsWithin n) (sym same) within));
     }
 
 pub returns-clause-width : goal.returns-clause-width

@@ -39,7 +39,7 @@ loop-p-preserved c =
       within = sets-taken-within n at.set.sets c.index_with.new.self.sets _ c.in_ok-index_with.ensures.sets at.invariant.within (λ q h. is.marked q (ap (λ s. member s q) (sym set) ∙ h));
       placed = rw c.in_ok-push.ensures.items
           (placed-more (byte_row c.args.dfa.now c.args.byte) at.p n at.classes.items (list_of at.set) (list_of c.index_with.new.self) row c.in_ok-index_with.field-0 at.invariant.placed c.in_ok-index_with.ensures.taken
-          c.in_ok-index_with.ensures.place same (subst (IsWithin n) (sym same) is));
+          c.in_ok-index_with.ensures.index same (subst (IsWithin n) (sym same) is));
     }
 
 placed : (c : After-loop-p) → AreRowsAt (byte_row c.args.dfa.now c.args.byte) (states_of c.args.dfa.now) (states_of c.args.dfa.now) c.loop-p.classes.items (list_of c.loop-p.set)

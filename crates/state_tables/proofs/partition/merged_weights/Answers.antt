@@ -18,15 +18,15 @@ loop-class-preserved c =
     let ws = c.args.weights.now in
     let places = c.args.places.now in
     let merged = at.merged.items in
-    let place = get_or places at.class 0 in
-    let has : place < length merged = at.invariant.within at.class (omega (arith, c.loop-class-test.true, c.min-class-end.ensures)) in
-    let before : c.index.result.now ≡ get_or merged place 0 = c.index.ensures ∙ get_or_default_zero merged place c.index.result.now has in
-    let new = set merged place ((c.index.result.now + get_or ws at.class 0) % 2 ^ 64) in
-    let long : length new ≡ length merged = length-set merged place ((c.index.result.now + get_or ws at.class 0) % 2 ^ 64) in
+    let index = get_or places at.class 0 in
+    let has : index < length merged = at.invariant.within at.class (omega (arith, c.loop-class-test.true, c.min-class-end.ensures)) in
+    let before : c.index.result.now ≡ get_or merged index 0 = c.index.ensures ∙ get_or_default_zero merged index c.index.result.now has in
+    let new = set merged index ((c.index.result.now + get_or ws at.class 0) % 2 ^ 64) in
+    let long : length new ≡ length merged = length-set merged index ((c.index.result.now + get_or ws at.class 0) % 2 ^ 64) in
     record {
       within = λ k lt. omega (arith, at.invariant.within k lt, long);
       added = λ j lt.
-          ap (λ x. get_or (set merged place ((x + get_or ws at.class 0) % 2 ^ 64)) j 0) before
+          ap (λ x. get_or (set merged index ((x + get_or ws at.class 0) % 2 ^ 64)) j 0) before
           ∙ weight-more_classes ws places merged at.class (2 ^ 64) j has (at.invariant.added j (omega (arith, lt, long)));
     }
 

@@ -10,5 +10,5 @@ returns-clause-value c =
     let b = c.args.q % 64 in
     let few : b < 64 = omega arith in
     let within : i < length ws = omega (arith, c.requires.within) in
-    let place : 64 * i + b ≡ c.args.q = omega arith in
-    rw (single-bit b few) (words-set ws i b within few c.requires.words ∙ ap (λ n. bit_or (number_of_words ws) (2 ^ n)) place)
+    let index : 64 * i + b ≡ c.args.q = omega arith in
+    rw (single-bit b few) (words-set ws i b within few c.requires.words ∙ ap (λ n. bit_or (number_of_words ws) (2 ^ n)) index)

@@ -6,10 +6,10 @@ use Rattle.state_tables.proofs.Branches.{row-bit-set}
 use Rattle.state_tables.proofs.Collecting.{state-row}
 use Rattle.state_tables.proofs.table.rows_bit.Goals as goal
 
-pub returns-then-place-lt-SET_BITS : goal.returns-then-place-lt-SET_BITS
-returns-then-place-lt-SET_BITS c =
-    let state = c.args.place / 1040 in
-    let place = c.args.place % 1040 in
+pub returns-then-index-lt-SET_BITS : goal.returns-then-index-lt-SET_BITS
+returns-then-index-lt-SET_BITS c =
+    let state = c.args.index / 1040 in
+    let index = c.args.index % 1040 in
     let t = table_of c.args.classes.now (list_of c.args.rows.now).rows in
-    c.bit.ensures ∙ ap (λ n. bit_at n place) (c.marked.ensures.set ∙ ap (λ r. r.marked) (sym (state-row c.args.classes.now (list_of c.args.rows.now).rows state (omega (arith, c.if-state-classes.false)))))
-    ∙ sym (row-bit-set (row_at t state) place c.if-place-lt-SET_BITS.true)
+    c.bit.ensures ∙ ap (λ n. bit_at n index) (c.marked.ensures.set ∙ ap (λ r. r.marked) (sym (state-row c.args.classes.now (list_of c.args.rows.now).rows state (omega (arith, c.if-state-classes.false)))))
+    ∙ sym (row-bit-set (row_at t state) index c.if-index-lt-SET_BITS.true)

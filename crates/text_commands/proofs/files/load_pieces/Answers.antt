@@ -1,6 +1,6 @@
 use Rattle.text_commands.proofs.Names.{ap, arith, fed_to, Files, Grows-none, Grows-trans, inr, IsFilePrefix, IsLoadPaid, IsNextPiece, IsWithin, length, length-append}
 use Rattle.text_commands.proofs.Names.{length-take-le, limit_of, load_size, Method, method_of, Option, refl, rules, subst, sym, take, ℕ, ◌++◌, ◌+◌, ◌∙◌, ◌≡◌, ◌≤◌}
-use Rattle.text_commands.proofs.Facts.{front_paid, within_limit}
+use Rattle.text_commands.proofs.Facts.{prefix_paid, within_limit}
 use Rattle.text_commands.proofs.files.load_pieces.Goals as goal
 
 pub returns-in_err-loader-clause-grows : goal.returns-in_err-loader-clause-grows
@@ -15,7 +15,7 @@ loop-loader-init g c =
       method = fresh.method_is;
       at = ap length (sym none);
       within = omega arith;
-      front = subst (IsFilePrefix (g.F.Shelf.files c.args.shelf.now) c.args.name.now load_size) (sym none) c.requires;
+      prefix = subst (IsFilePrefix (g.F.Shelf.files c.args.shelf.now) c.args.name.now load_size) (sym none) c.requires;
       grows = Grows-none c.args.store.now c.args.pairs.now c.args.pairs.now (omega arith);
       cost = fresh.free c.args.store.now c.args.pairs.now;
       files = refl;
@@ -27,7 +27,7 @@ returns-in_err-count-clause-paid g c =
     let i = c.loop-loader.invariant in
     let files = g.F.Shelf.files c.args.shelf.now in
     subst (λ (m : Method). IsLoadPaid m files c.args.name.now c.args.pairs.now c.loop-loader.pairs) i.method
-    (front_paid (method_of c.loop-loader.loader) files c.args.name.now (fed_to c.loop-loader.store c.loop-loader.loader) c.args.pairs.now c.loop-loader.pairs (omega (arith, i.at, i.within)) i.front
+    (prefix_paid (method_of c.loop-loader.loader) files c.args.name.now (fed_to c.loop-loader.store c.loop-loader.loader) c.args.pairs.now c.loop-loader.pairs (omega (arith, i.at, i.within)) i.prefix
     (within_limit c.loop-loader.store c.loop-loader.loader c.args.pairs.now c.loop-loader.pairs i.cost))
 
 pub returns-in_err-root-clause-grows : goal.returns-in_err-root-clause-grows
@@ -36,25 +36,25 @@ returns-in_err-root-clause-grows g c = Grows-trans _ _ _ _ _ _ c.loop-loader.inv
 pub returns-in_err-root-clause-paid : goal.returns-in_err-root-clause-paid
 returns-in_err-root-clause-paid g c =
     let i = c.loop-loader.invariant in
-    let front = fed_to c.loop-loader.store c.loop-loader.loader in
+    let prefix = fed_to c.loop-loader.store c.loop-loader.loader in
     let next = subst (λ (files : Option Files). IsNextPiece files c.args.name.now load_size c.loop-loader.at (take c.in_ok-count.count c.next_piece.new.piece)) i.files c.in_ok-count.ensures.next in
     let files = g.F.Shelf.files c.args.shelf.now in
-    let within = (next front (sym i.at) i.front).1 (length-take-le _ _ c.in_ok-count.ensures.count.0 ∙ c.if-count-eq0.true) in
-    subst (λ (m : Method). IsLoadPaid m files c.args.name.now c.args.pairs.now c.finish.new.pairs) i.method (inr (front, within, c.finish.ensures.cost c.args.pairs.now i.cost))
+    let within = (next prefix (sym i.at) i.prefix).1 (length-take-le _ _ c.in_ok-count.ensures.count.0 ∙ c.if-count-eq0.true) in
+    subst (λ (m : Method). IsLoadPaid m files c.args.name.now c.args.pairs.now c.finish.new.pairs) i.method (inr (prefix, within, c.finish.ensures.cost c.args.pairs.now i.cost))
 
 pub returns-then-count-eq0 : goal.returns-then-count-eq0
 returns-then-count-eq0 g c =
     let i = c.loop-loader.invariant in
     let files = g.F.Shelf.files c.args.shelf.now in
-    let front = fed_to c.loop-loader.store c.loop-loader.loader in
+    let prefix = fed_to c.loop-loader.store c.loop-loader.loader in
     let next = subst (λ (files : Option Files). IsNextPiece files c.args.name.now load_size c.loop-loader.at (take c.in_ok-count.count c.next_piece.new.piece)) i.files c.in_ok-count.ensures.next in
-    let within = (next front (sym i.at) i.front).1 (length-take-le _ _ c.in_ok-count.ensures.count.0 ∙ c.if-count-eq0.true) in
+    let within = (next prefix (sym i.at) i.prefix).1 (length-take-le _ _ c.in_ok-count.ensures.count.0 ∙ c.if-count-eq0.true) in
     record {
       grows = Grows-trans _ _ _ _ _ _ i.grows c.finish.ensures.grows;
       live = search rules;
       ok = subst (IsWithin files c.args.name.now load_size) (sym c.in_ok-root.ensures.text) within;
       refused = tt;
-      paid = subst (λ (m : Method). IsLoadPaid m files c.args.name.now c.args.pairs.now c.finish.new.pairs) i.method (inr (front, within, c.finish.ensures.cost c.args.pairs.now i.cost));
+      paid = subst (λ (m : Method). IsLoadPaid m files c.args.name.now c.args.pairs.now c.finish.new.pairs) i.method (inr (prefix, within, c.finish.ensures.cost c.args.pairs.now i.cost));
       files = c.next_piece.ensures.files ∙ i.files;
       later = omega (arith, i.sound, c.in_ok-count.ensures.sound);
       fault = tt;
@@ -67,31 +67,31 @@ returns-in_err-feed-clause-grows g c = Grows-trans _ _ _ _ _ _ c.loop-loader.inv
 pub returns-in_err-feed-clause-paid : goal.returns-in_err-feed-clause-paid
 returns-in_err-feed-clause-paid g c =
     let i = c.loop-loader.invariant in
-    let front = fed_to c.loop-loader.store c.loop-loader.loader in
+    let prefix = fed_to c.loop-loader.store c.loop-loader.loader in
     let piece = take c.in_ok-count.count c.next_piece.new.piece in
     let next = subst (λ (files : Option Files). IsNextPiece files c.args.name.now load_size c.loop-loader.at (take c.in_ok-count.count c.next_piece.new.piece)) i.files c.in_ok-count.ensures.next in
-    let size = length-append front piece ∙ ap (λ n. length front + n) (length-take-le c.in_ok-count.count c.next_piece.new.piece c.in_ok-count.ensures.count.0) in
+    let size = length-append prefix piece ∙ ap (λ n. length prefix + n) (length-take-le c.in_ok-count.count c.next_piece.new.piece c.in_ok-count.ensures.count.0) in
     let files = g.F.Shelf.files c.args.shelf.now in
     let before = c.args.pairs.now in
     let m = method_of c.loop-loader.loader in
-    let most = subst (λ (n : ℕ). c.feed.new.pairs ≤ before + limit_of m n) (sym (length-append front piece)) (c.feed.ensures.most before i.cost) in
+    let most = subst (λ (n : ℕ). c.feed.new.pairs ≤ before + limit_of m n) (sym (length-append prefix piece)) (c.feed.ensures.most before i.cost) in
     subst (λ (k : Method). IsLoadPaid k files c.args.name.now before c.feed.new.pairs) i.method
-    (front_paid m files c.args.name.now (front ++ piece) before c.feed.new.pairs (omega (arith, size, i.at, c.in_ok-count.ensures.count.1)) (next front (sym i.at) i.front).0 most)
+    (prefix_paid m files c.args.name.now (prefix ++ piece) before c.feed.new.pairs (omega (arith, size, i.at, c.in_ok-count.ensures.count.1)) (next prefix (sym i.at) i.prefix).0 most)
 
 pub loop-loader-preserved : goal.loop-loader-preserved
 loop-loader-preserved g c =
     let i = c.loop-loader.invariant in
-    let front = fed_to c.loop-loader.store c.loop-loader.loader in
+    let prefix = fed_to c.loop-loader.store c.loop-loader.loader in
     let piece = take c.in_ok-count.count c.next_piece.new.piece in
     let next = subst (λ (files : Option Files). IsNextPiece files c.args.name.now load_size c.loop-loader.at (take c.in_ok-count.count c.next_piece.new.piece)) i.files c.in_ok-count.ensures.next in
     let taken = length-take-le c.in_ok-count.count c.next_piece.new.piece c.in_ok-count.ensures.count.0 in
-    let all : fed_to c.feed.new.store c.feed.new.loader ≡ front ++ piece = c.in_ok-feed.ensures.fed in
+    let all : fed_to c.feed.new.store c.feed.new.loader ≡ prefix ++ piece = c.in_ok-feed.ensures.fed in
     record {
       used = c.in_ok-feed.ensures.used;
       method = c.in_ok-feed.ensures.method ∙ i.method;
-      at = omega (arith, ap length all, length-append front piece, taken, i.at);
+      at = omega (arith, ap length all, length-append prefix piece, taken, i.at);
       within = omega (arith, c.in_ok-count.ensures.count.1);
-      front = subst (IsFilePrefix (g.F.Shelf.files c.args.shelf.now) c.args.name.now load_size) (sym all) (next front (sym i.at) i.front).0;
+      prefix = subst (IsFilePrefix (g.F.Shelf.files c.args.shelf.now) c.args.name.now load_size) (sym all) (next prefix (sym i.at) i.prefix).0;
       grows = Grows-trans _ _ _ _ _ _ i.grows c.feed.ensures.grows;
       cost = c.in_ok-feed.ensures.cost c.args.pairs.now i.cost;
       files = c.next_piece.ensures.files ∙ i.files;

@@ -7,7 +7,7 @@ invariant-loop-loader g l = record {
   method : method_of l.loader ≡ l.fn.method;
   at : l.at ≡ length (fed_to l.store l.loader);
   within : l.at ≤ load_size;
-  front : IsFilePrefix (g.F.Shelf.files l.fn.shelf) l.name load_size (fed_to l.store l.loader);
+  prefix : IsFilePrefix (g.F.Shelf.files l.fn.shelf) l.name load_size (fed_to l.store l.loader);
   grows : Grows l.fn.store l.store l.fn.pairs l.pairs;
   cost : IsWithinLimit l.store l.loader l.fn.pairs l.pairs;
   files : g.F.Shelf.files l.shelf ≡ g.F.Shelf.files l.fn.shelf;

@@ -10,10 +10,10 @@ returns-in-Some c =
     let files = c.self.inside.files.items in
     let name = c.args.name.now in
     let d = c.index.result.now in
-    let at : position (λ file. bytes_eq file.0.items name) files ≡ Some c.in-Some.place =
+    let at : position (λ file. bytes_eq file.0.items name) files ≡ Some c.in-Some.index =
     ap (λ l. position (λ file. bytes_eq file.0.items name) l) (sym c.deref.ensures.value) ∙ sym c.in-Some.ensures in
-    let found = position-Some (λ file. bytes_eq file.0.items name) files c.in-Some.place d at in
-    let is = present files name c.in-Some.place d found.0 found.1 found.2 in
+    let found = position-Some (λ file. bytes_eq file.0.items name) files c.in-Some.index d at in
+    let is = present files name c.in-Some.index d found.0 found.1 found.2 in
     ap (λ l. Some l) (c.deref-in-Some.ensures.value ∙ ap (λ file. file.1.items) c.index.ensures) ∙ sym is.0 ∙ ap (λ l. file_of l name) c.self.view_is
 
 pub returns-in-None : goal.returns-in-None

@@ -13,7 +13,7 @@ returns-in-Ok-clause-number c = λ k h.
       record {
         level = h.level;
         groups = h.groups;
-        vars = adds-seen _ _ c.args.name c.in-Ok.ensures.added ∙ ap (λ z. seen z c.args.name) h.vars ∙ sym x.front;
+        vars = adds-seen _ _ c.args.name c.in-Ok.ensures.added ∙ ap (λ z. seen z c.args.name) h.vars ∙ sym x.prefix;
         crowded = h.crowded ∙ sym (same_test 8 (length (seen k.names c.args.name)) (length k.names) x.small x.more);
         deepest = h.deepest;
       },
@@ -29,7 +29,7 @@ returns-in-Err-Full-clause-number c = λ k h.
       record {
         level = h.level;
         groups = h.groups;
-        vars = c.in-Err-Full.ensures.err ∙ h.vars ∙ sym x.front;
+        vars = c.in-Err-Full.ensures.err ∙ h.vars ∙ sym x.prefix;
         crowded = sym (true_test 8 (length (seen k.names c.args.name)) x.many);
         deepest = h.deepest;
       },

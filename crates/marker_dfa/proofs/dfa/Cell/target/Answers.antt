@@ -12,8 +12,8 @@ returns-in-Ok c =
     let by_mark = facts.position (λ y. nat_cmp c.args.mark y) (always_returns_same _ _ _ (λ a r f called. search rules)) in
     let bound = subst (λ (l : List ℕ). IsSearchInRange c.binary_search_by.result (length l)) c.deref.ensures.value facts.bound in
     let position = subst (λ (l : List ℕ). IsBinarySearchResult (λ y. nat_cmp c.args.mark y) l c.binary_search_by.result) c.deref.ensures.value by_mark in
-    let f = found_by ms c.args.self.now.targets.items c.args.mark c.binary_search_by.result c.in-Ok.place c.in-Ok.is c.requires bound position in
-    c.copied.ensures ∙ copied_get c.get.result c.deref-in-Ok.result.now c.in-Ok.place c.get.ensures.lookup ∙ ap (λ l. slice_get l c.in-Ok.place) c.deref-in-Ok.ensures.value ∙ sym f
+    let f = found_by ms c.args.self.now.targets.items c.args.mark c.binary_search_by.result c.in-Ok.index c.in-Ok.is c.requires bound position in
+    c.copied.ensures ∙ copied_get c.get.result c.deref-in-Ok.result.now c.in-Ok.index c.get.ensures.lookup ∙ ap (λ l. slice_get l c.in-Ok.index) c.deref-in-Ok.ensures.value ∙ sym f
 
 pub returns-in-Err : goal.returns-in-Err
 returns-in-Err c =

@@ -8,5 +8,5 @@ use Rattle.path_counts.proofs.table.CountTableDigested.branch.Goals as goal
 pub returns-clause-value : goal.returns-clause-value
 unfolding branch_of
 returns-clause-value c =
-    let place = 63 - c.args.depth % 64 in
-    and_mask (c.self.inside.digest / 2 ^ place) 1 ∙ ap (λ d. bit_at d place) (c.self.invariant.digest_is ∙ ap digest_of c.self.view_is)
+    let index = 63 - c.args.depth % 64 in
+    and_mask (c.self.inside.digest / 2 ^ index) 1 ∙ ap (λ d. bit_at d index) (c.self.invariant.digest_is ∙ ap digest_of c.self.view_is)

@@ -12,7 +12,7 @@ returns-then-depth-lt64-clause-value c =
 
 pub returns-else-depth-lt64-clause-value : goal.returns-else-depth-lt64-clause-value
 returns-else-depth-lt64-clause-value c =
-    let place = c.args.depth - 64 in
+    let index = c.args.depth - 64 in
     c.word_bit.ensures
-    ∙ ap (λ (ws : List ℕ). bit_at (get_or ws (place / 64) 0) (place % 64)) c.words.ensures
+    ∙ ap (λ (ws : List ℕ). bit_at (get_or ws (index / 64) 0) (index % 64)) c.words.ensures
     ∙ sym (set-branch-words c.args.self.now c.args.depth c.if-depth-lt64.false)

@@ -16,4 +16,4 @@ invariant_of-self-2 c =
 pub returns-clause-number : goal.returns-clause-number
 returns-clause-number c =
     read-ok c.insert.result c.insert.new.self c.args.table
-    (subst (λ t. IfOk c.insert.result (λ n. slice_get c.insert.new.self n ≡ Some t)) c.in_ok-table.ensures c.insert.ensures.place)
+    (subst (λ t. IfOk c.insert.result (λ n. slice_get c.insert.new.self n ≡ Some t)) c.in_ok-table.ensures c.insert.ensures.index)

@@ -46,17 +46,17 @@ pub data ParsedPrefix (depth : ℕ) (others : List (List ℕ)) (text : List ℕ)
   document : (name rest : List ℕ) → is_name name ≡ true → trimmed text ≡ name ++ rest → AreTokens others rest → ParsedPrefix depth others text
   operation : (k : Operation) (a b : List ℕ) → trimmed text ≡ word_of k ++ a → trimmed a ≡ 40 ∷ b → 1 ≤ depth → IsInside k (depth - 1) (codes ")" ∷ others) b → ParsedPrefix depth others text
 
-front_of : (e : Expr) (depth : ℕ) (others : List (List ℕ)) (text : List ℕ) → Fits depth e → AreTokens (tokens e others) text → ParsedPrefix depth others text
-front_of (Doc name) depth others text fits (a, word, t) = document name a fits.0 word t
-front_of (Concat' p l q r) depth others text fits (a, word, (b, sign, t)) =
+prefix_of : (e : Expr) (depth : ℕ) (others : List (List ℕ)) (text : List ℕ) → Fits depth e → AreTokens (tokens e others) text → ParsedPrefix depth others text
+prefix_of (Doc name) depth others text fits (a, word, t) = document name a fits.0 word t
+prefix_of (Concat' p l q r) depth others text fits (a, word, (b, sign, t)) =
     operation op.Concat a b word sign (omega (arith, fits.1)) (l, r, (fits.0.0, omega (arith, fits.1)), (fits.0.1, omega (arith, fits.1)), t)
-front_of (Extract' p of i j) depth others text fits (a, word, (b, sign, t)) =
+prefix_of (Extract' p of i j) depth others text fits (a, word, (b, sign, t)) =
     operation op.Extract a b word sign (omega (arith, fits.1)) (of, i, j, (fits.0.0, omega (arith, fits.1)), fits.0.1, fits.0.2, t)
-front_of (Delete' p of i j) depth others text fits (a, word, (b, sign, t)) =
+prefix_of (Delete' p of i j) depth others text fits (a, word, (b, sign, t)) =
     operation op.Delete a b word sign (omega (arith, fits.1)) (of, i, j, (fits.0.0, omega (arith, fits.1)), fits.0.1, fits.0.2, t)
-front_of (Insert' p l q r k) depth others text fits (a, word, (b, sign, t)) =
+prefix_of (Insert' p l q r k) depth others text fits (a, word, (b, sign, t)) =
     operation op.Insert a b word sign (omega (arith, fits.1)) (l, r, k, (fits.0.0, omega (arith, fits.1)), (fits.0.1, omega (arith, fits.1)), fits.0.2, t)
-front_of (Copy' p of i j k) depth others text fits (a, word, (b, sign, t)) =
+prefix_of (Copy' p of i j k) depth others text fits (a, word, (b, sign, t)) =
     operation op.Copy a b word sign (omega (arith, fits.1)) (of, i, j, k, (fits.0.0, omega (arith, fits.1)), fits.0.1, fits.0.2, fits.0.3, t)
 
 -- the longest word at the start is `word`, and `rest` comes after it
@@ -70,7 +70,7 @@ module _ (e : Expr) (depth : ℕ) (others : List (List ℕ)) (text word rest : L
 
   -- if no bracket opens after the word, it is a document
   pub document_there : ((r : List ℕ) → trimmed rest ≡ 40 ∷ r → ⊥) → (is_name word ≡ true) × AreTokens others rest
-  document_there shut = by (front_of e depth others text fits written)
+  document_there shut = by (prefix_of e depth others text fits written)
     where
       by : ParsedPrefix depth others text → (is_name word ≡ true) × AreTokens others rest
       by (document name a h is t) = let same = same_name name a h is t in (ap is_name same.0 ∙ h, subst (AreTokens others) (sym same.1) t)
@@ -78,7 +78,7 @@ module _ (e : Expr) (depth : ℕ) (others : List (List ℕ)) (text word rest : L
 
   -- if one opens, it is an operation
   pub operation_there : (behind : List ℕ) → trimmed rest ≡ 40 ∷ behind → (k : Operation) × (operation_named word ≡ Some k) × (1 ≤ depth) × IsInside k (depth - 1) (codes ")" ∷ others) behind
-  operation_there behind opened = by (front_of e depth others text fits written)
+  operation_there behind opened = by (prefix_of e depth others text fits written)
     where
       by : ParsedPrefix depth others text → (k : Operation) × (operation_named word ≡ Some k) × (1 ≤ depth) × IsInside k (depth - 1) (codes ")" ∷ others) behind
       by (document name a h is t) = absurd (closing_shut others a behind closing t (ap trimmed (sym (same_name name a h is t).1) ∙ opened))
