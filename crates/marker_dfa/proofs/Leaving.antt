@@ -1,6 +1,6 @@
 -- The steps from a set of states with a byte, gathered bundle by bundle, and the marks with which a text may end.
-use Rattle.std.proofs.Common.{◌≡◌, ℕ, zero, suc, ◌+◌, ◌-◌, ◌^◌, ◌<◌, ◌≤◌, ◌↔◌, ◌⊎◌, inl, inr, refl, sym, ap, subst, ◌∙◌, arith, Bool, true, false, List, [], ◌∷◌, ◌++◌, length, map, option_map, Some, slice_get, slice_index_or, get_or, set, Contains, replicate, reverse, length-append, length-set, nat_eq}
-use Rattle.std.proofs.lemmas.List.{get_or-set_same, get_or-set_other, get_or-reverse, get_or_past, length-replicate, length-reverse}
+use Rattle.std.proofs.Common.{◌≡◌, ℕ, zero, suc, ◌+◌, ◌-◌, ◌^◌, ◌<◌, ◌≤◌, ◌↔◌, ◌⊎◌, inl, inr, refl, sym, ap, subst, ◌∙◌, arith, Bool, true, false, List, [], ◌∷◌, ◌++◌, length, map, option_map, Some, slice_get, slice_index_or, get_or, set, Contains, replicate, reverse, length-set, nat_eq}
+use Rattle.std.proofs.lemmas.List.{get_or-set_same, get_or-set_other, get_or-reverse, length-replicate, length-reverse}
 use Rattle.std.proofs.lemmas.List.Kept.{AllPairs-from_increasing}
 use Rattle.std.proofs.lemmas.Option.{get_or_from_slice_get, slice_get-get_or}
 use Rattle.std.proofs.lemmas.Bool.Decides.{eqb_tells}
@@ -9,10 +9,9 @@ use Rattle.marker_nfa.specs.Automaton.{Automaton, Moves, MayEnd}
 use Rattle.marker_nfa.specs.declared.nfa.End.{End}
 use Rattle.marker_dfa.specs.declared.bundles.Bundle.{Bundle}
 use Rattle.marker_dfa.specs.declared.bundles.Readers.{Readers}
-use Rattle.marker_dfa.specs.declared.exits.Exits.{Exits}
 use Rattle.marker_dfa.specs.declared.exits.Step.{Step}
 use Rattle.marker_dfa.specs.Reached.{Subset, IsIn}
-use Rattle.marker_dfa.specs.Making.{AreBundles, AreEnds, AreExits, AreReaders, AreSteps, Carries, GainsMark, GainsStates, GainsTarget, IsFalling, JoinsLast, Leaves, MarksFall, OpensStep}
+use Rattle.marker_dfa.specs.Making.{AreBundles, AreEnds, AreReaders, AreSteps, Carries, GainsMark, GainsStates, GainsTarget, IsFalling, JoinsLast, Leaves, MarksFall, OpensStep}
 use Rattle.marker_dfa.proofs.Lists.{contains_at, at_contains, contains_push, get_push, get_within, one_value, push_get, push_last, set_cases, set_here, set_there}
 use Rattle.marker_dfa.proofs.Tracks.{blank_out}
 
@@ -36,55 +35,6 @@ insert_gains old t lt = record { size = length-set old t true; members = λ p. g
         out : IsIn old p ⊎ (t ≡ p) → get_or (set old t true) p false ≡ get_or old p false → IsIn (set old t true) p
         out (inl c) other = other ∙ c
         out (inr q) other = absurd (e.1 (sym q))
-
--- for each of the first n bundles, whether it leaves a set
-pub record LeavingUpTo (bundles : List Bundle) (x : Subset) (n : ℕ) (leaving : List Bool) : Type 0 where
-  pub size : length leaving ≡ n
-  pub leaves : (i : ℕ) (w : Bundle) → slice_get bundles i ≡ Some w → slice_index_or leaving i false ≡ true → (o : ℕ) × IsIn w.sources o × IsIn x o
-  pub stays : (i : ℕ) (w : Bundle) → i < n → slice_get bundles i ≡ Some w → slice_index_or leaving i false ≡ false → (o : ℕ) → IsIn w.sources o → IsIn x o → ⊥
-
-pub leaving_start : (bundles : List Bundle) (x : Subset) → LeavingUpTo bundles x 0 []
-leaving_start bundles x = record {
-  size = refl;
-  leaves = λ i w g e. (let bad : false ≡ true = sym (get_or_past [] i false (omega arith)) ∙ e in absurd (cc));
-  stays = λ i w l g e. absurd (omega (arith, l));
-}
-
-pub leaving_more : (bundles : List Bundle) (x : Subset) (n : ℕ) (w : Bundle) (old : List Bool) (b : Bool) → slice_get bundles n ≡ Some w → LeavingUpTo bundles x n old → (b ≡ true → (o : ℕ) × IsIn w.sources o × IsIn x o) → (b ≡ false → (o : ℕ) → IsIn w.sources o → IsIn x o → ⊥) → LeavingUpTo bundles x (n + 1) (old ++ b ∷ [])
-leaving_more bundles x n w old b at h leads none = record {
-  size = omega (arith, length-append old (b ∷ []), h.size);
-  leaves = λ i v g e. leaves i v g e (cases i n);
-  stays = λ i v l g e. stays i v g e (before i n l);
-}
-  where
-    cases : (i n : ℕ) → (i < n) ⊎ ((i ≡ n) ⊎ (n + 1 ≤ i))
-    cases i n = grind arith
-
-    under : (i : ℕ) → i < n → slice_index_or (old ++ b ∷ []) i false ≡ slice_index_or old i false
-    under i l = let o = slice_get-get_or old i false (omega (arith, l, h.size)) in get_or_from_slice_get (old ++ b ∷ []) i _ false (push_get old b _ i o)
-
-    here : (i : ℕ) → i ≡ n → slice_index_or (old ++ b ∷ []) i false ≡ b
-    here i q = get_or_from_slice_get (old ++ b ∷ []) i b false (ap (slice_get (old ++ b ∷ [])) (q ∙ sym h.size) ∙ push_last old b)
-
-    same : (i : ℕ) (v : Bundle) → i ≡ n → slice_get bundles i ≡ Some v → w ≡ v
-    same i v q g = one_value bundles n w v at (ap (slice_get bundles) (sym q) ∙ g)
-
-    leaves : (i : ℕ) (v : Bundle) → slice_get bundles i ≡ Some v → slice_index_or (old ++ b ∷ []) i false ≡ true → (i < n) ⊎ ((i ≡ n) ⊎ (n + 1 ≤ i)) → (o : ℕ) × IsIn v.sources o × IsIn x o
-    leaves i v g e (inl l) = h.leaves i v g (sym (under i l) ∙ e)
-    leaves i v g e (inr (inl q)) = subst (λ (z : Bundle). (o : ℕ) × IsIn z.sources o × IsIn x o) (same i v q g) (leads (sym (here i q) ∙ e))
-    leaves i v g e (inr (inr l)) = let bad : false ≡ true = sym (get_or_past (old ++ b ∷ []) i false (omega (arith, l, length-append old (b ∷ []), h.size))) ∙ e in absurd (cc)
-
-    stays : (i : ℕ) (v : Bundle) → slice_get bundles i ≡ Some v → slice_index_or (old ++ b ∷ []) i false ≡ false → (i < n) ⊎ (i ≡ n) → (o : ℕ) → IsIn v.sources o → IsIn x o → ⊥
-    stays i v g e (inl l) = h.stays i v l g (sym (under i l) ∙ e)
-    stays i v g e (inr q) = subst (λ (z : Bundle). (o : ℕ) → IsIn z.sources o → IsIn x o → ⊥) (same i v q g) (none (sym (here i q) ∙ e))
-
-pub leaving_end : (a : Automaton) (bundles : List Bundle) (exits : Exits) (n : ℕ) → length bundles ≡ n → length exits.from ≡ a.states → LeavingUpTo bundles exits.from n exits.leaving.items → AreExits a bundles exits
-leaving_end a bundles exits n e size h = record {
-  size = size;
-  even = h.size ∙ sym e;
-  leaves = h.leaves;
-  stays = λ i w g out. h.stays i w (omega (arith, get_within bundles i w g, e)) g out;
-}
 
 -- a set of one state
 pub alone : (n t p : ℕ) → t < n → IsIn (set (replicate n false) t true) p ↔ (t ≡ p)

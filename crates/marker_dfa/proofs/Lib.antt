@@ -4,9 +4,13 @@ pub mod StateWords
 pub mod Finding
 pub mod Tracks
 pub mod Leaving
+pub mod BySource
 pub mod Bundling
 pub mod Growing
 pub mod RowsGrow
 pub mod Refused
 pub mod Pigeons
 pub mod Glue
+pub mod Merges
+pub mod MergedAutomaton
+pub mod Renumbering

@@ -1,12 +1,12 @@
 -- The members of a set of states are all that its words say.
-use Rattle.std.proofs.Common.{◌≡◌, ◌≢◌, ℕ, zero, suc, ◌+◌, ◌*◌, ◌/◌, ◌%◌, ◌^◌, ◌<◌, ◌≤◌, ◌==◌, ◌⊎◌, inl, inr, Bool, true, false, List, length, refl, sym, ◌∙◌, ap, arith, get_or, set, replicate, length-set, bit_or, bit_and, w64, min}
+use Rattle.std.proofs.Common.{◌≡◌, ◌≢◌, ℕ, zero, suc, ◌+◌, ◌-◌, ◌*◌, ◌/◌, ◌%◌, ◌^◌, ◌<◌, ◌≤◌, ◌==◌, ◌⊎◌, inl, inr, Bool, true, false, List, length, refl, sym, ◌∙◌, ap, subst, arith, get_or, set, replicate, length-set, bit_or, w64}
 use Rattle.std.specs.Int.{bit_at, trailing_zeros}
-use Rattle.std.proofs.lemmas.Bool.{both_ways, cases_eq, cases_lt, eqb-true}
-use Rattle.std.proofs.lemmas.Nat.{and_le_l, or_lt}
-use Rattle.std.proofs.lemmas.Nat.Bits.{bit_at-lt, bit_at-trailing_zeros, bit_at-zero, bit_at_and, bit_at_set_other, bit_at_set_same, same_from_bits_below}
+use Rattle.std.proofs.lemmas.Bool.{both_ways, cases_eq, cases_lt}
+use Rattle.std.proofs.lemmas.Nat.{or_lt, shr-shr, shr_le}
+use Rattle.std.proofs.lemmas.Nat.Bits.{bit_at-lt, bit_at-trailing_zeros, bit_at-zero, bit_at_above, bit_at_set_other, bit_at_set_same, same_from_bits_below}
 use Rattle.std.proofs.lemmas.List.{ext_get_or, get_or-replicate, get_or-set_other, get_or-set_same, get_or_past, length-replicate}
 use Rattle.std.proofs.lemmas.List.FromFn.{get_or-map-range_with_len, length-map-range_with_len}
-use Rattle.marker_dfa.specs.StateWords.{AreWords, has_state, members}
+use Rattle.marker_dfa.specs.StateWords.{AreWords, IsFirstFrom, has_state, members}
 use Rattle.marker_dfa.specs.Reached.{IsIn, Subset}
 
 pub length-members : (n : ℕ) (ws : List ℕ) → length (members n ws) ≡ n
@@ -72,7 +72,7 @@ has-with_other ws q p lt ne = by (cases_eq (p / 64) (q / 64))
         rw (e, get_or-set_same ws (q / 64) (word_with ws q) 0 lt, bit_at_set_other w64 (get_or ws (q / 64) 0) (q % 64) (omega arith) (p % 64) apart) refl
     by (inr e) = rw (get_or-set_other ws (q / 64) (p / 64) (word_with ws q) 0 e) refl
 
-word_there : (n q size : ℕ) → size ≡ n / 64 + 1 → q < n → q / 64 < size
+pub word_there : (n q size : ℕ) → size ≡ n / 64 + 1 → q < n → q / 64 < size
 word_there n q size e lt = omega (arith, e, lt)
 
 -- a state has a word
@@ -128,29 +128,84 @@ words-same n ws vs h i e =
         by (inl lt) = sym (at-members n ws q lt) ∙ ap (λ ms. get_or ms q false) e ∙ at-members n vs q lt
         by (inr le) = h.clear q le ∙ sym (i.clear q le)
 
-both_set : (x y : ℕ) → x < 2 → y < 2 → min x y ≡ 1 → (x ≡ 1) × (y ≡ 1)
-both_set x y lx ly e = (omega (arith, lx, ly, e), omega (arith, lx, ly, e))
+shifted-bit : (w s i : ℕ) → bit_at (w / 2 ^ s) i ≡ bit_at w (s + i)
+shifted-bit w s i = ap (λ x. x % 2) (shr-shr w s i)
 
--- two sets have a member in common exactly if two of their words have a bit in common
-pub meets-at : (m n : ℕ) (ws vs : List ℕ) (k : ℕ) → AreWords m ws → AreWords n vs → (bit_and (get_or ws k 0) (get_or vs k 0) ≡ 0 → ⊥) → (xs ys : Subset) → members m ws ≡ xs → members n vs ≡ ys → (p : ℕ) × IsIn xs p × IsIn ys p
-meets-at m n ws vs k h i ne xs ys left right =
-    let x : ℕ = bit_and (get_or ws k 0) (get_or vs k 0) in
-    let low = bit_at-trailing_zeros w64 x (omega (arith, ne)) (omega (arith, and_le_l (get_or ws k 0) (get_or vs k 0), h.below k)) in
-    let b : ℕ = trailing_zeros w64 x in
-    let both = both_set (bit_at (get_or ws k 0) b) (bit_at (get_or vs k 0) b) (bit_at-lt (get_or ws k 0) b) (bit_at-lt (get_or vs k 0) b) (sym (bit_at_and (get_or ws k 0) (get_or vs k 0) b) ∙ low.1) in (
-      64 * k + b,
-      rw (← left) (in_members m ws (64 * k + b) h (has-bit ws k b low.0 ∙ rw both.0 refl)),
-      rw (← right) (in_members n vs (64 * k + b) i (has-bit vs k b low.0 ∙ rw both.1 refl)),
-    )
+-- bit i of a word from a state on is for the state i later
+rest-bit : (ws : List ℕ) (o i : ℕ) → o % 64 + i < 64 → has_state ws (o + i) ≡ (bit_at (get_or ws (o / 64) 0 / 2 ^ (o % 64)) i == 1)
+rest-bit ws o i lt =
+    let d : (o + i) / 64 ≡ o / 64 = omega (arith, lt) in
+    let m : (o + i) % 64 ≡ o % 64 + i = omega (arith, lt) in
+    rw (d, m, shifted-bit (get_or ws (o / 64) 0) (o % 64) i) refl
 
-pub meets-nowhere : (m n : ℕ) (ws vs : List ℕ) → AreWords m ws → AreWords n vs → ((k : ℕ) → k < min (length ws) (length vs) → bit_and (get_or ws k 0) (get_or vs k 0) ≡ 0) → (p : ℕ) → IsIn (members m ws) p → IsIn (members n vs) p → ⊥
-meets-nowhere m n ws vs h i none p left right =
-    let l = from_members m ws p left in
-    let r = from_members n vs p right in
-    let a : bit_at (get_or ws (p / 64) 0) (p % 64) ≡ 1 = eqb-true (bit_at (get_or ws (p / 64) 0) (p % 64)) 1 l.1 in
-    let b : bit_at (get_or vs (p / 64) 0) (p % 64) ≡ 1 = eqb-true (bit_at (get_or vs (p / 64) 0) (p % 64)) 1 r.1 in
-    let left_word = word_there m p (length ws) h.size l.0 in
-    let right_word = word_there n p (length vs) i.size r.0 in
-    let zeros : min (bit_at (get_or ws (p / 64) 0) (p % 64)) (bit_at (get_or vs (p / 64) 0) (p % 64)) ≡ 0 =
-    sym (bit_at_and (get_or ws (p / 64) 0) (get_or vs (p / 64) 0) (p % 64)) ∙ ap (λ x. bit_at x (p % 64)) (none (p / 64) (omega (arith, left_word, right_word))) ∙ bit_at-zero (p % 64) in
-    omega (arith, a, b, zeros)
+-- no state of a word is a member from a state on
+none-in_rest : (n : ℕ) (ws : List ℕ) (xs : Subset) (o p : ℕ) → members n ws ≡ xs → get_or ws (o / 64) 0 / 2 ^ (o % 64) ≡ 0 → o ≤ p → p < (o / 64 + 1) * 64 → IsIn xs p → ⊥
+none-in_rest n ws xs o p view none le lt i =
+    let at = from_members n ws p (subst (λ (x : Subset). IsIn x p) (sym view) i) in
+    let same : o + (p - o) ≡ p = omega (arith, le) in
+    let bit = rest-bit ws o (p - o) (omega (arith, le, lt)) in
+    let zero_bit : (bit_at (get_or ws (o / 64) 0 / 2 ^ (o % 64)) (p - o) == 1) ≡ false = rw (none, bit_at-zero (p - o)) refl in
+    both_ways (has_state ws p) (ap (has_state ws) (sym same) ∙ bit ∙ zero_bit) at.1
+
+pub none-up_to : (n : ℕ) (ws : List ℕ) (xs : Subset) (start o p : ℕ) → members n ws ≡ xs → get_or ws (o / 64) 0 / 2 ^ (o % 64) ≡ 0 → ((r : ℕ) → start ≤ r → r < o → IsIn xs r → ⊥) → start ≤ p → p < (o / 64 + 1) * 64 → IsIn xs p → ⊥
+none-up_to n ws xs start o p view none before le lt i = by (cases_lt p o)
+  where
+    by : (p < o) ⊎ (o ≤ p) → ⊥
+    by (inl l) = before p le l i
+    by (inr l) = none-in_rest n ws xs o p view none l lt i
+
+-- no state is a member from a state on
+pub none-left : (n : ℕ) (ws : List ℕ) (xs : Subset) (start o p : ℕ) → members n ws ≡ xs → n ≤ o → ((r : ℕ) → start ≤ r → r < o → IsIn xs r → ⊥) → start ≤ p → IsIn xs p → ⊥
+none-left n ws xs start o p view past before le i =
+    let at = from_members n ws p (subst (λ (x : Subset). IsIn x p) (sym view) i) in
+    before p le (omega (arith, at.0, past)) i
+
+-- the lowest bit of the rest of a word is for the least member
+pub first-in_rest : (n : ℕ) (ws : List ℕ) (xs : Subset) (start o : ℕ) → AreWords n ws → members n ws ≡ xs → (get_or ws (o / 64) 0 / 2 ^ (o % 64) ≡ 0 → ⊥) → start ≤ o → ((p : ℕ) → start ≤ p → p < o → IsIn xs p → ⊥)
+    → IsFirstFrom xs start (o + trailing_zeros w64 (get_or ws (o / 64) 0 / 2 ^ (o % 64)))
+first-in_rest n ws xs start o h view some le before = record {
+  from = omega (arith, le);
+  within = omega (arith, there.0, view_size);
+  member = subst (λ (x : Subset). IsIn x (o + t)) view there.1;
+  first = λ p l lt i. first p l lt i (cases_lt p o);
+}
+  where
+    word : ℕ
+    word = get_or ws (o / 64) 0
+
+    rest : ℕ
+    rest = word / 2 ^ (o % 64)
+
+    t : ℕ
+    t = trailing_zeros w64 rest
+
+    small : rest < 2 ^ 64
+    small = omega (arith, shr_le word (o % 64), h.below (o / 64))
+
+    low : (t < 64) × (bit_at rest t ≡ 1) × ((i : ℕ) → i < t → bit_at rest i ≡ 0)
+    low = bit_at-trailing_zeros w64 rest (omega (arith, some)) small
+
+    in_word : o % 64 + t < 64
+    in_word = by (cases_lt (o % 64 + t) 64)
+      where
+        by : (o % 64 + t < 64) ⊎ (64 ≤ o % 64 + t) → o % 64 + t < 64
+        by (inl l) = l
+        by (inr l) = absurd (omega (arith, low.1, shifted-bit word (o % 64) t, bit_at_above word 64 (o % 64 + t) (h.below (o / 64)) l))
+
+    has : has_state ws (o + t) ≡ true
+    has = rest-bit ws o t in_word ∙ rw (low.1) refl
+
+    view_size : length xs ≡ n
+    view_size = ap length (sym view) ∙ length-members n ws
+
+    there : (o + t < n) × IsIn (members n ws) (o + t)
+    there = let i = in_members n ws (o + t) h has in ((from_members n ws (o + t) i).0, i)
+
+    first : (p : ℕ) → start ≤ p → p < o + t → IsIn xs p → (p < o) ⊎ (o ≤ p) → ⊥
+    first p l lt i (inl q) = before p l q i
+    first p l lt i (inr q) =
+        let at = from_members n ws p (subst (λ (x : Subset). IsIn x p) (sym view) i) in
+        let same : o + (p - o) ≡ p = omega (arith, q) in
+        let bit = rest-bit ws o (p - o) (omega (arith, q, lt, in_word)) in
+        let zero_bit : (bit_at rest (p - o) == 1) ≡ false = rw (low.2 (p - o) (omega (arith, q, lt))) refl in
+        both_ways (has_state ws p) (ap (has_state ws) (sym same) ∙ bit ∙ zero_bit) at.1

@@ -3,3 +3,4 @@ pub mod Deterministic
 pub mod Refusals
 pub mod Making
 pub mod StateWords
+pub mod Merging

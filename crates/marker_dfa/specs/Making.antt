@@ -1,5 +1,6 @@
 -- What holds while an automaton of sets is constructed.
 use Rattle.std.specs.Prelude.{◌≡◌, ℕ, ◌+◌, ◌<◌, ◌≤◌, ◌^◌, ◌↔◌, ◌⊎◌, Bool, true, false, List, [], ◌∷◌, ◌++◌, length, map, replicate, Some, slice_get, slice_index_or, slice_set, Contains}
+use Rattle.std.specs.Global.{Vec}
 use Rattle.marker_nfa.specs.Automaton.{Automaton, Moves, MayEnd}
 use Rattle.marker_nfa.specs.declared.nfa.Edge.{Edge}
 use Rattle.marker_dfa.specs.Reached.{AreReached, IsIn, IsMove, Subset, start_set}
@@ -82,6 +83,20 @@ pub record AreExits (a : Automaton) (bundles : List Bundle) (exits : Exits) : Ty
   pub even : length exits.leaving.items ≡ length bundles
   pub leaves : (i : ℕ) (w : Bundle) → slice_get bundles i ≡ Some w → slice_index_or exits.leaving.items i false ≡ true → (o : ℕ) × IsIn w.sources o × IsIn exits.from o
   pub stays : (i : ℕ) (w : Bundle) → slice_get bundles i ≡ Some w → slice_index_or exits.leaving.items i false ≡ false → (o : ℕ) → IsIn w.sources o → IsIn exits.from o → ⊥
+
+-- the list of a state has this index
+abbrev pub IsListed : List (Vec ℕ) → ℕ → ℕ → Type 0
+IsListed lists o i = (places : Vec ℕ) × (slice_get lists o ≡ Some places) × Contains places.items i
+
+-- for each state the indices of exactly the bundles that have it as a source
+pub record AreBySource (a : Automaton) (bundles : List Bundle) (lists : List (Vec ℕ)) : Type 0 where
+  pub size : length lists ≡ a.states
+  pub members : (o i : ℕ) → IsListed lists o i ↔ BundleAt bundles i (λ w. IsIn w.sources o)
+
+-- an index is added to the lists of the members of a set
+pub record GainsIndex (old new : List (Vec ℕ)) (x : Subset) (i : ℕ) : Type 0 where
+  pub size : length new ≡ length old
+  pub members : (o j : ℕ) → IsListed new o j ↔ IsListed old o j ⊎ (IsIn x o × (i ≡ j))
 
 -- the indices of exactly the bundles that read a byte, ascending
 pub record AreReaders (bundles : List Bundle) (readers : Readers) : Type 0 where

@@ -1,8 +1,8 @@
 //! Bundles of edges: those with one mark, one target and the same letters, as one.
 
-ghost use Rattle.std.specs.Prelude.{◌≡◌, ◌<◌, ◌^◌, IsTrue, IfOk};
+ghost use Rattle.std.specs.Prelude.{◌≡◌, ◌<◌, ◌^◌, [], IsTrue, IfOk, OnOk, length};
 ghost use Rattle.marker_nfa.specs.Automaton.{Automaton, IsAutomaton};
-ghost use Rattle.marker_dfa.specs.Making.{AreAllReaders, AreBundles, AreInOrder, AreReaders, AreWellmade, GainsEdge, IsLike, bytes_of};
+ghost use Rattle.marker_dfa.specs.Making.{AreAllReaders, AreBundles, AreBySource, AreInOrder, AreReaders, AreWellmade, GainsEdge, GainsIndex, IsLike, bytes_of};
 
 use crate::states::StateSet;
 use marker_nfa::{Edge, Nfa};
@@ -169,4 +169,48 @@ pub fn readers_by_byte(
         by_byte.push(readers)?;
     }
     Ok(by_byte)
+}
+
+/// An empty list for each state.
+fn empty_lists(alloc: Global, nfa: &Nfa) -> Result<Vec<Vec<usize>>, NoMemory>
+    ensures { IfOk result (λ lists. AreBySource nfa.now [] lists.items) }
+{
+    let mut lists = Vec::new(alloc);
+    for _state in 0..nfa.states() {
+        lists.push(Vec::new(alloc))?;
+    }
+    Ok(lists)
+}
+
+/// Appends a bundle's index to the lists of its sources.
+fn put_index(by_source: &mut [Vec<usize>], sources: &StateSet, index: usize) -> Result<(), NoMemory>
+    requires { length sources.now ≡ length by_source.old }
+    ensures { OnOk result (GainsIndex by_source.old by_source.new sources.now index) }
+{
+    let mut next = 0;
+    while let Some(state) = sources.member_from(next) {
+        by_source[state as usize].push(index)?;
+        next = state as usize + 1;
+    }
+    Ok(())
+}
+
+/// For each state, the indices of the bundles that have it as a source.
+///
+/// # Errors
+///
+/// `NoMemory` if allocation fails.
+pub fn bundles_by_source(
+    alloc: Global,
+    nfa: &Nfa,
+    bundles: &[Bundle],
+) -> Result<Vec<Vec<usize>>, NoMemory>
+    requires { AreWellmade nfa.now bundles.now }
+    ensures { IfOk result (λ by_source. AreBySource nfa.now bundles.now by_source.items) }
+{
+    let mut by_source = empty_lists(alloc, nfa)?;
+    for (index, bundle) in bundles.iter().enumerate() {
+        put_index(&mut by_source, &bundle.sources, index)?;
+    }
+    Ok(by_source)
 }

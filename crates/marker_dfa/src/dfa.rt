@@ -116,6 +116,23 @@ impl Dfa {
         self.classes[byte as usize]
     }
 
+    /// The row of each state.
+    pub(crate) fn rows(&self) -> &[Row]
+        ensures value { result.now ≡ self.now.rows }
+        ensures automaton { IsDeterministic self.now }
+        ensures wide { IsWide self.now }
+    {
+        &self.rows
+    }
+
+    /// The class of each byte.
+    pub(crate) fn classes(&self) -> &[u8]
+        ensures value { result.now ≡ self.now.classes }
+        ensures wide { IsWide self.now }
+    {
+        &self.classes
+    }
+
     /// The cell of a state and a byte.
     fn cell(&self, state: u16, byte: u8) -> &Cell
         requires { state < states_of self.now }

@@ -1,10 +1,10 @@
 //! The edges that leave a set of states.
 
-ghost use Rattle.std.specs.Prelude.{◌≡◌, ◌<◌, ◌↔◌, ℕ, slice_get, Some, Contains, length, IfOk, OnOk};
+ghost use Rattle.std.specs.Prelude.{◌≡◌, ◌<◌, ◌↔◌, ◌⊎◌, ℕ, slice_get, Some, Contains, length, IfOk, OnOk};
 ghost use Rattle.marker_nfa.specs.Automaton.{IsAutomaton};
 ghost use Rattle.marker_dfa.specs.Reached.{IsIn};
 ghost use Rattle.marker_dfa.specs.declared.exits.Step.{Step};
-ghost use Rattle.marker_dfa.specs.Making.{AreEnds, AreExits, AreInOrder, AreReaders, AreSteps, AreWellmade, GainsMark, GainsTarget, IsFalling};
+ghost use Rattle.marker_dfa.specs.Making.{AreBySource, AreEnds, AreExits, AreInOrder, AreReaders, AreSteps, GainsMark, GainsTarget, IsFalling};
 
 use crate::bundles::{Bundle, Readers};
 use crate::states::StateSet;
@@ -19,7 +19,18 @@ pub struct Exits {
     pub leaving: Vec<bool>,
 }
 
-/// The bundles that leave a set.
+/// Records that the bundles at some indices leave a set.
+fn mark_all(leaving: &mut [bool], indices: &[usize])
+    requires { (i : ℕ) → Contains indices.now i → i < length leaving.old }
+    ensures size { length leaving.new ≡ length leaving.old }
+    ensures marked { (i : ℕ) → IsIn leaving.new i ↔ IsIn leaving.old i ⊎ Contains indices.now i }
+{
+    for index in indices {
+        leaving[*index] = true;
+    }
+}
+
+/// The bundles that leave a set. Only those of its members are visited.
 ///
 /// # Errors
 ///
@@ -28,16 +39,19 @@ pub fn exits_of(
     alloc: Global,
     nfa: &Nfa,
     bundles: &[Bundle],
+    by_source: &[Vec<usize>],
     from: StateSet,
 ) -> Result<Exits, NoMemory>
-    requires bundles { AreWellmade nfa.now bundles.now }
+    requires sources { AreBySource nfa.now bundles.now by_source.now }
     requires size { length from ≡ nfa.now.states }
     ensures exits { IfOk result (AreExits nfa.now bundles.now) }
     ensures from { IfOk result (λ e. e.from ≡ from) }
 {
-    let mut leaving = Vec::new(alloc);
-    for bundle in bundles {
-        leaving.push(bundle.sources.meets(&from))?;
+    let mut leaving = vec![in alloc; false; bundles.len()]?;
+    let mut next = 0;
+    while let Some(state) = from.member_from(next) {
+        mark_all(&mut leaving, &by_source[state as usize]);
+        next = state as usize + 1;
     }
     Ok(Exits { from, leaving })
 }

@@ -15,30 +15,30 @@ use std::alloc::Global;
 /// The number of hints for each state, so that few sets share one.
 const HINTS_PER_STATE: usize = 64;
 
-/// For the remainders of the hashes of sets, the index of a set that may have this hash. It is only a hint: the set at
-/// this index is compared.
+/// For the remainders of hash values, the index of a set or a state that may have this hash value. It is only a hint: what
+/// is at this index is compared.
 #[derive(Drop)]
-struct Hints {
+pub(crate) struct Hints {
     by_hash: Vec<u16>,
 }
 
 impl Hints {
-    fn new(alloc: Global, most: u16) -> Result<Hints, NoMemory> {
+    pub(crate) fn new(alloc: Global, most: u16) -> Result<Hints, NoMemory> {
         Ok(Hints {
             by_hash: vec![in alloc; 0; HINTS_PER_STATE * most as usize]?,
         })
     }
 
-    // The index of a set's hint. An odd divisor lets all bits of the hash count. Its last remainder has no hint.
-    fn slot(&self, set: &StateSet) -> usize {
-        (set.hash() % (self.by_hash.len() as u64 + 1)) as usize
+    // The index of a hash value's hint. An odd divisor lets all bits of the hash count. Its last remainder has no hint.
+    pub(crate) fn slot(&self, hash: u64) -> usize {
+        (hash % (self.by_hash.len() as u64 + 1)) as usize
     }
 
-    fn get(&self, slot: usize) -> u16 {
+    pub(crate) fn get(&self, slot: usize) -> u16 {
         self.by_hash.get(slot).copied().unwrap_or(0)
     }
 
-    fn set(&mut self, slot: usize, index: u16) {
+    pub(crate) fn set(&mut self, slot: usize, index: u16) {
         if let Some(hint) = self.by_hash.get_mut(slot) {
             *hint = index;
         }
@@ -121,7 +121,7 @@ pub fn index_of(
     ensures few { vec_len found.new.sets ≤ most }
     ensures refused { IfTooMany result (HasNoRoom most found.old.sets.items set.now) }
 {
-    let slot = found.hints.slot(set);
+    let slot = found.hints.slot(set.hash());
     let hint = found.hints.get(slot);
     if is_at(&found.sets, set, hint) {
         return Ok(hint);

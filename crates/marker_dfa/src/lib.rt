@@ -4,6 +4,7 @@
 //! let nfa = marker_nfa::of_formula(alloc, &formula)?;
 //! let dfa = determinise(alloc, &nfa)?;                     // TooManyStates exactly past 128 states
 //! let dfa = determinise_within(alloc, &nfa, 1024)?;        // TooManyStates exactly past 1,024 states
+//! let small = merged(alloc, &dfa)?;                        // the same marked texts by fewer states
 //! let next = dfa.next(0, 0, b'a');                         // from state 0 with no mark and the byte a
 //! let marks = dfa.marks(0, b'a');                          // the marks that lead on from there, falling
 //! ```
@@ -11,13 +12,16 @@
 //! Each tuple has at most one run, so no answer can come twice. Bytes that the automaton never distinguishes share a
 //! class, edges that differ only in their sources are bundled, and a state has a list of marks for each class. The
 //! caller sets the limit `most`, 128 to 1,024 states. The construction ends when one more set of states is found, so at
-//! most `most` sets are processed. For each set, every bundle is tested once. Then, for each class, the bundles that read
-//! it are visited in order of their marks; lists of their indices are kept during the construction. The automaton takes
-//! memory for the marks that have a next state and for these states; a lookup in it allocates nothing.
+//! most `most` sets are processed. For each set, the bundles of its members are visited. Then, for each class, the bundles
+//! that read it are visited in order of their marks; lists of their indices are kept during the construction. The
+//! automaton takes memory for the marks that have a next state and for these states; a lookup in it allocates nothing.
 //!
-//! The construction is that of M. O. Rabin and D. Scott, *Finite automata and their decision problems*, 1959.
+//! The construction is that of M. O. Rabin and D. Scott, *Finite automata and their decision problems*, 1959. `merged`
+//! merges states that accept the same, as D. Revuz does in *Minimisation of acyclic deterministic automata in linear time*,
+//! 1992.
 //!
-//! Proved: Exactly the reached sets of states, rejected exactly past the limit (`determinise_within`).
+//! Proved: Exactly the reached sets of states, rejected exactly past the limit (`determinise_within`). Merged states accept
+//! the same marked texts (`merged`).
 //!
 //! Tested: Error texts.
 //!
@@ -34,6 +38,7 @@ pub mod classes;
 pub mod dfa;
 pub mod exits;
 pub mod found;
+pub mod merging;
 pub mod refusal;
 pub mod states;
 pub mod subsets;
@@ -41,6 +46,7 @@ pub mod subsets;
 use classes::classes_of;
 pub use dfa::Dfa;
 use marker_nfa::Nfa;
+pub use merging::merged;
 pub use refusal::DfaRefusal;
 use span_types::ByteSet;
 use std::alloc::Global;

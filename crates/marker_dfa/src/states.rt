@@ -1,7 +1,7 @@
 //! Sets of states.
 
-ghost use Rattle.std.specs.Prelude.{◌≡◌, ◌<◌, ◌↔◌, ℕ, Bool, false, true, List, IsFalse, replicate, slice_set, slice_index_or, length, IfOk, IsTrue, Contains};
-ghost use Rattle.marker_dfa.specs.Reached.{IsIn};
+ghost use Rattle.std.specs.Prelude.{◌≡◌, ◌<◌, ◌↔◌, false, true, replicate, slice_set, slice_index_or, length, IfOk, IsTrue};
+ghost use Rattle.marker_dfa.specs.StateWords.{IsNextMember};
 
 use span_types::NoMemory;
 use std::alloc::Global;
@@ -81,18 +81,20 @@ impl StateSet {
         self.words[state / WORD_BITS] >> (state % WORD_BITS) & 1 == 1
     }
 
-    /// Whether two sets have a member in common.
-    pub fn meets(&self, other: &StateSet) -> bool
-        requires { length self.now ≡ length other.now }
-        ensures some { IsTrue result → (p : ℕ) × IsIn self.now p × IsIn other.now p }
-        ensures none { IsFalse result → (p : ℕ) → IsIn self.now p → IsIn other.now p → ⊥ }
+    /// The least member from a state on, if there is one. A step of the loop skips a word without such a member.
+    pub fn member_from(&self, state: usize) -> Option<u16>
+        ensures { IsNextMember self.now state result }
     {
-        for (word, other) in self.words.iter().zip(&other.words) {
-            if *word & *other != 0 {
-                return true;
+        let states = self.states;
+        let mut next = state;
+        while next < states as usize {
+            let rest = self.words[next / WORD_BITS] >> (next % WORD_BITS);
+            if rest != 0 {
+                return Some((next + rest.trailing_zeros() as usize) as u16);
             }
+            next = (next / WORD_BITS + 1) * WORD_BITS;
         }
-        false
+        None
     }
 
     /// Whether two sets have the same members.

@@ -4,10 +4,10 @@ ghost use Rattle.std.specs.Prelude.{◌≡◌, ◌<◌, ◌≤◌, ◌++◌, ◌
 ghost use Rattle.marker_nfa.specs.Automaton.{IsAutomaton, Moves};
 ghost use Rattle.marker_dfa.specs.Reached.{IsReached};
 ghost use Rattle.marker_dfa.specs.Deterministic.{AreTooMany};
-ghost use Rattle.marker_dfa.specs.Making.{AreAllReaders, AreAllRows, AreCells, AreExits, AreFound, AreInOrder, AreReaders, Extends, IsCell, IsRow, bytes_of};
+ghost use Rattle.marker_dfa.specs.Making.{AreAllReaders, AreAllRows, AreBySource, AreCells, AreExits, AreFound, AreInOrder, AreReaders, Extends, IsCell, IsRow, bytes_of};
 ghost use Rattle.marker_dfa.specs.Refusals.{IfTooMany};
 
-use crate::bundles::{Bundle, Readers, bundles_of, readers_by_byte};
+use crate::bundles::{Bundle, Readers, bundles_by_source, bundles_of, readers_by_byte};
 use crate::dfa::{Cell, Row};
 use crate::exits::{Exits, ends_of_set, exits_of, steps_of};
 use crate::found::{Found, found_start, index_of};
@@ -16,11 +16,12 @@ use marker_nfa::Nfa;
 use span_types::NoMemory;
 use std::alloc::Global;
 
-/// What each row is computed with: the bundles, for each byte that is read the bundles that read it, and the greatest
-/// number of sets.
+/// What each row is computed with: the bundles, for each state the bundles with this source, for each byte that is read
+/// the bundles that read it, and the greatest number of sets.
 #[derive(Drop)]
 struct Plan {
     bundles: Vec<Bundle>,
+    by_source: Vec<Vec<usize>>,
     by_byte: Vec<Readers>,
     most: u16,
 }
@@ -104,6 +105,7 @@ fn row_of(
 ) -> Result<Row, DfaRefusal>
     requires automaton { IsAutomaton nfa.now }
     requires bundles { AreInOrder nfa.now plan.now.bundles.items }
+    requires sources { AreBySource nfa.now plan.now.bundles.items plan.now.by_source.items }
     requires readers { AreAllReaders plan.now.bundles.items plan.now.by_byte.items }
     requires index { index < vec_len found.old.sets }
     requires found { AreFound plan.now.most nfa.now found.old.sets.items }
@@ -114,23 +116,26 @@ fn row_of(
 {
     let from = found.sets[index].copy(alloc)?;
     let ends = ends_of_set(alloc, nfa, &from)?;
-    let exits = exits_of(alloc, nfa, &plan.bundles, from)?;
+    let exits = exits_of(alloc, nfa, &plan.bundles, &plan.by_source, from)?;
     let cells = cells_of(alloc, nfa, plan, &exits, found)?;
     Ok(Row { cells, ends })
 }
 
-/// The bundles of an automaton, and those that read each of some bytes.
+/// The bundles of an automaton, those with each source, and those that read each of some bytes.
 fn plan_of(alloc: Global, nfa: &Nfa, bytes: &[u8], most: u16) -> Result<Plan, NoMemory>
     requires { IsAutomaton nfa.now }
     ensures bundles { IfOk result (λ plan. AreInOrder nfa.now plan.bundles.items) }
+    ensures sources { IfOk result (λ plan. AreBySource nfa.now plan.bundles.items plan.by_source.items) }
     ensures readers { IfOk result (λ plan. AreAllReaders plan.bundles.items plan.by_byte.items) }
     ensures bytes { IfOk result (λ plan. bytes_of plan.by_byte.items ≡ bytes.now) }
     ensures most { IfOk result (λ plan. plan.most ≡ most) }
 {
     let bundles = bundles_of(alloc, nfa)?;
+    let by_source = bundles_by_source(alloc, nfa, &bundles)?;
     let by_byte = readers_by_byte(alloc, &bundles, bytes)?;
     Ok(Plan {
         bundles,
+        by_source,
         by_byte,
         most,
     })

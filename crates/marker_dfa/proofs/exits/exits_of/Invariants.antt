@@ -1,5 +1,9 @@
-use Rattle.marker_dfa.proofs.Leaving.{LeavingUpTo}
+use Rattle.std.proofs.Common.{◌-◌, length}
+use Rattle.marker_dfa.proofs.BySource.{LeavingUpTo}
 use Rattle.marker_dfa.proofs.exits.exits_of.Given as goal
 
-abbrev pub invariant-loop-bundle : goal.invariant-loop-bundle
-invariant-loop-bundle l = LeavingUpTo l.bundles l.fn.from l.bundle-index l.leaving.items
+abbrev pub invariant-loop-state : goal.invariant-loop-state
+invariant-loop-state l = LeavingUpTo l.bundles l.by_source l.from l.next l.leaving.items
+
+abbrev pub decreases-loop-state : goal.decreases-loop-state
+decreases-loop-state l = length l.from - l.next
