@@ -2,6 +2,7 @@ pub mod Numbered
 pub mod ByteSets
 pub mod Leaves
 pub mod Answering
+pub mod Merged
 pub mod Operations
 pub mod ByName
 pub mod KeptNames

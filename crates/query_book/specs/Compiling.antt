@@ -1,7 +1,7 @@
 -- Compiled queries.
 use Rattle.std.specs.Prelude.{◌≡◌, ℕ, ◌<◌, ◌≤◌, List, length, Some}
 use Rattle.span_types.specs.FormulaTree.{FormulaTree, Set, Empty, Cat, Alt, Star, Plus, Opt, Capture, var_bound}
-use Rattle.span_types.specs.Query.{query_of}
+use Rattle.span_types.specs.Query.{Query, query_of}
 use Rattle.span_types.specs.Rel.{names_of}
 use Rattle.marker_nfa.specs.Automaton.{Automaton}
 use Rattle.marker_nfa.specs.Occurrences.{IsPositionAutomaton, IsWithinLimits}
@@ -43,13 +43,19 @@ pub record IsFormulaAutomaton (f : FormulaTree) (d : DeterministicAutomaton) : T
   pub same : AcceptsSame automaton d
   pub states : IsDeterminized automaton d
 
--- the query, the number of its parts, the names of its variables, and its automaton
+-- an automaton of the query's tree, which accepts exactly the query's answers
+pub record IsQueryAutomaton (q : Query) (d : DeterministicAutomaton) : Type 0 where
+  pub tree : IsTreeAutomaton q d
+  pub defines : Defines q d
+  pub bytes : ReadsBytes d
+
+-- the query, the number of its parts, the names of its variables, the automaton of its tree, and one that accepts the same
 pub record IsCompiled (c : Compiled) : Type 0 where
   pub parts : c.parts ≡ parts_of (query_of c.tree)
   pub few_parts : c.parts ≤ 128
   pub names : c.vars ≡ names_of (query_of c.tree)
+  pub full : IsQueryAutomaton (query_of c.tree) c.full
   pub defines : Defines (query_of c.tree) c.dfa
-  pub tree : IsTreeAutomaton (query_of c.tree) c.dfa
   pub bytes : ReadsBytes c.dfa
 
 -- the compiled query of a text

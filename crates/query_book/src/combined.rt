@@ -40,16 +40,19 @@ pub(crate) fn united(
     if parts > MAX_PARTS {
         return Err(CombineRefusal::QueryTooLarge { parts });
     }
-    let (dfa, vars) = union_within(alloc, &left.dfa, &left.vars, &right.dfa, &right.vars, most)?;
+    let (full, vars) = union_within(
+        alloc,
+        &left.full,
+        &left.vars,
+        &right.full,
+        &right.vars,
+        most,
+    )?;
     let _count = vars.count();
     let left = boxed(alloc, &left.tree)?;
     let right = boxed(alloc, &right.tree)?;
-    Ok(Compiled {
-        tree: QueryTree::Union(left, right),
-        parts,
-        vars,
-        dfa,
-    })
+    let tree = QueryTree::Union(left, right);
+    Ok(Compiled::with_automaton(alloc, tree, parts, vars, full)?)
 }
 
 /// The join of two queries, whose automaton may have at most `most` states, from 128 to 1,024.
@@ -76,17 +79,20 @@ pub(crate) fn joined(
     if parts > MAX_PARTS {
         return Err(CombineRefusal::QueryTooLarge { parts });
     }
-    let _states = right.dfa.states();
-    let (dfa, vars) = join_within(alloc, &left.dfa, &left.vars, &right.dfa, &right.vars, most)?;
+    let _states = right.full.states();
+    let (full, vars) = join_within(
+        alloc,
+        &left.full,
+        &left.vars,
+        &right.full,
+        &right.vars,
+        most,
+    )?;
     let _count = vars.count();
     let left = boxed(alloc, &left.tree)?;
     let right = boxed(alloc, &right.tree)?;
-    Ok(Compiled {
-        tree: QueryTree::Join(left, right),
-        parts,
-        vars,
-        dfa,
-    })
+    let tree = QueryTree::Join(left, right);
+    Ok(Compiled::with_automaton(alloc, tree, parts, vars, full)?)
 }
 
 /// The projection of a query to the variables that `keep` lists. Its automaton may have at most `most` states, from 128 to
@@ -118,15 +124,11 @@ pub(crate) fn projected(
     }
     let vars = kept_names(alloc, &source.vars, keep)?;
     let _count = vars.count();
-    let dfa = project_within(alloc, &source.dfa, &source.vars, &vars, most)?;
+    let full = project_within(alloc, &source.full, &source.vars, &vars, most)?;
     let names = vars.copy(alloc)?;
-    let tree = boxed(alloc, &source.tree)?;
-    Ok(Compiled {
-        tree: QueryTree::Project(tree, names),
-        parts,
-        vars,
-        dfa,
-    })
+    let inner = boxed(alloc, &source.tree)?;
+    let tree = QueryTree::Project(inner, names);
+    Ok(Compiled::with_automaton(alloc, tree, parts, vars, full)?)
 }
 
 /// A copy of a tree.

@@ -5,27 +5,56 @@ ghost use Rattle.span_types.specs.Query.{Leaf, query_of};
 ghost use Rattle.span_types.specs.Rel.{names_of};
 ghost use Rattle.marker_nfa.specs.Occurrences.{IsWithinLimits};
 ghost use Rattle.marker_dfa.specs.Refusals.{IfTooMany};
+ghost use Rattle.query_book.specs.Combining.{parts_of};
 ghost use Rattle.query_book.specs.Occurrences.{CountIsAbove};
-ghost use Rattle.query_book.specs.Compiling.{CannotCompile, IsFormulaAutomaton, IsCompiled, IsCompiledOf, IsRead};
+ghost use Rattle.query_book.specs.Compiling.{CannotCompile, IsFormulaAutomaton, IsCompiled, IsCompiledOf, IsQueryAutomaton, IsRead};
 ghost use Rattle.query_book.specs.Registering.{IsRefused};
 
 use crate::refusal::QueryRefusal;
 use formula_syntax::{FormulaRefusal, read};
-use marker_dfa::{Dfa, DfaRefusal, determinise_within};
+use marker_dfa::{Dfa, DfaRefusal, determinise_within, merged};
 use marker_nfa::of_formula;
-use span_types::{Formula, QueryTree, Vars};
+use span_types::{Formula, NoMemory, QueryTree, Vars};
 use std::alloc::Global;
 
-/// A compiled query: its tree, the number of its leaves and operations, the names of its variables, and its automaton.
+/// A compiled query: its tree, the number of its leaves and operations, the names of its variables, and two automata.
 #[derive(Drop)]
 pub struct Compiled {
     pub(crate) tree: QueryTree,
     pub(crate) parts: u64,
     pub(crate) vars: Vars,
+    /// The automaton of the tree, whose states are the reached sets.
+    pub(crate) full: Dfa,
+    /// An automaton that accepts the same with merged states. Tables are computed by it, since it is smaller.
     pub(crate) dfa: Dfa,
 }
 
 impl Compiled {
+    /// The compiled query of a tree, of which this is the automaton.
+    pub(crate) fn with_automaton(
+        alloc: Global,
+        tree: QueryTree,
+        parts: u64,
+        vars: Vars,
+        full: Dfa,
+    ) -> Result<Compiled, NoMemory>
+        requires parts { parts ≡ parts_of (query_of tree) }
+        requires few_parts { parts ≤ 128 }
+        requires names { vars ≡ names_of (query_of tree) }
+        requires full { IsQueryAutomaton (query_of tree) full }
+        ensures tree { IfOk result (λ c. query_of c.tree ≡ query_of tree) }
+        ensures compiled { IfOk result IsCompiled }
+    {
+        let dfa = merged(alloc, &full)?;
+        Ok(Compiled {
+            tree,
+            parts,
+            vars,
+            full,
+            dfa,
+        })
+    }
+
     /// The names of the query's variables, in the order of their numbers.
     pub fn vars(&self) -> &Vars
         requires { IsCompiled self.now }
@@ -69,19 +98,15 @@ fn compile_leaf(
     ensures few { IfOk result (λ _. CountIsAbove most (tree_of formula) → ⊥) }
     ensures refused { IfErr result (CannotCompile most (tree_of formula)) }
 {
-    let dfa = match automaton_of(alloc, &formula, most) {
-        Ok(dfa) => dfa,
+    let full = match automaton_of(alloc, &formula, most) {
+        Ok(full) => full,
         Err(DfaRefusal::TooManyStates) => return Err(QueryRefusal::TooManyStates),
         Err(DfaRefusal::NoMemory) => return Err(QueryRefusal::NoMemory),
     };
-    let count = vars.count();
+    let _count = vars.count();
     let names = vars.copy(alloc)?;
-    Ok(Compiled {
-        tree: QueryTree::Leaf(formula, vars),
-        parts: 1,
-        vars: names,
-        dfa,
-    })
+    let tree = QueryTree::Leaf(formula, vars);
+    Ok(Compiled::with_automaton(alloc, tree, 1, names, full)?)
 }
 
 /// The deterministic automaton of a formula.

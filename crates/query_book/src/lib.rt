@@ -16,8 +16,9 @@
 //! `join` and `project` copy their operands. `compile`, `union_of`, `join_of` and `projection_of` compile a query without
 //! registering it.
 //!
-//! A registry limits the states of a query's automaton: `new` allows 128, and `with_states` from 128 to 1,024. More states
-//! take more memory and more time for each table.
+//! A registry limits the states of a query's automaton: `new` allows 128, and `with_states` from 128 to 1,024. Tables are
+//! computed by a second automaton, which accepts the same with merged states. The more states it has, the more memory and
+//! time each table takes.
 //!
 //! `ready` finds a query once for several evaluations on the texts of a store. It needs the tables of this query alone.
 //! `start`, `seek`, `test`, `has` and `parts` find a query by its name each time, and need the tables of all queries.
@@ -31,7 +32,7 @@
 //! at most B(k, n) lookups, `start_at` at most 3·B(k, n), and `count` none. A lookup by name takes time logarithmic in the
 //! number of queries, and so does `remove`, amortised.
 //!
-//! The memory of a query is that of its automaton, its distinct tables, a number for each node, and a cache of up to
+//! The memory of a query is that of its two automata, its distinct tables, a number for each node, and a cache of up to
 //! 65,536 compositions. Counting tables need a number for each node too, and have a cache of the same size.
 //! `renumber` drops the tables that no node uses any more.
 //!

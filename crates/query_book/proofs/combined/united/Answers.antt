@@ -1,17 +1,18 @@
-use Rattle.std.proofs.Common.{◌≡◌, ◌+◌, refl, arith}
-use Rattle.span_types.specs.Query.{Union, query_of}
-use Rattle.span_types.specs.declared.query.QueryTree as node
-use Rattle.query_book.proofs.Operations.{union-accepted, union-compiled}
+use Rattle.std.proofs.Common.{sym, subst, arith}
+use Rattle.query_book.specs.Combining.{IsAccepted}
+use Rattle.query_book.proofs.Operations.{union-accepted, union-automaton, union-names, union-parts}
 use Rattle.query_book.proofs.combined.united.Goals as goal
 
-pub returns-clause-compiled : goal.returns-clause-compiled
-returns-clause-compiled c =
-    let left : query_of c.in_ok-left.left.value ≡ query_of c.args.left.now.tree = c.in_ok-left.ensures in
-    let right : query_of c.in_ok-right.right.value ≡ query_of c.args.right.now.tree = c.in_ok-right.ensures in
-    union-compiled c.args.left.now c.args.right.now _ c.requires.left c.requires.right refl (omega (arith, c.if-parts-gt-MAX_PARTS.false)) c.in_ok-dfa.ensures.names c.count-count.ensures.vars (λ i. Union (left i) (right i)) c.in_ok-dfa.ensures.automaton c.in_ok-dfa.ensures.answers
+pub with_automaton-requires-clause-parts : goal.with_automaton-requires-clause-parts
+with_automaton-requires-clause-parts c = union-parts c.args.left.now c.args.right.now c.requires.left c.requires.right c.in_ok-full.vars c.in_ok-full.ensures.names c.count-count.ensures.vars _ _ c.in_ok-left.ensures c.in_ok-right.ensures
+
+pub with_automaton-requires-clause-names : goal.with_automaton-requires-clause-names
+with_automaton-requires-clause-names c = union-names c.args.left.now c.args.right.now c.requires.left c.requires.right c.in_ok-full.vars c.in_ok-full.ensures.names c.count-count.ensures.vars _ _ c.in_ok-left.ensures c.in_ok-right.ensures
+
+pub with_automaton-requires-clause-full : goal.with_automaton-requires-clause-full
+with_automaton-requires-clause-full c = union-automaton c.args.left.now c.args.right.now c.requires.left c.requires.right c.in_ok-full.vars c.in_ok-full.ensures.names c.count-count.ensures.vars _ _ c.in_ok-left.ensures c.in_ok-right.ensures c.in_ok-full.full c.in_ok-full.ensures.automaton c.in_ok-full.ensures.answers
 
 pub returns-clause-accepted : goal.returns-clause-accepted
 returns-clause-accepted c =
-    let left : query_of c.in_ok-left.left.value ≡ query_of c.args.left.now.tree = c.in_ok-left.ensures in
-    let right : query_of c.in_ok-right.right.value ≡ query_of c.args.right.now.tree = c.in_ok-right.ensures in
-    union-accepted c.args.left.now c.args.right.now (record { tree = node.Union c.in_ok-left.left c.in_ok-right.right; parts = 1 + c.args.left.now.parts + c.args.right.now.parts; vars = c.in_ok-dfa.vars; dfa = c.in_ok-dfa.dfa }) c.requires.left c.requires.right refl (omega (arith, c.if-parts-gt-MAX_PARTS.false)) c.in_ok-dfa.ensures.names c.count-count.ensures.vars (λ i. Union (left i) (right i)) c.in_ok-dfa.ensures.automaton c.args.most c.in_ok-dfa.ensures.few
+    let accepted = union-accepted c.args.left.now c.args.right.now c.requires.left c.requires.right c.in_ok-full.vars c.in_ok-full.ensures.names c.count-count.ensures.vars _ _ c.in_ok-left.ensures c.in_ok-right.ensures (omega (arith, c.if-parts-gt-MAX_PARTS.false)) c.args.most c.in_ok-full.ensures.few in
+    subst (IsAccepted c.args.most) (sym c.in_ok-with_automaton.ensures.tree) accepted

@@ -1,4 +1,4 @@
-use Rattle.std.proofs.Common.{suc, refl, arith}
+use Rattle.std.proofs.Common.{suc}
 use Rattle.span_types.specs.FormulaTree.{sets, tree_of}
 use Rattle.formula_law.specs.Accepts.{Steps}
 use Rattle.formula_law.specs.Positions.{IsEnd}
@@ -7,17 +7,14 @@ use Rattle.query_book.proofs.ByteSets.{reads-by, steps-bytes}
 use Rattle.query_book.proofs.Leaves.{leaf-defines}
 use Rattle.query_book.proofs.compiled.compile_leaf.Goals as goal
 
-pub returns-clause-compiled : goal.returns-clause-compiled
-returns-clause-compiled c =
+pub with_automaton-requires-clause-full : goal.with_automaton-requires-clause-full
+with_automaton-requires-clause-full c =
     let a = c.in-Ok.ensures.automaton in
     let f = tree_of c.args.formula in
-    let d = c.in-Ok.dfa in
+    let d = c.in-Ok.full in
     let is = leaf-automata.automaton f c.args.vars a.automaton d c.requires.read.numbers a.positions a.states a.same in
     record {
-      parts = refl;
-      few_parts = omega arith;
-      names = c.in_ok-names.ensures;
-      defines = leaf-defines f c.args.vars a.automaton d c.requires.read.within c.requires.read.numbers c.count-count.ensures.vars a.positions a.same;
       tree = is;
+      defines = leaf-defines f c.args.vars a.automaton d c.requires.read.within c.requires.read.numbers c.count-count.ensures.vars a.positions a.same;
       bytes = reads-by (suc (sets f)) (Steps f) (IsEnd f) d (steps-bytes f c.requires.read.bytes) is.automaton;
     }
