@@ -47,6 +47,26 @@ pub enum Status {
     ScriptTooLong,
 }
 
+impl Status {
+    ghost use Rattle.span_run.specs.Exit.{exit_of};
+
+    /// The exit status of a program whose run ended so, 0 to 7.
+    pub fn number(self) -> u8
+        ensures { result ≡ exit_of self }
+    {
+        match self {
+            Status::Done => 0,
+            Status::SomeRefused => 1,
+            Status::Usage => 2,
+            Status::ScriptFault => 3,
+            Status::OutFault => 4,
+            Status::ShelfFault => 5,
+            Status::NoMemory => 6,
+            Status::ScriptTooLong => 7,
+        }
+    }
+}
+
 /// Why there is no script.
 #[derive(Clone, Copy, Debug, PartialEq, Eq)]
 enum NoScript {

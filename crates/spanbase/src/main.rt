@@ -11,7 +11,7 @@
 //! to 7 if the run was stopped. Then the name of the status is written to standard error, or for rejected arguments the
 //! usage text. The cost of a run is that of its lines.
 //!
-//! Proved: The number of each status, and when a fault or rejected arguments may be its cause.
+//! Proved: When a fault or rejected arguments may be its cause.
 //!
 //! Tested: Its stored run and all cases; no file is saved after output that failed (`tools/hostile`).
 #![tactic(auto)]
@@ -20,48 +20,19 @@ ghost use Rattle.std.specs.Prelude.{◌≡◌, ◌<◌, ◌⊎◌, ◌^◌, IfSo
 ghost use Rattle.edge_io.specs.Causes.{HasIncreased};
 ghost use Rattle.span_words.specs.Words.{Refused};
 ghost use Rattle.span_language.specs.Scripts.{AsksForNoDemo};
-ghost use Rattle.span_run.specs.Exit.{exit_of};
 
 use edge_io::{BufferedSink, DirShelf, Sink, Source, StdSink, StdSource};
-use span_run::{Status, run, usage_text};
+use program_report::{arguments, report, report_status};
+use span_run::{Status, run};
 use span_types::Steps;
 use std::alloc::Global;
-use std::io::{ErrorKind, Print, Write};
+use std::io::{self, Print};
 use std::marker::Brand;
 use std::process::ExitCode;
-use std::rt::{Env, Files};
+use std::rt::Files;
 use std::sync::ledger::{Blank, Ledger};
 use std::thread::Threads;
-use std::{env, io};
 use work_gate::OpenGate;
-
-/// The arguments after the program's name. An argument that is not valid text is a usage error.
-fn words_of(rt: &(impl Env + AllocGlobal)) -> Result<Vec<String>, Status> {
-    match env::args(rt) {
-        Ok(args) => match args.skip(1).collect(rt.alloc()) {
-            Ok(words) => Ok(words),
-            Err(_) => Err(Status::NoMemory),
-        },
-        Err(error) if error.kind() == ErrorKind::OutOfMemory => Err(Status::NoMemory),
-        Err(_) => Err(Status::Usage),
-    }
-}
-
-/// The name and the number of a status.
-fn name_of(status: Status) -> (&'static str, u8)
-    ensures { result.1 ≡ exit_of status }
-{
-    match status {
-        Status::Done => ("Done", 0),
-        Status::SomeRefused => ("SomeRefused", 1),
-        Status::Usage => ("Usage", 2),
-        Status::ScriptFault => ("ScriptFault", 3),
-        Status::OutFault => ("OutFault", 4),
-        Status::ShelfFault => ("ShelfFault", 5),
-        Status::NoMemory => ("NoMemory", 6),
-        Status::ScriptTooLong => ("ScriptTooLong", 7),
-    }
-}
 
 /// A new ledger for each of the three counters: of node constructions, of computed tables and of table lookups.
 struct Blanks {
@@ -112,25 +83,6 @@ fn run_script<
     )
 }
 
-/// Writes the name of a status to standard error, if the run was stopped.
-fn report_status(rt: &HostRuntime, status: Status) {
-    let (word, number) = name_of(status);
-    if number >= 2 {
-        let _ = eprintln!(rt; "spanbase: {word}");
-    }
-}
-
-/// Writes to standard error how a run ended. For rejected arguments it also writes why they are rejected.
-fn report(rt: &HostRuntime, status: Status, words: &[String]) {
-    if status == Status::Usage {
-        if let Ok(text) = usage_text(rt.alloc(), words) {
-            let _ = rt.stderr().write_all(text.bytes());
-            return;
-        }
-    }
-    report_status(rt, status);
-}
-
 /// Runs a script over the files of the current folder, with replies to standard output. The lines of a reply are
 /// buffered up to some kilobytes or the end of the reply. If the run was stopped, the buffered output is written before
 /// the status is chosen, so a failure of that write also counts as a write failure. Output is not retried after a
@@ -166,7 +118,7 @@ fn run_over<R: Threads + Sync + Files + AllocGlobal + Print, S: Source>(
 }
 
 fn main(rt: HostRuntime) -> io::Result<ExitCode> {
-    let status = match words_of(&rt) {
+    let status = match arguments(&rt) {
         Ok(words) => {
             let mut script = StdSource::new(rt.reader());
             let status = run_over(&rt, &words, &mut script);
@@ -178,6 +130,5 @@ fn main(rt: HostRuntime) -> io::Result<ExitCode> {
             status
         }
     };
-    let (_, number) = name_of(status);
-    Ok(ExitCode::from(number))
+    Ok(ExitCode::from(status.number()))
 }

@@ -11,7 +11,7 @@
 //! number of the next line is shown on standard error. The lines are executed by `talk` of span_talk; this crate reads
 //! the arguments, and passes it standard input, standard output and the files of the current folder.
 //!
-//! Proved: The number of each status, and its possible causes.
+//! Proved: The possible causes of each status.
 //!
 //! Tested: Its stored run; all cases, whole and in pieces; prompts at a terminal.
 #![tactic(auto)]
@@ -19,35 +19,22 @@
 ghost use Rattle.std.specs.Prelude.{◌≡◌, ◌≤◌, ◌<◌, IfErr, IfOk, map, string_bytes};
 ghost use Rattle.edge_io.specs.Causes.{HasIncreased};
 ghost use Rattle.span_words.specs.Words.{Refused, Words};
-ghost use Rattle.span_run.specs.Exit.{exit_of};
 
 use edge_io::{DirShelf, Sink, Source, StdSink, StdSource, SureSource};
-use span_run::{Status, usage_text};
+use program_report::{arguments, report, report_status};
+use span_run::Status;
 use span_talk::{Client, Listener, talk};
 use span_types::Steps;
 use span_words::{Options, WordsRefusal, read_words};
 use std::alloc::Global;
-use std::io::{ErrorKind, IsTerminal, Print, Write};
+use std::io::{self, IsTerminal, Print};
 use std::marker::Brand;
 use std::process::ExitCode;
-use std::rt::{Env, Files, Stderr};
+use std::rt::{Files, Stderr};
 use std::sync::ledger::{Blank, Ledger};
 use std::thread::Threads;
-use std::{env, io};
 use text_gen::demo;
 use work_gate::OpenGate;
-
-/// The arguments after the program's name. An argument that is not valid text is a usage error.
-fn words_of(rt: &(impl Env + AllocGlobal)) -> Result<Vec<String>, Status> {
-    match env::args(rt) {
-        Ok(args) => match args.skip(1).collect(rt.alloc()) {
-            Ok(words) => Ok(words),
-            Err(_) => Err(Status::NoMemory),
-        },
-        Err(error) if error.kind() == ErrorKind::OutOfMemory => Err(Status::NoMemory),
-        Err(_) => Err(Status::Usage),
-    }
-}
 
 /// Parses the arguments. Returns the options, or the status with which the run ends.
 fn options_of(alloc: Global, words: &[String]) -> Result<Options, Status>
@@ -58,22 +45,6 @@ fn options_of(alloc: Global, words: &[String]) -> Result<Options, Status>
         Ok(options) => Ok(options),
         Err(WordsRefusal::Usage) => Err(Status::Usage),
         Err(WordsRefusal::NoMemory) => Err(Status::NoMemory),
-    }
-}
-
-/// The name and the number of a status.
-fn name_of(status: Status) -> (&'static str, u8)
-    ensures { result.1 ≡ exit_of status }
-{
-    match status {
-        Status::Done => ("Done", 0),
-        Status::SomeRefused => ("SomeRefused", 1),
-        Status::Usage => ("Usage", 2),
-        Status::ScriptFault => ("ScriptFault", 3),
-        Status::OutFault => ("OutFault", 4),
-        Status::ShelfFault => ("ShelfFault", 5),
-        Status::NoMemory => ("NoMemory", 6),
-        Status::ScriptTooLong => ("ScriptTooLong", 7),
     }
 }
 
@@ -159,27 +130,8 @@ fn prompts_of(rt: &HostRuntime) -> Option<Stderr> {
     }
 }
 
-/// Writes the name of a status to standard error, if the conversation was stopped.
-fn report_status(rt: &HostRuntime, status: Status) {
-    let (word, number) = name_of(status);
-    if number >= 2 {
-        let _ = eprintln!(rt; "spanbase: {word}");
-    }
-}
-
-/// Writes to standard error how a conversation ended. For rejected arguments it also writes why they are rejected.
-fn report(rt: &HostRuntime, status: Status, words: &[String]) {
-    if status == Status::Usage {
-        if let Ok(text) = usage_text(rt.alloc(), words) {
-            let _ = rt.stderr().write_all(text.bytes());
-            return;
-        }
-    }
-    report_status(rt, status);
-}
-
 fn main(rt: HostRuntime) -> io::Result<ExitCode> {
-    let status = match words_of(&rt) {
+    let status = match arguments(&rt) {
         Ok(words) => {
             let status = match options_of(rt.alloc(), &words) {
                 Ok(options) => match options.demo {
@@ -199,6 +151,5 @@ fn main(rt: HostRuntime) -> io::Result<ExitCode> {
             status
         }
     };
-    let (_, number) = name_of(status);
-    Ok(ExitCode::from(number))
+    Ok(ExitCode::from(status.number()))
 }
