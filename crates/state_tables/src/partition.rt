@@ -205,6 +205,13 @@ impl SharedPartition {
         &Deref::deref(&self.partition).classes
     }
 
+    /// Whether each state has the same class in the other partition.
+    pub(crate) fn has_classes_of(&self, other: &SharedPartition) -> bool
+        ensures { IsTrue result ↔ self.now ≡ other.now }
+    {
+        are_same(self.classes(), other.classes())
+    }
+
     /// The partition in which each class goes to a new one.
     ///
     /// # Errors
@@ -314,6 +321,6 @@ impl Digested for SharedPartition {
     }
 
     fn is_same(&self, other: &SharedPartition) -> bool {
-        self.digest() == other.digest() && are_same(self.classes(), other.classes())
+        self.digest() == other.digest() && self.has_classes_of(other)
     }
 }

@@ -119,7 +119,7 @@ impl Table {
     fn has_form_of(&self, other: &Table) -> bool
         ensures { OnTrue result (self.now ≡ other.now) }
     {
-        self.partition.classes() == other.partition.classes() && self.rows.is_same(&other.rows)
+        self.partition.has_classes_of(&other.partition) && self.rows.is_same(&other.rows)
     }
 }
 
