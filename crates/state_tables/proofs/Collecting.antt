@@ -1,5 +1,5 @@
 -- What rows reach, one row at a time.
-use Rattle.std.proofs.Common.{zero, suc, ◌≡◌, ◌≢◌, ℕ, ◌+◌, ◌-◌, ◌*◌, ◌<◌, ◌≤◌, ◌/◌, ◌%◌, ◌^◌, ◌==◌, inl, inr, Bool, true, false, refl, ap, sym, ◌∙◌, arith, bit_or, List, [], ◌∷◌, length, drop, get_or, set, length-set, get_or-set_other, Option, Some, None, add-zero}
+use Rattle.std.proofs.Common.{zero, suc, ◌≡◌, ◌≢◌, ℕ, ◌+◌, ◌-◌, ◌*◌, ◌<◌, ◌≤◌, ◌/◌, ◌%◌, ◌^◌, ◌==◌, inl, inr, Bool, true, false, ◌||◌, refl, ap, sym, ◌∙◌, arith, bit_or, List, [], ◌∷◌, length, drop, get_or, Option, Some, None, add-zero}
 use Rattle.std.specs.Prelude.{if◌then◌else◌}
 use Rattle.std.specs.Int.{bit_at}
 use Rattle.std.specs.Int.Bits.{or_self, or_zero_r}
@@ -12,7 +12,8 @@ use Rattle.state_tables.specs.StateSetLaws.{member-words}
 use Rattle.state_tables.specs.Table.{Row, no_row, reach, reached_of, row_at}
 use Rattle.state_tables.specs.Coded.{RowList, code_of, step_of, table_of}
 use Rattle.state_tables.specs.Reached.{IsCollecting}
-use Rattle.state_tables.proofs.StateSets.{member-bit, or_assoc, or_swap}
+use Rattle.state_tables.proofs.Members.{not-both}
+use Rattle.state_tables.proofs.StateSets.{member-bit, member-or, member-zero, member-single_other, or_assoc, or_swap}
 use Rattle.state_tables.proofs.Reach.{reach-same, reach-none, reach-take}
 
 -- ---- one row
@@ -36,27 +37,36 @@ row-none row old code e z = none-case row.unmarked old row.marked code e z
 or-kept : (a b c : ℕ) → bit_or a c ≡ a → bit_or (bit_or a b) c ≡ bit_or a b
 or-kept a b c e = or_assoc a b c ∙ or_swap a b c ∙ ap (bit_or b) e ∙ or_comm b a
 
--- the set has what the marked rows reach
-abbrev pub AreTaken : List Row → List Bool → ℕ → Type 0
-AreTaken rows taken set = (k : ℕ) → get_or taken k false ≡ true → bit_or set (reached_of (row_at rows k)) ≡ set
+-- the set has what the taken rows reach
+abbrev pub AreTaken : List Row → ℕ → ℕ → Type 0
+AreTaken rows taken set = (k : ℕ) → member taken k ≡ true → bit_or set (reached_of (row_at rows k)) ≡ set
 
-pub taken-more : (rows : List Row) (taken : List Bool) (old row : ℕ) → AreTaken rows taken old → AreTaken rows (set taken row true) (bit_or old (reached_of (row_at rows row)))
+or-false : (b : Bool) → (b || false) ≡ b
+or-false true = refl
+or-false false = refl
+
+pub taken-more : (rows : List Row) (taken old row : ℕ) → AreTaken rows taken old → AreTaken rows (bit_or taken (2 ^ row)) (bit_or old (reached_of (row_at rows row)))
 taken-more rows taken old row are = λ k h. elim (cases_eq k row) [
   | inl e ↦
       let r = reached_of (row_at rows row) in
       ap (λ n. bit_or (bit_or old r) (reached_of (row_at rows n))) e ∙ or_assoc old r r ∙ ap (bit_or old) (or_self r)
-  | inr ne ↦ or-kept old (reached_of (row_at rows row)) (reached_of (row_at rows k)) (are k (sym (get_or-set_other taken row k true false ne) ∙ h))
+  | inr ne ↦ or-kept old (reached_of (row_at rows row)) (reached_of (row_at rows k)) (are k (sym (member-or taken (2 ^ row) k ∙ ap (λ b. member taken k || b) (member-single_other row k ne) ∙ or-false (member taken k)) ∙ h))
 ]
 
-pub collecting-more : (cs : List ℕ) (list : RowList) (ws vs : List ℕ) (taken : List Bool) (row : ℕ) → IsCollecting cs list ws taken → length vs ≡ length ws
-    → number_of_words vs ≡ bit_or (number_of_words ws) (reached_of (row_at list.rows row)) → IsCollecting cs list vs (set taken row true)
-collecting-more cs list ws vs taken row is long value = record {
+-- no row is taken
+pub none-taken : (rows : List Row) (taken set : ℕ) → taken ≡ 0 → AreTaken rows taken set
+none-taken rows taken set e = λ k h. not-both (member taken k) h (ap (λ s. member s k) e ∙ member-zero k)
+
+pub collecting-more : (cs : List ℕ) (list : RowList) (ws vs taken more : List ℕ) (row : ℕ) → IsCollecting cs list ws taken → length vs ≡ length ws
+    → number_of_words vs ≡ bit_or (number_of_words ws) (reached_of (row_at list.rows row)) → length more ≡ length taken
+    → number_of_words more ≡ bit_or (number_of_words taken) (2 ^ row) → IsCollecting cs list vs more
+collecting-more cs list ws vs taken more row is long value marks added = record {
   room = record {
     states = is.room.states;
     width = long ∙ is.room.width;
-    marks = length-set taken row true ∙ is.room.marks;
+    marks = marks ∙ is.room.marks;
   };
-  has_taken = rw value (taken-more list.rows taken (number_of_words ws) row is.has_taken);
+  has_taken = rw (value, added) (taken-more list.rows (number_of_words taken) (number_of_words ws) row is.has_taken);
 }
 
 -- the row of a state

@@ -1,7 +1,8 @@
 -- Unions of sets that are known already.
-use Rattle.std.proofs.Common.{◌≡◌, ℕ, ◌+◌, ◌-◌, ◌<◌, inl, inr, ap, sym, subst, ◌∙◌, arith, List, [], ◌∷◌, length, get_or, set, replicate, get_or-set_other}
+use Rattle.std.proofs.Common.{zero, suc, ◌≡◌, ℕ, ◌+◌, ◌-◌, ◌<◌, inl, inr, ap, sym, subst, ◌∙◌, arith, List, [], ◌∷◌, length, get_or, set, replicate, get_or-set_other}
 use Rattle.std.proofs.lemmas.Bool.{cases_eq, cases_lt}
-use Rattle.std.proofs.lemmas.List.{get_or-replicate, get_or-set_same, get_or_append_left, get_or_default, get_or_past, length-append, length-replicate}
+use Rattle.std.proofs.lemmas.List.{get_or-replicate, get_or-set_same, get_or_append_left, get_or_past, length-append, length-replicate, set_past}
+use Rattle.state_tables.specs.Coded.{set_beyond}
 use Rattle.state_tables.specs.RowSet.{IsSetAt, TakesSet}
 use Rattle.state_tables.specs.Unions.{AreUnions, IsKnownUnion, UnionMemo, no_union, union_of}
 use Rattle.state_tables.specs.declared.unions.Union.{Union}
@@ -32,9 +33,12 @@ unions-kept m rights old new x takes are = λ s k h. set-kept old new x _ k take
 
 -- and when a slot gets one that is known
 pub unions-set : (images rights sets : List ℕ) (slots : List Union) (slot : ℕ) (u : Union) → ((s : ℕ) → IsKnownUnion images rights sets (get_or slots s no_union))
-    → slot < length slots → IsKnownUnion images rights sets u → (s : ℕ) → IsKnownUnion images rights sets (get_or (set slots slot u) s no_union)
-unions-set images rights sets slots slot u are lt is = λ s. elim (cases_eq s slot) [
-  | inl e ↦ known-of images rights sets u (get_or (set slots slot u) s no_union) (ap (λ n. get_or (set slots slot u) n no_union) e ∙ get_or-set_same slots slot u no_union lt) is
+    → IsKnownUnion images rights sets u → (s : ℕ) → IsKnownUnion images rights sets (get_or (set slots slot u) s no_union)
+unions-set images rights sets slots slot u are is = λ s. elim (cases_eq s slot) [
+  | inl e ↦ elim (cases_lt slot (length slots)) [
+    | inl lt ↦ known-of images rights sets u (get_or (set slots slot u) s no_union) (ap (λ n. get_or (set slots slot u) n no_union) e ∙ get_or-set_same slots slot u no_union lt) is
+    | inr ge ↦ known-of images rights sets (get_or slots s no_union) (get_or (set slots slot u) s no_union) (ap (λ l. get_or l s no_union) (set_past slots slot u ge)) (are s)
+  ]
   | inr ne ↦ known-of images rights sets (get_or slots s no_union) (get_or (set slots slot u) s no_union) (get_or-set_other slots slot s u no_union ne) (are s)
 ]
   where
@@ -49,9 +53,16 @@ union-known images rights sets image beyond index value e is = λ k h.
     subst (IsSetAt sets (union_of images rights image beyond)) at (subst (λ v. IsSetAt sets v index) e is)
 
 -- the union that is found in a slot
-pub union-found : (m : UnionMemo) (rights sets : List ℕ) (slots : List Union) (slot image beyond : ℕ) (known : Union) → slots ≡ m.slots → slot < length slots → known ≡ get_or slots slot known
-    → AreUnions m rights sets → 0 < known.union → known.image ≡ image → known.beyond ≡ beyond → IsSetAt sets (union_of m.images rights image beyond) (known.union - 1)
-union-found m rights sets slots slot image beyond known e lt at are some left right =
-    let read : get_or m.slots slot no_union ≡ known = ap (λ l. get_or l slot no_union) (sym e) ∙ get_or_default slots slot no_union known lt ∙ sym at in
-    let is : IsKnownUnion m.images rights sets known = subst (IsKnownUnion m.images rights sets) read (are slot) in
+pub union-found : (m : UnionMemo) (rights sets : List ℕ) (slots : List Union) (slot image beyond : ℕ) → slots ≡ m.slots → AreUnions m rights sets → 0 < (get_or slots slot no_union).union
+    → (get_or slots slot no_union).image ≡ image → (get_or slots slot no_union).beyond ≡ beyond → IsSetAt sets (union_of m.images rights image beyond) ((get_or slots slot no_union).union - 1)
+union-found m rights sets slots slot image beyond e are some left right =
+    let known = get_or slots slot no_union in
+    let is : IsKnownUnion m.images rights sets (get_or slots slot no_union) = subst (λ l. IsKnownUnion m.images rights sets (get_or l slot no_union)) (sym e) (are slot) in
     rw (sym left, sym right) (is (known.union - 1) (omega (arith, some)))
+
+-- the set one before an index
+pub beyond-set : (sets : List ℕ) (beyond : ℕ) → 0 < beyond → get_or sets (beyond - 1) 0 ≡ set_beyond sets beyond
+beyond-set sets zero lt = absurd (omega (arith, lt))
+beyond-set sets (suc k) lt =
+    let at : suc k - 1 ≡ k = omega arith in
+    ap (λ n. get_or sets n 0) at

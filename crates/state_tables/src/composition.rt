@@ -10,6 +10,7 @@ ghost use Rattle.state_tables.specs.Meaning.{IsTable};
 use crate::reached::{reach_set, step_over};
 use crate::row_set::RowSet;
 use crate::sets::Sets;
+use crate::state_set::MAX_WORDS;
 use crate::table::Table;
 use crate::table_rows::{CodedRow, TableRows};
 use crate::unions::Unions;
@@ -53,12 +54,14 @@ fn images_of(
       sets = map (λ set. reach set 0 (table_of classes.now (list_of rows.now).rows)) left.now.sets;
     }) }
 {
-    let mut words = vec![in alloc; 0; rows.width()]?;
-    let mut taken = vec![in alloc; false; rows.len()]?;
+    let mut state_room = [0; MAX_WORDS];
+    let words = &mut state_room[..rows.width()];
+    let mut row_room = [0; MAX_WORDS];
+    let taken = &mut row_room[..rows.width()];
     let mut images = Sets::with_capacity(alloc, rows.width(), left.set_count())?;
     for set in 0..left.set_count() {
-        reach_set(&mut words, &mut taken, left.set(set).words(), classes, rows);
-        images.push(&words)?;
+        reach_set(words, taken, left.set(set).words(), classes, rows);
+        images.push(words)?;
     }
     Ok(images)
 }
@@ -87,7 +90,7 @@ fn compose_rows(
     ensures placed { IfOk result (λ places. AreRowsAt (λ k. compose_row (table_of classes.now (list_of rows.now).rows) (row_at (list_of left.now).rows k))
         (length (list_of left.now).rows) (length classes.now) places.items (list_of found.new)) }
 {
-    let mut unions = Unions::new(alloc, images)?;
+    let mut unions = Unions::new(images);
     let mut places = Vec::with_capacity(alloc, left.len())?;
     for row in 0..left.len() {
         let (code, beyond) = step_over(left.code(row), classes, rows);

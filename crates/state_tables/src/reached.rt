@@ -1,6 +1,6 @@
 //! What rows reach, collected in one set.
 
-ghost use Rattle.std.specs.Prelude.{◌≡◌, ℕ, ◌+◌, ◌-◌, ◌*◌, ◌^◌, ◌<◌, ◌≤◌, Some, bit_or, drop, false, get_or, length, true};
+ghost use Rattle.std.specs.Prelude.{◌≡◌, ℕ, ◌+◌, ◌-◌, ◌*◌, ◌^◌, ◌<◌, ◌≤◌, Some, bit_or, drop, length, true};
 ghost use Rattle.std.specs.Int.{bit_at};
 ghost use Rattle.marker_dfa.specs.Deterministic.{and_then};
 ghost use Rattle.state_tables.specs.StateSet.{member, number_of_words};
@@ -9,7 +9,7 @@ ghost use Rattle.state_tables.specs.Coded.{list_of, set_beyond, step_of, table_o
 ghost use Rattle.state_tables.specs.Classed.{IsClassed};
 ghost use Rattle.state_tables.specs.Reached.{HasRoom, IsCollecting};
 
-use crate::state_set::{add, add_all, clear, least, without};
+use crate::state_set::{add, add_all, bit, clear, least, without};
 use crate::table_rows::TableRows;
 
 const WORD_BITS: usize = 64;
@@ -30,23 +30,23 @@ fn add_row(words: &mut [u64], rows: &TableRows, row: usize)
 }
 
 // Adds all that the state reaches, unless the row of its class is taken already.
-fn add_state(words: &mut [u64], taken: &mut [bool], classes: &[u16], rows: &TableRows, q: usize)
+fn add_state(words: &mut [u64], taken: &mut [u64], classes: &[u16], rows: &TableRows, q: usize)
     requires collecting { IsCollecting classes.now (list_of rows.now) words.old taken.old }
     requires state { q < length classes.now }
     ensures value { number_of_words words.new ≡ bit_or (number_of_words words.old) (reached_of (row_at (table_of classes.now (list_of rows.now).rows) q)) }
     ensures collecting { IsCollecting classes.now (list_of rows.now) words.new taken.new }
 {
-    let row = classes[q] as usize;
-    if !taken[row] {
-        taken[row] = true;
-        add_row(words, rows, row);
+    let row = classes[q];
+    if bit(taken, row) == 0 {
+        add(taken, row);
+        add_row(words, rows, row as usize);
     }
 }
 
 // Adds all that the states of one word reach, of which the first one is `first`.
 fn add_word(
     words: &mut [u64],
-    taken: &mut [bool],
+    taken: &mut [u64],
     classes: &[u16],
     rows: &TableRows,
     first: usize,
@@ -66,7 +66,7 @@ fn add_word(
 }
 
 // Adds all that the states of the set reach.
-fn add_set(words: &mut [u64], taken: &mut [bool], classes: &[u16], rows: &TableRows, set: &[u64])
+fn add_set(words: &mut [u64], taken: &mut [u64], classes: &[u16], rows: &TableRows, set: &[u64])
     requires collecting { IsCollecting classes.now (list_of rows.now) words.old taken.old }
     requires short { length set.now ≤ 16 }
     requires states { (q : ℕ) → member (number_of_words set.now) q ≡ true → q < length classes.now }
@@ -78,20 +78,11 @@ fn add_set(words: &mut [u64], taken: &mut [bool], classes: &[u16], rows: &TableR
     }
 }
 
-// Removes all marks.
-fn forget(taken: &mut [bool])
-    ensures none { (k : ℕ) → get_or taken.new k false ≡ false }
-    ensures marks { length taken.new ≡ length taken.old }
-{
-    for mark in taken.iter_mut() {
-        *mark = false;
-    }
-}
-
-/// What a set reaches over the right text. Each row of the right text is added at most once.
+/// What a set reaches over the right text. Each row of the right text is added at most once: `taken` is room for the set
+/// of those that were.
 pub(crate) fn reach_set(
     words: &mut [u64],
-    taken: &mut [bool],
+    taken: &mut [u64],
     set: &[u64],
     classes: &[u16],
     rows: &TableRows,
@@ -103,7 +94,7 @@ pub(crate) fn reach_set(
     ensures room { HasRoom classes.now (list_of rows.now) words.new taken.new }
 {
     clear(words);
-    forget(taken);
+    clear(taken);
     add_set(words, taken, classes, rows, set);
 }
 

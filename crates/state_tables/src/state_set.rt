@@ -7,6 +7,9 @@ ghost use Rattle.state_tables.specs.StateSetView.{set_of, width_of};
 
 const WORD_BITS: u16 = 64;
 
+/// The most words of a set: an automaton has at most 1,024 states.
+pub(crate) const MAX_WORDS: usize = 16;
+
 /// A set of states, as words of 64 bits. Bit q % 64 of word q / 64 says whether state q is in the set.
 #[derive(Clone, Copy)]
 pub struct StateSet<'a> {
@@ -52,8 +55,8 @@ impl<'a> StateSet<'a> {
     }
 }
 
-// The bit of the state in these words.
-fn bit(words: &[u64], q: u16) -> u64
+/// The bit of the state in these words.
+pub(crate) fn bit(words: &[u64], q: u16) -> u64
     ensures { result ≡ bit_at (number_of_words words.now) q }
 {
     let index = (q / WORD_BITS) as usize;

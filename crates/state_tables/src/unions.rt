@@ -8,10 +8,9 @@ ghost use Rattle.state_tables.specs.Unions.{AreUnions, union_of};
 
 use crate::row_set::RowSet;
 use crate::sets::Sets;
-use crate::state_set::{add_all, clear};
+use crate::state_set::{MAX_WORDS, add_all};
 use crate::table_rows::TableRows;
 use span_types::NoMemory;
-use std::alloc::Global;
 use std::marker::Model;
 
 /// The union of an image and a set of the right text: the indices of both, and one more than its own index, or 0.
@@ -29,41 +28,36 @@ const SLOTS: usize = 64;
 #[derive(Drop)]
 pub(crate) struct Unions {
     images: Sets,
-    words: Vec<u64>,
-    slots: Vec<Union>,
+    slots: [Union; SLOTS],
 }
 
 impl Model for Unions {
-    ghost use Rattle.std.specs.Prelude.{◌≡◌, length};
+    ghost use Rattle.std.specs.Prelude.{◌≡◌, ◌≤◌};
     ghost use Rattle.state_tables.specs.Unions.{UnionMemo};
 
     ghost Value = { UnionMemo };
 
-    ghost view = { λ u. record { width = u.images.width; images = u.images.sets; slots = u.slots.items } };
+    ghost view = { λ u. record { width = u.images.width; images = u.images.sets; slots = u.slots } };
 
-    ghost invariant = { λ u. (length u.words.items ≡ u.images.width) × (length u.slots.items ≡ 64) };
+    ghost invariant = { λ u. u.images.width ≤ 16 };
 }
 
 impl Unions {
-    /// No unions of these images yet.
-    ///
-    /// # Errors
-    ///
-    /// `NoMemory` if allocation fails.
-    pub(crate) fn new(alloc: Global, images: Sets) -> Result<Unions, NoMemory>
-        ensures images { IfOk result (λ u. u ≡ record u { width = images.width; images = images.sets }) }
-        ensures none { IfOk result (λ u. (rights sets : List ℕ) → AreUnions u rights sets) }
+    /// No unions of these images yet. Nothing is allocated.
+    pub(crate) fn new(images: Sets) -> Unions
+        requires { images.width ≤ 16 }
+        ensures images { result ≡ record result { width = images.width; images = images.sets } }
+        ensures none { (rights sets : List ℕ) → AreUnions result rights sets }
     {
         let none = Union {
             image: 0,
             beyond: 0,
             union: 0,
         };
-        Ok(Unions {
-            words: vec![in alloc; 0; images.width()]?,
+        Unions {
             images,
-            slots: vec![in alloc; none; SLOTS]?,
-        })
+            slots: [none; SLOTS],
+        }
     }
 
     /// The index among the found sets of the union of an image and a set of the right text. It is added if it isn't there.
@@ -96,8 +90,10 @@ impl Unions {
         if known.union > 0 && known.image == image && known.beyond == beyond {
             return Ok(known.union - 1);
         }
-        unite(&mut self.words, &self.images, rows, image, beyond);
-        let index = found.set_of(&self.words)?;
+        let mut room = [0; MAX_WORDS];
+        let words = &mut room[..self.images.width()];
+        unite(words, &self.images, rows, image, beyond);
+        let index = found.set_of(words)?;
         self.slots[slot] = Union {
             image,
             beyond,
@@ -116,11 +112,10 @@ fn unite(words: &mut [u64], images: &Sets, rows: &TableRows, image: u16, beyond:
     ensures value { number_of_words words.new ≡ union_of images.now.sets rows.now.sets image beyond }
     ensures width { length words.new ≡ length words.old }
 {
-    clear(words);
+    words.copy_from_slice(images.words(image as usize));
     if beyond > 0 {
         add_all(words, rows.set((beyond - 1) as usize).words());
     }
-    add_all(words, images.words(image as usize));
 }
 
 // The slot of a union.

@@ -17,10 +17,10 @@ pub loop-row-init : goal.loop-row-init
 loop-row-init c =
     let t = table_of c.args.classes.now (list_of c.args.rows.now).rows in
     record {
-      images = ap (λ u. u.images) c.in_ok-unions.ensures.images ∙ ap (λ i. i.sets) c.requires.images;
-      memo_width = ap (λ u. u.width) c.in_ok-unions.ensures.images ∙ ap (λ i. i.width) c.requires.images;
+      images = ap (λ u. u.images) c.new-unions.ensures.images ∙ ap (λ i. i.sets) c.requires.images;
+      memo_width = ap (λ u. u.width) c.new-unions.ensures.images ∙ ap (λ i. i.width) c.requires.images;
       width = ap (λ f. f.width) c.requires.empty;
-      unions = c.in_ok-unions.ensures.none c.args.rows.now.sets c.args.found.now.sets;
+      unions = c.new-unions.ensures.none c.args.rows.now.sets c.args.found.now.sets;
       few = omega (arith, ap (λ f. length f.sets) c.requires.empty);
       within = rw c.requires.empty (sets-none (length c.args.classes.now));
       placed = rw (c.in_ok-places.ensures.items, c.requires.empty) (placed-none (λ k. compose_row t (row_at (list_of c.args.left.now).rows k)) (length c.args.classes.now) c.args.rows.now.width);
