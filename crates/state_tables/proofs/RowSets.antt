@@ -1,5 +1,5 @@
 -- Sets and rows that are found by numbers.
-use Rattle.std.proofs.Common.{suc, ◌≡◌, ℕ, ◌<◌, ◌+◌, ◌⊎◌, inl, inr, Result, Ok, Err, OnOk, OnErr, refl, ap, sym, subst, ◌∙◌, arith, List, [], ◌∷◌, ◌++◌, length, length-set, map, get_or, set, get_or-set_same, get_or-set_other}
+use Rattle.std.proofs.Common.{suc, ◌≡◌, ℕ, ◌<◌, ◌+◌, ◌⊎◌, inl, inr, Result, Ok, Err, OnOk, OnErr, refl, ap, sym, subst, ◌∙◌, arith, List, [], ◌∷◌, ◌++◌, length, map, get_or, set, get_or-set_same, get_or-set_other}
 use Rattle.std.proofs.lemmas.Bool.{cases_eq, cases_lt}
 use Rattle.std.proofs.lemmas.List.{get_or_append_left, get_or_push, length-map, length_push, map-append, set_past}
 use Rattle.state_tables.specs.StateSet.{AreWords, number_of_words, words_of}
@@ -61,7 +61,6 @@ index-push list ds slots s d n is digest =
             let here : length list.sets ≡ k = omega (arith, ge, lt, longer) in
             get_or_push ds d 0 k (omega (arith, here, is.as_long)) ∙ digest ∙ ap (λ x. set_digest (words_of list.width x)) (sym (get_or_push list.sets n 0 k here))
       ];
-      some = omega (arith, is.some, length-set slots s (length list.sets + 1));
       within = λ x. elim (set-either slots s (length list.sets + 1) x) [
         | inl e ↦ omega (arith, e, longer)
         | inr e ↦ omega (arith, e, is.within x, longer)
@@ -82,7 +81,6 @@ set-push list ns slots s n row is number =
             let here : length list.rows ≡ k = omega (arith, ge, lt, longer) in
             get_or_push ns n 0 k (omega (arith, here, is.as_long)) ∙ number ∙ ap (row_number list.width) (sym (get_or_push list.rows row no_row k here))
       ];
-      some = omega (arith, is.some, length-set slots s (length list.rows + 1));
       within = λ x. elim (set-either slots s (length list.rows + 1) x) [
         | inl e ↦ omega (arith, e, longer)
         | inr e ↦ omega (arith, e, is.within x, longer)

@@ -12,7 +12,6 @@ use Rattle.state_tables.specs.declared.slot.Slot.TheVariants.{Free, Taken}
 pub record IsRowSet (list : RowList) (numbers slots : List ℕ) : Type 0 where
   pub as_long : length numbers ≡ length list.rows
   pub numbers_are : (k : ℕ) → k < length list.rows → slice_index_or numbers k 0 ≡ row_number list.width (row_at list.rows k)
-  pub some : 0 < length slots
   pub within : (s : ℕ) → slice_index_or slots s 0 ≤ length list.rows
 
 -- there is a row k, and it is this one
@@ -20,9 +19,9 @@ abbrev pub IsRowAt : RowList → Row → ℕ → Type 0
 IsRowAt list row k = (k < length list.rows) × (row_at list.rows k ≡ row)
 
 -- where the search for the row ends
-abbrev pub IsCodedSlot : List CodedRow → List ℕ → CodedRow → Slot → Type 0
-IsCodedSlot rows slots row (Taken k) = (k < length rows) × (coded_at rows k ≡ row)
-IsCodedSlot rows slots row (Free s) = s < length slots
+abbrev pub IsCodedSlot : List CodedRow → CodedRow → Slot → Type 0
+IsCodedSlot rows row (Taken k) = (k < length rows) × (coded_at rows k ≡ row)
+IsCodedSlot rows row (Free s) = Unit
 
 -- the rows are unchanged, or this one is added last
 abbrev pub TakesRow : RowList → RowList → Row → Type 0
@@ -32,7 +31,6 @@ TakesRow old new row = (new ≡ old) ⊎ (new ≡ with_row old row)
 pub record IsSetIndex (list : SetList) (digests slots : List ℕ) : Type 0 where
   pub as_long : length digests ≡ length list.sets
   pub digests_are : (k : ℕ) → k < length list.sets → slice_index_or digests k 0 ≡ set_digest (words_of list.width (slice_index_or list.sets k 0))
-  pub some : 0 < length slots
   pub within : (s : ℕ) → slice_index_or slots s 0 ≤ length list.sets
 
 -- there is a set k, and it is this one
@@ -40,9 +38,9 @@ abbrev pub IsSetAt : List ℕ → ℕ → ℕ → Type 0
 IsSetAt sets set k = (k < length sets) × (slice_index_or sets k 0 ≡ set)
 
 -- where the search for the set ends
-abbrev pub IsSetSlot : List ℕ → List ℕ → ℕ → Slot → Type 0
-IsSetSlot sets slots set (Taken k) = IsSetAt sets set k
-IsSetSlot sets slots set (Free s) = s < length slots
+abbrev pub IsSetSlot : List ℕ → ℕ → Slot → Type 0
+IsSetSlot sets set (Taken k) = IsSetAt sets set k
+IsSetSlot sets set (Free s) = Unit
 
 -- the sets are unchanged, or this one is added last
 abbrev pub TakesSet : List ℕ → List ℕ → ℕ → Type 0

@@ -8,13 +8,15 @@ ghost use Rattle.state_tables.specs.RowSet.{IsSetAt, IsSetIndex, IsSetSlot, Take
 
 use crate::digest::set_digest;
 use crate::sets::Sets;
-use crate::slot::{Slot, next};
+use crate::slot::{Slot, fill, next, slot_count};
+use crate::state_set::is_same;
 use span_types::NoMemory;
 use std::alloc::Global;
 use std::marker::Model;
 
 /// Sets in the order in which they were added, none of them twice. It is a hash table with at least two slots for each
-/// set for which there is room, and their number is a power of two. A lookup takes expected constant time.
+/// set for which there is room, and their number is a power of two. Where there is room for few sets, it has no slots, and
+/// a lookup compares the digest of each set. So a lookup takes expected constant time.
 #[derive(Drop)]
 pub(crate) struct DistinctSets {
     sets: Sets,
@@ -44,11 +46,12 @@ impl DistinctSets {
     ) -> Result<DistinctSets, NoMemory>
         ensures { IfOk result (λ s. s ≡ record { width = width; sets = [] }) }
     {
+        let slots = slot_count(sets);
         let sets = sets as usize;
         Ok(DistinctSets {
             sets: Sets::with_capacity(alloc, width, sets)?,
             digests: Vec::with_capacity(alloc, sets)?,
-            slots: vec![in alloc; 0; (2 * sets + 1).next_power_of_two()]?,
+            slots: vec![in alloc; 0; slots]?,
         })
     }
 
@@ -73,7 +76,7 @@ impl DistinctSets {
                 self.digests.reserve(1)?;
                 self.sets.push(words)?;
                 self.digests.push_reserved(digest);
-                self.slots[slot] = set + 1;
+                fill(&mut self.slots, slot, set);
                 Ok(set)
             }
         }
@@ -97,9 +100,14 @@ impl DistinctSets {
 
 // Finds the set with this digest and these words. If no slot is empty, the result may be any slot.
 fn find(sets: &Sets, digests: &[u128], slots: &[u16], digest: u128, words: &[u64]) -> Slot
-    requires { IsSetIndex sets.now digests.now slots.now }
-    ensures { IsSetSlot sets.now.sets slots.now (number_of_words words.now) result }
+    requires index { IsSetIndex sets.now digests.now slots.now }
+    requires width { length words.now ≡ sets.now.width }
+    requires few { length sets.now.sets < 2 ^ 16 }
+    ensures { IsSetSlot sets.now.sets (number_of_words words.now) result }
 {
+    if slots.is_empty() {
+        return find_among_few(sets, digests, digest, words);
+    }
     let mut slot = (digest & (slots.len() - 1) as u128) as usize;
     for _ in 0..slots.len() {
         let link = slots[slot];
@@ -107,10 +115,25 @@ fn find(sets: &Sets, digests: &[u128], slots: &[u16], digest: u128, words: &[u64
             return Slot::Free(slot);
         }
         let set = link - 1;
-        if digests[set as usize] == digest && sets.words(set as usize) == words {
+        if digests[set as usize] == digest && is_same(sets.words(set as usize), words) {
             return Slot::Taken(set);
         }
         slot = next(slot, slots.len());
     }
     Slot::Free(slot)
+}
+
+// Finds the set with this digest and these words where there are no slots.
+fn find_among_few(sets: &Sets, digests: &[u128], digest: u128, words: &[u64]) -> Slot
+    requires digests { length digests.now ≡ length sets.now.sets }
+    requires width { length words.now ≡ sets.now.width }
+    requires few { length sets.now.sets < 2 ^ 16 }
+    ensures { IsSetSlot sets.now.sets (number_of_words words.now) result }
+{
+    for set in 0..digests.len() {
+        if digests[set] == digest && is_same(sets.words(set), words) {
+            return Slot::Taken(set as u16);
+        }
+    }
+    Slot::Free(0)
 }

@@ -150,9 +150,9 @@ fn through(alloc: Global, classes: &[u16], places: &[u16]) -> Result<Vec<u16>, N
     requires { (p : ℕ) → p < length classes.now → get_or classes.now p 0 < length places.now }
     ensures { IfOk result (λ v. v.items ≡ map (λ c. get_or places.now c 0) classes.now) }
 {
-    let mut result = Vec::with_capacity(alloc, classes.len())?;
-    for class in classes {
-        result.push(places[*class as usize])?;
+    let mut result = vec![in alloc; 0; classes.len()]?;
+    for p in 0..classes.len() {
+        result[p] = places[classes[p] as usize];
     }
     Ok(result)
 }

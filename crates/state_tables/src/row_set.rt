@@ -12,7 +12,7 @@ ghost use Rattle.state_tables.specs.TableRows.{HaveSets};
 use crate::digest::{row_number, sum_digest};
 use crate::distinct_sets::DistinctSets;
 use crate::partition::SharedPartition;
-use crate::slot::{Slot, next};
+use crate::slot::{Slot, fill, next, slot_count};
 use crate::table_rows::{CodedRow, TableRows};
 use crate::table_sets::TableSets;
 use span_types::NoMemory;
@@ -20,8 +20,8 @@ use std::alloc::Global;
 use std::marker::Model;
 
 /// Rows in the order in which they were added, none of them twice, and the sets that they have, each once. It is a hash
-/// table with at least two slots for each row for which there is room, and their number is a power of two. A lookup takes
-/// expected constant time.
+/// table with at least two slots for each row for which there is room, and their number is a power of two. Where there is
+/// room for few rows, it has no slots, and a lookup compares each row. So a lookup takes expected constant time.
 #[derive(Drop)]
 pub(crate) struct RowSet {
     sets: DistinctSets,
@@ -49,12 +49,13 @@ impl RowSet {
         ensures { IfOk result (λ s. s ≡ record { width = width; sets = []; rows = [] }) }
     {
         let sets = DistinctSets::with_capacity(alloc, width, rows)?;
+        let slots = slot_count(rows);
         let rows = rows as usize;
         Ok(RowSet {
             sets,
             rows: Vec::with_capacity(alloc, rows)?,
             numbers: Vec::with_capacity(alloc, rows)?,
-            slots: vec![in alloc; 0; (2 * rows + 1).next_power_of_two()]?,
+            slots: vec![in alloc; 0; slots]?,
         })
     }
 
@@ -93,7 +94,7 @@ impl RowSet {
                 self.numbers.reserve(1)?;
                 self.rows.push(row)?;
                 self.numbers.push_reserved(number);
-                self.slots[slot] = index + 1;
+                fill(&mut self.slots, slot, index);
                 Ok(index)
             }
         }
@@ -134,11 +135,14 @@ impl RowSet {
 
 // Finds the row with this number, code and set. If no slot is empty, the result may be any slot.
 fn find(rows: &[CodedRow], numbers: &[u64], slots: &[u16], number: u64, row: CodedRow) -> Slot
-    requires some { 0 < length slots.now }
+    requires few { length rows.now < 2 ^ 16 }
     requires within { (s : ℕ) → get_or slots.now s 0 ≤ length rows.now }
     requires numbers { length numbers.now ≡ length rows.now }
-    ensures { IsCodedSlot rows.now slots.now row result }
+    ensures { IsCodedSlot rows.now row result }
 {
+    if slots.is_empty() {
+        return find_among_few(rows, row);
+    }
     let mut slot = (number & (slots.len() - 1) as u64) as usize;
     for _ in 0..slots.len() {
         let link = slots[slot];
@@ -152,6 +156,19 @@ fn find(rows: &[CodedRow], numbers: &[u64], slots: &[u16], number: u64, row: Cod
         slot = next(slot, slots.len());
     }
     Slot::Free(slot)
+}
+
+// Finds the row where there are no slots.
+fn find_among_few(rows: &[CodedRow], row: CodedRow) -> Slot
+    requires { length rows.now < 2 ^ 16 }
+    ensures { IsCodedSlot rows.now row result }
+{
+    for index in 0..rows.len() {
+        if is_at(rows, index, row) {
+            return Slot::Taken(index as u16);
+        }
+    }
+    Slot::Free(0)
 }
 
 // Whether this row is at the index.

@@ -1,5 +1,8 @@
-use Rattle.std.proofs.Common.{◌≡◌, map, take, get_or}
+use Rattle.std.proofs.Common.{◌≡◌, ℕ, ◌<◌, get_or, length}
 use Rattle.state_tables.proofs.partition.through.Given as goal
 
-abbrev pub invariant-loop-class : goal.invariant-loop-class
-invariant-loop-class l = l.result.items ≡ map (λ c. get_or l.places c 0) (take l.class-index l.classes)
+abbrev pub invariant-loop-p : goal.invariant-loop-p
+invariant-loop-p l = record {
+  long : length l.result.items ≡ length l.classes;
+  moved : (k : ℕ) → k < l.p → get_or l.result.items k 0 ≡ get_or l.places (get_or l.classes k 0) 0;
+}
