@@ -5,10 +5,10 @@ use Rattle.std.proofs.lemmas.Bool.{cases_eq, ne_eqb}
 use Rattle.std.proofs.lemmas.List.Elements.{All-head, All-push, All-tail, All-weaker}
 use Rattle.std.proofs.lemmas.List.Quantifiers.{all_pairs_push}
 use Rattle.std.proofs.lemmas.Bool.Decides.{eqb_tells}
-use Rattle.std.proofs.lemmas.List.{drop_all, get_or_default}
+use Rattle.std.proofs.lemmas.List.{drop_all}
 use Rattle.path_counts.specs.declared.count.Count.{Count}
 use Rattle.path_counts.specs.Paths.{most, stopped}
-use Rattle.path_counts.specs.Counting.{AreCounts, CountRow, no_row, number_in, number_onward, row_at}
+use Rattle.path_counts.specs.Counting.{AreCounts, number_in, number_onward}
 use Rattle.path_counts.proofs.Caps.{stop-sum_left, stop-sum_right}
 
 -- a number is added to that of a state
@@ -126,10 +126,7 @@ numbers-skip old i cs h is before q lt = elim (eqb_tells i q) [
   | inr e ↦ let below : q < i = grind (arith, lt, e.1) in before q below
 ]
 
--- ---- a row that was read
-pub row-read : (t : List CountRow) (p : ℕ) (row : CountRow) → p < length t → row ≡ get_or t p row → row_at t p ≡ row
-row-read t p row lt e = get_or_default t p no_row row lt ∙ sym e
-
+-- ---- a state, if any
 pub some-within : (o : Option ℕ) (n : ℕ) → ((q : ℕ) → o ≡ Some q → q < n) → IfSome o (λ q. q < n)
 some-within None n h = tt
 some-within (Some q) n h = h q refl
@@ -171,10 +168,6 @@ sums-two x a b c i j e f g h = h ∙ e ∙ ap (λ k. stopped (k + j)) f ∙ stop
 
 pub sums-one : (x a c i : ℕ) → x ≡ stopped (a + i) → a ≡ 0 → c ≡ x → c ≡ stopped i
 sums-one x a c i e g h = h ∙ e ∙ ap (λ k. stopped (k + i)) g ∙ ap stopped (zero-add i)
-
--- the same, of a row that was read behind a reference
-pub row-behind : (t rows now : List CountRow) (p : ℕ) (row : CountRow) → rows ≡ t → now ≡ rows → p < length now → row ≡ get_or now p row → row_at t p ≡ row
-row-behind t rows now p row e f lt is = rw (← e, ← f) (row-read now p row lt is)
 
 -- ---- numbers times what goes on from their states
 pub onward-step : (cs : List Count) (after : List ℕ) (i sum product total : ℕ) (d : Count) → i < length cs → product ≡ stopped ((get_or cs i d).number * get_or after (get_or cs i d).state 0) → total ≡ stopped (sum + product)

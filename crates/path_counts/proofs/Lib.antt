@@ -9,3 +9,4 @@ pub mod Rows
 pub mod Numbers
 pub mod Meanings
 pub mod Unmarked
+pub mod Placed

@@ -4,3 +4,4 @@ pub mod Digest
 pub mod Branch
 pub mod Runs
 pub mod Pushed
+pub mod Flat

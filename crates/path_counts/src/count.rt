@@ -2,10 +2,10 @@
 
 ghost use Rattle.std.specs.Prelude.{◌≡◌, ◌↔◌, ℕ, ◌+◌, ◌*◌, ◌<◌, ◌≤◌, ◌^◌, length, All, IfOk, IsTrue, OnOk, slice_index, slice_set};
 ghost use Rattle.path_counts.specs.Paths.{stopped};
-ghost use Rattle.path_counts.specs.Counting.{AreCounts, IsCollected, number_in, number_onward};
+ghost use Rattle.path_counts.specs.Counting.{IsCollected, number_in, number_onward};
+ghost use Rattle.path_counts.specs.Pushed.{AreAppended};
 
 use span_types::NoMemory;
-use std::alloc::Global;
 
 /// A state, and how many marked texts lead to it. `u64::MAX` stands for itself and for every greater number.
 #[derive(Clone, Copy, Debug, PartialEq, Eq, Hash)]
@@ -62,13 +62,12 @@ pub(crate) fn sum_onward(counts: &[Count], after: &[u64]) -> u64
     sum
 }
 
-/// The states whose numbers aren't 0, with their numbers. All numbers are 0 then.
-pub(crate) fn take_counts(alloc: Global, sums: &mut [u64]) -> Result<Vec<Count>, NoMemory>
+/// Appends the states whose numbers aren't 0, with their numbers. All numbers are 0 then.
+pub(crate) fn take_counts(counts: &mut Vec<Count>, sums: &mut [u64]) -> Result<(), NoMemory>
     requires { length sums.old ≤ 2 ^ 16 }
-    ensures counts { IfOk result (λ cs. IsCollected sums.old cs.items) }
+    ensures counts { AreAppended (λ cs. OnOk result (IsCollected sums.old cs)) counts.old.items counts.new.items }
     ensures clear { OnOk result (All (λ n. n ≡ 0) sums.new) }
 {
-    let mut counts = Vec::new(alloc);
     for state in 0..sums.len() {
         let number = sums[state];
         if number > 0 {
@@ -79,5 +78,5 @@ pub(crate) fn take_counts(alloc: Global, sums: &mut [u64]) -> Result<Vec<Count>,
             sums[state] = 0;
         }
     }
-    Ok(counts)
+    Ok(())
 }

@@ -14,7 +14,7 @@
 //! SLP-compressed documents*, PODS 2021, with numbers in place of truth values. Numbers stop at `u64::MAX`: it stands for
 //! itself and for every greater number, so each smaller number is exact.
 //!
-//! A table takes 32 bytes a state and 16 bytes for each pair of states with a number. A composition takes time linear in the
+//! A table takes 24 bytes a state and 16 bytes for each pair of states with a number, in two allocations. A composition takes time linear in the
 //! states and in the pairs of a number of the left table and one of the right table that meet.
 //!
 //! Proved: The counting table of a byte, and of two texts joined (`of_byte`, `compose`): how many marked texts with some
@@ -25,6 +25,7 @@
 
 pub mod count;
 mod digest;
+mod row_list;
 pub mod table;
 
 pub use count::Count;

@@ -4,37 +4,21 @@ ghost use Rattle.std.specs.Prelude.{◌↔◌, IsTrue, ◌≡◌, ℕ, ◌+◌, 
 ghost use Rattle.marker_dfa.specs.Deterministic.{DeterministicAutomaton, IsDeterministic, marks_of, next_of, states_of};
 ghost use Rattle.path_counts.specs.Paths.{stopped};
 ghost use Rattle.path_counts.specs.Branch.{branch_of, root_of};
-ghost use Rattle.path_counts.specs.Digest.{digest_of};
-ghost use Rattle.path_counts.specs.Pushed.{IsPushed};
+ghost use Rattle.path_counts.specs.Pushed.{IsComposedWithin, IsPushed};
 ghost use Rattle.path_counts.specs.Counting.{AreCounts, IsByteRow, IsComposed, IsComposedRow, IsCountTable, IsCountTableOf, any_number_at, counts_at, hits, number_at, number_by_marks, number_from, number_onward, number_through, onward_from, unmarked_at};
 
-use crate::count::{Count, add, add_counts, is_same, sum_onward, take_counts};
-use crate::digest::{coded, mixed, with_counts};
+use crate::count::{Count, add, add_counts, sum_onward};
+use crate::row_list::{RowList, digest_of, is_same_rows};
 use distinct_items::Digested;
 use marker_dfa::Dfa;
 use span_types::NoMemory;
 use std::alloc::Global;
 use std::marker::Model;
 
-// The state reached from one state with every mark 0, and the numbers of those reached with some other mark.
-#[derive(Drop)]
-struct Row {
-    unmarked: Option<u16>,
-    counts: Vec<Count>,
-}
-
-impl Model for Row {
-    ghost use Rattle.path_counts.specs.Counting.{CountRow};
-
-    ghost Value = { CountRow };
-
-    ghost view = { λ r. record { unmarked = r.unmarked; counts = r.counts.items } };
-}
-
 /// How many marked texts lead over a text from each state to each state. Contracts see it as a list of rows, one for each state.
 #[derive(Drop)]
 pub struct CountTable {
-    rows: Vec<Row>,
+    rows: RowList,
     digest: u64,
 }
 
@@ -44,11 +28,11 @@ impl Model for CountTable {
 
     ghost Value = { List CountRow };
 
-    ghost view = { λ t. t.rows.items };
+    ghost view = { λ t. t.rows };
 
     ghost use Rattle.path_counts.specs.Digest.{IsDigested};
 
-    ghost invariant = { λ t. IsDigested t.rows.items t.digest };
+    ghost invariant = { λ t. IsDigested t.rows t.digest };
 }
 
 impl CountTable {
@@ -66,7 +50,7 @@ impl CountTable {
         ensures value { result ≡ unmarked_at self.now p }
         ensures within { IfSome result (λ q. q < length self.now) }
     {
-        self.rows[p as usize].unmarked
+        self.rows.unmarked(p as usize)
     }
 
     /// The states reached from `p` over the text with some mark other than 0, in order, each with its number.
@@ -75,7 +59,7 @@ impl CountTable {
         ensures value { result.now ≡ counts_at self.now p }
         ensures counts { AreCounts (length self.now) result.now }
     {
-        &self.rows[p as usize].counts
+        self.rows.counts(p as usize)
     }
 
     /// The sum over the marked texts that lead on from `p` with some mark, of what `after` says of the state to which each leads.
@@ -122,33 +106,6 @@ impl Digested for CountTable {
     }
 }
 
-// The digest of some rows.
-fn digest_of(rows: &[Row]) -> u64
-    ensures { result ≡ digest_of rows.now }
-{
-    let mut all = 0;
-    for row in rows {
-        all = with_counts(mixed(all, coded(row.unmarked)), &row.counts);
-    }
-    all
-}
-
-// Whether the rows are the same.
-fn is_same_rows(rows: &[Row], others: &[Row]) -> bool
-    ensures { IsTrue result ↔ rows.now ≡ others.now }
-{
-    if rows.len() != others.len() {
-        return false;
-    }
-    for index in 0..rows.len() {
-        let (row, other) = (&rows[index], &others[index]);
-        if row.unmarked != other.unmarked || !is_same(&row.counts, &other.counts) {
-            return false;
-        }
-    }
-    true
-}
-
 // Adds the numbers from a state with any marks, times `times`.
 fn add_onward(sums: &mut [u64], table: &CountTable, state: u16, times: u64)
     requires state { state < length table.now }
@@ -183,113 +140,67 @@ fn add_from(sums: &mut [u64], table: &CountTable, state: Option<u16>)
     }
 }
 
-// The row of two texts joined, from the one of the left text with some counts or none. The sums are a number for each state, all 0.
-fn composed_by_sums(
-    alloc: Global,
-    left: &Row,
-    right: &CountTable,
-    sums: &mut [u64],
-) -> Result<Row, NoMemory>
-    requires unmarked { IfSome left.now.unmarked (λ q. q < length right.now) }
-    requires counts { All (λ c. c.state < length right.now) left.now.counts }
-    requires long { length sums.old ≡ length right.now }
-    requires few { length right.now < 2 ^ 16 }
-    requires clear { All (λ n. n ≡ 0) sums.old }
-    ensures row { IfOk result (IsComposedRow right.now left.now) }
-    ensures unmarked { IfOk result (λ r. IfSome r.unmarked (λ q. q < length right.now)) }
-    ensures counts { IfOk result (λ r. AreCounts (length right.now) r.counts) }
-    ensures clear { OnOk result (All (λ n. n ≡ 0) sums.new) }
-{
-    add_from(sums, right, left.unmarked);
-    add_through(sums, &left.counts, right);
-    let unmarked = match left.unmarked {
-        Some(q) => right.unmarked(q),
-        None => None,
-    };
-    Ok(Row {
-        unmarked,
-        counts: take_counts(alloc, sums)?,
-    })
-}
-
-// The row of two texts joined, from that of a left text without counts.
-fn composed_unmarked(
-    alloc: Global,
+// Appends the row of two texts joined, from that of a left text without counts.
+fn push_unmarked(
+    rows: &mut RowList,
     unmarked: Option<u16>,
     right: &CountTable,
-) -> Result<Row, NoMemory>
+) -> Result<(), NoMemory>
     requires { IfSome unmarked (λ q. q < length right.now) }
-    ensures row { IfOk result (IsComposedRow right.now (record { unmarked = unmarked; counts = [] })) }
-    ensures unmarked { IfOk result (λ r. IfSome r.unmarked (λ q. q < length right.now)) }
-    ensures counts { IfOk result (λ r. AreCounts (length right.now) r.counts) }
+    ensures { OnOk result (IsPushed (IsComposedWithin right.now (record { unmarked = unmarked; counts = [] })) rows.old rows.new) }
 {
-    let mut counts = Vec::new(alloc);
     match unmarked {
-        Some(q) => {
-            counts.extend_from_slice(right.counts(q))?;
-            Ok(Row {
-                unmarked: right.unmarked(q),
-                counts,
-            })
-        }
-        None => Ok(Row {
-            unmarked: None,
-            counts,
-        }),
+        Some(q) => rows.push(right.unmarked(q), right.counts(q)),
+        None => rows.push(None, &[]),
     }
 }
 
-// The row of two texts joined, from that of the left text. The sums are a number for each state, all 0. Most rows have no counts,
-// and need no sums.
-fn composed(
-    alloc: Global,
-    left: &Row,
-    right: &CountTable,
-    sums: &mut [u64],
-) -> Result<Row, NoMemory>
-    requires unmarked { IfSome left.now.unmarked (λ q. q < length right.now) }
-    requires counts { All (λ c. c.state < length right.now) left.now.counts }
-    requires long { length sums.old ≡ length right.now }
-    requires few { length right.now < 2 ^ 16 }
-    requires clear { All (λ n. n ≡ 0) sums.old }
-    ensures row { IfOk result (IsComposedRow right.now left.now) }
-    ensures unmarked { IfOk result (λ r. IfSome r.unmarked (λ q. q < length right.now)) }
-    ensures counts { IfOk result (λ r. AreCounts (length right.now) r.counts) }
-    ensures clear { OnOk result (All (λ n. n ≡ 0) sums.new) }
-{
-    if left.counts.is_empty() {
-        composed_unmarked(alloc, left.unmarked, right)
-    } else {
-        composed_by_sums(alloc, left, right, sums)
-    }
-}
-
-// Appends the row of two texts joined, from that of the left text. The sums are a number for each state, all 0. Most rows lead
-// nowhere, and are written at once.
-fn push_composed(
-    alloc: Global,
-    rows: &mut Vec<Row>,
-    left: &Row,
+// Appends the row of two texts joined, from that of the left text. The sums are a number for each state, all 0.
+fn push_by_sums(
+    rows: &mut RowList,
+    unmarked: Option<u16>,
+    counts: &[Count],
     right: &CountTable,
     sums: &mut [u64],
 ) -> Result<(), NoMemory>
-    requires unmarked { IfSome left.now.unmarked (λ q. q < length right.now) }
-    requires counts { All (λ c. c.state < length right.now) left.now.counts }
+    requires unmarked { IfSome unmarked (λ q. q < length right.now) }
+    requires counts { All (λ c. c.state < length right.now) counts.now }
     requires long { length sums.old ≡ length right.now }
     requires few { length right.now < 2 ^ 16 }
     requires clear { All (λ n. n ≡ 0) sums.old }
-    ensures row { OnOk result (IsPushed right.now left.now rows.old.items rows.new.items) }
+    ensures row { OnOk result (IsPushed (IsComposedWithin right.now (record { unmarked = unmarked; counts = counts.now })) rows.old rows.new) }
     ensures clear { OnOk result (All (λ n. n ≡ 0) sums.new) }
 {
-    if left.counts.is_empty() && left.unmarked.is_none() {
-        rows.push(Row {
-            unmarked: None,
-            counts: Vec::new(alloc),
-        })?;
+    add_from(sums, right, unmarked);
+    add_through(sums, counts, right);
+    let next = match unmarked {
+        Some(q) => right.unmarked(q),
+        None => None,
+    };
+    rows.push_sums(next, sums)
+}
+
+// The same. Most rows have no counts, and are copied.
+fn push_composed(
+    rows: &mut RowList,
+    unmarked: Option<u16>,
+    counts: &[Count],
+    right: &CountTable,
+    sums: &mut [u64],
+) -> Result<(), NoMemory>
+    requires unmarked { IfSome unmarked (λ q. q < length right.now) }
+    requires counts { All (λ c. c.state < length right.now) counts.now }
+    requires long { length sums.old ≡ length right.now }
+    requires few { length right.now < 2 ^ 16 }
+    requires clear { All (λ n. n ≡ 0) sums.old }
+    ensures row { OnOk result (IsPushed (IsComposedWithin right.now (record { unmarked = unmarked; counts = counts.now })) rows.old rows.new) }
+    ensures clear { OnOk result (All (λ n. n ≡ 0) sums.new) }
+{
+    if counts.is_empty() {
+        push_unmarked(rows, unmarked, right)
     } else {
-        rows.push(composed(alloc, left, right, sums)?)?;
+        push_by_sums(rows, unmarked, counts, right, sums)
     }
-    Ok(())
 }
 
 // The rows of two texts joined. The sums are a number for each state, all 0.
@@ -298,16 +209,18 @@ fn composed_rows(
     left: &CountTable,
     right: &CountTable,
     sums: &mut [u64],
-) -> Result<Vec<Row>, NoMemory>
+) -> Result<RowList, NoMemory>
     requires states { length left.now ≡ length right.now }
     requires long { length sums.old ≡ length right.now }
     requires clear { All (λ n. n ≡ 0) sums.old }
-    ensures composed { IfOk result (λ rows. IsComposed left.now right.now rows.items) }
-    ensures shape { IfOk result (λ rows. IsCountTableOf (length right.now) rows.items) }
+    ensures composed { IfOk result (λ rows. IsComposed left.now right.now rows) }
+    ensures shape { IfOk result (λ rows. IsCountTableOf (length right.now) rows) }
 {
-    let mut rows = Vec::with_capacity(alloc, right.states() as usize)?;
-    for row in &left.rows {
-        push_composed(alloc, &mut rows, row, right, sums)?;
+    let states = right.states();
+    let counts = left.rows.all().max(right.rows.all());
+    let mut rows = RowList::with_capacity(alloc, states as usize, counts)?;
+    for p in 0..states {
+        push_composed(&mut rows, left.unmarked(p), left.counts(p), right, sums)?;
     }
     Ok(rows)
 }
@@ -356,33 +269,35 @@ fn add_marks(sums: &mut [u64], dfa: &Dfa, p: u16, byte: u8)
     }
 }
 
-// The row of a byte. The sums are a number for each state, all 0.
-fn byte_row(alloc: Global, dfa: &Dfa, p: u16, byte: u8, sums: &mut [u64]) -> Result<Row, NoMemory>
+// Appends the row of a byte. The sums are a number for each state, all 0.
+fn push_byte(
+    rows: &mut RowList,
+    dfa: &Dfa,
+    p: u16,
+    byte: u8,
+    sums: &mut [u64],
+) -> Result<(), NoMemory>
     requires automaton { IsDeterministic dfa.now }
     requires state { p < states_of dfa.now }
     requires long { length sums.old ≡ states_of dfa.now }
     requires clear { All (λ n. n ≡ 0) sums.old }
-    ensures row { IfOk result (IsByteRow dfa.now byte p) }
-    ensures counts { IfOk result (λ r. AreCounts (states_of dfa.now) r.counts) }
+    ensures row { OnOk result (IsPushed (λ row. IsByteRow dfa.now byte p row × AreCounts (states_of dfa.now) row.counts) rows.old rows.new) }
     ensures clear { OnOk result (All (λ n. n ≡ 0) sums.new) }
 {
     add_marks(sums, dfa, p, byte);
-    Ok(Row {
-        unmarked: dfa.next(p, 0, byte),
-        counts: take_counts(alloc, sums)?,
-    })
+    rows.push_sums(dfa.next(p, 0, byte), sums)
 }
 
 // The rows of a byte. The sums are a number for each state, all 0.
-fn byte_rows(alloc: Global, dfa: &Dfa, byte: u8, sums: &mut [u64]) -> Result<Vec<Row>, NoMemory>
+fn byte_rows(alloc: Global, dfa: &Dfa, byte: u8, sums: &mut [u64]) -> Result<RowList, NoMemory>
     requires long { length sums.old ≡ states_of dfa.now }
     requires clear { All (λ n. n ≡ 0) sums.old }
-    ensures { IfOk result (λ rows. IsCountTable dfa.now (byte ∷ []) rows.items) }
+    ensures { IfOk result (λ rows. IsCountTable dfa.now (byte ∷ []) rows) }
 {
     let states = dfa.states();
-    let mut rows = Vec::with_capacity(alloc, states as usize)?;
+    let mut rows = RowList::with_capacity(alloc, states as usize, 0)?;
     for p in 0..states {
-        rows.push(byte_row(alloc, dfa, p, byte, sums)?)?;
+        push_byte(&mut rows, dfa, p, byte, sums)?;
     }
     Ok(rows)
 }

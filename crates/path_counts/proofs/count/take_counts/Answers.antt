@@ -1,5 +1,6 @@
-use Rattle.std.proofs.Common.{◌≡◌, ◌<◌, ◌≤◌, length, arith, get_or, sym, ◌∙◌}
+use Rattle.std.proofs.Common.{◌≡◌, ◌<◌, ◌≤◌, ◌++◌, [], ◌∷◌, length, arith, ap, get_or, sym, ◌∙◌, append_assoc}
 use Rattle.std.proofs.lemmas.List.{get_or_default}
+use Rattle.path_counts.specs.declared.count.Count.{Count}
 use Rattle.path_counts.specs.Paths.{most}
 use Rattle.path_counts.proofs.Adding.{clear-skip, clear-step, counts-more, counts-push, numbers-push, numbers-skip, rest-step}
 use Rattle.path_counts.proofs.count.take_counts.Goals as goal
@@ -10,11 +11,19 @@ loop-state-preserved c = elim c.if-number-gt0.branch [
   | then-number-gt0+in_ok-push w ↦
       let i = c.loop-state.state in
       let before = c.loop-state.invariant in
-      let low : get_or c.loop-state.sums i 0 ≤ most = omega arith in
+      let n = get_or c.loop-state.sums i 0 in
+      let new : Count = record { state = i; number = n } in
+      let low : n ≤ most = omega arith in
       let lt : i < length c.loop-state.sums = omega (arith, c.loop-state-test.true, c.loop-state.auto.sums) in
       rw (w.sums-is, w.counts-is, w.in_ok-push.ensures.items) (record {
-        counts = counts-push i (get_or c.loop-state.sums i 0) c.loop-state.counts.items before.counts w.if-number-gt0.true low;
-        numbers = numbers-push c.args.sums.now i (get_or c.loop-state.sums i 0) c.loop-state.counts.items before.counts (before.rest i (omega arith)) before.numbers;
+        counts = record {
+          more = before.counts.more ++ new ∷ [];
+          counts = ap (λ cs. cs ++ new ∷ []) before.counts.counts ∙ append_assoc c.args.counts.now.items before.counts.more (new ∷ []);
+          hold = (
+            counts-push i n before.counts.more before.counts.hold.0 w.if-number-gt0.true low,
+            numbers-push c.args.sums.now i n before.counts.more before.counts.hold.0 (before.rest i (omega arith)) before.counts.hold.1,
+          );
+        };
         clear = λ q below. clear-step c.loop-state.sums i q lt before.clear below;
         rest = λ q le. rest-step c.loop-state.sums i q le ∙ before.rest q (omega (arith, le));
       })
@@ -23,8 +32,14 @@ loop-state-preserved c = elim c.if-number-gt0.branch [
       let before = c.loop-state.invariant in
       let none : get_or c.loop-state.sums i 0 ≡ 0 = omega (arith, w.if-number-gt0.false) in
       rw (w.sums-is, w.counts-is) (record {
-        counts = counts-more i c.loop-state.counts.items before.counts;
-        numbers = numbers-skip c.args.sums.now i c.loop-state.counts.items before.counts (sym (before.rest i (omega arith)) ∙ none) before.numbers;
+        counts = record {
+          more = before.counts.more;
+          counts = before.counts.counts;
+          hold = (
+            counts-more i before.counts.more before.counts.hold.0,
+            numbers-skip c.args.sums.now i before.counts.more before.counts.hold.0 (sym (before.rest i (omega arith)) ∙ none) before.counts.hold.1,
+          );
+        };
         clear = λ q below. clear-skip c.loop-state.sums i q none before.clear below;
         rest = λ q le. before.rest q (omega (arith, le));
       })

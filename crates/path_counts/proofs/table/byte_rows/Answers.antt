@@ -1,4 +1,4 @@
-use Rattle.std.proofs.Common.{◌≡◌, ◌<◌, ℕ, arith, sym, [], ◌∷◌, ◌++◌, ◌∙◌}
+use Rattle.std.proofs.Common.{◌≡◌, ◌<◌, ℕ, arith, sym, ◌∙◌}
 use Rattle.marker_dfa.specs.Deterministic.{states_of}
 use Rattle.path_counts.specs.Counting.{AreCounts, IsByteRow, unmarked_at}
 use Rattle.path_counts.proofs.Adding.{some-within}
@@ -10,20 +10,20 @@ pub loop-p-preserved : goal.loop-p-preserved
 loop-p-preserved c =
     let a = c.args.dfa.now in
     let before = c.loop-p.invariant in
-    let ok = c.in_ok-byte_row in
-    let items : c.push.new.self.items ≡ c.loop-p.rows.items ++ ok.field-0 ∷ [] = c.in_ok-push.ensures.items in
-    rw items (record {
-      long = omega (arith, pushed-length c.loop-p.rows.items ok.field-0, before.long);
-      sums = c.byte_row.auto.sums ∙ before.sums;
-      clear = ok.ensures.clear;
-      rows = rows-push (λ p r. IsByteRow a c.args.byte p r) c.loop-p.rows.items c.loop-p.p ok.field-0 before.long before.rows ok.ensures.row;
-      counts = rows-push (λ p r. AreCounts (states_of a) r.counts) c.loop-p.rows.items c.loop-p.p ok.field-0 before.long before.counts ok.ensures.counts;
+    let pushed = c.in_ok-push_byte.ensures.row in
+    let rows = c.loop-p.rows in
+    rw pushed.rows (record {
+      long = omega (arith, pushed-length rows pushed.row, before.long);
+      sums = c.push_byte.auto.sums ∙ before.sums;
+      clear = c.in_ok-push_byte.ensures.clear;
+      rows = rows-push (λ p r. IsByteRow a c.args.byte p r) rows c.loop-p.p pushed.row before.long before.rows pushed.holds.0;
+      counts = rows-push (λ p r. AreCounts (states_of a) r.counts) rows c.loop-p.p pushed.row before.long before.counts pushed.holds.1;
     })
 
 pub returns : goal.returns
 returns c =
     let a = c.args.dfa.now in
-    let t = c.loop-p.rows.items in
+    let t = c.loop-p.rows in
     let auto = c.states-states.ensures.automaton in
     let done = c.loop-p.invariant in
     let all : c.loop-p.p ≡ states_of a = omega (arith, c.states-states.ensures.value, c.loop-p-test.false, c.loop-p.auto.p-end) in

@@ -5,9 +5,9 @@ use Rattle.path_counts.proofs.table.byte_rows.Given as goal
 
 abbrev pub invariant-loop-p : goal.invariant-loop-p
 invariant-loop-p l = record {
-  long : length l.rows.items ≡ l.p;
+  long : length l.rows ≡ l.p;
   sums : length l.sums ≡ states_of l.dfa;
   clear : All (λ n. n ≡ 0) l.sums;
-  rows : (p : ℕ) → p < l.p → IsByteRow l.dfa l.byte p (row_at l.rows.items p);
-  counts : (p : ℕ) → p < l.p → AreCounts (states_of l.dfa) (counts_at l.rows.items p);
+  rows : (p : ℕ) → p < l.p → IsByteRow l.dfa l.byte p (row_at l.rows p);
+  counts : (p : ℕ) → p < l.p → AreCounts (states_of l.dfa) (counts_at l.rows p);
 }

@@ -6,5 +6,5 @@ use Rattle.path_counts.proofs.table.compose.Goals as goal
 pub returns-clause-meaning : goal.returns-clause-meaning
 returns-clause-meaning c = λ a s u auto l r.
     let made = c.in_ok-rows.ensures in
-    let shape : IsCountTableOf (states_of a) c.in_ok-rows.rows.items = rw r.shape.states at made.shape in
-    IsCountTable-composed a s u c.args.left.now c.args.right.now auto l r c.in_ok-rows.rows.items shape made.composed
+    let shape : IsCountTableOf (states_of a) c.in_ok-rows.rows = rw r.shape.states at made.shape in
+    IsCountTable-composed a s u c.args.left.now c.args.right.now auto l r c.in_ok-rows.rows shape made.composed

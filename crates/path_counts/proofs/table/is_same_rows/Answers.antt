@@ -1,8 +1,0 @@
-use Rattle.std.proofs.Common.{◌≡◌, length, arith, ext_get_or, rules}
-use Rattle.path_counts.specs.Counting.{no_row}
-use Rattle.path_counts.proofs.table.is_same_rows.Goals as goal
-
-pub returns : goal.returns
-returns c =
-    let long : length c.args.rows.now ≡ length c.args.others.now = omega (arith, c.if-rows-others.false) in
-    ((λ yes. ext_get_or no_row c.args.rows.now c.args.others.now long (λ i lt. c.loop-index.invariant i no_row (omega (arith, lt, c.loop-index-test.false)))), (λ same. search rules))
