@@ -1,18 +1,12 @@
 -- Rows whose counts are parts of one list.
-use Rattle.std.proofs.Common.{◌≡◌, ℕ, zero, suc, ◌+◌, ◌-◌, ◌<◌, ◌≤◌, List, [], ◌∷◌, ◌++◌, length, get_or, take, drop, refl, ap, ◌∙◌, arith}
+use Rattle.std.proofs.Common.{◌≡◌, ℕ, suc, ◌+◌, ◌-◌, ◌≤◌, List, [], ◌∷◌, ◌++◌, length, take, drop, refl, ap, ◌∙◌, arith}
 use Rattle.std.specs.Prelude.{slice_range}
 use Rattle.std.proofs.lemmas.List.{drop-append-le, length-append, length-drop, map-append, take-append-le, take_all}
-use Rattle.std.proofs.lemmas.List.Elements.{All-head, All-push, All-tail, All-weaker}
+use Rattle.std.proofs.lemmas.List.Elements.{All-head, All-tail}
 use Rattle.path_counts.specs.declared.count.Count.{Count}
 use Rattle.path_counts.specs.declared.row_list.Row.{Row}
-use Rattle.path_counts.specs.Counting.{CountRow, row_at}
+use Rattle.path_counts.specs.Counting.{CountRow}
 use Rattle.path_counts.specs.Flat.{AreWithin, IsWithin, row_of, rows_of}
-
--- the row of a state
-pub row-placed : (rows : List Row) (counts : List Count) (p : ℕ) (d : Row) → p < length rows → row_at (rows_of rows counts) p ≡ row_of counts (get_or rows p d)
-row-placed [] counts p d lt = absurd (omega (arith, lt))
-row-placed (r ∷ rows) counts zero d lt = refl
-row-placed (r ∷ rows) counts (suc p) d lt = row-placed rows counts p d (omega (arith, lt))
 
 part-kept : (counts more : List Count) (a b : ℕ) → a ≤ b → b ≤ length counts → slice_range (counts ++ more) a b ≡ slice_range counts a b
 part-kept counts more a b le within =
@@ -34,11 +28,6 @@ rows-kept (r ∷ rows) counts more h =
     let here : row_of (counts ++ more) r ≡ row_of counts r = ap (λ (cs : List Count). record { unmarked = r.unmarked; counts = cs }) (part-kept counts more r.start r.end first.order first.within) in
     ap (λ x. x ∷ rows_of rows (counts ++ more)) here ∙ ap (λ xs. row_of counts r ∷ xs) (rows-kept rows counts more (All-tail (IsWithin counts) r rows h))
 
-pub within-more : (rows : List Row) (counts more : List Count) → AreWithin rows counts → AreWithin rows (counts ++ more)
-within-more rows counts more h =
-    let long = length-append counts more in
-    All-weaker (IsWithin counts) (IsWithin (counts ++ more)) (λ r w. record { order = w.order; within = omega (arith, long, w.within) }) rows h
-
 -- a row is appended, whose counts are those behind
 pub rows-pushed : (rows : List Row) (counts more : List Count) (r : Row) → AreWithin rows counts → r.start ≡ length counts → r.end ≡ length (counts ++ more)
     → rows_of (rows ++ r ∷ []) (counts ++ more) ≡ rows_of rows counts ++ record { unmarked = r.unmarked; counts = more } ∷ []
@@ -51,8 +40,3 @@ rows-pushed rows counts more r h start end =
     map-append (row_of (counts ++ more)) rows (r ∷ [])
     ∙ ap (λ (xs : List CountRow). xs ++ row_of (counts ++ more) r ∷ []) (rows-kept rows counts more h)
     ∙ ap (λ (x : CountRow). rows_of rows counts ++ x ∷ []) here
-
-pub within-pushed : (rows : List Row) (counts more : List Count) (r : Row) → AreWithin rows counts → r.start ≡ length counts → r.end ≡ length (counts ++ more) → AreWithin (rows ++ r ∷ []) (counts ++ more)
-within-pushed rows counts more r h start end =
-    let long = length-append counts more in
-    All-push (IsWithin (counts ++ more)) rows r (within-more rows counts more h) (record { order = omega (arith, start, end, long); within = omega (arith, end) })

@@ -1,12 +1,12 @@
 -- A row without counts, joined with a further text: its counts are those of one row of the right table.
-use Rattle.std.proofs.Common.{◌≡◌, ℕ, ◌+◌, ◌<◌, ◌≤◌, ◌==◌, false, List, [], ◌∷◌, All, sym, ap, ◌∙◌, arith, inl, inr, Some, None}
+use Rattle.std.proofs.Common.{◌≡◌, ℕ, ◌+◌, ◌<◌, ◌≤◌, ◌==◌, false, List, [], ◌∷◌, All, sym, ap, ◌∙◌, arith, inl, inr, Some}
 use Rattle.std.specs.Prelude.{if◌then◌else◌}
 use Rattle.std.proofs.lemmas.Bool.{ne_eqb}
 use Rattle.std.proofs.lemmas.Bool.Decides.{eqb_tells}
 use Rattle.std.proofs.lemmas.List.Elements.{All-head, All-tail}
 use Rattle.path_counts.specs.declared.count.Count.{Count}
 use Rattle.path_counts.specs.Paths.{most, stopped}
-use Rattle.path_counts.specs.Counting.{AreCounts, CountRow, IsComposedRow, counts_at, number_from, number_in, number_through, unmarked_at}
+use Rattle.path_counts.specs.Counting.{AreCounts, CountRow, IsComposedRow, counts_at, number_in, unmarked_at}
 use Rattle.path_counts.proofs.Lists.{all-members, pairs-head, pairs-tail}
 
 -- all states are greater
@@ -49,16 +49,3 @@ copied-row right n q row are unmarked counts = record {
   where
     whole : (k : ℕ) → k ≤ most → k ≡ stopped (k + 0)
     whole k le = omega arith
-
-pub empty-row : (right : List CountRow) (row : CountRow) → row.unmarked ≡ None → row.counts ≡ [] → IsComposedRow right (record { unmarked = None; counts = [] }) row
-empty-row right row unmarked counts = record {
-  unmarked = unmarked;
-  numbers = λ r lt. ap (λ cs. number_in cs r) counts ∙ (let zero-stopped : 0 ≡ stopped (0 + 0) = omega arith in zero-stopped);
-}
-
--- a left row that has no counts
-pub row-unmarked : (right : List CountRow) (left row : CountRow) → left.counts ≡ [] → IsComposedRow right (record { unmarked = left.unmarked; counts = [] }) row → IsComposedRow right left row
-row-unmarked right left row none h = record {
-  unmarked = h.unmarked;
-  numbers = λ q lt. h.numbers q lt ∙ ap (λ cs. stopped (number_from right left.unmarked q + number_through right cs q)) (sym none);
-}
