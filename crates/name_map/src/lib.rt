@@ -160,10 +160,9 @@ impl<V> NameMap<V> {
         ensures { slice_get self.now index ≡ Some (result.0.now, result.1.now) }
     {
         let slot = slot_of(&self.slots, index);
-        match &self.slots.items[slot] {
-            Some(named) => (&named.0, &named.1),
-            None => unreachable!(),
-        }
+        // `slot_of` returns the number of a slot with a name.
+        let named = self.slots.items[slot].as_ref().unwrap();
+        (&named.0, &named.1)
     }
 
     /// The value at index `index`, by mutable reference. Takes constant time after `settle`, and otherwise up to linear time.
@@ -174,10 +173,9 @@ impl<V> NameMap<V> {
     {
         let slot = slot_of(&self.slots, index);
         let slots = &mut self.slots;
-        match &mut slots.items[slot] {
-            Some(named) => &mut named.1,
-            None => unreachable!(),
-        }
+        // `slot_of` returns the number of a slot with a name.
+        let named = slots.items[slot].as_mut().unwrap();
+        &mut named.1
     }
 }
 

@@ -44,6 +44,7 @@ pub(crate) fn slot_of<V>(slots: &Slots<V>, index: usize) -> usize
             left -= 1;
         }
     }
+    // `index` is less than the number of slots with a name.
     unreachable!()
 }
 
@@ -82,11 +83,8 @@ fn push<V: Drop>(slots: &mut Slots<V>, alloc: Global, name: Name, value: V) -> R
     if slots.index.insert(key, slot).is_err() {
         return Err(NoMemory);
     }
-    match slots.items.push(Some((name, value))) {
-        Ok(()) => Ok(()),
-        // `reserve` has made room for one more.
-        Err(_) => unreachable!(),
-    }
+    slots.items.push_reserved(Some((name, value)));
+    Ok(())
 }
 
 /// Removes the name and returns its value, if the name is there. If more than half of the slots are empty then, they are
