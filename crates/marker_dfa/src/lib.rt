@@ -53,7 +53,7 @@ use std::alloc::Global;
 use subsets::rows_of;
 
 /// The greatest number of states where the caller sets none.
-const DEFAULT_MAX_STATES: u16 = 128;
+pub const DEFAULT_MAX_STATES: u16 = 128;
 
 /// The deterministic automaton of an automaton, of at most 128 states, as `determinise_within` makes it.
 ///

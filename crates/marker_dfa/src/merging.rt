@@ -6,10 +6,9 @@ ghost use Rattle.marker_dfa.specs.Merging.{AcceptsAlike, AreCellsAlike, AreEquiv
 
 use crate::dfa::{Cell, Dfa, Row};
 use crate::found::Hints;
+use crate::states::HASH_FACTOR;
 use span_types::NoMemory;
 use std::alloc::Global;
-
-const HASH_FACTOR: u64 = 0x9E37_79B9_7F4A_7C15;
 
 /// Whether two targets have one representative, supposed that the state `merged` is represented by `kept`.
 fn are_targets_alike(into: &[u16], merged: u16, kept: u16, left: u16, right: u16) -> bool

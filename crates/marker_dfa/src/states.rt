@@ -31,7 +31,7 @@ impl Model for StateSet {
 const WORD_BITS: usize = 64;
 
 // An odd number with the bits of 2^64 divided by the golden ratio, which spreads numbers in a row.
-const HASH_FACTOR: u64 = 0x9E37_79B9_7F4A_7C15;
+pub(crate) const HASH_FACTOR: u64 = 0x9E37_79B9_7F4A_7C15;
 
 impl StateSet {
     /// The set with no member, of this many states.
