@@ -6,6 +6,7 @@ use Rattle.std.proofs.lemmas.Bool.{cases_lt, eq-eqb}
 use Rattle.std.proofs.Math.ListN.{get_or-append}
 use Rattle.std.proofs.lemmas.Option.{slice_get-get_or}
 use Rattle.distinct_items.specs.Search.{IsAbsent, TakesIn}
+use Rattle.distinct_items.proofs.Adding.{AreDistinctItems-added, all-added}
 use Rattle.state_tables.specs.Table.{Row, IsTableOf}
 use Rattle.state_tables.specs.Same.{row_eq, table_eq}
 use Rattle.state_tables.specs.Dictionary.{Dictionary, IsDictionary, AreDistinctTables}
@@ -32,12 +33,6 @@ pub read-ok : {E : Type 0} (r : Result ℕ E) (kept : List (List Row)) (t : List
 read-ok (Ok n) kept t h = kept-read kept n t h
 read-ok (Err e) kept t h = h
 
-get_or-last : (kept : List (List Row)) (t : List Row) (n : ℕ) → length kept ≤ n → n < length (kept ++ t ∷ []) → get_or (kept ++ t ∷ []) n [] ≡ t
-get_or-last [] t zero h k = refl
-get_or-last [] t (suc n) h k = absurd (omega arith)
-get_or-last (x ∷ kept) t zero h k = absurd (omega arith)
-get_or-last (x ∷ kept) t (suc n) h k = get_or-last kept t n (omega arith) (omega arith)
-
 -- the same tables
 same : (d : Dictionary) (kept : List (List Row)) → IsDictionary d → kept ≡ d.kept → IsDictionary (record d { kept = kept })
 same d kept is e = subst (λ (ts : List (List Row)). IsDictionary (record d { kept = ts })) (sym e) is
@@ -47,40 +42,13 @@ module _ (d : Dictionary) (t : List Row) (is : IsDictionary d) (shape : IsTableO
   longer : length (d.kept ++ t ∷ []) ≡ length d.kept + 1
   longer = length-append d.kept (t ∷ [])
 
-  shapes : (n : ℕ) → n < length (d.kept ++ t ∷ []) → IsTableOf d.states (get_or (d.kept ++ t ∷ []) n [])
-  shapes n lt = elim (cases_lt n (length d.kept)) [
-    | inl less ↦ subst (IsTableOf d.states) (sym (get_or-append d.kept (t ∷ []) [] n less)) (is.shapes n less)
-    | inr ge ↦ subst (IsTableOf d.states) (sym (get_or-last d.kept t n ge lt)) shape
-  ]
-
-  -- the index of a kept table
-  old-or-new : (n : ℕ) (u : List Row) → slice_get (d.kept ++ t ∷ []) n ≡ Some u → (slice_get d.kept n ≡ Some u) ⊎ ((n ≡ length d.kept) × (t ≡ u))
-  old-or-new n u h =
-      let read = kept-read (d.kept ++ t ∷ []) n u h in
-      elim (cases_lt n (length d.kept)) [
-        | inl less ↦ inl (slice_get-get_or d.kept n [] less ∙ ap Some (sym (get_or-append d.kept (t ∷ []) [] n less) ∙ read.1))
-        | inr ge ↦ inr (omega (arith, ge, read.0, longer), sym (get_or-last d.kept t n ge read.0) ∙ read.1)
-      ]
-
-  apart : AreDistinctTables (d.kept ++ t ∷ [])
-  apart i j u h k = elim (old-or-new i u h) [
-    | inl a ↦ elim (old-or-new j u k) [
-      | inl b ↦ is.distinct i j u a b
-      | inr b ↦ absurd (absent i (a ∙ ap Some (sym b.1)))
-    ]
-    | inr a ↦ elim (old-or-new j u k) [
-      | inl b ↦ absurd (absent j (b ∙ ap Some (sym a.1)))
-      | inr b ↦ a.0 ∙ sym b.0
-    ]
-  ]
-
   more : IsDictionary (record d { kept = d.kept ++ t ∷ [] })
   more = record {
     few = is.few;
     narrow = omega (arith, longer, room);
     numbers_kept = λ id h. omega (arith, is.numbers_kept id h, longer);
-    shapes = shapes;
-    distinct = apart;
+    shapes = all-added (IsTableOf d.states) [] d.kept t is.shapes shape;
+    distinct = AreDistinctItems-added d.kept t is.distinct absent;
   }
 
 -- a table is kept, if memory allows

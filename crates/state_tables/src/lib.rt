@@ -46,7 +46,7 @@ mod interner;
 pub mod one_byte;
 mod partition;
 mod reached;
-mod renumbering;
+pub mod renumbering;
 mod row_set;
 mod sets;
 mod shared_set;
