@@ -9,10 +9,8 @@ use Rattle.slp_model.specs.Nodes.{tree, Grows, AreLiveIds}
 use Rattle.slp_model.specs.Join.{IsJoinedRoot}
 use Rattle.slp_model.proofs.TreeLemmas.{length-text, length-root_text}
 use Rattle.slp_model.proofs.NodesLemmas.{tree-grows, Grows-length}
-use Rattle.pair_loader.specs.Blocks.{IsFull}
-use Rattle.pair_loader.specs.Known.{AreKnown}
-use Rattle.pair_loader.proofs.KnownLemmas.{known-grows}
-use Rattle.pair_loader.specs.Pending.{AreRising, stack_of, stack_text, IsPending, Kept, unfed, IsLoader, fed, pending_count}
+use Rattle.node_store.specs.Blocks.{IsFull}
+use Rattle.pair_loader.specs.Pending.{AreRising, stack_of, stack_text, IsPending, IsLoader, fed, pending_count}
 
 pub stack_of-push : (ns : List Node) (xs : List NodeId) (x : NodeId) → stack_of ns (xs ++ x ∷ []) ≡ tree ns x.index ∷ stack_of ns xs
 stack_of-push ns xs x = simp (map-append, reverse-append)
@@ -46,18 +44,15 @@ pending-grows old new p q g blocks h =
       short = rw stays h.short;
     }
 
-pub loader-grows : (old new : List Node) (p q : ℕ) (loader : Option Kept) → Grows old new p q → IsLoader old loader → IsLoader new loader × (fed new loader ≡ fed old loader)
+pub loader-grows : (old new : List Node) (p q : ℕ) (loader : Option (List NodeId)) → Grows old new p q → IsLoader old loader → IsLoader new loader × (fed new loader ≡ fed old loader)
 loader-grows old new p q None g h = (tt, refl)
-loader-grows old new p q (Some kept) g h =
-    let blocks = kept.blocks in
-    ((pending-grows old new p q g blocks h.0, known-grows old new p q g kept.known h.1), ap stack_text (stack_of-grows old new p q g blocks h.0.live))
+loader-grows old new p q (Some blocks) g h = (pending-grows old new p q g blocks h, ap stack_text (stack_of-grows old new p q g blocks h.live))
 
 -- a loader that was fed no bytes
-pub new-loader : (ns : List Node) (loader : Option Kept) → loader ≡ Some unfed → IsLoader ns loader × (fed ns loader ≡ []) × (pending_count loader ≡ 0)
+pub new-loader : (ns : List Node) (loader : Option (List NodeId)) → loader ≡ Some [] → IsLoader ns loader × (fed ns loader ≡ []) × (pending_count loader ≡ 0)
 new-loader ns loader is =
     let none : IsPending ns [] = record { live = record { live = search rules }; rising = tt; short = omega arith } in
-    let known : AreKnown ns unfed.known = record { twos = search rules; fours = search rules; eights = search rules } in
-    (subst (IsLoader ns) (sym is) (none, known), ap (fed ns) is, ap pending_count is)
+    (subst (IsLoader ns) (sym is) none, ap (fed ns) is, ap pending_count is)
 
 -- the blocks without the last one
 pub record IsPopped (ns : List Node) (blocks prefix : List NodeId) (top : NodeId) : Type 0 where

@@ -6,7 +6,7 @@ use Rattle.slp_model.specs.Tree.{Tree, Leaf, Fork, text, height, IsBalanced}
 use Rattle.slp_model.specs.Join.{join, IsJoined}
 use Rattle.slp_model.proofs.TreeLemmas.{length-text, height-enough}
 use Rattle.slp_model.proofs.JoinLemmas.{join-joined}
-use Rattle.pair_loader.specs.Blocks.{IsFull}
+use Rattle.node_store.specs.Blocks.{IsFull}
 use Rattle.pair_loader.specs.Pending.{AreRising, stack_text}
 use Rattle.pair_loader.proofs.Counters.{gather_cost, top_height}
 

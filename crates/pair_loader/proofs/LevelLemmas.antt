@@ -6,8 +6,9 @@ use Rattle.std.proofs.lemmas.Nat.{pow-add, pow_pos, shr-shr, le-div}
 use Rattle.slp_model.specs.declared.NodeId.{NodeId}
 use Rattle.slp_model.specs.declared.Node.{Node}
 use Rattle.slp_model.specs.Nodes.{Grows}
-use Rattle.pair_loader.specs.Blocks.{IsBlockAt, AreBlocks}
-use Rattle.pair_loader.proofs.KnownLemmas.{block-grows}
+use Rattle.node_store.specs.Blocks.{IsBlockAt}
+use Rattle.pair_loader.specs.Blocks.{AreBlocks}
+use Rattle.node_store.proofs.KnownLemmas.{block-grows}
 
 -- a chunk as the code reads it
 pub chunk-read : (s : List ℕ) (n i : ℕ) → take (n * i + n - n * i) (drop (n * i) s) ≡ slice_chunk s n i

@@ -3,5 +3,5 @@ pub mod CounterLemmas
 pub mod StackLemmas
 pub mod GatherLemmas
 pub mod BlockLemmas
-pub mod KnownLemmas
+pub mod PairLemmas
 pub mod LevelLemmas

@@ -7,7 +7,7 @@ use Rattle.slp_model.specs.Join.{join_roots}
 use Rattle.slp_model.specs.Shape.{shape}
 use Rattle.pair_loader.proofs.Counters.{counter_push, counter_onto, collect, stack_push, stack_onto, gather}
 use Rattle.pair_loader.proofs.CounterLemmas.{shape-counter}
-use Rattle.pair_loader.specs.Blocks.{IsFull}
+use Rattle.node_store.specs.Blocks.{IsFull}
 use Rattle.pair_loader.specs.Pending.{AreRising, stack_text}
 
 -- the blocks of a counter

@@ -1,5 +1,3 @@
 pub mod Blocks
-pub mod Known
-pub mod WordsView
 pub mod Pending
 pub mod Laws

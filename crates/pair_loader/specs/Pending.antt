@@ -4,8 +4,7 @@ use Rattle.slp_model.specs.declared.NodeId.{NodeId}
 use Rattle.slp_model.specs.declared.Node.{Node}
 use Rattle.slp_model.specs.Tree.{Tree, text, height}
 use Rattle.slp_model.specs.Nodes.{tree, AreLiveIds}
-use Rattle.pair_loader.specs.Blocks.{IsFull}
-use Rattle.pair_loader.specs.Known.{Known, AreKnown}
+use Rattle.node_store.specs.Blocks.{IsFull}
 
 -- full trees, each higher than the one before, the first of height at least h
 abbrev pub AreRising : ℕ → List Tree → Type 0
@@ -27,26 +26,17 @@ pub record IsPending (ns : List Node) (blocks : List NodeId) : Type 0 where
   pub rising : AreRising 0 (stack_of ns blocks)
   pub short : length (stack_text (stack_of ns blocks)) ≤ 2 ^ 48
 
--- what a loader has that returned no error
-pub record Kept : Type 0 where
-  pub blocks : List NodeId
-  pub known : Known
-
--- before the first byte
-abbrev pub unfed : Kept
-unfed = record { blocks = []; known = record { twos = []; fours = []; eights = [] } }
-
 -- a loader that may be used with a store of these nodes; after an error it has nothing
-abbrev pub IsLoader : List Node → Option Kept → Type 0
+abbrev pub IsLoader : List Node → Option (List NodeId) → Type 0
 IsLoader ns None = Unit {0}
-IsLoader ns (Some kept) = IsPending ns kept.blocks × AreKnown ns kept.known
+IsLoader ns (Some blocks) = IsPending ns blocks
 
 -- the bytes that the loader was fed
-abbrev pub fed : List Node → Option Kept → List ℕ
+abbrev pub fed : List Node → Option (List NodeId) → List ℕ
 fed ns None = []
-fed ns (Some kept) = stack_text (stack_of ns kept.blocks)
+fed ns (Some blocks) = stack_text (stack_of ns blocks)
 
 -- the number of pending blocks
-abbrev pub pending_count : Option Kept → ℕ
+abbrev pub pending_count : Option (List NodeId) → ℕ
 pending_count None = 0
-pending_count (Some kept) = length kept.blocks
+pending_count (Some blocks) = length blocks

@@ -5,13 +5,11 @@ ghost use Rattle.slp_model.specs.Tree as spec;
 ghost use Rattle.slp_model.specs.Tree.{text, leaves};
 ghost use Rattle.slp_model.specs.Nodes.{tree, root_tree, Grows, IsLive, AreLiveIds};
 ghost use Rattle.slp_model.specs.Shape.{shape};
-ghost use Rattle.pair_loader.specs.Blocks.{IsFull, IsBlockAt};
-ghost use Rattle.pair_loader.specs.Known.{AreKnown};
-ghost use Rattle.pair_loader.specs.WordsView.{known_of};
+ghost use Rattle.node_store.specs.Blocks.{IsFull, IsBlockAt};
 ghost use Rattle.pair_loader.specs.Pending.{AreRising, stack_of, stack_text, IsPending};
 
 use super::levels::block_by_levels;
-use super::words::{WORD_HEIGHT, Words};
+use super::words::{WORD_HEIGHT, block_of_eight, block_of_four, block_of_two};
 use node_store::{NodeId, Store};
 use slp_concat::concat;
 use span_types::{NoMemory, Steps};
@@ -61,26 +59,23 @@ fn push_block<L: Ledger>(
 
 /// The block of 2^height bytes, at most 512.
 pub(crate) fn block_of<L: Ledger>(
-    words: &mut Words,
     store: &mut Store,
     piece: &[u8],
     height: u8,
     pairs: &mut Steps<L>,
 ) -> Result<NodeId, NoMemory>
-    requires known { AreKnown store.old (known_of words.old) }
     requires low { height ≤ 9 }
     requires long { length piece.now ≡ 2 ^ height }
     ensures grows { Grows store.old store.new pairs.old pairs.new }
-    ensures known { AreKnown store.new (known_of words.new) }
     ensures block { IfOk result (λ id. IsBlockAt store.new height piece.now id.index) }
     ensures cost { pairs.new + 1 ≤ pairs.old + length piece.now }
 {
     match height {
         0 => store.byte(piece[0]),
-        1 => words.two(store, piece, pairs),
-        2 => words.four(store, piece, pairs),
-        WORD_HEIGHT => words.eight(store, piece, pairs),
-        _ => block_by_levels(words, store, piece, height, pairs),
+        1 => block_of_two(store, piece, pairs),
+        2 => block_of_four(store, piece, pairs),
+        WORD_HEIGHT => block_of_eight(store, piece, pairs),
+        _ => block_by_levels(store, piece, height, pairs),
     }
 }
 
@@ -105,17 +100,14 @@ fn next_height(blocks: &Vec<NodeId>, store: &Store, len: usize) -> u8
 // Appends a block of the first bytes to the blocks, and returns the number of these bytes.
 fn push_some<L: Ledger>(
     blocks: &mut Vec<NodeId>,
-    words: &mut Words,
     store: &mut Store,
     piece: &[u8],
     pairs: &mut Steps<L>,
 ) -> Result<usize, NoMemory>
     requires pending { IsPending store.old blocks.old.items }
-    requires known { AreKnown store.old (known_of words.old) }
     requires some { 0 < length piece.now }
     requires short { length (stack_text (stack_of store.old blocks.old.items)) + length piece.now ≤ 2 ^ 48 }
     ensures grows { Grows store.old store.new pairs.old pairs.new }
-    ensures known { AreKnown store.new (known_of words.new) }
     ensures some { IfOk result (λ count. 0 < count) }
     ensures within { IfOk result (λ count. count ≤ length piece.now) }
     ensures pending { OnOk result (IsPending store.new blocks.new.items) }
@@ -125,7 +117,7 @@ fn push_some<L: Ledger>(
 {
     let height = next_height(blocks, store, piece.len());
     let count = size(height);
-    let block = block_of(words, store, &piece[..count], height, pairs)?;
+    let block = block_of(store, &piece[..count], height, pairs)?;
     push_block(blocks, store, block, height, pairs)?;
     Ok(count)
 }
@@ -133,16 +125,13 @@ fn push_some<L: Ledger>(
 /// Appends the bytes of a piece to the blocks.
 pub(crate) fn push_piece<L: Ledger>(
     blocks: &mut Vec<NodeId>,
-    words: &mut Words,
     store: &mut Store,
     piece: &[u8],
     pairs: &mut Steps<L>,
 ) -> Result<(), NoMemory>
     requires pending { IsPending store.old blocks.old.items }
-    requires known { AreKnown store.old (known_of words.old) }
     requires short { length (stack_text (stack_of store.old blocks.old.items)) + length piece.now ≤ 2 ^ 48 }
     ensures grows { Grows store.old store.new pairs.old pairs.new }
-    ensures known { OnOk result (AreKnown store.new (known_of words.new)) }
     ensures pending { OnOk result (IsPending store.new blocks.new.items) }
     ensures text { OnOk result (stack_text (stack_of store.new blocks.new.items) ≡ stack_text (stack_of store.old blocks.old.items) ++ piece.now) }
     ensures cost { OnOk result (pairs.new + vec_len blocks.new ≤ pairs.old + vec_len blocks.old + length piece.now) }
@@ -150,7 +139,7 @@ pub(crate) fn push_piece<L: Ledger>(
 {
     let mut rest = piece;
     while !rest.is_empty() {
-        let count = push_some(blocks, words, store, rest, pairs)?;
+        let count = push_some(blocks, store, rest, pairs)?;
         rest = &rest[count..];
     }
     Ok(())

@@ -1,11 +1,10 @@
 //! Blocks made level by level.
 ghost use Rattle.std.specs.Prelude.{◌≡◌, ◌+◌, ◌*◌, ◌/◌, ◌^◌, ◌<◌, ◌≤◌, length, IfOk, OnOk};
 ghost use Rattle.slp_model.specs.Nodes.{Grows};
-ghost use Rattle.pair_loader.specs.Blocks.{IsBlockAt, AreBlocks};
-ghost use Rattle.pair_loader.specs.Known.{AreKnown};
-ghost use Rattle.pair_loader.specs.WordsView.{known_of};
+ghost use Rattle.node_store.specs.Blocks.{IsBlockAt};
+ghost use Rattle.pair_loader.specs.Blocks.{AreBlocks};
 
-use super::words::{WORD_HEIGHT, Words};
+use super::words::{WORD_HEIGHT, block_of_eight};
 use node_store::{NodeId, Store};
 use span_types::{NoMemory, Steps};
 use std::sync::ledger::Ledger;
@@ -17,23 +16,20 @@ const MAX_WORDS: usize = 64;
 /// level to the store don't depend on each other, so a processor can overlap them. The two halves of a block and their
 /// pair do depend on each other.
 pub(crate) fn block_by_levels<L: Ledger>(
-    words: &mut Words,
     store: &mut Store,
     piece: &[u8],
     height: u8,
     pairs: &mut Steps<L>,
 ) -> Result<NodeId, NoMemory>
-    requires known { AreKnown store.old (known_of words.old) }
     requires high { 3 ≤ height }
     requires low { height ≤ 9 }
     requires long { length piece.now ≡ 2 ^ height }
     ensures grows { Grows store.old store.new pairs.old pairs.new }
-    ensures known { AreKnown store.new (known_of words.new) }
     ensures block { IfOk result (λ id. IsBlockAt store.new height piece.now id.index) }
     ensures cost { pairs.new + 1 ≤ pairs.old + length piece.now }
 {
     let mut ids = [NodeId { index: 0 }; MAX_WORDS];
-    put_words(words, store, piece, &mut ids, pairs)?;
+    put_words(store, piece, &mut ids, pairs)?;
     for level in WORD_HEIGHT..height {
         pair_neighbours(store, piece, level, &mut ids, pairs)?;
     }
@@ -42,22 +38,19 @@ pub(crate) fn block_by_levels<L: Ledger>(
 
 // Writes the blocks of the words of eight bytes of a piece, in their order, to the start of `ids`.
 fn put_words<L: Ledger>(
-    words: &mut Words,
     store: &mut Store,
     piece: &[u8],
     ids: &mut [NodeId],
     pairs: &mut Steps<L>,
 ) -> Result<(), NoMemory>
-    requires known { AreKnown store.old (known_of words.old) }
-    requires room { length piece.now / 8 ≤ length ids.old }
+    requires { length piece.now / 8 ≤ length ids.old }
     ensures grows { Grows store.old store.new pairs.old pairs.new }
-    ensures known { AreKnown store.new (known_of words.new) }
     ensures made { OnOk result (AreBlocks store.new 3 (length piece.now / 8) piece.now ids.new) }
     ensures cost { pairs.new ≤ pairs.old + 7 * (length piece.now / 8) }
 {
     for index in 0..piece.len() / 8 {
         let start = 8 * index;
-        ids[index] = words.eight(store, &piece[start..start + 8], pairs)?;
+        ids[index] = block_of_eight(store, &piece[start..start + 8], pairs)?;
     }
     Ok(())
 }

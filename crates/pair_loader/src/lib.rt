@@ -9,8 +9,8 @@
 //!
 //! The loader has at most one full block of each height, like a binary counter. So equal parts at multiples of their
 //! length become the same nodes. For n bytes it makes at most n + 4·(H(n)+1) calls to `pair`, each of expected constant
-//! time. Its own memory is at most 49 blocks, and a cache of up to 7 MB with blocks of two, four and eight bytes, which
-//! makes most calls to `pair` needless. The nodes that it makes are in the store.
+//! time. Its own memory is at most 49 blocks. The nodes that it makes are in the store, and so is a cache of the blocks
+//! of two, four and eight bytes, which makes most calls to `pair` needless.
 //!
 //! A text without repetition takes a node for each byte or so: there is no search for the smallest grammar, which is
 //! hard (M. Charikar et al., *The smallest grammar problem*, 2005). The trees are balanced by construction, as those of
@@ -21,11 +21,11 @@
 //! Tested: That pairs are made while pieces arrive.
 #![tactic(auto)]
 
-ghost use Rattle.std.specs.Prelude.{◌≡◌, ◌+◌, ◌*◌, ◌^◌, ◌≤◌, ◌++◌, length, None, Some, IfOk, OnOk, OnErr, IsErr};
+ghost use Rattle.std.specs.Prelude.{◌≡◌, ◌+◌, ◌*◌, ◌^◌, ◌≤◌, ◌++◌, [], length, None, Some, IfOk, OnOk, OnErr, IsErr};
 ghost use Rattle.span_types.specs.Fibonacci.{height_limit};
 ghost use Rattle.slp_model.specs.Nodes.{root_tree, Grows, IsLive};
 ghost use Rattle.slp_model.specs.Shape.{shape};
-ghost use Rattle.pair_loader.specs.Pending.{IsLoader, fed, pending_count, unfed};
+ghost use Rattle.pair_loader.specs.Pending.{IsLoader, fed, pending_count};
 
 mod blocks;
 pub mod law;
@@ -38,30 +38,25 @@ use span_types::{NoMemory, Steps};
 use std::alloc::Global;
 use std::marker::Model;
 use std::sync::ledger::Ledger;
-use words::Words;
 
 /// A text that is being loaded into a store.
 ///
 /// It has full blocks of bytes, at most one of each height, as nodes of the store: a block of height h has 2^h bytes.
-/// After an error it has none, and returns `NoMemory` from every call. From 4,096 bytes on it also has a cache of the
-/// blocks of the last words of two, four and eight bytes, if memory allows. The cache takes 192 KB, and 7 MB from
-/// 262,144 bytes on. So most of these words need no calls to `pair`.
+/// After an error it has none, and returns `NoMemory` from every call.
 #[derive(Drop)]
 pub struct Loader {
     // The highest block first.
     pending: Option<Vec<NodeId>>,
-    words: Words,
 }
 
 impl Model for Loader {
-    ghost use Rattle.std.specs.Prelude.{Option};
+    ghost use Rattle.std.specs.Prelude.{List, Option};
     ghost use Rattle.std.specs.Option.{option_map};
-    ghost use Rattle.pair_loader.specs.Pending.{Kept};
-    ghost use Rattle.pair_loader.specs.WordsView.{known_of};
+    ghost use Rattle.slp_model.specs.declared.NodeId.{NodeId};
 
-    ghost Value = { Option Kept };
+    ghost Value = { Option (List NodeId) };
 
-    ghost view = { λ l. option_map (λ blocks. record { blocks = blocks.items; known = known_of l.words }) l.pending };
+    ghost view = { λ l. option_map (λ blocks. blocks.items) l.pending };
 }
 
 impl Loader {
@@ -71,12 +66,11 @@ impl Loader {
     ///
     /// `NoMemory` if allocation fails.
     pub fn new(alloc: Global) -> Result<Loader, NoMemory>
-        ensures { IfOk result (λ loader. loader ≡ Some unfed) }
+        ensures { IfOk result (λ loader. loader ≡ Some []) }
     {
         let blocks = Vec::with_capacity(alloc, MAX_BLOCKS).map_err(|_| NoMemory)?;
         Ok(Loader {
             pending: Some(blocks),
-            words: Words::new(alloc),
         })
     }
 
@@ -106,8 +100,8 @@ impl Loader {
         ensures cost { pairs.new + pending_count self.new ≤ pairs.old + pending_count self.old + length piece.now }
     {
         let mut blocks = self.pending.take().ok_or(NoMemory)?;
-        self.words.make_room(piece.len());
-        push_piece(&mut blocks, &mut self.words, store, piece, pairs)?;
+        store.expect_bytes(piece.len());
+        push_piece(&mut blocks, store, piece, pairs)?;
         self.pending = Some(blocks);
         Ok(())
     }

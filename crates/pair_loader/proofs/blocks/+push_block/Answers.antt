@@ -3,7 +3,7 @@ use Rattle.std.proofs.lemmas.Result.{IfOk-equal}
 use Rattle.slp_model.specs.Tree.{text, leaves, height}
 use Rattle.slp_model.specs.Nodes.{tree, AreLiveIds}
 use Rattle.slp_model.proofs.NodesLemmas.{Grows-trans, Grows-none}
-use Rattle.pair_loader.specs.Blocks.{IsFull}
+use Rattle.node_store.specs.Blocks.{IsFull}
 use Rattle.pair_loader.specs.Pending.{AreRising, stack_of, stack_text}
 use Rattle.pair_loader.proofs.BlockLemmas.{IsPopped, popped, stack_of-grows, live-grows, pair-rising}
 use Rattle.pair_loader.proofs.blocks.+push_block.Goals as goal

@@ -7,7 +7,6 @@ use Rattle.pair_loader.proofs.blocks.push_piece.Goals as goal
 pub loop-rest-init : goal.loop-rest-init
 loop-rest-init g c = record {
   grows = Grows-none c.args.store.now c.args.pairs.now c.args.pairs.now (omega arith);
-  known = c.requires.known;
   pending = c.requires.pending;
   text = refl;
   cost = omega arith;
@@ -29,7 +28,6 @@ loop-rest-preserved g c =
     ∙ c.loop-rest.invariant.text)) in
     record {
       grows = Grows-trans _ _ _ _ _ _ c.loop-rest.invariant.grows c.push_some.ensures.grows;
-      known = c.in_ok-count.ensures.known;
       pending = c.in_ok-count.ensures.pending;
       text = ap (λ w. stack_text (stack_of c.push_some.new.store c.push_some.new.blocks.items) ++ w) (take_rest c.loop-rest.rest.now c.in_ok-count.count) ∙ joined;
       cost = omega (arith, c.loop-rest.invariant.cost, c.in_ok-count.ensures.cost, c.in_ok-count.ensures.within, length-drop c.in_ok-count.count c.loop-rest.rest.now, ap length (take_rest c.loop-rest.rest.now c.in_ok-count.count));

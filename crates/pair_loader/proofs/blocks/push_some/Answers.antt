@@ -5,9 +5,7 @@ use Rattle.slp_model.specs.Nodes.{tree}
 use Rattle.slp_model.proofs.TreeLemmas.{length-text}
 use Rattle.slp_model.proofs.NodesLemmas.{Grows-trans}
 use Rattle.pair_loader.specs.Pending.{AreRising, stack_of, stack_text}
-use Rattle.pair_loader.specs.WordsView.{known_of}
 use Rattle.pair_loader.proofs.BlockLemmas.{stack_of-grows, live-grows}
-use Rattle.pair_loader.proofs.KnownLemmas.{known-grows}
 use Rattle.pair_loader.proofs.blocks.push_some.Goals as goal
 
 pub block_of-requires-clause-long : goal.block_of-requires-clause-long
@@ -40,14 +38,8 @@ push_block-requires-clause-short g c =
 pub returns-in_err-push_block-clause-grows : goal.returns-in_err-push_block-clause-grows
 returns-in_err-push_block-clause-grows g c = Grows-trans _ _ _ _ _ _ c.block_of.ensures.grows c.push_block.ensures.grows
 
-pub returns-in_err-push_block-clause-known : goal.returns-in_err-push_block-clause-known
-returns-in_err-push_block-clause-known g c = known-grows _ _ _ _ c.push_block.ensures.grows (known_of c.block_of.new.words) c.block_of.ensures.known
-
 pub returns-clause-grows : goal.returns-clause-grows
 returns-clause-grows g c = Grows-trans _ _ _ _ _ _ c.block_of.ensures.grows c.push_block.ensures.grows
-
-pub returns-clause-known : goal.returns-clause-known
-returns-clause-known g c = known-grows _ _ _ _ c.push_block.ensures.grows (known_of c.block_of.new.words) c.block_of.ensures.known
 
 pub returns-clause-text : goal.returns-clause-text
 returns-clause-text g c =

@@ -1,13 +1,11 @@
 use Rattle.std.proofs.Common.{arith, ◌≡◌, ◌+◌, ◌^◌, get_or, length, sym, subst}
 use Rattle.slp_model.proofs.NodesLemmas.{Grows-none, Grows-trans}
-use Rattle.pair_loader.specs.Blocks.{IsBlockAt}
-use Rattle.pair_loader.specs.WordsView.{known_of}
-use Rattle.pair_loader.proofs.KnownLemmas.{known-grows}
+use Rattle.node_store.specs.Blocks.{IsBlockAt}
 use Rattle.pair_loader.proofs.LevelLemmas.{few-words, half-count, some-count, whole-block}
 use Rattle.pair_loader.proofs.levels.block_by_levels.Goals as goal
 
-pub put_words-requires-clause-room : goal.put_words-requires-clause-room
-put_words-requires-clause-room g c = few-words (length c.args.piece.now) c.args.height c.requires.long c.requires.low
+pub put_words-requires : goal.put_words-requires
+put_words-requires g c = few-words (length c.args.piece.now) c.args.height c.requires.long c.requires.low
 
 pub loop-level-init : goal.loop-level-init
 loop-level-init g c = record {
@@ -19,9 +17,6 @@ loop-level-init g c = record {
 
 pub returns-in_err-pair_neighbours-clause-grows : goal.returns-in_err-pair_neighbours-clause-grows
 returns-in_err-pair_neighbours-clause-grows g c = Grows-trans _ _ _ _ _ _ c.put_words.ensures.grows (Grows-trans _ _ _ _ _ _ c.loop-level.invariant.grows c.pair_neighbours.ensures.grows)
-
-pub returns-in_err-pair_neighbours-clause-known : goal.returns-in_err-pair_neighbours-clause-known
-returns-in_err-pair_neighbours-clause-known g c = known-grows _ _ _ _ (Grows-trans _ _ _ _ _ _ c.loop-level.invariant.grows c.pair_neighbours.ensures.grows) (known_of c.put_words.new.words) c.put_words.ensures.known
 
 pub returns-in_err-pair_neighbours-clause-cost : goal.returns-in_err-pair_neighbours-clause-cost
 returns-in_err-pair_neighbours-clause-cost g c =
@@ -41,9 +36,6 @@ loop-level-preserved g c =
 
 pub returns-clause-grows : goal.returns-clause-grows
 returns-clause-grows g c = Grows-trans _ _ _ _ _ _ c.put_words.ensures.grows c.loop-level.invariant.grows
-
-pub returns-clause-known : goal.returns-clause-known
-returns-clause-known g c = known-grows _ _ _ _ c.loop-level.invariant.grows (known_of c.put_words.new.words) c.put_words.ensures.known
 
 pub returns-clause-block : goal.returns-clause-block
 returns-clause-block g c =

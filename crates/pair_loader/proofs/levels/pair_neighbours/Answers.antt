@@ -1,6 +1,6 @@
 use Rattle.std.proofs.Common.{arith, ◌+◌, ◌<◌, ◌≢◌, length, refl, ◌∙◌, get_or-set_other}
 use Rattle.slp_model.proofs.NodesLemmas.{Grows-none, Grows-trans}
-use Rattle.pair_loader.proofs.KnownLemmas.{joined-block, block-of}
+use Rattle.pair_loader.proofs.PairLemmas.{joined-block, block-of}
 use Rattle.pair_loader.proofs.LevelLemmas.{neighbours, blocks-same, blocks-grow, blocks-more, joined-chunks, half-count}
 use Rattle.pair_loader.proofs.levels.pair_neighbours.Goals as goal
 

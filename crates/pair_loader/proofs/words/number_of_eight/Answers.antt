@@ -1,6 +1,6 @@
 use Rattle.std.proofs.Common.{rules, ℕ, ◌<◌, get_or, subst, sym, ◌∙◌}
 use Rattle.std.proofs.lemmas.Nat.{le_bytes_8}
-use Rattle.pair_loader.proofs.KnownLemmas.{list-of-eight}
+use Rattle.pair_loader.proofs.PairLemmas.{list-of-eight}
 use Rattle.pair_loader.proofs.words.number_of_eight.Goals as goal
 
 pub returns : goal.returns

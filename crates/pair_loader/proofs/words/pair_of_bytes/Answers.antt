@@ -1,9 +1,10 @@
 use Rattle.std.proofs.Common.{refl, []}
 use Rattle.std.proofs.Common.{◌∷◌}
 use Rattle.slp_model.proofs.NodesLemmas.{Grows-trans}
-use Rattle.pair_loader.specs.Blocks.{IsBlockAt}
+use Rattle.node_store.specs.Blocks.{IsBlockAt}
 use Rattle.pair_loader.proofs.BlockLemmas.{Grows-weaker}
-use Rattle.pair_loader.proofs.KnownLemmas.{block-grows, block-of, joined-block, leaf-block}
+use Rattle.node_store.proofs.KnownLemmas.{block-grows}
+use Rattle.pair_loader.proofs.PairLemmas.{block-of, joined-block, leaf-block}
 use Rattle.pair_loader.proofs.words.pair_of_bytes.Goals as goal
 
 pub pair_blocks-requires-clause-left : goal.pair_blocks-requires-clause-left

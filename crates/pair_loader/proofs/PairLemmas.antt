@@ -1,38 +1,12 @@
--- Blocks and known words, over a store that grows.
-use Rattle.std.proofs.Common.{◌≡◌, ℕ, ◌+◌, ◌<◌, ◌^◌, get_or, List, [], ◌∷◌, ◌++◌, length, take, drop, max, Option, Some, None, IfSome, refl, ap, sym, subst, ◌∙◌, arith}
-use Rattle.std.specs.Int.{Width, w16, w32, w64, to_le_bytes}
+-- Blocks of equal height, their pairs, and short words.
+use Rattle.std.proofs.Common.{◌≡◌, ℕ, ◌+◌, ◌<◌, ◌^◌, get_or, List, [], ◌∷◌, ◌++◌, length, take, drop, max, refl, ap, sym, subst, ◌∙◌, arith}
 use Rattle.std.proofs.lemmas.List.{take-append-drop}
-use Rattle.std.proofs.lemmas.List.Elements.{All-weaker}
 use Rattle.std.proofs.lemmas.Nat.{pow-add}
 use Rattle.slp_model.specs.declared.NodeId.{NodeId}
 use Rattle.slp_model.specs.declared.Node.{Node}
 use Rattle.slp_model.specs.Tree.{Tree, Leaf, Fork, text, height, leaves}
-use Rattle.slp_model.specs.Nodes.{tree, Grows}
-use Rattle.slp_model.proofs.NodesLemmas.{tree-grows, Grows-length}
-use Rattle.node_store.specs.Blocks.{IsBlockOf}
-use Rattle.pair_loader.specs.declared.words.Word.{Word}
-use Rattle.pair_loader.specs.Blocks.{IsFull, IsBlock, IsBlockAt}
-use Rattle.pair_loader.specs.Known.{IsWord, AreWords, Known, AreKnown}
-
-pub block-grows : (old new : List Node) (p q : ℕ) → Grows old new p q → (h : ℕ) (s : List ℕ) (i : ℕ) → IsBlockAt old h s i → IsBlockAt new h s i
-block-grows old new p q g h s i b = record {
-  live = omega (arith, b.live, Grows-length old new p q g);
-  block = subst (IsBlock h s) (sym (tree-grows old new p q g i b.live)) b.block;
-}
-
-word-grows : (old new : List Node) (p q : ℕ) → Grows old new p q → (h : ℕ) (w : Width) (block : Option ℕ) (bytes : ℕ) → IfSome block (λ i. IsBlockAt old h (to_le_bytes w bytes) i) → IfSome block (λ i. IsBlockAt new h (to_le_bytes w bytes) i)
-word-grows old new p q g h w None bytes k = tt
-word-grows old new p q g h w (Some i) bytes k = block-grows old new p q g h (to_le_bytes w bytes) i k
-
-pub words-grow : (old new : List Node) (p q : ℕ) → Grows old new p q → (h : ℕ) (w : Width) (words : List Word) → AreWords old h w words → AreWords new h w words
-words-grow old new p q g h w words k = All-weaker (IsWord old h w) (IsWord new h w) (λ x. word-grows old new p q g h w x.block x.bytes) words k
-
-pub known-grows : (old new : List Node) (p q : ℕ) → Grows old new p q → (known : Known) → AreKnown old known → AreKnown new known
-known-grows old new p q g known k = record {
-  twos = words-grow old new p q g 1 w16 known.twos k.twos;
-  fours = words-grow old new p q g 2 w32 known.fours k.fours;
-  eights = words-grow old new p q g 3 w64 known.eights k.eights;
-}
+use Rattle.slp_model.specs.Nodes.{tree}
+use Rattle.node_store.specs.Blocks.{IsFull, IsBlock, IsBlockAt, IsBlockOf}
 
 -- the pair of two blocks of equal height
 pub pair-block : (h : ℕ) (s t : List ℕ) (a b : Tree) → IsBlock h s a → IsBlock h t b → IsBlock (h + 1) (s ++ t) (Fork a b)

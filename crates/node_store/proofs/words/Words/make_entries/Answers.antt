@@ -1,5 +1,5 @@
 use Rattle.std.specs.Int.{w16, w32, w64}
-use Rattle.pair_loader.proofs.words.Words.make_entries.Goals as goal
+use Rattle.node_store.proofs.words.Words.make_entries.Goals as goal
 
 pub returns : goal.returns
 returns c = λ nodes k.

@@ -2,8 +2,26 @@
 use Rattle.std.specs.Prelude.{ℕ, List, IfSome, All}
 use Rattle.std.specs.Int.{Width, w16, w32, w64, to_le_bytes}
 use Rattle.slp_model.specs.declared.Node.{Node}
-use Rattle.pair_loader.specs.declared.words.Word.{Word}
-use Rattle.pair_loader.specs.Blocks.{IsBlockAt}
+use Rattle.node_store.specs.declared.words.Word.{Word}
+use Rattle.node_store.specs.declared.words.WordSize.{WordSize}
+use Rattle.node_store.specs.declared.words.WordSize.TheVariants.{Two, Four, Eight}
+use Rattle.node_store.specs.Blocks.{IsBlockAt}
+
+-- the height of the block of a word
+abbrev pub height_of : WordSize → ℕ
+height_of Two = 1
+height_of Four = 2
+height_of Eight = 3
+
+-- the numbers with as many bytes as a word
+abbrev pub width_of : WordSize → Width
+width_of Two = w16
+width_of Four = w32
+width_of Eight = w64
+
+-- the node with index i is the block of the word with these bytes, the first one lowest
+abbrev pub IsBlockOfWord : List Node → WordSize → ℕ → ℕ → Type 0
+IsBlockOfWord ns size bytes i = IsBlockAt ns (height_of size) (to_le_bytes (width_of size) bytes) i
 
 -- an entry is empty, or its node is the block of height h of its bytes
 abbrev pub IsWord : List Node → ℕ → Width → Word → Type 0
