@@ -74,8 +74,8 @@ impl Nfa {
         Ok(Nfa::from_lists(states, variables, edges, ends, letters))
     }
 
-    /// The automaton that takes over these parts, with byte sets among which are those of all edges.
-    pub(crate) fn from_lists(
+    /// The automaton that takes over these parts, with byte sets among which are those of all edges. Nothing is copied.
+    pub fn from_lists(
         states: u16,
         variables: u8,
         edges: Vec<Edge>,
