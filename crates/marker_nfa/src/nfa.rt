@@ -7,12 +7,14 @@ use std::alloc::Global;
 use std::marker::Model;
 
 /// A step from one state to another: it reads a mark and then one of the letters.
+///
+/// The three numbers are next to each other, so that an edge takes 40 bytes.
 #[derive(Clone, Copy)]
 pub struct Edge {
     pub from: u16,
     pub mark: u16,
-    pub letters: ByteSet,
     pub to: u16,
+    pub letters: ByteSet,
 }
 
 /// A state in which a text may end, with the last mark.

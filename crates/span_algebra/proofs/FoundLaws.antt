@@ -1,6 +1,7 @@
 -- The pairs that are found are those that the join reaches.
 use Rattle.std.proofs.Common.{◌≡◌, ℕ, zero, suc, ◌+◌, ◌^◌, ◌<◌, ◌≤◌, ◌↔◌, ◌⊎◌, inl, inr, List, [], ◌∷◌, ◌++◌, length, map, Some, Contains, slice_get, refl, sym, ap, subst, ◌∙◌, arith}
-use Rattle.std.proofs.lemmas.List.Elements.{Contains-append_left, Contains-append_right, Contains-append_cases}
+use Rattle.marker_nfa.specs.Parts.{Adds}
+use Rattle.marker_nfa.specs.declared.nfa.Edge.{Edge}
 use Rattle.marker_dfa.specs.Deterministic.{DeterministicAutomaton, IsDeterministic, states_of, next_of, marks_of}
 use Rattle.marker_dfa.specs.Reached.{CountIsAbove, IsIn, IsMove, IsReached, Subset, next, single, start}
 use Rattle.marker_dfa.proofs.Lists.{at_contains, contains_at, get_within, length_map, one_only, one_value}
@@ -16,8 +17,8 @@ use Rattle.span_algebra.specs.Refusals.{IsRefused}
 use Rattle.span_algebra.specs.Renaming.{both_names, mark_for}
 use Rattle.span_algebra.specs.Joints.{IsJointAmong, IsMeeting}
 use Rattle.span_algebra.specs.Making.{AreClasses}
-use Rattle.span_algebra.specs.Pairs.{AreDistinct, Gains, IsTargetAmong, NoRoom, number_of}
-use Rattle.span_algebra.specs.Products.{AreFound, AreShortSteps, IsAmongFirst, IsPair, IsPairStepAmong, IsStepOf}
+use Rattle.span_algebra.specs.Pairs.{AreDistinct, Gains, IsBetween, IsNumbered, IsNumberedAmong, IsTargetAmong, NoRoom, number_of}
+use Rattle.span_algebra.specs.Products.{AreFound, AreShortSteps, IsAmongFirst, IsPair, IsPairStepAmong, IsStepOf, IsStepOfFirst}
 use Rattle.span_algebra.specs.TreeAutomaton.{JoinStep, join_size, pair_of}
 use Rattle.span_algebra.proofs.CopyLaws.{step-within}
 use Rattle.span_algebra.proofs.JoinLaws.{AreApart, same-pair}
@@ -181,8 +182,8 @@ module _ (a : DeterministicAutomaton) (va : List (List ℕ)) (b : DeterministicA
     start = refl;
     within = λ p c. subst (λ (x : Pair). IsPair a b x) (sym (one_only zeros p c)) (da.has_start, db.has_start);
     reached = λ p c. subst (λ (x : Pair). IsReached size Step (single size (number_of x))) (sym (one_only zeros p c)) start;
-    steps_are = λ x. ((λ c. absurd (omega (arith, c.1))), (λ k. absurd (omega (arith, k.0.1))));
-    closed = λ x c. absurd (omega (arith, c.1));
+    edges_are = λ x. ((λ c. absurd (omega (arith, c.1))), (λ k. absurd (omega (arith, k.1.0.1))));
+    closed = λ s k. absurd (omega (arith, k.0.1));
   })
     where
       zeros : Pair
@@ -191,7 +192,7 @@ module _ (a : DeterministicAutomaton) (va : List (List ℕ)) (b : DeterministicA
       first : (i : ℕ) (p : Pair) → slice_get (zeros ∷ []) i ≡ Some p → i ≡ 0
       first i p x = omega (arith, get_within (zeros ∷ []) i p x)
 
-  module _ (most k : ℕ) (pairs : List Pair) (steps : List PairStep) (h : AreFound most a b size Step classes k pairs steps) (o : Pair) (at : slice_get pairs k ≡ Some o)
+  module _ (most k : ℕ) (pairs : List Pair) (edges : List Edge) (h : AreFound most a b size Step classes k pairs edges) (o : Pair) (at : slice_get pairs k ≡ Some o)
       (found : List PairStep) (are : (s : PairStep) → Contains found s ↔ IsPairStepAmong a b t o classes s) where
     here : Contains pairs o
     here = contains_at pairs k o at
@@ -221,46 +222,79 @@ module _ (a : DeterministicAutomaton) (va : List (List ℕ)) (b : DeterministicA
     either-reached p (inl c) = h.reached p c
     either-reached p (inr g) = target-reached p g
 
-    pub found-next : (more : List Pair) (all : List PairStep) → Gains most (IsTargetAmong found) pairs more → all ≡ steps ++ found → AreFound most a b size Step classes (k + 1) more all
-    found-next more all g e = subst (λ (l : List PairStep). AreFound most a b size Step classes (k + 1) more l) (sym e) (record {
+    -- both pairs of a step are found
+    pub found-between : (more : List Pair) → Gains most (IsTargetAmong found) pairs more → (s : PairStep) → Contains found s → IsBetween more s
+    found-between more g s c = (subst (λ (p : Pair). Contains more p) (sym ((found-to s c).0)) (contains_at more k o (g.stays k o at)), g.all s.to (s, c, refl))
+
+    pub found-next : (more : List Pair) (all : List Edge) → Gains most (IsTargetAmong found) pairs more → Adds edges all (IsNumberedAmong more found) → AreFound most a b size Step classes (k + 1) more all
+    found-next more all g adds = record {
       few = g.few;
       passed = omega (arith, get_within more k o (g.stays k o at));
       start = g.stays 0 (record { left = 0; right = 0 }) h.start;
       within = λ p c. either-pair p (g.only p c);
       reached = λ p c. either-reached p (g.only p c);
-      steps_are = λ x. ((λ c. to x (Contains-append_cases steps found x c)), (λ w. from x w.0 w.1));
-      closed = λ x c. closed x (Contains-append_cases steps found x c);
-    })
+      edges_are = λ x. ((λ c. to x ((adds x).0 c)), (λ w. (adds x).1 (from x w.0 w.1.0 w.1.1 w.2)));
+      closed = λ s w. closed s w.0 w.1;
+    }
       where
-        to : (x : PairStep) → Contains steps x ⊎ Contains found x → IsAmongFirst (k + 1) more x.from × IsStepOf Step classes x
-        to x (inl c) = let w = (h.steps_are x).0 c in ((w.0.0, omega (arith, w.0.1), g.stays w.0.0 x.from w.0.2), w.1)
-        to x (inr c) = let w = found-to x c in ((k, omega arith, subst (λ (p : Pair). slice_get more k ≡ Some p) (sym w.0) (g.stays k o at)), w.1)
+        later : (i : ℕ) (p : Pair) → slice_get pairs i ≡ Some p → slice_get more i ≡ Some p
+        later i p e = g.stays i p e
+
+        to : (x : Edge) → Contains edges x ⊎ IsNumberedAmong more found x → (s : PairStep) × IsStepOfFirst Step classes (k + 1) more s × IsNumbered more s x
+        to x (inl c) =
+            let w = (h.edges_are x).0 c in
+            let f = w.1.0 in
+            let n = w.2 in
+            (w.0, ((f.0, omega (arith, f.1), later f.0 w.0.from f.2), w.1.1), record { from = later x.from w.0.from n.from; to = later x.to w.0.to n.to; mark = n.mark; letters = n.letters })
+        to x (inr c) =
+            let w = found-to c.0 c.1 in
+            (c.0, ((k, omega arith, subst (λ (p : Pair). slice_get more k ≡ Some p) (sym w.0) (later k o at)), w.1), c.2)
 
         last : (i : ℕ) → i < k + 1 → (i < k) ⊎ (i ≡ k)
         last i n = grind arith
 
-        by : (x : PairStep) (i : ℕ) → slice_get more i ≡ Some x.from → IsStepOf Step classes x → (i < k) ⊎ (i ≡ k) → Contains (steps ++ found) x
-        by x i s w (inl lt) =
-            let old = at-before i lt in
-            let same : old.0 ≡ x.from = one_value more i old.0 x.from (g.stays i old.0 old.1) s in
-            Contains-append_left steps found x ((h.steps_are x).1 ((i, lt, old.1 ∙ ap Some same), w))
-          where
-            at-before : (i : ℕ) → i < k → (p : Pair) × (slice_get pairs i ≡ Some p)
-            at-before i lt = at-index pairs i (omega (arith, lt, get_within pairs k o at))
-        by x i s w (inr n) =
-            let there : slice_get more k ≡ Some x.from = subst (λ (j : ℕ). slice_get more j ≡ Some x.from) n s in
-            let same : x.from ≡ o = one_value more k x.from o there (g.stays k o at) in
-            Contains-append_right steps found x (found-from x same w)
+        -- a step of one of the first k pairs was there, and another one is among those found
+        either : (s : PairStep) (i : ℕ) → slice_get more i ≡ Some s.from → IsStepOf Step classes s → (i < k) ⊎ (i ≡ k) → IsStepOfFirst Step classes k pairs s ⊎ Contains found s
+        either s i e w (inl lt) =
+            let old = at-index pairs i (omega (arith, lt, get_within pairs k o at)) in
+            let same : old.0 ≡ s.from = one_value more i old.0 s.from (later i old.0 old.1) e in
+            inl ((i, lt, old.1 ∙ ap Some same), w)
+        either s i e w (inr n) =
+            let there : slice_get more k ≡ Some s.from = subst (λ (j : ℕ). slice_get more j ≡ Some s.from) n e in
+            let same : s.from ≡ o = one_value more k s.from o there (later k o at) in
+            inr (found-from s same w)
 
-        from : (x : PairStep) → IsAmongFirst (k + 1) more x.from → IsStepOf Step classes x → Contains (steps ++ found) x
-        from x f w = by x f.0 f.2 w (last f.0 f.1)
+        -- an index of a pair that was there is still its index
+        earlier : (j : ℕ) (p : Pair) → Contains pairs p → slice_get more j ≡ Some p → slice_get pairs j ≡ Some p
+        earlier j p c e =
+            let i = at_contains pairs p c in
+            subst (λ (n : ℕ). slice_get pairs n ≡ Some p) (g.few.apart i.0 j p (later i.0 p i.1) e) i.1
+
+        back : (x : Edge) (s : PairStep) → IsNumbered more s x → IsStepOfFirst Step classes k pairs s ⊎ Contains found s → Contains edges x ⊎ IsNumberedAmong more found x
+        back x s n (inl w) = inl ((h.edges_are x).1 (
+          s,
+          w,
+          record {
+            from = earlier x.from s.from (contains_at pairs w.0.0 s.from w.0.2) n.from;
+            to = earlier x.to s.to (h.closed s w) n.to;
+            mark = n.mark;
+            letters = n.letters;
+          },
+        ))
+        back x s n (inr c) = inr (s, c, n)
+
+        from : (x : Edge) (s : PairStep) → IsAmongFirst (k + 1) more s.from → IsStepOf Step classes s → IsNumbered more s x → Contains edges x ⊎ IsNumberedAmong more found x
+        from x s f w n = back x s n (either s f.0 f.2 w (last f.0 f.1))
 
         stays : (p : Pair) → Contains pairs p → Contains more p
-        stays p c = let i = at_contains pairs p c in contains_at more i.0 p (g.stays i.0 p i.1)
+        stays p c = let i = at_contains pairs p c in contains_at more i.0 p (later i.0 p i.1)
 
-        closed : (x : PairStep) → Contains steps x ⊎ Contains found x → Contains more x.to
-        closed x (inl c) = stays x.to (h.closed x c)
-        closed x (inr c) = g.all x.to (x, c, refl)
+        leads : (s : PairStep) → IsStepOfFirst Step classes k pairs s ⊎ Contains found s → Contains more s.to
+        leads s (inl w) = stays s.to (h.closed s w)
+        leads s (inr c) = g.all s.to (s, c, refl)
+
+        closed : (s : PairStep) → IsAmongFirst (k + 1) more s.from → IsStepOf Step classes s → Contains more s.to
+        closed s f w = leads s (either s f.0 f.2 w (last f.0 f.1))
 
     pub found-refused : (why : AlgebraRefusal) → IsRefused 0 (NoRoom most (IsTargetAmong found) pairs) why → IsRefused 0 (CountIsAbove most size Step) why
     found-refused TooManyVariables r = r

@@ -15,8 +15,8 @@ use Rattle.span_algebra.specs.declared.pairs.PairStep.{PairStep}
 use Rattle.span_algebra.specs.Renaming.{both_names, mark_for}
 use Rattle.span_algebra.specs.Joints.{IsJointAmong, IsMeeting}
 use Rattle.span_algebra.specs.Making.{AreClasses}
-use Rattle.span_algebra.specs.Pairs.{IsNumbered, number_of}
-use Rattle.span_algebra.specs.Products.{AreFound, HasNumbered, IsJoinNfa, IsPairEnd}
+use Rattle.span_algebra.specs.Pairs.{number_of}
+use Rattle.span_algebra.specs.Products.{AreFound, HasNumbered, IsJoinNfa, IsPairEnd, IsStepOfFirst}
 use Rattle.span_algebra.specs.TreeAutomaton.{JoinEnd, JoinStep, join_size}
 use Rattle.span_algebra.proofs.CopyLaws.{end-within}
 use Rattle.span_algebra.proofs.FoundLaws.{get-map, pair-known}
@@ -39,19 +39,14 @@ step-alike a va b vb o m c d p small la lb s = record {
   leads = s.leads;
 }
 
--- both pairs of a step are found
-pub numbered-between : (most : ℕ) (a b : DeterministicAutomaton) (n : ℕ) (Step : ℕ → ℕ → ℕ → ℕ → Type 0) (classes : List Class) (pairs : List Pair) (steps : List PairStep) → AreFound most a b n Step classes (length pairs) pairs steps → (s : PairStep) → Contains steps s → Contains pairs s.from × Contains pairs s.to
-numbered-between most a b n Step classes pairs steps found s c = let w = (found.steps_are s).0 c in (contains_at pairs w.0.0 s.from w.0.2, found.closed s c)
-
 flip : (a : DeterministicAutomaton) (c d : ℕ) → AreAlike a c d → AreAlike a d c
 flip a c d h q m = sym (h q m)
 
 module _ (a : DeterministicAutomaton) (va : List (List ℕ)) (b : DeterministicAutomaton) (vb : List (List ℕ)) (da : IsDeterministic a) (db : IsDeterministic b) (size_a : length va ≡ a.variables) (size_b : length vb ≡ b.variables)
     (apart_a : AreApart va) (apart_b : AreApart vb) (apart : AreApart (both_names va vb)) (few : length (both_names va vb) ≤ 8)
     (t : Meeting) (meets : IsMeeting va vb t) (classes : List Class) (ca : AreClasses a classes) (cb : AreClasses b classes)
-    (most : ℕ) (pairs : List Pair) (steps : List PairStep) (numbered : List Edge) (ends : List End) (states variables : ℕ)
-    (found : AreFound most a b (join_size a) (JoinStep a va b vb) classes (length pairs) pairs steps)
-    (numbered_are : (x : Edge) → Contains numbered x ↔ (s : PairStep) × Contains steps s × IsNumbered pairs s x)
+    (most : ℕ) (pairs : List Pair) (edges : List Edge) (ends : List End) (states variables : ℕ)
+    (found : AreFound most a b (join_size a) (JoinStep a va b vb) classes (length pairs) pairs edges)
     (ends_are : (e : End) → Contains ends e ↔ IsPairEnd a b t pairs e)
     (states_is : states ≡ length pairs) (variables_is : variables ≡ length (both_names va vb)) where
   abbrev names : List (List ℕ)
@@ -64,7 +59,7 @@ module _ (a : DeterministicAutomaton) (va : List (List ℕ)) (b : DeterministicA
   End_of = JoinEnd a va b vb
 
   abbrev made : Automaton
-  made = record { states = states; variables = variables; edges = numbered; ends = ends }
+  made = record { states = states; variables = variables; edges = edges; ends = ends }
 
   abbrev numbers : List ℕ
   numbers = map number_of pairs
@@ -88,10 +83,10 @@ module _ (a : DeterministicAutomaton) (va : List (List ℕ)) (b : DeterministicA
 
   step_to : (i m c j : ℕ) → Moves made i m c j → (o : ℕ) × (p : ℕ) × (slice_get numbers i ≡ Some o) × (slice_get numbers j ≡ Some p) × Step o m c p
   step_to i m c j mv =
-      let w = (numbered_are mv.edge).0 mv.among in
+      let w = (found.edges_are mv.edge).0 mv.among in
       let e = w.0 in
       let is = w.2 in
-      let h = ((found.steps_are e).0 w.1).1 in
+      let h = w.1.1 in
       let letter : slice_index_or h.class.letters c false ≡ true = subst (λ (l : List Bool). slice_index_or l c false ≡ true) (is.letters ∙ h.letters) mv.letter in
       let la = ca.alike h.class c h.among letter in
       let lb = cb.alike h.class c h.among letter in
@@ -112,10 +107,10 @@ module _ (a : DeterministicAutomaton) (va : List (List ℕ)) (b : DeterministicA
       let first : Step o m k.0.first p = step-alike a va b vb o m c k.0.first p own.0 (flip a c k.0.first la.1) (flip b c k.0.first lb.1) s in
       let e : PairStep = record { from = q.0; mark = m; letters = k.0.letters; to = r } in
       let step : Step (number_of q.0) m k.0.first (number_of r) = subst (λ (x : ℕ). Step (number_of q.0) m k.0.first x) s.leads (subst (λ (x : ℕ). Step x m k.0.first p) (sym q.2) first) in
-      let there : Contains steps e = (found.steps_are e).1 ((i, get_within pairs i q.0 q.1, q.1), record { class = k.0; among = k.1; letters = refl; step = step; below = omega (arith, lt, db.few_states) }) in
+      let there : IsStepOfFirst Step classes (length pairs) pairs e = ((i, get_within pairs i q.0 q.1, q.1), record { class = k.0; among = k.1; letters = refl; step = step; below = omega (arith, lt, db.few_states) }) in
       let j = at_contains pairs r (found.closed e there) in
       let x : Edge = record { from = i; mark = m; letters = k.0.letters; to = j.0 } in
-      (j.0, number-at j.0 r j.1 ∙ ap Some (sym s.leads), record { edge = x; among = (numbered_are x).1 (e, there, record { from = q.1; to = j.1; mark = refl; letters = refl }); from = refl; mark = refl; letter = k.2; to = refl })
+      (j.0, number-at j.0 r j.1 ∙ ap Some (sym s.leads), record { edge = x; among = (found.edges_are x).1 (e, there, record { from = q.1; to = j.1; mark = refl; letters = refl }); from = refl; mark = refl; letter = k.2; to = refl })
 
   left-end : (q m : ℕ) → Contains (ends_of a q) m → m < 4 ^ length va
   left-end q m h = subst (λ (k : ℕ). m < 4 ^ k) (sym size_a) (da.ends_small q m h)
@@ -156,7 +151,7 @@ module _ (a : DeterministicAutomaton) (va : List (List ℕ)) (b : DeterministicA
       } in
       (ends_are (record { state = i; mark = m })).1 (record { pair = p.0; there = p.1; end = (j, g, refl) })
 
-  pub join-parts : HasNumbered (join_size a) (JoinStep a va b vb) (JoinEnd a va b vb) (map number_of pairs) (record { states = states; variables = variables; edges = numbered; ends = ends })
+  pub join-parts : HasNumbered (join_size a) (JoinStep a va b vb) (JoinEnd a va b vb) (map number_of pairs) (record { states = states; variables = variables; edges = edges; ends = ends })
   join-parts = record {
     states = states_is ∙ sym (length_map number_of pairs);
     apart = apart_numbers;
@@ -168,17 +163,17 @@ module _ (a : DeterministicAutomaton) (va : List (List ℕ)) (b : DeterministicA
     end_from = end_from;
   }
 
-  pub join-nfa : IsJoinNfa a va b vb (record { states = states; variables = variables; edges = numbered; ends = ends })
+  pub join-nfa : IsJoinNfa a va b vb (record { states = states; variables = variables; edges = edges; ends = ends })
   join-nfa = record { variables = variables_is; pairs = pairs; parts = join-parts }
 
-  edge-mark : (x : Edge) → Contains numbered x → x.mark < 4 ^ length names
-  edge-mark x c = let w = (numbered_are x).0 c in omega (arith, w.2.mark, ((found.steps_are w.0).0 w.1).1.step.mark)
+  edge-mark : (x : Edge) → Contains edges x → x.mark < 4 ^ length names
+  edge-mark x c = let w = (found.edges_are x).0 c in omega (arith, w.2.mark, w.1.1.step.mark)
 
-  pub join-automaton : IsAutomaton (record { states = states; variables = variables; edges = numbered; ends = ends })
+  pub join-automaton : IsAutomaton (record { states = states; variables = variables; edges = edges; ends = ends })
   join-automaton = record {
     has_start = omega (arith, get_within pairs 0 (record { left = 0; right = 0 }) found.start, states_is);
     few_variables = omega (arith, variables_is, few);
-    edges_within = λ x c. (let w = (numbered_are x).0 c in (omega (arith, get_within pairs x.from w.0.from w.2.from, states_is), omega (arith, get_within pairs x.to w.0.to w.2.to, states_is)));
+    edges_within = λ x c. (let w = (found.edges_are x).0 c in (omega (arith, get_within pairs x.from w.0.from w.2.from, states_is), omega (arith, get_within pairs x.to w.0.to w.2.to, states_is)));
     ends_within = λ e c. (let h = (ends_are e).0 c in omega (arith, get_within pairs e.state h.pair h.there, states_is));
     wellmarked = record {
       edge_marks = λ x c. subst (λ (k : ℕ). x.mark < 4 ^ k) (sym variables_is) (edge-mark x c);

@@ -1,5 +1,5 @@
 -- The byte sets of edges are those of classes.
-use Rattle.std.proofs.Common.{◌≡◌, ℕ, ◌⊎◌, inl, inr, ◌↔◌, List, [], Bool, length, Option, Contains, sym, ap, subst, ◌∙◌, arith}
+use Rattle.std.proofs.Common.{◌≡◌, ℕ, ◌⊎◌, inl, inr, List, [], Bool, length, Option, Contains, sym, ap, subst, ◌∙◌, arith}
 use Rattle.marker_nfa.specs.Automaton.{AreLettersOf}
 use Rattle.marker_nfa.specs.Parts.{Adds}
 use Rattle.marker_nfa.specs.declared.nfa.Edge.{Edge}
@@ -7,9 +7,7 @@ use Rattle.marker_dfa.specs.Deterministic.{DeterministicAutomaton}
 use Rattle.marker_dfa.proofs.Lists.{length_map, get_map}
 use Rattle.span_algebra.specs.declared.classes.Class.{Class}
 use Rattle.span_algebra.specs.declared.pairs.Pair.{Pair}
-use Rattle.span_algebra.specs.declared.pairs.PairStep.{PairStep}
 use Rattle.span_algebra.specs.Making.{IsCopiedEdge, letters_of}
-use Rattle.span_algebra.specs.Pairs.{IsNumbered}
 use Rattle.span_algebra.specs.Products.{AreFound}
 use Rattle.span_algebra.proofs.PartLaws.{two-parts}
 
@@ -35,12 +33,8 @@ letters-of-two a b left right base classes e0 e1 e2 none h g e k = by ((two-part
     by (inl c) = copied-letters a left 1 classes e c
     by (inr c) = copied-letters b right base classes e c
 
-pub letters-of-pairs : (most : ℕ) (a b : DeterministicAutomaton) (n : ℕ) (Step : ℕ → ℕ → ℕ → ℕ → Type 0) (classes : List Class) (pairs : List Pair) (steps : List PairStep) (numbered : List Edge) → AreFound most a b n Step classes (length pairs) pairs steps
-    → ((x : Edge) → Contains numbered x ↔ (s : PairStep) × Contains steps s × IsNumbered pairs s x) → AreLettersOf numbered (letters_of classes)
-letters-of-pairs most a b n Step classes pairs steps numbered found are x k =
-    let w = (are x).0 k in
-    let step = ((found.steps_are w.0).0 w.1).1 in
+pub letters-of-pairs : (most : ℕ) (a b : DeterministicAutomaton) (n : ℕ) (Step : ℕ → ℕ → ℕ → ℕ → Type 0) (classes : List Class) (k : ℕ) (pairs : List Pair) (edges : List Edge) → AreFound most a b n Step classes k pairs edges → AreLettersOf edges (letters_of classes)
+letters-of-pairs most a b n Step classes k pairs edges found x c =
+    let w = (found.edges_are x).0 c in
+    let step = w.1.1 in
     class-letters classes step.class x.letters step.among (w.2.letters ∙ step.letters)
-
-pub same-letters : (edges : List Edge) (classes others items : List Class) → classes ≡ items → others ≡ items → AreLettersOf edges (letters_of classes) → AreLettersOf edges (letters_of others)
-same-letters edges classes others items e f h = subst (λ (l : List Class). AreLettersOf edges (letters_of l)) (e ∙ sym f) h

@@ -46,6 +46,10 @@ pub record IsNumbered (pairs : List Pair) (s : PairStep) (x : Edge) : Type 0 whe
   pub mark : x.mark ≡ s.mark
   pub letters : x.letters ≡ s.letters
 
+-- the same for some step of a list
+abbrev pub IsNumberedAmong : List Pair → List PairStep → Edge → Type 0
+IsNumberedAmong pairs steps x = (s : PairStep) × Contains steps s × IsNumbered pairs s x
+
 -- both pairs of a step are in the list
 abbrev pub IsBetween : List Pair → PairStep → Type 0
 IsBetween pairs s = Contains pairs s.from × Contains pairs s.to

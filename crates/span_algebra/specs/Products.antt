@@ -1,5 +1,6 @@
 -- The steps and ends of pairs of states, and the automaton of a join's reached pairs.
 use Rattle.std.specs.Prelude.{◌≡◌, ℕ, ◌<◌, ◌≤◌, ◌↔◌, List, length, map, Some, slice_get, Contains}
+use Rattle.marker_nfa.specs.declared.nfa.Edge.{Edge}
 use Rattle.marker_nfa.specs.declared.nfa.End.{End}
 use Rattle.marker_dfa.specs.Reached.{IsReached, single}
 use Rattle.marker_dfa.specs.Deterministic.{DeterministicAutomaton, ends_of, marks_of, next_of, states_of}
@@ -11,7 +12,7 @@ use Rattle.span_algebra.specs.declared.pairs.Pair.{Pair}
 use Rattle.span_algebra.specs.declared.pairs.PairStep.{PairStep}
 use Rattle.marker_nfa.specs.Automaton.{Automaton, Moves, MayEnd}
 use Rattle.span_algebra.specs.Joints.{AreShortWith, IsJointAmong}
-use Rattle.span_algebra.specs.Pairs.{AreFew, number_of}
+use Rattle.span_algebra.specs.Pairs.{AreFew, IsNumbered, number_of}
 use Rattle.span_algebra.specs.Renaming.{both_names}
 use Rattle.span_algebra.specs.TreeAutomaton.{JoinEnd, JoinStep, join_size}
 
@@ -61,16 +62,20 @@ pub record IsStepOf (Step : ℕ → ℕ → ℕ → ℕ → Type 0) (classes : L
 abbrev pub IsAmongFirst : ℕ → List Pair → Pair → Type 0
 IsAmongFirst k pairs p = (i : ℕ) × (i < k) × (slice_get pairs i ≡ Some p)
 
+-- a step of one of the first k pairs
+abbrev pub IsStepOfFirst : (ℕ → ℕ → ℕ → ℕ → Type 0) → List Class → ℕ → List Pair → PairStep → Type 0
+IsStepOfFirst Step classes k pairs s = IsAmongFirst k pairs s.from × IsStepOf Step classes s
+
 -- at most `most` distinct reached pairs, the first for the start, and the steps of the first k of them, which lead to
--- pairs of them
-pub record AreFound (most : ℕ) (a b : DeterministicAutomaton) (n : ℕ) (Step : ℕ → ℕ → ℕ → ℕ → Type 0) (classes : List Class) (k : ℕ) (pairs : List Pair) (steps : List PairStep) : Type 0 where
+-- pairs of them, as edges between their indices
+pub record AreFound (most : ℕ) (a b : DeterministicAutomaton) (n : ℕ) (Step : ℕ → ℕ → ℕ → ℕ → Type 0) (classes : List Class) (k : ℕ) (pairs : List Pair) (edges : List Edge) : Type 0 where
   pub few : AreFew most pairs
   pub passed : k ≤ length pairs
   pub start : slice_get pairs 0 ≡ Some (record { left = 0; right = 0 })
   pub within : (p : Pair) → Contains pairs p → IsPair a b p
   pub reached : (p : Pair) → Contains pairs p → IsReached n Step (single n (number_of p))
-  pub steps_are : (s : PairStep) → Contains steps s ↔ IsAmongFirst k pairs s.from × IsStepOf Step classes s
-  pub closed : (s : PairStep) → Contains steps s → Contains pairs s.to
+  pub edges_are : (x : Edge) → Contains edges x ↔ (s : PairStep) × IsStepOfFirst Step classes k pairs s × IsNumbered pairs s x
+  pub closed : (s : PairStep) → IsStepOfFirst Step classes k pairs s → Contains pairs s.to
 
 -- An automaton whose states are the indices of distinct occurrences, among them every one to which a step leads from
 -- another.
@@ -84,9 +89,9 @@ pub record HasNumbered (n : ℕ) (Step : ℕ → ℕ → ℕ → ℕ → Type 0)
   pub end_to : (i m : ℕ) → MayEnd a i m → (o : ℕ) × (slice_get pairs i ≡ Some o) × End o m
   pub end_from : (i o m : ℕ) → slice_get pairs i ≡ Some o → End o m → MayEnd a i m
 
--- the pairs that a join reaches, at most `most`, and their steps by classes of bytes
+-- the pairs that a join reaches, at most `most`, and their steps by classes of bytes, as edges
 pub record IsExplored (most : ℕ) (a : DeterministicAutomaton) (va : List (List ℕ)) (b : DeterministicAutomaton) (vb : List (List ℕ)) (classes : List Class) (x : Explored) : Type 0 where
-  pub found : AreFound most a b (join_size a) (JoinStep a va b vb) classes (length x.pairs.items) x.pairs.items x.steps.items
+  pub found : AreFound most a b (join_size a) (JoinStep a va b vb) classes (length x.pairs.items) x.pairs.items x.edges.items
 
 -- an automaton of a join's reached pairs
 pub record IsJoinNfa (a : DeterministicAutomaton) (va : List (List ℕ)) (b : DeterministicAutomaton) (vb : List (List ℕ)) (n : Automaton) : Type 0 where

@@ -1,8 +1,8 @@
 //! Bytes that automata never distinguish.
 
-ghost use Rattle.std.specs.Prelude.{◌+◌, IfOk, IfSome, IsTrue};
+ghost use Rattle.std.specs.Prelude.{◌≡◌, ◌+◌, IfOk, IfSome, IsTrue};
 ghost use Rattle.marker_dfa.specs.Deterministic.{AreAlike};
-ghost use Rattle.span_algebra.specs.Making.{AreClasses, AreClassesUpTo, IsClassOf};
+ghost use Rattle.span_algebra.specs.Making.{AreClasses, AreClassesUpTo, IsClassOf, letters_of};
 
 use marker_dfa::Dfa;
 use span_types::{ByteSet, NoMemory};
@@ -67,4 +67,11 @@ pub fn classes_of(alloc: Global, left: &Dfa, right: &Dfa) -> Result<Vec<Class>, 
         put_byte(&mut classes, left, right, byte as u8)?;
     }
     Ok(classes)
+}
+
+/// The byte sets of classes.
+pub fn sets_of(alloc: Global, classes: &[Class]) -> Result<Vec<ByteSet>, NoMemory>
+    ensures { IfOk result (λ sets. sets.items ≡ letters_of classes.now) }
+{
+    Ok(classes.iter().map(|class| class.letters).collect(alloc)?)
 }

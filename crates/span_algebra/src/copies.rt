@@ -20,6 +20,27 @@ pub struct OperandCopy<'a> {
     pub base: u16,
 }
 
+/// The number of steps of a state by the bytes of classes.
+fn state_step_count(dfa: &Dfa, state: u16, classes: &[Class]) -> usize
+    requires { state < states_of dfa.now }
+{
+    let mut count: usize = 0;
+    for class in classes {
+        count = count.saturating_add(dfa.marks(state, class.first).len());
+    }
+    count
+}
+
+/// The number of edges that `push_edges` appends. It is for reserving memory alone.
+pub fn step_count(copy: OperandCopy<'_>, classes: &[Class]) -> usize {
+    let states = copy.dfa.states();
+    let mut count = state_step_count(copy.dfa, 0, classes);
+    for state in 0..states {
+        count = count.saturating_add(state_step_count(copy.dfa, state, classes));
+    }
+    count
+}
+
 /// Appends the step of a state by a mark and the bytes of a class to a list, if there is one, as an edge from `from`.
 fn push_edge(
     copy: OperandCopy<'_>,

@@ -1,6 +1,6 @@
 //! The pairs of states that a join reaches, found from the pair of the starts on.
 
-ghost use Rattle.std.specs.Prelude.{◌≡◌, ◌≤◌, ◌∷◌, ◌++◌, [], IfErr, IfOk, length};
+ghost use Rattle.std.specs.Prelude.{◌≡◌, ◌≤◌, ◌∷◌, [], IfErr, IfOk, length};
 ghost use Rattle.marker_dfa.specs.Reached.{CountIsAbove};
 ghost use Rattle.span_algebra.specs.Making.{AreClasses};
 ghost use Rattle.span_algebra.specs.Products.{IsExplored};
@@ -12,18 +12,18 @@ use crate::classes::Class;
 use crate::hints::Hints;
 use crate::joints::meeting_of;
 use crate::names::Operand;
-use crate::pairs::{Pair, PairStep, put_targets};
+use crate::pairs::{Pair, put_numbered, put_targets};
 use crate::product::{Sides, steps_of};
 use crate::refusal::AlgebraRefusal;
+use marker_nfa::Edge;
 use span_types::{NoMemory, Vars};
 use std::alloc::Global;
 
-/// Pairs of states, hints to their indices, and the steps between them.
+/// Pairs of states, and the edges between their indices.
 #[derive(Drop)]
 pub struct Explored {
     pub pairs: Vec<Pair>,
-    pub hints: Hints,
-    pub steps: Vec<PairStep>,
+    pub edges: Vec<Edge>,
 }
 
 /// The pair of the starts, alone in a list.
@@ -35,15 +35,8 @@ fn start_pairs(alloc: Global) -> Result<Vec<Pair>, NoMemory>
     Ok(pairs)
 }
 
-/// Appends steps.
-fn put_steps(steps: &mut Vec<PairStep>, more: &[PairStep]) -> Result<(), NoMemory>
-    ensures { IfOk result (λ _. steps.new.items ≡ steps.old.items ++ more.now) }
-{
-    steps.extend_from_slice(more)?;
-    Ok(())
-}
-
-/// The pairs that are reached and their steps. It ends when there are more than `most` pairs.
+/// The pairs that are reached and their steps, as edges between the indices of pairs. It ends when there are more than
+/// `most` pairs.
 pub fn explore(
     alloc: Global,
     left: Operand<'_>,
@@ -58,6 +51,7 @@ pub fn explore(
     requires of_left { AreClasses left.dfa.now classes.now }
     requires of_right { AreClasses right.dfa.now classes.now }
     requires some { 1 ≤ most }
+    requires many { most ≤ 1024 }
     ensures explored { IfOk result (IsExplored most left.entry.dfa.now left.entry.names.now right.entry.dfa.now right.entry.names.now classes.now) }
     ensures refused { IfErr result (IsRefused 0 (CountIsAbove most (join_size left.entry.dfa.now) (JoinStep left.entry.dfa.now left.entry.names.now right.entry.dfa.now right.entry.names.now))) }
 {
@@ -74,17 +68,13 @@ pub fn explore(
     };
     let mut pairs = start_pairs(alloc)?;
     let mut hints = Hints::new(alloc, right_states);
-    let mut steps = Vec::new(alloc);
+    let mut edges = Vec::new(alloc);
     let mut done = 0;
     'pairs: while done < pairs.len() {
         let found = steps_of(alloc, sides, pairs[done], classes)?;
         put_targets(alloc, &mut pairs, &mut hints, &found, most)?;
-        put_steps(&mut steps, &found)?;
+        put_numbered(&pairs, &hints, &found, &mut edges)?;
         done += 1;
     }
-    Ok(Explored {
-        pairs,
-        hints,
-        steps,
-    })
+    Ok(Explored { pairs, edges })
 }

@@ -1,22 +1,20 @@
 //! The natural join of two automata.
 
 ghost use Rattle.std.specs.Prelude.{◌≡◌, ◌≤◌, IfErr, IfOk, length};
-ghost use Rattle.marker_nfa.specs.Automaton.{AreLettersOf};
 ghost use Rattle.marker_dfa.specs.Reached.{CountIsAbove};
 ghost use Rattle.marker_dfa.specs.Deterministic.{IsAutomatonOf};
 ghost use Rattle.span_algebra.specs.Answers.{GivesJoin};
-ghost use Rattle.span_algebra.specs.Making.{AreClasses, letters_of};
+ghost use Rattle.span_algebra.specs.Making.{AreClasses};
 ghost use Rattle.span_algebra.specs.Products.{IsJoinNfa};
 ghost use Rattle.span_algebra.specs.Refusals.{IsRefused};
 ghost use Rattle.span_algebra.specs.Renaming.{both_names};
 ghost use Rattle.span_algebra.specs.TreeAutomaton.{JoinEnd, JoinStep, join_size};
 
-use crate::classes::{Class, classes_of};
+use crate::classes::{Class, classes_of, sets_of};
 use crate::determined::{DEFAULT_MAX_STATES, determined};
 use crate::exploring::explore;
 use crate::joints::meeting_of;
 use crate::names::{Operand, names_of_both};
-use crate::pairs::numbered;
 use crate::product::{Sides, ends_of};
 use crate::refusal::AlgebraRefusal;
 use marker_dfa::Dfa;
@@ -41,7 +39,6 @@ fn join_nfa(
     requires few { 128 ≤ most }
     requires many { most ≤ 1024 }
     ensures made { IfOk result (IsJoinNfa left.entry.dfa.now left.entry.names.now right.entry.dfa.now right.entry.names.now) }
-    ensures letters { IfOk result (λ nfa. AreLettersOf nfa.edges (letters_of classes.now)) }
     ensures refused { IfErr result (IsRefused 0 (CountIsAbove most (join_size left.entry.dfa.now) (JoinStep left.entry.dfa.now left.entry.names.now right.entry.dfa.now right.entry.names.now))) }
 {
     let left_states = left.dfa.states();
@@ -51,7 +48,6 @@ fn join_nfa(
     let variables = names.count();
     let meeting = meeting_of(alloc, left.names, right.names, names)?;
     let explored = explore(alloc, left, right, names, classes, most)?;
-    let edges = numbered(alloc, &explored.pairs, &explored.hints, &explored.steps)?;
     let sides = Sides {
         left: left.dfa,
         right: right.dfa,
@@ -59,7 +55,8 @@ fn join_nfa(
     };
     let ends = ends_of(alloc, sides, &explored.pairs)?;
     let states = explored.pairs.len() as u16;
-    Ok(Nfa::of_parts(alloc, states, variables, &edges, &ends)?)
+    let letters = sets_of(alloc, classes)?;
+    Ok(Nfa::from_lists(states, variables, explored.edges, ends, letters))
 }
 
 /// The automaton of a join, whose variables have these names, with at most `most` states.
@@ -87,7 +84,7 @@ fn join_dfa(
     let count = names.count();
     let classes = classes_of(alloc, left.dfa, right.dfa)?;
     let nfa = join_nfa(alloc, left, right, names, &classes, most)?;
-    determined(alloc, &nfa, &classes, most)
+    determined(alloc, &nfa, most)
 }
 
 /// The automaton of the unions of an answer of each side, if the two agree on every variable of both, and its

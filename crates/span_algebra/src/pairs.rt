@@ -1,10 +1,9 @@
 //! Lists of pairs of states, and steps between them.
 
-ghost use Rattle.std.specs.Prelude.{◌≡◌, ◌↔◌, ◌++◌, ◌∷◌, [], Contains, IfErr, IfOk, IsTrue, MatchOption, Some, slice_get};
-ghost use Rattle.marker_nfa.specs.declared.nfa.Edge.{Edge};
+ghost use Rattle.std.specs.Prelude.{◌≡◌, ◌++◌, ◌∷◌, [], Contains, IfErr, IfOk, IsTrue, MatchOption, Some, slice_get};
 ghost use Rattle.marker_nfa.specs.Parts.{Adds};
 ghost use Rattle.span_algebra.specs.declared.pairs.PairStep.{PairStep};
-ghost use Rattle.span_algebra.specs.Pairs.{AreFew, Gains, IsBetween, IsNumbered, IsTargetAmong, NoRoom};
+ghost use Rattle.span_algebra.specs.Pairs.{AreFew, Gains, IsBetween, IsNumbered, IsNumberedAmong, IsTargetAmong, NoRoom};
 ghost use Rattle.span_algebra.specs.Refusals.{IsRefused};
 
 use crate::hints::Hints;
@@ -135,20 +134,19 @@ fn push_numbered(
     Ok(())
 }
 
-/// Steps between pairs, as edges between their indices.
-pub fn numbered(
-    alloc: Global,
+/// Appends steps between pairs to a list, as edges between their indices.
+pub fn put_numbered(
     pairs: &[Pair],
     hints: &Hints,
     steps: &[PairStep],
-) -> Result<Vec<Edge>, NoMemory>
+    edges: &mut Vec<Edge>,
+) -> Result<(), NoMemory>
     requires few { AreFew 1024 pairs.now }
     requires between { (s : PairStep) → Contains steps.now s → IsBetween pairs.now s }
-    ensures { IfOk result (λ edges. (x : Edge) → Contains edges.items x ↔ (s : PairStep) × Contains steps.now s × IsNumbered pairs.now s x) }
+    ensures { IfOk result (λ _. Adds edges.old.items edges.new.items (IsNumberedAmong pairs.now steps.now)) }
 {
-    let mut edges = Vec::new(alloc);
     for step in steps {
-        push_numbered(pairs, hints, step, &mut edges)?;
+        push_numbered(pairs, hints, step, edges)?;
     }
-    Ok(edges)
+    Ok(())
 }

@@ -1,16 +1,15 @@
 //! The projection of an automaton.
 
 ghost use Rattle.std.specs.Prelude.{◌≡◌, ◌≤◌, IfErr, IfOk, length};
-ghost use Rattle.marker_nfa.specs.Automaton.{AreLettersOf};
 ghost use Rattle.marker_dfa.specs.Reached.{CountIsAbove};
 ghost use Rattle.marker_dfa.specs.Deterministic.{IsAutomatonOf, states_of};
 ghost use Rattle.span_algebra.specs.Answers.{GivesProjection};
-ghost use Rattle.span_algebra.specs.Making.{AreClasses, IsProjectNfa, letters_of};
+ghost use Rattle.span_algebra.specs.Making.{AreClasses, IsProjectNfa};
 ghost use Rattle.span_algebra.specs.Refusals.{IsRefused};
 ghost use Rattle.span_algebra.specs.TreeAutomaton.{ProjectEnd, ProjectStep};
 
-use crate::classes::{Class, classes_of};
-use crate::copies::{OperandCopy, push_edges, push_ends};
+use crate::classes::{Class, classes_of, sets_of};
+use crate::copies::{OperandCopy, push_edges, push_ends, step_count};
 use crate::determined::{DEFAULT_MAX_STATES, determined};
 use crate::names::indices_of;
 use crate::refusal::AlgebraRefusal;
@@ -30,7 +29,6 @@ fn project_nfa(
     requires names { length names.now ≡ source.now.variables }
     requires classes { AreClasses source.now classes.now }
     ensures made { IfOk result (IsProjectNfa source.now names.now keep.now) }
-    ensures letters { IfOk result (λ nfa. AreLettersOf nfa.edges (letters_of classes.now)) }
 {
     let states = source.states();
     let variables = keep.count();
@@ -40,11 +38,12 @@ fn project_nfa(
         places: &places,
         base: 0,
     };
-    let mut edges = Vec::new(alloc);
+    let mut edges = Vec::with_capacity(alloc, step_count(copy, classes))?;
     push_edges(copy, classes, &mut edges)?;
     let mut ends = Vec::new(alloc);
     push_ends(copy, &mut ends)?;
-    Nfa::of_parts(alloc, states, variables, &edges, &ends)
+    let letters = sets_of(alloc, classes)?;
+    Ok(Nfa::from_lists(states, variables, edges, ends, letters))
 }
 
 /// The automaton of the restrictions of the answers to some variables, in the order of `keep`. Answers with equal
@@ -97,5 +96,5 @@ pub fn project_within(
     let variables = keep.count();
     let classes = classes_of(alloc, source, source)?;
     let nfa = project_nfa(alloc, source, names, keep, &classes)?;
-    determined(alloc, &nfa, &classes, most)
+    determined(alloc, &nfa, most)
 }

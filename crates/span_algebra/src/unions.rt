@@ -1,17 +1,16 @@
 //! The union of two automata.
 
 ghost use Rattle.std.specs.Prelude.{◌≡◌, ◌≤◌, IfErr, IfOk, length};
-ghost use Rattle.marker_nfa.specs.Automaton.{AreLettersOf};
 ghost use Rattle.marker_dfa.specs.Reached.{CountIsAbove};
 ghost use Rattle.marker_dfa.specs.Deterministic.{IsAutomatonOf};
 ghost use Rattle.span_algebra.specs.Answers.{GivesUnion};
-ghost use Rattle.span_algebra.specs.Making.{AreClasses, IsUnionNfa, letters_of};
+ghost use Rattle.span_algebra.specs.Making.{AreClasses, IsUnionNfa};
 ghost use Rattle.span_algebra.specs.Refusals.{IsRefused};
 ghost use Rattle.span_algebra.specs.Renaming.{both_names};
 ghost use Rattle.span_algebra.specs.TreeAutomaton.{UnionEnd, UnionStep, union_size};
 
-use crate::classes::{Class, classes_of};
-use crate::copies::{OperandCopy, push_edges, push_ends};
+use crate::classes::{Class, classes_of, sets_of};
+use crate::copies::{OperandCopy, push_edges, push_ends, step_count};
 use crate::determined::{DEFAULT_MAX_STATES, determined};
 use crate::names::{Operand, indices_of, names_of_both};
 use crate::refusal::AlgebraRefusal;
@@ -34,7 +33,6 @@ fn union_nfa(
     requires of_left { AreClasses left.dfa.now classes.now }
     requires of_right { AreClasses right.dfa.now classes.now }
     ensures made { IfOk result (IsUnionNfa left.entry.dfa.now left.entry.names.now right.entry.dfa.now right.entry.names.now) }
-    ensures letters { IfOk result (λ nfa. AreLettersOf nfa.edges (letters_of classes.now)) }
 {
     let left_states = left.dfa.states();
     let right_states = right.dfa.states();
@@ -52,13 +50,15 @@ fn union_nfa(
         places: &right_places,
         base,
     };
-    let mut edges = Vec::new(alloc);
+    let room = step_count(left_copy, classes).saturating_add(step_count(right_copy, classes));
+    let mut edges = Vec::with_capacity(alloc, room)?;
     push_edges(left_copy, classes, &mut edges)?;
     push_edges(right_copy, classes, &mut edges)?;
     let mut ends = Vec::new(alloc);
     push_ends(left_copy, &mut ends)?;
     push_ends(right_copy, &mut ends)?;
-    Nfa::of_parts(alloc, base + right_states, variables, &edges, &ends)
+    let letters = sets_of(alloc, classes)?;
+    Ok(Nfa::from_lists(base + right_states, variables, edges, ends, letters))
 }
 
 /// The automaton of a union, whose variables have these names, with at most `most` states.
@@ -84,7 +84,7 @@ fn union_dfa(
     let variables = names.count();
     let classes = classes_of(alloc, left.dfa, right.dfa)?;
     let nfa = union_nfa(alloc, left, right, names, &classes)?;
-    determined(alloc, &nfa, &classes, most)
+    determined(alloc, &nfa, most)
 }
 
 /// The automaton of the answers of either side, and its variables: those of the left, then those of the right that the

@@ -2,7 +2,6 @@ use Rattle.std.proofs.Common.{◌≤◌, ◌∙◌, length, map, ap, arith}
 use Rattle.span_algebra.specs.Pairs.{number_of}
 use Rattle.span_algebra.specs.Renaming.{both_names}
 use Rattle.span_algebra.proofs.EdgeLaws.{ok-map}
-use Rattle.span_algebra.proofs.LetterLaws.{same-letters}
 use Rattle.span_algebra.proofs.RefusalLaws.{refused-by}
 use Rattle.span_algebra.proofs.SetLaws.{automaton-moved, count-moved, numbered-matched, turned}
 use Rattle.span_algebra.proofs.JoinLaws.{gives-join}
@@ -25,6 +24,3 @@ pub returns-clause-refused : goal.returns-clause-refused
 returns-clause-refused c = let va = c.args.left.names.now in let vb = c.args.right.names.now in
     let few : length (both_names va vb) ≤ 8 = omega (arith, c.count-count.ensures.vars.few, ap length c.requires.names) in
     refused-by c.determined.result _ _ _ few (count-moved (numbered-matched c.in_ok-nfa.ensures.made.parts) c.args.most) c.determined.ensures.refused
-
-pub determined-requires-clause-letters : goal.determined-requires-clause-letters
-determined-requires-clause-letters c = same-letters c.in_ok-nfa.nfa.edges c.deref.result.now c.deref-2.result.now c.in_ok-classes.classes.items c.deref.ensures.value c.deref-2.ensures.value c.in_ok-nfa.ensures.letters

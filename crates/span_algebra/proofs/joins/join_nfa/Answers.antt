@@ -1,26 +1,17 @@
 use Rattle.std.proofs.Common.{◌≤◌, ◌∙◌, ℕ, List, length, ap, sym, subst, arith}
-use Rattle.marker_nfa.specs.Automaton.{AreLettersOf, Automaton}
-use Rattle.span_algebra.specs.Making.{letters_of}
+use Rattle.marker_nfa.specs.Automaton.{Automaton}
 use Rattle.span_algebra.specs.Products.{IsJoinNfa}
 use Rattle.span_algebra.specs.Renaming.{both_names}
 use Rattle.span_algebra.specs.TreeAutomaton.{JoinStep, join_size}
 use Rattle.span_algebra.proofs.JoinLaws.{AreApart}
-use Rattle.span_algebra.proofs.JoinParts.{join-automaton, join-nfa, numbered-between}
+use Rattle.span_algebra.proofs.JoinParts.{join-automaton, join-nfa}
 use Rattle.span_algebra.proofs.JointLaws.{may-meet, vars-apart}
 use Rattle.span_algebra.proofs.LetterLaws.{letters-of-pairs}
 use Rattle.span_algebra.proofs.FoundLaws.{short-steps}
 use Rattle.span_algebra.proofs.joins.join_nfa.Goals as goal
 
-pub numbered-requires-clause-few : goal.numbered-requires-clause-few
-numbered-requires-clause-few c = let few = c.in_ok-explored.ensures.explored.found.few in rw (c.deref.ensures.value) (record { apart = few.apart; few = omega (arith, few.few, c.requires.many) })
-
-pub numbered-requires-clause-between : goal.numbered-requires-clause-between
-numbered-requires-clause-between c =
-    let x = c.in_ok-explored.ensures.explored in
-    rw (c.deref.ensures.value, c.deref-2.ensures.value) (numbered-between c.args.most c.args.left.dfa.now c.args.right.dfa.now (join_size c.args.left.dfa.now) (JoinStep c.args.left.dfa.now c.args.left.names.now c.args.right.dfa.now c.args.right.names.now) c.args.classes.now c.in_ok-explored.explored.pairs.items c.in_ok-explored.explored.steps.items x.found)
-
 pub ends_of-requires-clause-within : goal.ends_of-requires-clause-within
-ends_of-requires-clause-within c = rw (c.deref-3.ensures.value) c.in_ok-explored.ensures.explored.found.within
+ends_of-requires-clause-within c = rw (c.deref.ensures.value) c.in_ok-explored.ensures.explored.found.within
 
 pub ends_of-requires-clause-meeting : goal.ends_of-requires-clause-meeting
 ends_of-requires-clause-meeting c =
@@ -36,17 +27,21 @@ ends_of-requires-clause-short c =
     short-steps c.args.left.dfa.now va c.args.right.dfa.now vb c.states-left_states.ensures.automaton c.states-right_states.ensures.automaton c.requires.left c.requires.right (vars-apart va c.count-left_count.ensures.vars.distinct) (vars-apart vb c.count-right_count.ensures.vars.distinct) apart few
     c.in_ok-meeting.meeting c.in_ok-meeting.ensures c.args.classes.now c.requires.of_left c.requires.of_right
 
-pub of_parts-requires : goal.of_parts-requires
-of_parts-requires c =
+pub from_lists-requires-clause-automaton : goal.from_lists-requires-clause-automaton
+from_lists-requires-clause-automaton c =
     let va = c.args.left.names.now in let vb = c.args.right.names.now in
     let x = c.in_ok-explored.ensures.explored in
     let apart : AreApart (both_names va vb) = subst (λ (l : List (List ℕ)). AreApart l) c.requires.names (vars-apart c.args.names.now c.count-variables.ensures.vars.distinct) in
     let few : length (both_names va vb) ≤ 8 = omega (arith, c.count-variables.ensures.vars.few, ap length c.requires.names) in
-    let edges = rw (c.deref.ensures.value, c.deref-2.ensures.value) at c.in_ok-edges.ensures in
-    let ends = rw (c.deref-3.ensures.value) at c.in_ok-ends.ensures in
-    rw (c.deref-4.ensures.value, c.deref-5.ensures.value) (join-automaton c.args.left.dfa.now va c.args.right.dfa.now vb c.states-left_states.ensures.automaton c.states-right_states.ensures.automaton c.requires.left c.requires.right (vars-apart va c.count-left_count.ensures.vars.distinct) (vars-apart vb c.count-right_count.ensures.vars.distinct) apart few
-    c.in_ok-meeting.meeting c.in_ok-meeting.ensures c.args.classes.now c.requires.of_left c.requires.of_right c.args.most c.in_ok-explored.explored.pairs.items c.in_ok-explored.explored.steps.items c.in_ok-edges.edges.items c.in_ok-ends.ends.items _ c.count-variables.result
-    x.found edges ends (omega (arith, c.len-states.ensures, c.in_ok-explored.explored.pairs.ok.0, x.found.few.few, c.requires.many)) (c.count-variables.ensures.count ∙ ap length c.requires.names))
+    let ends = rw (c.deref.ensures.value) at c.in_ok-ends.ensures in
+    join-automaton c.args.left.dfa.now va c.args.right.dfa.now vb c.states-left_states.ensures.automaton c.states-right_states.ensures.automaton c.requires.left c.requires.right (vars-apart va c.count-left_count.ensures.vars.distinct) (vars-apart vb c.count-right_count.ensures.vars.distinct) apart few
+    c.in_ok-meeting.meeting c.in_ok-meeting.ensures c.args.classes.now c.requires.of_left c.requires.of_right c.args.most c.in_ok-explored.explored.pairs.items c.in_ok-explored.explored.edges.items c.in_ok-ends.ends.items _ c.count-variables.result
+    x.found ends (omega (arith, c.len-states.ensures, c.in_ok-explored.explored.pairs.ok.0, x.found.few.few, c.requires.many)) (c.count-variables.ensures.count ∙ ap length c.requires.names)
+
+pub from_lists-requires-clause-letters : goal.from_lists-requires-clause-letters
+from_lists-requires-clause-letters c =
+    rw (c.in_ok-letters.ensures) (letters-of-pairs c.args.most c.args.left.dfa.now c.args.right.dfa.now (join_size c.args.left.dfa.now) (JoinStep c.args.left.dfa.now c.args.left.names.now c.args.right.dfa.now c.args.right.names.now) c.args.classes.now
+    _ c.in_ok-explored.explored.pairs.items c.in_ok-explored.explored.edges.items c.in_ok-explored.ensures.explored.found)
 
 pub returns-clause-made : goal.returns-clause-made
 returns-clause-made c =
@@ -54,16 +49,7 @@ returns-clause-made c =
     let x = c.in_ok-explored.ensures.explored in
     let apart : AreApart (both_names va vb) = subst (λ (l : List (List ℕ)). AreApart l) c.requires.names (vars-apart c.args.names.now c.count-variables.ensures.vars.distinct) in
     let few : length (both_names va vb) ≤ 8 = omega (arith, c.count-variables.ensures.vars.few, ap length c.requires.names) in
-    let edges = rw (c.deref.ensures.value, c.deref-2.ensures.value) at c.in_ok-edges.ensures in
-    let ends = rw (c.deref-3.ensures.value) at c.in_ok-ends.ensures in
-    let e = rw (c.deref-4.ensures.value, c.deref-5.ensures.value) at c.in_ok-of_parts.ensures in
-    subst (λ (n : Automaton). IsJoinNfa c.args.left.dfa.now va c.args.right.dfa.now vb n) (sym e) (join-nfa c.args.left.dfa.now va c.args.right.dfa.now vb c.states-left_states.ensures.automaton c.states-right_states.ensures.automaton c.requires.left c.requires.right (vars-apart va c.count-left_count.ensures.vars.distinct) (vars-apart vb c.count-right_count.ensures.vars.distinct) apart few
-    c.in_ok-meeting.meeting c.in_ok-meeting.ensures c.args.classes.now c.requires.of_left c.requires.of_right c.args.most c.in_ok-explored.explored.pairs.items c.in_ok-explored.explored.steps.items c.in_ok-edges.edges.items c.in_ok-ends.ends.items _ c.count-variables.result
-    x.found edges ends (omega (arith, c.len-states.ensures, c.in_ok-explored.explored.pairs.ok.0, x.found.few.few, c.requires.many)) (c.count-variables.ensures.count ∙ ap length c.requires.names))
-
-pub returns-clause-letters : goal.returns-clause-letters
-returns-clause-letters c =
-    let edges = rw (c.deref.ensures.value, c.deref-2.ensures.value) at c.in_ok-edges.ensures in
-    let e = rw (c.deref-4.ensures.value, c.deref-5.ensures.value) at c.in_ok-of_parts.ensures in
-    subst (λ (n : Automaton). AreLettersOf n.edges (letters_of c.args.classes.now)) (sym e) (letters-of-pairs c.args.most c.args.left.dfa.now c.args.right.dfa.now (join_size c.args.left.dfa.now) (JoinStep c.args.left.dfa.now c.args.left.names.now c.args.right.dfa.now c.args.right.names.now) c.args.classes.now
-    c.in_ok-explored.explored.pairs.items c.in_ok-explored.explored.steps.items c.in_ok-edges.edges.items c.in_ok-explored.ensures.explored.found edges)
+    let ends = rw (c.deref.ensures.value) at c.in_ok-ends.ensures in
+    subst (λ (n : Automaton). IsJoinNfa c.args.left.dfa.now va c.args.right.dfa.now vb n) (sym c.from_lists.ensures) (join-nfa c.args.left.dfa.now va c.args.right.dfa.now vb c.states-left_states.ensures.automaton c.states-right_states.ensures.automaton c.requires.left c.requires.right (vars-apart va c.count-left_count.ensures.vars.distinct) (vars-apart vb c.count-right_count.ensures.vars.distinct) apart few
+    c.in_ok-meeting.meeting c.in_ok-meeting.ensures c.args.classes.now c.requires.of_left c.requires.of_right c.args.most c.in_ok-explored.explored.pairs.items c.in_ok-explored.explored.edges.items c.in_ok-ends.ends.items _ c.count-variables.result
+    x.found ends (omega (arith, c.len-states.ensures, c.in_ok-explored.explored.pairs.ok.0, x.found.few.few, c.requires.many)) (c.count-variables.ensures.count ∙ ap length c.requires.names))

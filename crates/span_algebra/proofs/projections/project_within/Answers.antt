@@ -1,6 +1,5 @@
 use Rattle.std.proofs.Common.{◌∙◌}
 use Rattle.span_algebra.proofs.EdgeLaws.{ok-map}
-use Rattle.span_algebra.proofs.LetterLaws.{same-letters}
 use Rattle.span_algebra.proofs.RefusalLaws.{refused-by}
 use Rattle.span_algebra.proofs.SetLaws.{automaton-moved, count-moved, parts-matched, turned}
 use Rattle.span_algebra.proofs.ProjectLaws.{gives-projection}
@@ -21,6 +20,3 @@ returns-clause-few c =
 pub returns-clause-refused : goal.returns-clause-refused
 returns-clause-refused c =
     refused-by c.determined.result _ _ _ c.count-variables.ensures.vars.few (count-moved (parts-matched c.in_ok-nfa.ensures.made.parts) c.args.most) c.determined.ensures.refused
-
-pub determined-requires-clause-letters : goal.determined-requires-clause-letters
-determined-requires-clause-letters c = same-letters c.in_ok-nfa.nfa.edges c.deref.result.now c.deref-2.result.now c.in_ok-classes.classes.items c.deref.ensures.value c.deref-2.ensures.value c.in_ok-nfa.ensures.letters

@@ -1,42 +1,39 @@
 use Rattle.std.proofs.Common.{◌≡◌, suc, ◌+◌, sym, subst, arith}
-use Rattle.marker_nfa.specs.Automaton.{AreLettersOf, Automaton}
+use Rattle.marker_nfa.specs.Automaton.{Automaton}
 use Rattle.marker_dfa.specs.Deterministic.{states_of}
-use Rattle.span_algebra.specs.Making.{IsUnionNfa, letters_of}
-use Rattle.span_algebra.proofs.EdgeLaws.{ok-map}
+use Rattle.span_algebra.specs.Making.{IsUnionNfa}
 use Rattle.span_algebra.proofs.LetterLaws.{letters-of-two}
 use Rattle.span_algebra.proofs.PartLaws.{union-made}
 use Rattle.span_algebra.proofs.unions.union_nfa.Goals as goal
 
-pub of_parts-requires : goal.of_parts-requires
-of_parts-requires c =
+pub from_lists-requires-clause-automaton : goal.from_lists-requires-clause-automaton
+from_lists-requires-clause-automaton c =
     let base : 1 + c.states-left_states.result ≡ suc (states_of c.args.left.dfa.now) = omega (arith, c.states-left_states.ensures.value) in
     let states : 1 + c.states-left_states.result + c.states-right_states.result ≡ 1 + c.states-left_states.result + states_of c.args.right.dfa.now = omega (arith, c.states-right_states.ensures.value) in
     let el = rw (c.deref.ensures.value) at c.in_ok-push_edges.ensures in
     let er = rw (c.deref-2.ensures.value) at c.in_ok-push_edges-2.ensures in
     let fl = rw (c.deref.ensures.value) at c.in_ok-push_ends.ensures in
     let fr = rw (c.deref-2.ensures.value) at c.in_ok-push_ends-2.ensures in
-    rw (c.deref-3.ensures.value, c.deref-4.ensures.value) (union-made c.args.left.dfa.now c.args.left.names.now c.args.right.dfa.now c.args.right.names.now c.args.names.now c.in_ok-left_places.left_places.items c.in_ok-right_places.right_places.items c.args.classes.now (1 + c.states-left_states.result) _ _ _ _ _ _ _ _
+    (union-made c.args.left.dfa.now c.args.left.names.now c.args.right.dfa.now c.args.right.names.now c.args.names.now c.in_ok-left_places.left_places.items c.in_ok-right_places.right_places.items c.args.classes.now (1 + c.states-left_states.result) (1 + c.states-left_states.result + c.states-right_states.result) c.count-variables.result c.in_ok-edges.edges.items c.push_edges.new.edges.items c.push_edges-2.new.edges.items c.new-ends.result.items c.push_ends.new.ends.items c.push_ends-2.new.ends.items
     c.requires.names c.in_ok-left_places.ensures c.in_ok-right_places.ensures c.requires.of_left c.requires.of_right c.states-left_states.ensures.automaton c.states-right_states.ensures.automaton c.requires.left c.requires.right base states c.count-variables.ensures.count c.count-variables.ensures.vars.few
-    c.new-edges.ensures.items el er c.new-ends.ensures.items fl fr).0
+    c.in_ok-edges.ensures.items el er c.new-ends.ensures.items fl fr).0
 
-pub returns-clause-made : goal.returns-clause-made
-returns-clause-made c =
+pub from_lists-requires-clause-letters : goal.from_lists-requires-clause-letters
+from_lists-requires-clause-letters c =
+    let el = rw (c.deref.ensures.value) at c.in_ok-push_edges.ensures in
+    let er = rw (c.deref-2.ensures.value) at c.in_ok-push_edges-2.ensures in
+    rw (c.in_ok-letters.ensures) (letters-of-two c.args.left.dfa.now c.args.right.dfa.now c.in_ok-left_places.left_places.items c.in_ok-right_places.right_places.items (1 + c.states-left_states.result) c.args.classes.now c.in_ok-edges.edges.items c.push_edges.new.edges.items c.push_edges-2.new.edges.items c.in_ok-edges.ensures.items el er)
+
+pub returns : goal.returns
+returns c =
     let base : 1 + c.states-left_states.result ≡ suc (states_of c.args.left.dfa.now) = omega (arith, c.states-left_states.ensures.value) in
     let states : 1 + c.states-left_states.result + c.states-right_states.result ≡ 1 + c.states-left_states.result + states_of c.args.right.dfa.now = omega (arith, c.states-right_states.ensures.value) in
     let el = rw (c.deref.ensures.value) at c.in_ok-push_edges.ensures in
     let er = rw (c.deref-2.ensures.value) at c.in_ok-push_edges-2.ensures in
     let fl = rw (c.deref.ensures.value) at c.in_ok-push_ends.ensures in
     let fr = rw (c.deref-2.ensures.value) at c.in_ok-push_ends-2.ensures in
-    let m = (union-made c.args.left.dfa.now c.args.left.names.now c.args.right.dfa.now c.args.right.names.now c.args.names.now c.in_ok-left_places.left_places.items c.in_ok-right_places.right_places.items c.args.classes.now (1 + c.states-left_states.result) (1 + c.states-left_states.result + c.states-right_states.result) c.count-variables.result c.new-edges.result.items c.push_edges.new.edges.items c.push_edges-2.new.edges.items c.new-ends.result.items c.push_ends.new.ends.items c.push_ends-2.new.ends.items
-    c.requires.names c.in_ok-left_places.ensures c.in_ok-right_places.ensures c.requires.of_left c.requires.of_right c.states-left_states.ensures.automaton c.states-right_states.ensures.automaton c.requires.left c.requires.right base states c.count-variables.ensures.count c.count-variables.ensures.vars.few
-    c.new-edges.ensures.items el er c.new-ends.ensures.items fl fr).1 in
-    let same = rw (c.deref-3.ensures.value, c.deref-4.ensures.value) at c.of_parts.ensures in
-    ok-map c.of_parts.result _ _ (λ x e. subst (λ (n : Automaton). IsUnionNfa c.args.left.dfa.now c.args.left.names.now c.args.right.dfa.now c.args.right.names.now n) (sym e) m) same
-
-pub returns-clause-letters : goal.returns-clause-letters
-returns-clause-letters c =
-    let el = rw (c.deref.ensures.value) at c.in_ok-push_edges.ensures in
-    let er = rw (c.deref-2.ensures.value) at c.in_ok-push_edges-2.ensures in
-    let all = letters-of-two c.args.left.dfa.now c.args.right.dfa.now c.in_ok-left_places.left_places.items c.in_ok-right_places.right_places.items (1 + c.states-left_states.result) c.args.classes.now c.new-edges.result.items c.push_edges.new.edges.items c.push_edges-2.new.edges.items c.new-edges.ensures.items el er in
-    let same = rw (c.deref-3.ensures.value, c.deref-4.ensures.value) at c.of_parts.ensures in
-    ok-map c.of_parts.result _ _ (λ x e. subst (λ (n : Automaton). AreLettersOf n.edges (letters_of c.args.classes.now)) (sym e) all) same
+    record {
+      made = subst (λ (n : Automaton). IsUnionNfa c.args.left.dfa.now c.args.left.names.now c.args.right.dfa.now c.args.right.names.now n) (sym c.from_lists.ensures) ((union-made c.args.left.dfa.now c.args.left.names.now c.args.right.dfa.now c.args.right.names.now c.args.names.now c.in_ok-left_places.left_places.items c.in_ok-right_places.right_places.items c.args.classes.now (1 + c.states-left_states.result) (1 + c.states-left_states.result + c.states-right_states.result) c.count-variables.result c.in_ok-edges.edges.items c.push_edges.new.edges.items c.push_edges-2.new.edges.items c.new-ends.result.items c.push_ends.new.ends.items c.push_ends-2.new.ends.items
+          c.requires.names c.in_ok-left_places.ensures c.in_ok-right_places.ensures c.requires.of_left c.requires.of_right c.states-left_states.ensures.automaton c.states-right_states.ensures.automaton c.requires.left c.requires.right base states c.count-variables.ensures.count c.count-variables.ensures.vars.few
+          c.in_ok-edges.ensures.items el er c.new-ends.ensures.items fl fr).1);
+    }
