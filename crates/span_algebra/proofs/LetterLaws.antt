@@ -1,5 +1,5 @@
 -- The byte sets of edges are those of classes.
-use Rattle.std.proofs.Common.{◌≡◌, ℕ, ◌⊎◌, inl, inr, List, [], Bool, length, Option, Contains, sym, ap, subst, ◌∙◌, arith}
+use Rattle.std.proofs.Common.{◌≡◌, ℕ, ◌⊎◌, inl, inr, List, [], Bool, Option, Contains, sym, ap, subst, ◌∙◌, arith}
 use Rattle.marker_nfa.specs.Automaton.{AreLettersOf}
 use Rattle.marker_nfa.specs.Parts.{Adds}
 use Rattle.marker_nfa.specs.declared.nfa.Edge.{Edge}
