@@ -27,6 +27,11 @@ pub some-of : (o : Option ℕ) → IsSome o → (n : ℕ) × (o ≡ Some n)
 some-of None h = cc
 some-of (Some n) h = (n, refl)
 
+-- an entry that has a number is one more than it
+pub entry-some : (code : ℕ) → IsSome (step_of code) → (1 ≤ code) × (step_of code ≡ Some (code - 1))
+entry-some zero h = cc
+entry-some (suc n) h = (omega arith, ap Some (omega arith))
+
 -- the content of an entry
 pub place-read : (codes : List ℕ) (i : ℕ) → get_or (map step_of codes) i None ≡ step_of (get_or codes i 0)
 place-read [] i = refl

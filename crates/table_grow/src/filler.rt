@@ -75,10 +75,7 @@ impl Filler {
         if id.index < self.known {
             return tables.number(id);
         }
-        match self.places[id.index - self.known].checked_sub(1) {
-            Some(number) => number as usize,
-            None => unreachable!(),
-        }
+        (self.places[id.index - self.known] - 1) as usize
     }
 
     /// The table of a new node, whose children are old or assigned and have the tables of their texts. It takes at most
@@ -181,10 +178,7 @@ impl Filler {
         ensures steps { places.new ≡ places.old + length self.places }
     {
         for entry in &self.places {
-            match entry.checked_sub(1) {
-                Some(number) => tables.push(number as usize, places),
-                None => unreachable!(),
-            }
+            tables.push((*entry - 1) as usize, places);
         }
     }
 }
