@@ -9,9 +9,6 @@ use marker_dfa::{Dfa, DfaRefusal, determinise_within};
 use marker_nfa::Nfa;
 use std::alloc::Global;
 
-/// The greatest number of states where the caller sets none.
-pub const DEFAULT_MAX_STATES: u16 = 128;
-
 /// The automaton whose states are the reached sets of occurrences, at most `most`.
 pub fn determined(alloc: Global, nfa: &Nfa, most: u16) -> Result<Dfa, AlgebraRefusal>
     requires few { 128 ≤ most }

@@ -11,13 +11,13 @@ ghost use Rattle.span_algebra.specs.Renaming.{both_names};
 ghost use Rattle.span_algebra.specs.TreeAutomaton.{JoinEnd, JoinStep, join_size};
 
 use crate::classes::{Class, classes_of, sets_of};
-use crate::determined::{DEFAULT_MAX_STATES, determined};
+use crate::determined::determined;
 use crate::exploring::explore;
 use crate::joints::meeting_of;
 use crate::names::{Operand, names_of_both};
 use crate::product::{Sides, ends_of};
 use crate::refusal::AlgebraRefusal;
-use marker_dfa::Dfa;
+use marker_dfa::{DEFAULT_MAX_STATES, Dfa};
 use marker_nfa::Nfa;
 use span_types::Vars;
 use std::alloc::Global;

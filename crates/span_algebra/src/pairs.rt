@@ -108,10 +108,8 @@ fn index_of(pairs: &[Pair], hints: &Hints, pair: Pair) -> u16
     requires there { Contains pairs.now pair }
     ensures { slice_get pairs.now result ≡ Some pair }
 {
-    match position_of(pairs, pair, hints.get(pair)) {
-        Some(index) => index as u16,
-        None => unreachable!(),
-    }
+    // The pair is in the list.
+    position_of(pairs, pair, hints.get(pair)).unwrap() as u16
 }
 
 /// Appends a step between pairs to a list, as an edge between their indices.

@@ -10,10 +10,10 @@ ghost use Rattle.span_algebra.specs.TreeAutomaton.{ProjectEnd, ProjectStep};
 
 use crate::classes::{Class, classes_of, sets_of};
 use crate::copies::{OperandCopy, push_edges, push_ends, step_count};
-use crate::determined::{DEFAULT_MAX_STATES, determined};
+use crate::determined::determined;
 use crate::names::indices_of;
 use crate::refusal::AlgebraRefusal;
-use marker_dfa::Dfa;
+use marker_dfa::{DEFAULT_MAX_STATES, Dfa};
 use marker_nfa::Nfa;
 use span_types::{NoMemory, Vars};
 use std::alloc::Global;

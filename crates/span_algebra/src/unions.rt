@@ -11,10 +11,10 @@ ghost use Rattle.span_algebra.specs.TreeAutomaton.{UnionEnd, UnionStep, union_si
 
 use crate::classes::{Class, classes_of, sets_of};
 use crate::copies::{OperandCopy, push_edges, push_ends, step_count};
-use crate::determined::{DEFAULT_MAX_STATES, determined};
+use crate::determined::determined;
 use crate::names::{Operand, indices_of, names_of_both};
 use crate::refusal::AlgebraRefusal;
-use marker_dfa::Dfa;
+use marker_dfa::{DEFAULT_MAX_STATES, Dfa};
 use marker_nfa::Nfa;
 use span_types::{NoMemory, Vars};
 use std::alloc::Global;
