@@ -87,6 +87,7 @@ pub(crate) fn name_of(alloc: Global, name: &[u8]) -> Result<Name, NoMemory>
 {
     match Name::new(alloc, name) {
         Ok(name) => Ok(name),
+        // The bytes are a valid name.
         Err(NameRefusal::NotAName) => unreachable!(),
         Err(NameRefusal::NoMemory) => Err(NoMemory),
     }
