@@ -48,6 +48,7 @@ fn pass(table: &CountTable, from: &Way, after: &[u64]) -> Option<Way>
             index: from.index - marked,
             tuple: from.tuple,
         }),
+        // The index is less than the number of all texts, so the text without marks leads to a state.
         None => unreachable!(),
     }
 }
@@ -77,6 +78,7 @@ fn over_byte(dfa: &Dfa, byte: u8, at: u64, from: &Way, after: &[u64]) -> Way
             index -= ways;
         }
     }
+    // `index` is less than the number of ways over the byte.
     unreachable!()
 }
 
