@@ -11,7 +11,7 @@ mod Tables
 mod Tuples
 mod Walks
 mod Ways
-mod Words
+pub mod Words
 mod WordSets
 mod Agreed
 mod LastEnds

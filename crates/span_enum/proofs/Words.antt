@@ -35,7 +35,7 @@ over-bytes t p (b ∷ s) = ap (λ x. b ∷ x) (over-bytes t (suc p) s)
 pub over-length : (t : Tuple) (p : ℕ) (s : List ℕ) → length (word_over t p s) ≡ length s
 over-length t p s = sym (length-bytes (word_over t p s)) ∙ ap length (over-bytes t p s)
 
-word-zero : (p : ℕ) (s : List ℕ) → word_from (λ q. 0) p s ≡ plain s
+pub word-zero : (p : ℕ) (s : List ℕ) → word_from (λ q. 0) p s ≡ plain s
 word-zero p [] = refl
 word-zero p (b ∷ s) = ap (λ w. (0, b) ∷ w) (word-zero (suc p) s)
 

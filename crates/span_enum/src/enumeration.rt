@@ -277,10 +277,8 @@ fn with_end(dfa: &Dfa, q: u16, tuple: Tuple, end: u64) -> Tuple
     ensures { (mark : ℕ) × (result ≡ write_mark mark end tuple) × IsGreatestMark dfa.now q 256 1 65536 mark 0 }
 {
     let _states = dfa.states();
-    match greatest_end(dfa, q, 65536) {
-        Some(mark) => tuple.with_mark(mark, end),
-        None => unreachable!(),
-    }
+    // The state is final, so some mark ends the text.
+    tuple.with_mark(greatest_end(dfa, q, 65536).unwrap(), end)
 }
 
 /// The first answer with this prefix.

@@ -46,7 +46,8 @@
 //! complete, and the nodes ahead aren't passed.
 //!
 //! Proved: The first answer after the cursor, or none; whether there is one; whether a tuple is one; the greatest end of the
-//! answers with a start; the lookups of each (`Answers`, `nonempty`, `has`).
+//! answers with a start; the lookups of each (`Answers`, `nonempty`, `has`). Whether a tuple has a mark between two
+//! positions (`is_marked_between`).
 //!
 //! Tested: That `next` allocates nothing.
 #![tactic(auto)]
@@ -65,3 +66,4 @@ mod trail;
 mod walk;
 
 pub use answers::{Answers, has, nonempty};
+pub use walk::is_marked_between;

@@ -33,10 +33,7 @@ fn plain_into<const N: usize>(table: &Table, q: u16, goals: &States<N>) -> Optio
     if goals.meets(table.marked(q)) {
         return None;
     }
-    match table.unmarked(q) {
-        Some(n) => Some(n),
-        None => unreachable!(),
-    }
+    table.unmarked(q)
 }
 
 /// The state after the text, if every run over it has no marks.
@@ -200,17 +197,14 @@ fn place_mark<'a, const N: usize>(
     ensures ahead_room { trail.new.ahead.capacity ≡ trail.old.ahead.capacity }
 {
     let here = &descent.here;
-    match greatest_mark(input.dfa, descent.state, byte, &here.goals, 65536) {
-        Some(step) => {
-            keep_mark(trail, descent, byte, step.mark);
-            *out = out.with_mark(step.mark, here.at);
-            WalkPosition {
-                state: step.state,
-                next: here.next,
-                quiet: here.quiet.holds(step.state),
-            }
-        }
-        None => unreachable!(),
+    // Some mark over the byte leads from the state into a goal.
+    let step = greatest_mark(input.dfa, descent.state, byte, &here.goals, 65536).unwrap();
+    keep_mark(trail, descent, byte, step.mark);
+    *out = out.with_mark(step.mark, here.at);
+    WalkPosition {
+        state: step.state,
+        next: here.next,
+        quiet: here.quiet.holds(step.state),
     }
 }
 

@@ -133,6 +133,7 @@ pub(crate) fn ahead_at<'a, const N: usize>(trail: &Trail<'a, N>, place: usize) -
 {
     match trail.ahead.get(place - 1) {
         Some(node) => node,
+        // `place` is the index of a node in the list, and every entry has a node.
         None => unreachable!(),
     }
 }

@@ -9,7 +9,7 @@ ghost use Rattle.state_tables.specs.StateSet.{member};
 ghost use Rattle.state_tables.specs.Dictionary.{AreTables, IsLook};
 ghost use Rattle.span_enum.specs.Letters.{step_of, reached};
 ghost use Rattle.span_enum.specs.Sets.{is_final, can_reach_of};
-ghost use Rattle.span_enum.specs.Tuples.{word_over, IsBound, IsBoundBetween, IsMarkedBetween};
+ghost use Rattle.span_enum.specs.Tuples.{word_over, IsBound, IsBoundBetween, IsMarkedBetween, IsUnmarked};
 ghost use Rattle.span_enum.specs.Words.{IsGreatestMark, IsNoMark};
 
 use crate::states::States;
@@ -109,11 +109,10 @@ pub(crate) fn greatest_mark<const N: usize>(
     None
 }
 
-/// Whether a tuple has a mark at a position from `from` on and before `to`.
-pub(crate) fn is_marked_between(t: &Tuple, from: u64, to: u64) -> bool
-    requires { 1 ≤ from }
+/// Whether a tuple has a mark at a position from `from` on and before `to`. Takes time linear in the number of variables.
+pub fn is_marked_between(t: &Tuple, from: u64, to: u64) -> bool
     ensures some { result ≡ true → IsMarkedBetween t.now from to }
-    ensures none { result ≡ false → (p : ℕ) → from ≤ p → p < to → mark_of t.now p ≡ 0 }
+    ensures none { result ≡ false → IsUnmarked t.now from to }
 {
     for v in 0..t.count() {
         if is_bound_between(t.span(v), from, to) {
