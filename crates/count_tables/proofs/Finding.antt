@@ -17,6 +17,7 @@ use Rattle.state_tables.proofs.Paths.{length-bytes, mark_count-append}
 use Rattle.span_enum.specs.Members.{Tuple}
 use Rattle.span_enum.specs.Tuples.{write_word}
 use Rattle.span_enum.proofs.Exists.{answers-exist}
+use Rattle.span_enum.proofs.Words.{word-zero, write_word-append}
 use Rattle.path_counts.specs.Paths.{most, stopped}
 use Rattle.path_counts.specs.Counting.{CountRow, IsCountTable}
 use Rattle.path_counts.specs.Runs.{runs}
@@ -28,21 +29,8 @@ use Rattle.std.proofs.Common.{All}
 use Rattle.std.proofs.lemmas.List.Elements.{All-nil}
 
 -- ---- tuples written mark by mark
-word-zero : (p : ℕ) (s : List ℕ) → word_from (λ q. 0) p s ≡ plain s
-word-zero p [] = refl
-word-zero p (b ∷ s) = ap (λ w. (0, b) ∷ w) (word-zero (suc p) s)
-
 pub write-none : (p : ℕ) (s : List ℕ) (t : Tuple) → write_word p (plain s) t ≡ t
 write-none p s t = ap (λ w. write_word p w t) (sym (word-zero p s)) ∙ write-plain p s t
-
-length-marks : (w : Marked) → length (marks_in w) ≡ length w
-length-marks [] = refl
-length-marks (x ∷ w) = omega (arith, length-marks w)
-
-pub write_word-append : (p : ℕ) (w v : Marked) (t : Tuple) → write_word p (w ++ v) t ≡ write_word (p + length w) v (write_word p w t)
-write_word-append p w v t =
-    ap (λ ms. write_marks p ms t) (marks-append w v) ∙ write-append p (marks_in w) (marks_in v) t
-    ∙ ap (λ n. write_marks (p + n) (marks_in v) (write_word p w t)) (length-marks w)
 
 -- ---- table lookups
 -- two at each level of a tree for each mark, and one more

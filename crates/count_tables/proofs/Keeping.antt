@@ -7,6 +7,7 @@ use Rattle.std.proofs.Math.ListN.{get_or-append}
 use Rattle.std.proofs.lemmas.Option.{get_or_from_slice_get, slice_get_within, slice_get-get_or}
 use Rattle.path_counts.specs.Counting.{CountRow, IsComposed, IsCountTableOf}
 use Rattle.distinct_items.specs.Search.{IsAbsent, TakesIn}
+use Rattle.distinct_items.proofs.Adding.{AreDistinctItems-added, all-added}
 use Rattle.count_tables.specs.Dictionary.{AreDistinctTables, AreKept}
 use Rattle.count_tables.specs.Remembered.{Extends}
 
@@ -27,35 +28,12 @@ module _ (n : ℕ) (kept : List (List CountRow)) (t : List CountRow) (is : AreKe
   longer : length (kept ++ t ∷ []) ≡ length kept + 1
   longer = length-append kept (t ∷ [])
 
-  shapes : (i : ℕ) → i < length (kept ++ t ∷ []) → IsCountTableOf n (get_or (kept ++ t ∷ []) i [])
-  shapes i lt = elim (cases_lt i (length kept)) [
-    | inl less ↦ subst (IsCountTableOf n) (sym (get_or-append kept (t ∷ []) [] i less)) (is.shapes i less)
-    | inr ge ↦ let same : length kept ≡ i = omega (arith, ge, lt, longer) in subst (IsCountTableOf n) (sym (get_or_push kept t [] i same)) shape
-  ]
-
-  -- where a kept table stands
-  old-or-new : (i : ℕ) (u : List CountRow) → slice_get (kept ++ t ∷ []) i ≡ Some u → (slice_get kept i ≡ Some u) ⊎ ((i ≡ length kept) × (t ≡ u))
-  old-or-new i u h =
-      let read = kept-read (kept ++ t ∷ []) i u h in
-      elim (cases_lt i (length kept)) [
-        | inl less ↦ inl (slice_get-get_or kept i [] less ∙ ap Some (sym (get_or-append kept (t ∷ []) [] i less) ∙ read.1))
-        | inr ge ↦ let same : length kept ≡ i = omega (arith, ge, read.0, longer) in inr (sym same, sym (get_or_push kept t [] i same) ∙ read.1)
-      ]
-
-  apart : AreDistinctTables (kept ++ t ∷ [])
-  apart i j u h k = elim (old-or-new i u h) [
-    | inl a ↦ elim (old-or-new j u k) [
-      | inl b ↦ is.distinct i j u a b
-      | inr b ↦ absurd (absent i (a ∙ ap Some (sym b.1)))
-    ]
-    | inr a ↦ elim (old-or-new j u k) [
-      | inl b ↦ absurd (absent j (b ∙ ap Some (sym a.1)))
-      | inr b ↦ a.0 ∙ sym b.0
-    ]
-  ]
-
   more : AreKept n (kept ++ t ∷ [])
-  more = record { narrow = omega (arith, longer, room); shapes = shapes; distinct = apart }
+  more = record {
+    narrow = omega (arith, longer, room);
+    shapes = all-added (IsCountTableOf n) [] kept t is.shapes shape;
+    distinct = AreDistinctItems-added kept t is.distinct absent;
+  }
 
 pub extends-same : (kept new : List (List CountRow)) → new ≡ kept → Extends kept new
 extends-same kept new e = record { more = λ i lt. rw e lt; same = λ i lt. ap (λ ts. get_or ts i []) e }

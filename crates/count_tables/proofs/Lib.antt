@@ -13,5 +13,4 @@ pub mod PartSearch
 pub mod RootSearch
 pub mod BeforeLemmas
 pub mod RankParts
-pub mod TupleMarks
 pub mod RankRoot

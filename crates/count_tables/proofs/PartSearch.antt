@@ -15,7 +15,8 @@ use Rattle.count_tables.specs.TextIndex.{AreWays, Finds, IsCountInput, IsPart, I
 use Rattle.count_tables.specs.declared.part.CountInput.{CountInput}
 use Rattle.count_tables.specs.declared.part.Part.{Part}
 use Rattle.count_tables.specs.declared.nth.Way.{Way}
-use Rattle.count_tables.proofs.Finding.{pair-cost, write-none, write_word-append}
+use Rattle.count_tables.proofs.Finding.{pair-cost, write-none}
+use Rattle.span_enum.proofs.Words.{write_word-append}
 use Rattle.count_tables.proofs.Places.{joined-index, left-number, over-runs, passed-index, index-marked}
 use Rattle.path_counts.specs.Runs.{runs}
 

@@ -12,7 +12,7 @@ use Rattle.state_tables.proofs.Paths.{path-dead, path-on}
 use Rattle.span_types.specs.Marks.{mark_of}
 use Rattle.span_enum.specs.Tuples.{IsMarkedBetween, IsUnmarked, word_over}
 use Rattle.span_types.proofs.PieceLaws.{word-append}
-use Rattle.count_tables.proofs.TupleMarks.{over-count, over-plain}
+use Rattle.span_enum.proofs.Words.{over-count, over-plain}
 use Rattle.path_counts.specs.Paths.{most, stopped}
 use Rattle.path_counts.specs.Counting.{CountRow, IsCountTable, onward_from, unmarked_at}
 use Rattle.path_counts.specs.Runs.{at_state, runs}

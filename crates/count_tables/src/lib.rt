@@ -34,7 +34,6 @@ pub mod number;
 mod part;
 mod pieces;
 pub mod rank;
-mod renumbering;
 pub mod tables;
 
 pub use tables::CountTables;

@@ -42,15 +42,13 @@ fn pass(table: &CountTable, from: &Way, after: &[u64]) -> Option<Way>
     if from.index < marked {
         return None;
     }
-    match table.unmarked(from.state) {
-        Some(state) => Some(Way {
-            state,
-            index: from.index - marked,
-            tuple: from.tuple,
-        }),
-        // The index is less than the number of all texts, so the text without marks leads to a state.
-        None => unreachable!(),
-    }
+    // The index is less than the number of all texts, so the text without marks leads to a state.
+    let state = table.unmarked(from.state)?;
+    Some(Way {
+        state,
+        index: from.index - marked,
+        tuple: from.tuple,
+    })
 }
 
 // The way behind one byte, with its mark at this position. The greater mark comes first.

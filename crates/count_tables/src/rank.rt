@@ -5,7 +5,6 @@ ghost use Rattle.span_types.specs.Fibonacci.{looks_limit};
 ghost use Rattle.slp_model.specs.Tree.{height, text};
 ghost use Rattle.slp_model.specs.Nodes.{text_of, tree};
 ghost use Rattle.marker_dfa.specs.Deterministic.{next_of, states_of};
-ghost use Rattle.span_enum.specs.Tuples.{IsBound, IsBoundBetween, IsMarkedBetween, IsUnmarked};
 ghost use Rattle.span_types.specs.Marks.{mark_of};
 ghost use Rattle.path_counts.specs.Counting.{onward_from};
 ghost use Rattle.path_counts.specs.Paths.{stopped};
@@ -20,7 +19,8 @@ use crate::part::{CountInput, Part, fill_ways, look};
 use crate::tables::CountTables;
 use marker_dfa::Dfa;
 use node_store::{Node, NodeId, Store};
-use span_types::{NoMemory, Span, Steps, Tuple, mark_at};
+use span_enum::is_marked_between;
+use span_types::{NoMemory, Steps, Tuple, mark_at};
 use std::alloc::Global;
 use std::sync::ledger::Ledger;
 
@@ -36,30 +36,6 @@ pub(crate) struct RankInput<'a> {
 pub(crate) struct Earlier {
     pub(crate) number: u64,
     pub(crate) state: Option<u16>,
-}
-
-// Whether the span starts or ends from `from` on and before `to`.
-fn is_bound_between(span: Option<Span>, from: u64, to: u64) -> bool
-    ensures some { result ≡ true → IsBoundBetween span from to }
-    ensures none { result ≡ false → (p : ℕ) → from ≤ p → p < to → IsBound span p → ⊥ }
-{
-    match span {
-        Some(span) => from <= span.start && span.start < to || from <= span.end && span.end < to,
-        None => false,
-    }
-}
-
-// Whether the tuple has a mark at a position from `from` on and before `to`.
-fn is_marked(tuple: &Tuple, from: u64, to: u64) -> bool
-    ensures some { result ≡ true → IsMarkedBetween tuple.now from to }
-    ensures none { result ≡ false → IsUnmarked tuple.now from to }
-{
-    for v in 0..tuple.count() {
-        if is_bound_between(tuple.span(v), from, to) {
-            return true;
-        }
-    }
-    false
 }
 
 // How many texts go on behind the mark and the byte.
@@ -114,7 +90,7 @@ fn over_part<'a, L: Ledger>(
     requires room { states_of input.now.counts.dfa.now * height (tree_of input.now.counts here.now) ≤ length room.old }
     ensures { IsEarlier input.now here.now state after.now result looks.old looks.new }
 {
-    if !is_marked(input.tuple, here.at, here.at + here.len) {
+    if !is_marked_between(input.tuple, here.at, here.at + here.len) {
         return Earlier {
             number: here.table.marked(state, after),
             state: here.table.unmarked(state),

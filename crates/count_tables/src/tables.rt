@@ -9,13 +9,13 @@ ghost use Rattle.distinct_items.specs.Renumbering.{kept_items};
 ghost use Rattle.count_tables.specs.Dictionary.{AreCountTables, IsCountDictionary, count_of, distinct_of, kept_of, table_of, used_by};
 
 use crate::growth::{Growth, REMEMBERED, grow};
-use crate::renumbering::renumber;
 use distinct_items::DistinctItems;
 use marker_dfa::Dfa;
 use node_store::{Moves, NodeId, Store};
 use pair_memo::PairMemo;
 use path_counts::CountTable;
 use span_types::{NoMemory, Steps};
+use state_tables::renumbering::renumber;
 use std::alloc::Global;
 use std::marker::Model;
 use std::sync::ledger::Ledger;

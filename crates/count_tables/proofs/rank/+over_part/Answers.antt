@@ -11,9 +11,9 @@ use Rattle.count_tables.proofs.Finding.{room-left}
 use Rattle.count_tables.proofs.RankParts.{earlier-ended, earlier-pair, earlier-plain}
 use Rattle.count_tables.proofs.rank.+over_part.Goals as goal
 
-pub returns-then-not-is_marked : goal.returns-then-not-is_marked
-returns-then-not-is_marked g t c =
-    earlier-plain c.args.input.now c.requires.input c.args.here.now c.requires.part c.args.state c.requires.state c.args.after.now _ c.args.looks.now (c.is_marked.ensures.none c.if-not-is_marked.true) c.marked.ensures c.unmarked.ensures.value
+pub returns-then-not-is_marked_between : goal.returns-then-not-is_marked_between
+returns-then-not-is_marked_between g t c =
+    earlier-plain c.args.input.now c.requires.input c.args.here.now c.requires.part c.args.state c.requires.state c.args.after.now _ c.args.looks.now (c.is_marked_between.ensures.none c.if-not-is_marked_between.true) c.marked.ensures c.unmarked.ensures.value
 
 pub over_part-second-requires : goal.over_part-second-requires
 over_part-second-requires g t c κs within =
@@ -56,7 +56,7 @@ returns-in_default g t c =
     let whole : tree_of input.counts here ≡ Fork (tree_of input.counts left) (tree_of input.counts right) = pair.0 ∙ ap (λ x. Fork (tree nodes x.index) (tree nodes c.in-Pair.r.index)) (sym c.look-left.ensures.id) ∙ ap (λ x. Fork (tree nodes left.id.index) (tree nodes x.index)) (sym c.look-right.ensures.id) in
     let states : length right.table.now ≡ states_of input.counts.dfa.now = c.look-right.ensures.part.table_is.shape.states in
     earlier-ended input c.requires.input here c.requires.part c.args.state c.requires.state c.args.after.now left right c.look-left.ensures.part c.look-right.ensures.part whole c.look-left.ensures.at c.look-right.ensures.at c.fill_ways.new.ways
-    (λ q lt. c.fill_ways.ensures q (omega (arith, states, lt))) (c.is_marked.ensures.some c.if-not-is_marked.false) c.over_part-first.result c.args.looks.now c.look-right.new.looks c.over_part-first.new.looks
+    (λ q lt. c.fill_ways.ensures q (omega (arith, states, lt))) (c.is_marked_between.ensures.some c.if-not-is_marked_between.false) c.over_part-first.result c.args.looks.now c.look-right.new.looks c.over_part-first.new.looks
     (omega (arith, c.look-left.ensures.step, c.look-right.ensures.step)) c.over_part-first.ensures c.in_default.is
 
 pub returns-in-Some : goal.returns-in-Some
@@ -70,5 +70,5 @@ returns-in-Some g t c =
     let whole : tree_of input.counts here ≡ Fork (tree_of input.counts left) (tree_of input.counts right) = pair.0 ∙ ap (λ x. Fork (tree nodes x.index) (tree nodes c.in-Pair.r.index)) (sym c.look-left.ensures.id) ∙ ap (λ x. Fork (tree nodes left.id.index) (tree nodes x.index)) (sym c.look-right.ensures.id) in
     let states : length right.table.now ≡ states_of input.counts.dfa.now = c.look-right.ensures.part.table_is.shape.states in
     earlier-pair input c.requires.input here c.requires.part c.args.state c.requires.state c.args.after.now left right c.look-left.ensures.part c.look-right.ensures.part whole c.look-left.ensures.at c.look-right.ensures.at c.fill_ways.new.ways
-    (λ q lt. c.fill_ways.ensures q (omega (arith, states, lt))) (c.is_marked.ensures.some c.if-not-is_marked.false) c.over_part-first.result c.over_part-second.result _ c.in-Some.middle c.args.looks.now c.look-right.new.looks c.over_part-first.new.looks c.over_part-second.new.looks
+    (λ q lt. c.fill_ways.ensures q (omega (arith, states, lt))) (c.is_marked_between.ensures.some c.if-not-is_marked_between.false) c.over_part-first.result c.over_part-second.result _ c.in-Some.middle c.args.looks.now c.look-right.new.looks c.over_part-first.new.looks c.over_part-second.new.looks
     (omega (arith, c.look-left.ensures.step, c.look-right.ensures.step)) c.over_part-first.ensures c.in-Some.is c.over_part-second.ensures c.saturating_add.ensures refl
