@@ -29,11 +29,8 @@ fn counts_of<'a>(tabled: &'a TabledQuery, store: &Store, root: Option<NodeId>) -
     requires live { IsLive store.now root }
     ensures { IsCounted tabled.now.query.dfa store.now result.now root }
 {
-    match &tabled.counts {
-        Some(counts) => counts,
-        // Each node has its counting table.
-        None => unreachable!(),
-    }
+    // Each node has its counting table.
+    tabled.counts.as_ref().unwrap()
 }
 
 /// How many answers the query has on the root's text.
