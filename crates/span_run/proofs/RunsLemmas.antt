@@ -1,258 +1,13 @@
--- One step of a run: a line.
-use Rattle.span_run.proofs.Names.{[], Adds, Allowance, Anywhere, ap, append-nil, append_assoc, Appends, Appends-kept, Appends-nil, Appends-trans, arith, Bool}
-use Rattle.span_run.proofs.Names.{both, both_of, Carried, Command, Counters, Ending, false, Files, Halts, IfSome, if◌then◌else◌, InFileLine, inl, inr}
-use Rattle.span_run.proofs.Names.{is_refused, IsDone, IsStoppedLine, IsList, IsPaid, IsSessionModel, IsStopped, Leaves, length, length-append, LineState, List}
-use Rattle.span_run.proofs.Names.{Means, most_nodes, Named, no_lines, no_steps, nodes_of, None, nothing, Of, Option, Outlet, outside, Outside, pairs_of}
-use Rattle.span_run.proofs.Names.{PlacesFew, refl, HasIncreased, Runs, RunsAll, RunsPrefix, SessionModel, Some, start, State, Stop, Stopped, subst, suc, Sum, sym, take}
-use Rattle.span_run.proofs.Names.{Told, true, UnlessList, world, World, world_in, ℕ, ◌*◌, ◌++◌, ◌+◌, ◌-◌, ◌||◌, ◌∙◌, ◌∷◌, ◌≡◌, ◌≤◌, ◌⊎◌}
-use Rattle.std.proofs.Math.Nat.{mul-le-mul_left}
-use Rattle.slp_model.specs.Nodes.{pair_count}
-use Rattle.span_language.specs.declared.told.Stop.TheVariants as stop
-use Rattle.session_state.proofs.PlacesLemmas.{PlacesSoFar, places_go_on, places_few, places_few_part}
-
--- what is observable of a state and a sink
-abbrev pub told_of : LineState → Outlet → Outside
-told_of s out = outside out.written s.files s.looks s.pairs s.places
-
--- the state of a run: these lines are left, this is the next one's number, and the output of the first lines was
--- written
-pub record IsAt (lines left : List (List ℕ)) (number : ℕ) (refused : Bool) (st : SessionModel) (most : ℕ) (before now : Outside) : Type 0 where
-  pub done : List (List ℕ)
-  pub cut : lines ≡ done ++ left
-  pub counted : number ≡ 1 + length done
-  pub sum : Sum
-  pub ran : Runs (start most before) 1 done sum (world st.state now.files)
-  pub refused_is : sum.refused ≡ refused
-  pub wrote : Appends before.written now.written sum.output
-  pub paid : IsPaid sum.cost before.counters now.counters
-  pub dropped : ℕ
-  pub placed : PlacesSoFar sum.counted sum.queries dropped st before.places now.places
-  pub grown : pairs_of st + dropped + before.counters.pairs ≤ now.counters.pairs + 256 * sum.compactions
-
-pub or_false : (a : Bool) → (a || false) ≡ a
-or_false true = refl
-or_false false = refl
-
-or_assoc : (a b c : Bool) → ((a || b) || c) ≡ (a || (b || c))
-or_assoc true b c = refl
-or_assoc false b c = refl
-
-both_of-none : (a : Allowance) → both_of no_steps a ≡ both_of a no_steps
-both_of-none a =
-    let l : 0 + a.looks ≡ a.looks + 0 = omega arith in
-    let p : 0 + a.pairs ≡ a.pairs + 0 = omega arith in
-    λ i. record { looks = l i; pairs = p i }
-
-both_of-assoc : (a b c : Allowance) → both_of (both_of a b) c ≡ both_of a (both_of b c)
-both_of-assoc a b c =
-    let l : a.looks + b.looks + c.looks ≡ a.looks + (b.looks + c.looks) = omega arith in
-    let p : a.pairs + b.pairs + c.pairs ≡ a.pairs + (b.pairs + c.pairs) = omega arith in
-    λ i. record { looks = l i; pairs = p i }
-
-both-none : (a : Sum) → both no_lines a ≡ both a no_lines
-both-none a =
-    let r = sym (or_false a.refused) in
-    let o = sym (append-nil a.output) in
-    let c = both_of-none a.cost in
-    let q : 0 + a.queries ≡ a.queries + 0 = omega arith in
-    let k : 0 + a.compactions ≡ a.compactions + 0 = omega arith in
-    let n = sym (or_false a.counted) in
-    λ i. record { refused = r i; output = o i; cost = c i; queries = q i; compactions = k i; counted = n i }
-
-both-assoc : (a b c : Sum) → both (both a b) c ≡ both a (both b c)
-both-assoc a b c =
-    let r = or_assoc a.refused b.refused c.refused in
-    let o = append_assoc a.output b.output c.output in
-    let d = both_of-assoc a.cost b.cost c.cost in
-    let q : a.queries + b.queries + c.queries ≡ a.queries + (b.queries + c.queries) = omega arith in
-    let k : a.compactions + b.compactions + c.compactions ≡ a.compactions + (b.compactions + c.compactions) = omega arith in
-    let n = or_assoc a.counted b.counted c.counted in
-    λ i. record { refused = r i; output = o i; cost = d i; queries = q i; compactions = k i; counted = n i }
-
-both_paid : (a b : Allowance) (x y z : Counters) → IsPaid a x y → IsPaid b y z → IsPaid (both_of a b) x z
-both_paid a b x y z first second = record { looks = omega (arith, first.looks, second.looks); pairs = omega (arith, first.pairs, second.pairs) }
-
-none_paid : (x : Counters) → IsPaid no_steps x x
-none_paid x = record { looks = omega arith; pairs = omega arith }
-
--- a run and one more line
-pub one_more : (old : World) (number : ℕ) (done : List (List ℕ)) (sum : Sum) (mid : World) (line : List ℕ) (one : Sum) (new : World)
-    → Runs old number done sum mid → Adds mid (number + length done) line one new → Runs old number (done ++ line ∷ []) (both sum one) new
-one_more old number [] sum mid line one new (none, same) adds =
-    let at : number + 0 ≡ number = omega arith in
-    let here : Adds old number line one new = subst (λ (w : World). Adds w number line one new) same (subst (λ (k : ℕ). Adds mid k line one new) at adds) in
-    (one, no_lines, new, here, (refl, refl), ap (λ (s : Sum). both s one) none ∙ both-none one)
-one_more old number (first ∷ done) sum mid line one new (head, rest, m, first_adds, ran, is) adds =
-    let at : number + suc (length done) ≡ (number + 1) + length done = omega arith in
-    let more = one_more m (number + 1) done rest mid line one new ran (subst (λ (k : ℕ). Adds mid k line one new) at adds) in
-    (head, both rest one, m, first_adds, more, ap (λ (s : Sum). both s one) is ∙ both-assoc head rest one)
+-- Runs that ended before their first line, and a script in one piece that was stopped.
+use Rattle.span_run.proofs.Names.{[], append-nil, Appends-nil, arith, Ending, Err, false, Files, IfErr, IfSome, inl, lines_of, List, no_lines, no_steps, None, Ok}
+use Rattle.span_run.proofs.Names.{Option, Outlet, Outside, refl, Result, RunsPrefix, Some, start, Stop, subst, UnlessList, inr, ℕ, ◌≤◌}
+use Rattle.script_driver.specs.Position.{ConversationState}
+use Rattle.script_driver.specs.Progress.{IsHalted, IsTalking, StopsAtEnd, StopsWithin}
+use Rattle.script_driver.proofs.Halting.{halted_later}
 
 pub each_some : (o : Option (List ℕ)) (P : List ℕ → Type 0) → ((x : List ℕ) → P x) → IfSome o P
 each_some None P h = tt
 each_some (Some x) P h = h x
-
-pub at_start : (lines : List (List ℕ)) (most : ℕ) (before : Outside) (st : SessionModel) → st.state ≡ nothing most → st.covered ≡ [] → st.counted ≡ [] → st.store ≡ [] → IsAt lines lines 1 false st most before before
-unfolding pair_count
-at_start lines most before st is none uncounted new = record {
-  done = [];
-  cut = refl;
-  counted = refl;
-  sum = no_lines;
-  ran = (refl, ap (λ (s : State). world s before.files) is);
-  refused_is = refl;
-  wrote = Appends-nil before.written;
-  paid = none_paid before.counters;
-  dropped = 0;
-  placed = record {
-    both = λ n le. omega (arith, ap (λ (l : Named ℕ). n * length l) none, ap (λ (l : Named ℕ). n * length l) uncounted);
-    unasked = λ no n le. omega (arith, ap (λ (l : Named ℕ). n * length l) none);
-  };
-  grown = omega (arith, ap pair_count new);
-}
-
--- nothing is buffered in the sink, also after a line that left it unchanged
-pub gone_still : {K : Type 0} (kept : K → ℕ) (next now : K) → next ≡ now → kept now ≡ 0 → kept next ≡ 0
-gone_still kept next now same none = ap kept same ∙ none
-
-pub gone_on : {K Q : Type 0} (kept : K → ℕ) (next now : K) → (Q × (next ≡ now)) ⊎ (kept next ≡ 0) → kept now ≡ 0 → kept next ≡ 0
-gone_on kept next now (inl same) none = gone_still kept next now same.1 none
-gone_on kept next now (inr gone) none = gone
-
--- a count that increased in the last part of a run increased in the run
-pub increased_later : (a b c : ℕ) → a ≤ b → HasIncreased b c → HasIncreased a c
-increased_later a b c le has_increased = omega (arith, le, has_increased)
-
--- the bound on the number of tables, by the number of nodes that ever existed
-few_of : (asked : Bool) (sum : Sum) (before after : Outside) (nodes : ℕ) → nodes ≤ most_nodes sum before after → after.places ≤ before.places + (if asked then 2 else 1) * (sum.queries * nodes) → PlacesFew asked sum before after
-few_of true sum before after nodes grown few =
-    let products : sum.queries * nodes ≤ sum.queries * most_nodes sum before after = mul-le-mul_left sum.queries grown in
-    omega (arith, few, products)
-few_of false sum before after nodes grown few =
-    let products : sum.queries * nodes ≤ sum.queries * most_nodes sum before after = mul-le-mul_left sum.queries grown in
-    omega (arith, few, products)
-
-module _ (lines left rest : List (List ℕ)) (line : List ℕ) (number : ℕ) (refused : Bool) (most : ℕ) (before : Outside) (old : LineState) (sink : Outlet) (new : LineState) (after : Outlet) (is : left ≡ line ∷ rest) (at : IsAt lines left number refused old.model most before (told_of old sink)) where
-  pub goes_on : (told : Told) → IsDone line number old sink new after told → IsAt lines rest (number + 1) (refused || is_refused told) new.model most before (told_of new after)
-  goes_on told (meaning, means, d) =
-      let one : Sum = record { refused = is_refused told; output = d.finishes.0; cost = d.paid.0; queries = d.tallies.queries; compactions = d.tallies.compactions; counted = d.tallies.counts } in
-      let adds : Adds (world_in old) number line one (world_in new) = record {
-        meaning = meaning;
-        told = told;
-        means = means;
-        carried = d.finishes.1;
-        allowed = d.paid.1;
-        registers = d.tallies.registered;
-        compacts = d.tallies.compacted;
-        counts = d.tallies.asked;
-        refused_is = refl;
-      } in
-      record {
-        done = at.done ++ line ∷ [];
-        cut = at.cut ∙ ap (λ (l : List (List ℕ)). at.done ++ l) is ∙ sym (append_assoc at.done (line ∷ []) rest);
-        counted = omega (arith, at.counted, length-append at.done (line ∷ []));
-        sum = both at.sum one;
-        ran = one_more (start most before) 1 at.done at.sum (world_in old) line one (world_in new) at.ran (subst (λ (k : ℕ). Adds (world_in old) k line one (world_in new)) at.counted adds);
-        refused_is = ap (λ (b : Bool). b || is_refused told) at.refused_is;
-        wrote = Appends-trans before.written sink.written after.written at.sum.output d.finishes.0 at.wrote d.finishes.2;
-        paid = both_paid at.sum.cost d.paid.0 before.counters (told_of old sink).counters (told_of new after).counters at.paid d.paid.2;
-        dropped = at.dropped + d.tallies.dropped;
-        placed = places_go_on at.sum.counted d.tallies.counts at.sum.queries at.dropped d.tallies.queries d.tallies.dropped old.model new.model before.places old.places new.places d.tallies.nodes at.placed d.tallies.placed;
-        grown = omega (arith, at.grown, d.tallies.pairs);
-      }
-
-  abbrev HaltsAt : Option Command → Type 0
-  HaltsAt meaning = Halts (Carried (world_in old) number meaning) (world_in old) sink.written after.written (world_in new)
-
-  abbrev part_of : (meaning : Option Command) → HaltsAt meaning → List ℕ
-  part_of meaning (inl kept) = []
-  part_of meaning (inr (told, reply, carried, (n, wrote))) = take n reply
-
-  part_is_prefix : (meaning : Option Command) (h : HaltsAt meaning) → IsStoppedLine (world_in old) (1 + length at.done) meaning (part_of meaning h) new.files
-  part_is_prefix meaning (inl kept) = inl (refl, ap (λ (w : World). w.files) kept.world)
-  part_is_prefix meaning (inr (told, reply, carried, (n, wrote))) = inr (told, reply, world_in new, n, subst (λ (k : ℕ). Carried (world_in old) k meaning told reply (world_in new)) at.counted carried, refl, refl)
-
-  part_written : (meaning : Option Command) (h : HaltsAt meaning) → Appends before.written after.written (at.sum.output ++ part_of meaning h)
-  part_written meaning (inl kept) = Appends-trans before.written sink.written after.written at.sum.output [] at.wrote (Appends-kept sink.written sink.written after.written [] (Appends-nil sink.written) kept.written)
-  part_written meaning (inr (told, reply, carried, (n, wrote))) = Appends-trans before.written sink.written after.written at.sum.output (take n reply) at.wrote wrote
-
-  -- a run that is stopped in this line
-  stops : (Ends : Ending) (why : Stop) (meaning : Option Command) → IsSessionModel old.model → IsSessionModel new.model → Means line meaning → Stopped number meaning old sink new after why → (h : HaltsAt meaning) → Ends meaning (part_of meaning h) old.files new.files
-      → RunsPrefix Ends lines most before (told_of new after)
-  stops Ends why meaning session stands means s h ends =
-      let n = 256 + pairs_of old.model + (new.pairs - old.pairs) in
-      let few : nodes_of new.model ≤ n = omega (arith, stands.few, s.passes.more_pairs, s.passes.calls) in
-      let bound : n + at.dropped ≤ 256 * (1 + at.sum.compactions) + (new.pairs - before.counters.pairs) = omega (arith, at.grown, s.passes.calls) in
-      record {
-        done = at.done;
-        left = line ∷ rest;
-        cut = at.cut ∙ ap (λ (l : List (List ℕ)). at.done ++ l) is;
-        sum = at.sum;
-        mid = world_in old;
-        ran = at.ran;
-        part = part_of meaning h;
-        last = s.passes.begun.0;
-        counted = s.passes.counts;
-        next = inr (line, rest, meaning, refl, record { means = means; prefix = part_is_prefix meaning h; allowed = s.passes.begun.1; counts = s.passes.asked }, ends);
-        wrote = part_written meaning h;
-        paid = both_paid at.sum.cost s.passes.begun.0 before.counters (told_of old sink).counters (told_of new after).counters at.paid s.passes.begun.2;
-        placed = few_of (at.sum.counted || s.passes.counts) at.sum before (told_of new after) (n + at.dropped) bound
-            (places_few_part at.sum.counted s.passes.counts at.sum.queries at.dropped old.model new.model before.places old.places new.places n (omega (arith, session.few)) few at.placed s.passes.placed);
-      }
-
-  -- a failure of the sink may stop it anywhere
-  pub stops_anywhere : IsSessionModel old.model → IsSessionModel new.model → IsStopped line number old sink new after stop.OutFault → HasIncreased sink.faults after.faults × RunsPrefix Anywhere lines most before (told_of new after)
-  stops_anywhere session stands (inl (other, same, kept)) = let bad : ⊥ = cc other in absurd bad
-  stops_anywhere session stands (inr (meaning, means, s)) = ((s.fault refl).1, stops Anywhere stop.OutFault meaning session stands means s s.halts tt)
-
-  -- a failure of the file store stops a line that uses files, of which nothing was written
-  pub stops_in_file : IsSessionModel old.model → IsSessionModel new.model → IsStopped line number old sink new after stop.ShelfFault → HasIncreased old.faults new.faults × RunsPrefix InFileLine lines most before (told_of new after)
-  stops_in_file session stands (inl (other, same, kept)) = let bad : ⊥ = cc other in absurd bad
-  stops_in_file session stands (inr (meaning, means, s)) =
-      let file = s.shelf_fault refl in
-      (file.1, stops InFileLine stop.ShelfFault meaning session stands means s (inl file.2) (file.0, refl, ap (λ (w : World). w.files) file.2.world))
-
-  -- an allocation failure: a line of the form `list` was stopped before any of it was written, unless a count increased
-  pub stops_wanting : (wants : ℕ) → wants ≤ sink.wants → IsSessionModel old.model → IsSessionModel new.model → IsStopped line number old sink new after stop.NoMemory → RunsPrefix (UnlessList wants after.wants) lines most before (told_of new after)
-  stops_wanting wants later session stands (inl (unread, same, kept)) =
-      subst (λ (s : LineState). RunsPrefix (UnlessList wants after.wants) lines most before (told_of s after)) (sym same)
-      (subst (λ (o : Outlet). RunsPrefix (UnlessList wants after.wants) lines most before (told_of old o)) (sym kept) unbegun)
-    where
-      unbegun : RunsPrefix (UnlessList wants after.wants) lines most before (told_of old sink)
-      unbegun = record {
-        done = at.done;
-        left = left;
-        cut = at.cut;
-        sum = at.sum;
-        mid = world_in old;
-        ran = at.ran;
-        part = [];
-        last = no_steps;
-        counted = false;
-        next = inl (refl, refl, refl, refl, (λ no. absurd no));
-        wrote = subst (λ (l : List ℕ). Appends before.written sink.written l) (sym (append-nil at.sum.output)) at.wrote;
-        paid = both_paid at.sum.cost no_steps before.counters (told_of old sink).counters (told_of old sink).counters at.paid (none_paid (told_of old sink).counters);
-        placed = subst (λ (b : Bool). PlacesFew b at.sum before (told_of old sink)) (sym (or_false at.sum.counted)) (few_of at.sum.counted at.sum before (told_of old sink) (256 + pairs_of old.model + at.dropped) (omega (arith, at.grown))
-            (places_few at.sum.counted at.sum.queries at.dropped old.model before.places old.places (256 + pairs_of old.model) session session.few at.placed));
-      }
-  stops_wanting wants later session stands (inr (meaning, means, s)) = by (s.want refl)
-    where
-      by : (Of IsList meaning → ⊥) ⊎ (HasIncreased sink.wants after.wants ⊎ Leaves (world_in old) sink.written after.written (world_in new)) → RunsPrefix (UnlessList wants after.wants) lines most before (told_of new after)
-      by (inl other) = stops (UnlessList wants after.wants) stop.NoMemory meaning session stands means s s.halts (λ list. absurd (other list))
-      by (inr (inl has_increased)) = stops (UnlessList wants after.wants) stop.NoMemory meaning session stands means s s.halts (λ list. inl (increased_later wants sink.wants after.wants later has_increased))
-      by (inr (inr left)) = stops (UnlessList wants after.wants) stop.NoMemory meaning session stands means s (inl left) (λ list. inr refl)
-
-pub ends : (lines left : List (List ℕ)) (number : ℕ) (refused : Bool) (st : SessionModel) (most : ℕ) (before now : Outside) → left ≡ [] → IsSessionModel st → IsAt lines left number refused st most before now → RunsAll lines refused most before now
-ends lines left number refused st most before now none is at =
-    let all : lines ≡ at.done = at.cut ∙ ap (λ (l : List (List ℕ)). at.done ++ l) none ∙ append-nil at.done in
-    record {
-      sum = at.sum;
-      state = st.state;
-      ran = subst (λ (l : List (List ℕ)). Runs (start most before) 1 l at.sum (world st.state now.files)) (sym all) at.ran;
-      refused_is = at.refused_is;
-      wrote = at.wrote;
-      paid = at.paid;
-      placed = few_of at.sum.counted at.sum before now (256 + pairs_of st + at.dropped) (omega (arith, at.grown)) (places_few at.sum.counted at.sum.queries at.dropped st before.places now.places (256 + pairs_of st) is is.few at.placed);
-    }
 
 -- a run that ended before its first line
 pub none_ran : (Ends : Ending) (lines : List (List ℕ)) (most : ℕ) (before : Outside) → Ends None [] before.files before.files → RunsPrefix Ends lines most before before
@@ -268,9 +23,24 @@ none_ran Ends lines most before ends = record {
   counted = false;
   next = inl (refl, refl, refl, refl, ends);
   wrote = Appends-nil before.written;
-  paid = none_paid before.counters;
+  paid = record { looks = omega arith; pairs = omega arith };
   placed = omega arith;
 }
 
 pub none_written : (wants : ℕ) (files : Option Files) → UnlessList wants wants None [] files files
 none_written wants files = λ list. inr refl
+
+-- a script in one piece that was stopped in a line with a newline
+pub halted_in_line : (script : List ℕ) (most : ℕ) (before after : Outside) (kept : List ℕ) (p : ConversationState) (sink last : Outlet) (old new : ℕ) (why : Stop) → IsTalking [] most before kept p
+    → IsHalted (λ Ends. StopsWithin Ends script kept p after) sink old last new why → IsHalted (λ Ends. RunsPrefix Ends (lines_of script) most before after) sink old last new why
+halted_in_line script most before after kept p sink last old new why t h =
+    halted_later (λ Ends. StopsWithin Ends script kept p after) (λ Ends. RunsPrefix Ends (lines_of script) most before after) sink sink last old old new why (omega arith) (omega arith) (omega arith) h
+    (λ Ends stops. subst (λ (l : List ℕ). RunsPrefix Ends (lines_of l) most before after) (append-nil script) (stops [] [] most before t))
+
+-- and one that was stopped in its last line, without a newline
+pub halted_at_end : {T : Type 0} (r : Result T Stop) (script : List ℕ) (most : ℕ) (before after : Outside) (kept : List ℕ) (p : ConversationState) (sink mid last : Outlet) (start old new : ℕ) → IsTalking script most before kept p
+    → sink.faults ≤ mid.faults → sink.wants ≤ mid.wants → start ≤ old → IfErr r (IsHalted (λ Ends. StopsAtEnd Ends kept p after) mid old last new)
+    → IfErr r (IsHalted (λ Ends. RunsPrefix Ends (lines_of script) most before after) sink start last new)
+halted_at_end (Ok _) script most before after kept p sink mid last start old new t later wants_later shelf_later h = tt
+halted_at_end (Err why) script most before after kept p sink mid last start old new t later wants_later shelf_later h =
+    halted_later (λ Ends. StopsAtEnd Ends kept p after) (λ Ends. RunsPrefix Ends (lines_of script) most before after) sink mid last start old new why later wants_later shelf_later h (λ Ends stops. stops script most before t)

@@ -25,7 +25,6 @@
 //! Proved: The main theorem (`run`).
 #![tactic(auto)]
 
-mod lines;
 mod run_script;
 
 pub use run_script::{Status, run};

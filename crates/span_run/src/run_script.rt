@@ -1,18 +1,18 @@
 //! The top call: runs the script that the command-line arguments select, and returns a status.
-ghost use Rattle.std.specs.Prelude.{◌≡◌, ◌⊎◌, ◌+◌, ◌^◌, ◌<◌, ◌≤◌, ◌||◌, true, false, None, Some, IfOk, IfErr, IfSome, MatchResult, OnOk, length, map, string_bytes};
+ghost use Rattle.std.specs.Prelude.{◌≡◌, ◌⊎◌, ◌+◌, ◌^◌, ◌<◌, ◌≤◌, true, false, None, Some, IfOk, IfErr, IfSome, MatchResult, OnOk, length, map, string_bytes};
 ghost use Rattle.edge_io.specs.Causes.{HasIncreased};
 ghost use Rattle.span_session.specs.Lending.{IsSameIo, IsSameMeters};
 ghost use Rattle.span_words.specs.Words.{Refused};
 ghost use Rattle.span_run.specs.Taken.{TakesAtMost};
 ghost use Rattle.span_language.specs.Lines.{lines_of};
-ghost use Rattle.span_language.specs.Runs.{is_refused, outside, Anywhere, InFileLine, UnlessList, RunsAll, RunsPrefix};
+ghost use Rattle.span_language.specs.Runs.{outside, Anywhere, InFileLine, UnlessList, RunsAll, RunsPrefix};
 ghost use Rattle.span_language.specs.Scripts.{script_of, AsksForNoDemo, OfScript};
 
-use crate::lines::next_line;
 use edge_io::{Shelf, Sink, Source};
+use script_driver::Progress;
 use session_state::Lent;
-use span_language::{Stop, Told};
-use span_session::{Io, Meters, Session};
+use span_language::Stop;
+use span_session::{Io, Meters};
 use span_types::Steps;
 use span_words::{WordsRefusal, read_words};
 use std::alloc::Global;
@@ -126,13 +126,6 @@ fn asked_script<S: Source>(
     }
 }
 
-/// Whether this line or one before it was rejected.
-fn with_refusal(before: bool, told: Told) -> bool
-    ensures { result ≡ (before || is_refused told) }
-{
-    before || matches!(told, Told::Refused)
-}
-
 /// Executes the lines of a script in order, and returns whether one was rejected. The automaton of a query may have at
 /// most `states` states. If the sink had nothing buffered before, everything written has been sent whenever a line
 /// begins.
@@ -164,29 +157,9 @@ fn run_lines<R: Threads + Sync, K: Sink, F: Shelf, G: Gate, P: Ledger, T: Ledger
     ensures sound { OnOk result ((K.faults io.new.out.now ≡ K.faults io.old.out.now) × (K.wants io.new.out.now ≡ K.wants io.old.out.now) × (F.faults io.new.shelf.now ≡ F.faults io.old.shelf.now)) }
     ensures gone { K.kept io.old.out.now ≡ 0 → MatchResult result (λ _. K.kept io.new.out.now ≡ 0) (λ why. why ≡ Stop.ShelfFault → K.kept io.new.out.now ≡ 0) }
 {
-    let mut session = Session::with_states(alloc, states);
-    let mut rest = script;
-    let mut number = 1u64;
-    let mut refused = false;
-    while !rest.is_empty() {
-        let (line, after) = next_line(rest);
-        let told = session.line(
-            lent.rt,
-            number,
-            line,
-            lent.workers,
-            io.out,
-            io.shelf,
-            lent.gate,
-            meters.pairs,
-            meters.places,
-            meters.looks,
-        )?;
-        refused = with_refusal(refused, told);
-        number += 1;
-        rest = after;
-    }
-    Ok(refused)
+    let mut progress = Progress::new(alloc, states);
+    progress.feed(lent, script, io, meters)?;
+    progress.finish(lent, io, meters)
 }
 
 /// Runs a script over named texts: parses the arguments, reads the whole script, and executes its lines in order. Each

@@ -1,5 +1,3 @@
-pub mod Cuts
-pub mod Known
-pub mod Doing
 pub mod Ends
+pub mod Known
 pub mod Talking

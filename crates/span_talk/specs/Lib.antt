@@ -1,2 +1,1 @@
 pub mod Talk
-pub mod Progress

@@ -1,19 +1,10 @@
 -- A conversation: lines are executed as they come, and each reply is written before more is read.
-use Rattle.std.specs.Prelude.{◌≡◌, ℕ, ◌+◌, ◌==◌, Bool, List, [], ◌∷◌, ◌++◌, Option, Some, None, if◌then◌else◌, length}
+use Rattle.std.specs.Prelude.{◌≡◌, ℕ, ◌+◌, Bool, List, [], ◌∷◌, ◌++◌, Option, Some, None, length}
 use Rattle.std.specs.List.{AllByRecursion}
 use Rattle.std.specs.Io.KnownBytes.{Appends, Consumes}
 use Rattle.span_language.specs.State.{World}
 use Rattle.span_language.specs.Runs.{Outside, Runs, RunsAll, Sum, start}
-
--- the byte becomes the first of the first line, if there is one
-abbrev pub onto_whole : ℕ → List (List ℕ) → List (List ℕ)
-onto_whole b [] = []
-onto_whole b (line ∷ lines) = (b ∷ line) ∷ lines
-
--- the lines that end with a newline
-abbrev pub whole_lines : List ℕ → List (List ℕ)
-whole_lines [] = []
-whole_lines (b ∷ rest) = if b == 10 then [] ∷ whole_lines rest else onto_whole b (whole_lines rest)
+use Rattle.script_driver.specs.Lines.{whole_lines}
 
 -- the property holds of all bytes that the client sends, if they are observable, and otherwise of some bytes
 abbrev pub OfSent : Option (List ℕ) → (List ℕ → Type 0) → Type 0

@@ -4,10 +4,11 @@ ghost use Rattle.std.specs.Io.KnownBytes.{IsAtEnd};
 ghost use Rattle.edge_io.specs.Causes.{HasIncreased};
 ghost use Rattle.span_language.specs.Lines.{lines_of};
 ghost use Rattle.span_language.specs.Runs.{outside, Anywhere, InFileLine, UnlessList, RunsAll, RunsPrefix};
-ghost use Rattle.span_talk.specs.Talk.{whole_lines, AreServed, HaveRun, OfBytesRead, OfSent};
+ghost use Rattle.script_driver.specs.Lines.{whole_lines};
+ghost use Rattle.span_talk.specs.Talk.{AreServed, HaveRun, OfBytesRead, OfSent};
 
 use crate::client::Client;
-use crate::progress::{End, hear_script};
+use crate::hearing::{End, hear_script};
 use edge_io::{Shelf, Sink};
 use session_state::Lent;
 use span_run::{Status, Stop};

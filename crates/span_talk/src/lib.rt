@@ -25,8 +25,7 @@
 
 mod client;
 mod conversation;
-mod lines;
-mod progress;
+mod hearing;
 
 pub use client::{Client, Listener};
 pub use conversation::talk;
