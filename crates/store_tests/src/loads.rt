@@ -33,7 +33,7 @@ fn shape(alloc: Global, text: &[u8]) -> Result<Shape, NoMemory> {
     loaded::<Brand>(alloc, text, Blank::new(1))
 }
 
-/// The last text has 20,000 bytes. All its words except the first are found in the loader's table.
+/// The last text has 20,000 bytes. All its words except the first are found in the store's table.
 #[test]
 fn trees_of_texts(rt: HostRuntime) -> Result<(), Fail> {
     let alloc = rt.alloc();
