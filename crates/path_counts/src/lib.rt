@@ -14,8 +14,9 @@
 //! SLP-compressed documents*, PODS 2021, with numbers in place of truth values. Numbers stop at `u64::MAX`: it stands for
 //! itself and for every greater number, so each smaller number is exact.
 //!
-//! A table takes 24 bytes a state and 16 bytes for each pair of states with a number, in two allocations. A composition takes time linear in the
-//! states and in the pairs of a number of the left table and one of the right table that meet.
+//! A table takes 24 bytes a state and 16 bytes for each pair of states with a number, in two vectors: one for the rows of all
+//! states, and one for their counts. A composition takes time linear in the states and in the pairs of a number of the left table
+//! and one of the right table that meet.
 //!
 //! Proved: The counting table of a byte, and of two texts joined (`of_byte`, `compose`): how many marked texts with some
 //! mark lead from state to state, exactly below 2^64 - 1.
