@@ -6,17 +6,22 @@ ghost use Rattle.pair_memo.specs.Entries.{Entry};
 use std::alloc::Global;
 use std::marker::Model;
 
-// The number of slots. They take 256 KB.
-const SLOTS: usize = 1 << 14;
+// The number of slots for some entries, which take 256 KB, and for many, which take 1 MB.
+const SOME_SLOTS: usize = 1 << 14;
 
-// The number of entries from which the slots pay.
-const PAYS_FROM: usize = 64;
+const MANY_SLOTS: usize = 1 << 16;
+
+// The numbers of entries from which these pay.
+const SOME_ENTRIES: usize = 64;
+
+const MANY_ENTRIES: usize = 1 << 12;
 
 // The slots have numbers below this one, so that they take half as much memory.
 const NUMBERS: usize = 1 << 32;
 
 /// Some entries, each in the slot of its pair, so that a lookup is one comparison. A new entry replaces the one in its
-/// slot. It has 16,384 slots once it has an entry. Contracts see it as the list of its slots.
+/// slot. It has 16,384 slots once it has an entry, and 65,536 once its user has 4,096 entries. Contracts see it as the list
+/// of its slots.
 #[derive(Drop)]
 pub struct PairCache {
     slots: Vec<Option<((u32, u32), u32)>>,
@@ -46,7 +51,8 @@ impl PairCache {
     pub fn find(&self, left: usize, right: usize) -> Option<usize>
         ensures { IfSome result (λ number. (es : List Entry) → AreAmong self.now es → Contains es ((left, right), number)) }
     {
-        let ((first, second), number) = (*self.slots.get(slot_of(left, right))?)?;
+        let slot = slot_of(left, right, self.slots.len());
+        let ((first, second), number) = (*self.slots.get(slot)?)?;
         if first as usize == left && second as usize == right {
             Some(number as usize)
         } else {
@@ -59,13 +65,12 @@ impl PairCache {
     pub fn note(&mut self, left: usize, right: usize, number: usize, count: usize)
         ensures { (es : List Entry) → Contains es ((left, right), number) → AreAmong self.old es → AreAmong self.new es }
     {
-        if self.slots.is_empty() && (count < PAYS_FROM || self.slots.resize(SLOTS, None).is_err()) {
-            return;
-        }
+        make_slots(&mut self.slots, slots_for(count));
         if left >= NUMBERS || right >= NUMBERS || number >= NUMBERS {
             return;
         }
-        if let Some(slot) = self.slots.get_mut(slot_of(left, right)) {
+        let slot = slot_of(left, right, self.slots.len());
+        if let Some(slot) = self.slots.get_mut(slot) {
             *slot = Some(((left as u32, right as u32), number as u32));
         }
     }
@@ -78,9 +83,30 @@ impl PairCache {
     }
 }
 
-// The slot of a pair, by a multiplicative hash of its numbers (D. E. Knuth, The Art of Computer Programming, volume 3,
-// section 6.4).
-fn slot_of(left: usize, right: usize) -> usize {
+// The number of slots that pay for this many entries.
+fn slots_for(count: usize) -> usize {
+    if count >= MANY_ENTRIES {
+        MANY_SLOTS
+    } else if count >= SOME_ENTRIES {
+        SOME_SLOTS
+    } else {
+        0
+    }
+}
+
+// This many empty slots, if there are fewer and memory allows.
+fn make_slots(slots: &mut Vec<Option<((u32, u32), u32)>>, count: usize)
+    ensures { (es : List Entry) → AreAmong slots.old.items es → AreAmong slots.new.items es }
+{
+    if slots.len() < count {
+        slots.clear();
+        let _ = slots.resize(count, None);
+    }
+}
+
+// The slot of a pair among `slots`, a power of two of at most 65,536, by a multiplicative hash of its numbers (D. E. Knuth,
+// The Art of Computer Programming, volume 3, section 6.4).
+fn slot_of(left: usize, right: usize, slots: usize) -> usize {
     let mixed = left.wrapping_mul(0x9E37_79B9_7F4A_7C15).wrapping_add(right);
-    mixed.wrapping_mul(0x9E37_79B9_7F4A_7C15) >> 50
+    mixed.wrapping_mul(0x9E37_79B9_7F4A_7C15) >> 48 & slots.wrapping_sub(1)
 }

@@ -7,11 +7,11 @@
 //! ```
 //!
 //! It is for an expensive function of two numbers, such as the composition of two tables that have numbers. A lookup takes
-//! expected constant time, and mostly one comparison: a direct-mapped cache of 16,384 slots (`PairCache`) has the pairs that
+//! expected constant time, and mostly one comparison: a direct-mapped cache of up to 65,536 slots (`PairCache`) has the pairs that
 //! were found or noted last. When the table is full, it is emptied. No call fails if allocation fails: a pair that can't be
 //! noted isn't found later.
 //!
-//! An entry takes some 40 bytes, and the cache 256 KB.
+//! An entry takes some 40 bytes, and the cache 256 KB, or 1 MB from 4,096 entries on.
 //!
 //! Proved: A pair's number is found only if it was noted for this pair (`find`, `peek`, `note`).
 //!
