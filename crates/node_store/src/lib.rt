@@ -81,7 +81,7 @@ pub(crate) struct Facts {
 /// fewer than 2^32 nodes, and at most 9·2^28 that aren't found through a child.
 ///
 /// Once 4,096 bytes were expected, the store also has a cache of the blocks of the last words of two, four and eight
-/// bytes, if memory allows. It takes 192 KB, and 7 MB from 262,144 bytes on, for all texts together. A compacted store
+/// bytes, if memory allows. It takes 192 KB, and 5 MB from 262,144 bytes on, for all texts together. A compacted store
 /// begins without it.
 #[derive(Drop)]
 pub struct Store {

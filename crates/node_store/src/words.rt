@@ -15,13 +15,13 @@ const FEW_BYTES: usize = 1 << 12;
 const MANY_BYTES: usize = 1 << 18;
 
 // The number of entries for the words of each length after few bytes, and for those of two, four and eight bytes after
-// many. Of the words of four bytes looked up while real texts were loaded, some six in seven were found here. A word
-// that is found here needs no lookup in the store's index.
+// many. Of the words of four bytes looked up while real texts were loaded, most were found here. A word that is found
+// here needs no lookup in the store's index.
 const FEW_ENTRIES: usize = 1 << 12;
 
 const TWOS: usize = 1 << 16;
 
-const FOURS: usize = 1 << 18;
+const FOURS: usize = 1 << 17;
 
 const EIGHTS: usize = 1 << 17;
 
