@@ -11,10 +11,11 @@
 //! time. Nodes are only added and never change, so an id always means the same text.
 //!
 //! `byte` and `pair` take expected constant time, amortized over the nodes of the store. The other calls on a node
-//! take constant time, and `thin` takes linear time. A node takes 29 bytes if the vectors are full: 12 for itself, 9
+//! take constant time, and `thin` takes linear time. A node takes 25 bytes if the vectors are full: 12 for itself, 5
 //! for its length and height, and two links of 4 bytes. One link is to the first pair that has it on the left. The other
-//! is to the first of the other pairs that has it on the right. Most nodes are such a pair, and are found through a child; each other node takes 31 bytes more.
-//! Full vectors double, and a full index grows fourfold, or twofold if it is large.
+//! is to the first of the other pairs that has it on the right. Most nodes are such a pair, and are found through a child;
+//! each other node takes 31 bytes more. A node whose text has 2^31 bytes or more takes 8 bytes more. Full vectors double,
+//! and a full index grows fourfold, or twofold if it is large.
 //!
 //! A text is loaded faster if the blocks of its words of two, four and eight bytes are known by their bytes alone:
 //! `block_of_word` and `note_word` are a cache of them, which all loads share.
@@ -47,6 +48,7 @@ ghost use Rattle.node_store.specs.Known.{IsBlockOfWord};
 
 mod hash_clusters;
 mod hashed_nodes;
+mod lengths;
 mod moves;
 mod narrow;
 mod nodes;
@@ -54,6 +56,7 @@ mod search_tree;
 mod thin;
 mod words;
 
+use lengths::Lengths;
 pub use moves::Moves;
 use nodes::Nodes;
 pub use slp_model::{Node, NodeId};
@@ -75,10 +78,11 @@ pub(crate) struct Facts {
 /// The nodes of a straight-line program in the order in which they were added, each once. A child comes before its
 /// parent, and nodes never change.
 ///
-/// An empty store takes no memory. A node takes 29 bytes if the vectors are full. It takes 31 more if it is neither the
-/// first pair with its left child nor the first of the other pairs with its right child. Full vectors are doubled. A
-/// full index grows fourfold, or twofold if it is large, and the old one is kept until the new one is filled. There are
-/// fewer than 2^32 nodes, and at most 9·2^28 that aren't found through a child.
+/// An empty store takes no memory. A node takes 25 bytes if the vectors are full. It takes 31 more if it is neither the
+/// first pair with its left child nor the first of the other pairs with its right child, and 8 more if its text has 2^31
+/// bytes or more. Full vectors are doubled. A full index grows fourfold, or twofold if it is large, and the old one is
+/// kept until the new one is filled. There are fewer than 2^32 nodes, at most 9·2^28 that aren't found through a child,
+/// and at most 2^31 whose texts have 2^31 bytes or more.
 ///
 /// Once 4,096 bytes were expected, the store also has a cache of the blocks of the last words of two, four and eight
 /// bytes, if memory allows. It takes 192 KB, and 5 MB from 262,144 bytes on, for all texts together. A compacted store
@@ -86,7 +90,7 @@ pub(crate) struct Facts {
 #[derive(Drop)]
 pub struct Store {
     nodes: Nodes,
-    lens: Vec<u64>,
+    lens: Lengths,
     heights: Vec<u8>,
     // The index after the node that was found last. A text that is loaded again, or that is in an image, requests its
     // nodes in the order in which they were added.
@@ -107,7 +111,7 @@ impl Model for Store {
 
     ghost view = { λ s. s.nodes };
 
-    ghost invariant = { λ s. IsStored s.nodes s.lens.items s.heights.items × AreKnown s.nodes (known_of s.words) };
+    ghost invariant = { λ s. IsStored s.nodes s.lens.all s.heights.items × AreKnown s.nodes (known_of s.words) };
 }
 
 impl Store {
@@ -117,7 +121,7 @@ impl Store {
     {
         Store {
             nodes: Nodes::new(alloc),
-            lens: Vec::new(alloc),
+            lens: Lengths::new(alloc),
             heights: Vec::new(alloc),
             next: 0,
             words: Words::new(alloc),
@@ -152,7 +156,7 @@ impl Store {
         ensures short { result ≤ 2 ^ 48 }
         ensures balanced { IsBalanced (tree self.now id.index) }
     {
-        self.lens[id.index]
+        self.lens.at(id.index)
     }
 
     /// The height of the node's tree: 0 for a byte, and for a pair one more than the higher of its
@@ -282,7 +286,7 @@ impl Store {
         ensures { self.new ≡ self.old }
     {
         let count = self.nodes.unknown_pairs(blocks);
-        let _lens = self.lens.reserve(count);
+        self.lens.make_room(count);
         let _heights = self.heights.reserve(count);
         self.nodes.make_room(count);
     }
@@ -362,7 +366,7 @@ impl Store {
     {
         Ok(Store {
             nodes: Nodes::with_capacity(alloc, count)?,
-            lens: Vec::with_capacity(alloc, count)?,
+            lens: Lengths::with_capacity(alloc, count)?,
             heights: Vec::with_capacity(alloc, count)?,
             next: 0,
             words: Words::new(alloc),
@@ -382,13 +386,13 @@ impl Store {
         ensures tree { IfOk result (λ id. tree self.new id.index ≡ Fork (tree self.old left.index) (tree self.old right.index)) }
         ensures err { OnErr result (self.new ≡ self.old) }
     {
-        self.lens.reserve(1).map_err(|_| NoMemory)?;
+        self.lens.reserve_one()?;
         self.heights.reserve(1).map_err(|_| NoMemory)?;
         let (index, added) = self.nodes.insert(Node::Pair(left, right))?;
         self.next = index.wrapping_add(1);
         if added {
             let facts = pair_facts(&self.lens, &self.heights, left, right);
-            self.lens.push_reserved(facts.len);
+            self.lens.push(facts.len);
             self.heights.push_reserved(facts.height);
         }
         Ok(NodeId { index })
@@ -403,12 +407,12 @@ impl Store {
         ensures tree { IfOk result (λ id. tree self.new id.index ≡ node_tree (trees self.old) node) }
         ensures err { OnErr result (self.new ≡ self.old) }
     {
-        self.lens.reserve(1).map_err(|_| NoMemory)?;
+        self.lens.reserve_one()?;
         self.heights.reserve(1).map_err(|_| NoMemory)?;
         let (index, added) = self.nodes.insert(node)?;
         self.next = index.wrapping_add(1);
         if added {
-            self.lens.push_reserved(facts.len);
+            self.lens.push(facts.len);
             self.heights.push_reserved(facts.height);
         }
         Ok(NodeId { index })
@@ -416,19 +420,19 @@ impl Store {
 }
 
 // The length and the height of a pair, from those of its children.
-fn pair_facts(lens: &[u64], heights: &[u8], left: NodeId, right: NodeId) -> Facts
-    requires lens_left { left.index < length lens.now }
-    requires lens_right { right.index < length lens.now }
+fn pair_facts(lens: &Lengths, heights: &[u8], left: NodeId, right: NodeId) -> Facts
+    requires lens_left { left.index < length lens.now.all }
+    requires lens_right { right.index < length lens.now.all }
     requires heights_left { left.index < length heights.now }
     requires heights_right { right.index < length heights.now }
-    requires short { get_or lens.now left.index 0 + get_or lens.now right.index 0 ≤ 2 ^ 48 }
+    requires short { get_or lens.now.all left.index 0 + get_or lens.now.all right.index 0 ≤ 2 ^ 48 }
     requires low_left { get_or heights.now left.index 0 < 255 }
     requires low_right { get_or heights.now right.index 0 < 255 }
-    ensures len { result.len ≡ get_or lens.now left.index 0 + get_or lens.now right.index 0 }
+    ensures len { result.len ≡ get_or lens.now.all left.index 0 + get_or lens.now.all right.index 0 }
     ensures height { result.height ≡ max (get_or heights.now left.index 0) (get_or heights.now right.index 0) + 1 }
 {
     Facts {
-        len: lens[left.index] + lens[right.index],
+        len: lens.at(left.index) + lens.at(right.index),
         height: heights[left.index].max(heights[right.index]) + 1,
     }
 }
