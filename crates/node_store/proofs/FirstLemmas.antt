@@ -4,9 +4,9 @@ use Rattle.std.proofs.lemmas.List.{map-append, length-set}
 use Rattle.node_store.specs.declared.narrow.Narrow.{Narrow}
 use Rattle.node_store.specs.declared.nodes.Way.{Way}
 use Rattle.node_store.specs.declared.nodes.Way.TheVariants.{Known, First, Second, Other}
-use Rattle.node_store.specs.declared.narrow.Narrow.TheVariants.{Byte, Pair}
+use Rattle.slp_model.specs.Distinct.{IsOfByte}
 use Rattle.node_store.specs.contracts.narrow.NarrowPartialEq.TheImpl.{ghosts}
-use Rattle.node_store.specs.Narrow.{wide, AreUnique}
+use Rattle.node_store.specs.Narrow.{IsPair, wide, AreUnique}
 use Rattle.node_store.specs.SearchTree.{IsAbsent}
 use Rattle.node_store.specs.Firsts.{LeadsTo, RightLeadsTo, Leads, RightLeads, IsIndexed, IsNotFirst, IsRightWay, IsWay}
 use Rattle.node_store.proofs.NarrowLemmas.{absent-wide, unique-push, unique-none, differs-at}
@@ -35,6 +35,7 @@ unique-more all n unique absent = subst AreUnique (sym (map-append wide all (n �
 pub indexed-none : IsIndexed [] [] [] [] []
 indexed-none = record {
   unique = unique-none;
+  bytes = λ i n h. cc;
   as_many = refl;
   as_many_right = refl;
   as_long = refl;
@@ -93,37 +94,32 @@ extends-led n links c within none = record {
     same m other = push-none (set links c (suc n)) m ∙ get_or-set_other links c m (suc n) 0 other
 
 leads-more : (k : ℕ) (links after : List ℕ) (n : Narrow) → Extends k links after → Leads links n → Leads after n
-leads-more k links after (Byte b) e h = tt
-leads-more k links after (Pair l r) e h = e.some l h
+leads-more k links after n e h = λ pair. e.some n.left (h pair)
 
 right-leads-more : (k : ℕ) (links after : List ℕ) (n : Narrow) → Extends k links after → RightLeads links n → RightLeads after n
-right-leads-more k links after (Byte b) e h = tt
-right-leads-more k links after (Pair l r) e h = e.some r h
+right-leads-more k links after n e h = λ pair. e.some n.right (h pair)
 
 leads-to-more : (k : ℕ) (links after : List ℕ) (n : Narrow) (i : ℕ) → Extends k links after → LeadsTo links n i → LeadsTo after n i
-leads-to-more k links after (Byte b) i e h = h
-leads-to-more k links after (Pair l r) i e h = e.to l i h
+leads-to-more k links after n i e h = (h.0, e.to n.left i h.1)
 
 right-leads-to-more : (k : ℕ) (links after : List ℕ) (n : Narrow) (i : ℕ) → Extends k links after → RightLeadsTo links n i → RightLeadsTo after n i
-right-leads-to-more k links after (Byte b) i e h = h
-right-leads-to-more k links after (Pair l r) i e h = e.to r i h
+right-leads-to-more k links after n i e h = (h.0, e.to n.right i h.1)
 
 -- to lead to a node is to lead
 right-leads : (seconds : List ℕ) (n : Narrow) (i : ℕ) → RightLeadsTo seconds n i → RightLeads seconds n
-right-leads seconds (Byte b) i h = tt
-right-leads seconds (Pair l r) i h = λ e. omega (arith, e, h)
+right-leads seconds n i h = λ pair e. omega (arith, e, h.1)
 
 -- ---- one more node
 module _ (all : List Narrow) (firsts seconds : List ℕ) (others : List Narrow) (indices : List ℕ) (n : Narrow) (x : IsIndexed all firsts seconds others indices) where
   -- a pair whose left child led nowhere
   pub first-absent : (l : ℕ) → IsWay all firsts seconds n (First l) → IsAbsent all n
-  first-absent l (r, is, within, none) i h = x.leads i (Pair l r) (subst (λ m. slice_get all i ≡ Some m) is h) none
+  first-absent l (pair, is, within, none) i h = x.leads i n h pair (subst (λ m. get_or firsts m 0 ≡ 0) is none)
 
   -- a pair that isn't first, and whose right child led nowhere
   pub second-absent : (r : ℕ) → IsWay all firsts seconds n (Second r) → IsAbsent all n
-  second-absent r (not_first, (l, is, within, none)) i h = elim (x.right i n h) [
+  second-absent r (pair, not_first, is, within, none) i h = elim (x.right i n h) [
     | inl to ↦ not_first.1 i to h
-    | inr right ↦ (let nowhere : get_or seconds r 0 ≢ 0 = subst (RightLeads seconds) is right in nowhere none)
+    | inr right ↦ right pair (subst (λ m. get_or seconds m 0 ≡ 0) is none)
   ]
 
   -- a node that no child leads to and that isn't among the others
@@ -136,11 +132,15 @@ module _ (all : List Narrow) (firsts seconds : List ℕ) (others : List Narrow) 
   longer : length (all ++ n ∷ []) ≡ length all + 1
   longer = length-append all (n ∷ [])
 
+  bytes-more : IsOfByte (wide n) → (i : ℕ) (m : Narrow) → slice_get (all ++ n ∷ []) i ≡ Some m → IsOfByte (wide m)
+  bytes-more byte i m h = elim (narrow-push all n m i h) [ inl old ↦ x.bytes i m old.1 | inr new ↦ subst (λ k. IsOfByte (wide k)) new.1 byte ]
+
   -- the new node is found by a child
-  child-added : (f s : List ℕ) → Extends (length all) firsts f → Extends (length all) seconds s → IsAbsent all n → Leads f n → LeadsTo f n (length all) ⊎ RightLeadsTo s n (length all)
+  child-added : (f s : List ℕ) → IsOfByte (wide n) → Extends (length all) firsts f → Extends (length all) seconds s → IsAbsent all n → Leads f n → LeadsTo f n (length all) ⊎ RightLeadsTo s n (length all)
       → IsIndexed (all ++ n ∷ []) f s others indices
-  child-added f s ef es absent leads by = record {
+  child-added f s byte ef es absent leads by = record {
     unique = unique-more all n x.unique absent;
+    bytes = bytes-more byte;
     as_many = omega (arith, longer, ef.longer, x.as_many);
     as_many_right = omega (arith, longer, es.longer, x.as_many_right);
     as_long = x.as_long;
@@ -170,23 +170,23 @@ module _ (all : List Narrow) (firsts seconds : List ℕ) (others : List Narrow) 
       at : (i : ℕ) (m : Narrow) → i ≡ length all → n ≡ m → LeadsTo f m i ⊎ RightLeadsTo s m i
       at i m index same = subst (λ j. LeadsTo f m j ⊎ RightLeadsTo s m j) (sym index) (subst (λ k. LeadsTo f k (length all) ⊎ RightLeadsTo s k (length all)) same by)
 
-  pub first-added : (l : ℕ) → IsWay all firsts seconds n (First l) → IsIndexed (all ++ n ∷ []) (set firsts l (suc (length all)) ++ 0 ∷ []) (seconds ++ 0 ∷ []) others indices
-  first-added l (r, is, within, none) =
-      let to : LeadsTo (set firsts l (suc (length all)) ++ 0 ∷ []) (Pair l r) (length all) = here firsts l (length all) within in
-      let leads : Leads (set firsts l (suc (length all)) ++ 0 ∷ []) (Pair l r) = λ e. omega (arith, e, to) in
-      child-added (set firsts l (suc (length all)) ++ 0 ∷ []) (seconds ++ 0 ∷ []) (extends-led (length all) firsts l within none) (extends-none (length all) seconds) (first-absent l (r, is, within, none))
-      (subst (Leads (set firsts l (suc (length all)) ++ 0 ∷ [])) (sym is) leads) (inl (subst (λ m. LeadsTo (set firsts l (suc (length all)) ++ 0 ∷ []) m (length all)) (sym is) to))
+  pub first-added : (l : ℕ) → IsOfByte (wide n) → IsWay all firsts seconds n (First l) → IsIndexed (all ++ n ∷ []) (set firsts l (suc (length all)) ++ 0 ∷ []) (seconds ++ 0 ∷ []) others indices
+  first-added l byte (pair, is, within, none) =
+      let to : LeadsTo (set firsts l (suc (length all)) ++ 0 ∷ []) n (length all) = (pair, subst (λ m. get_or (set firsts l (suc (length all)) ++ 0 ∷ []) m 0 ≡ suc (length all)) is (here firsts l (length all) within)) in
+      child-added (set firsts l (suc (length all)) ++ 0 ∷ []) (seconds ++ 0 ∷ []) byte (extends-led (length all) firsts l within none) (extends-none (length all) seconds) (first-absent l (pair, is, within, none))
+      (λ p e. omega (arith, e, to.1)) (inl to)
 
-  pub second-added : (r : ℕ) → IsWay all firsts seconds n (Second r) → IsIndexed (all ++ n ∷ []) (firsts ++ 0 ∷ []) (set seconds r (suc (length all)) ++ 0 ∷ []) others indices
-  second-added r (not_first, (l, is, within, none)) =
-      let to : RightLeadsTo (set seconds r (suc (length all)) ++ 0 ∷ []) (Pair l r) (length all) = here seconds r (length all) within in
-      child-added (firsts ++ 0 ∷ []) (set seconds r (suc (length all)) ++ 0 ∷ []) (extends-none (length all) firsts) (extends-led (length all) seconds r within none) (second-absent r (not_first, (l, is, within, none)))
-      (leads-more (length all) firsts (firsts ++ 0 ∷ []) n (extends-none (length all) firsts) not_first.0) (inr (subst (λ m. RightLeadsTo (set seconds r (suc (length all)) ++ 0 ∷ []) m (length all)) (sym is) to))
+  pub second-added : (r : ℕ) → IsOfByte (wide n) → IsWay all firsts seconds n (Second r) → IsIndexed (all ++ n ∷ []) (firsts ++ 0 ∷ []) (set seconds r (suc (length all)) ++ 0 ∷ []) others indices
+  second-added r byte (pair, not_first, is, within, none) =
+      let to : RightLeadsTo (set seconds r (suc (length all)) ++ 0 ∷ []) n (length all) = (pair, subst (λ m. get_or (set seconds r (suc (length all)) ++ 0 ∷ []) m 0 ≡ suc (length all)) is (here seconds r (length all) within)) in
+      child-added (firsts ++ 0 ∷ []) (set seconds r (suc (length all)) ++ 0 ∷ []) byte (extends-none (length all) firsts) (extends-led (length all) seconds r within none) (second-absent r (pair, not_first, is, within, none))
+      (leads-more (length all) firsts (firsts ++ 0 ∷ []) n (extends-none (length all) firsts) not_first.0) (inr to)
 
   -- it is found among the others
-  pub other-added : IsWay all firsts seconds n Other → IsAbsent others n → IsIndexed (all ++ n ∷ []) (firsts ++ 0 ∷ []) (seconds ++ 0 ∷ []) (others ++ n ∷ []) (indices ++ length all ∷ [])
-  other-added way absent = record {
+  pub other-added : IsOfByte (wide n) → IsWay all firsts seconds n Other → IsAbsent others n → IsIndexed (all ++ n ∷ []) (firsts ++ 0 ∷ []) (seconds ++ 0 ∷ []) (others ++ n ∷ []) (indices ++ length all ∷ [])
+  other-added byte way absent = record {
     unique = unique-more all n x.unique (other-absent way absent);
+    bytes = bytes-more byte;
     as_many = omega (arith, longer, ef.longer, x.as_many);
     as_many_right = omega (arith, longer, es.longer, x.as_many_right);
     as_long = omega (arith, length-append indices (length all ∷ []), length-append others (n ∷ []), x.as_long);
@@ -230,35 +230,29 @@ module _ (all : List Narrow) (firsts seconds : List ℕ) (others : List Narrow) 
 
 -- ---- how a node is found
 -- a pair that isn't the first one with its left child
-pub not-first : (all : List Narrow) (firsts : List ℕ) (l r i : ℕ) (n d : Narrow) → n ≡ Pair l r → get_or firsts l 0 ≡ suc i → ghosts.eq (get_or all i d) n ≡ false → IsNotFirst all firsts n
-not-first all firsts l r i n d is leads other = (subst (Leads firsts) (sym is) (λ e. omega (arith, e, leads)), at)
+pub not-first : (all : List Narrow) (firsts : List ℕ) (i : ℕ) (n d : Narrow) → get_or firsts n.left 0 ≡ suc i → ghosts.eq (get_or all i d) n ≡ false → IsNotFirst all firsts n
+not-first all firsts i n d leads other = (λ pair e. omega (arith, e, leads), at)
   where
     at : (j : ℕ) → LeadsTo firsts n j → slice_get all j ≢ Some n
     at j led h =
-        let pair : get_or firsts l 0 ≡ suc j = subst (λ m. LeadsTo firsts m j) is led in
-        let same : j ≡ i = omega (arith, leads, pair) in
+        let same : j ≡ i = omega (arith, leads, led.1) in
         differs-at all n d i other (subst (λ k. slice_get all k ≡ Some n) same h)
 
 -- nor the first of those that aren't, with its right child
-pub not-second : (all : List Narrow) (seconds : List ℕ) (l r i : ℕ) (d : Narrow) → get_or seconds r 0 ≡ suc i → ghosts.eq (get_or all i d) (Pair l r) ≡ false → IsRightWay all seconds l r Other
-not-second all seconds l r i d leads other = ((λ e. omega (arith, e, leads)), at)
+pub not-second : (all : List Narrow) (seconds : List ℕ) (i : ℕ) (n d : Narrow) → get_or seconds n.right 0 ≡ suc i → ghosts.eq (get_or all i d) n ≡ false → IsRightWay all seconds n Other
+not-second all seconds i n d leads other = (λ e. omega (arith, e, leads), at)
   where
-    at : (j : ℕ) → get_or seconds r 0 ≡ suc j → slice_get all j ≢ Some (Pair l r)
+    at : (j : ℕ) → get_or seconds n.right 0 ≡ suc j → slice_get all j ≢ Some n
     at j led h =
         let same : j ≡ i = omega (arith, leads, led) in
-        differs-at all (Pair l r) d i other (subst (λ k. slice_get all k ≡ Some (Pair l r)) same h)
+        differs-at all n d i other (subst (λ k. slice_get all k ≡ Some n) same h)
 
 -- the way of a pair that isn't first is by its right child
-pub right-way : (all : List Narrow) (firsts seconds : List ℕ) (n : Narrow) (l r : ℕ) (way : Way) → n ≡ Pair l r → IsNotFirst all firsts n → IsRightWay all seconds l r way → IsWay all firsts seconds n way
-right-way all firsts seconds n l r (Known i) is not_first h = h ∙ ap Some (sym is)
-right-way all firsts seconds n l r (First k) is not_first h = absurd h
-right-way all firsts seconds n l r (Second k) is not_first (same, within, none) =
-    (not_first, (l, is ∙ ap (Pair l) (sym same), subst (λ j. j < length seconds) (sym same) within, subst (λ j. get_or seconds j 0 ≡ 0) (sym same) none))
-right-way all firsts seconds n l r Other is not_first (some, other) = (
-  not_first,
-  subst (RightLeads seconds) (sym is) some,
-  λ i to h. other i (subst (λ m. RightLeadsTo seconds m i) is to) (h ∙ ap Some is),
-)
+pub right-way : (all : List Narrow) (firsts seconds : List ℕ) (n : Narrow) (way : Way) → IsPair n → IsNotFirst all firsts n → IsRightWay all seconds n way → IsWay all firsts seconds n way
+right-way all firsts seconds n (Known i) pair not_first h = h
+right-way all firsts seconds n (First l) pair not_first h = absurd h
+right-way all firsts seconds n (Second r) pair not_first (same, within, none) = (pair, not_first, same, within, none)
+right-way all firsts seconds n Other pair not_first (some, other) = (not_first, λ p. some, λ i to. other i to.1)
 
 -- a node among the others stands at its index
 pub other-at : (all : List Narrow) (firsts seconds : List ℕ) (others : List Narrow) (indices : List ℕ) (n : Narrow) (k i : ℕ) → IsIndexed all firsts seconds others indices → slice_get others k ≡ Some n → slice_get indices k ≡ Some i

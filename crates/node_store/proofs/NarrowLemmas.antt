@@ -1,6 +1,7 @@
 -- Narrow nodes are equal if their wide nodes are.
-use Rattle.std.proofs.Common.{rules, arith, ◌≡◌, ◌≢◌, ℕ, zero, suc, ◌+◌, ◌<◌, ◌||◌, Bool, true, false, not, true≢false, List, [], ◌∷◌, ◌++◌, length, map, get_or, slice_get, position, Some, refl, sym, ap, subst, ◌∙◌, if◌then◌else◌}
+use Rattle.std.proofs.Common.{rules, arith, ◌≡◌, ◌≢◌, ℕ, zero, suc, ◌+◌, ◌<◌, inl, inr, eq-eqb, ◌||◌, Bool, true, false, not, true≢false, List, [], ◌∷◌, ◌++◌, length, map, get_or, slice_get, position, Some, refl, sym, ap, subst, ◌∙◌, if◌then◌else◌}
 use Rattle.std.specs.List.{IsDistinct, list_any}
+use Rattle.std.proofs.lemmas.Bool.{cases_eq, ne_eqb}
 use Rattle.std.proofs.lemmas.List.{map-append}
 use Rattle.std.proofs.lemmas.List.Quantifiers.{position-Some}
 use Rattle.std.proofs.lemmas.Map.Keys.{IsDistinct-push, any_passes_from_place}
@@ -8,20 +9,25 @@ use Rattle.std.proofs.lemmas.Option.{slice_get-get_or, get_or_from_slice_get}
 use Rattle.indexmap.specs.IndexSet.{insert_key}
 use Rattle.slp_model.specs.declared.Node.{Node}
 use Rattle.slp_model.specs.declared.NodeId.{NodeId}
+use Rattle.slp_model.specs.declared.Node.TheVariants.{Byte, Pair}
 use Rattle.slp_model.specs.contracts.NodePartialEq.TheImpl as node
+use Rattle.slp_model.specs.Nodes.{IsBelow}
 use Rattle.node_store.specs.declared.narrow.Narrow.{Narrow}
-use Rattle.node_store.specs.declared.narrow.Narrow.TheVariants.{Byte, Pair}
 use Rattle.node_store.specs.contracts.narrow.NarrowPartialEq.TheImpl.{ghosts}
-use Rattle.node_store.specs.Narrow.{wide, AreUnique}
+use Rattle.node_store.specs.Narrow.{IsPair, byte_mark, wide, AreUnique}
 use Rattle.node_store.specs.SearchTree.{IsAbsent}
 use Rattle.node_store.specs.Stored.{IsNew}
 use Rattle.slp_model.specs.contracts.NodeEq.TheImpl.Laws.{laws-law}
 
-wide-eq : (x y : Narrow) → node.ghosts.eq (wide x) (wide y) ≡ ghosts.eq x y
-wide-eq (Byte b) (Byte c) = refl
-wide-eq (Byte b) (Pair l r) = refl
-wide-eq (Pair l r) (Byte b) = refl
-wide-eq (Pair l r) (Pair m s) = refl
+-- a narrow node is a byte or a pair
+wide-byte : (n : Narrow) → n.right ≡ byte_mark → wide n ≡ Byte n.left
+wide-byte n is = ap (λ b. if b then Byte n.left else Pair (record { index = n.left }) (record { index = n.right })) (eq-eqb n.right byte_mark is)
+
+wide-pair : (n : Narrow) → IsPair n → wide n ≡ Pair (record { index = n.left }) (record { index = n.right })
+wide-pair n is = ap (λ b. if b then Byte n.left else Pair (record { index = n.left }) (record { index = n.right })) (ne_eqb n.right byte_mark is)
+
+pub below-pair : (k : ℕ) (n : Narrow) → IsBelow k (wide n) → IsPair n → (n.left < k) × (n.right < k)
+below-pair k n below is = subst (IsBelow k) (wide-pair n is) below
 
 node-same : (x y : Node) → node.ghosts.eq x y ≡ true → x ≡ y
 node-same x y e = search rules
@@ -69,15 +75,26 @@ found-hashed ns n i h =
     slice_get-get_or ns i n at.0 ∙ ap Some (sym (narrow-same n (get_or ns i n) at.1))
 
 wide-one : (x y : Narrow) → wide x ≡ wide y → x ≡ y
-wide-one (Byte b) (Byte c) e = cc
-wide-one (Byte b) (Pair l r) e = cc
-wide-one (Pair l r) (Byte b) e = cc
-wide-one (Pair l r) (Pair m s) e =
-    let lefts : ◌≡◌ {A = NodeId} (record { index = l }) (record { index = m }) = cc in
-    let rights : ◌≡◌ {A = NodeId} (record { index = r }) (record { index = s }) = cc in
-    let left : l ≡ m = ap (λ (k : NodeId). k.index) lefts in
-    let right : r ≡ s = ap (λ (k : NodeId). k.index) rights in
-    cc
+wide-one x y e = elim (cases_eq x.right byte_mark) [
+  | inl first ↦ elim (cases_eq y.right byte_mark) [
+    | inl second ↦
+        let bytes : Byte x.left ≡ Byte y.left = sym (wide-byte x first) ∙ (e ∙ wide-byte y second) in
+        let left : x.left ≡ y.left = cc in
+        same left (first ∙ sym second)
+    | inr second ↦ (let clash : Byte x.left ≡ Pair (record { index = y.left }) (record { index = y.right }) = sym (wide-byte x first) ∙ (e ∙ wide-pair y second) in cc)
+  ]
+  | inr first ↦ elim (cases_eq y.right byte_mark) [
+    | inl second ↦ (let clash : Byte y.left ≡ Pair (record { index = x.left }) (record { index = x.right }) = sym (wide-byte y second) ∙ (sym e ∙ wide-pair x first) in cc)
+    | inr second ↦
+        let pairs : Pair (record { index = x.left }) (record { index = x.right }) ≡ Pair (record { index = y.left }) (record { index = y.right }) = sym (wide-pair x first) ∙ (e ∙ wide-pair y second) in
+        let lefts : ◌≡◌ {A = NodeId} (record { index = x.left }) (record { index = y.left }) = cc in
+        let rights : ◌≡◌ {A = NodeId} (record { index = x.right }) (record { index = y.right }) = cc in
+        same (ap (λ (k : NodeId). k.index) lefts) (ap (λ (k : NodeId). k.index) rights)
+  ]
+]
+  where
+    same : x.left ≡ y.left → x.right ≡ y.right → x ≡ y
+    same left right = λ i. record { left = left i; right = right i }
 
 pub absent-wide : (ns : List Narrow) (n : Narrow) → IsAbsent ns n → IsNew (map wide ns) (wide n)
 absent-wide [] n absent i h = cc

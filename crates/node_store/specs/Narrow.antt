@@ -1,21 +1,25 @@
 -- Nodes whose ids take 32 bits.
-use Rattle.std.specs.Prelude.{ℕ, ◌+◌, ◌*◌, ◌%◌, ◌^◌, List}
+use Rattle.std.specs.Prelude.{◌≢◌, ℕ, ◌==◌, ◌+◌, ◌*◌, ◌%◌, ◌^◌, List, if◌then◌else◌}
 use Rattle.std.specs.List.{IsDistinct}
 use Rattle.slp_model.specs.declared.Node.{Node}
-use Rattle.slp_model.specs.declared.Node.TheVariants as node
+use Rattle.slp_model.specs.declared.Node.TheVariants.{Byte, Pair}
 use Rattle.slp_model.specs.contracts.NodePartialEq.TheImpl.{ghosts}
 use Rattle.node_store.specs.declared.narrow.Narrow.{Narrow}
-use Rattle.node_store.specs.declared.narrow.Narrow.TheVariants.{Byte, Pair}
+
+-- what a byte has in place of its right child's id
+abbrev pub byte_mark : ℕ
+byte_mark = 4294967295
+
+abbrev pub IsPair : Narrow → Type 0
+IsPair n = n.right ≢ byte_mark
 
 -- the node that a narrow one stands for
 abbrev pub wide : Narrow → Node
-wide (Byte b) = node.Byte b
-wide (Pair l r) = node.Pair (record { index = l }) (record { index = r })
+wide n = if n.right == byte_mark then Byte n.left else Pair (record { index = n.left }) (record { index = n.right })
 
--- its two ids, or its byte, as a number of 64 bits
+-- its two numbers as one of 64 bits
 abbrev pub number_of : Narrow → ℕ
-number_of (Byte b) = b
-number_of (Pair l r) = l * 2 ^ 32 + r
+number_of n = n.left * 2 ^ 32 + n.right
 
 -- what is hashed of it
 abbrev pub spread : Narrow → ℕ

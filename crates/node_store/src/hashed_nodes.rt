@@ -14,7 +14,7 @@ use std::marker::Model;
 ///
 /// They are found by their hashes, until too many hashes are close together and lookups would take long: whoever makes
 /// a text or an image can choose nodes for this. From then on new nodes go to a search tree, in which no lookup takes
-/// many steps, and each lookup searches both. A node takes 12 bytes, and 15 in the index if it is full.
+/// many steps, and each lookup searches both. A node takes 8 bytes, and 15 in the index if it is full.
 #[derive(Drop)]
 pub(crate) struct HashedNodes {
     hashed: IndexSet<Narrow>,
@@ -144,7 +144,10 @@ mod tests {
         let mut tried: usize = 0;
         let mut added: usize = 0;
         for number in 0..65_536u32 {
-            let narrow = Narrow::Pair(number / 256, number % 256);
+            let narrow = Narrow {
+                left: number / 256,
+                right: number % 256,
+            };
             if hash(narrow) % 256 < 32 {
                 let (_, is_new) = others.insert(narrow)?;
                 tried = tried.saturating_add(1);

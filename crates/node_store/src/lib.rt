@@ -11,10 +11,10 @@
 //! time. Nodes are only added and never change, so an id always means the same text.
 //!
 //! `byte` and `pair` take expected constant time, amortized over the nodes of the store. The other calls on a node
-//! take constant time, and `thin` takes linear time. A node takes 25 bytes if the vectors are full: 12 for itself, 5
+//! take constant time, and `thin` takes linear time. A node takes 21 bytes if the vectors are full: 8 for itself, 5
 //! for its length and height, and two links of 4 bytes. One link is to the first pair that has it on the left. The other
 //! is to the first of the other pairs that has it on the right. Most nodes are such a pair, and are found through a child;
-//! each other node takes 31 bytes more. A node whose text has 2^31 bytes or more takes 8 bytes more. Full vectors double,
+//! each other node takes 27 bytes more. A node whose text has 2^31 bytes or more takes 8 bytes more. Full vectors double,
 //! and a full index grows fourfold, or twofold if it is large.
 //!
 //! A text is loaded faster if the blocks of its words of two, four and eight bytes are known by their bytes alone:
@@ -78,7 +78,7 @@ pub(crate) struct Facts {
 /// The nodes of a straight-line program in the order in which they were added, each once. A child comes before its
 /// parent, and nodes never change.
 ///
-/// An empty store takes no memory. A node takes 25 bytes if the vectors are full. It takes 31 more if it is neither the
+/// An empty store takes no memory. A node takes 21 bytes if the vectors are full. It takes 27 more if it is neither the
 /// first pair with its left child nor the first of the other pairs with its right child, and 8 more if its text has 2^31
 /// bytes or more. Full vectors are doubled. A full index grows fourfold, or twofold if it is large, and the old one is
 /// kept until the new one is filled. There are fewer than 2^32 nodes, at most 9·2^28 that aren't found through a child,

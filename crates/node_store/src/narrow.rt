@@ -1,22 +1,28 @@
 //! Nodes whose children's ids have 32 bits.
-ghost use Rattle.std.specs.Prelude.{◌≡◌, IfSome};
+ghost use Rattle.std.specs.Prelude.{◌≡◌, ◌↔◌, IfSome, IsTrue};
 ghost use Rattle.std.specs.Hash as fed;
-ghost use Rattle.node_store.specs.Narrow.{wide, number_of, spread};
+ghost use Rattle.slp_model.specs.Distinct.{IsOfByte};
+ghost use Rattle.node_store.specs.Narrow.{IsPair, wide, number_of, spread};
 ghost use Rattle.std.specs.Cmp.Rules.{comparing, hashing};
 ghost use Rattle.std.proofs.Common.{rules};
 
 use slp_model::{Node, NodeId};
 use std::hash::{Hash, Hasher};
 
-/// A node whose children's ids are below 2^32.
+/// A byte, or a pair of children whose ids are below 2^32 - 1. It takes 8 bytes, since it has no tag.
 #[derive(Clone, Copy, PartialEq, Eq)]
-pub(crate) enum Narrow {
-    Byte(u8),
-    Pair(u32, u32),
+pub(crate) struct Narrow {
+    // The left child's id, or the byte.
+    pub(crate) left: u32,
+    // The right child's id, or `BYTE`.
+    pub(crate) right: u32,
 }
 
-// A node is hashed as one number, by one write in place of the three for its fields. Most of the cost of a lookup in
-// the index is the wait for memory.
+// The id that no child has.
+const BYTE: u32 = u32::MAX;
+
+// A node is hashed as one number, by one write in place of two for its fields. Most of the cost of a lookup in the index
+// is the wait for memory.
 impl Hash for Narrow {
     ghost hash_input = { λ narrow. fed.u64 (spread narrow) };
 
@@ -28,14 +34,11 @@ impl Hash for Narrow {
 }
 
 impl Narrow {
-    /// A number of 64 bits. A byte and a pair may have the same number.
+    /// A number of 64 bits, which no other node has.
     pub(crate) fn number(&self) -> u64
         ensures { result ≡ number_of self.now }
     {
-        match *self {
-            Narrow::Byte(b) => u64::from(b),
-            Narrow::Pair(left, right) => u64::from(left) * (1 << 32) + u64::from(right),
-        }
+        u64::from(self.left) * (1 << 32) + u64::from(self.right)
     }
 
     // What is hashed. The ids of children are near each other, and the hasher alone would put more of them into some
@@ -49,32 +52,49 @@ impl Narrow {
 
     /// The node in this form, unless an id is too great for it.
     pub(crate) fn of(node: Node) -> Option<Narrow>
-        ensures { IfSome result (λ narrow. wide narrow ≡ node) }
+        ensures wide { IfSome result (λ narrow. wide narrow ≡ node) }
+        ensures byte { IfSome result (λ narrow. IsOfByte (wide narrow)) }
     {
         match node {
-            Node::Byte(b) => Some(Narrow::Byte(b)),
+            Node::Byte(b) => Some(Narrow {
+                left: u32::from(b),
+                right: BYTE,
+            }),
             Node::Pair(left, right) => {
                 let left = u32::try_from(left.index).ok()?;
                 let right = u32::try_from(right.index).ok()?;
-                Some(Narrow::Pair(left, right))
+                if right == BYTE {
+                    return None;
+                }
+                Some(Narrow { left, right })
             }
         }
     }
 
+    /// Whether it is a pair.
+    #[inline(always)]
+    pub(crate) fn is_pair(&self) -> bool
+        ensures { IsTrue result ↔ IsPair self.now }
+    {
+        self.right != BYTE
+    }
+
     /// The node that it stands for.
+    #[inline(always)]
     pub(crate) fn widened(self) -> Node
+        requires { IsOfByte (wide self) }
         ensures { result ≡ wide self }
     {
-        match self {
-            Narrow::Byte(b) => Node::Byte(b),
-            Narrow::Pair(left, right) => Node::Pair(
-                NodeId {
-                    index: left as usize,
-                },
-                NodeId {
-                    index: right as usize,
-                },
-            ),
+        if self.right == BYTE {
+            return Node::Byte(self.left as u8);
         }
+        Node::Pair(
+            NodeId {
+                index: self.left as usize,
+            },
+            NodeId {
+                index: self.right as usize,
+            },
+        )
     }
 }

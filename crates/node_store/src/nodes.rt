@@ -1,7 +1,8 @@
 //! The nodes, and how a node is found by its children.
 ghost use Rattle.std.specs.Prelude.{◌≡◌, ℕ, suc, ◌+◌, ◌^◌, ◌<◌, ◌++◌, ◌∷◌, [], length, map, get_or, set, slice_get, IfOk, IsFalse, IsTrue, OnErr, OnOk, Some};
 ghost use Rattle.slp_model.specs.Nodes.{IsBelow};
-ghost use Rattle.node_store.specs.Narrow.{wide, AreUnique};
+ghost use Rattle.slp_model.specs.Distinct.{IsOfByte};
+ghost use Rattle.node_store.specs.Narrow.{IsPair, wide, AreUnique};
 ghost use Rattle.node_store.specs.SearchTree.{IsAbsent};
 ghost use Rattle.node_store.specs.Stored.{IsNew};
 ghost use Rattle.node_store.specs.Firsts.{IsIndexed, IsRightWay, IsWay};
@@ -19,7 +20,7 @@ use std::marker::Model;
 /// such pair. The second leads to the first of the other pairs that has the node on the right, in the same way. So most
 /// nodes are found or added without a hash and without a lookup in an index, which costs most because of the wait for
 /// memory. In a new text, children are also next to each other in memory. The other pairs, and the bytes, are found by
-/// their hashes. A node takes 12 bytes and 4 for each link, and one found by its hash takes 31 more if the vectors are
+/// their hashes. A node takes 8 bytes and 4 for each link, and one found by its hash takes 27 more if the vectors are
 /// full.
 #[derive(Drop)]
 pub(crate) struct Nodes {
@@ -112,16 +113,20 @@ impl Nodes {
     // Whether a link leads to the pair. The pair may exist without one.
     #[inline(always)]
     fn is_led_to(&self, left: NodeId, right: NodeId) -> bool {
-        self.is_at(&self.firsts, left, Node::Pair(left, right))
-            || self.is_at(&self.seconds, right, Node::Pair(left, right))
+        match Narrow::of(Node::Pair(left, right)) {
+            Some(pair) => {
+                self.is_at(&self.firsts, left, pair) || self.is_at(&self.seconds, right, pair)
+            }
+            None => false,
+        }
     }
 
-    // Whether the child's link leads to the node.
+    // Whether the child's link leads to the pair.
     #[inline(always)]
-    fn is_at(&self, links: &[u32], child: NodeId, node: Node) -> bool {
+    fn is_at(&self, links: &[u32], child: NodeId, pair: Narrow) -> bool {
         let link = links.get(child.index).copied().unwrap_or(0);
         match self.all.get((link as usize).wrapping_sub(1)) {
-            Some(narrow) => narrow.widened() == node,
+            Some(narrow) => *narrow == pair,
             None => false,
         }
     }
@@ -174,6 +179,7 @@ fn insert_narrow(
 ) -> Result<(usize, bool), NoMemory>
     requires indexed { IsIndexed all.old.items firsts.old.items seconds.old.items others.old indices.old.items }
     requires below { IsBelow (length all.old.items) (wide narrow) }
+    requires byte { IsOfByte (wide narrow) }
     ensures indexed { IsIndexed all.new.items firsts.new.items seconds.new.items others.new indices.new.items }
     ensures added { IfOk result (λ r. IsTrue r.1 → (all.new.items ≡ all.old.items ++ narrow ∷ []) × IsAbsent all.old.items narrow) }
     ensures there { IfOk result (λ r. IsFalse r.1 → all.new.items ≡ all.old.items) }
@@ -232,6 +238,7 @@ fn insert_other(
     narrow: Narrow,
 ) -> Result<(usize, bool), NoMemory>
     requires indexed { IsIndexed all.old.items firsts.old.items seconds.old.items others.old indices.old.items }
+    requires byte { IsOfByte (wide narrow) }
     requires other { IsWay all.old.items firsts.old.items seconds.old.items narrow Way.Other }
     ensures indexed { IsIndexed all.new.items firsts.new.items seconds.new.items others.new indices.new.items }
     ensures added { IfOk result (λ r. IsTrue r.1 → (all.new.items ≡ all.old.items ++ narrow ∷ []) × IsAbsent all.old.items narrow) }
@@ -270,39 +277,41 @@ fn number_after(len: usize) -> Result<u32, NoMemory>
 
 // How the node is found.
 fn way_of(all: &[Narrow], firsts: &[u32], seconds: &[u32], narrow: Narrow) -> Way
-    requires below { IsBelow (length firsts.now) (wide narrow) }
-    requires as_many { length seconds.now ≡ length firsts.now }
+    requires left { IsPair narrow → narrow.left < length firsts.now }
+    requires right { IsPair narrow → narrow.right < length seconds.now }
     requires inside { (l i : ℕ) → get_or firsts.now l 0 ≡ suc i → i < length all.now }
     requires inside_right { (r i : ℕ) → get_or seconds.now r 0 ≡ suc i → i < length all.now }
     ensures { IsWay all.now firsts.now seconds.now narrow result }
 {
-    let Narrow::Pair(left, right) = narrow else {
+    if !narrow.is_pair() {
         return Way::Other;
-    };
-    let first = firsts[left as usize];
+    }
+    let left = narrow.left as usize;
+    let first = firsts[left];
     if first == 0 {
-        return Way::First(left as usize);
+        return Way::First(left);
     }
     let index = (first - 1) as usize;
     if all[index] == narrow {
         Way::Known(index)
     } else {
-        right_way_of(all, seconds, left, right)
+        right_way_of(all, seconds, narrow)
     }
 }
 
 // How a pair is found that isn't the first one with its left child.
-fn right_way_of(all: &[Narrow], seconds: &[u32], left: u32, right: u32) -> Way
-    requires within { right < length seconds.now }
+fn right_way_of(all: &[Narrow], seconds: &[u32], pair: Narrow) -> Way
+    requires within { pair.right < length seconds.now }
     requires inside { (r i : ℕ) → get_or seconds.now r 0 ≡ suc i → i < length all.now }
-    ensures { IsRightWay all.now seconds.now left right result }
+    ensures { IsRightWay all.now seconds.now pair result }
 {
-    let second = seconds[right as usize];
+    let right = pair.right as usize;
+    let second = seconds[right];
     if second == 0 {
-        return Way::Second(right as usize);
+        return Way::Second(right);
     }
     let index = (second - 1) as usize;
-    if all[index] == Narrow::Pair(left, right) {
+    if all[index] == pair {
         Way::Known(index)
     } else {
         Way::Other

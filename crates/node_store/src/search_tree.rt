@@ -13,8 +13,8 @@ const MAX_NODES: usize = 0xFFFF_FFFF;
 /// Nodes in the order in which they were added, each once.
 ///
 /// It is a digital search tree (D. E. Knuth, *The Art of Computer Programming*, volume 3, section 6.3). Each node has a
-/// link for each of the digits 0 to 3, and a node is below those to which its digits lead. Two nodes with the same 32
-/// digits are a byte and a pair, so a lookup passes at most 34 nodes. A node takes 28 bytes if the vectors are full.
+/// link for each of the digits 0 to 3, and a node is below those to which its digits lead. No two nodes have the same 32
+/// digits, so a lookup passes at most 33 nodes. A node takes 24 bytes if the vectors are full.
 #[derive(Drop)]
 pub(crate) struct SearchTree {
     nodes: Vec<Narrow>,

@@ -12,7 +12,7 @@ returns-clause-indexed c =
     let more : c.push_reserved.new.self.items ≡ c.args.indices.now.items ++ c.in_ok-number.number ∷ [] = search rules in
     let indices = more ∙ ap (λ k. c.args.indices.now.items ++ k ∷ []) number in
     let seconds : c.push_reserved-4.new.self.items ≡ c.args.seconds.now.items ++ 0 ∷ [] = search rules in
-    rw (all, firsts, seconds, made.0, indices) (other-added c.args.all.now.items c.args.firsts.now.items c.args.seconds.now.items c.args.others.now c.args.indices.now.items c.args.narrow c.requires.indexed c.requires.other made.1)
+    rw (all, firsts, seconds, made.0, indices) (other-added c.args.all.now.items c.args.firsts.now.items c.args.seconds.now.items c.args.others.now c.args.indices.now.items c.args.narrow c.requires.indexed c.requires.byte c.requires.other made.1)
 
 pub returns-clause-added : goal.returns-clause-added
 returns-clause-added c = λ was.

@@ -1,5 +1,4 @@
 use Rattle.std.proofs.Common.{rules, arith, ◌≡◌, suc, ◌-◌, true, false, get_or}
-use Rattle.node_store.specs.declared.narrow.Narrow.TheVariants.{Byte}
 use Rattle.node_store.specs.contracts.narrow.NarrowPartialEq.TheImpl.{ghosts}
 use Rattle.node_store.proofs.NarrowLemmas.{differs-at, equals-at}
 use Rattle.node_store.proofs.SearchTreeLemmas.{on_way-step, on_way-end}
@@ -31,5 +30,5 @@ way-smaller c =
 pub way-preserved : goal.way-preserved
 way-preserved c =
     let linked : get_or c.args.links.now c.way.slot 0 ≡ suc (c.link_at-link.result - 1) = grind arith in
-    let other : ghosts.eq (get_or c.args.nodes.now (c.link_at-link.result - 1) (Byte 0)) c.args.narrow ≡ false = search rules in
-    on_way-step c.args.nodes.now c.args.links.now c.args.narrow c.way.digits c.way.slot (c.link_at-link.result - 1) c.requires c.way.invariant linked (differs-at c.args.nodes.now c.args.narrow (Byte 0) (c.link_at-link.result - 1) other)
+    let other : ghosts.eq (get_or c.args.nodes.now (c.link_at-link.result - 1) (record { left = 0; right = 0 })) c.args.narrow ≡ false = search rules in
+    on_way-step c.args.nodes.now c.args.links.now c.args.narrow c.way.digits c.way.slot (c.link_at-link.result - 1) c.requires c.way.invariant linked (differs-at c.args.nodes.now c.args.narrow (record { left = 0; right = 0 }) (c.link_at-link.result - 1) other)
