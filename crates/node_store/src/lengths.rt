@@ -2,6 +2,7 @@
 ghost use Rattle.std.specs.Prelude.{◌≡◌, ◌<◌, ◌^◌, ◌++◌, ◌∷◌, [], length, get_or, slice_get, vec_len, vec_capacity, IfOk, OnOk, Some};
 ghost use Rattle.node_store.specs.Lengths.{AreEntries, HasRoom, IsEntry, length_of, lengths_of};
 
+use crate::room;
 use span_types::NoMemory;
 use std::alloc::Global;
 use std::marker::Model;
@@ -115,9 +116,8 @@ fn reserve_one(entries: &mut Vec<u32>, long: &mut Vec<u64>) -> Result<(), NoMemo
     if long.len() >= LONG as usize {
         return Err(NoMemory);
     }
-    entries.reserve(1)?;
-    long.reserve(1)?;
-    Ok(())
+    room::reserve_one(entries)?;
+    room::reserve_one(long)
 }
 
 // Adds a length.

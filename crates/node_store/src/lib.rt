@@ -52,6 +52,7 @@ mod lengths;
 mod moves;
 mod narrow;
 mod nodes;
+mod room;
 mod search_tree;
 mod thin;
 mod words;
@@ -59,6 +60,7 @@ mod words;
 use lengths::Lengths;
 pub use moves::Moves;
 use nodes::Nodes;
+use room::reserve_one;
 pub use slp_model::{Node, NodeId};
 use span_types::{NoMemory, Steps};
 use std::alloc::Global;
@@ -387,7 +389,7 @@ impl Store {
         ensures err { OnErr result (self.new ≡ self.old) }
     {
         self.lens.reserve_one()?;
-        self.heights.reserve(1).map_err(|_| NoMemory)?;
+        reserve_one(&mut self.heights)?;
         let (index, added) = self.nodes.insert(Node::Pair(left, right))?;
         self.next = index.wrapping_add(1);
         if added {
@@ -408,7 +410,7 @@ impl Store {
         ensures err { OnErr result (self.new ≡ self.old) }
     {
         self.lens.reserve_one()?;
-        self.heights.reserve(1).map_err(|_| NoMemory)?;
+        reserve_one(&mut self.heights)?;
         let (index, added) = self.nodes.insert(node)?;
         self.next = index.wrapping_add(1);
         if added {

@@ -9,6 +9,7 @@ ghost use Rattle.node_store.specs.Firsts.{IsIndexed, IsRightWay, IsWay};
 
 use crate::hashed_nodes::HashedNodes;
 use crate::narrow::Narrow;
+use crate::room::reserve_one;
 use slp_model::{Node, NodeId};
 use span_types::NoMemory;
 use std::alloc::Global;
@@ -113,20 +114,17 @@ impl Nodes {
     // Whether a link leads to the pair. The pair may exist without one.
     #[inline(always)]
     fn is_led_to(&self, left: NodeId, right: NodeId) -> bool {
-        match Narrow::of(Node::Pair(left, right)) {
-            Some(pair) => {
-                self.is_at(&self.firsts, left, pair) || self.is_at(&self.seconds, right, pair)
-            }
-            None => false,
-        }
+        self.is_at(&self.firsts, left, left, right) || self.is_at(&self.seconds, right, left, right)
     }
 
-    // Whether the child's link leads to the pair.
+    // Whether the child's link leads to the pair of these nodes.
     #[inline(always)]
-    fn is_at(&self, links: &[u32], child: NodeId, pair: Narrow) -> bool {
+    fn is_at(&self, links: &[u32], child: NodeId, left: NodeId, right: NodeId) -> bool {
         let link = links.get(child.index).copied().unwrap_or(0);
         match self.all.get((link as usize).wrapping_sub(1)) {
-            Some(narrow) => *narrow == pair,
+            Some(narrow) => {
+                narrow.left as usize == left.index && narrow.right as usize == right.index
+            }
             None => false,
         }
     }
@@ -217,9 +215,9 @@ fn add_led(
 {
     let index = all.len();
     let link = number_after(index)? + 1;
-    all.reserve(1)?;
-    links.reserve(1)?;
-    rest.reserve(1)?;
+    reserve_one(all)?;
+    reserve_one(links)?;
+    reserve_one(rest)?;
     links[child] = link;
     all.push_reserved(narrow);
     links.push_reserved(0);
@@ -248,10 +246,10 @@ fn insert_other(
 {
     let index = all.len();
     let number = number_after(index)?;
-    all.reserve(1)?;
-    firsts.reserve(1)?;
-    seconds.reserve(1)?;
-    indices.reserve(1)?;
+    reserve_one(all)?;
+    reserve_one(firsts)?;
+    reserve_one(seconds)?;
+    reserve_one(indices)?;
     let (entry, added) = others.insert(narrow)?;
     if !added {
         return Ok((indices[entry] as usize, false));
