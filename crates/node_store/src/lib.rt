@@ -87,7 +87,7 @@ pub(crate) struct Facts {
 /// and at most 2^31 whose texts have 2^31 bytes or more.
 ///
 /// Once 4,096 bytes were expected, the store also has a cache of the blocks of the last words of two, four and eight
-/// bytes, if memory allows. It takes 192 KB, and 5 MB from 262,144 bytes on, for all texts together. A compacted store
+/// bytes, if memory allows. It takes 128 KB, and 4.5 MB from 262,144 bytes on, for all texts together. A compacted store
 /// begins without it.
 #[derive(Drop)]
 pub struct Store {
