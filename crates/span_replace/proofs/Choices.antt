@@ -1,19 +1,19 @@
--- The spans that are found one after the other are the chosen ones.
-use Rattle.std.proofs.Common.{◌≡◌, ℕ, suc, ◌+◌, ◌*◌, ◌<◌, ◌≤◌, ◌⊎◌, inl, inr, min, List, [], ◌∷◌, ◌++◌, length, length-append, append_assoc, Option, Some, None, MatchOption, Contains, refl, sym, ap, subst, ◌∙◌, arith}
-use Rattle.std.proofs.Math.Nat.{mul-le-mul_left, mul-le-mul_right}
-use Rattle.span_types.specs.Fibonacci.{looks_limit}
+-- The first of the answers that are left, and what is chosen from it on.
+use Rattle.std.proofs.Common.{◌≡◌, ℕ, suc, ◌≤◌, ◌⊎◌, inl, inr, List, [], ◌∷◌, length, Option, Some, None, Contains, refl, ap, subst, ◌∙◌, arith}
 use Rattle.span_types.specs.declared.tuple.Span.{Span}
 use Rattle.span_types.specs.Places.{IsSpan}
 use Rattle.span_types.specs.Marks.{Comes, Lies}
 use Rattle.span_types.specs.Answers.{IsRising}
 use Rattle.span_types.proofs.AnswerLaws.{split-member, here, there}
 use Rattle.marker_dfa.specs.Deterministic.{DeterministicAutomaton}
-use Rattle.span_enum.specs.Members.{Tuple, IsMember, AreAnswersOf, IsFirstMember}
+use Rattle.span_enum.specs.Members.{Tuple, IsMember, AreAnswersOf}
+use Rattle.span_replace.specs.declared.choice.Choice.TheVariants.{First}
 use Rattle.span_replace.specs.Chosen.{spans_in, chosen}
-use Rattle.span_replace.specs.Cursor.{NoSpanLeft, past}
+use Rattle.span_replace.specs.Cursor.{past}
+use Rattle.span_replace.specs.Search.{Finds}
 use Rattle.span_replace.specs.Replaced.{AreApart}
 use Rattle.span_replace.proofs.SpanOrder.{IsBefore, one, before-comes, comes-before}
-use Rattle.span_replace.proofs.Picked.{AreSorted, Has, sorted-span, picked, past-span, before-all, after-start, chosen-picked, first-picked, none-picked, chosen-apart}
+use Rattle.span_replace.proofs.Picked.{AreSorted, Has, sorted-span, picked, before-all, after-start, first-picked, none-picked, chosen-apart}
 
 -- ---- tuples of one variable
 rest-none : (x : Option Span) (t : Tuple) → length (x ∷ t) ≡ 1 → t ≡ []
@@ -89,26 +89,14 @@ sorted-in n ((Some x ∷ u) ∷ ts) short h are = (ix, after, sorted-in n ts sho
         comes-before x q ix.ordered iq.ordered (subst (λ (z : Tuple). Comes z (one q)) same (rising-head (Some x ∷ u) ts (one q) h c))
 
 -- ---- what was found
--- the spans that follow, of which the first was found
-pub upcoming : Option Span → List Span → List Span
-upcoming None qs = []
-upcoming (Some q) qs = q ∷ picked (past q) qs
+-- the spans that follow, of which the first was found, if rest has those after it
+abbrev pub upcoming : (Span → List Span → List Span) → Option Span → List Span → List Span
+upcoming rest None qs = []
+upcoming rest (Some q) qs = q ∷ rest q qs
 
--- of the chosen spans these are the first ones, and the next one was found
-pub record Picks (a : DeterministicAutomaton) (s : List ℕ) (spans : List Span) (next : Option Span) : Type 0 where
-  pub whole : (all : List Tuple) → AreAnswersOf a s all → chosen all ≡ spans ++ upcoming next (spans_in all)
-
--- the first span that is left after the cursor, if any
-abbrev pub Finds : DeterministicAutomaton → List ℕ → Option Tuple → Option Span → Type 0
-Finds a s cursor next = MatchOption next (NoSpanLeft a s cursor) (λ q. IsFirstMember a s cursor (one q))
-
-pub append-nil : (xs : List Span) → xs ++ [] ≡ xs
-append-nil [] = refl
-append-nil (x ∷ xs) = ap (λ l. x ∷ l) (append-nil xs)
-
--- the same of an equal automaton, text and cursor
-pub finds-same : (a b : DeterministicAutomaton) (s u : List ℕ) (c d : Option Tuple) (o : Option Span) → a ≡ b → s ≡ u → c ≡ d → Finds a s c o → Finds b u d o
-finds-same a b s u c d o ea es ec f = subst (λ z. Finds b u z o) ec (subst (λ z. Finds b z c o) es (subst (λ z. Finds z s c o) ea f))
+-- those picked after q
+abbrev pub picked_after : Span → List Span → List Span
+picked_after q = picked (past q)
 
 module _ (a : DeterministicAutomaton) (s : List ℕ) (single : a.variables ≡ 1) (short : length s ≤ 281474976710656) where
   module _ (all : List Tuple) (answers : AreAnswersOf a s all) where
@@ -127,8 +115,7 @@ module _ (a : DeterministicAutomaton) (s : List ℕ) (single : a.variables ≡ 1
     pub one-inj : (q r : Span) → one q ≡ one r → q ≡ r
     one-inj q r e = cc
 
-    found-after : (c : Span) → IsSpan c → (o : Option Span) → Finds a s (Some (one c)) o → picked c (spans_in all) ≡ upcoming o (spans_in all)
-    unfolding upcoming
+    pub found-after : (c : Span) → IsSpan c → (o : Option Span) → Finds First a s (Some (one c)) o → picked c (spans_in all) ≡ upcoming picked_after o (spans_in all)
     found-after c ic None none =
         none-picked c (spans_in all) (λ r h b. none r (member r h) (before-comes c r ic.ordered (sorted-span (spans_in all) sorted r h).ordered b))
     found-after c ic (Some q) f = first-picked c q (spans_in all) sorted (has q f.member) (comes-before c q ic.ordered iq.ordered f.left) least
@@ -144,8 +131,7 @@ module _ (a : DeterministicAutomaton) (s : List ℕ) (single : a.variables ≡ 1
               | inr k ↦ inr (comes-before q r iq.ordered ir.ordered k)
             ]
 
-    found-first : (o : Option Span) → Finds a s None o → picked before-all (spans_in all) ≡ upcoming o (spans_in all)
-    unfolding upcoming
+    pub found-first : (o : Option Span) → Finds First a s None o → picked before-all (spans_in all) ≡ upcoming picked_after o (spans_in all)
     found-first None none = none-picked before-all (spans_in all) (λ r h b. none r (member r h) tt)
     found-first (Some q) f = first-picked before-all q (spans_in all) sorted (has q f.member) (after-start q iq) least
       where
@@ -160,71 +146,3 @@ module _ (a : DeterministicAutomaton) (s : List ℕ) (single : a.variables ≡ 1
     -- the chosen spans lie apart in the text
     pub apart-all : AreApart (length s) (chosen all)
     apart-all = chosen-apart (length s) 1 (spans_in all) (omega arith) (λ q h. let f = (member q h).lies 0 q refl in (f.1, omega (arith, f.2)))
-
-  -- and so do those that were found, once there are no more
-  pub apart-of : (spans : List Span) → Picks a s spans None → (all : List Tuple) × AreAnswersOf a s all → AreApart (length s) spans
-  unfolding upcoming
-  apart-of spans p (all, answers) = subst (AreApart (length s)) (p.whole all answers ∙ append-nil spans) (apart-all all answers)
-
-  pub picks-first : (o : Option Span) → Finds a s None o → Picks a s [] o
-  picks-first o f = record { whole = λ all answers. chosen-picked (spans_in all) (sorted all answers) ∙ found-first all answers o f }
-
-  pub picks-step : (spans : List Span) (q : Span) (o : Option Span) → IsSpan q → Picks a s spans (Some q) → Finds a s (Some (one (past q))) o → Picks a s (spans ++ q ∷ []) o
-  unfolding upcoming
-  picks-step spans q o iq p f = record {
-    whole = λ all answers.
-        p.whole all answers ∙ (ap (λ (z : List Span). spans ++ q ∷ z) (found-after all answers (past q) (past-span q iq) o f) ∙ sym (append_assoc spans (q ∷ []) (upcoming o (spans_in all))));
-  }
-
-module _ (a : DeterministicAutomaton) (s : List ℕ) (spans : List Span) (all : List Tuple) (answers : AreAnswersOf a s all) where
-  pub picks-all : Picks a s spans None → chosen all ≡ spans
-  unfolding upcoming
-  picks-all p = p.whole all answers ∙ append-nil spans
-
-  pub picks-more : (q : Span) → Picks a s spans (Some q) → length spans < length (chosen all)
-  unfolding upcoming
-  picks-more q p =
-      let e : length (chosen all) ≡ length (spans ++ q ∷ picked (past q) (spans_in all)) = ap length (p.whole all answers) in
-      omega (arith, e, length-append spans (q ∷ picked (past q) (spans_in all)))
-
-  pub picks-prefix : (o : Option Span) → Picks a s spans o → length spans ≤ length (chosen all)
-  picks-prefix o p =
-      let e : length (chosen all) ≡ length (spans ++ upcoming o (spans_in all)) = ap length (p.whole all answers) in
-      omega (arith, e, length-append spans (upcoming o (spans_in all)))
-
--- ---- table lookups for one more search than spans
-pub some-looks : (n : ℕ) → 1 ≤ looks_limit 1 n
-some-looks n = omega arith
-
--- each span costs each times b, and the last search costs last times b
-pub paid-next : (each last old mid new k more b : ℕ) → mid ≤ old + (each * k + last) * b → new ≤ mid + each * b → more ≡ k + 1 → new ≤ old + (each * more + last) * b
-paid-next each last old mid new k more b h l is = subst (λ n. new ≤ old + (each * n + last) * b) (sym is) (omega (arith, h, l, by))
-  where
-    by : (each * (k + 1) + last) * b ≡ (each * k + last) * b + each * b
-    by = grind arith
-
-pub paid-first : (each last old new k b : ℕ) → new ≤ old + last * b → k ≡ 0 → new ≤ old + (each * k + last) * b
-paid-first each last old new k b h zero = subst (λ n. new ≤ old + (each * n + last) * b) (sym zero) (omega (arith, h, by))
-  where
-    by : (each * 0 + last) * b ≡ last * b
-    by = grind arith
-
-pub paid-most : (each last old new k c b : ℕ) → new ≤ old + (each * k + last) * b → k ≤ c → k ≤ 32768 → new ≤ old + (each * min c 32768 + last) * b
-paid-most each last old new k c b h first second =
-    let m : k ≤ min c 32768 = omega (arith, first, second) in
-    let l : each * k + last ≤ each * min c 32768 + last = omega (arith, mul-le-mul_left each m) in
-    omega (arith, h, mul-le-mul_right b l)
-
--- two table lookups come before
-pub paid-whole : (each last whole old start mid new m b : ℕ) → start ≤ old + 1 → mid ≤ start + 1 → new ≤ mid + (each * m + last) * b → 1 ≤ b → each ≤ whole → last + 2 ≤ whole → new ≤ old + whole * (m + 1) * b
-paid-whole each last whole old start mid new m b first second l some more rest =
-    let x : each * m ≤ whole * m = mul-le-mul_right m more in
-    let y : each * m + (last + 2) ≤ whole * m + whole = omega (arith, x, rest) in
-    let z : (each * m + (last + 2)) * b ≤ (whole * m + whole) * b = mul-le-mul_right b y in
-    omega (arith, first, second, l, some, z, left, right)
-  where
-    left : (each * m + (last + 2)) * b ≡ (each * m + last) * b + 2 * b
-    left = grind arith
-
-    right : whole * (m + 1) * b ≡ (whole * m + whole) * b
-    right = grind arith

@@ -5,3 +5,4 @@ mod Grown
 mod Spliced
 mod Taken
 mod LongestChoices
+mod Picks

@@ -23,14 +23,13 @@
 #![tactic(auto)]
 
 mod choice;
+mod choosing;
 pub mod law;
-mod leftmost_longest;
 mod refusal;
 mod replacement;
 mod spans;
 
-pub use choice::chosen;
-pub use leftmost_longest::longest;
+pub use choosing::{chosen, longest};
 pub use refusal::ReplaceRefusal;
 pub use replacement::replaced;
 pub use spans::Chosen;

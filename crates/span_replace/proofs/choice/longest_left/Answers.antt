@@ -1,6 +1,6 @@
 use Rattle.std.proofs.Common.{◌≡◌, ap, arith, length}
 use Rattle.span_replace.proofs.Choices.{span-lies}
-use Rattle.span_replace.proofs.leftmost_longest.longest_left.Goals as goal
+use Rattle.span_replace.proofs.choice.longest_left.Goals as goal
 
 pub returns-clause-index : goal.returns-clause-index
 returns-clause-index g c =
