@@ -1,9 +1,7 @@
 -- What the first word of a text implies for the expression that the text starts with.
 use Rattle.std.proofs.Common.{◌≡◌, ◌⊎◌, inl, inr, ℕ, ◌-◌, ◌≤◌, Bool, true, false, cond, List, [], ◌∷◌, ◌++◌, Option, Some, refl, sym, ap, subst, ◌∙◌, arith, codes}
-use Rattle.std.specs.List.{find}
-use Rattle.std.specs.Str.{bytes_eq}
-use Rattle.std.proofs.lemmas.Slice.Eq.{bytes_eq-Decides}
 use Rattle.span_types.specs.Names.{is_name}
+use Rattle.line_parts.proofs.Keywords as keywords
 use Rattle.edit_expr.specs.declared.expr.Expr.{Expr}
 use Rattle.edit_expr.specs.declared.expr.Expr.TheVariants.{Doc, Concat', Extract', Delete', Insert', Copy'}
 use Rattle.edit_expr.specs.declared.operation.Operation.{Operation}
@@ -26,20 +24,8 @@ word_letters op.Delete = refl
 word_letters op.Insert = refl
 word_letters op.Copy = refl
 
-step : (b : Bool) (j k : Operation) (rest : Option Operation) → cond b (Some j) rest ≡ Some k → ((b ≡ true) × (j ≡ k)) ⊎ (rest ≡ Some k)
-step true j k rest e = inl (refl, cc)
-step false j k rest e = inr e
-
-found : (word : List ℕ) (ks : List Operation) (k : Operation) → find (λ j. bytes_eq (word_of j) word) ks ≡ Some k → bytes_eq (word_of k) word ≡ true
-found word [] k e = let bad : ⊥ = cc in absurd bad
-found word (j ∷ ks) k e =
-    elim (step (bytes_eq (word_of j) word) j k (find (λ i. bytes_eq (word_of i) word) ks) e) [
-      | inl p ↦ subst (λ (i : Operation). bytes_eq (word_of i) word ≡ true) p.1 p.0
-      | inr f ↦ found word ks k f
-    ]
-
 pub named_is : (word : List ℕ) (k : Operation) → operation_named word ≡ Some k → word ≡ word_of k
-named_is word k e = sym ((bytes_eq-Decides (word_of k) word).0 (found word (op.Concat ∷ op.Extract ∷ op.Delete ∷ op.Insert ∷ op.Copy ∷ []) k e))
+named_is word k e = keywords.named_is word_of word (op.Concat ∷ op.Extract ∷ op.Delete ∷ op.Insert ∷ op.Copy ∷ []) k e
 
 -- a document, or an operation with its operands
 pub data ParsedPrefix (depth : ℕ) (others : List (List ℕ)) (text : List ℕ) : Type 0 where

@@ -7,7 +7,7 @@ use Rattle.formula_law.specs.Positions.{IsEnd}
 use Rattle.span_types.specs.Words.{word_from}
 use Rattle.formula_law.specs.Accepts.{MarkedText, marked_by, Accepts}
 use Rattle.formula_law.specs.Law.{IsAnswerText, VarsBelow, AcceptsAnswers}
-use Rattle.formula_law.proofs.Sums.{IsInside}
+use Rattle.span_types.proofs.Sums.{IsInside}
 use Rattle.formula_law.proofs.Enters.{Runs}
 use Rattle.formula_law.proofs.Compose.{compose}
 use Rattle.formula_law.proofs.Decompose.{decompose}

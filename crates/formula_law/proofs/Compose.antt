@@ -4,7 +4,7 @@ use Rattle.span_types.specs.FormulaTree.{FormulaTree, Set, Empty, Cat, Alt, Star
 use Rattle.span_types.specs.Marks.{at_position, opening, closing}
 use Rattle.span_types.specs.Fits.{Turns, done, more}
 use Rattle.formula_law.specs.Positions.{HasSet, IsNull, IsFirst, IsLast, IsFollow}
-use Rattle.formula_law.proofs.Sums.{IsZero, IsSum, IsInside, zeros, zeros_path, at_same, at_other}
+use Rattle.span_types.proofs.Sums.{IsZero, IsSum, IsInside, zeros, zeros_path, at_same, at_other}
 use Rattle.formula_law.proofs.Walk.{Walk, stop, walk_le, walk_marks, walk_more, walk_join}
 use Rattle.formula_law.proofs.Words.{Words}
 use Rattle.formula_law.proofs.Enters.{Reads, Path, Runs}

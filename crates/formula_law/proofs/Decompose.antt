@@ -6,7 +6,8 @@ use Rattle.span_types.specs.Marks.{at_position, opening, closing}
 use Rattle.span_types.specs.Fits.{Turns, done, more}
 use Rattle.formula_law.specs.Positions.{HasSet, IsNull, IsFirst, IsLast, Joins, IsFollow}
 use Rattle.formula_law.proofs.Ranges.{InRange, apart, set_range, first_range, last_range, follow_range, NoVars, null_zero, first_zero, last_zero, follow_zero}
-use Rattle.formula_law.proofs.Sums.{IsZero, IsInside, zeros, zeros_path, at_same, at_other, prefix, back, prefix_before, prefix_at, prefix_after, back_before, back_at, back_after, three, prefix_back}
+use Rattle.span_types.proofs.Sums.{IsZero, IsInside, zeros, zeros_path, at_same, at_other}
+use Rattle.formula_law.proofs.Sums.{prefix, back, prefix_before, prefix_at, prefix_after, back_before, back_at, back_after, three, prefix_back}
 use Rattle.formula_law.proofs.Walk.{Walk, stop, step, walk_le, walk_marks, walk_more}
 use Rattle.formula_law.proofs.Words.{Words}
 use Rattle.formula_law.proofs.Enters.{Reads, Path, Runs}

@@ -7,7 +7,7 @@ use Rattle.span_types.specs.Marks.{Spans, at_position, opening, closing, part_of
 use Rattle.span_types.specs.Fits.{ByteIn, Turns, done, more, NoSpans, IsWithin, on_vars, without, FitsIn}
 use Rattle.formula_law.specs.Law.{VarsBelow}
 use Rattle.formula_law.proofs.Ranges.{NoVars, or_left, or_right}
-use Rattle.formula_law.proofs.Sums.{IsZero, IsSum, zeros, zeros_path}
+use Rattle.span_types.proofs.Sums.{IsZero, IsSum, zeros, zeros_path}
 use Rattle.formula_law.proofs.Words.{Words}
 use Rattle.formula_law.proofs.Compose.{words_le}
 use Rattle.formula_law.proofs.Fault.{Apart, Plain}

@@ -1,30 +1,8 @@
--- Functions from positions to marks, and their sums.
+-- The marks on both sides of a position, as sums.
 use Rattle.std.proofs.Common.{◌≡◌, ℕ, ◌+◌, ◌<◌, nat_lt, ◌⊎◌, inl, inr, sym, ap, ◌∙◌, arith, if◌then◌else◌}
 use Rattle.std.proofs.lemmas.Bool.Decides.{nat_tests}
 use Rattle.span_types.specs.Marks.{at_position}
-
-pub record IsZero (u : ℕ → ℕ) : Type 0 where
-  pub at : (p : ℕ) → u p ≡ 0
-
-pub record IsSum (u v w : ℕ → ℕ) : Type 0 where
-  pub at : (p : ℕ) → u p ≡ v p + w p
-
--- zero outside two positions
-pub record IsInside (i j : ℕ) (u : ℕ → ℕ) : Type 0 where
-  pub below : (p : ℕ) → p < i → u p ≡ 0
-  pub above : (p : ℕ) → j < p → u p ≡ 0
-
-abbrev pub zeros : ℕ → ℕ
-zeros p = 0
-
-pub zeros_path : (u : ℕ → ℕ) → IsZero u → u ≡ zeros
-zeros_path u z = λ i p. z.at p i
-
-pub at_same : (i x : ℕ) → at_position i x i ≡ x
-at_same i x = grind (arith, nat_tests)
-
-pub at_other : (i x p : ℕ) → (p ≡ i → ⊥) → at_position i x p ≡ 0
-at_other i x p n = grind (arith, nat_tests)
+use Rattle.span_types.proofs.Sums.{IsSum}
 
 -- the marks before a position, and one at it
 abbrev pub prefix : (ℕ → ℕ) → ℕ → ℕ → ℕ → ℕ

@@ -11,7 +11,7 @@ use Rattle.span_types.specs.Words.{word_from}
 use Rattle.span_types.specs.Laws.{MarksDetermine, Pieces}
 use Rattle.formula_law.specs.Accepts.{MarkedText, Accepts, marked_by, marked_text}
 use Rattle.formula_law.specs.Law.{VarsBelow, IsAnswerText, IsTupleText, AcceptsTuples, FitsAccepted, MarkedWord}
-use Rattle.formula_law.proofs.Sums.{IsInside, at_other}
+use Rattle.span_types.proofs.Sums.{IsInside, at_other}
 use Rattle.formula_law.proofs.Texts.{mark_of, marks_of, past_mark}
 use Rattle.formula_law.proofs.FitsWords.{Found}
 use Rattle.formula_law.proofs.BothWays.{law, bytes_back, answer_of, fits-accepts, fits-found}

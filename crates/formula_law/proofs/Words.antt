@@ -3,7 +3,7 @@ use Rattle.std.proofs.Common.{◌≡◌, ℕ, suc, ◌+◌, ◌≤◌, Bool, ◌
 use Rattle.span_types.specs.FormulaTree.{FormulaTree, Set, Empty, Cat, Alt, Star, Plus, Opt, Capture}
 use Rattle.span_types.specs.Marks.{at_position, opening, closing}
 use Rattle.span_types.specs.Fits.{Turns}
-use Rattle.formula_law.proofs.Sums.{IsZero, IsSum, zeros}
+use Rattle.span_types.proofs.Sums.{IsZero, IsSum, zeros}
 
 -- marks of one part up to a position, and of another from there
 pub record Split (P Q : ℕ → ℕ → (ℕ → ℕ) → Type 0) (i j : ℕ) (u : ℕ → ℕ) : Type 0 where

@@ -14,7 +14,8 @@ use Rattle.marker_nfa.specs.declared.nfa.Edge.{Edge}
 use Rattle.marker_nfa.proofs.Built.{edge_from, edge_to, end_state}
 use Rattle.marker_nfa.proofs.Weights.{weight_below, null_le, first_le, last_le, follow_le}
 
-step_to : (f : FormulaTree) (a : Automaton) → IsPositionAutomaton f a → (o m b p : ℕ) → Moves a o m b p → Steps f o m b p
+-- the moves of the position automaton are the formula's steps
+pub step_to : (f : FormulaTree) (a : Automaton) → IsPositionAutomaton f a → (o m b p : ℕ) → Moves a o m b p → Steps f o m b p
 step_to f a i o m b p s =
     let g = (i.edges s.edge).0 s.among in
     let e1 = subst (λ (n : ℕ). IsEdge f n s.edge.mark s.edge.to) s.from g.0 in
@@ -26,16 +27,18 @@ step_to f a i o m b p s =
       is_member = s.letter;
     }
 
-step_from : (f : FormulaTree) (a : Automaton) → IsPositionAutomaton f a → (o m b p : ℕ) → Steps f o m b p → Moves a o m b p
+pub step_from : (f : FormulaTree) (a : Automaton) → IsPositionAutomaton f a → (o m b p : ℕ) → Steps f o m b p → Moves a o m b p
 step_from f a i o m b p s =
     let e : Edge = record { from = o; mark = m; letters = s.members; to = p } in
     record { edge = e; among = (i.edges e).1 (s.edge, s.has_set); from = refl; mark = refl; letter = s.is_member; to = refl }
 
-reaches_by : (S T : ℕ → ℕ → ℕ → ℕ → Type 0) → ((o m b p : ℕ) → S o m b p → T o m b p) → (o : ℕ) (w : List (ℕ × ℕ)) (q : ℕ) → Reaches S o w q → Reaches T o w q
+-- with more steps no less is reached
+pub reaches_by : (S T : ℕ → ℕ → ℕ → ℕ → Type 0) → ((o m b p : ℕ) → S o m b p → T o m b p) → (o : ℕ) (w : List (ℕ × ℕ)) (q : ℕ) → Reaches S o w q → Reaches T o w q
 reaches_by S T f o [] q r = r
 reaches_by S T f o (c ∷ w) q r = (r.0, f o c.0 c.1 r.0 r.1, reaches_by S T f r.0 w q r.2)
 
-same_texts : (f : FormulaTree) (a : Automaton) → IsPositionAutomaton f a → (w : MarkedText) → AcceptsText a w ↔ Accepts f w
+-- it accepts by the formula's steps and ends
+pub same_texts : (f : FormulaTree) (a : Automaton) → IsPositionAutomaton f a → (w : MarkedText) → AcceptsText a w ↔ Accepts f w
 same_texts f a i w = (
   (λ x. record { state = x.state; reaches = reaches_by (Moves a) (Steps f) (step_to f a i) 0 w.pairs x.state x.reaches; ends = (i.ends (record { state = x.state; mark = w.last })).0 x.ends }),
   λ x. record { state = x.state; reaches = reaches_by (Steps f) (Moves a) (step_from f a i) 0 w.pairs x.state x.reaches; ends = (i.ends (record { state = x.state; mark = w.last })).1 x.ends },

@@ -170,17 +170,6 @@ opt_small a s = record { fun = s.fun; below = s.below }
 pub capture_small : (x : ℕ) (a : FormulaTree) → IsSmall (Capture x a) → IsSmall a
 capture_small x a s = record { fun = (first_none (fault a) _ s.fun).0; below = below_named 8 x a s.below }
 
-pub four_le : (v m : ℕ) → v ≤ m → 4 ^ v ≤ 4 ^ m
-four_le v zero le = let e : v ≡ 0 = omega arith in let g : 4 ^ v ≡ 4 ^ 0 = ap (λ n. 4 ^ n) e in omega (arith, g)
-four_le v (suc m) le = go (cases v m le) (λ l. four_le v m l)
-  where
-    cases : (v m : ℕ) → v ≤ suc m → (v ≤ m) ⊎ (v ≡ suc m)
-    cases v m le = grind arith
-
-    go : (v ≤ m) ⊎ (v ≡ suc m) → (v ≤ m → 4 ^ v ≤ 4 ^ m) → 4 ^ v ≤ 4 ^ suc m
-    go (inl l) rec = let e : 4 ^ suc m ≡ 4 ^ m * 4 = pow-suc 4 m in omega (arith, rec l, e)
-    go (inr e) rec = let g : 4 ^ v ≡ 4 ^ suc m = ap (λ n. 4 ^ n) e in omega (arith, g)
-
 -- parts of a small formula make short sums
 pub may_follow : (a b : FormulaTree) (n m : ℕ) (p q : Part) → IsSmall (Cat a b) → IsPart a n p → IsPart b m q → MayFollow p q
 may_follow a b n m p q s ip iq =

@@ -9,10 +9,10 @@ use Rattle.marker_dfa.specs.Deterministic.{DeterministicAutomaton, next_of, path
 use Rattle.span_enum.specs.Members.{IsMember}
 use Rattle.span_algebra.specs.Answers.{AreBytes, IsText, AnswersBy, GivesUnion, GivesJoin, GivesProjection}
 use Rattle.span_algebra.specs.Renaming.{both_names}
-use Rattle.span_algebra.proofs.NameLaws.{same-is, named-none, left-names, right-names}
+use Rattle.span_algebra.proofs.NameLaws.{left-names, right-names}
 use Rattle.query_book.specs.Answers.{Defines}
 use Rattle.query_book.specs.Compiling.{ReadsBytes}
-use Rattle.query_book.proofs.Leaves.{apart, named-tells}
+use Rattle.span_types.proofs.NameLaws.{apart, named-none, named-tells, same-is}
 
 lacks : (va vb : List (List ℕ)) (n : List ℕ) → (has_name va n ≡ true → has_name vb n ≡ true) → has_name vb n ≡ false → has_name va n ≡ false
 lacks va vb n wide f = by (has_name va n) refl

@@ -5,29 +5,12 @@ use Rattle.std.proofs.lemmas.List.Elements.{Contains-append_cases}
 use Rattle.span_types.specs.Rel.{same_name, has_name}
 use Rattle.line_parts.specs.NameList.{AreNames, AreListed, IsName, with_commas}
 use Rattle.line_parts.proofs.Names.{listed_cut, one_listed}
-use Rattle.span_algebra.proofs.NameLaws.{same-self, same-is}
+use Rattle.span_types.proofs.NameLaws.{contains-has, has-contains, same-is, same-self}
 use Rattle.query_book.specs.declared.refusal.CombineRefusal.{CombineRefusal}
 use Rattle.query_book.specs.Keeping.{IsVarsText, HasOther, IsOther, IsKeepRefused}
 
 abbrev Name : Type 0
 Name = List ℕ
-
-has-contains : (ns : List Name) (n : Name) → has_name ns n ≡ true → Contains ns n
-has-contains [] n h = let bad : ⊥ = cc in absurd bad
-has-contains (m ∷ ns) n h = by (same_name m n) refl h (has-contains ns n)
-  where
-    by : (b : Bool) → same_name m n ≡ b → (b || has_name ns n) ≡ true → (has_name ns n ≡ true → Contains ns n) → Contains (m ∷ ns) n
-    by true e g rec = (0, omega arith, same-is m n e)
-    by false e g rec = let c = rec g in (suc c.0, omega (arith, c.1), c.2)
-
-contains-has : (ns : List Name) (n : Name) → Contains ns n → has_name ns n ≡ true
-contains-has [] n c = absurd (omega (arith, c.1))
-contains-has (m ∷ ns) n (zero, lt, e) = let s : m ≡ n = e in let t : same_name m n ≡ true = ap (λ x. same_name x n) s ∙ same-self n in ap (λ b. b || has_name ns n) t
-contains-has (m ∷ ns) n (suc k, lt, e) = by (same_name m n) (contains-has ns n (k, omega (arith, lt), e))
-  where
-    by : (b : Bool) → has_name ns n ≡ true → (b || has_name ns n) ≡ true
-    by true g = refl
-    by false g = g
 
 no-false : (ns : List Name) (n : Name) → has_name ns n ≡ false → Contains ns n → ⊥
 no-false ns n e c = let bad : true ≡ false = sym (contains-has ns n c) ∙ e in absurd (cc)

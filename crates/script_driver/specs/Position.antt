@@ -5,7 +5,7 @@ use Rattle.span_language.specs.State.{world}
 use Rattle.span_language.specs.Allowance.{IsPaid}
 use Rattle.span_language.specs.Runs.{Outside, Runs, Sum, start}
 use Rattle.session_state.specs.SessionState.{SessionModel, pairs_of}
-use Rattle.session_state.proofs.PlacesLemmas.{PlacesSoFar}
+use Rattle.session_state.specs.PlacesSoFar.{PlacesSoFar}
 
 -- no byte is a newline
 abbrev pub NoNewline : List ℕ → Type 0

@@ -1,14 +1,12 @@
 -- The keyword that a word names, and the line after it.
 use Rattle.std.proofs.Common.{◌≡◌, ◌≢◌, ℕ, ◌<◌, Bool, true, false, List, [], ◌∷◌, ◌++◌, length, refl, sym, ◌∙◌, ap, subst, inl, inr, codes, cond, get_or}
 use Rattle.std.specs.Prelude.{All, Option, Some, None, ◌⊎◌, slice_get}
-use Rattle.std.specs.List.{find}
-use Rattle.std.specs.Str.{bytes_eq}
-use Rattle.std.proofs.lemmas.Slice.Eq.{bytes_eq-Decides}
 use Rattle.script_syntax.specs.Syntax.{Reads, LineText}
 use Rattle.script_syntax.specs.Fields.{Fields, fields_of, word_of, keyword_named, keywords}
 use Rattle.script_syntax.specs.declared.form.Command.{Command}
 use Rattle.script_syntax.specs.declared.keyword.Keyword.{Keyword}
 use Rattle.script_syntax.specs.declared.keyword.Keyword.TheVariants as kw
+use Rattle.line_parts.proofs.Keywords as found
 use Rattle.line_parts.proofs.Cuts.{NoByte, from_all, from_test, no_cut, one_cut}
 use Rattle.script_syntax.proofs.Forms.{Form, quiet, bare, behind, form_of, words_plain}
 use Rattle.script_syntax.proofs.OptionWords.{empty_line}
@@ -65,20 +63,8 @@ no_keyword word args none (k, named, fields) = let bad : ⊥ = cc (none, named) 
 pub wrong_fields : (word args : List ℕ) (keyword : Keyword) → keyword_named word ≡ Some keyword → (Fields (fields_of keyword) args → ⊥) → Behind word args → ⊥
 wrong_fields word args keyword is bad (k, named, fields) = let same : k ≡ keyword = cc (is, named) in bad (subst (λ (j : Keyword). Fields (fields_of j) args) same fields)
 
-step : (b : Bool) (j k : Keyword) (rest : Option Keyword) → cond b (Some j) rest ≡ Some k → ((b ≡ true) × (j ≡ k)) ⊎ (rest ≡ Some k)
-step true j k rest e = inl (refl, cc)
-step false j k rest e = inr e
-
-found : (word : List ℕ) (ks : List Keyword) (k : Keyword) → find (λ j. bytes_eq (word_of j) word) ks ≡ Some k → bytes_eq (word_of k) word ≡ true
-found word [] k e = let bad : ⊥ = cc in absurd bad
-found word (j ∷ ks) k e =
-    elim (step (bytes_eq (word_of j) word) j k (find (λ i. bytes_eq (word_of i) word) ks) e) [
-      | inl p ↦ subst (λ (i : Keyword). bytes_eq (word_of i) word ≡ true) p.1 p.0
-      | inr f ↦ found word ks k f
-    ]
-
 pub named_is : (word : List ℕ) (k : Keyword) → keyword_named word ≡ Some k → word ≡ word_of k
-named_is word k e = sym ((bytes_eq-Decides (word_of k) word).0 (found word keywords k e))
+named_is word k e = found.named_is word_of word keywords k e
 
 pub not_hash : (line : List ℕ) → (get_or line 0 0 ≡ 35 → ⊥) → slice_get line 0 ≡ Some 35 → ⊥
 not_hash [] first h = let bad : ⊥ = cc in bad

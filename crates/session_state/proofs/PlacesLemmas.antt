@@ -1,12 +1,7 @@
 -- Each query has at most one table and one counting table of each node.
 use Rattle.session_state.proofs.Names.{[], AllByRecursion, arith, Bool, false, if◌then◌else◌, IsSessionModel, length, Named, nodes_of, PlacesOfBoth}
 use Rattle.session_state.proofs.Names.{PlacesPartOfBoth, refl, SessionModel, sum_of, Tabled, tables_in, true, ℕ, ◌*◌, ◌+◌, ◌||◌, ◌∷◌, ◌≡◌, ◌≤◌}
-
--- the bound on the tables of both kinds computed so far, when this many queries were registered and this many nodes were
--- dropped, and the bound if no line asked for counting tables
-pub record PlacesSoFar (asked : Bool) (queries dropped : ℕ) (st : SessionModel) (before now : ℕ) : Type 0 where
-  pub both : (n : ℕ) → nodes_of st ≤ n → now + n * (length st.covered + length st.counted) ≤ before + (sum_of st.covered + sum_of st.counted) + 2 * ((n + dropped) * queries)
-  pub unasked : asked ≡ false → (n : ℕ) → nodes_of st ≤ n → now + n * length st.covered ≤ before + sum_of st.covered + (n + dropped) * queries
+use Rattle.session_state.specs.PlacesSoFar.{PlacesSoFar}
 
 -- the number of tables of each query is at most n
 pub record AreWithin (n : ℕ) (t : Tabled) : Type 0 where

@@ -4,6 +4,7 @@ pub mod CommandState
 pub mod DocumentReply
 pub mod SessionState
 pub mod LineState
+pub mod PlacesSoFar
 pub mod Rejecting
 pub mod Tables
 pub mod Written

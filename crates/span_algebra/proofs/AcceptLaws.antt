@@ -4,13 +4,13 @@ use Rattle.span_types.specs.Words.{Marked}
 use Rattle.formula_law.specs.Accepts.{MarkedText, Reaches}
 use Rattle.formula_law.specs.Law.{bytes_of}
 use Rattle.marker_nfa.specs.Automaton.{Automaton, Moves, AcceptsText, IsMarked}
+use Rattle.marker_nfa.proofs.Accepting.{reaches_by}
 use Rattle.marker_dfa.specs.Deterministic.{DeterministicAutomaton, IsDeterministic}
 use Rattle.span_algebra.specs.Renaming.{mark_for}
 use Rattle.span_algebra.specs.TreeAutomaton.{CopiedStep, CopiedEnd}
 use Rattle.span_algebra.specs.Answers.{AreBytes}
 use Rattle.span_algebra.specs.Making.{HasParts}
 use Rattle.span_algebra.proofs.TextLaws.{remarked, bytes-remarked, length-remarked, marked-for}
-use Rattle.span_algebra.proofs.SetLaws.{reaches-by}
 use Rattle.span_algebra.proofs.CopyLaws.{Renamed, forth}
 
 pub made : (size : ℕ) (Step : ℕ → ℕ → ℕ → ℕ → Type 0) (End : ℕ → ℕ → Type 0) (n : Automaton) → HasParts size Step End n
@@ -25,7 +25,7 @@ made size Step End n is to from base d steps ends w bytes h =
     let e : End k.0 (f h.text.last) = ends k.0 (f h.text.last) (record { state = h.accepted.state; own_mark = h.text.last; at = k.1; may_end = h.accepted.may_end; mark = refl }) in
     record {
       state = k.0;
-      reaches = reaches-by Step (Moves n) is.step_from 0 w.pairs k.0 (subst (λ (x : Marked). Reaches Step 0 x k.0) pairs k.2);
+      reaches = reaches_by Step (Moves n) is.step_from 0 w.pairs k.0 (subst (λ (x : Marked). Reaches Step 0 x k.0) pairs k.2);
       ends = is.end_from k.0 w.last (subst (λ (x : ℕ). End k.0 x) last e);
     }
 

@@ -7,13 +7,14 @@ use Rattle.span_types.specs.Rel.{Assignment, IsUnion, named, has_name, same_name
 use Rattle.span_types.proofs.Digits.{mark_below}
 use Rattle.formula_law.specs.Accepts.{MarkedText, Reaches, marked_text}
 use Rattle.formula_law.specs.Law.{bytes_of}
+use Rattle.span_types.proofs.NameLaws.{named-none, same-is, same-self}
 use Rattle.marker_nfa.specs.Automaton.{Automaton, AcceptsText}
 use Rattle.marker_dfa.specs.Deterministic.{DeterministicAutomaton, IsDeterministic, PathAccepts, AcceptsSame, and_then, path, next_of, ends_of, states_of}
 use Rattle.span_algebra.specs.Renaming.{both_names, mark_for, tuple_for}
 use Rattle.span_algebra.specs.TreeAutomaton.{JoinStep, JoinEnd, pair_of, join_size}
 use Rattle.span_algebra.specs.Answers.{AreBytes, IsText, IsAnswerOf, AnswersBy, GivesJoin}
 use Rattle.span_algebra.specs.Products.{HasNumbered}
-use Rattle.span_algebra.proofs.NameLaws.{length-for, named-for, named-none, left-names, right-names, same-self, same-is}
+use Rattle.span_algebra.proofs.NameLaws.{length-for, named-for, left-names, right-names}
 use Rattle.span_algebra.proofs.TextLaws.{remarked, remarked_text, bytes-word, lies-for, named-span, renamed-text}
 use Rattle.span_algebra.proofs.SetLaws.{numbered-matched, reaches-moved, turned}
 use Rattle.marker_dfa.proofs.Lists.{one_value}

@@ -12,7 +12,7 @@ use Rattle.marker_dfa.specs.Deterministic.{DeterministicAutomaton, IsDeterminist
 use Rattle.span_algebra.specs.Renaming.{both_names, markers, mark_for}
 use Rattle.span_algebra.specs.TreeAutomaton.{JoinStep, JoinEnd, join_size}
 use Rattle.span_algebra.specs.Products.{HasNumbered}
-use Rattle.span_algebra.proofs.NameLaws.{same-self, same-is}
+use Rattle.span_types.proofs.NameLaws.{same-is, same-self}
 use Rattle.span_algebra.proofs.MarkLaws.{markers-named, markers-small, last-digit, other-digits}
 use Rattle.span_algebra.proofs.TextLaws.{remarked, remarked_text, bytes-remarked, length-remarked, are-spans}
 use Rattle.span_algebra.proofs.SetLaws.{numbered-matched, reaches-moved}

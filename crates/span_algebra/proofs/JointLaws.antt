@@ -7,9 +7,9 @@ use Rattle.span_algebra.specs.declared.joints.Meeting.{Meeting}
 use Rattle.span_algebra.specs.Renaming.{both_names, markers, mark_for}
 use Rattle.span_algebra.specs.Joints.{IsJoint, IsMeeting, MayMeet, right_key, right_part, shared_by}
 use Rattle.span_algebra.specs.Making.{mark_by}
-use Rattle.span_algebra.proofs.NameLaws.{same-self, same-is, left-names, right-names}
+use Rattle.span_algebra.proofs.NameLaws.{left-names, right-names}
 use Rattle.span_algebra.proofs.MarkLaws.{markers-small, last-digit, other-digits, mark-small}
-use Rattle.span_algebra.proofs.PlaceLaws.{has-contains}
+use Rattle.span_types.proofs.NameLaws.{has-contains, same-is, same-self}
 use Rattle.span_algebra.proofs.JoinLaws.{AreApart, neither}
 use Rattle.span_algebra.proofs.JoinMarks.{markers-kept, mark-whole}
 

@@ -26,5 +26,4 @@ pub mod TreePairs
 pub mod TreeAutomata
 pub mod TreeCounts
 pub mod TreeRows
-pub mod TreeCalls
 pub mod LetterLaws

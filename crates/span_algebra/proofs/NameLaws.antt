@@ -3,34 +3,8 @@ use Rattle.std.proofs.Common.{◌≡◌, ℕ, suc, ◌==◌, ◌&&◌, ◌||◌,
 use Rattle.std.proofs.lemmas.Bool.{eqb-true}
 use Rattle.span_types.specs.declared.tuple.Span.{Span}
 use Rattle.span_types.specs.Rel.{same_name, has_name, named, lacking}
+use Rattle.span_types.proofs.NameLaws.{same-is, named-none}
 use Rattle.span_algebra.specs.Renaming.{both_names, tuple_for}
-
-pub same-self : (n : List ℕ) → same_name n n ≡ true
-same-self [] = refl
-same-self (x ∷ n) = ap (λ b. b && same_name n n) (eq-eqb x x refl) ∙ same-self n
-
-both : (x y : Bool) → (x && y) ≡ true → (x ≡ true) × (y ≡ true)
-both true y h = (refl, h)
-both false y h = let bad : ⊥ = cc in absurd bad
-
-pub same-is : (m n : List ℕ) → same_name m n ≡ true → m ≡ n
-same-is [] [] h = refl
-same-is [] (y ∷ n) h = let bad : ⊥ = cc in absurd bad
-same-is (x ∷ m) [] h = let bad : ⊥ = cc in absurd bad
-same-is (x ∷ m) (y ∷ n) h =
-    let parts = both (x == y) (same_name m n) h in
-    let e : x ≡ y = eqb-true x y parts.0 in
-    let f = same-is m n parts.1 in
-    λ i. e i ∷ f i
-
-pub named-none : (ns : List (List ℕ)) (t : List (Option Span)) (n : List ℕ) → has_name ns n ≡ false → named ns t n ≡ None
-named-none [] t n h = refl
-named-none (m ∷ ms) [] n h = refl
-named-none (m ∷ ms) (x ∷ t) n h = by (same_name m n) h (λ r. named-none ms t n r)
-  where
-    by : (b : Bool) → (b || has_name ms n) ≡ false → (has_name ms n ≡ false → named ms t n ≡ None) → (if b then x else named ms t n) ≡ None
-    by true h rest = let bad : ⊥ = cc in absurd bad
-    by false h rest = rest h
 
 -- a tuple for other names gives them what it gave them
 pub named-for : (to from : List (List ℕ)) (t : List (Option Span)) (n : List ℕ) → has_name to n ≡ true → named to (tuple_for to from t) n ≡ named from t n

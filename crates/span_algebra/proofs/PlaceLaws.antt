@@ -11,7 +11,7 @@ use Rattle.span_algebra.specs.Making.{digit_at, mark_by, AreIndices, AreIndicesO
 use Rattle.span_algebra.specs.Refusals.{IsNew, IsRefused}
 use Rattle.span_algebra.specs.declared.refusal.AlgebraRefusal.{AlgebraRefusal}
 use Rattle.span_algebra.specs.declared.refusal.AlgebraRefusal.TheVariants.{TooManyVariables, TooManyStates, NoMemory}
-use Rattle.span_algebra.proofs.NameLaws.{same-self, same-is}
+use Rattle.span_types.proofs.NameLaws.{contains-has, has-contains, same-is, same-self}
 
 abbrev Name : Type 0
 Name = List ℕ
@@ -36,23 +36,6 @@ early (y ∷ xs) (suc k) x (suc j, lt, e) = let r = early xs k x (j, omega (arit
 one-index : (ns : List Name) (j k : ℕ) (n : Name) → AllPairs (λ a b. a ≢ b) ns → j < k → slice_get ns j ≡ Some n → slice_get ns k ≡ Some n → ⊥
 one-index ns j k n distinct lt ej ek =
     distinct j k n lt (slice_get_within ns k n ek) (get_or_from_slice_get ns j n n ej ∙ sym (get_or_from_slice_get ns k n n ek))
-
-pub has-contains : (ns : List Name) (n : Name) → has_name ns n ≡ true → Contains ns n
-has-contains [] n h = let bad : ⊥ = cc in absurd bad
-has-contains (m ∷ ns) n h = by (same_name m n) refl h (has-contains ns n)
-  where
-    by : (b : Bool) → same_name m n ≡ b → (b || has_name ns n) ≡ true → (has_name ns n ≡ true → Contains ns n) → Contains (m ∷ ns) n
-    by true e g rec = (0, omega arith, same-is m n e)
-    by false e g rec = let c = rec g in (suc c.0, omega (arith, c.1), c.2)
-
-contains-has : (ns : List Name) (n : Name) → Contains ns n → has_name ns n ≡ true
-contains-has [] n c = absurd (omega (arith, c.1))
-contains-has (m ∷ ns) n (zero, lt, e) = let s : m ≡ n = e in let t : same_name m n ≡ true = ap (λ x. same_name x n) s ∙ same-self n in ap (λ b. b || has_name ns n) t
-contains-has (m ∷ ns) n (suc k, lt, e) = by (same_name m n) (contains-has ns n (k, omega (arith, lt), e))
-  where
-    by : (b : Bool) → has_name ns n ≡ true → (b || has_name ns n) ≡ true
-    by true g = refl
-    by false g = g
 
 lacking-push : (va xs : List Name) (n : Name) → lacking va (xs ++ n ∷ []) ≡ lacking va xs ++ (if has_name va n then [] else n ∷ [])
 lacking-push va [] n = by (has_name va n)

@@ -3,20 +3,21 @@ use Rattle.std.proofs.Common.{◌≡◌, ℕ, ◌+◌, ◌^◌, ◌<◌, ◌≤�
 use Rattle.formula_law.specs.Accepts.{MarkedText, marked_text}
 use Rattle.formula_law.specs.Law.{bytes_of}
 use Rattle.span_types.specs.Rel.{Assignment, IsRestriction, named, has_name}
+use Rattle.span_types.proofs.NameLaws.{named-none}
 use Rattle.marker_nfa.specs.Automaton.{Automaton, Moves, AcceptsText, IsAutomaton, IsMarked}
 use Rattle.marker_nfa.specs.Parts.{Adds}
 use Rattle.marker_nfa.specs.declared.nfa.Edge.{Edge}
 use Rattle.marker_nfa.specs.declared.nfa.End.{End}
 use Rattle.marker_nfa.proofs.Adding.{from_none}
+use Rattle.marker_nfa.proofs.Accepting.{reaches_by}
 use Rattle.marker_dfa.specs.Deterministic.{DeterministicAutomaton, IsDeterministic, AcceptsSame, states_of}
 use Rattle.span_algebra.specs.declared.classes.Class.{Class}
 use Rattle.span_algebra.specs.Renaming.{tuple_for}
 use Rattle.span_algebra.specs.TreeAutomaton.{ProjectStep, ProjectEnd}
 use Rattle.span_algebra.specs.Answers.{AreBytes, IsText, AnswersBy, GivesProjection}
 use Rattle.span_algebra.specs.Making.{AreClasses, AreIndicesOf, IsCopiedEdge, IsCopiedEnd, HasParts, IsProjectNfa}
-use Rattle.span_algebra.proofs.NameLaws.{length-for, named-for, named-none}
+use Rattle.span_algebra.proofs.NameLaws.{length-for, named-for}
 use Rattle.span_algebra.proofs.TextLaws.{bytes-word, lies-for}
-use Rattle.span_algebra.proofs.SetLaws.{reaches-by}
 use Rattle.span_algebra.proofs.CopyLaws.{Renamed, renamed, back, answer-of, answer-from}
 use Rattle.span_algebra.proofs.AcceptLaws.{made, renamed-marked}
 use Rattle.span_algebra.proofs.PartLaws.{step-of, edge-of, end-of, of-end, mark-within, end-mark-within, states-within, end-state-within}
@@ -25,7 +26,7 @@ module _ (a : DeterministicAutomaton) (va keep : List (List ℕ)) (da : IsDeterm
   accepted-to : (w : MarkedText) → AcceptsText n w → Renamed keep va 0 a w
   accepted-to w h =
       let start : 0 ≡ 0 + 0 = refl in
-      renamed keep va 0 a w (back keep va 0 a (ProjectStep a va keep) (ProjectEnd a va keep) w.pairs 0 0 h.state w.last (λ o q m c p e lt s. s) (λ o q m e lt s. s) da.within start da.has_start (reaches-by (Moves n) (ProjectStep a va keep) is.step_to 0 w.pairs h.state h.reaches) (is.end_to h.state w.last h.ends))
+      renamed keep va 0 a w (back keep va 0 a (ProjectStep a va keep) (ProjectEnd a va keep) w.pairs 0 0 h.state w.last (λ o q m c p e lt s. s) (λ o q m e lt s. s) da.within start da.has_start (reaches_by (Moves n) (ProjectStep a va keep) is.step_to 0 w.pairs h.state h.reaches) (is.end_to h.state w.last h.ends))
 
   pub project-marked : (w : MarkedText) → length w.pairs ≤ 281474976710656 → AcceptsText n w → IsMarked (length keep) w
   project-marked w short h = renamed-marked keep va 0 a w few short da size (accepted-to w h)

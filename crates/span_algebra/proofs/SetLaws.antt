@@ -13,10 +13,6 @@ use Rattle.marker_dfa.proofs.Tracks.{blank_out, in_within, same_set, single_in, 
 use Rattle.span_algebra.specs.Making.{HasParts}
 use Rattle.span_algebra.specs.Products.{HasNumbered}
 
-pub reaches-by : (S T : ℕ → ℕ → ℕ → ℕ → Type 0) → ((o m b p : ℕ) → S o m b p → T o m b p) → (o : ℕ) (w : List (ℕ × ℕ)) (q : ℕ) → Reaches S o w q → Reaches T o w q
-reaches-by S T f o [] q r = r
-reaches-by S T f o (c ∷ w) q r = (r.0, f o c.0 c.1 r.0 r.1, reaches-by S T f r.0 w q r.2)
-
 -- R pairs occurrences of two step relations, one with one, the starts with one another, and steps and ends go with it
 pub record AreMatched (n k : ℕ) (S T : ℕ → ℕ → ℕ → ℕ → Type 0) (E F : ℕ → ℕ → Type 0) (R : ℕ → ℕ → Type 0) : Type 0 where
   pub starts : R 0 0

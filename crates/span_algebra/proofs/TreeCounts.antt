@@ -3,10 +3,10 @@ use Rattle.std.proofs.Common.{ℕ, suc, refl, subst, ◌∙◌}
 use Rattle.span_types.specs.FormulaTree.{FormulaTree, sets}
 use Rattle.span_types.specs.Query.{Leaf, Union, Join, Project}
 use Rattle.formula_law.specs.Accepts.{Steps}
-use Rattle.formula_law.specs.Positions.{HasSet, IsEdge, IsEnd}
-use Rattle.marker_nfa.specs.Automaton.{Automaton, Moves}
+use Rattle.formula_law.specs.Positions.{IsEnd}
+use Rattle.marker_nfa.specs.Automaton.{Automaton}
 use Rattle.marker_nfa.specs.Occurrences.{IsPositionAutomaton}
-use Rattle.marker_nfa.specs.declared.nfa.Edge.{Edge}
+use Rattle.marker_nfa.proofs.Accepting.{step_from, step_to}
 use Rattle.marker_dfa.proofs.Tracks.{above_states, states_above}
 use Rattle.span_algebra.specs.Making.{HasParts}
 use Rattle.span_algebra.specs.TreeLaws.{CountIsStates, LeafAutomata}
@@ -29,23 +29,11 @@ count-is-states n (Project q keep) d x =
 pub position-parts : (f : FormulaTree) (a : Automaton) → IsPositionAutomaton f a → HasParts (suc (sets f)) (Steps f) (IsEnd f) a
 position-parts f a is = record {
   states = is.states;
-  step_to = to;
-  step_from = λ o m b p s. (let e : Edge = record { from = o; mark = m; letters = s.members; to = p } in record { edge = e; among = (is.edges e).1 (s.edge, s.has_set); from = refl; mark = refl; letter = s.is_member; to = refl });
+  step_to = step_to f a is;
+  step_from = step_from f a is;
   end_to = λ o m e. (is.ends (record { state = o; mark = m })).0 e;
   end_from = λ o m e. (is.ends (record { state = o; mark = m })).1 e;
 }
-  where
-    to : (o m b p : ℕ) → Moves a o m b p → Steps f o m b p
-    to o m b p s =
-        let g = (is.edges s.edge).0 s.among in
-        let e1 = subst (λ (n : ℕ). IsEdge f n s.edge.mark s.edge.to) s.from g.0 in
-        let e2 = subst (λ (n : ℕ). IsEdge f o n s.edge.to) s.mark e1 in
-        record {
-          edge = subst (λ (n : ℕ). IsEdge f o m n) s.to e2;
-          members = s.edge.letters;
-          has_set = subst (λ (n : ℕ). HasSet f 1 n s.edge.letters) s.to g.1;
-          is_member = s.letter;
-        }
 
 pub leaf-automata : LeafAutomata
 leaf-automata = record {

@@ -5,6 +5,7 @@ use Rattle.span_types.specs.Rel.{Assignment, named, has_name}
 use Rattle.formula_law.specs.Accepts.{MarkedText, Reaches, marked_text}
 use Rattle.formula_law.specs.Law.{bytes_of}
 use Rattle.marker_nfa.specs.Automaton.{Automaton, Moves, AcceptsText, IsMarked}
+use Rattle.marker_nfa.proofs.Accepting.{reaches_by}
 use Rattle.marker_dfa.specs.Deterministic.{DeterministicAutomaton, IsDeterministic, AcceptsSame, states_of}
 use Rattle.span_algebra.specs.Renaming.{both_names, tuple_for}
 use Rattle.span_algebra.specs.TreeAutomaton.{IsAt, CopiedStep, CopiedEnd, union_size, UnionStep, UnionEnd}
@@ -12,7 +13,6 @@ use Rattle.span_algebra.specs.Answers.{AreBytes, IsText, AnswersBy, GivesUnion}
 use Rattle.span_algebra.proofs.NameLaws.{length-for, named-wider, left-names, right-names}
 use Rattle.span_algebra.proofs.TextLaws.{bytes-word, lies-for}
 use Rattle.span_algebra.specs.Making.{HasParts}
-use Rattle.span_algebra.proofs.SetLaws.{reaches-by}
 use Rattle.span_algebra.proofs.AcceptLaws.{made, renamed-marked}
 use Rattle.span_algebra.proofs.CopyLaws.{step-within, end-within, start-state, Origin, Renamed, renamed, finish, extend, back, answer-of, answer-from}
 
@@ -76,7 +76,7 @@ module _ (a : DeterministicAutomaton) (va : List (List ℕ)) (b : DeterministicA
 
   module _ (n : Automaton) (is : HasParts (union_size a b) Step End n) where
     accepted-to : (w : MarkedText) → AcceptsText n w → Either w
-    accepted-to w h = by (begun w.pairs w.last h.state (reaches-by (Moves n) Step is.step_to 0 w.pairs h.state h.reaches) (is.end_to h.state w.last h.ends))
+    accepted-to w h = by (begun w.pairs w.last h.state (reaches_by (Moves n) Step is.step_to 0 w.pairs h.state h.reaches) (is.end_to h.state w.last h.ends))
       where
         by : Origin names va 1 a w.pairs w.last 0 ⊎ Origin names vb (suc (states_of a)) b w.pairs w.last 0 → Either w
         by (inl o) = inl (renamed names va 1 a w o)

@@ -14,4 +14,3 @@ pub mod Accepted
 pub mod Refused
 pub mod Lines
 pub mod Outputs
-pub mod Tallied

@@ -1,6 +1,6 @@
 use Rattle.std.proofs.Common.{◌≤◌, ◌^◌, arith}
 use Rattle.marker_nfa.proofs.Adding.{from_none}
-use Rattle.marker_nfa.proofs.Weights.{four_le}
+use Rattle.span_types.proofs.MarkSteps.{four_le}
 use Rattle.marker_nfa.proofs.Making.{part_of_capture}
 use Rattle.marker_nfa.proofs.parts.capture_part.Goals as goal
 
