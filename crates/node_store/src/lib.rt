@@ -186,6 +186,7 @@ impl Store {
     {
         match self.node(id) {
             Node::Pair(left, right) => (left, right),
+            // A byte's tree has height 0.
             Node::Byte(_) => unreachable!(),
         }
     }

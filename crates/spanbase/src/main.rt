@@ -11,7 +11,7 @@
 //! to 7 if the run was stopped. Then the name of the status is written to standard error, or for rejected arguments the
 //! usage text. The cost of a run is that of its lines.
 //!
-//! Proved: When a fault or rejected arguments may be its cause.
+//! Proved: When a fault or rejected arguments may be the cause of a status.
 //!
 //! Tested: Its stored run and all cases; no file is saved after output that failed (`tools/hostile`).
 #![tactic(auto)]
